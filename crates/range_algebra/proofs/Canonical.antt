@@ -1,0 +1,217 @@
+-- Over complete keys two nonempty ranges that hold the same keys have equal bounds.
+use Rattle.std.proofs.Common.{◌≡◌, refl, sym, ap, ◌∙◌, Option, Some, None, false, IsSome, ◌⊎◌, inl, inr}
+use Rattle.std.specs.declared.cmp.Ordering.{Ordering}
+use Rattle.std.specs.declared.cmp.Ordering.TheVariants.{Less, Equal, Greater}
+use Rattle.std.specs.Ordering.{ordering_then, ordering_reverse, is_gt}
+use Rattle.std.specs.Cmp.{alike_right, tied_back, tied_itself, upto}
+use Rattle.range_keys.specs.Order.{KeyOrder, IsLawful, IsComplete, Below, Tells, SameAnswer}
+use Rattle.range_keys.specs.Position.{start_position, end_position, position_cmp}
+use Rattle.range_keys.specs.PositionOrder.{position_total}
+use Rattle.range_keys.specs.declared.inner.position.Position.{Position}
+use Rattle.range_keys.specs.declared.inner.position.Position.TheVariants.{MinusInfinity, Beside, PlusInfinity}
+use Rattle.range_keys.specs.declared.inner.position.Side.TheVariants.{Before, At, After}
+use Rattle.range_algebra.specs.Range.{Holds, HoldSame, IsEmptyRange, IsKnownRange}
+use Rattle.range_algebra.specs.declared.any.AnyRange.{AnyRange}
+use Rattle.range_algebra.specs.RangeOrder.{range_cmp, range_total}
+use Rattle.range_algebra.proofs.Holding.{holds_by_position}
+use Rattle.range_algebra.proofs.Completeness.{IsStart, IsEnd, start_is, end_is, nonempty_holds, less_past, told_none, some_none}
+
+then_less : (o : Ordering) → ordering_then o Greater ≡ Less → o ≡ Less
+then_less Less h = refl
+then_less Equal h = cc
+then_less Greater h = cc
+
+then_same : (o : Ordering) → ordering_then o Equal ≡ Less → o ≡ Less
+then_same Less h = refl
+then_same Equal h = cc
+then_same Greater h = cc
+
+not_greater : (o : Ordering) → (o ≡ Greater → ⊥) → is_gt o ≡ false
+not_greater Less h = refl
+not_greater Equal h = refl
+not_greater Greater h = absurd (h refl)
+
+less_then : (o p : Ordering) → o ≡ Less → ordering_then o p ≡ Less
+less_then o p e = rw e refl
+
+near : (o : Ordering) → ordering_then o Less ≡ Less → is_gt (ordering_then o Equal) ≡ false
+near Less h = refl
+near Equal h = refl
+near Greater h = cc
+
+equal_then : (o p : Ordering) → o ≡ Equal → ordering_then o p ≡ p
+equal_then o p e = rw e refl
+
+not_less : (o : Ordering) → is_gt o ≡ false → ordering_reverse o ≡ Less → ⊥
+not_less Less h e = cc
+not_less Equal h e = cc
+not_less Greater h e = cc
+
+module _ {K : Type 0} (order : KeyOrder K) (lawful : IsLawful order) (complete : IsComplete order) where
+  NotPast : Position K → Position K → Type 0
+  NotPast p q = is_gt (position_cmp order.cmp p q) ≡ false
+
+  IsBefore : Position K → Position K → Type 0
+  IsBefore p q = position_cmp order.cmp p q ≡ Less
+
+  -- a key from the first place on, before the second
+  KeyFrom : Position K → Position K → Type 0
+  KeyFrom p q = (k : K) × order.is_key k × NotPast p (Beside k At) × IsBefore (Beside k At) q
+
+  from_between : (a b : K) → Tells order (order.succ a) b ⊎ ((c : K) × order.is_key c × Below order a c × Below order c b) → order.succ a ≡ None → KeyFrom (Beside a After) (Beside b At)
+  unfolding KeyFrom NotPast IsBefore
+  from_between a b (inl t) e = absurd (told_none order lawful complete a b e t)
+  from_between a b (inr (c, key, l, u)) e = (c, key, less_past order lawful complete (order.cmp a c) l, less_then (order.cmp c b) Equal u)
+
+  from_under : (b : K) → IsSome order.least ⊎ ((c : K) × order.is_key c × Below order c b) → order.least ≡ None → KeyFrom MinusInfinity (Beside b At)
+  unfolding KeyFrom NotPast IsBefore
+  from_under b (inl t) e = absurd (some_none order lawful complete order.least e t)
+  from_under b (inr (c, key, l)) e = (c, key, refl, less_then (order.cmp c b) Equal l)
+
+  just_at : (b : K) → IsBefore (Beside b At) (Beside b After)
+  unfolding IsBefore
+  just_at b = equal_then (order.cmp b b) Less (tied_itself lawful.total b)
+
+  key_from : (p q : Position K) → IsStart order lawful complete p → IsStart order lawful complete q → IsBefore p q → KeyFrom p q
+  unfolding IsStart KeyFrom NotPast IsBefore
+  key_from (Beside a At) (Beside b At) s t h = (a, s, ap is_gt (tied_itself (position_total order.cmp lawful.total) (Beside a At)), h)
+  key_from (Beside a After) (Beside b At) s t h = from_between a b (complete.next a b s.0 t (then_less (order.cmp a b) h)) s.1
+  key_from MinusInfinity (Beside b At) s t h = from_under b (complete.below b t) s
+  key_from (Beside a At) (Beside b After) s t h = (b, t.0, near (order.cmp a b) h, just_at b)
+  key_from (Beside a After) (Beside b After) s t h = (b, t.0, less_past order lawful complete (order.cmp a b) (then_same (order.cmp a b) h), just_at b)
+  key_from MinusInfinity (Beside b After) s t h = (b, t.0, refl, just_at b)
+  key_from MinusInfinity MinusInfinity s t h = cc
+  key_from (Beside a x) MinusInfinity s t h = cc
+  key_from p (Beside b Before) s t h = absurd t
+  key_from p PlusInfinity s t h = absurd t
+  key_from (Beside a Before) q s t h = absurd s
+  key_from PlusInfinity q s t h = absurd s
+
+  -- a key past the first place, up to the second
+  KeyTo : Position K → Position K → Type 0
+  KeyTo p q = (k : K) × order.is_key k × IsBefore p (Beside k At) × NotPast (Beside k At) q
+
+  clash : (a : K) (o p : Option K) → SameAnswer order o p → Tells order o a → p ≡ None → ⊥
+  clash a None p same told n = told
+  clash a (Some x) None same told n = same
+  clash a (Some x) (Some y) same told n = cc
+
+  no_pred : (a b : K) (o : Option K) → order.succ a ≡ o → order.is_key b → Tells order o b → order.pred b ≡ None → ⊥
+  no_pred a b None e key t n = t
+  no_pred a b (Some c) e key t n =
+      clash a (order.pred c) (order.pred b) (lawful.pred_congr c b t) (lawful.succ_pred a c e) n
+
+  to_between : (a b : K) → order.is_key b → Tells order (order.succ a) b ⊎ ((c : K) × order.is_key c × Below order a c × Below order c b) → order.pred b ≡ None → KeyTo (Beside a At) (Beside b Before)
+  unfolding KeyTo NotPast IsBefore
+  to_between a b key (inl t) e = absurd (no_pred a b (order.succ a) refl key t e)
+  to_between a b key (inr (c, in_type, l, u)) e = (c, in_type, less_then (order.cmp a c) Equal l, less_past order lawful complete (order.cmp c b) u)
+
+  to_past : (a : K) → IsSome order.greatest ⊎ ((c : K) × order.is_key c × Below order a c) → order.greatest ≡ None → KeyTo (Beside a At) PlusInfinity
+  unfolding KeyTo NotPast IsBefore
+  to_past a (inl t) e = absurd (some_none order lawful complete order.greatest e t)
+  to_past a (inr (c, key, l)) e = (c, key, less_then (order.cmp a c) Equal l, refl)
+
+  just_before : (a : K) → IsBefore (Beside a Before) (Beside a At)
+  unfolding IsBefore
+  just_before a = equal_then (order.cmp a a) Less (tied_itself lawful.total a)
+
+  at_itself : (k : K) → NotPast (Beside k At) (Beside k At)
+  unfolding NotPast
+  at_itself k = ap is_gt (tied_itself (position_total order.cmp lawful.total) (Beside k At))
+
+  key_to : (p q : Position K) → IsEnd order lawful complete p → IsEnd order lawful complete q → IsBefore p q → KeyTo p q
+  unfolding IsEnd KeyTo NotPast IsBefore
+  key_to (Beside a At) (Beside b At) s t h = (b, t, h, at_itself b)
+  key_to (Beside a At) (Beside b Before) s t h = to_between a b t.0 (complete.next a b s t.0 (then_less (order.cmp a b) h)) t.1
+  key_to (Beside a At) PlusInfinity s t h = to_past a (complete.above a s) t
+  key_to (Beside a Before) (Beside b At) s t h = (a, s.0, just_before a, near (order.cmp a b) h)
+  key_to (Beside a Before) (Beside b Before) s t h = (a, s.0, just_before a, less_past order lawful complete (order.cmp a b) (then_same (order.cmp a b) h))
+  key_to (Beside a Before) PlusInfinity s t h = (a, s.0, just_before a, refl)
+  key_to PlusInfinity (Beside b x) s t h = cc
+  key_to PlusInfinity PlusInfinity s t h = cc
+  key_to p (Beside b After) s t h = absurd t
+  key_to p MinusInfinity s t h = absurd t
+  key_to (Beside a After) q s t h = absurd s
+  key_to MinusInfinity q s t h = absurd s
+
+  -- p < q and q <= r
+  before_up : (p q r : Position K) → IsBefore p q → NotPast q r → NotPast p r
+  unfolding IsBefore NotPast
+  before_up p q r h k = upto (position_total order.cmp lawful.total) p q r (ap is_gt h) k
+
+  -- p <= q and q < r
+  up_before : (p q r : Position K) → NotPast p q → IsBefore q r → NotPast p r
+  unfolding IsBefore NotPast
+  up_before p q r h k = upto (position_total order.cmp lawful.total) p q r h (ap is_gt k)
+
+  not_both : (p q : Position K) → IsBefore p q → NotPast q p → ⊥
+  unfolding IsBefore NotPast
+  not_both p q h k = not_less (position_cmp order.cmp q p) k (sym ((position_total order.cmp lawful.total).antisymm p q) ∙ h)
+
+  NonEmpty : AnyRange K → Type 0
+  NonEmpty r = NotPast (start_position order r.start) (end_position order r.end)
+
+  module _ (r s : AnyRange K) (known : IsKnownRange order r) (others : IsKnownRange order s) (full : NonEmpty s) (same : HoldSame order r s) where
+    -- the start of r is not before that of s
+    start_not_before : IsBefore (start_position order r.start) (start_position order s.start) → ⊥
+    unfolding NonEmpty NotPast IsBefore KeyFrom
+    start_not_before h =
+        let found = key_from (start_position order r.start) (start_position order s.start) (start_is order lawful complete r.start known.0) (start_is order lawful complete s.start others.0) h in
+        let member = nonempty_holds order lawful complete s others full in
+        let inside = (holds_by_position order lawful s member.0 member.1).0 member.2 in
+        let shared = (holds_by_position order lawful r member.0 member.1).0 ((same member.0 member.1).1 member.2) in
+        let below : NotPast (Beside found.0 At) (Beside member.0 At) = before_up (Beside found.0 At) (start_position order s.start) (Beside member.0 At) found.3 inside.0 in
+        let ends : NotPast (Beside found.0 At) (end_position order r.end) = upto (position_total order.cmp lawful.total) (Beside found.0 At) (Beside member.0 At) (end_position order r.end) below shared.1 in
+        let held = (holds_by_position order lawful r found.0 found.1).1 (found.2, ends) in
+        let back = (holds_by_position order lawful s found.0 found.1).0 ((same found.0 found.1).0 held) in
+        not_both (Beside found.0 At) (start_position order s.start) found.3 back.0
+
+    -- the end of s is not before that of r
+    end_not_before : IsBefore (end_position order s.end) (end_position order r.end) → ⊥
+    unfolding NonEmpty NotPast IsBefore KeyTo
+    end_not_before h =
+        let found = key_to (end_position order s.end) (end_position order r.end) (end_is order lawful complete s.end others.1) (end_is order lawful complete r.end known.1) h in
+        let member = nonempty_holds order lawful complete s others full in
+        let inside = (holds_by_position order lawful s member.0 member.1).0 member.2 in
+        let shared = (holds_by_position order lawful r member.0 member.1).0 ((same member.0 member.1).1 member.2) in
+        let above : NotPast (Beside member.0 At) (Beside found.0 At) = up_before (Beside member.0 At) (end_position order s.end) (Beside found.0 At) inside.1 found.2 in
+        let starts : NotPast (start_position order r.start) (Beside found.0 At) = upto (position_total order.cmp lawful.total) (start_position order r.start) (Beside member.0 At) (Beside found.0 At) shared.0 above in
+        let held = (holds_by_position order lawful r found.0 found.1).1 (starts, found.3) in
+        let back = (holds_by_position order lawful s found.0 found.1).0 ((same found.0 found.1).0 held) in
+        not_both (end_position order s.end) (Beside found.0 At) found.2 back.1
+
+  neither : (p q : Position K) (o : Ordering) → position_cmp order.cmp p q ≡ o → (IsBefore p q → ⊥) → (IsBefore q p → ⊥) → position_cmp order.cmp p q ≡ Equal
+  unfolding IsBefore
+  neither p q Less e f g = absurd (f e)
+  neither p q Equal e f g = e
+  neither p q Greater e f g = absurd (g ((position_total order.cmp lawful.total).antisymm q p ∙ ap ordering_reverse e))
+
+  -- nonempty ranges that hold the same keys are equal
+  pub same_is_equal : (r s : AnyRange K) → IsKnownRange order r → IsKnownRange order s → (IsEmptyRange order r → ⊥) → (IsEmptyRange order s → ⊥) → HoldSame order r s → range_cmp order r s ≡ Equal
+  unfolding NonEmpty NotPast
+  same_is_equal r s known others full_r full_s same =
+      let full : NonEmpty r = not_greater (position_cmp order.cmp (start_position order r.start) (end_position order r.end)) full_r in
+      let full' : NonEmpty s = not_greater (position_cmp order.cmp (start_position order s.start) (end_position order s.end)) full_s in
+      let back : HoldSame order s r = λ k key. ((same k key).1, (same k key).0) in
+      let starts = neither (start_position order r.start) (start_position order s.start) (position_cmp order.cmp (start_position order r.start) (start_position order s.start)) refl (start_not_before r s known others full' same) (start_not_before s r others known full back) in
+      let ends = neither (end_position order r.end) (end_position order s.end) (position_cmp order.cmp (end_position order r.end) (end_position order s.end)) refl (end_not_before s r others known full back) (end_not_before r s known others full' same) in
+      rw starts ends
+
+-- equal ranges hold the same keys
+module _ {K : Type 0} (order : KeyOrder K) (lawful : IsLawful order) where
+  both_level : (o p : Ordering) → ordering_then o p ≡ Equal → (o ≡ Equal) × (p ≡ Equal)
+  both_level Less p h = cc
+  both_level Equal p h = (refl, h)
+  both_level Greater p h = cc
+
+  carried : (r s : AnyRange K) → range_cmp order r s ≡ Equal → (k : K) → order.is_key k → Holds order r k → Holds order s k
+  carried r s e k key h =
+      let both = both_level (position_cmp order.cmp (start_position order r.start) (start_position order s.start)) (position_cmp order.cmp (end_position order r.end) (end_position order s.end)) e in
+      let within = (holds_by_position order lawful r k key).0 h in
+      let total = position_total order.cmp lawful.total in
+      let starts = total.congr (start_position order r.start) (start_position order s.start) (Beside k At) both.0 in
+      let ends = alike_right total (end_position order r.end) (end_position order s.end) (Beside k At) both.1 in
+      (holds_by_position order lawful s k key).1 (sym (ap is_gt starts) ∙ within.0, sym (ap is_gt ends) ∙ within.1)
+
+  pub equal_is_same : (r s : AnyRange K) → range_cmp order r s ≡ Equal → HoldSame order r s
+  equal_is_same r s e k key = (carried r s e k key, carried s r (tied_back (range_total order lawful) r s e) k key)

@@ -1,0 +1,5 @@
+pub mod Canonical
+pub mod Completeness
+pub mod Holding
+pub mod Lists
+pub mod Places

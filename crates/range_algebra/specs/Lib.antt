@@ -1,0 +1,10 @@
+pub mod Chains
+pub mod Clones
+pub mod Compared
+pub mod Cuts
+pub mod Intervals
+pub mod Joins
+pub mod Orders
+pub mod Range
+pub mod RangeOrder
+pub mod Sides

@@ -1,0 +1,214 @@
+//! A range by its two bounds.
+
+ghost use Rattle.std.specs.Prelude.{◌≡◌, ◌↔◌, ⊤, IsTrue, IfOk, MatchResult, None};
+ghost use Rattle.range_algebra.specs.Clones.{IsBoundClone, IsBoundInfallible};
+ghost use Rattle.std.specs.declared.cmp.Ordering.TheVariants.{Equal};
+ghost use Rattle.std.specs.Option.{option_map};
+ghost use Rattle.range_keys.specs.Order.{IsComplete, SameAnswer};
+ghost use Rattle.range_algebra.specs.Range.{IsEmptyRange, IsKeyless, Holds, HoldSame, LiesWithin, IsKnownRange, ClonesAreEqual, start_key, end_key};
+ghost use Rattle.std.proofs.Common.{refl, ap, ◌∙◌};
+ghost use Rattle.std.specs.Ordering.{eq_by_cmp, as_partial_cmp, is_eq};
+ghost use Rattle.std.specs.Cmp.{eq_by_cmp_equiv, partial_equiv_from_equiv, partial_order_from_total};
+ghost use Rattle.range_algebra.specs.RangeOrder.{range_cmp, range_total, range_input, range_respects};
+
+use range_keys::bound::Directed;
+use range_keys::inner::position::{compare_positions, position_of_end, position_of_start};
+use range_keys::traits::{Bounded, MaybeBounded, PartialEnum};
+use std::alloc::AllocError;
+use std::cmp::Ordering;
+use std::hash::{Hash, Hasher};
+use std::ops::{Bound, RangeBounds};
+
+/// A range with any start and any end.
+#[derive(Drop)]
+pub struct AnyRange<T> {
+    pub start: Bound<T>,
+    pub end: Bound<T>,
+}
+
+impl<T: Copy> Copy for AnyRange<T> {}
+
+impl<T: Clone> Clone for AnyRange<T> {
+    ghost is_clone = { λ r s. IsBoundClone T.is_clone r.start s.start × IsBoundClone T.is_clone r.end s.end };
+
+    ghost is_infallible = { λ r. IsBoundInfallible T.is_infallible r.start × IsBoundInfallible T.is_infallible r.end };
+
+    fn clone(&self) -> Result<AnyRange<T>, AllocError> {
+        Ok(AnyRange {
+            start: clone_bound(&self.start)?,
+            end: clone_bound(&self.end)?,
+        })
+    }
+}
+
+/// A clone of the bound's value, in a bound of the same kind.
+pub fn clone_bound<T: Clone>(bound: &Bound<T>) -> Result<Bound<T>, AllocError>
+    ensures { MatchResult result (IsBoundClone T.is_clone bound.now) (λ _. IsBoundInfallible T.is_infallible bound.now → ⊥) }
+{
+    Ok(match bound {
+        Bound::Included(key) => Bound::Included(key.clone()?),
+        Bound::Excluded(key) => Bound::Excluded(key.clone()?),
+        Bound::Unbounded => Bound::Unbounded,
+    })
+}
+
+impl<T> AnyRange<T> {
+    pub fn new(start: Bound<T>, end: Bound<T>) -> AnyRange<T>
+        ensures start { result.start ≡ start }
+        ensures end { result.end ≡ end }
+    {
+        AnyRange { start, end }
+    }
+
+    pub fn into_bounds(self) -> (Bound<T>, Bound<T>)
+        ensures start { result.0 ≡ self.start }
+        ensures end { result.1 ≡ self.end }
+    {
+        (self.start, self.end)
+    }
+}
+
+impl<T: Drop> RangeBounds<T> for AnyRange<T> {
+    ghost has_bounds = { λ _. ⊤ };
+
+    ghost start_bound = { λ r. r.start };
+
+    ghost end_bound = { λ r. r.end };
+
+    fn start_bound(&self) -> Bound<&T> {
+        match &self.start {
+            Bound::Included(key) => Bound::Included(key),
+            Bound::Excluded(key) => Bound::Excluded(key),
+            Bound::Unbounded => Bound::Unbounded,
+        }
+    }
+
+    fn end_bound(&self) -> Bound<&T> {
+        match &self.end {
+            Bound::Included(key) => Bound::Included(key),
+            Bound::Excluded(key) => Bound::Excluded(key),
+            Bound::Unbounded => Bound::Unbounded,
+        }
+    }
+}
+
+impl<T: PartialEnum> AnyRange<T> {
+    /// Does nothing, and promises that the bounds are keys.
+    pub fn known(&self)
+        ensures { IsKnownRange T.order self.now }
+    {
+        match &self.start {
+            Bound::Included(key) | Bound::Excluded(key) => key.known(),
+            Bound::Unbounded => (),
+        }
+        match &self.end {
+            Bound::Included(key) | Bound::Excluded(key) => key.known(),
+            Bound::Unbounded => (),
+        }
+    }
+
+    /// Whether the start lies past the end.
+    pub fn is_empty(&self) -> bool
+        ensures by_position { IsTrue result ↔ IsEmptyRange T.order self.now }
+        ensures keyless { IsTrue result → IsKeyless T.order self.now }
+        ensures complete { IsComplete T.order → IsKeyless T.order self.now → IsTrue result }
+    {
+        self.known();
+        let start = position_of_start(self.start_bound());
+        let end = position_of_end(self.end_bound());
+        compare_positions(&start, &end) == Ordering::Greater
+    }
+
+    /// Whether the range holds the key.
+    pub fn holds(&self, key: &T) -> bool
+        ensures held { IsTrue result ↔ Holds T.order self.now key.now }
+        ensures by_position { IsTrue result ↔ LiesWithin T.order self.now key.now }
+    {
+        key.known();
+        self.contains(key)
+    }
+}
+
+impl<T: PartialEnum + Bounded + Clone> AnyRange<T> {
+    /// The least key, where it is told.
+    pub fn first(&self) -> Result<Option<T>, AllocError>
+        requires clones { ClonesAreEqual T.is_clone T.eq }
+        ensures empty { IsEmptyRange T.order self.now → IfOk result (λ key. key ≡ None) }
+        ensures nonempty { ¬ IsEmptyRange T.order self.now → IfOk result (λ key. SameAnswer T.order (start_key T.order self.now.start) key) }
+    {
+        if self.is_empty() {
+            return Ok(None);
+        }
+        Ok(match &self.start {
+            Bound::Included(key) => Some(key.clone()?),
+            Bound::Excluded(key) => key.succ(),
+            Bound::Unbounded => Some(<T as Bounded>::min()),
+        })
+    }
+}
+
+impl<T: PartialEnum> PartialEq for AnyRange<T> {
+    ghost eq = { eq_by_cmp (range_cmp T.order) };
+
+    ghost laws = { partial_equiv_from_equiv (eq_by_cmp_equiv (range_total T.order T.lawful)) };
+
+    fn eq(&self, other: &AnyRange<T>) -> bool
+        ensures value { result ≡ eq_by_cmp (range_cmp T.order) self.now other.now }
+        ensures same { IsTrue result → HoldSame T.order self.now other.now }
+        ensures complete { IsComplete T.order → ¬ IsEmptyRange T.order self.now → ¬ IsEmptyRange T.order other.now → HoldSame T.order self.now other.now → IsTrue result }
+    {
+        self.known();
+        other.known();
+        self.cmp(other) == Ordering::Equal
+    }
+}
+
+impl<T: PartialEnum> Eq for AnyRange<T> {
+    ghost laws = { eq_by_cmp_equiv (range_total T.order T.lawful) };
+}
+
+impl<T: PartialEnum> PartialOrd for AnyRange<T> {
+    ghost partial_cmp = { as_partial_cmp (range_cmp T.order) };
+
+    ghost laws = { partial_order_from_total (range_total T.order T.lawful) };
+
+    fn partial_cmp(&self, other: &AnyRange<T>) -> Option<Ordering> {
+        Some(self.cmp(other))
+    }
+}
+
+impl<T: PartialEnum> Ord for AnyRange<T> {
+    ghost cmp = { range_cmp T.order };
+
+    ghost total = { range_total T.order T.lawful };
+
+    ghost matches_partial_cmp = { λ a b. refl };
+
+    ghost matches_eq = { λ a b. refl };
+
+    fn cmp(&self, other: &AnyRange<T>) -> Ordering {
+        let starts = Directed::Start(self.start_bound()).cmp(&Directed::Start(other.start_bound()));
+        starts.then(Directed::End(self.end_bound()).cmp(&Directed::End(other.end_bound())))
+    }
+}
+
+impl<T: PartialEnum + Hash> Hash for AnyRange<T> {
+    ghost hash_input = { range_input T.order T.hash_input };
+
+    ghost respects_eq = { range_respects T.order T.hash_input (λ a b f. T.respects_eq a b (T.matches_eq a b ∙ ap is_eq (T.order_is_cmp a b ∙ f))) };
+
+    fn hash<H: Hasher>(&self, state: &mut H) {
+        Directed::Start(self.start_bound()).hash(state);
+        Directed::End(self.end_bound()).hash(state);
+    }
+}
+
+impl<T: PartialEnum + Clone> AnyRange<T> {
+    /// An equal range.
+    pub fn copied(&self) -> Result<AnyRange<T>, AllocError>
+        requires clones { ClonesAreEqual T.is_clone T.eq }
+        ensures equal { IfOk result (λ r. range_cmp T.order self.now r ≡ Equal) }
+    {
+        self.clone()
+    }
+}

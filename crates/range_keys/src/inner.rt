@@ -1,0 +1,3 @@
+//! What the crates above need beyond the public surface.
+
+pub mod position;

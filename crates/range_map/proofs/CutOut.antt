@@ -1,0 +1,140 @@
+-- What a window and the parts left of its first and last item make of a stored list.
+use Rattle.std.proofs.Common.{◌≡◌, ℕ, zero, suc, ◌+◌, ◌-◌, ◌<◌, ◌≤◌, List, [], ◌∷◌, ◌++◌, length, take, drop, get_or, refl, ap, sym, ◌∙◌, ◌↔◌, arith, subst, Option, Some, None, Bool, true, false, IsTrue, inl, inr, length-drop, append_assoc}
+use Rattle.std.proofs.lemmas.List.{append-nil, drop_more, get_or-drop}
+use Rattle.std.specs.declared.cmp.Ordering.TheVariants.{Less, Equal, Greater}
+use Rattle.std.specs.Cmp.{IsEquivalence}
+use Rattle.range_keys.specs.Order.{KeyOrder, IsLawful}
+use Rattle.range_keys.specs.Position.{start_position, end_position, position_cmp}
+use Rattle.range_keys.specs.PositionOrder.{position_total}
+use Rattle.range_keys.specs.declared.inner.position.Position.{Position}
+use Rattle.range_algebra.specs.declared.any.AnyRange.{AnyRange}
+use Rattle.range_algebra.specs.Range.{IsKnownRange, IsEmptyRange}
+use Rattle.range_store.specs.declared.storage.Item.{Item}
+use Rattle.range_algebra.specs.Intervals.{Le, Lt, Every}
+use Rattle.range_algebra.specs.Orders.{le_refl, lt_le, le_trans, lt_le_trans, lt_trans}
+use Rattle.range_algebra.specs.Chains.{every_weaker, every_append, every_left, every_right, chain_above, chain_right, chain_before, follows_above, Leads}
+use Rattle.range_algebra.specs.Sides.{IsLeft, IsRight, left_whole, left_cut, right_whole, right_cut}
+use Rattle.range_algebra.specs.Joins.{IsBoundTo, IsUnbound, unbound}
+use Rattle.range_algebra.specs.Cuts.{lower, upper}
+use Rattle.range_map.specs.ItemCuts.{item_lower, item_upper}
+use Rattle.range_map.specs.Stored.{IsStored}
+use Rattle.range_map.specs.Bindings.{IsUnboundAfter, IsBoundAfter}
+use Rattle.range_algebra.proofs.Holding.{empty_is_keyless}
+use Rattle.range_map.specs.Window.{IsWindow, IsLeftPart, IsRightPart, option_items}
+use Rattle.range_map.specs.declared.window.Window.{Window}
+use Rattle.range_map.proofs.Forms.{places, nonempty_good, Known, Chained, stored_known, stored_chain, chain_stored, unbound_after}
+use Rattle.range_algebra.proofs.Lists.{every_at, parts, parts_at}
+
+module _ {K : Type 0} (order : KeyOrder K) (lawful : IsLawful order) {V : Type 0} (same : V → V → Bool) (equal : IsEquivalence same) where
+  abbrev Stored : Type 0
+  Stored = Item (AnyRange K) V
+
+  abbrev pub Left : List (Item (AnyRange K) V) → List (Item (AnyRange K) V) → Position K → Type 0
+  Left items kept c = IsLeft (places order lawful) (position_total order.cmp lawful.total) same equal (item_lower order) (item_upper order) (λ i. i.value) items kept c
+
+  abbrev pub Right : List (Item (AnyRange K) V) → List (Item (AnyRange K) V) → Position K → Type 0
+  Right items kept d = IsRight (places order lawful) (position_total order.cmp lawful.total) same equal (item_lower order) (item_upper order) (λ i. i.value) items kept d
+
+  -- what stands before the range, where no item starts before it and reaches it
+  pub left_all : (items front rest : List (Item (AnyRange K) V)) (c : Position K) → items ≡ front ++ rest → Chained order lawful same equal items → Every (λ i. Le (places order lawful) (item_upper order i) c) front → Every (λ i. Le (places order lawful) c (item_lower order i)) rest → Left items front c
+  left_all items front rest c split chain ends starts =
+      rw split (left_whole (places order lawful) (position_total order.cmp lawful.total) same equal (item_lower order) (item_upper order) (λ i. i.value) front rest c (rw split at chain) ends starts)
+
+  pub right_all : (items front rest : List (Item (AnyRange K) V)) (d : Position K) → items ≡ front ++ rest → Chained order lawful same equal items → Every (λ i. Le (places order lawful) (item_upper order i) d) front → Every (λ i. Le (places order lawful) d (item_lower order i)) rest → Right items rest d
+  right_all items front rest d split chain ends starts =
+      rw split (right_whole (places order lawful) (position_total order.cmp lawful.total) same equal (item_lower order) (item_upper order) (λ i. i.value) front rest d (rw split at chain) ends starts)
+
+  left_by : (items front rest : List (Item (AnyRange K) V)) (x : Item (AnyRange K) V) (r : AnyRange K) (left : Option (Item (AnyRange K) V)) → items ≡ front ++ x ∷ rest → Chained order lawful same equal items → Every (λ i. Le (places order lawful) (item_upper order i) (lower order r)) front → Lt (places order lawful) (lower order r) (item_upper order x) → IsLeftPart order same x r left → Left items (front ++ option_items left) (lower order r)
+  left_by items front rest x r None split chain ends reaches part =
+      let whole = chain_right (places order lawful) (position_total order.cmp lawful.total) same equal (item_lower order) (item_upper order) (λ i. i.value) front (x ∷ rest) (rw split at chain) in
+      rw (append-nil front) (left_all items front (x ∷ rest) (lower order r) split chain ends (chain_above (places order lawful) (position_total order.cmp lawful.total) same equal (item_lower order) (item_upper order) (λ i. i.value) (lower order r) x rest whole part))
+  left_by items front rest x r (Some y) split chain ends reaches part =
+      rw split (left_cut (places order lawful) (position_total order.cmp lawful.total) same equal (item_lower order) (item_upper order) (λ i. i.value) front x rest y (lower order r) (rw split at chain) part.0 (lt_le (places order lawful) (position_total order.cmp lawful.total) (lower order r) (item_upper order x) reaches) part.1 part.2 part.3)
+
+  -- what the first item that meets a range leaves before it
+  pub left_of : (items : List (Item (AnyRange K) V)) (place : ℕ) (d : Item (AnyRange K) V) (r : AnyRange K) (left : Option (Item (AnyRange K) V)) → place < length items → Chained order lawful same equal items → Every (λ i. Le (places order lawful) (item_upper order i) (lower order r)) (take place items) → Every (λ i. Lt (places order lawful) (lower order r) (item_upper order i)) (drop place items) → IsLeftPart order same (get_or items place d) r left → Left items (take place items ++ option_items left) (lower order r)
+  left_of items place d r left within chain ends reaches part =
+      let first : Every (λ i. Lt (places order lawful) (lower order r) (item_upper order i)) (get_or items place d ∷ drop (place + 1) items) = rw (drop_more items place d within) at reaches in
+      left_by items (take place items) (drop (place + 1) items) (get_or items place d) r left (parts_at items place d within) chain ends first.0 part
+
+  right_by : (items front rest : List (Item (AnyRange K) V)) (x : Item (AnyRange K) V) (r : AnyRange K) (right : Option (Item (AnyRange K) V)) → items ≡ front ++ x ∷ rest → Chained order lawful same equal items → Lt (places order lawful) (item_lower order x) (upper order r) → Every (λ i. Le (places order lawful) (upper order r) (item_lower order i)) rest → IsRightPart order same x r right → Right items (option_items right ++ rest) (upper order r)
+  right_by items front rest x r None split chain starts above part =
+      let cmp = places order lawful in
+      let total = position_total order.cmp lawful.total in
+      let whole : Chained order lawful same equal (front ++ x ∷ rest) = rw split at chain in
+      let before = chain_before (places order lawful) (position_total order.cmp lawful.total) same equal (item_lower order) (item_upper order) (λ i. i.value) front x rest whole in
+      let more : items ≡ (front ++ x ∷ []) ++ rest = split ∙ sym (append_assoc front (x ∷ []) rest) in
+      right_all items (front ++ x ∷ []) rest (upper order r) more chain (every_append _ front (x ∷ []) (every_weaker _ _ front (λ z h. le_trans cmp total (item_upper order z) (item_lower order x) (upper order r) h.0 (lt_le cmp total (item_lower order x) (upper order r) starts)) before) (part, tt)) above
+  right_by items front rest x r (Some y) split chain starts above part =
+      rw split (right_cut (places order lawful) (position_total order.cmp lawful.total) same equal (item_lower order) (item_upper order) (λ i. i.value) front x rest y (upper order r) (rw split at chain) (lt_le (places order lawful) (position_total order.cmp lawful.total) (item_lower order x) (upper order r) starts) part.0 part.1 part.2 part.3)
+
+  -- what the last item that meets a range leaves behind it
+  pub right_of : (items : List (Item (AnyRange K) V)) (end : ℕ) (d : Item (AnyRange K) V) (r : AnyRange K) (right : Option (Item (AnyRange K) V)) → 0 < end → end ≤ length items → Chained order lawful same equal items → Lt (places order lawful) (item_lower order (get_or items (end - 1) d)) (upper order r) → Every (λ i. Le (places order lawful) (upper order r) (item_lower order i)) (drop end items) → IsRightPart order same (get_or items (end - 1) d) r right → Right items (option_items right ++ drop end items) (upper order r)
+  right_of items end d r right some within chain starts above part =
+      let last : end - 1 + 1 ≡ end = omega arith in
+      let split : items ≡ take (end - 1) items ++ get_or items (end - 1) d ∷ drop end items = parts_at items (end - 1) d (omega arith) ∙ ap (λ n. take (end - 1) items ++ get_or items (end - 1) d ∷ drop n items) last in
+      right_by items (take (end - 1) items) (drop end items) (get_or items (end - 1) d) r right split chain starts above part
+
+  pub left_known : (x : Item (AnyRange K) V) (r : AnyRange K) (left : Option (Item (AnyRange K) V)) → IsLeftPart order same x r left → Known order lawful same equal (option_items left)
+  left_known x r None part = tt
+  left_known x r (Some y) part = (part.4, tt)
+
+  pub right_known : (x : Item (AnyRange K) V) (r : AnyRange K) (right : Option (Item (AnyRange K) V)) → IsRightPart order same x r right → Known order lawful same equal (option_items right)
+  right_known x r None part = tt
+  right_known x r (Some y) part = (part.4, tt)
+
+  pub known_take : (items : List (Item (AnyRange K) V)) (n : ℕ) → Known order lawful same equal items → Known order lawful same equal (take n items)
+  known_take items n known = every_left _ (take n items) (drop n items) (rw (parts items n) at known)
+
+  pub known_drop : (items : List (Item (AnyRange K) V)) (n : ℕ) → Known order lawful same equal items → Known order lawful same equal (drop n items)
+  known_drop items n known = every_right _ (take n items) (drop n items) (rw (parts items n) at known)
+
+  regroup : (a b c e : List (Item (AnyRange K) V)) → a ++ b ++ [] ++ c ++ e ≡ (a ++ b) ++ (c ++ e)
+  regroup a b c e = rw (append-nil (a ++ b)) (append_assoc (a ++ b) c e)
+
+  -- the list with the range cut out
+  pub removed : {P : Type 0} (is_good : P → Type 0) (rank : P → ℕ) (items new : List (Item (AnyRange K) V)) (r : AnyRange K) (w : Window P) (place : ℕ) (left right : Option (Item (AnyRange K) V)) (d e : Item (AnyRange K) V) →
+      IsStored order same items → IsKnownRange order r → (IsEmptyRange order r → ⊥) → IsWindow order is_good rank items r w place → 0 < w.count →
+      IsLeftPart order same (get_or items place d) r left → IsRightPart order same (get_or items (place + w.count - 1) e) r right →
+      new ≡ take place items ++ option_items left ++ [] ++ option_items right ++ drop (place + w.count) items →
+      IsStored order same new × IsUnboundAfter order same items new r
+  removed is_good rank items new r w place left right d e stored known full window some left_part right_part at =
+      let chain = stored_chain order lawful same equal items stored in
+      let all = stored_known order lawful same equal items stored in
+      let good = (nonempty_good order lawful r known).0 full in
+      let on_left = left_of items place d r left (omega (arith, window.in_range)) chain window.below window.above left_part in
+      let on_right = right_of items (place + w.count) e r right (omega arith) window.in_range chain (window.meets e some) window.behind right_part in
+      let result = unbound (places order lawful) (position_total order.cmp lawful.total) same equal (item_lower order) (item_upper order) (λ i. i.value) items (take place items ++ option_items left) (option_items right ++ drop (place + w.count) items) (lower order r) (upper order r) on_left on_right good in
+      let others = every_append _ (take place items ++ option_items left) (option_items right ++ drop (place + w.count) items)
+      (every_append _ (take place items) (option_items left) (known_take items place all) (left_known (get_or items place d) r left left_part))
+      (every_append _ (option_items right) (drop (place + w.count) items) (right_known (get_or items (place + w.count - 1) e) r right right_part) (known_drop items (place + w.count) all)) in
+      let same_list : new ≡ (take place items ++ option_items left) ++ (option_items right ++ drop (place + w.count) items) = at ∙ regroup (take place items) (option_items left) (option_items right) (drop (place + w.count) items) in
+      rw same_list (chain_stored order lawful same equal _ others result.chain, unbound_after order lawful same equal items _ r known all others result)
+
+  -- a range that meets nothing
+  pub unmet : {P : Type 0} (is_good : P → Type 0) (rank : P → ℕ) (items : List (Item (AnyRange K) V)) (r : AnyRange K) (w : Window P) (place : ℕ) →
+      IsStored order same items → IsKnownRange order r → (IsEmptyRange order r → ⊥) → IsWindow order is_good rank items r w place → w.count ≡ 0 → IsUnboundAfter order same items items r
+  unmet is_good rank items r w place stored known full window none =
+      let cmp = places order lawful in
+      let total = position_total order.cmp lawful.total in
+      let chain = stored_chain order lawful same equal items stored in
+      let all = stored_known order lawful same equal items stored in
+      let good = (nonempty_good order lawful r known).0 full in
+      let at : place + w.count ≡ place = omega (arith, none) in
+      let behind : Every (λ i. Le cmp (upper order r) (item_lower order i)) (drop place items) = rw at at window.behind in
+      let on_left = left_all items (take place items) (drop place items) (lower order r) (parts items place) chain window.below (every_weaker _ _ (drop place items) (λ i h. le_trans cmp total (lower order r) (upper order r) (item_lower order i) (lt_le cmp total (lower order r) (upper order r) good) h) behind) in
+      let on_right = right_all items (take place items) (drop place items) (upper order r) (parts items place) chain (every_weaker _ _ (take place items) (λ i h. le_trans cmp total (item_upper order i) (lower order r) (upper order r) h (lt_le cmp total (lower order r) (upper order r) good)) window.below) behind in
+      let result = unbound (places order lawful) (position_total order.cmp lawful.total) same equal (item_lower order) (item_upper order) (λ i. i.value) items (take place items) (drop place items) (lower order r) (upper order r) on_left on_right good in
+      unbound_after order lawful same equal items items r known all all (subst (λ (ys : List (Item (AnyRange K) V)). IsUnbound (places order lawful) (position_total order.cmp lawful.total) same equal (item_lower order) (item_upper order) (λ i. i.value) items ys (lower order r) (upper order r)) (sym (parts items place)) result)
+
+  pub empty_unbound : (items : List (Item (AnyRange K) V)) (r : AnyRange K) → IsEmptyRange order r → IsUnboundAfter order same items items r
+  empty_unbound items r empty = record {
+    held = λ k key h. absurd (empty_is_keyless order lawful r empty k key h);
+    others = λ k key h b. (λ t. t, λ t. t);
+  }
+
+  pub empty_bound : (items : List (Item (AnyRange K) V)) (r : AnyRange K) (v : V) → IsEmptyRange order r → IsBoundAfter order same items items r v
+  empty_bound items r v empty = record {
+    held = λ k key h. absurd (empty_is_keyless order lawful r empty k key h);
+    others = λ k key h b. (λ t. t, λ t. t);
+  }

@@ -1,0 +1,279 @@
+use Rattle.std.proofs.Common.{◌≡◌, ℕ, zero, suc, ◌+◌, ◌-◌, ◌<◌, ◌≤◌, List, [], ◌∷◌, ◌++◌, length, take, drop, get_or, refl, ap, sym, ◌∙◌, ◌↔◌, arith, subst, Option, Some, None, Bool, true, false, IsTrue, inl, inr, length-drop, append_assoc}
+use Rattle.std.proofs.lemmas.List.{append-nil, drop_more, take_more, get_or-drop}
+use Rattle.std.specs.declared.cmp.Ordering.TheVariants.{Less, Equal, Greater}
+use Rattle.std.specs.Cmp.{IsEquivalence}
+use Rattle.range_keys.specs.Order.{KeyOrder, IsLawful}
+use Rattle.range_keys.specs.Position.{start_position, end_position, position_cmp}
+use Rattle.range_keys.specs.PositionOrder.{position_total}
+use Rattle.range_keys.specs.declared.inner.position.Position.{Position}
+use Rattle.range_algebra.specs.declared.any.AnyRange.{AnyRange}
+use Rattle.range_algebra.specs.Range.{IsKnownRange, IsEmptyRange}
+use Rattle.range_store.specs.declared.storage.Item.{Item}
+use Rattle.range_algebra.specs.Intervals.{Le, Lt, Every}
+use Rattle.range_algebra.specs.Orders.{le_refl, lt_le, le_trans, lt_le_trans, lt_trans}
+use Rattle.range_algebra.specs.Chains.{every_weaker, every_append, every_left, every_right, chain_above, chain_right, chain_before, follows_above, Leads}
+use Rattle.range_algebra.specs.Sides.{IsLeft, IsRight, left_whole, left_cut, right_whole, right_cut}
+use Rattle.range_algebra.specs.Joins.{IsBoundTo, IsUnbound, unbound}
+use Rattle.range_algebra.specs.Cuts.{past, lower, upper}
+use Rattle.range_map.specs.ItemCuts.{item_lower, item_upper}
+use Rattle.range_map.specs.Stored.{IsStored}
+use Rattle.range_map.specs.Bindings.{IsUnboundAfter, IsBoundAfter}
+use Rattle.range_algebra.proofs.Holding.{empty_is_keyless}
+use Rattle.range_map.specs.Window.{IsWindow, IsLeftPart, IsRightPart, option_items}
+use Rattle.range_map.specs.declared.window.Window.{Window}
+use Rattle.range_map.proofs.Forms.{places, nonempty_good, Known, Chained, stored_known, stored_chain, chain_stored, unbound_after}
+use Rattle.range_algebra.proofs.Lists.{every_at, parts, parts_at}
+use Rattle.std.proofs.Common.{Result, Ok, Err, IfOk}
+use Rattle.range_algebra.specs.Compared.{starts_at_end}
+use Rattle.std.specs.Cmp.{tied_itself, tied_back}
+use Rattle.std.specs.declared.ops.Bound.{Bound}
+use Rattle.std.specs.Option.{unwrap_or}
+use Rattle.range_store.specs.Places.{IsAt}
+use Rattle.range_algebra.specs.Orders.{eq_le, eq_ge, lt_not_le}
+use Rattle.range_algebra.specs.Chains.{Trails, Respects}
+use Rattle.range_algebra.specs.Joins.{IsLeftOf, IsRightOf, left_apart, left_joined, right_apart, right_joined, leading_last, trailing_first, bound}
+use Rattle.range_map.specs.Stored.{Touches}
+use Rattle.range_map.specs.Bindings.{IsBoundAfter}
+use Rattle.range_map.specs.Edges.{IsLeftRest, IsRightRest, IsLeftEdge, IsRightEdge, TouchesBefore, TouchesNoneBefore, TouchesAfter, TouchesNoneAfter, edge_start, edge_end}
+use Rattle.range_map.proofs.Forms.{touches_is, bound_after}
+use Rattle.range_map.proofs.CutOut.{Left, Right, left_all, right_all, left_of, right_of, left_known, right_known, known_take, known_drop}
+
+pub if_ok : {A E : Type 0} (P Q : A → Type 0) (r : Result A E) → ((x : A) → P x → Q x) → IfOk r P → IfOk r Q
+if_ok P Q (Ok x) f h = f x h
+if_ok P Q (Err e) f h = tt
+
+both_truths : (b : Bool) → b ≡ true → b ≡ false → ⊥
+both_truths b e f = let clash : true ≡ false = sym e ∙ f in cc
+
+element : {X : Type 0} (xs : List X) (n : ℕ) → n < length xs → X
+element [] n within = absurd (omega arith)
+element (x ∷ xs) zero within = x
+element (x ∷ xs) (suc n) within = element xs n (omega arith)
+
+module _ {K : Type 0} (order : KeyOrder K) (lawful : IsLawful order) {V : Type 0} (same : V → V → Bool) (equal : IsEquivalence same) where
+  module _ {P : Type 0} (is_good : P → Type 0) (rank : P → ℕ) (items : List (Item (AnyRange K) V)) (r : AnyRange K) (w : Window P) (place : ℕ) (stored : IsStored order same items) (known : IsKnownRange order r) (full : IsEmptyRange order r → ⊥) (window : IsWindow order is_good rank items r w place) where
+    good : Lt (places order lawful) (lower order r) (upper order r)
+    good = (nonempty_good order lawful r known).0 full
+
+    behind_none : w.count ≡ 0 → Every (λ i. Le (places order lawful) (upper order r) (item_lower order i)) (drop place items)
+    behind_none none = let at : place + w.count ≡ place = omega (arith, none) in rw at at window.behind
+
+    left_reaches : (x y : Item (AnyRange K) V) (rest : Option (Item (AnyRange K) V)) → IsLeftPart order same x r rest → rest ≡ Some y → Le (places order lawful) (lower order r) (item_upper order y)
+    left_reaches x y None part e = absurd (cc)
+    left_reaches x y (Some z) part e = let at : z ≡ y = cc in rw (← at) (eq_ge (places order lawful) (position_total order.cmp lawful.total) (item_upper order z) (lower order r) part.2)
+
+    pub left_rest_none : w.count ≡ 0 → IsLeftRest order same lawful equal items r place None
+    left_rest_none none =
+        let cmp = places order lawful in
+        let total = position_total order.cmp lawful.total in
+        record {
+          left = rw (append-nil (take place items)) (left_all order lawful same equal items (take place items) (drop place items) (lower order r) (parts items place) (stored_chain order lawful same equal items stored) window.below (every_weaker _ _ (drop place items) (λ i h. le_trans cmp total (lower order r) (upper order r) (item_lower order i) (lt_le cmp total (lower order r) (upper order r) good) h) (behind_none none)));
+          known = tt;
+          reaches = λ y e. absurd (cc);
+        }
+
+    pub left_rest_some : 0 < w.count → (x : Item (AnyRange K) V) → x ≡ get_or items place x → (rest : Option (Item (AnyRange K) V)) → IsLeftPart order same x r rest → IsLeftRest order same lawful equal items r place rest
+    left_rest_some some x read rest part =
+        record {
+          left = left_of order lawful same equal items place x r rest (omega (arith, window.in_range)) (stored_chain order lawful same equal items stored) window.below window.above (subst (λ (y : Item (AnyRange K) V). IsLeftPart order same y r rest) read part);
+          known = left_known order lawful same equal x r rest part;
+          reaches = λ y e. left_reaches x y rest part e;
+        }
+
+    right_reaches : (x y : Item (AnyRange K) V) (rest : Option (Item (AnyRange K) V)) → IsRightPart order same x r rest → rest ≡ Some y → Le (places order lawful) (item_lower order y) (upper order r)
+    right_reaches x y None part e = absurd (cc)
+    right_reaches x y (Some z) part e = let at : z ≡ y = cc in rw (← at) (eq_le (places order lawful) (position_total order.cmp lawful.total) (item_lower order z) (upper order r) part.1)
+
+    pub right_rest_none : w.count ≡ 0 → IsRightRest order same lawful equal items r (place + w.count) None
+    right_rest_none none =
+        let cmp = places order lawful in
+        let total = position_total order.cmp lawful.total in
+        let at : place + w.count ≡ place = omega (arith, none) in
+        rw at (record {
+          right = right_all order lawful same equal items (take place items) (drop place items) (upper order r) (parts items place) (stored_chain order lawful same equal items stored) (every_weaker _ _ (take place items) (λ i h. le_trans cmp total (item_upper order i) (lower order r) (upper order r) h (lt_le cmp total (lower order r) (upper order r) good)) window.below) (behind_none none);
+          known = tt;
+          reaches = λ y e. absurd (cc);
+        })
+
+    pub right_rest_some : 0 < w.count → (x : Item (AnyRange K) V) → x ≡ get_or items (place + w.count - 1) x → (rest : Option (Item (AnyRange K) V)) → IsRightPart order same x r rest → IsRightRest order same lawful equal items r (place + w.count) rest
+    right_rest_some some x read rest part =
+        record {
+          right = right_of order lawful same equal items (place + w.count) x r rest (omega arith) window.in_range (stored_chain order lawful same equal items stored) (window.meets x some) window.behind (subst (λ (y : Item (AnyRange K) V). IsRightPart order same y r rest) read part);
+          known = right_known order lawful same equal x r rest part;
+          reaches = λ y e. right_reaches x y rest part e;
+        }
+
+    -- the cut item has an equal value: the range takes its start
+    pub left_edge_cut : (v : V) (y : Item (AnyRange K) V) (b : Bound K) → IsLeftRest order same lawful equal items r place (Some y) → same y.value v ≡ true → b ≡ y.key.start → IsLeftEdge order same lawful equal is_good rank items r v place w.from 0 None (Some b)
+    left_edge_cut v y b rest values at =
+        let total = position_total order.cmp lawful.total in
+        record {
+          at = place;
+          sum = omega arith;
+          position = window.position;
+          s = item_lower order y;
+          starts = rw at (tied_itself total (item_lower order y));
+          left = rw (append-nil (take place items)) (left_joined (places order lawful) (position_total order.cmp lawful.total) same equal (item_lower order) (item_upper order) (λ i. i.value) items (take place items) y (lower order r) v rest.left (rest.reaches y refl) values);
+          known = tt;
+        }
+
+    -- it has another value: its lower part stays
+    pub left_edge_rest : (v : V) (y : Item (AnyRange K) V) → IsLeftRest order same lawful equal items r place (Some y) → same y.value v ≡ false → IsLeftEdge order same lawful equal is_good rank items r v place w.from 0 (Some y) None
+    left_edge_rest v y rest values =
+        let total = position_total order.cmp lawful.total in
+        let ends = every_right _ (take place items) (y ∷ []) rest.left.ends in
+        record {
+          at = place;
+          sum = omega arith;
+          position = window.position;
+          s = lower order r;
+          starts = tied_itself total (lower order r);
+          left = left_apart (places order lawful) (position_total order.cmp lawful.total) same equal (item_lower order) (item_upper order) (λ i. i.value) items (take place items ++ y ∷ []) (lower order r) v rest.left
+              (leading_last (places order lawful) (position_total order.cmp lawful.total) same equal (item_lower order) (item_upper order) (λ i. i.value) (take place items) y (lower order r) v rest.left.chain (ends.0, λ k t. both_truths (same y.value v) t values));
+          known = rest.known;
+        }
+
+    take_last : (n : ℕ) (d : Item (AnyRange K) V) → 0 < n → n ≤ length items → take n items ≡ take (n - 1) items ++ get_or items (n - 1) d ∷ []
+    take_last n d some within = let last : n - 1 + 1 ≡ n = omega arith in ap (λ m. take m items) (sym last) ∙ take_more items (n - 1) d (omega arith)
+
+    -- an item before the range touches it and has an equal value: the range takes its start
+    pub left_edge_joined : (v : V) (q : P) (x : Item (AnyRange K) V) (b : Bound K) → IsLeftRest order same lawful equal items r place None → is_good q → rank q + 1 ≡ place → rank q < length items → x ≡ get_or items (rank q) x → TouchesBefore order same items place r v → places order lawful (start_position order x.key.start) (start_position order b) ≡ Equal → IsLeftEdge order same lawful equal is_good rank items r v place (Some q) 1 None (Some b)
+    left_edge_joined v q x b rest is at within read touching starts =
+        let cmp = places order lawful in
+        let total = position_total order.cmp lawful.total in
+        let before : place - 1 ≡ rank q = omega (arith, at) in
+        let same_item : get_or items (place - 1) x ≡ x = ap (λ n. get_or items n x) before ∙ sym read in
+        let split : take place items ≡ take (rank q) items ++ x ∷ [] = take_last place x (omega (arith, at)) (omega (arith, at)) ∙ (ap (λ n. take n items ++ get_or items (place - 1) x ∷ []) before ∙ ap (λ y. take (rank q) items ++ y ∷ []) same_item) in
+        let front : take place items ++ option_items None ≡ take (rank q) items ++ x ∷ [] = append-nil (take place items) ∙ split in
+        let left : Left order lawful same equal items (take (rank q) items ++ x ∷ []) (lower order r) = subst (λ (ys : List (Item (AnyRange K) V)). Left order lawful same equal items ys (lower order r)) front rest.left in
+        let ends = every_right _ (take (rank q) items) (x ∷ []) left.ends in
+        let touch : Touches order x.key r × (same x.value v ≡ true) = subst (λ (y : Item (AnyRange K) V). Touches order y.key r × (same y.value v ≡ true)) same_item (touching x) in
+        record {
+          at = rank q;
+          sum = at;
+          position = (is, refl);
+          s = item_lower order x;
+          starts = tied_back total (start_position order x.key.start) (start_position order b) starts;
+          left = rw (append-nil (take (rank q) items)) (left_joined (places order lawful) (position_total order.cmp lawful.total) same equal (item_lower order) (item_upper order) (λ i. i.value) items (take (rank q) items) x (lower order r) v left ((touches_is order lawful x.key.end r known good ends.0).0 touch.0) touch.1);
+          known = tt;
+        }
+
+    first_of : (n : ℕ) → n < length items → Item (AnyRange K) V
+    first_of n within = element items n within
+
+    parts_lead : (n : ℕ) (v : V) (d : Item (AnyRange K) V) → place - 1 ≡ n → n < length items → Left order lawful same equal items (take place items) (lower order r) → TouchesNoneBefore order same items place r v → suc n ≡ place → Every (λ i. Leads (places order lawful) (position_total order.cmp lawful.total) same equal (item_lower order) (item_upper order) (λ i. i.value) i (lower order r) v) (take (suc n) items)
+    parts_lead n v d before within left none e =
+        let size : place ≤ length items = omega arith in
+        let split : take place items ≡ take n items ++ get_or items n d ∷ [] = take_last place d (omega arith) size ∙ ap (λ m. take m items ++ get_or items m d ∷ []) before in
+        let whole : Left order lawful same equal items (take n items ++ get_or items n d ∷ []) (lower order r) = subst (λ (ys : List (Item (AnyRange K) V)). Left order lawful same equal items ys (lower order r)) split left in
+        let ends = every_right _ (take n items) (get_or items n d ∷ []) whole.ends in
+        let apart : Touches order (get_or items n d).key r → same (get_or items n d).value v ≡ true → ⊥ = subst (λ (m : ℕ). Touches order (get_or items m d).key r → same (get_or items m d).value v ≡ true → ⊥) before (none d (omega arith)) in
+        subst (λ (m : ℕ). Every (λ i. Leads (places order lawful) (position_total order.cmp lawful.total) same equal (item_lower order) (item_upper order) (λ i. i.value) i (lower order r) v) (take m items)) (sym e) (rw split (leading_last (places order lawful) (position_total order.cmp lawful.total) same equal (item_lower order) (item_upper order) (λ i. i.value) (take n items) (get_or items n d) (lower order r) v whole.chain (ends.0, λ k t. apart ((touches_is order lawful (get_or items n d).key.end r known good ends.0).1 k) t)))
+
+    all_lead : (n : ℕ) (v : V) → n ≡ place → place ≤ length items → IsLeftRest order same lawful equal items r place None → TouchesNoneBefore order same items place r v → Every (λ i. Leads (places order lawful) (position_total order.cmp lawful.total) same equal (item_lower order) (item_upper order) (λ i. i.value) i (lower order r) v) (take n items)
+    all_lead zero v e within rest none = tt
+    all_lead (suc n) v e within rest none =
+        let before : place - 1 ≡ n = omega arith in
+        let within' : n < length items = omega arith in
+        parts_lead n v (first_of n within') before within' (subst (λ (ys : List (Item (AnyRange K) V)). Left order lawful same equal items ys (lower order r)) (append-nil (take place items)) rest.left) none e
+
+    pub left_edge_none : (v : V) → place ≤ length items → IsLeftRest order same lawful equal items r place None → TouchesNoneBefore order same items place r v → IsLeftEdge order same lawful equal is_good rank items r v place w.from 0 None None
+    left_edge_none v within rest none =
+        let total = position_total order.cmp lawful.total in
+        record {
+          at = place;
+          sum = omega arith;
+          position = window.position;
+          s = lower order r;
+          starts = tied_itself total (lower order r);
+          left = left_apart (places order lawful) (position_total order.cmp lawful.total) same equal (item_lower order) (item_upper order) (λ i. i.value) items (take place items ++ []) (lower order r) v rest.left (rw (append-nil (take place items)) (all_lead place v refl within rest none));
+          known = tt;
+        }
+
+    pub right_edge_cut : (end : ℕ) (v : V) (y : Item (AnyRange K) V) (b : Bound K) → end ≤ length items → IsRightRest order same lawful equal items r end (Some y) → same y.value v ≡ true → b ≡ y.key.end → IsRightEdge order same lawful equal items r v end 0 None (Some b)
+    right_edge_cut end v y b within rest values at =
+        let total = position_total order.cmp lawful.total in
+        let plus : end + 0 ≡ end = omega arith in
+        record {
+          in_range = omega arith;
+          e = item_upper order y;
+          ends = rw at (tied_itself total (item_upper order y));
+          right = rw plus (right_joined (places order lawful) (position_total order.cmp lawful.total) same equal (item_lower order) (item_upper order) (λ i. i.value) items (drop end items) y (upper order r) v rest.right (rest.reaches y refl) values);
+          known = tt;
+        }
+
+    pub right_edge_rest : (end : ℕ) (v : V) (y : Item (AnyRange K) V) → end ≤ length items → IsRightRest order same lawful equal items r end (Some y) → same y.value v ≡ false → IsRightEdge order same lawful equal items r v end 0 (Some y) None
+    right_edge_rest end v y within rest values =
+        let total = position_total order.cmp lawful.total in
+        let plus : end + 0 ≡ end = omega arith in
+        record {
+          in_range = omega arith;
+          e = upper order r;
+          ends = tied_itself total (upper order r);
+          right = rw plus (right_apart (places order lawful) (position_total order.cmp lawful.total) same equal (item_lower order) (item_upper order) (λ i. i.value) items (y ∷ drop end items) (upper order r) v rest.right
+              (trailing_first (places order lawful) (position_total order.cmp lawful.total) same equal (item_lower order) (item_upper order) (λ i. i.value) y (drop end items) (upper order r) v rest.right.chain (rest.right.starts.0, λ k t. both_truths (same y.value v) (equal.symm y.value v ∙ t) values)));
+          known = rest.known;
+        }
+
+    pub right_edge_joined : (end : ℕ) (v : V) (x : Item (AnyRange K) V) (b : Bound K) → end < length items → x ≡ get_or items end x → IsKnownRange order x.key → IsRightRest order same lawful equal items r end None → TouchesAfter order same items end r v → places order lawful (past order (end_position order x.key.end)) (past order (end_position order b)) ≡ Equal → IsRightEdge order same lawful equal items r v end 1 None (Some b)
+    right_edge_joined end v x b within read known_x rest touching ends =
+        let total = position_total order.cmp lawful.total in
+        let split : drop end items ≡ x ∷ drop (end + 1) items = drop_more items end x within ∙ ap (λ y. y ∷ drop (end + 1) items) (sym read) in
+        let right : Right order lawful same equal items (x ∷ drop (end + 1) items) (upper order r) = subst (λ (ys : List (Item (AnyRange K) V)). Right order lawful same equal items ys (upper order r)) split rest.right in
+        let touch : Touches order r x.key × (same v x.value ≡ true) = subst (λ (y : Item (AnyRange K) V). Touches order r y.key × (same v y.value ≡ true)) (sym read) (touching x) in
+        record {
+          in_range = omega arith;
+          e = item_upper order x;
+          ends = tied_back total (past order (end_position order x.key.end)) (past order (end_position order b)) ends;
+          right = right_joined (places order lawful) (position_total order.cmp lawful.total) same equal (item_lower order) (item_upper order) (λ i. i.value) items (drop (end + 1) items) x (upper order r) v right ((touches_is order lawful r.end x.key known_x right.chain.0 right.starts.0).0 touch.0) (equal.symm x.value v ∙ touch.1);
+          known = tt;
+        }
+
+    all_trail : (end : ℕ) (v : V) (ys : List (Item (AnyRange K) V)) → Known order lawful same equal ys → Right order lawful same equal items ys (upper order r) → ((d : Item (AnyRange K) V) → 0 < length ys → Touches order r (get_or ys 0 d).key → same v (get_or ys 0 d).value ≡ true → ⊥) → Every (λ i. Trails (places order lawful) (position_total order.cmp lawful.total) same equal (item_lower order) (item_upper order) (λ i. i.value) (upper order r) v i) ys
+    all_trail end v [] others right none = tt
+    all_trail end v (y ∷ ys) others right none =
+        trailing_first (places order lawful) (position_total order.cmp lawful.total) same equal (item_lower order) (item_upper order) (λ i. i.value) y ys (upper order r) v right.chain (right.starts.0, λ k t. none y (omega arith) ((touches_is order lawful r.end y.key others.0 right.chain.0 right.starts.0).1 k) t)
+
+    pub right_edge_none : (end : ℕ) (v : V) → end ≤ length items → IsRightRest order same lawful equal items r end None → TouchesNoneAfter order same items end r v → IsRightEdge order same lawful equal items r v end 0 None None
+    right_edge_none end v within rest none =
+        let total = position_total order.cmp lawful.total in
+        let plus : end + 0 ≡ end = omega arith in
+        let others = known_drop order lawful same equal items end (stored_known order lawful same equal items stored) in
+        record {
+          in_range = omega arith;
+          e = upper order r;
+          ends = tied_itself total (upper order r);
+          right = rw plus (right_apart (places order lawful) (position_total order.cmp lawful.total) same equal (item_lower order) (item_upper order) (λ i. i.value) items (drop end items) (upper order r) v rest.right
+              (all_trail end v (drop end items) others rest.right (λ d some. let at : get_or (drop end items) 0 d ≡ get_or items end d = get_or-drop end items 0 d ∙ ap (λ n. get_or items n d) plus in rw at (none d (omega (arith, length-drop end items))))));
+          known = tt;
+        }
+
+    regrouped : (a b c e : List (Item (AnyRange K) V)) (m : Item (AnyRange K) V) → a ++ b ++ (m ∷ []) ++ c ++ e ≡ (a ++ b) ++ m ∷ (c ++ e)
+    regrouped a b c e m = append_assoc (a ++ b ++ (m ∷ [])) c e ∙ append_assoc (a ++ b) (m ∷ []) (c ++ e)
+
+    -- the list with the range bound to v
+    pub inserted : (new : List (Item (AnyRange K) V)) (v : V) (m : Item (AnyRange K) V) (from : Option P) (extra extra_behind : ℕ) (left right : Option (Item (AnyRange K) V)) (start finish : Option (Bound K)) (at : ℕ) →
+        (on_left : IsLeftEdge order same lawful equal is_good rank items r v place from extra left start) → IsRightEdge order same lawful equal items r v (place + w.count) extra_behind right finish →
+        IsKnownRange order m.key → item_lower order m ≡ edge_start order same start r → item_upper order m ≡ edge_end order same finish r → m.value ≡ v → at ≡ on_left.at →
+        new ≡ take at items ++ option_items left ++ option_items (Some m) ++ option_items right ++ drop (at + (extra + w.count + extra_behind)) items →
+        IsStored order same new × IsBoundAfter order same items new r v
+    inserted new v m from extra extra_behind left right start finish at on_left on_right known_m starts ends values at_is changed =
+        let all = stored_known order lawful same equal items stored in
+        let skip : on_left.at + (extra + w.count + extra_behind) ≡ place + w.count + extra_behind = omega (arith, on_left.sum) in
+        let front = take on_left.at items ++ option_items left in
+        let behind = option_items right ++ drop (place + w.count + extra_behind) items in
+        let list : new ≡ front ++ m ∷ behind = changed ∙ (rw (at_is, skip) (regrouped (take on_left.at items) (option_items left) (option_items right) (drop (place + w.count + extra_behind) items) m)) in
+        let value_is : same m.value v ≡ true = rw values (equal.refl v) in
+        let result = bound (places order lawful) (position_total order.cmp lawful.total) same equal (item_lower order) (item_upper order) (λ i. i.value) items front behind m (lower order r) (upper order r) on_left.s on_right.e v on_left.left on_right.right good (rw starts on_left.starts) (rw ends on_right.ends) value_is in
+        let others = every_append _ front (m ∷ behind)
+        (every_append _ (take on_left.at items) (option_items left) (known_take order lawful same equal items on_left.at all) on_left.known)
+        (known_m, every_append _ (option_items right) (drop (place + w.count + extra_behind) items) on_right.known (known_drop order lawful same equal items (place + w.count + extra_behind) all)) in
+        rw list (chain_stored order lawful same equal (front ++ m ∷ behind) others result.chain, bound_after order lawful same equal items (front ++ m ∷ behind) r v known all others result)
+
+pub edge_start_is : {K : Type 0} (order : KeyOrder K) {V : Type 0} (same : V → V → Bool) (o : Option (Bound K)) (r : AnyRange K) → start_position order (unwrap_or o r.start) ≡ edge_start order same o r
+edge_start_is order same None r = refl
+edge_start_is order same (Some b) r = refl
+
+pub edge_end_is : {K : Type 0} (order : KeyOrder K) {V : Type 0} (same : V → V → Bool) (o : Option (Bound K)) (r : AnyRange K) → past order (end_position order (unwrap_or o r.end)) ≡ edge_end order same o r
+edge_end_is order same None r = refl
+edge_end_is order same (Some b) r = refl

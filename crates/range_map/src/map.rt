@@ -1,0 +1,75 @@
+//! A map from ranges of keys to values.
+ghost use Rattle.std.specs.Prelude.{◌≡◌, [], length};
+ghost use Rattle.std.specs.Option.{option_copied};
+ghost use Rattle.range_map.specs.Stored.{IsStored};
+ghost use Rattle.range_map.specs.Bindings.{Binds};
+
+use crate::window::find;
+use range_algebra::any::AnyRange;
+use range_keys::inner::position::{KeyRef, Position, Side};
+use range_keys::traits::PartialEnum;
+use range_store::storage::{Item, Storage};
+use std::alloc::Global;
+use std::marker::{Model, PhantomData};
+
+/// Nonempty ranges with values, in order. A contract sees the container.
+#[derive(Drop)]
+pub struct RangeMap<K: PartialEnum, V: Eq, C: Storage<Item<AnyRange<K>, V>>> {
+    pub(crate) stored: C,
+    pub(crate) item: PhantomData<(K, V)>,
+}
+
+impl<K: PartialEnum, V: Eq, C: Storage<Item<AnyRange<K>, V>>> Model for RangeMap<K, V, C> {
+    ghost use Rattle.range_map.specs.Stored.{IsStored};
+
+    ghost Value = { C };
+
+    ghost view = { λ m. m.stored };
+
+    ghost invariant = { λ m. IsStored K.order V.eq (C.items m.stored) };
+}
+
+impl<K: PartialEnum, V: Eq + Drop, C: Storage<Item<AnyRange<K>, V>>> RangeMap<K, V, C> {
+    pub fn new(alloc: Global) -> Self
+        ensures { C.items result ≡ [] }
+    {
+        RangeMap {
+            stored: C::new(alloc),
+            item: PhantomData,
+        }
+    }
+
+    /// Does nothing, and promises the form of what is stored.
+    pub fn in_form(&self)
+        ensures { IsStored K.order V.eq (C.items self.now) }
+    {
+        let _count = self.stored.len();
+    }
+
+    /// How many ranges are stored.
+    pub fn range_count(&self) -> usize
+        ensures { result ≡ length (C.items self.now) }
+    {
+        self.stored.len()
+    }
+
+    /// The value to which the key is bound.
+    pub fn get(&self, key: &K) -> Option<&V>
+        ensures { Binds K.order V.eq (C.items self.now) key.now (option_copied result) }
+    {
+        key.known();
+        let position = Position::Beside(KeyRef::Given(key), Side::At);
+        let (_, from) = find::<K, V, C>(&self.stored, &position);
+        match from {
+            None => None,
+            Some(p) => {
+                let item = self.stored.get(p);
+                if item.key.holds(key) {
+                    Some(&item.value)
+                } else {
+                    None
+                }
+            }
+        }
+    }
+}

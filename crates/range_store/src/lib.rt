@@ -1,0 +1,5 @@
+//! An ordered container, seen as a list of items and a room.
+#![tactic(auto)]
+
+pub mod storage;
+pub mod vec_storage;

@@ -1,0 +1,207 @@
+//! An ordered container, seen as a list of items and a room, and a probe that searches it.
+ghost use Rattle.std.specs.Prelude.{◌≡◌, ℕ, ◌+◌, ◌-◌, ◌^◌, ◌<◌, ◌≤◌, List, Bool, true, false, [], ◌∷◌, ◌++◌, length, slice_index_or, slice_set, insert, remove, IsTrue, IsSome, IfSome, IfNone, OnOk, OnErr, IfOk, MatchOption, All, min, Option};
+ghost use Rattle.std.specs.List.Sorted.{IsPartitionedBy, IsPartitionPoint};
+ghost use Rattle.std.specs.List.{AllZip};
+ghost use Rattle.std.specs.Option.{ForSome};
+ghost use Rattle.std.specs.Borrow.{Lends, sem};
+ghost use Rattle.range_store.specs.Counting.{one_step_after, AddsSteps, greatest_count};
+ghost use Rattle.range_store.specs.Places.{place_before, IsAt, IsFrontOf};
+
+use std::alloc::{AllocError, Global};
+use std::marker::Model;
+
+/// A count of steps. It stays at the greatest `u64` once it is there.
+#[derive(Drop)]
+pub struct Steps {
+    count: u64,
+}
+
+impl Model for Steps {
+    ghost Value = { ℕ };
+
+    ghost view = { λ steps. steps.count };
+}
+
+impl Steps {
+    pub fn new() -> Self
+        ensures { result ≡ 0 }
+    {
+        Steps { count: 0 }
+    }
+
+    pub fn count(&self) -> u64
+        ensures { result ≡ self.now }
+    {
+        self.count
+    }
+
+    /// Adds one step.
+    pub fn tick(&mut self)
+        ensures { self.new ≡ one_step_after self.old }
+    {
+        self.count = self.count.saturating_add(1);
+    }
+}
+
+/// A key beside its value.
+#[derive(Clone, PartialEq, Eq, Drop)]
+pub struct Item<K, V> {
+    pub key: K,
+    pub value: V,
+}
+
+impl<K, V> Item<K, V> {
+    pub fn new(key: K, value: V) -> Self
+        ensures key { result.key ≡ key }
+        ensures value { result.value ≡ value }
+    {
+        Item { key, value }
+    }
+
+    pub fn as_pair(&self) -> (&K, &V)
+        ensures key { result.0.now ≡ self.now.key }
+        ensures value { result.1.now ≡ self.now.value }
+    {
+        (&self.key, &self.value)
+    }
+
+    pub fn into_pair(self) -> (K, V)
+        ensures { result ≡ (self.key, self.value) }
+    {
+        (self.key, self.value)
+    }
+}
+
+/// A question to the items of a container, which counts how often it is asked.
+pub trait Probe<T> {
+    /// What it answers of each item.
+    ghost test: { Self → T → Bool };
+
+    /// How many steps were counted.
+    ghost steps_taken: { Self → ℕ };
+
+    fn ask(&mut self, item: &T) -> bool
+        ensures answer { result ≡ test self.old item.now }
+        ensures test_kept { (x : T) → test self.new x ≡ test self.old x }
+        ensures counted { steps_taken self.new ≡ one_step_after (steps_taken self.old) };
+
+    fn steps(&self) -> &Steps
+        ensures { result.now ≡ steps_taken self.now };
+}
+
+/// An ordered container: a list of items, and room for more.
+pub trait Storage<T>: Drop {
+    type Position: Copy;
+
+    /// The items in order.
+    ghost items: { Self → List T };
+
+    /// How many items can be inserted with no more memory.
+    ghost room: { Self → ℕ };
+
+    /// Whether a position may be used.
+    ghost is_good: { Self → Self.Position → Type 0 };
+
+    /// The rank of a good position.
+    ghost rank: { Self → Self.Position → ℕ };
+
+    /// The container with another item at a good position.
+    ghost with_item: { Self → Self.Position → T → Self };
+
+    /// The least and the greatest number of items that one search asks.
+    ghost least_asks: { Self → ℕ };
+
+    ghost most_asks: { Self → ℕ };
+
+    fn new(alloc: Global) -> Self
+        ensures { items result ≡ [] };
+
+    fn len(&self) -> usize
+        ensures { result ≡ length (items self.now) };
+
+    fn first(&self) -> Option<Self::Position>
+        ensures { IsAt (is_good self.now) (rank self.now) (length (items self.now)) result 0 };
+
+    fn last(&self) -> Option<Self::Position>
+        ensures { MatchOption result (items self.now ≡ []) (λ p. is_good self.now p × (rank self.now p + 1 ≡ length (items self.now))) };
+
+    fn next(&self, p: Self::Position) -> Option<Self::Position>
+        requires { is_good self.now p }
+        ensures { IsAt (is_good self.now) (rank self.now) (length (items self.now)) result (rank self.now p + 1) };
+
+    fn prev(&self, p: Self::Position) -> Option<Self::Position>
+        requires { is_good self.now p }
+        ensures { MatchOption result (rank self.now p ≡ 0) (λ q. is_good self.now q × (rank self.now q + 1 ≡ rank self.now p)) };
+
+    fn get(&self, p: Self::Position) -> &T
+        requires { is_good self.now p }
+        ensures { result.now ≡ slice_index_or (items self.now) (rank self.now p) result.now };
+
+    /// The item at a position, to be changed where it stands. No memory.
+    fn get_mut(&mut self, p: Self::Position) -> &mut T
+        requires { is_good self.old p }
+        ensures* writes_back { sem 𝓛 (Lends Self.row T.row self.entry result (with_item self.old p)) }
+        ensures value { result.now ≡ slice_index_or (items self.old) (rank self.old p) result.now };
+
+    fn replace(&mut self, p: Self::Position, item: T) -> T
+        requires { is_good self.old p }
+        ensures before { result ≡ slice_index_or (items self.old) (rank self.old p) result }
+        ensures list { items self.new ≡ slice_set (items self.old) (rank self.old p) item }
+        ensures space { room self.old ≤ room self.new }
+        ensures positions { (q : Self.Position) → is_good self.old q → is_good self.new q × (rank self.new q ≡ rank self.old q) };
+
+    fn search<P: Probe<T>>(&self, probe: &mut P) -> Option<Self::Position>
+        requires { IsPartitionedBy (P.test probe.old) (items self.now) }
+        ensures found { MatchOption result (IsFrontOf (P.test probe.old) (items self.now) 0) (λ p. is_good self.now p × IsFrontOf (P.test probe.old) (items self.now) (rank self.now p + 1)) }
+        ensures test_kept { (x : T) → P.test probe.new x ≡ P.test probe.old x }
+        ensures asked { AddsSteps (P.steps_taken probe.old) (P.steps_taken probe.new) (least_asks self.now) (most_asks self.now) };
+
+    fn reserve(&mut self, n: usize) -> Result<(), AllocError>
+        ensures list { items self.new ≡ items self.old }
+        ensures ok { OnOk result (n ≤ room self.new) }
+        ensures space { room self.old ≤ room self.new }
+        ensures positions { (q : Self.Position) → is_good self.old q → is_good self.new q × (rank self.new q ≡ rank self.old q) };
+
+    fn insert_at(&mut self, before: Option<Self::Position>, item: T) -> Self::Position
+        requires good { ForSome before (λ p. is_good self.old p) }
+        requires has_room { 1 ≤ room self.old }
+        ensures list { items self.new ≡ insert (items self.old) (place_before (λ q. rank self.old q) (length (items self.old)) before) item }
+        ensures space { room self.old ≡ room self.new + 1 }
+        ensures position { is_good self.new result × (rank self.new result ≡ place_before (λ q. rank self.old q) (length (items self.old)) before) };
+
+    fn remove_at(&mut self, p: Self::Position) -> (T, Option<Self::Position>)
+        requires { is_good self.old p }
+        ensures removed { result.0 ≡ slice_index_or (items self.old) (rank self.old p) result.0 }
+        ensures list { items self.new ≡ remove (items self.old) (rank self.old p) }
+        ensures space { room self.old ≤ room self.new }
+        ensures following { IsAt (is_good self.new) (rank self.new) (length (items self.new)) result.1 (rank self.old p) };
+
+    fn pop_first(&mut self) -> Option<T>
+        ensures list { MatchOption result ((items self.old ≡ []) × (items self.new ≡ [])) (λ x. items self.old ≡ x ∷ items self.new) }
+        ensures space { room self.old ≤ room self.new };
+
+    fn pop_last(&mut self) -> Option<T>
+        ensures list { MatchOption result ((items self.old ≡ []) × (items self.new ≡ [])) (λ x. items self.old ≡ items self.new ++ x ∷ []) }
+        ensures space { room self.old ≤ room self.new };
+
+    fn clone(&self) -> Result<Self, AllocError>
+    where
+        T: Clone + Eq,
+        requires { All (λ x. (y : T) → T.is_clone x y → T.eq y x ≡ true) (items self.now) }
+        ensures { IfOk result (λ copy. AllZip (λ x y. T.eq y x ≡ true) (items self.now) (items copy)) };
+
+    /// A good position names a rank below the length.
+    ghost good_is_in_range: { (s : Self) (p : Self.Position) → is_good s p → rank s p < length (items s) };
+
+    /// What is written to a lent item stands at its rank, and nothing else changes.
+    ghost items_with: { (s : Self) (p : Self.Position) (x : T) → items (with_item s p x) ≡ slice_set (items s) (rank s p) x };
+
+    ghost room_with: { (s : Self) (p : Self.Position) (x : T) → room (with_item s p x) ≡ room s };
+
+    ghost good_with: { (s : Self) (p : Self.Position) (x : T) (q : Self.Position) → is_good s q → is_good (with_item s p x) q };
+
+    ghost rank_with: { (s : Self) (p : Self.Position) (x : T) (q : Self.Position) → rank (with_item s p x) q ≡ rank s q };
+
+    /// The length is a `usize`.
+    ghost length_fits: { (s : Self) → length (items s) < 2 ^ 64 };
+}

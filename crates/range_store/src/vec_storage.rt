@@ -1,0 +1,175 @@
+//! A container kept as a sorted vector.
+ghost use Rattle.std.specs.Prelude.{◌≡◌, ℕ, ◌+◌, ◌-◌, ◌<◌, ◌≤◌, List, length, insert, vec_len, vec_capacity};
+ghost use Rattle.std.specs.Option.{ForSome};
+ghost use Rattle.std.proofs.Common.{arith, refl};
+ghost use Rattle.range_store.specs.Lending.{with_vec_item, good_with};
+ghost use Rattle.range_store.specs.Places.{place_before};
+
+use crate::storage::{Probe, Storage};
+use std::alloc::{AllocError, Global};
+use std::mem;
+
+/// A rank in a `VecStorage`.
+#[derive(Clone, Copy)]
+pub struct VecPosition(usize);
+
+/// Items in a vector.
+#[derive(Drop)]
+pub struct VecStorage<T> {
+    stored: Vec<T>,
+}
+
+impl<T: Drop> Storage<T> for VecStorage<T> {
+    type Position = VecPosition;
+
+    ghost items = { λ s. s.stored.items };
+
+    ghost room = { λ s. vec_capacity s.stored - vec_len s.stored };
+
+    ghost is_good = { λ s p. p.0 < length s.stored.items };
+
+    ghost rank = { λ s p. p.0 };
+
+    ghost with_item = { λ s p x. with_vec_item s p.0 x };
+
+    ghost least_asks = { λ _. 0 };
+
+    ghost most_asks = { λ s. length s.stored.items };
+
+    fn new(alloc: Global) -> Self {
+        VecStorage {
+            stored: Vec::new(alloc),
+        }
+    }
+
+    fn len(&self) -> usize {
+        self.stored.len()
+    }
+
+    fn first(&self) -> Option<VecPosition> {
+        if self.stored.is_empty() {
+            None
+        } else {
+            Some(VecPosition(0))
+        }
+    }
+
+    fn next(&self, p: VecPosition) -> Option<VecPosition> {
+        let following = p.0 + 1;
+        if following < self.stored.len() {
+            Some(VecPosition(following))
+        } else {
+            None
+        }
+    }
+
+    fn last(&self) -> Option<VecPosition> {
+        let len = self.stored.len();
+        if len == 0 {
+            None
+        } else {
+            Some(VecPosition(len - 1))
+        }
+    }
+
+    fn prev(&self, p: VecPosition) -> Option<VecPosition> {
+        if p.0 == 0 {
+            None
+        } else {
+            Some(VecPosition(p.0 - 1))
+        }
+    }
+
+    fn get(&self, p: VecPosition) -> &T {
+        &self.stored[p.0]
+    }
+
+    fn get_mut(&mut self, p: VecPosition) -> &mut T {
+        &mut self.stored[p.0]
+    }
+
+    fn replace(&mut self, p: VecPosition, item: T) -> T {
+        mem::replace(&mut self.stored[p.0], item)
+    }
+
+    fn search<P: Probe<T>>(&self, probe: &mut P) -> Option<VecPosition> {
+        let mut low = 0;
+        let mut high = self.stored.len();
+        while low < high {
+            let middle = low + (high - low) / 2;
+            if probe.ask(&self.stored[middle]) {
+                low = middle + 1;
+            } else {
+                high = middle;
+            }
+        }
+        if low == 0 {
+            None
+        } else {
+            Some(VecPosition(low - 1))
+        }
+    }
+
+    fn reserve(&mut self, n: usize) -> Result<(), AllocError> {
+        self.stored.reserve(n)
+    }
+
+    fn insert_at(&mut self, before: Option<VecPosition>, item: T) -> VecPosition
+        requires good { ForSome before (λ p. p.0 < length self.old.stored.items) }
+        requires has_room { 1 ≤ vec_capacity self.old.stored - vec_len self.old.stored }
+        ensures list { self.new.stored.items ≡ insert self.old.stored.items (place_before (λ q. q.0) (length self.old.stored.items) before) item }
+        ensures space { vec_capacity self.old.stored - vec_len self.old.stored ≡ vec_capacity self.new.stored - vec_len self.new.stored + 1 }
+        ensures position { (result.0 < length self.new.stored.items) × (result.0 ≡ place_before (λ q. q.0) (length self.old.stored.items) before) }
+    {
+        let at = match before {
+            Some(p) => p.0,
+            None => self.stored.len(),
+        };
+        match self.stored.insert(at, item) {
+            Ok(()) => VecPosition(at),
+            Err(_) => unreachable!(),
+        }
+    }
+
+    fn remove_at(&mut self, p: VecPosition) -> (T, Option<VecPosition>) {
+        let removed = self.stored.remove(p.0);
+        if p.0 < self.stored.len() {
+            (removed, Some(p))
+        } else {
+            (removed, None)
+        }
+    }
+
+    fn pop_first(&mut self) -> Option<T> {
+        if self.stored.is_empty() {
+            None
+        } else {
+            Some(self.stored.remove(0))
+        }
+    }
+
+    fn pop_last(&mut self) -> Option<T> {
+        self.stored.pop()
+    }
+
+    fn clone(&self) -> Result<Self, AllocError>
+    where
+        T: Clone + Eq,
+    {
+        Ok(VecStorage {
+            stored: self.stored.clone()?,
+        })
+    }
+
+    ghost good_is_in_range = { λ s p h. h };
+
+    ghost items_with = { λ s p x. refl };
+
+    ghost room_with = { λ s p x. refl };
+
+    ghost good_with = { λ s p x q h. good_with s p.0 x q.0 h };
+
+    ghost rank_with = { λ s p x q. refl };
+
+    ghost length_fits = { λ s. Prim.omega (arith, s.stored.ok.0, s.stored.ok.1, s.stored.small) };
+}
