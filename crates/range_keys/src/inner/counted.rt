@@ -14,5 +14,4 @@ pub trait Counted: Measure + Complete {
 /// Does nothing, and promises that the measure of these keys counts them.
 pub fn measure_counts_keys<K: Counted>()
     ensures { IsCountedMeasure K.order K.len K.distance }
-{
-}
+{}
