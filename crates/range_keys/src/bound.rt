@@ -21,12 +21,15 @@ use std::cmp::Ordering;
 use std::hash::{Hash, Hasher};
 use std::ops::Bound;
 
-/// A value that is a bound of a range.
+/// A value that is a bound of a range: a `Bound` over a reference, or a byte, which is an included bound.
 pub trait AsBound {
+    /// The type of the keys.
     type Item;
 
+    // The bound that is meant.
     ghost bound: { Self → Bound Self.Item };
 
+    /// The bound. Takes no memory.
     fn bound(&self) -> Bound<&Self::Item>
         ensures { bound_map (λ x. x.now) result ≡ bound self.now };
 }
@@ -58,7 +61,9 @@ impl<'a, T> AsBound for Bound<&'a T> {
 /// `Included(1)` are equal, and `Start(Unbounded)` is `Start(Included(0))`.
 #[derive(Clone, Copy, Drop, Debug)]
 pub enum Directed<T> {
+    /// The bound where a range begins.
     Start(T),
+    /// The bound where a range ends.
     End(T),
 }
 
@@ -98,7 +103,9 @@ impl<T> Directed<Bound<T>> {
 
 /// How a bound lies to another.
 ///
-/// A start lies on the inner side of what is above it, an end on the inner side of what is below.
+/// The inner side of a start is what is greater than it, that of an end what is less. So over `u32`
+/// `Start(Included(0))` lies to `Start(Excluded(0))` as `Excluded(true)`, and the other way round as
+/// `Included(false)`; to `Start(Included(2))` it lies as `Excluded(false)`.
 #[derive(Clone, Copy, PartialEq, Eq, Debug)]
 pub enum BoundOrdering {
     /// On the other's inner side, or at it, which the flag tells.
