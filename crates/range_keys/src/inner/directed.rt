@@ -3,6 +3,7 @@
 ghost use Rattle.std.specs.Prelude.{◌≡◌};
 ghost use Rattle.range_keys.specs.Position.{position_map, key_value};
 ghost use Rattle.range_keys.specs.Directed.{directed_map, directed_position, are_adjacent};
+ghost use Rattle.range_keys.specs.Touching.{FlagsTellGaps};
 
 use crate::bound::{AsBound, Directed};
 use crate::inner::position::{
@@ -44,3 +45,9 @@ pub fn touches<T: PartialEnum>(
         _ => false,
     }
 }
+
+/// Does nothing, and promises what the flag of a comparison tells: it is true exactly where no bound over keys
+/// has its position between the two.
+pub fn flags_tell_gaps<K: PartialEnum>()
+    ensures { FlagsTellGaps K.order }
+{}
