@@ -6,7 +6,7 @@ use Rattle.std.specs.declared.ops.Bound.{Bound}
 use Rattle.std.specs.declared.ops.Bound.TheVariants.{Included, Excluded, Unbounded}
 use Rattle.std.specs.Ordering.{is_eq, is_gt, ordering_then, ordering_reverse}
 use Rattle.std.proofs.Common.{sym, ap, subst, ◌∙◌, inl, inr}
-use Rattle.range_keys.specs.Order.{KeyOrder, IsLawful, Below, NotAbove, Tells, SameAnswer}
+use Rattle.range_keys.specs.Order.{KeyOrder, IsLawful, Tells, SameAnswer}
 use Rattle.range_keys.specs.PositionOrder.{position_total}
 use Rattle.range_keys.specs.Position.{start_position, end_position, position_cmp, side_cmp, at_told}
 use Rattle.range_keys.specs.Directed.{directed_value, directed_position, are_adjacent, tells, bound_ordering, ordering_to}
