@@ -119,9 +119,9 @@ pub enum BoundOrdering {
 pub enum Dist {
     /// They are equal.
     Equals,
-    /// They differ, with nothing between that could be told.
+    /// They are neighbours: no key lies between.
     Zero,
-    /// They are neighbours.
+    /// One key lies between.
     One,
     /// They are further apart.
     More,
