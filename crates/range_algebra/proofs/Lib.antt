@@ -4,6 +4,7 @@ pub mod Completeness
 pub mod Ends
 pub mod Holding
 pub mod Lists
+pub mod Meeting
 pub mod Pieces
 pub mod Places
 pub mod Products
