@@ -12,6 +12,8 @@ ghost use Rattle.std.specs.Ordering.{eq_by_cmp, as_partial_cmp, is_eq};
 ghost use Rattle.std.specs.Cmp.{eq_by_cmp_equiv, partial_equiv_from_equiv, partial_order_from_total};
 ghost use Rattle.range_algebra.specs.RangeOrder.{range_cmp, range_total, range_input, range_respects};
 
+mod conversion;
+
 use crate::inner;
 pub use crate::inner::clone_bound;
 use range_keys::bound::Directed;
