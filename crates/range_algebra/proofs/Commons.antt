@@ -117,15 +117,17 @@ module _ {K : Type 0} (order : KeyOrder K) (lawful : IsLawful order) where
 
   pub start_either : (a b : Bound K) (k : K) → order.is_key k → StartHolds order (earlier_start order a b) k ↔ (StartHolds order a k ⊎ StartHolds order b k)
   start_either a b k key =
-      let under = first_under a b in
-      (λ h. first_is_by a b (λ x. StartHolds order x k) (places (start_position order a) (start_position order b)) h,
-       λ h. elim h [ inl g ↦ start_below (earlier_start order a b) a k key under.0 g | inr g ↦ start_below (earlier_start order a b) b k key under.1 g ])
+      let under = first_under a b in (
+        λ h. first_is_by a b (λ x. StartHolds order x k) (places (start_position order a) (start_position order b)) h,
+        λ h. elim h [ inl g ↦ start_below (earlier_start order a b) a k key under.0 g | inr g ↦ start_below (earlier_start order a b) b k key under.1 g ],
+      )
 
   pub end_either : (a b : Bound K) (k : K) → order.is_key k → EndHolds order (later_end order a b) k ↔ (EndHolds order a k ⊎ EndHolds order b k)
   end_either a b k key =
-      let over = last_over a b in
-      (λ h. last_is_by a b (λ x. EndHolds order x k) (places (end_position order a) (end_position order b)) h,
-       λ h. elim h [ inl g ↦ end_above (later_end order a b) a k key over.0 g | inr g ↦ end_above (later_end order a b) b k key over.1 g ])
+      let over = last_over a b in (
+        λ h. last_is_by a b (λ x. EndHolds order x k) (places (end_position order a) (end_position order b)) h,
+        λ h. elim h [ inl g ↦ end_above (later_end order a b) a k key over.0 g | inr g ↦ end_above (later_end order a b) b k key over.1 g ],
+      )
 
   -- the common part holds the keys of both
   pub common_holds : (r s : AnyRange K) (k : K) → order.is_key k → Holds order (common order r s) k ↔ (Holds order r k × Holds order s k)

@@ -231,9 +231,10 @@ module _ {K : Type 0} {order : KeyOrder K} {index : K → ℕ} {size : ℕ} (cou
         rising = keys.rising;
         held = λ k key.
             let from = start_from r.start k known.0 key in
-            let to = end_up_to r.end k known.1 key in
-            (λ h. (keys.listed k key).1 (from.0 h.0, (let u = to.0 h.1 in let l = from.0 h.0 in omega arith)),
-             λ l. let e = (keys.listed k key).0 l in (from.1 e.0, to.1 (let f = e.0 in let g = e.1 in omega arith)));
+            let to = end_up_to r.end k known.1 key in (
+              λ h. (keys.listed k key).1 (from.0 h.0, (let u = to.0 h.1 in let l = from.0 h.0 in omega arith)),
+              λ l. let e = (keys.listed k key).0 l in (from.1 e.0, to.1 (let f = e.0 in let g = e.1 in omega arith)),
+            );
         many = keys.many;
       }
 

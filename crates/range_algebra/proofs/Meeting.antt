@@ -96,8 +96,8 @@ module _ {K : Type 0} (order : KeyOrder K) (lawful : IsLawful order) where
     abbrev AnswerBy : Ordering → Ordering → Ordering → Bool → Bool
     AnswerBy a b d c =
         matches (if is_lt a
-          then (if is_lt b then lying.Before (starts_at_end order r.end (start_position order s.start)) else lying.Intersecting false (is_eq (position_cmp order.cmp (end_position order r.end) (end_position order s.end))))
-          else (if is_gt d then lying.After (starts_at_end order s.end (start_position order r.start)) else lying.Intersecting (is_eq (position_cmp order.cmp (start_position order r.start) (start_position order s.start))) (is_eq (position_cmp order.cmp (end_position order r.end) (end_position order s.end))))) c
+        then (if is_lt b then lying.Before (starts_at_end order r.end (start_position order s.start)) else lying.Intersecting false (is_eq (position_cmp order.cmp (end_position order r.end) (end_position order s.end))))
+        else (if is_gt d then lying.After (starts_at_end order s.end (start_position order r.start)) else lying.Intersecting (is_eq (position_cmp order.cmp (start_position order r.start) (start_position order s.start))) (is_eq (position_cmp order.cmp (end_position order r.end) (end_position order s.end))))) c
 
     abbrev LyingBy : Ordering → Ordering → Ordering → Type 0
     LyingBy a b d =
@@ -154,8 +154,8 @@ module _ {K : Type 0} (order : KeyOrder K) (lawful : IsLawful order) where
       meets_share : PLe (start_position order r.start) (end_position order s.end) × PLe (start_position order s.start) (end_position order r.end) → ShareKey order r s
       meets_share h =
           let room = later_is order lawful r.start s.start (λ x. PLe (start_position order x) (end_position order (earlier_end order r.end s.end)))
-              (earlier_is order lawful r.end s.end (λ y. PLe (start_position order r.start) (end_position order y)) full h.0)
-              (earlier_is order lawful r.end s.end (λ y. PLe (start_position order s.start) (end_position order y)) h.1 full') in
+          (earlier_is order lawful r.end s.end (λ y. PLe (start_position order r.start) (end_position order y)) full h.0)
+          (earlier_is order lawful r.end s.end (λ y. PLe (start_position order s.start) (end_position order y)) h.1 full') in
           let found = nonempty_holds order lawful complete (common order r s) (common_known order lawful r s known others) room in
           let held = (common_holds order lawful r s found.0 found.1).0 found.2 in
           (found.0, found.1, held.0, held.1)

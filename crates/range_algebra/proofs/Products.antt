@@ -50,7 +50,7 @@ module _ {K : Type 0} (order : KeyOrder K) (lawful : IsLawful order) where
       let back = turned_back order lawful b i e in
       let at = turned order lawful i b back in
       not_le cmp total (end_position order i) (start_position order b) (λ le.
-        lt_not_le cmp total (start_position order b) (past order (end_position order i)) ((reaches order lawful b i known known').0 le) (eq_le cmp total (past order (end_position order i)) (start_position order b) at))
+      lt_not_le cmp total (start_position order b) (past order (end_position order i)) ((reaches order lawful b i known known').0 le) (eq_le cmp total (past order (end_position order i)) (start_position order b) at))
 
   -- a start on the other side of an end lies past it
   inverted_past : (b i : Bound K) → inverted b ≡ Some i → IsKnownBound order b → PLt (end_position order b) (start_position order i)
@@ -61,7 +61,7 @@ module _ {K : Type 0} (order : KeyOrder K) (lawful : IsLawful order) where
       let known' = turned_known order lawful b i e known in
       let at = turned order lawful b i e in
       not_le cmp total (end_position order b) (start_position order i) (λ le.
-        lt_not_le cmp total (start_position order i) (past order (end_position order b)) ((reaches order lawful i b known' known).0 le) (eq_le cmp total (past order (end_position order b)) (start_position order i) at))
+      lt_not_le cmp total (start_position order i) (past order (end_position order b)) ((reaches order lawful i b known' known).0 le) (eq_le cmp total (past order (end_position order b)) (start_position order i) at))
 
   not_empty : (s e : Bound K) → is_gt (position_cmp order.cmp (start_position order s) (end_position order e)) ≡ false → PLe (start_position order s) (end_position order e)
   unfolding PLe
@@ -253,9 +253,10 @@ module _ {K : Type 0} (order : KeyOrder K) (lawful : IsLawful order) where
         record {
           held = λ k key.
               let part = object_part (unless_empty order s) k in
-              let whole = unless_holds order lawful s k key in
-              (λ h. elim h [ inl g ↦ absurd g | inr g ↦ elim g [ inl f ↦ absurd f | inr f ↦ inr (whole.0 (part.0 f)) ] ],
-               λ h. elim h [ inl g ↦ absurd (none k key g) | inr g ↦ inr (inr (part.1 (whole.1 g))) ]);
+              let whole = unless_holds order lawful s k key in (
+                λ h. elim h [ inl g ↦ absurd g | inr g ↦ elim g [ inl f ↦ absurd f | inr f ↦ inr (whole.0 (part.0 f)) ] ],
+                λ h. elim h [ inl g ↦ absurd (none k key g) | inr g ↦ inr (inr (part.1 (whole.1 g))) ],
+              );
           shared = λ k key. (λ h. absurd h, λ h. none k key h.0);
           subjects = λ k key h. elim h [ inl g ↦ absurd g | inr g ↦ absurd (object_subject (unless_empty order s) k g) ];
           objects = λ k key h. elim h [ inl g ↦ absurd g | inr g ↦ ((unless_holds order lawful s k key).0 (object_object (unless_empty order s) k g), none k key) ];
@@ -268,9 +269,10 @@ module _ {K : Type 0} (order : KeyOrder K) (lawful : IsLawful order) where
     second_empty e =
         let none = keyless s e in
         record {
-          held = λ k key.
-              (λ h. elim h [ inl g ↦ absurd g | inr g ↦ elim g [ inl f ↦ absurd f | inr f ↦ inl f ] ],
-               λ h. elim h [ inl g ↦ inr (inr g) | inr g ↦ absurd (none k key g) ]);
+          held = λ k key. (
+            λ h. elim h [ inl g ↦ absurd g | inr g ↦ elim g [ inl f ↦ absurd f | inr f ↦ inl f ] ],
+            λ h. elim h [ inl g ↦ inr (inr g) | inr g ↦ absurd (none k key g) ],
+          );
           shared = λ k key. (λ h. absurd h, λ h. none k key h.1);
           subjects = λ k key h. elim h [ inl g ↦ absurd g | inr g ↦ (g, none k key) ];
           objects = λ k key h. elim h [ inl g ↦ absurd g | inr g ↦ absurd g ];
@@ -281,7 +283,7 @@ module _ {K : Type 0} (order : KeyOrder K) (lawful : IsLawful order) where
 
     product_by : (d e : Bool) → is_empty_range order r ≡ d → is_empty_range order s ≡ e
         → IsProduct order r s (if d then record { before = None; intersection = None; after = option_map Object (unless_empty order s) }
-          else (if e then record { before = None; intersection = None; after = Some (Subject r) } else full_product order r s))
+        else (if e then record { before = None; intersection = None; after = Some (Subject r) } else full_product order r s))
     product_by true e f g = first_empty f
     product_by false true f g = second_empty g
     product_by false false f g = full_is f g

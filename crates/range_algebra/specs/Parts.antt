@@ -48,7 +48,7 @@ module _ {K : Type 0} (order : KeyOrder K) where
   -- the first without the second; an empty range takes nothing away
   abbrev pub difference : AnyRange K → AnyRange K → Difference K
   difference r s = if is_empty_range r then Empty
-    else (if is_empty_range s then Before r false else pieces (part_before r s) (part_after r s) (matches (range_ordering order r s) false))
+      else (if is_empty_range s then Before r false else pieces (part_before r s) (part_after r s) (matches (range_ordering order r s) false))
 
   abbrev pub full_product : AnyRange K → AnyRange K → Product K
   full_product r s = record {
@@ -60,7 +60,7 @@ module _ {K : Type 0} (order : KeyOrder K) where
   -- the parts of both; beside an empty range the other is a part as a whole
   abbrev pub product : AnyRange K → AnyRange K → Product K
   product r s = if is_empty_range r then record { before = None; intersection = None; after = option_map Object (unless_empty s) }
-    else (if is_empty_range s then record { before = None; intersection = None; after = Some (Subject r) } else full_product r s)
+      else (if is_empty_range s then record { before = None; intersection = None; after = Some (Subject r) } else full_product r s)
 
   -- some part holds the key
   abbrev pub DifferenceHolds : Difference K → K → Type 0

@@ -1,4 +1,4 @@
-//! A range by its two bounds.
+//! Ranges by their two bounds.
 
 ghost use Rattle.std.specs.Prelude.{◌≡◌, ◌↔◌, ⊤, IsTrue, IfOk, IfSome, IfNone, MatchResult, None};
 ghost use Rattle.range_algebra.specs.Extremes.{IsLeastOf, IsGreatestOf, HasNoLeast, HasNoGreatest};
@@ -16,9 +16,10 @@ mod combined;
 mod conversion;
 mod measure;
 mod references;
+mod text;
 
 use crate::inner;
-pub use crate::inner::clone_bound;
+use crate::inner::clone_bound;
 use range_keys::bound::Directed;
 use range_keys::traits::{Bounded, MaybeBounded, PartialEnum};
 use std::alloc::AllocError;
@@ -27,6 +28,17 @@ use std::hash::{Hash, Hasher};
 use std::ops::{Bound, RangeBounds};
 
 /// A range with any start and any end.
+///
+/// A range holds the keys that both its bounds hold. One whose start lies past its end, as from 8 to 3, is empty, and so is the one from excluded 255
+/// on over `u8`. Ranges are compared by the positions of their bounds: where the key type tells a neighbour or an end, it takes the place of an
+/// excluded or an unbounded bound, so that over `u8` the full range equals that from 0 to 255, both included. The order is by the start, then
+/// by the end.
+///
+/// ```text
+/// let range: AnyRange<i32> = (0..10).into();
+/// assert!(range == AnyRange::new(Bound::Included(0), Bound::Included(9)));
+/// assert!(range.len() == 10);
+/// ```
 #[derive(Drop)]
 pub struct AnyRange<T> {
     pub start: Bound<T>,
@@ -49,6 +61,7 @@ impl<T: Clone> Clone for AnyRange<T> {
 }
 
 impl<T> AnyRange<T> {
+    /// The range from the start to the end, whichever of the two is greater.
     pub fn new(start: Bound<T>, end: Bound<T>) -> AnyRange<T>
         ensures start { result.start ≡ start }
         ensures end { result.end ≡ end }
@@ -56,6 +69,7 @@ impl<T> AnyRange<T> {
         AnyRange { start, end }
     }
 
+    /// The start and the end, as they were given.
     pub fn into_bounds(self) -> (Bound<T>, Bound<T>)
         ensures start { result.0 ≡ self.start }
         ensures end { result.1 ≡ self.end }
@@ -89,14 +103,9 @@ impl<T: Drop> RangeBounds<T> for AnyRange<T> {
 }
 
 impl<T: PartialEnum> AnyRange<T> {
-    /// Does nothing, and promises that the bounds are keys.
-    pub fn known(&self)
-        ensures { IsKnownRange T.order self.now }
-    {
-        inner::known(self);
-    }
-
-    /// Whether the start lies past the end.
+    /// Whether the start lies past the end, so that no key is held.
+    ///
+    /// Over complete keys, as integers and characters, a range that holds no key is empty. Over other keys it need not be.
     pub fn is_empty(&self) -> bool
         ensures by_position { IsTrue result ↔ IsEmptyRange T.order self.now }
         ensures keyless { IsTrue result → IsKeyless T.order self.now }
@@ -104,14 +113,6 @@ impl<T: PartialEnum> AnyRange<T> {
     {
         inner::known(self);
         inner::starts_past_end(self.start_bound(), self.end_bound())
-    }
-
-    /// Whether the range holds the key.
-    pub fn holds(&self, key: &T) -> bool
-        ensures held { IsTrue result ↔ Holds T.order self.now key.now }
-        ensures by_position { IsTrue result ↔ LiesWithin T.order self.now key.now }
-    {
-        inner::holds(self, key)
     }
 }
 
@@ -126,7 +127,7 @@ impl<T: PartialEnum + Bounded + Clone> AnyRange<T> {
         ensures least { IfOk result (λ key. IfSome key (IsLeastOf T.order self.now)) }
         ensures complete { IsComplete T.order → IfOk result (λ key. IfNone key (HasNoLeast T.order self.now)) }
     {
-        self.known();
+        inner::known(self);
         if self.is_empty() {
             return Ok(None);
         }
@@ -143,7 +144,7 @@ impl<T: PartialEnum + Bounded + Clone> AnyRange<T> {
         ensures greatest { IfOk result (λ key. IfSome key (IsGreatestOf T.order self.now)) }
         ensures complete { IsComplete T.order → IfOk result (λ key. IfNone key (HasNoGreatest T.order self.now)) }
     {
-        self.known();
+        inner::known(self);
         if self.is_empty() {
             return Ok(None);
         }
@@ -200,8 +201,8 @@ impl<T: PartialEnum> PartialEq for AnyRange<T> {
         ensures same { IsTrue result → HoldSame T.order self.now other.now }
         ensures complete { IsComplete T.order → ¬ IsEmptyRange T.order self.now → ¬ IsEmptyRange T.order other.now → HoldSame T.order self.now other.now → IsTrue result }
     {
-        self.known();
-        other.known();
+        inner::known(self);
+        inner::known(other);
         self.cmp(other) == Ordering::Equal
     }
 }

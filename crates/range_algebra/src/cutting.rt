@@ -143,7 +143,11 @@ pub fn difference<'a, T: PartialEnum>(
         return Difference::Before(range, false);
     }
     let met = compare_bounds(range.start, range.end, other.start, other.end).matches(false);
-    pieces(part_before(range, other.start), part_after(range, other.end), met)
+    pieces(
+        part_before(range, other.start),
+        part_after(range, other.end),
+        met,
+    )
 }
 
 /// A part of the first range, or else one of the second.
@@ -168,17 +172,17 @@ fn full_product<'a, T: PartialEnum>(
     ensures { product_of result ≡ full_product T.order (range_of range.entry) (range_of other.entry) }
 {
     Product {
-        before: either(part_before(range, other.start), part_before(other, range.start)),
+        before: either(
+            part_before(range, other.start),
+            part_before(other, range.start),
+        ),
         intersection: unless_empty(common(range, other)),
         after: either(part_after(range, other.end), part_after(other, range.end)),
     }
 }
 
 /// The parts of two ranges.
-pub fn product<'a, T: PartialEnum>(
-    range: AnyRange<&'a T>,
-    other: AnyRange<&'a T>,
-) -> Product<&'a T>
+pub fn product<'a, T: PartialEnum>(range: AnyRange<&'a T>, other: AnyRange<&'a T>) -> Product<&'a T>
     ensures { product_of result ≡ product T.order (range_of range.entry) (range_of other.entry) }
 {
     if starts_past_end(range.start, range.end) {

@@ -4,7 +4,7 @@ ghost use Rattle.std.specs.Prelude.{◌≡◌, Some};
 ghost use Rattle.range_algebra.specs.Compared.{range_ordering, is_before, is_after, matches};
 ghost use Rattle.range_algebra.specs.declared.any.AnyRange.{AnyRange};
 
-pub use crate::inner::{compare_bounds, compare_ranges, starts_at_end};
+use crate::inner::compare_ranges;
 use crate::range::AsRange;
 use range_keys::traits::Measure;
 

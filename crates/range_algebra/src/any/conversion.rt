@@ -5,9 +5,7 @@ ghost use Rattle.std.specs.Range.{range_inclusive_start, range_inclusive_end};
 ghost use Rattle.std.specs.declared.ops.Bound.TheVariants.{Included, Excluded, Unbounded};
 
 use crate::any::AnyRange;
-use std::ops::{
-    Bound, Range, RangeFrom, RangeFull, RangeInclusive, RangeTo, RangeToInclusive,
-};
+use std::ops::{Bound, Range, RangeFrom, RangeFull, RangeInclusive, RangeTo, RangeToInclusive};
 
 impl<T: Drop> From<Range<T>> for AnyRange<T> {
     ghost from_gives = { λ r s. s ≡ record { start = Included r.start; end = Excluded r.end } };

@@ -29,7 +29,7 @@ pub enum Difference<T> {
 }
 
 /// A part of one of two ranges.
-#[derive(Drop)]
+#[derive(Drop, Debug)]
 pub enum ProductArg<T> {
     /// A part of the first range.
     Subject(AnyRange<T>),
@@ -38,7 +38,7 @@ pub enum ProductArg<T> {
 }
 
 /// The parts of two ranges, in order.
-#[derive(Drop)]
+#[derive(Drop, Debug)]
 pub struct Product<T> {
     /// What one of the ranges holds before the other.
     pub before: Option<ProductArg<T>>,

@@ -6,9 +6,7 @@ ghost use Rattle.std.specs.declared.ops.Bound.TheVariants.{Included, Excluded, U
 use crate::any::AnyRange;
 use crate::range::{AsRange, IntoRange};
 use range_keys::traits::Measure;
-use std::ops::{
-    Bound, Range, RangeBounds, RangeFrom, RangeInclusive, RangeTo, RangeToInclusive,
-};
+use std::ops::{Bound, Range, RangeBounds, RangeFrom, RangeInclusive, RangeTo, RangeToInclusive};
 
 impl<T: Measure> AsRange for Range<T> {
     type Item = T;

@@ -12,9 +12,18 @@ fn hash_of(range: &AnyRange<u8>) -> u64 {
 
 #[test]
 fn compares_ranges(rt: HostRuntime) {
-    assert_eq!(rt; (0i32..10).range_partial_cmp(&(10..20)), Some(RangeOrdering::Before(true)));
-    assert_eq!(rt; (11i32..20).range_partial_cmp(&(0..10)), Some(RangeOrdering::After(false)));
-    assert_eq!(rt; (0i32..10).range_partial_cmp(&(0..=9)), Some(RangeOrdering::Intersecting(true, true)));
+    assert_eq!(rt;
+        (0i32..10).range_partial_cmp(&(10..20)),
+        Some(RangeOrdering::Before(true))
+    );
+    assert_eq!(rt;
+        (11i32..20).range_partial_cmp(&(0..10)),
+        Some(RangeOrdering::After(false))
+    );
+    assert_eq!(rt;
+        (0i32..10).range_partial_cmp(&(0..=9)),
+        Some(RangeOrdering::Intersecting(true, true))
+    );
     assert!(rt; RangeOrdering::Before(true).is_before(false));
     assert!(rt; !RangeOrdering::Before(true).is_before(true));
     assert!(rt; RangeOrdering::After(false).is_after(true));
@@ -30,7 +39,10 @@ fn compares_by_position(rt: HostRuntime) {
     let past: AnyRange<u8> = AnyRange::new(Bound::Excluded(255), Bound::Unbounded);
     assert!(rt; past.is_empty());
     // An unbounded end touches nothing, though the two bounds are neighbours.
-    assert_eq!(rt; full.range_partial_cmp(&past), Some(RangeOrdering::Before(false)));
+    assert_eq!(rt;
+        full.range_partial_cmp(&past),
+        Some(RangeOrdering::Before(false))
+    );
 }
 
 #[test]

@@ -8,7 +8,11 @@ fn range(between: Range<i32>) -> AnyRange<i32> {
     AnyRange::new(Bound::Included(between.start), Bound::Excluded(between.end))
 }
 
-fn is_before(difference: &Difference<&i32>, part: Range<i32>, met: bool) -> Result<bool, AllocError> {
+fn is_before(
+    difference: &Difference<&i32>,
+    part: Range<i32>,
+    met: bool,
+) -> Result<bool, AllocError> {
     match difference {
         Difference::Before(left, flag) => Ok((*left).cloned()? == range(part) && *flag == met),
         _ => Ok(false),
