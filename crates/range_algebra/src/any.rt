@@ -1,9 +1,10 @@
-//! A range by its two bounds.
+//! Ranges by their two bounds.
 
-ghost use Rattle.std.specs.Prelude.{◌≡◌, ◌↔◌, ⊤, IsTrue, IfOk, MatchResult, None};
+ghost use Rattle.std.specs.Prelude.{◌≡◌, ◌↔◌, ⊤, IsTrue, IfOk, IfSome, IfNone, MatchResult, None};
+ghost use Rattle.range_algebra.specs.Extremes.{IsLeastOf, IsGreatestOf, HasNoLeast, HasNoGreatest};
 ghost use Rattle.range_algebra.specs.Clones.{IsBoundClone, IsBoundInfallible};
 ghost use Rattle.std.specs.declared.cmp.Ordering.TheVariants.{Equal};
-ghost use Rattle.std.specs.Option.{option_map};
+ghost use Rattle.std.specs.Option.{option_or};
 ghost use Rattle.range_keys.specs.Order.{IsComplete, SameAnswer};
 ghost use Rattle.range_algebra.specs.Range.{IsEmptyRange, IsKeyless, Holds, HoldSame, LiesWithin, IsKnownRange, ClonesAreEqual, start_key, end_key};
 ghost use Rattle.std.proofs.Common.{refl, ap, ◌∙◌};
@@ -11,8 +12,15 @@ ghost use Rattle.std.specs.Ordering.{eq_by_cmp, as_partial_cmp, is_eq};
 ghost use Rattle.std.specs.Cmp.{eq_by_cmp_equiv, partial_equiv_from_equiv, partial_order_from_total};
 ghost use Rattle.range_algebra.specs.RangeOrder.{range_cmp, range_total, range_input, range_respects};
 
+mod combined;
+mod conversion;
+mod measure;
+mod references;
+mod text;
+
+use crate::inner;
+use crate::inner::clone_bound;
 use range_keys::bound::Directed;
-use range_keys::inner::position::{compare_positions, position_of_end, position_of_start};
 use range_keys::traits::{Bounded, MaybeBounded, PartialEnum};
 use std::alloc::AllocError;
 use std::cmp::Ordering;
@@ -20,6 +28,17 @@ use std::hash::{Hash, Hasher};
 use std::ops::{Bound, RangeBounds};
 
 /// A range with any start and any end.
+///
+/// A range holds the keys that both its bounds hold. One whose start lies past its end, as from 8 to 3, is empty, and so is the one from excluded 255
+/// on over `u8`. Ranges are compared by the positions of their bounds: where the key type tells a neighbour or an end, it takes the place of an
+/// excluded or an unbounded bound, so that over `u8` the full range equals that from 0 to 255, both included. The order is by the start, then
+/// by the end.
+///
+/// ```text
+/// let range: AnyRange<i32> = (0..10).into();
+/// assert!(range == AnyRange::new(Bound::Included(0), Bound::Included(9)));
+/// assert!(range.len() == 10);
+/// ```
 #[derive(Drop)]
 pub struct AnyRange<T> {
     pub start: Bound<T>,
@@ -41,18 +60,8 @@ impl<T: Clone> Clone for AnyRange<T> {
     }
 }
 
-/// A clone of the bound's value, in a bound of the same kind.
-pub fn clone_bound<T: Clone>(bound: &Bound<T>) -> Result<Bound<T>, AllocError>
-    ensures { MatchResult result (IsBoundClone T.is_clone bound.now) (λ _. IsBoundInfallible T.is_infallible bound.now → ⊥) }
-{
-    Ok(match bound {
-        Bound::Included(key) => Bound::Included(key.clone()?),
-        Bound::Excluded(key) => Bound::Excluded(key.clone()?),
-        Bound::Unbounded => Bound::Unbounded,
-    })
-}
-
 impl<T> AnyRange<T> {
+    /// The range from the start to the end, whichever of the two is greater.
     pub fn new(start: Bound<T>, end: Bound<T>) -> AnyRange<T>
         ensures start { result.start ≡ start }
         ensures end { result.end ≡ end }
@@ -60,6 +69,7 @@ impl<T> AnyRange<T> {
         AnyRange { start, end }
     }
 
+    /// The start and the end, as they were given.
     pub fn into_bounds(self) -> (Bound<T>, Bound<T>)
         ensures start { result.0 ≡ self.start }
         ensures end { result.1 ≡ self.end }
@@ -93,58 +103,92 @@ impl<T: Drop> RangeBounds<T> for AnyRange<T> {
 }
 
 impl<T: PartialEnum> AnyRange<T> {
-    /// Does nothing, and promises that the bounds are keys.
-    pub fn known(&self)
-        ensures { IsKnownRange T.order self.now }
-    {
-        match &self.start {
-            Bound::Included(key) | Bound::Excluded(key) => key.known(),
-            Bound::Unbounded => (),
-        }
-        match &self.end {
-            Bound::Included(key) | Bound::Excluded(key) => key.known(),
-            Bound::Unbounded => (),
-        }
-    }
-
-    /// Whether the start lies past the end.
+    /// Whether the start lies past the end, so that no key is held.
+    ///
+    /// Over complete keys, as integers and characters, a range that holds no key is empty. Over other keys it need not be.
     pub fn is_empty(&self) -> bool
         ensures by_position { IsTrue result ↔ IsEmptyRange T.order self.now }
         ensures keyless { IsTrue result → IsKeyless T.order self.now }
         ensures complete { IsComplete T.order → IsKeyless T.order self.now → IsTrue result }
     {
-        self.known();
-        let start = position_of_start(self.start_bound());
-        let end = position_of_end(self.end_bound());
-        compare_positions(&start, &end) == Ordering::Greater
-    }
-
-    /// Whether the range holds the key.
-    pub fn holds(&self, key: &T) -> bool
-        ensures held { IsTrue result ↔ Holds T.order self.now key.now }
-        ensures by_position { IsTrue result ↔ LiesWithin T.order self.now key.now }
-    {
-        key.known();
-        self.contains(key)
+        inner::known(self);
+        inner::starts_past_end(self.start_bound(), self.end_bound())
     }
 }
 
 impl<T: PartialEnum + Bounded + Clone> AnyRange<T> {
-    /// The least key, where it is told.
+    /// The least key of the range, or `None` where the range is empty or its start names no key.
+    ///
+    /// An included start is cloned, so the call takes what memory a clone of a key takes.
     pub fn first(&self) -> Result<Option<T>, AllocError>
         requires clones { ClonesAreEqual T.is_clone T.eq }
         ensures empty { IsEmptyRange T.order self.now → IfOk result (λ key. key ≡ None) }
         ensures nonempty { ¬ IsEmptyRange T.order self.now → IfOk result (λ key. SameAnswer T.order (start_key T.order self.now.start) key) }
+        ensures least { IfOk result (λ key. IfSome key (IsLeastOf T.order self.now)) }
+        ensures complete { IsComplete T.order → IfOk result (λ key. IfNone key (HasNoLeast T.order self.now)) }
     {
+        inner::known(self);
         if self.is_empty() {
             return Ok(None);
         }
-        Ok(match &self.start {
-            Bound::Included(key) => Some(key.clone()?),
-            Bound::Excluded(key) => key.succ(),
-            Bound::Unbounded => Some(<T as Bounded>::min()),
-        })
+        key_of_start(&self.start)
     }
+
+    /// The greatest key of the range, or `None` where the range is empty or its end names no key.
+    ///
+    /// An included end is cloned, so the call takes what memory a clone of a key takes.
+    pub fn last(&self) -> Result<Option<T>, AllocError>
+        requires clones { ClonesAreEqual T.is_clone T.eq }
+        ensures empty { IsEmptyRange T.order self.now → IfOk result (λ key. key ≡ None) }
+        ensures nonempty { ¬ IsEmptyRange T.order self.now → IfOk result (λ key. SameAnswer T.order (end_key T.order self.now.end) key) }
+        ensures greatest { IfOk result (λ key. IfSome key (IsGreatestOf T.order self.now)) }
+        ensures complete { IsComplete T.order → IfOk result (λ key. IfNone key (HasNoGreatest T.order self.now)) }
+    {
+        inner::known(self);
+        if self.is_empty() {
+            return Ok(None);
+        }
+        key_of_end(&self.end)
+    }
+}
+
+impl<T: PartialEnum + Bounded + Clone> AnyRange<T> {
+    /// A key of the range: the least, or else the greatest, or `None` where the range is empty or its bounds name no key.
+    pub fn pick(&self) -> Result<Option<T>, AllocError>
+        requires clones { ClonesAreEqual T.is_clone T.eq }
+        ensures empty { IsEmptyRange T.order self.now → IfOk result (λ key. key ≡ None) }
+        ensures nonempty { ¬ IsEmptyRange T.order self.now → IfOk result (λ key. SameAnswer T.order (option_or (start_key T.order self.now.start) (end_key T.order self.now.end)) key) }
+        ensures held { IfOk result (λ key. IfSome key (Holds T.order self.now)) }
+    {
+        match self.first()? {
+            Some(key) => Ok(Some(key)),
+            None => self.last(),
+        }
+    }
+}
+
+/// The least key that the start bound names, where it is told.
+fn key_of_start<T: PartialEnum + Bounded + Clone>(start: &Bound<T>) -> Result<Option<T>, AllocError>
+    requires { ClonesAreEqual T.is_clone T.eq }
+    ensures { IfOk result (SameAnswer T.order (start_key T.order start.now)) }
+{
+    Ok(match start {
+        Bound::Included(key) => Some(key.clone()?),
+        Bound::Excluded(key) => key.succ(),
+        Bound::Unbounded => Some(<T as Bounded>::min()),
+    })
+}
+
+/// The greatest key that the end bound names, where it is told.
+fn key_of_end<T: PartialEnum + Bounded + Clone>(end: &Bound<T>) -> Result<Option<T>, AllocError>
+    requires { ClonesAreEqual T.is_clone T.eq }
+    ensures { IfOk result (SameAnswer T.order (end_key T.order end.now)) }
+{
+    Ok(match end {
+        Bound::Included(key) => Some(key.clone()?),
+        Bound::Excluded(key) => key.pred(),
+        Bound::Unbounded => Some(<T as Bounded>::max()),
+    })
 }
 
 impl<T: PartialEnum> PartialEq for AnyRange<T> {
@@ -157,8 +201,8 @@ impl<T: PartialEnum> PartialEq for AnyRange<T> {
         ensures same { IsTrue result → HoldSame T.order self.now other.now }
         ensures complete { IsComplete T.order → ¬ IsEmptyRange T.order self.now → ¬ IsEmptyRange T.order other.now → HoldSame T.order self.now other.now → IsTrue result }
     {
-        self.known();
-        other.known();
+        inner::known(self);
+        inner::known(other);
         self.cmp(other) == Ordering::Equal
     }
 }
@@ -200,15 +244,5 @@ impl<T: PartialEnum + Hash> Hash for AnyRange<T> {
     fn hash<H: Hasher>(&self, state: &mut H) {
         Directed::Start(self.start_bound()).hash(state);
         Directed::End(self.end_bound()).hash(state);
-    }
-}
-
-impl<T: PartialEnum + Clone> AnyRange<T> {
-    /// An equal range.
-    pub fn copied(&self) -> Result<AnyRange<T>, AllocError>
-        requires clones { ClonesAreEqual T.is_clone T.eq }
-        ensures equal { IfOk result (λ r. range_cmp T.order self.now r ≡ Equal) }
-    {
-        self.clone()
     }
 }

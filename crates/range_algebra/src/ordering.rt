@@ -1,19 +1,17 @@
 //! How ranges lie to one another.
 
-ghost use Rattle.std.specs.Prelude.{◌≡◌};
-ghost use Rattle.range_algebra.specs.Compared.{range_ordering, bounds_ordering, is_before, matches, starts_at_end};
-ghost use Rattle.std.specs.Range.Bound.{bound_map};
-ghost use Rattle.range_keys.specs.Position.{position_map, key_value};
+ghost use Rattle.std.specs.Prelude.{◌≡◌, Some};
+ghost use Rattle.range_algebra.specs.Compared.{range_ordering, is_before, is_after, matches};
+ghost use Rattle.range_algebra.specs.declared.any.AnyRange.{AnyRange};
 
+use crate::inner::compare_ranges;
 use crate::range::AsRange;
-use range_keys::inner::position::{
-    KeyRef, Position, compare_positions, position_of_end, position_of_start,
-};
-use range_keys::traits::PartialEnum;
-use std::cmp::Ordering;
-use std::ops::Bound;
+use range_keys::traits::Measure;
 
-/// Where a range lies to another, with whether they touch, or whether their starts and ends are equal.
+/// Where a range lies to another.
+///
+/// The flag of `Before` and `After` says whether the two touch, with no key between them. The flags of `Intersecting` say whether the starts and
+/// whether the ends are equal.
 #[derive(Clone, Copy, PartialEq, Eq, Debug)]
 pub enum RangeOrdering {
     Before(bool),
@@ -22,6 +20,9 @@ pub enum RangeOrdering {
 }
 
 impl RangeOrdering {
+    /// Whether the range lies before the other, where touching ranges count as one if `connected`.
+    ///
+    /// `Before(true).is_before(false)` is true, and `Before(true).is_before(true)` is not.
     pub fn is_before(&self, connected: bool) -> bool
         ensures { result ≡ is_before self.now connected }
     {
@@ -31,6 +32,17 @@ impl RangeOrdering {
         }
     }
 
+    /// Whether the range lies after the other, where touching ranges count as one if `connected`.
+    pub fn is_after(&self, connected: bool) -> bool
+        ensures { result ≡ is_after self.now connected }
+    {
+        match self {
+            RangeOrdering::After(touching) => !*touching || !connected,
+            _ => false,
+        }
+    }
+
+    /// Whether the two ranges intersect, or touch, if `connected`.
     pub fn matches(&self, connected: bool) -> bool
         ensures { result ≡ matches self.now connected }
     {
@@ -42,49 +54,28 @@ impl RangeOrdering {
     }
 }
 
-/// Whether the position is that of the start bound just past the end bound.
-pub fn starts_at_end<T: PartialEnum>(end: Bound<&T>, position: &Position<KeyRef<'_, T>>) -> bool
-    ensures { result ≡ starts_at_end T.order (bound_map (λ x. x.now) end.entry) (position_map key_value position.now) }
-{
-    let inverted = match end {
-        Bound::Included(key) => Bound::Excluded(key),
-        Bound::Excluded(key) => Bound::Included(key),
-        Bound::Unbounded => return false,
-    };
-    compare_positions(&position_of_start(inverted), position) == Ordering::Equal
+/// What can be compared with ranges of keys `T`.
+///
+/// Ranges are compared by the positions of their bounds, so `0..10` and `0..=9` over integers have equal starts and equal ends.
+///
+/// ```text
+/// (0..10).range_partial_cmp(&(10..20))    Some(RangeOrdering::Before(true))
+/// (11..20).range_partial_cmp(&(0..10))    Some(RangeOrdering::After(false))
+/// (0..10).range_partial_cmp(&(0..=9))     Some(RangeOrdering::Intersecting(true, true))
+/// ```
+pub trait RangePartialOrd<T: Measure> {
+    // The range by its bounds.
+    ghost compared: { Self → AnyRange T };
+
+    /// Where this range lies to the other, which is always told.
+    fn range_partial_cmp<R: AsRange<Item = T>>(&self, other: &R) -> Option<RangeOrdering>
+        ensures { result ≡ Some (range_ordering T.order (compared self.now) (R.range other.now)) };
 }
 
-/// Compares two ranges by their bounds.
-pub fn compare_ranges<R: AsRange, S: AsRange<Item = R::Item>>(left: &R, right: &S) -> RangeOrdering
-    ensures { result ≡ range_ordering R.Item.order (R.range left.now) (S.range right.now) }
-{
-    compare_bounds(left.start(), left.end(), right.start(), right.end())
-}
+impl<S: AsRange> RangePartialOrd<S::Item> for S {
+    ghost compared = { S.range };
 
-/// Compares two ranges, each given by its bounds.
-pub fn compare_bounds<T: PartialEnum>(
-    left: Bound<&T>,
-    left_end: Bound<&T>,
-    right: Bound<&T>,
-    right_end: Bound<&T>,
-) -> RangeOrdering
-    ensures { result ≡ bounds_ordering T.order (bound_map (λ x. x.now) left.entry) (bound_map (λ x. x.now) left_end.entry) (bound_map (λ x. x.now) right.entry) (bound_map (λ x. x.now) right_end.entry) }
-{
-    let start = position_of_start(left);
-    let other_start = position_of_start(right);
-    let starts = compare_positions(&start, &other_start);
-    let end = position_of_end(left_end);
-    let other_end = position_of_end(right_end);
-    let ends = compare_positions(&end, &other_end);
-    if starts.is_lt() {
-        if compare_positions(&end, &other_start).is_lt() {
-            RangeOrdering::Before(starts_at_end(left_end, &other_start))
-        } else {
-            RangeOrdering::Intersecting(false, ends.is_eq())
-        }
-    } else if compare_positions(&start, &other_end).is_gt() {
-        RangeOrdering::After(starts_at_end(right_end, &start))
-    } else {
-        RangeOrdering::Intersecting(starts.is_eq(), ends.is_eq())
+    fn range_partial_cmp<R: AsRange<Item = S::Item>>(&self, other: &R) -> Option<RangeOrdering> {
+        Some(compare_ranges(self, other))
     }
 }

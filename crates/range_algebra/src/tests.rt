@@ -1,0 +1,4 @@
+mod comparison;
+mod measure;
+mod parts;
+mod reading;
