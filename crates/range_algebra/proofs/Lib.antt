@@ -3,5 +3,7 @@ pub mod Completeness
 pub mod Ends
 pub mod Holding
 pub mod Lists
+pub mod Measuring
+pub mod Numbers
 pub mod Places
 pub mod Results

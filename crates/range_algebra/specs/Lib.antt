@@ -5,6 +5,8 @@ pub mod Cuts
 pub mod Extremes
 pub mod Intervals
 pub mod Joins
+pub mod Measures
+pub mod Numbers
 pub mod Orders
 pub mod Range
 pub mod RangeOrder
