@@ -18,7 +18,7 @@ use Rattle.range_algebra.specs.declared.any.AnyRange.{AnyRange}
 use Rattle.range_algebra.specs.Intervals.{Le, Lt}
 use Rattle.range_algebra.specs.Orders.{le_refl, lt_le, le_trans, lt_le_trans, le_lt_trans, lt_trans}
 use Rattle.range_algebra.specs.Range.{StartHolds, EndHolds, Holds, IsEmptyRange, IsKnownBound, IsKnownRange}
-use Rattle.range_algebra.specs.Measures.{told_bound, measure_between, range_measure, IsUntold}
+use Rattle.range_algebra.specs.Measures.{told_bound, measure_between, range_measure}
 use Rattle.range_algebra.specs.Numbers.{IsNumberOfKeys}
 use Rattle.range_algebra.proofs.Holding.{pred_below, empty_is_keyless}
 use Rattle.range_algebra.proofs.Completeness.{nonempty_holds}
@@ -172,11 +172,11 @@ module _ {K : Type 0} {order : KeyOrder K} {index : K → ℕ} {size : ℕ} (cou
       let fits : high r.end ≤ size = high_fits r.end known.1 in
       number_same order counted.total (IsFrom counted (low r.start) (high r.end - low r.start)) (Holds order r) (high r.end - low r.start)
       (λ k key.
-          let from = start_from r.start k known.0 key in
-          let to = end_up_to r.end k known.1 key in (
-            λ h. (from.1 h.0, to.1 (let f : low r.start ≤ index k = h.0 in let g : index k < low r.start + (high r.end - low r.start) = h.1 in omega arith)),
-            λ h. (from.0 h.0, (let f : low r.start ≤ index k = from.0 h.0 in let g : index k < high r.end = to.0 h.1 in omega arith)),
-          ))
+      let from = start_from r.start k known.0 key in
+      let to = end_up_to r.end k known.1 key in (
+        λ h. (from.1 h.0, to.1 (let f : low r.start ≤ index k = h.0 in let g : index k < low r.start + (high r.end - low r.start) = h.1 in omega arith)),
+        λ h. (from.0 h.0, (let f : low r.start ≤ index k = from.0 h.0 in let g : index k < high r.end = to.0 h.1 in omega arith)),
+      ))
       (number_from counted (low r.start) (high r.end - low r.start) (omega arith))
 
   filled : (r : AnyRange K) → IsKnownRange order r → Le (position_cmp order.cmp) (start_position order r.start) (end_position order r.end) → low r.start < high r.end

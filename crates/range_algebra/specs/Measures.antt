@@ -25,9 +25,9 @@ measure_between len distance (Included a) Unbounded = None
 measure_between len distance (Excluded a) Unbounded = None
 
 module _ {K : Type 0} (order : KeyOrder K) where
-  -- a bound is open towards an end that the type does not tell
-  abbrev pub IsUntold : AnyRange K → Type 0
-  IsUntold r = ((r.start ≡ Unbounded) × (order.least ≡ None)) ⊎ ((r.end ≡ Unbounded) × (order.greatest ≡ None))
+  -- the range is unbounded towards an end that the type does not tell
+  abbrev pub HasUntoldEnd : AnyRange K → Type 0
+  HasUntoldEnd r = ((r.start ≡ Unbounded) × (order.least ≡ None)) ⊎ ((r.end ≡ Unbounded) × (order.greatest ≡ None))
 
   -- 0 where the start lies past the end, and otherwise what lies between the bounds, where both are told
   abbrev pub range_measure : (K → ℕ) → (K → K → ℕ) → AnyRange K → Option ℕ

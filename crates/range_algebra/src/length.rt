@@ -1,12 +1,11 @@
 //! The measure of a range.
 
-ghost use Rattle.std.specs.Prelude.{◌≡◌, ◌↔◌, false, Some, None, IsNone};
+ghost use Rattle.std.specs.Prelude.{◌≡◌, ◌↔◌, Some, IsNone, IsSomeAnd};
 ghost use Rattle.std.specs.Range.Bound.{bound_map};
-ghost use Rattle.std.specs.Ordering.{is_gt};
-ghost use Rattle.std.specs.Option.{IsSomeAnd};
 ghost use Rattle.range_keys.specs.Counted.{IsCountedMeasure};
 ghost use Rattle.range_keys.specs.Position.{key_value, start_position, end_position, position_cmp};
-ghost use Rattle.range_algebra.specs.Measures.{told_bound, measure_between, range_measure, IsUntold};
+ghost use Rattle.range_algebra.specs.Intervals.{Le};
+ghost use Rattle.range_algebra.specs.Measures.{told_bound, measure_between, range_measure, HasUntoldEnd};
 ghost use Rattle.range_algebra.specs.Numbers.{IsNumberOfKeys};
 ghost use Rattle.range_algebra.specs.Range.{IsEmptyRange, IsKnownBound, Holds};
 
@@ -16,10 +15,17 @@ use range_keys::traits::{Bounded, MaybeBounded, Measure, PartialEnum};
 use std::ops::{Bound, RangeBounds};
 
 impl<T: Measure + Bounded> AnyRange<T> {
-    /// How much the range holds: the number of its keys, where each key has length 1, as for all
-    /// shipped keys. An empty range holds 0, and an unbounded bound counts up to the end of the type.
+    /// How much the range measures: over the shipped keys, each of which has length 1, the number of
+    /// keys that it holds.
     ///
-    /// `AnyRange::new(Bound::Included(10u8), Bound::Unbounded).len()` is 246.
+    /// Over keys of other lengths it is the distance from the start's key to the end's, in the unit
+    /// of `Measure::len`, less the length of an excluded start, plus that of an included end. An
+    /// unbounded bound stands for the least or the greatest key of the type, included. An empty
+    /// range, as `8..3`, measures 0. The call takes no memory, and the same few steps for any range.
+    ///
+    /// ```
+    /// assert_eq!(AnyRange::new(Bound::Included(10u8), Bound::Unbounded).len(), 246);
+    /// ```
     pub fn len(&self) -> u128
         ensures measure { range_measure T.order T.len T.distance self.now ≡ Some result }
         ensures empty { IsEmptyRange T.order self.now → result ≡ 0 }
@@ -30,14 +36,19 @@ impl<T: Measure + Bounded> AnyRange<T> {
 }
 
 impl<T: Measure> AnyRange<T> {
-    /// How much the range holds, as `len`, or `None` where an unbounded bound is open towards an end
+    /// How much the range measures, as `len` says, or `None` where it is unbounded towards an end
     /// that the key type does not tell.
     ///
-    /// An empty range has no such bound, so it answers `Some(0)`.
+    /// An empty range is not unbounded towards such an end, so it measures `Some(0)`. The call takes
+    /// no memory.
+    ///
+    /// ```
+    /// assert_eq!(AnyRange::new(Bound::Excluded(2u64), Bound::Included(5)).bounded_len(), Some(3));
+    /// ```
     pub fn bounded_len(&self) -> Option<u128>
         ensures measure { result ≡ range_measure T.order T.len T.distance self.now }
         ensures empty { IsEmptyRange T.order self.now → result ≡ Some 0 }
-        ensures untold { IsNone result ↔ IsUntold T.order self.now }
+        ensures untold { IsNone result ↔ HasUntoldEnd T.order self.now }
         ensures counted { IsCountedMeasure T.order T.len T.distance → IsSomeAnd result (IsNumberOfKeys T.order (Holds T.order self.now)) }
     {
         self.known();
@@ -66,7 +77,7 @@ fn with_told<T: PartialEnum>(bound: Bound<&T>, told: Option<T>) -> Bound<KeyRef<
 fn measured<T: Measure>(start: &Bound<KeyRef<'_, T>>, end: &Bound<KeyRef<'_, T>>) -> Option<u128>
     requires known_start { IsKnownBound T.order (bound_map key_value start.now) }
     requires known_end { IsKnownBound T.order (bound_map key_value end.now) }
-    requires nonempty { is_gt (position_cmp T.order.cmp (start_position T.order (bound_map key_value start.now)) (end_position T.order (bound_map key_value end.now))) ≡ false }
+    requires nonempty { Le (position_cmp T.order.cmp) (start_position T.order (bound_map key_value start.now)) (end_position T.order (bound_map key_value end.now)) }
     ensures { result ≡ measure_between T.len T.distance (bound_map key_value start.now) (bound_map key_value end.now) }
 {
     match (start, end) {
@@ -86,3 +97,6 @@ fn measured<T: Measure>(start: &Bound<KeyRef<'_, T>>, end: &Bound<KeyRef<'_, T>>
         (_, _) => None,
     }
 }
+
+#[cfg(test)]
+mod tests;
