@@ -1,8 +1,10 @@
 pub mod Canonical
 pub mod Completeness
 pub mod Ends
+pub mod Gaps
 pub mod Holding
 pub mod Lists
+pub mod MeasureSums
 pub mod Measuring
 pub mod Numbers
 pub mod Places

@@ -124,7 +124,7 @@ module _ {K : Type 0} (order : KeyOrder K) (lawful : IsLawful order) where
   pub known_end : (e : Bound K) → IsKnownBound order e → IsKnownBound order (told_bound order.greatest e)
   known_end e known = known_by order.greatest lawful.greatest_key e known
 
-  reach_full : (r : AnyRange K) → ¬ IsEmptyRange order r → is_gt (position_cmp order.cmp (start_position order r.start) (end_position order r.end)) ≡ false
+  pub reach_full : (r : AnyRange K) → ¬ IsEmptyRange order r → is_gt (position_cmp order.cmp (start_position order r.start) (end_position order r.end)) ≡ false
   reach_full r full = not_greater (position_cmp order.cmp (start_position order r.start) (end_position order r.end)) full
 
   -- the start of a nonempty range is not past its end, after what is told is put in
