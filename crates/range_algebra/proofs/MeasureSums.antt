@@ -1,23 +1,23 @@
 -- The measures of ranges in order add up to less than 2 ^ 128, and over counted keys to the number of their keys.
-use Rattle.std.proofs.Common.{◌≡◌, ℕ, ◌+◌, ◌-◌, ◌<◌, ◌≤◌, ◌^◌, ◌⊎◌, inl, inr, refl, sym, ap, subst, ◌∙◌, arith, Option, Some, None, false, List, [], ◌∷◌, lit<}
+use Rattle.std.proofs.Common.{◌≡◌, ℕ, ◌+◌, ◌-◌, ◌<◌, ◌≤◌, ◌^◌, inl, inr, refl, sym, ap, subst, ◌∙◌, arith, Option, Some, None, List, [], ◌∷◌, lit<}
 use Rattle.std.specs.Option.{IsSomeAnd}
 use Rattle.std.specs.declared.ops.Bound.{Bound}
 use Rattle.std.specs.declared.ops.Bound.TheVariants.{Included, Excluded, Unbounded}
 use Rattle.std.specs.declared.cmp.Ordering.{Ordering}
 use Rattle.std.specs.declared.cmp.Ordering.TheVariants.{Less, Equal, Greater}
 use Rattle.std.specs.Ordering.{ordering_then, is_gt}
-use Rattle.std.specs.Cmp.{tied_itself, tied_back, alike_right}
+use Rattle.std.specs.Cmp.{tied_itself, tied_back}
 use Rattle.range_keys.specs.Order.{KeyOrder, IsLawful, IsMeasure, Below, NotAbove, Tells}
 use Rattle.range_keys.specs.Counted.{IsCountedMeasure, counted_lawful}
 use Rattle.range_keys.specs.Position.{start_position, end_position, position_cmp, at_told}
 use Rattle.range_keys.specs.PositionOrder.{position_total}
 use Rattle.range_keys.specs.declared.inner.position.Position.{Position}
-use Rattle.range_keys.specs.declared.inner.position.Position.TheVariants.{MinusInfinity, Beside, PlusInfinity}
+use Rattle.range_keys.specs.declared.inner.position.Position.TheVariants.{Beside}
 use Rattle.range_keys.specs.declared.inner.position.Side.TheVariants.{Before, At, After}
 use Rattle.range_algebra.specs.declared.any.AnyRange.{AnyRange}
 use Rattle.range_algebra.specs.Cuts.{past, lower, upper}
-use Rattle.range_algebra.specs.Intervals.{Le, Lt, Any}
-use Rattle.range_algebra.specs.Orders.{le_refl, lt_le, eq_le, eq_ge, le_trans, lt_not_le, not_lt, lt_le_trans, le_lt_trans, lt_trans}
+use Rattle.range_algebra.specs.Intervals.{Le, Any}
+use Rattle.range_algebra.specs.Orders.{le_refl, lt_le, le_trans, lt_not_le, not_lt, lt_le_trans, le_lt_trans, lt_trans}
 use Rattle.range_algebra.specs.Range.{Holds, IsKnownBound, IsKnownRange, IsEmptyRange}
 use Rattle.range_algebra.specs.Relations.{LiesBefore}
 use Rattle.range_algebra.specs.Measures.{told_bound, measure_between, measure_sum, range_measure, list_measure, AreInOrder}
@@ -246,6 +246,7 @@ module _ {K : Type 0} (order : KeyOrder K) (lawful : IsLawful order) where
         let much = own.much in
         let more = others.3 in
         (others.0, others.1, le_trans (position_cmp order.cmp) total (lower order r) (lower order s) others.0 over others.2, omega arith)
+
     -- the measures of ranges in order add up to less than 2 ^ 128
     pub list_measure_fits : (ranges : List (AnyRange K)) (n : ℕ) → AreInOrder order ranges → list_measure order len distance ranges ≡ Some n → n < 2 ^ 128
     unfolding Reaches

@@ -1,5 +1,5 @@
 -- The measure of a range fits, and over counted keys it is the number of keys that the range holds.
-use Rattle.std.proofs.Common.{◌≡◌, ℕ, suc, ◌+◌, ◌-◌, ◌<◌, ◌≤◌, ◌^◌, ◌⊎◌, inl, inr, ◌↔◌, refl, sym, ap, subst, ◌∙◌, arith, Option, Some, None, false, true, IsNone}
+use Rattle.std.proofs.Common.{◌≡◌, ℕ, ◌+◌, ◌-◌, ◌<◌, ◌≤◌, ◌↔◌, refl, sym, ap, ◌∙◌, arith, Option, Some, None, false}
 use Rattle.std.specs.declared.ops.Bound.{Bound}
 use Rattle.std.specs.declared.ops.Bound.TheVariants.{Included, Excluded, Unbounded}
 use Rattle.std.specs.declared.cmp.Ordering.{Ordering}
@@ -7,16 +7,16 @@ use Rattle.std.specs.declared.cmp.Ordering.TheVariants.{Less, Equal, Greater}
 use Rattle.std.specs.Ordering.{ordering_then, is_gt}
 use Rattle.std.specs.Option.{IsSomeAnd}
 use Rattle.std.specs.Cmp.{tied_itself}
-use Rattle.range_keys.specs.Order.{KeyOrder, IsLawful, IsMeasure, Below, NotAbove}
+use Rattle.range_keys.specs.Order.{KeyOrder, IsLawful, Below, NotAbove}
 use Rattle.range_keys.specs.Counted.{IsCounted, IsCountedMeasure, counted_lawful, counted_complete}
 use Rattle.range_keys.specs.Position.{start_position, end_position, position_cmp, at_told}
 use Rattle.range_keys.specs.PositionOrder.{position_total}
 use Rattle.range_keys.specs.declared.inner.position.Position.{Position}
-use Rattle.range_keys.specs.declared.inner.position.Position.TheVariants.{MinusInfinity, Beside, PlusInfinity}
+use Rattle.range_keys.specs.declared.inner.position.Position.TheVariants.{Beside}
 use Rattle.range_keys.specs.declared.inner.position.Side.TheVariants.{Before, At, After}
 use Rattle.range_algebra.specs.declared.any.AnyRange.{AnyRange}
 use Rattle.range_algebra.specs.Intervals.{Le, Lt}
-use Rattle.range_algebra.specs.Orders.{le_refl, lt_le, le_trans, lt_le_trans, le_lt_trans, lt_trans}
+use Rattle.range_algebra.specs.Orders.{lt_le_trans, le_lt_trans, lt_trans}
 use Rattle.range_algebra.specs.Range.{StartHolds, EndHolds, Holds, IsEmptyRange, IsKnownBound, IsKnownRange}
 use Rattle.range_algebra.specs.Measures.{told_bound, measure_between, range_measure}
 use Rattle.range_algebra.specs.Numbers.{IsNumberOfKeys}

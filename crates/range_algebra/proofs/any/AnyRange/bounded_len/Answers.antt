@@ -1,8 +1,7 @@
-use Rattle.std.proofs.Common.{rules, ◌≡◌, subst, sym, ◌∙◌}
+use Rattle.std.proofs.Common.{rules, ◌≡◌, subst, sym}
 use Rattle.std.specs.Option.{IsSomeAnd}
 use Rattle.std.specs.Range.Bound.{bound_map}
-use Rattle.range_keys.specs.Position.{key_value, start_position, end_position}
-use Rattle.range_algebra.specs.Intervals.{Le}
+use Rattle.range_keys.specs.Position.{key_value}
 use Rattle.range_algebra.specs.Measures.{told_bound}
 use Rattle.range_algebra.specs.Numbers.{IsNumberOfKeys}
 use Rattle.range_algebra.specs.Range.{Holds, IsEmptyRange}
