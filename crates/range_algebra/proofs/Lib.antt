@@ -2,10 +2,13 @@ pub mod Canonical
 pub mod Commons
 pub mod Completeness
 pub mod Ends
+pub mod Gaps
 pub mod Holding
 pub mod Lists
-pub mod Measures
+pub mod MeasureSums
+pub mod Measuring
 pub mod Meeting
+pub mod Numbers
 pub mod Pieces
 pub mod Places
 pub mod Products

@@ -6,7 +6,8 @@ pub mod Cuts
 pub mod Extremes
 pub mod Intervals
 pub mod Joins
-pub mod Number
+pub mod Measures
+pub mod Numbers
 pub mod Orders
 pub mod PartClones
 pub mod Parts

@@ -14,7 +14,6 @@ ghost use Rattle.range_algebra.specs.RangeOrder.{range_cmp, range_total, range_i
 
 mod combined;
 mod conversion;
-mod measure;
 mod references;
 mod text;
 

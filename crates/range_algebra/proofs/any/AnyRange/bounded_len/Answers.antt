@@ -1,12 +1,34 @@
-use Rattle.std.proofs.Common.{rules, ◌≡◌, sym, subst, IsSomeAnd}
-use Rattle.range_algebra.specs.Number.{range_measure, IsNumberOf}
-use Rattle.range_algebra.proofs.Measures.{measure_is_number}
+use Rattle.std.proofs.Common.{rules, ◌≡◌, subst, sym}
+use Rattle.std.specs.Option.{IsSomeAnd}
+use Rattle.std.specs.Range.Bound.{bound_map}
+use Rattle.range_keys.specs.Position.{key_value}
+use Rattle.range_algebra.specs.Measures.{told_bound}
+use Rattle.range_algebra.specs.Numbers.{IsNumberOfKeys}
+use Rattle.range_algebra.specs.Range.{Holds, IsEmptyRange}
+use Rattle.range_algebra.proofs.Measuring.{told_reach, full_measure, measure_is_number}
 use Rattle.range_algebra.proofs.any.AnyRange.bounded_len.Goals as goal
 
-pub returns-clause-measure : goal.returns-clause-measure
-returns-clause-measure g c = search rules
-
-pub returns-clause-number : goal.returns-clause-number
-returns-clause-number g c = λ counts.
+pub measured-requires-clause-nonempty : goal.measured-requires-clause-nonempty
+measured-requires-clause-nonempty g c =
     let order = g.T.MaybeBounded.order in
-    subst (λ o. IsSomeAnd o (IsNumberOf order c.args.self.now)) (sym (returns-clause-measure g c)) (measure_is_number order g.T.Measure.len g.T.Measure.distance g.met.T.Measure.measured counts c.args.self.now c.known.ensures)
+    let r = c.args.self.now in
+    let full : ¬ IsEmptyRange order r = search rules in
+    let start : bound_map key_value c.with_told-start.result ≡ told_bound order.least r.start = search rules in
+    let end : bound_map key_value c.with_told-end.result ≡ told_bound order.greatest r.end = search rules in
+    rw (start, end) (told_reach order g.met.T.PartialEnum.lawful r full)
+
+pub returns-clause-measure : goal.returns-clause-measure
+returns-clause-measure g c =
+    let order = g.T.MaybeBounded.order in
+    let r = c.args.self.now in
+    let full : ¬ IsEmptyRange order r = search rules in
+    let start : bound_map key_value c.with_told-start.result ≡ told_bound order.least r.start = search rules in
+    let end : bound_map key_value c.with_told-end.result ≡ told_bound order.greatest r.end = search rules in
+    let whole = full_measure order g.met.T.PartialEnum.lawful g.T.Measure.len g.T.Measure.distance r full in
+    cc
+
+pub returns-clause-counted : goal.returns-clause-counted
+returns-clause-counted g c = λ counts.
+    let order = g.T.MaybeBounded.order in
+    let r = c.args.self.now in
+    subst (λ n. IsSomeAnd n (IsNumberOfKeys order (Holds order r))) (sym (returns-clause-measure g c)) (measure_is_number order g.T.Measure.len g.T.Measure.distance counts r c.known.ensures)

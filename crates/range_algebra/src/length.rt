@@ -1,0 +1,102 @@
+//! The measure of a range.
+
+ghost use Rattle.std.specs.Prelude.{◌≡◌, ◌↔◌, Some, IsNone, IsSomeAnd};
+ghost use Rattle.std.specs.Range.Bound.{bound_map};
+ghost use Rattle.range_keys.specs.Counted.{IsCountedMeasure};
+ghost use Rattle.range_keys.specs.Position.{key_value, start_position, end_position, position_cmp};
+ghost use Rattle.range_algebra.specs.Intervals.{Le};
+ghost use Rattle.range_algebra.specs.Measures.{told_bound, measure_between, range_measure, HasUntoldEnd};
+ghost use Rattle.range_algebra.specs.Numbers.{IsNumberOfKeys};
+ghost use Rattle.range_algebra.specs.Range.{IsEmptyRange, IsKnownBound, Holds};
+
+use crate::any::AnyRange;
+use range_keys::inner::position::KeyRef;
+use range_keys::traits::{Bounded, MaybeBounded, Measure, PartialEnum};
+use std::ops::{Bound, RangeBounds};
+
+impl<T: Measure + Bounded> AnyRange<T> {
+    /// How much the range measures: over the shipped keys, each of which has length 1, the number of
+    /// keys that it holds.
+    ///
+    /// Over keys of other lengths it is the distance from the start's key to the end's, in the unit
+    /// of `Measure::len`, less the length of an excluded start, plus that of an included end. An
+    /// unbounded bound stands for the least or the greatest key of the type, included. An empty
+    /// range, as `8..3`, measures 0. The call takes no memory, and the same few steps for any range.
+    ///
+    /// ```
+    /// assert_eq!(AnyRange::new(Bound::Included(10u8), Bound::Unbounded).len(), 246);
+    /// ```
+    pub fn len(&self) -> u128
+        ensures measure { range_measure T.order T.len T.distance self.now ≡ Some result }
+        ensures empty { IsEmptyRange T.order self.now → result ≡ 0 }
+        ensures counted { IsCountedMeasure T.order T.len T.distance → IsNumberOfKeys T.order (Holds T.order self.now) result }
+    {
+        self.bounded_len().unwrap()
+    }
+}
+
+impl<T: Measure> AnyRange<T> {
+    /// How much the range measures, as `len` says, or `None` where it is unbounded towards an end
+    /// that the key type does not tell.
+    ///
+    /// An empty range is not unbounded towards such an end, so it measures `Some(0)`. The call takes
+    /// no memory.
+    ///
+    /// ```
+    /// assert_eq!(AnyRange::new(Bound::Excluded(2u64), Bound::Included(5)).bounded_len(), Some(3));
+    /// ```
+    pub fn bounded_len(&self) -> Option<u128>
+        ensures measure { result ≡ range_measure T.order T.len T.distance self.now }
+        ensures empty { IsEmptyRange T.order self.now → result ≡ Some 0 }
+        ensures untold { IsNone result ↔ HasUntoldEnd T.order self.now }
+        ensures counted { IsCountedMeasure T.order T.len T.distance → IsSomeAnd result (IsNumberOfKeys T.order (Holds T.order self.now)) }
+    {
+        self.known();
+        if self.is_empty() {
+            return Some(0);
+        }
+        let start = with_told(self.start_bound(), <T as MaybeBounded>::min());
+        let end = with_told(self.end_bound(), <T as MaybeBounded>::max());
+        measured(&start, &end)
+    }
+}
+
+/// The bound, or the told end in the place of none.
+fn with_told<T: PartialEnum>(bound: Bound<&T>, told: Option<T>) -> Bound<KeyRef<'_, T>>
+    ensures { bound_map key_value result ≡ told_bound told (bound_map (λ x. x.now) bound.entry) }
+{
+    match (bound, told) {
+        (Bound::Included(key), _) => Bound::Included(KeyRef::Given(key)),
+        (Bound::Excluded(key), _) => Bound::Excluded(KeyRef::Given(key)),
+        (Bound::Unbounded, Some(end)) => Bound::Included(KeyRef::Told(end)),
+        (Bound::Unbounded, None) => Bound::Unbounded,
+    }
+}
+
+/// How much lies from the start to the end, where both name a key.
+fn measured<T: Measure>(start: &Bound<KeyRef<'_, T>>, end: &Bound<KeyRef<'_, T>>) -> Option<u128>
+    requires known_start { IsKnownBound T.order (bound_map key_value start.now) }
+    requires known_end { IsKnownBound T.order (bound_map key_value end.now) }
+    requires nonempty { Le (position_cmp T.order.cmp) (start_position T.order (bound_map key_value start.now)) (end_position T.order (bound_map key_value end.now)) }
+    ensures { result ≡ measure_between T.len T.distance (bound_map key_value start.now) (bound_map key_value end.now) }
+{
+    match (start, end) {
+        (Bound::Included(a), Bound::Included(b)) => {
+            let (a, b) = (a.get(), b.get());
+            Some(a.distance(b) + b.len())
+        }
+        (Bound::Included(a), Bound::Excluded(b)) => Some(a.get().distance(b.get())),
+        (Bound::Excluded(a), Bound::Included(b)) => {
+            let (a, b) = (a.get(), b.get());
+            Some(a.distance(b) - a.len() + b.len())
+        }
+        (Bound::Excluded(a), Bound::Excluded(b)) => {
+            let (a, b) = (a.get(), b.get());
+            Some(a.distance(b) - a.len())
+        }
+        (_, _) => None,
+    }
+}
+
+#[cfg(test)]
+mod tests;
