@@ -32,7 +32,7 @@ use Rattle.range_store.specs.Places.{IsAt}
 use Rattle.range_algebra.specs.Orders.{eq_le, eq_ge, lt_not_le}
 use Rattle.range_algebra.specs.Chains.{Trails, Respects}
 use Rattle.range_algebra.specs.Joins.{IsLeftOf, IsRightOf, left_apart, left_joined, right_apart, right_joined, leading_last, trailing_first, bound}
-use Rattle.range_map.specs.Stored.{Touches}
+use Rattle.range_map.specs.Ranges.{Touches}
 use Rattle.range_map.specs.Changes.{IsInserted, IsRemoved}
 use Rattle.range_map.specs.Reach.{ReachesBefore, ReachesBehind}
 use Rattle.range_map.specs.Edits.{turned_bound, with_start, with_end}

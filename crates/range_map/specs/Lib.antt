@@ -4,7 +4,10 @@ pub mod Edges
 pub mod Edits
 pub mod History
 pub mod ItemCuts
+pub mod Iterating
+pub mod Neighbours
 pub mod Plans
+pub mod Ranges
 pub mod Reach
 pub mod Runs
 pub mod Stored
