@@ -3,6 +3,7 @@ pub mod CutParts
 pub mod Edging
 pub mod Forms
 pub mod Found
+pub mod Framing
 pub mod Histories
 pub mod Listed
 pub mod Openings
