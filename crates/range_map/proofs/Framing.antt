@@ -144,8 +144,8 @@ module _ {K : Type 0} (order : KeyOrder K) (lawful : IsLawful order) {V : Type 0
         let meets = window.meets d some in
         let full = goods (take (end - 1) items) (last ∷ drop (end - 1 + 1) items) (rw split at chain) in
         every_weaker _ _ (take end items) (λ i h k. lt_not_le cmp total (item_lower order i) (upper order r) h.1 ((before_is order lawful r.end i.key.start known.1 h.0.0).0 k)) (every_both (λ i. IsKnownRange order i.key) _ (take end items) (known_take order lawful same equal items end all)
-            (subst (λ (ys : List (Item (AnyRange K) V)). Every (λ i. Lt cmp (item_lower order i) (upper order r)) ys) (sym (take_more items (end - 1) d within) ∙ ap (λ n. take n items) next)
-            (every_append _ (take (end - 1) items) (last ∷ []) (every_weaker _ _ (take (end - 1) items) (λ i h. lt_trans cmp total (item_lower order i) (item_upper order i) (upper order r) h.1 (le_lt_trans cmp total (item_upper order i) (item_lower order last) (upper order r) h.0.0 meets)) (every_both _ _ (take (end - 1) items) ordered full)) (meets, tt))))
+        (subst (λ (ys : List (Item (AnyRange K) V)). Every (λ i. Lt cmp (item_lower order i) (upper order r)) ys) (sym (take_more items (end - 1) d within) ∙ ap (λ n. take n items) next)
+        (every_append _ (take (end - 1) items) (last ∷ []) (every_weaker _ _ (take (end - 1) items) (λ i h. lt_trans cmp total (item_lower order i) (item_upper order i) (upper order r) h.1 (le_lt_trans cmp total (item_upper order i) (item_lower order last) (upper order r) h.0.0 meets)) (every_both _ _ (take (end - 1) items) ordered full)) (meets, tt))))
 
     -- each item of the window meets the range
     pub window_meets : (d : Item (AnyRange K) V) → 0 < w.count → Every (λ i. Meets order i.key r) (take w.count (drop place items))

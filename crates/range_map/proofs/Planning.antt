@@ -52,11 +52,14 @@ module _ {K : Type 0} (order : KeyOrder K) (lawful : IsLawful order) {V : Type 0
     split = sym (append-nil (take place items));
     touched = tt;
     start_of = inl refl;
-    made = (record {
-      start = inr (inl (any_of_run (λ i. x.key.start ≡ i.key.start) items place w.count 0 x window.in_range some (first_read x here) refl));
-      end = inr (inr same_b);
-      value = inr (any_of_run (λ i. IsTrue (same x.value i.value)) items place w.count 0 x window.in_range some (first_read x here) (equal.refl x.value));
-    }, tt);
+    made = (
+      record {
+        start = inr (inl (any_of_run (λ i. x.key.start ≡ i.key.start) items place w.count 0 x window.in_range some (first_read x here) refl));
+        end = inr (inr same_b);
+        value = inr (any_of_run (λ i. IsTrue (same x.value i.value)) items place w.count 0 x window.in_range some (first_read x here) (equal.refl x.value));
+      },
+      tt,
+    );
     whole = λ e. absurd (run_some items place w.count window.in_range some e);
   }
 
@@ -76,11 +79,14 @@ module _ {K : Type 0} (order : KeyOrder K) (lawful : IsLawful order) {V : Type 0
     split = refl;
     touched = tt;
     end_of = inl refl;
-    made = (record {
-      start = inr (inr same_b);
-      end = inr (inl (any_left (λ i. x.key.end ≡ i.key.end) (take w.count (drop place items)) [] (any_of_run (λ i. x.key.end ≡ i.key.end) items place w.count (w.count - 1) x window.in_range (omega (arith, some)) (last_read x some here) refl)));
-      value = inr (any_left (λ i. IsTrue (same u i.value)) (take w.count (drop place items)) [] (any_of_run (λ i. IsTrue (same u i.value)) items place w.count (w.count - 1) x window.in_range (omega (arith, some)) (last_read x some here) values));
-    }, tt);
+    made = (
+      record {
+        start = inr (inr same_b);
+        end = inr (inl (any_left (λ i. x.key.end ≡ i.key.end) (take w.count (drop place items)) [] (any_of_run (λ i. x.key.end ≡ i.key.end) items place w.count (w.count - 1) x window.in_range (omega (arith, some)) (last_read x some here) refl)));
+        value = inr (any_left (λ i. IsTrue (same u i.value)) (take w.count (drop place items)) [] (any_of_run (λ i. IsTrue (same u i.value)) items place w.count (w.count - 1) x window.in_range (omega (arith, some)) (last_read x some here) values));
+      },
+      tt,
+    );
     whole = λ e. absurd (run_some items place w.count window.in_range some (sym (append-nil (take w.count (drop place items))) ∙ e));
   }
 

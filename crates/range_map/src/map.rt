@@ -7,7 +7,6 @@ ghost use Rattle.range_map.specs.Bindings.{Binds};
 pub use crate::command::{Command, Reply, answer, run};
 pub use crate::error::MapError;
 pub use crate::iter::Iter;
-
 use crate::window::{find, starts_past};
 use range_algebra::any::AnyRange;
 use range_keys::inner::position::{KeyRef, Position, Side};

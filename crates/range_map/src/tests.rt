@@ -24,10 +24,8 @@ fn half_open(first: i32, end: i32) -> Range {
 /// Whether the map stores just these ranges, each from its first key to its last, with these values.
 fn shows(map: &IntMap, rows: &[(i32, i32, i64)]) -> bool {
     map.range_count() == rows.len()
-        && map
-            .iter()
-            .zip(rows.iter())
-            .all(|((range, value), row)| *range == closed(row.0, row.1) && *value == row.2)
+        && map.iter().zip(rows.iter()).all(|((range, value), row)| *range == closed(row.0, row.1)
+            && *value == row.2)
 }
 
 #[test]
@@ -119,7 +117,7 @@ fn a_run_answers_each_command(rt: HostRuntime) -> Result<(), Fail> {
         Command::Remove(closed(1, 1)),
         Command::Count,
         Command::Get(4),
-        Command::Get(1)
+        Command::Get(1),
     ]?;
     let replies = run(rt.alloc(), &mut map, commands)?;
     let expected = [
@@ -152,7 +150,11 @@ fn many_calls_bind_what_the_last_one_says(rt: HostRuntime) -> Result<(), Fail> {
         let first = step.wrapping_mul(5).wrapping_add(step / 7) % 8;
         let last = step.wrapping_mul(11).wrapping_add(step / 3) % 8;
         let range = AnyRange::new(Bound::Included(first), Bound::Included(last));
-        let value = if step % 3 == 0 { None } else { Some((step % 2) as i64) };
+        let value = if step % 3 == 0 {
+            None
+        } else {
+            Some((step % 2) as i64)
+        };
         match value {
             Some(value) => map.insert(range, value)?,
             None => map.remove(range)?,
@@ -163,8 +165,14 @@ fn many_calls_bind_what_the_last_one_says(rt: HostRuntime) -> Result<(), Fail> {
                 bound[key as usize] = value;
             }
             let here = bound[key as usize];
-            assert!(rt; map.get(key).copied() == here, "key {key} after step {step}");
-            assert!(rt; find(&items, &key).copied() == here, "key {key} after step {step}");
+            assert!(rt;
+                map.get(key).copied() == here,
+                "key {key} after step {step}"
+            );
+            assert!(rt;
+                find(&items, &key).copied() == here,
+                "key {key} after step {step}"
+            );
         }
     }
     Ok(())
