@@ -25,13 +25,8 @@ use Rattle.range_map.specs.ItemCuts.{item_lower, item_upper}
 use Rattle.range_map.specs.Stored.{IsStored}
 use Rattle.range_map.specs.Ranges.{LiesBefore, Touches}
 use Rattle.range_map.specs.Bindings.{IsBound, BindsTo, Binds, IsSomeOf, IsBoundAfter, IsUnboundAfter}
-use Rattle.range_map.proofs.Listed.{IsListed, listed, stored_by}
+use Rattle.range_map.proofs.Listed.{IsListed, listed, stored_by, not_greater}
 use Rattle.range_algebra.proofs.Places.{reaches, turned, unbounded_end, held_between}
-
-not_greater : (o : Ordering) → (o ≡ Greater → ⊥) → is_gt o ≡ false
-not_greater Less h = refl
-not_greater Equal h = refl
-not_greater Greater h = absurd (h refl)
 
 not_both : (o : Ordering) → is_gt o ≡ false → o ≡ Greater → ⊥
 not_both Less h e = cc

@@ -25,16 +25,11 @@ use Rattle.range_map.specs.Stored.{IsStored}
 use Rattle.range_map.specs.Bindings.{IsBound, BindsTo}
 use Rattle.range_map.specs.Window.{IsFound, IsJustBefore}
 use Rattle.range_map.proofs.Forms.{places}
-use Rattle.range_map.proofs.Listed.{IsListed, listed}
+use Rattle.range_map.proofs.Listed.{IsListed, listed, not_greater}
 use Rattle.range_algebra.proofs.Lists.{every_at, every_take, every_drop, parts, parts_at, drop_all}
 
 less_is : (o : Ordering) → o ≡ Less → is_lt o ≡ true
 less_is o e = ap is_lt e
-
-not_greater : (o : Ordering) → (o ≡ Greater → ⊥) → is_gt o ≡ false
-not_greater Less h = refl
-not_greater Equal h = refl
-not_greater Greater h = absurd (h refl)
 
 not_less : (o : Ordering) → is_lt o ≡ false → o ≡ Less → ⊥
 not_less Less h e = cc

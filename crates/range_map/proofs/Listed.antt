@@ -17,12 +17,12 @@ use Rattle.range_map.specs.Neighbours.{BeforeFirst, EachNext}
 use Rattle.range_map.specs.Ranges.{LiesBefore, Touches}
 use Rattle.range_map.specs.Stored.{IsFollowedBy, IsStored}
 
-less_test : (o : Ordering) → IsTrue (is_lt o) ↔ o ≡ Less
+pub less_test : (o : Ordering) → IsTrue (is_lt o) ↔ o ≡ Less
 less_test Less = (λ h. refl, λ h. refl)
 less_test Equal = (λ h. absurd (cc), λ h. absurd (cc))
 less_test Greater = (λ h. absurd (cc), λ h. absurd (cc))
 
-not_greater : (o : Ordering) → (o ≡ Greater → ⊥) → is_gt o ≡ false
+pub not_greater : (o : Ordering) → (o ≡ Greater → ⊥) → is_gt o ≡ false
 not_greater Less h = refl
 not_greater Equal h = refl
 not_greater Greater h = absurd (h refl)

@@ -1,5 +1,5 @@
 //! Binding a nonempty range in a container.
-ghost use Rattle.std.specs.Prelude.{◌≡◌, ◌+◌, ◌≤◌, length, OnOk, OnErr};
+ghost use Rattle.std.specs.Prelude.{◌≡◌, ◌+◌, ◌-◌, ◌≤◌, length, OnOk, OnErr};
 ghost use Rattle.range_algebra.specs.Range.{ClonesAreEqual, IsEmptyRange, IsKnownRange};
 ghost use Rattle.range_store.specs.Places.{place_before};
 ghost use Rattle.range_map.specs.Stored.{IsStored};
@@ -20,7 +20,7 @@ use std::alloc::AllocError;
 
 /// How much room one item in the place of a run needs.
 fn growth(count: usize) -> usize
-    ensures { 1 ≤ count + result }
+    ensures { result ≡ 1 - count }
 {
     if count == 0 { 1 } else { 0 }
 }

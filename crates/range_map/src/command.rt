@@ -16,18 +16,26 @@ use std::alloc::{AllocError, Global};
 /// One call of a map.
 #[derive(Drop)]
 pub enum Command<K, V> {
+    /// Binds each key of the range to the value.
     Insert(AnyRange<K>, V),
+    /// Binds no key of the range.
     Remove(AnyRange<K>),
+    /// Asks for a clone of the value at a key.
     Get(K),
+    /// Asks how many ranges are stored.
     Count,
 }
 
 /// What a call answered.
 #[derive(Debug, Drop, PartialEq, Eq)]
 pub enum Reply<V> {
+    /// An insertion or a removal was done.
     Done,
+    /// There was not enough memory, and nothing was changed.
     Memory,
+    /// What the key is bound to.
     Value(Option<V>),
+    /// How many ranges are stored.
     Count(usize),
 }
 
@@ -45,7 +53,7 @@ fn get_cloned<K: Measure, V: Eq + Clone, C: Storage<Item<AnyRange<K>, V>>>(
     }
 }
 
-/// Answers one command.
+/// Answers one command, with no memory beyond what the call itself takes.
 pub fn answer<K: Measure + Clone, V: Eq + Clone, C: Storage<Item<AnyRange<K>, V>>>(
     map: &mut RangeMap<K, V, C>,
     command: Command<K, V>,
@@ -71,7 +79,10 @@ pub fn answer<K: Measure + Clone, V: Eq + Clone, C: Storage<Item<AnyRange<K>, V>
     }
 }
 
-/// Answers the commands in turn.
+/// Answers the commands in turn, one reply each.
+///
+/// Makes room for all replies first: where there is none, nothing is done. A command that is refused
+/// later gets the reply `Memory`, changes nothing, and the others follow.
 pub fn run<K: Measure + Clone, V: Eq + Clone, C: Storage<Item<AnyRange<K>, V>>>(
     alloc: Global,
     map: &mut RangeMap<K, V, C>,

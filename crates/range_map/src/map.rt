@@ -1,4 +1,4 @@
-//! A map from ranges of keys to values.
+//! A map from ranges of keys to values, with the commands that can be given to it.
 ghost use Rattle.std.specs.Prelude.{◌≡◌, [], length};
 ghost use Rattle.std.specs.Option.{option_copied};
 ghost use Rattle.range_map.specs.Stored.{IsStored};
@@ -15,7 +15,18 @@ use range_store::storage::{Item, Storage};
 use std::alloc::Global;
 use std::marker::{Model, PhantomData};
 
-/// Nonempty ranges with values, in order. A contract sees the container.
+/// A map that binds the keys of ranges to values.
+///
+/// It stores nonempty ranges in order, none of which meets another, and which touch only where their
+/// values differ; over keys that tell their neighbours no shorter list binds the same keys. A
+/// contract sees the container, and its items as `C.items`.
+///
+/// ```
+/// let mut map: RangeMap<u8, i64, VecStorage<_>> = RangeMap::new(rt.alloc());
+/// map.insert(AnyRange::new(Bound::Included(0), Bound::Included(5)), 1)?;
+/// map.insert(AnyRange::new(Bound::Included(4), Bound::Included(4)), 0)?;
+/// assert_eq!(rt; map.range_count(), 3);
+/// ```
 #[derive(Drop)]
 pub struct RangeMap<K: PartialEnum, V: Eq, C: Storage<Item<AnyRange<K>, V>>> {
     pub(crate) stored: C,
@@ -47,7 +58,7 @@ impl<K: PartialEnum, V: Eq + Drop, C: Storage<Item<AnyRange<K>, V>>> RangeMap<K,
     pub(crate) fn in_form(&self)
         ensures { IsStored K.order V.eq (C.items self.now) }
     {
-        let _count = self.stored.len();
+        let _first = self.stored.first();
     }
 
     /// How many ranges are stored. Takes no memory.
@@ -57,7 +68,7 @@ impl<K: PartialEnum, V: Eq + Drop, C: Storage<Item<AnyRange<K>, V>>> RangeMap<K,
         self.stored.len()
     }
 
-    /// The value to which the key is bound.
+    /// The value to which the key is bound, or none.
     ///
     /// Costs one search and one comparison more. Takes no memory.
     pub fn get(&self, key: K) -> Option<&V>
