@@ -1,10 +1,14 @@
 pub mod CutOut
 pub mod CutParts
 pub mod Edging
-pub mod Edits
 pub mod Forms
 pub mod Found
-pub mod Frames
+pub mod Framing
 pub mod Histories
+pub mod Listed
+pub mod Openings
+pub mod Planning
 pub mod Replies
+pub mod RunParts
+pub mod Scans
 pub mod Windows

@@ -1,10 +1,13 @@
-//! A map from ranges of keys to values.
+//! A map from ranges of keys to values, with the commands that can be given to it.
 ghost use Rattle.std.specs.Prelude.{◌≡◌, [], length};
 ghost use Rattle.std.specs.Option.{option_copied};
 ghost use Rattle.range_map.specs.Stored.{IsStored};
 ghost use Rattle.range_map.specs.Bindings.{Binds};
 
-use crate::window::find;
+pub use crate::command::{Command, Reply, answer, run};
+pub use crate::error::MapError;
+pub use crate::iter::Iter;
+use crate::window::{find, starts_past};
 use range_algebra::any::AnyRange;
 use range_keys::inner::position::{KeyRef, Position, Side};
 use range_keys::traits::PartialEnum;
@@ -12,7 +15,18 @@ use range_store::storage::{Item, Storage};
 use std::alloc::Global;
 use std::marker::{Model, PhantomData};
 
-/// Nonempty ranges with values, in order. A contract sees the container.
+/// A map that binds the keys of ranges to values.
+///
+/// It stores nonempty ranges in order, none of which meets another, and which touch only where their
+/// values differ; over keys that tell their neighbours no shorter list binds the same keys. A
+/// contract sees the container, and its items as `C.items`.
+///
+/// ```
+/// let mut map: RangeMap<u8, i64, VecStorage<_>> = RangeMap::new(rt.alloc());
+/// map.insert(AnyRange::new(Bound::Included(0), Bound::Included(5)), 1)?;
+/// map.insert(AnyRange::new(Bound::Included(4), Bound::Included(4)), 0)?;
+/// assert_eq!(rt; map.range_count(), 3);
+/// ```
 #[derive(Drop)]
 pub struct RangeMap<K: PartialEnum, V: Eq, C: Storage<Item<AnyRange<K>, V>>> {
     pub(crate) stored: C,
@@ -30,6 +44,7 @@ impl<K: PartialEnum, V: Eq, C: Storage<Item<AnyRange<K>, V>>> Model for RangeMap
 }
 
 impl<K: PartialEnum, V: Eq + Drop, C: Storage<Item<AnyRange<K>, V>>> RangeMap<K, V, C> {
+    /// A map that binds no key. Takes no memory.
     pub fn new(alloc: Global) -> Self
         ensures { C.items result ≡ [] }
     {
@@ -40,36 +55,47 @@ impl<K: PartialEnum, V: Eq + Drop, C: Storage<Item<AnyRange<K>, V>>> RangeMap<K,
     }
 
     /// Does nothing, and promises the form of what is stored.
-    pub fn in_form(&self)
+    pub(crate) fn in_form(&self)
         ensures { IsStored K.order V.eq (C.items self.now) }
     {
-        let _count = self.stored.len();
+        let _first = self.stored.first();
     }
 
-    /// How many ranges are stored.
+    /// How many ranges are stored. Takes no memory.
     pub fn range_count(&self) -> usize
         ensures { result ≡ length (C.items self.now) }
     {
         self.stored.len()
     }
 
-    /// The value to which the key is bound.
-    pub fn get(&self, key: &K) -> Option<&V>
-        ensures { Binds K.order V.eq (C.items self.now) key.now (option_copied result) }
+    /// The value to which the key is bound, or none.
+    ///
+    /// Costs one search and one comparison more. Takes no memory.
+    pub fn get(&self, key: K) -> Option<&V>
+        ensures { Binds K.order V.eq (C.items self.now) key (option_copied result) }
     {
         key.known();
-        let position = Position::Beside(KeyRef::Given(key), Side::At);
+        let position = Position::Beside(KeyRef::Given(&key), Side::At);
         let (_, from) = find::<K, V, C>(&self.stored, &position);
         match from {
             None => None,
             Some(p) => {
                 let item = self.stored.get(p);
-                if item.key.holds(key) {
-                    Some(&item.value)
-                } else {
+                if starts_past::<K, V>(item, &position) {
                     None
+                } else {
+                    Some(&item.value)
                 }
             }
         }
+    }
+
+    /// The stored ranges with their values, in rising order, from both ends. Takes no memory.
+    pub fn iter(&self) -> Iter<'_, K, V, C>
+        ensures items { result ≡ C.items self.now }
+        ensures form { IsStored K.order V.eq result }
+    {
+        self.in_form();
+        Iter::new(&self.stored)
     }
 }
