@@ -1,0 +1,10 @@
+-- What the contracts of the crates below say.
+pub use Rattle.range_keys.specs.Order
+pub use Rattle.range_keys.specs.Position
+pub use Rattle.range_algebra.specs.Range
+pub use Rattle.range_store.specs.Counting
+pub use Rattle.range_store.specs.Places
+pub use Rattle.range_map.specs.Bindings
+pub use Rattle.range_map.specs.History
+pub use Rattle.range_map.specs.Runs
+pub use Rattle.range_map.specs.Stored
