@@ -2,9 +2,11 @@ pub mod Chains
 pub mod Clones
 pub mod Compared
 pub mod Cuts
+pub mod Extremes
 pub mod Intervals
 pub mod Joins
 pub mod Orders
 pub mod Range
 pub mod RangeOrder
+pub mod Relations
 pub mod Sides

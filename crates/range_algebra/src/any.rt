@@ -1,6 +1,7 @@
 //! A range by its two bounds.
 
-ghost use Rattle.std.specs.Prelude.{◌≡◌, ◌↔◌, ⊤, IsTrue, IfOk, MatchResult, None};
+ghost use Rattle.std.specs.Prelude.{◌≡◌, ◌↔◌, ⊤, IsTrue, IfOk, IfSome, IfNone, MatchResult, None};
+ghost use Rattle.range_algebra.specs.Extremes.{IsLeastOf, IsGreatestOf, HasNoLeast, HasNoGreatest};
 ghost use Rattle.range_algebra.specs.Clones.{IsBoundClone, IsBoundInfallible};
 ghost use Rattle.std.specs.declared.cmp.Ordering.TheVariants.{Equal};
 ghost use Rattle.std.specs.Option.{option_map};
@@ -11,6 +12,8 @@ ghost use Rattle.std.specs.Ordering.{eq_by_cmp, as_partial_cmp, is_eq};
 ghost use Rattle.std.specs.Cmp.{eq_by_cmp_equiv, partial_equiv_from_equiv, partial_order_from_total};
 ghost use Rattle.range_algebra.specs.RangeOrder.{range_cmp, range_total, range_input, range_respects};
 
+use crate::inner;
+pub use crate::inner::clone_bound;
 use range_keys::bound::Directed;
 use range_keys::inner::position::{compare_positions, position_of_end, position_of_start};
 use range_keys::traits::{Bounded, MaybeBounded, PartialEnum};
@@ -39,17 +42,6 @@ impl<T: Clone> Clone for AnyRange<T> {
             end: clone_bound(&self.end)?,
         })
     }
-}
-
-/// A clone of the bound's value, in a bound of the same kind.
-pub fn clone_bound<T: Clone>(bound: &Bound<T>) -> Result<Bound<T>, AllocError>
-    ensures { MatchResult result (IsBoundClone T.is_clone bound.now) (λ _. IsBoundInfallible T.is_infallible bound.now → ⊥) }
-{
-    Ok(match bound {
-        Bound::Included(key) => Bound::Included(key.clone()?),
-        Bound::Excluded(key) => Bound::Excluded(key.clone()?),
-        Bound::Unbounded => Bound::Unbounded,
-    })
 }
 
 impl<T> AnyRange<T> {
@@ -97,14 +89,7 @@ impl<T: PartialEnum> AnyRange<T> {
     pub fn known(&self)
         ensures { IsKnownRange T.order self.now }
     {
-        match &self.start {
-            Bound::Included(key) | Bound::Excluded(key) => key.known(),
-            Bound::Unbounded => (),
-        }
-        match &self.end {
-            Bound::Included(key) | Bound::Excluded(key) => key.known(),
-            Bound::Unbounded => (),
-        }
+        inner::known(self);
     }
 
     /// Whether the start lies past the end.
@@ -124,27 +109,68 @@ impl<T: PartialEnum> AnyRange<T> {
         ensures held { IsTrue result ↔ Holds T.order self.now key.now }
         ensures by_position { IsTrue result ↔ LiesWithin T.order self.now key.now }
     {
-        key.known();
-        self.contains(key)
+        inner::holds(self, key)
     }
 }
 
 impl<T: PartialEnum + Bounded + Clone> AnyRange<T> {
-    /// The least key, where it is told.
+    /// The least key of the range, or `None` where the range is empty or its start names no key.
+    ///
+    /// An included start is cloned, so the call takes what memory a clone of a key takes.
     pub fn first(&self) -> Result<Option<T>, AllocError>
         requires clones { ClonesAreEqual T.is_clone T.eq }
         ensures empty { IsEmptyRange T.order self.now → IfOk result (λ key. key ≡ None) }
         ensures nonempty { ¬ IsEmptyRange T.order self.now → IfOk result (λ key. SameAnswer T.order (start_key T.order self.now.start) key) }
+        ensures least { IfOk result (λ key. IfSome key (IsLeastOf T.order self.now)) }
+        ensures complete { IsComplete T.order → IfOk result (λ key. IfNone key (HasNoLeast T.order self.now)) }
     {
+        self.known();
         if self.is_empty() {
             return Ok(None);
         }
-        Ok(match &self.start {
-            Bound::Included(key) => Some(key.clone()?),
-            Bound::Excluded(key) => key.succ(),
-            Bound::Unbounded => Some(<T as Bounded>::min()),
-        })
+        key_of_start(&self.start)
     }
+
+    /// The greatest key of the range, or `None` where the range is empty or its end names no key.
+    ///
+    /// An included end is cloned, so the call takes what memory a clone of a key takes.
+    pub fn last(&self) -> Result<Option<T>, AllocError>
+        requires clones { ClonesAreEqual T.is_clone T.eq }
+        ensures empty { IsEmptyRange T.order self.now → IfOk result (λ key. key ≡ None) }
+        ensures nonempty { ¬ IsEmptyRange T.order self.now → IfOk result (λ key. SameAnswer T.order (end_key T.order self.now.end) key) }
+        ensures greatest { IfOk result (λ key. IfSome key (IsGreatestOf T.order self.now)) }
+        ensures complete { IsComplete T.order → IfOk result (λ key. IfNone key (HasNoGreatest T.order self.now)) }
+    {
+        self.known();
+        if self.is_empty() {
+            return Ok(None);
+        }
+        key_of_end(&self.end)
+    }
+}
+
+/// The least key that the start bound names, where it is told.
+fn key_of_start<T: PartialEnum + Bounded + Clone>(start: &Bound<T>) -> Result<Option<T>, AllocError>
+    requires { ClonesAreEqual T.is_clone T.eq }
+    ensures { IfOk result (SameAnswer T.order (start_key T.order start.now)) }
+{
+    Ok(match start {
+        Bound::Included(key) => Some(key.clone()?),
+        Bound::Excluded(key) => key.succ(),
+        Bound::Unbounded => Some(<T as Bounded>::min()),
+    })
+}
+
+/// The greatest key that the end bound names, where it is told.
+fn key_of_end<T: PartialEnum + Bounded + Clone>(end: &Bound<T>) -> Result<Option<T>, AllocError>
+    requires { ClonesAreEqual T.is_clone T.eq }
+    ensures { IfOk result (SameAnswer T.order (end_key T.order end.now)) }
+{
+    Ok(match end {
+        Bound::Included(key) => Some(key.clone()?),
+        Bound::Excluded(key) => key.pred(),
+        Bound::Unbounded => Some(<T as Bounded>::max()),
+    })
 }
 
 impl<T: PartialEnum> PartialEq for AnyRange<T> {
@@ -200,15 +226,5 @@ impl<T: PartialEnum + Hash> Hash for AnyRange<T> {
     fn hash<H: Hasher>(&self, state: &mut H) {
         Directed::Start(self.start_bound()).hash(state);
         Directed::End(self.end_bound()).hash(state);
-    }
-}
-
-impl<T: PartialEnum + Clone> AnyRange<T> {
-    /// An equal range.
-    pub fn copied(&self) -> Result<AnyRange<T>, AllocError>
-        requires clones { ClonesAreEqual T.is_clone T.eq }
-        ensures equal { IfOk result (λ r. range_cmp T.order self.now r ≡ Equal) }
-    {
-        self.clone()
     }
 }

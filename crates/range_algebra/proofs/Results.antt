@@ -1,0 +1,12 @@
+-- Facts about what a call answers.
+use Rattle.std.proofs.Common.{Result, Ok, Err, IfOk}
+use Rattle.std.specs.Prelude.{MatchResult}
+
+-- a weaker fact of the same answer
+pub if_ok : {A E : Type 0} (P Q : A → Type 0) (r : Result A E) → ((x : A) → P x → Q x) → IfOk r P → IfOk r Q
+if_ok P Q (Ok x) f h = f x h
+if_ok P Q (Err e) f h = tt
+
+pub if_ok_of : {A E : Type 0} (P Q : A → Type 0) (F : E → Type 0) (r : Result A E) → ((x : A) → P x → Q x) → MatchResult r P F → IfOk r Q
+if_ok_of P Q F (Ok x) f h = f x h
+if_ok_of P Q F (Err e) f h = tt

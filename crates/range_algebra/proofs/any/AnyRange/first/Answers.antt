@@ -1,0 +1,16 @@
+use Rattle.std.proofs.Common.{rules}
+use Rattle.range_algebra.specs.Range.{IsEmptyRange}
+use Rattle.range_algebra.proofs.Results.{if_ok}
+use Rattle.range_algebra.proofs.Ends.{first_is_least, first_none}
+use Rattle.range_algebra.proofs.any.AnyRange.first.Goals as goal
+
+pub returns-clause-least : goal.returns-clause-least
+returns-clause-least g c =
+    let order = g.T.MaybeBounded.order in
+    let full : ¬ IsEmptyRange order c.args.self.now = search rules in
+    if_ok _ _ c.key_of_start.result (first_is_least order g.met.T.PartialEnum.lawful c.args.self.now c.known.ensures full) c.key_of_start.ensures
+
+pub returns-clause-complete : goal.returns-clause-complete
+returns-clause-complete g c = λ complete.
+    let order = g.T.MaybeBounded.order in
+    if_ok _ _ c.key_of_start.result (first_none order g.met.T.PartialEnum.lawful c.args.self.now complete c.known.ensures) c.key_of_start.ensures

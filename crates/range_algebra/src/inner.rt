@@ -1,0 +1,122 @@
+//! What the crates above need beyond the public surface.
+
+ghost use Rattle.std.specs.Prelude.{◌≡◌, ◌↔◌, IsTrue, IfOk, MatchResult};
+ghost use Rattle.std.specs.Range.Bound.{bound_map};
+ghost use Rattle.std.specs.declared.cmp.Ordering.TheVariants.{Equal};
+ghost use Rattle.range_keys.specs.Position.{position_map, key_value};
+ghost use Rattle.range_algebra.specs.Clones.{IsBoundClone, IsBoundInfallible};
+ghost use Rattle.range_algebra.specs.Compared.{range_ordering, bounds_ordering, starts_at_end};
+ghost use Rattle.range_algebra.specs.Range.{Holds, LiesWithin, IsKnownBound, IsKnownRange, ClonesAreEqual};
+ghost use Rattle.range_algebra.specs.RangeOrder.{range_cmp};
+
+use crate::any::AnyRange;
+use crate::ordering::RangeOrdering;
+use crate::range::AsRange;
+use range_keys::inner::position::{
+    KeyRef, Position, compare_positions, position_of_end, position_of_start,
+};
+use range_keys::traits::PartialEnum;
+use std::alloc::AllocError;
+use std::cmp::Ordering;
+use std::ops::{Bound, RangeBounds};
+
+/// Does nothing, and promises that the bound's value is a key.
+pub fn known_bound<T: PartialEnum>(bound: Bound<&T>)
+    ensures { IsKnownBound T.order (bound_map (λ x. x.now) bound.entry) }
+{
+    match bound {
+        Bound::Included(key) | Bound::Excluded(key) => key.known(),
+        Bound::Unbounded => (),
+    }
+}
+
+/// Does nothing, and promises that the bounds are keys.
+pub fn known<T: PartialEnum>(range: &AnyRange<T>)
+    ensures { IsKnownRange T.order range.now }
+{
+    known_bound(range.start_bound());
+    known_bound(range.end_bound());
+}
+
+/// Does nothing, and promises that the bounds are keys.
+pub fn known_range<R: AsRange>(range: &R)
+    ensures { IsKnownRange R.Item.order (R.range range.now) }
+{
+    known_bound(range.start());
+    known_bound(range.end());
+}
+
+/// Whether the range holds the key.
+pub fn holds<T: PartialEnum>(range: &AnyRange<T>, key: &T) -> bool
+    ensures held { IsTrue result ↔ Holds T.order range.now key.now }
+    ensures by_position { IsTrue result ↔ LiesWithin T.order range.now key.now }
+{
+    key.known();
+    range.contains(key)
+}
+
+/// A clone of the bound's value, in a bound of the same kind.
+pub fn clone_bound<T: Clone>(bound: &Bound<T>) -> Result<Bound<T>, AllocError>
+    ensures { MatchResult result (IsBoundClone T.is_clone bound.now) (λ _. IsBoundInfallible T.is_infallible bound.now → ⊥) }
+{
+    Ok(match bound {
+        Bound::Included(key) => Bound::Included(key.clone()?),
+        Bound::Excluded(key) => Bound::Excluded(key.clone()?),
+        Bound::Unbounded => Bound::Unbounded,
+    })
+}
+
+/// An equal range.
+pub fn copied<T: PartialEnum + Clone>(range: &AnyRange<T>) -> Result<AnyRange<T>, AllocError>
+    requires clones { ClonesAreEqual T.is_clone T.eq }
+    ensures equal { IfOk result (λ r. range_cmp T.order range.now r ≡ Equal) }
+{
+    range.clone()
+}
+
+/// Whether the position is that of the start bound just past the end bound.
+pub fn starts_at_end<T: PartialEnum>(end: Bound<&T>, position: &Position<KeyRef<'_, T>>) -> bool
+    ensures { result ≡ starts_at_end T.order (bound_map (λ x. x.now) end.entry) (position_map key_value position.now) }
+{
+    let inverted = match end {
+        Bound::Included(key) => Bound::Excluded(key),
+        Bound::Excluded(key) => Bound::Included(key),
+        Bound::Unbounded => return false,
+    };
+    compare_positions(&position_of_start(inverted), position) == Ordering::Equal
+}
+
+/// Compares two ranges by their bounds.
+pub fn compare_ranges<R: AsRange, S: AsRange<Item = R::Item>>(left: &R, right: &S) -> RangeOrdering
+    ensures { result ≡ range_ordering R.Item.order (R.range left.now) (S.range right.now) }
+{
+    compare_bounds(left.start(), left.end(), right.start(), right.end())
+}
+
+/// Compares two ranges, each given by its bounds.
+pub fn compare_bounds<T: PartialEnum>(
+    left: Bound<&T>,
+    left_end: Bound<&T>,
+    right: Bound<&T>,
+    right_end: Bound<&T>,
+) -> RangeOrdering
+    ensures { result ≡ bounds_ordering T.order (bound_map (λ x. x.now) left.entry) (bound_map (λ x. x.now) left_end.entry) (bound_map (λ x. x.now) right.entry) (bound_map (λ x. x.now) right_end.entry) }
+{
+    let start = position_of_start(left);
+    let other_start = position_of_start(right);
+    let starts = compare_positions(&start, &other_start);
+    let end = position_of_end(left_end);
+    let other_end = position_of_end(right_end);
+    let ends = compare_positions(&end, &other_end);
+    if starts.is_lt() {
+        if compare_positions(&end, &other_start).is_lt() {
+            RangeOrdering::Before(starts_at_end(left_end, &other_start))
+        } else {
+            RangeOrdering::Intersecting(false, ends.is_eq())
+        }
+    } else if compare_positions(&start, &other_end).is_gt() {
+        RangeOrdering::After(starts_at_end(right_end, &start))
+    } else {
+        RangeOrdering::Intersecting(starts.is_eq(), ends.is_eq())
+    }
+}
