@@ -7,7 +7,7 @@ use Rattle.range_store.specs.declared.storage.Item.{Item}
 
 module _ {K : Type 0} (order : KeyOrder K) where
   abbrev pub item_lower : {V : Type 0} → Item (AnyRange K) V → Position K
-  item_lower i = lower i.key
+  item_lower i = lower order i.key
 
   abbrev pub item_upper : {V : Type 0} → Item (AnyRange K) V → Position K
-  item_upper i = upper i.key
+  item_upper i = upper order i.key
