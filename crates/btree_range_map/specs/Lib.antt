@@ -1,6 +1,7 @@
 -- What the contracts of the crates below say.
 pub use Rattle.range_keys.specs.Order
 pub use Rattle.range_keys.specs.Position
+pub use Rattle.range_algebra.specs.Extremes
 pub use Rattle.range_algebra.specs.Range
 pub use Rattle.range_store.specs.Counting
 pub use Rattle.range_store.specs.Places
@@ -8,3 +9,9 @@ pub use Rattle.range_map.specs.Bindings
 pub use Rattle.range_map.specs.History
 pub use Rattle.range_map.specs.Runs
 pub use Rattle.range_map.specs.Stored
+
+-- The types that contracts name.
+pub use Rattle.range_algebra.specs.declared.any.AnyRange
+pub use Rattle.range_store.specs.declared.storage.Item
+pub use Rattle.range_map.specs.declared.run.Command
+pub use Rattle.range_map.specs.declared.run.Reply
