@@ -1,6 +1,9 @@
 -- What the contracts of the crates below say.
+pub use Rattle.range_keys.specs.Counted
 pub use Rattle.range_keys.specs.Order
 pub use Rattle.range_keys.specs.Position
+pub use Rattle.range_keys.specs.Signed
+pub use Rattle.range_keys.specs.Unsigned
 pub use Rattle.range_algebra.specs.Extremes
 pub use Rattle.range_algebra.specs.Range
 pub use Rattle.range_store.specs.Counting
