@@ -20,6 +20,10 @@ abbrev pub directed_map : {A B : Type 0} → (A → B) → Directed A → Direct
 directed_map f (Start b) = Start (f b)
 directed_map f (End b) = End (f b)
 
+abbrev pub directed_value : {A : Type 0} → Directed A → A
+directed_value (Start b) = b
+directed_value (End b) = b
+
 module _ {K : Type 0} (order : KeyOrder K) where
   abbrev pub directed_position : Directed (Bound K) → Position K
   directed_position (Start b) = start_position order b

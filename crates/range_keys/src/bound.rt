@@ -10,24 +10,26 @@ ghost use Rattle.std.specs.Ordering.{is_eq};
 ghost use Rattle.std.proofs.Common.{refl, ap, ◌∙◌};
 ghost use Rattle.range_keys.specs.Hashing.{position_input, position_respects};
 ghost use Rattle.range_keys.specs.declared.bound.Directed.{Directed};
-ghost use Rattle.range_keys.specs.Position.{position_cmp, position_map, key_value};
-ghost use Rattle.range_keys.specs.Directed.{directed_map, directed_position, bound_ordering, are_adjacent, reference_position};
+ghost use Rattle.range_keys.specs.Position.{position_cmp};
+ghost use Rattle.range_keys.specs.Directed.{directed_map, directed_value, bound_ordering, reference_position};
 ghost use Rattle.range_keys.specs.PositionOrder.{position_total};
 
-use crate::inner::position::{
-    KeyRef, Position, Side, compare_keys, compare_positions, position_of_end, position_of_start,
-};
+use crate::inner::directed::{position_of, touches};
+use crate::inner::position::{Position, Side, compare_positions};
 use crate::traits::PartialEnum;
 use std::cmp::Ordering;
 use std::hash::{Hash, Hasher};
 use std::ops::Bound;
 
-/// A value that is a bound of a range.
+/// A value that is a bound of a range: a `Bound` over a reference, or a byte, which is an included bound.
 pub trait AsBound {
+    /// The type of the keys.
     type Item;
 
+    // The bound that is meant.
     ghost bound: { Self → Bound Self.Item };
 
+    /// The bound. Takes no memory.
     fn bound(&self) -> Bound<&Self::Item>
         ensures { bound_map (λ x. x.now) result ≡ bound self.now };
 }
@@ -53,15 +55,33 @@ impl<'a, T> AsBound for Bound<&'a T> {
 }
 
 /// A bound as the start or as the end of a range.
+///
+/// `Directed<Bound<&T>>` is compared and hashed by where the bound lies in the order of the keys,
+/// starts and ends together: over `u32` the start `Excluded(0)`, the start `Included(1)` and the end
+/// `Included(1)` are equal, and `Start(Unbounded)` is `Start(Included(0))`.
 #[derive(Clone, Copy, Drop, Debug)]
 pub enum Directed<T> {
+    /// The bound where a range begins.
     Start(T),
+    /// The bound where a range ends.
     End(T),
 }
 
 impl<T> Directed<T> {
     /// The bound, without its direction.
-    pub fn value(&self) -> &T {
+    pub fn unwrap(self) -> T
+        ensures { result ≡ directed_value self }
+    {
+        match self {
+            Directed::Start(bound) => bound,
+            Directed::End(bound) => bound,
+        }
+    }
+
+    /// A reference to the bound, without its direction.
+    pub fn value(&self) -> &T
+        ensures { result.now ≡ directed_value self.now }
+    {
         match self {
             Directed::Start(bound) => bound,
             Directed::End(bound) => bound,
@@ -69,61 +89,81 @@ impl<T> Directed<T> {
     }
 }
 
-/// How a bound lies to another: at it or on its inner side, or on its outer side.
+impl<T> Directed<Bound<T>> {
+    /// The same bound over a reference to its key. It can be compared, where keys tell their neighbours.
+    pub fn as_ref(&self) -> Directed<Bound<&T>>
+        ensures { directed_map (bound_map (λ x. x.now)) result ≡ self.now }
+    {
+        match self {
+            Directed::Start(bound) => Directed::Start(bound.as_ref()),
+            Directed::End(bound) => Directed::End(bound.as_ref()),
+        }
+    }
+}
+
+/// How a bound lies to another.
+///
+/// The inner side of a start is what is greater than it, that of an end what is less. So over `u32`
+/// `Start(Included(0))` lies to `Start(Excluded(0))` as `Excluded(true)`, and the other way round as
+/// `Included(false)`; to `Start(Included(2))` it lies as `Excluded(false)`.
 #[derive(Clone, Copy, PartialEq, Eq, Debug)]
 pub enum BoundOrdering {
+    /// On the other's inner side, or at it, which the flag tells.
     Included(bool),
+    /// On the other's outer side. The flag tells whether no bound of the key type can lie between.
     Excluded(bool),
 }
 
-/// The position of a directed bound.
-pub fn position_of<B: AsBound>(directed: &Directed<B>) -> Position<KeyRef<'_, B::Item>>
-where
-    B::Item: PartialEnum,
-    ensures { position_map key_value result ≡ directed_position B.Item.order (directed_map B.bound directed.now) }
-{
-    match directed {
-        Directed::Start(start) => position_of_start(start.bound()),
-        Directed::End(end) => position_of_end(end.bound()),
-    }
+/// How far two keys lie apart.
+#[derive(Clone, Copy, PartialEq, Eq, Debug)]
+pub enum Dist {
+    /// They are equal.
+    Equals,
+    /// They differ, with nothing between that could be told.
+    Zero,
+    /// They are neighbours.
+    One,
+    /// They are further apart.
+    More,
 }
 
-/// Whether no bound of the type can lie between the first position and the second, which is greater.
-pub fn touches<T: PartialEnum>(
-    low: &Position<KeyRef<'_, T>>,
-    high: &Position<KeyRef<'_, T>>,
-) -> bool
-    ensures { result ≡ are_adjacent T.order (position_map key_value low.now) (position_map key_value high.now) }
-{
-    match (low, high) {
-        (Position::Beside(a, Side::Before), Position::Beside(b, Side::At)) => {
-            compare_keys(a.get(), b.get()) == Ordering::Equal
-        }
-        (Position::Beside(a, Side::At), Position::Beside(b, Side::After)) => {
-            compare_keys(a.get(), b.get()) == Ordering::Equal
-        }
-        (Position::Beside(a, Side::At), Position::Beside(b, Side::At)) => match a.get().succ() {
-            Some(next) => compare_keys(&next, b.get()) == Ordering::Equal,
-            None => false,
-        },
-        _ => false,
-    }
+/// Bounds that compare with the bounds of keys `T`, with an answer that may be missing.
+///
+/// It never is, since keys are totally ordered.
+pub trait BoundPartialOrd<T: PartialEnum> {
+    // The bound that is meant.
+    ghost directed: { Self → Directed (Bound T) };
+
+    /// `Some` of what [`BoundOrd::bound_cmp`] answers, always. Takes no memory.
+    fn bound_partial_cmp<B: AsBound<Item = T>>(&self, other: &Directed<B>) -> Option<BoundOrdering>
+        ensures { result ≡ Some (bound_ordering T.order (directed self.now) (directed_map B.bound other.now)) };
 }
 
 /// Bounds that compare with the bounds of keys `T`.
-pub trait BoundOrd<T: PartialEnum> {
-    ghost directed: { Self → Directed (Bound T) };
-
+pub trait BoundOrd<T: PartialEnum>: BoundPartialOrd<T> {
+    /// How this bound lies to the other, by their positions. Takes no memory.
     fn bound_cmp<B: AsBound<Item = T>>(&self, other: &Directed<B>) -> BoundOrdering
-        ensures { result ≡ bound_ordering T.order (directed self.now) (directed_map B.bound other.now) };
+        ensures { result ≡ bound_ordering T.order (Self.directed self.now) (directed_map B.bound other.now) };
+}
+
+impl<A: AsBound> BoundPartialOrd<A::Item> for Directed<A>
+where
+    A::Item: PartialEnum,
+{
+    ghost directed = { directed_map A.bound };
+
+    fn bound_partial_cmp<B: AsBound<Item = A::Item>>(
+        &self,
+        other: &Directed<B>,
+    ) -> Option<BoundOrdering> {
+        Some(self.bound_cmp(other))
+    }
 }
 
 impl<A: AsBound> BoundOrd<A::Item> for Directed<A>
 where
     A::Item: PartialEnum,
 {
-    ghost directed = { directed_map A.bound };
-
     fn bound_cmp<B: AsBound<Item = A::Item>>(&self, other: &Directed<B>) -> BoundOrdering {
         let own = position_of(self);
         let others = position_of(other);
