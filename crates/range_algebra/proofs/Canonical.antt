@@ -48,14 +48,14 @@ not_less Equal h e = cc
 not_less Greater h e = cc
 
 module _ {K : Type 0} (order : KeyOrder K) (lawful : IsLawful order) (complete : IsComplete order) where
-  NotPast : Position K → Position K → Type 0
+  unfoldable pub NotPast : Position K → Position K → Type 0
   NotPast p q = is_gt (position_cmp order.cmp p q) ≡ false
 
-  IsBefore : Position K → Position K → Type 0
+  unfoldable pub IsBefore : Position K → Position K → Type 0
   IsBefore p q = position_cmp order.cmp p q ≡ Less
 
   -- a key from the first place on, before the second
-  KeyFrom : Position K → Position K → Type 0
+  unfoldable pub KeyFrom : Position K → Position K → Type 0
   KeyFrom p q = (k : K) × order.is_key k × NotPast p (Beside k At) × IsBefore (Beside k At) q
 
   from_between : (a b : K) → Tells order (order.succ a) b ⊎ ((c : K) × order.is_key c × Below order a c × Below order c b) → order.succ a ≡ None → KeyFrom (Beside a After) (Beside b At)
@@ -72,7 +72,7 @@ module _ {K : Type 0} (order : KeyOrder K) (lawful : IsLawful order) (complete :
   unfolding IsBefore
   just_at b = equal_then (order.cmp b b) Less (tied_itself lawful.total b)
 
-  key_from : (p q : Position K) → IsStart order lawful complete p → IsStart order lawful complete q → IsBefore p q → KeyFrom p q
+  pub key_from : (p q : Position K) → IsStart order lawful complete p → IsStart order lawful complete q → IsBefore p q → KeyFrom p q
   unfolding IsStart KeyFrom NotPast IsBefore
   key_from (Beside a At) (Beside b At) s t h = (a, s, ap is_gt (tied_itself (position_total order.cmp lawful.total) (Beside a At)), h)
   key_from (Beside a After) (Beside b At) s t h = from_between a b (complete.next a b s.0 t (then_less (order.cmp a b) h)) s.1

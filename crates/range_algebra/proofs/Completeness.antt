@@ -37,7 +37,7 @@ module _ {K : Type 0} (order : KeyOrder K) (lawful : IsLawful order) (complete :
   HasKey : Position K → Position K → Type 0
   HasKey s e = (k : K) × order.is_key k × (is_gt (position_cmp order.cmp s (Beside k At)) ≡ false) × (is_gt (position_cmp order.cmp (Beside k At) e) ≡ false)
 
-  start_excluded : (a : K) (o : Option K) → order.succ a ≡ o → order.is_key a → IsStart (at_told o (Beside a After))
+  pub start_excluded : (a : K) (o : Option K) → order.succ a ≡ o → order.is_key a → IsStart (at_told o (Beside a After))
   unfolding IsStart
   start_excluded a None e key = (key, e)
   start_excluded a (Some b) e key = (lawful.succ_key a b e).1

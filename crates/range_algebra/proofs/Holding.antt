@@ -58,7 +58,7 @@ module _ {K : Type 0} (order : KeyOrder K) (lawful : IsLawful order) where
   least_told k None e key = refl
   least_told k (Some m) e key = rw (then_equal (order.cmp m k)) (lawful.least_bound m k e key)
 
-  start_holds : (b : Bound K) (k : K) → order.is_key k → StartHolds order b k ↔ is_gt (position_cmp order.cmp (start_position order b) (Beside k At)) ≡ false
+  pub start_holds : (b : Bound K) (k : K) → order.is_key k → StartHolds order b k ↔ is_gt (position_cmp order.cmp (start_position order b) (Beside k At)) ≡ false
   start_holds (Included a) k key = rw (then_equal (order.cmp a k)) (λ h. h, λ h. h)
   start_holds (Excluded a) k key = start_told a k (order.succ a) refl key
   start_holds Unbounded k key = (λ _. least_told k order.least refl key, λ _. tt)
@@ -92,7 +92,7 @@ module _ {K : Type 0} (order : KeyOrder K) (lawful : IsLawful order) where
   greatest_told k None e key = refl
   greatest_told k (Some m) e key = rw (then_equal (order.cmp k m)) (lawful.greatest_bound m k e key)
 
-  end_holds : (b : Bound K) (k : K) → order.is_key k → EndHolds order b k ↔ is_gt (position_cmp order.cmp (Beside k At) (end_position order b)) ≡ false
+  pub end_holds : (b : Bound K) (k : K) → order.is_key k → EndHolds order b k ↔ is_gt (position_cmp order.cmp (Beside k At) (end_position order b)) ≡ false
   end_holds (Included b) k key = rw (then_equal (order.cmp k b)) (λ h. h, λ h. h)
   end_holds (Excluded b) k key = end_told b k (order.pred b) refl key
   end_holds Unbounded k key = (λ _. greatest_told k order.greatest refl key, λ _. tt)

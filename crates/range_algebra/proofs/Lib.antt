@@ -1,7 +1,11 @@
 pub mod Canonical
+pub mod Commons
 pub mod Completeness
 pub mod Ends
 pub mod Holding
 pub mod Lists
+pub mod Meeting
+pub mod Pieces
 pub mod Places
+pub mod Products
 pub mod Results

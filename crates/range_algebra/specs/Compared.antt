@@ -16,6 +16,13 @@ is_before (Before touching) connected = not touching || not connected
 is_before (Intersecting starts ends) connected = false
 is_before (After touching) connected = false
 
+-- after, and not touching where touching counts as meeting
+abbrev pub is_after : RangeOrdering → Bool → Bool
+is_after (Before touching) connected = false
+is_after (Intersecting starts ends) connected = false
+is_after (After touching) connected = not touching || not connected
+
+-- intersecting, or touching where touching counts as meeting
 abbrev pub matches : RangeOrdering → Bool → Bool
 matches (Before touching) connected = touching && connected
 matches (Intersecting starts ends) connected = true
@@ -28,6 +35,10 @@ inverted (Excluded a) = Some (Included a)
 inverted Unbounded = None
 
 module _ {K : Type 0} (order : KeyOrder K) where
+  -- the start lies past the end
+  abbrev pub starts_past_end : Bound K → Bound K → Bool
+  starts_past_end start end = is_gt (position_cmp order.cmp (start_position order start) (end_position order end))
+
   abbrev pub start_is_at : Option (Bound K) → Position K → Bool
   start_is_at None p = false
   start_is_at (Some b) p = is_eq (position_cmp order.cmp (start_position order b) p)

@@ -1,12 +1,15 @@
 pub mod Chains
 pub mod Clones
+pub mod Combined
 pub mod Compared
 pub mod Cuts
 pub mod Extremes
 pub mod Intervals
 pub mod Joins
 pub mod Orders
+pub mod Parts
 pub mod Range
 pub mod RangeOrder
+pub mod References
 pub mod Relations
 pub mod Sides

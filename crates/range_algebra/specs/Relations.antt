@@ -1,5 +1,5 @@
 -- How two ranges lie to one another: by the keys that they hold, and by the positions of their bounds.
-use Rattle.std.specs.Prelude.{◌≡◌, false, IsTrue}
+use Rattle.std.specs.Prelude.{◌≡◌, false, IsTrue, ◌⊎◌}
 use Rattle.std.specs.declared.cmp.Ordering.TheVariants.{Less}
 use Rattle.range_keys.specs.Order.{KeyOrder, Below}
 use Rattle.range_keys.specs.Position.{start_position, end_position, position_cmp}
@@ -31,3 +31,14 @@ module _ {K : Type 0} (order : KeyOrder K) where
   -- their comparison says that they intersect
   abbrev pub Meets : AnyRange K → AnyRange K → Type 0
   Meets r s = IsTrue (matches (range_ordering order r s) false)
+
+  abbrev pub EitherHolds : AnyRange K → AnyRange K → K → Type 0
+  EitherHolds r s k = Holds order r k ⊎ Holds order s k
+
+  -- some key is in both
+  abbrev pub ShareKey : AnyRange K → AnyRange K → Type 0
+  ShareKey r s = (k : K) × order.is_key k × Holds order r k × Holds order s k
+
+  -- no key between keys of the two is outside both
+  abbrev pub AreConnected : AnyRange K → AnyRange K → Type 0
+  AreConnected r s = (a b k : K) → order.is_key a → order.is_key b → order.is_key k → EitherHolds r s a → EitherHolds r s b → Below order a k → Below order k b → EitherHolds r s k

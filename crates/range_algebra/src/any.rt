@@ -12,10 +12,11 @@ ghost use Rattle.std.specs.Ordering.{eq_by_cmp, as_partial_cmp, is_eq};
 ghost use Rattle.std.specs.Cmp.{eq_by_cmp_equiv, partial_equiv_from_equiv, partial_order_from_total};
 ghost use Rattle.range_algebra.specs.RangeOrder.{range_cmp, range_total, range_input, range_respects};
 
+mod conversion;
+
 use crate::inner;
 pub use crate::inner::clone_bound;
 use range_keys::bound::Directed;
-use range_keys::inner::position::{compare_positions, position_of_end, position_of_start};
 use range_keys::traits::{Bounded, MaybeBounded, PartialEnum};
 use std::alloc::AllocError;
 use std::cmp::Ordering;
@@ -98,10 +99,8 @@ impl<T: PartialEnum> AnyRange<T> {
         ensures keyless { IsTrue result → IsKeyless T.order self.now }
         ensures complete { IsComplete T.order → IsKeyless T.order self.now → IsTrue result }
     {
-        self.known();
-        let start = position_of_start(self.start_bound());
-        let end = position_of_end(self.end_bound());
-        compare_positions(&start, &end) == Ordering::Greater
+        inner::known(self);
+        inner::starts_past_end(self.start_bound(), self.end_bound())
     }
 
     /// Whether the range holds the key.

@@ -5,7 +5,7 @@ ghost use Rattle.std.specs.Range.Bound.{bound_map};
 ghost use Rattle.std.specs.declared.cmp.Ordering.TheVariants.{Equal};
 ghost use Rattle.range_keys.specs.Position.{position_map, key_value};
 ghost use Rattle.range_algebra.specs.Clones.{IsBoundClone, IsBoundInfallible};
-ghost use Rattle.range_algebra.specs.Compared.{range_ordering, bounds_ordering, starts_at_end};
+ghost use Rattle.range_algebra.specs.Compared.{range_ordering, bounds_ordering, starts_at_end, starts_past_end};
 ghost use Rattle.range_algebra.specs.Range.{Holds, LiesWithin, IsKnownBound, IsKnownRange, ClonesAreEqual};
 ghost use Rattle.range_algebra.specs.RangeOrder.{range_cmp};
 
@@ -72,6 +72,13 @@ pub fn copied<T: PartialEnum + Clone>(range: &AnyRange<T>) -> Result<AnyRange<T>
     ensures equal { IfOk result (λ r. range_cmp T.order range.now r ≡ Equal) }
 {
     range.clone()
+}
+
+/// Whether the start bound lies past the end bound.
+pub fn starts_past_end<T: PartialEnum>(start: Bound<&T>, end: Bound<&T>) -> bool
+    ensures { result ≡ starts_past_end T.order (bound_map (λ x. x.now) start.entry) (bound_map (λ x. x.now) end.entry) }
+{
+    compare_positions(&position_of_start(start), &position_of_end(end)).is_gt()
 }
 
 /// Whether the position is that of the start bound just past the end bound.
