@@ -89,28 +89,6 @@ module _ {K : Type 0} (order : KeyOrder K) (lawful : IsLawful order) {V : Type 0
   pub known_drop : (items : List (Item (AnyRange K) V)) (n : ℕ) → Known order lawful same equal items → Known order lawful same equal (drop n items)
   known_drop items n known = every_right _ (take n items) (drop n items) (rw (parts items n) at known)
 
-  regroup : (a b c e : List (Item (AnyRange K) V)) → a ++ b ++ [] ++ c ++ e ≡ (a ++ b) ++ (c ++ e)
-  regroup a b c e = rw (append-nil (a ++ b)) (append_assoc (a ++ b) c e)
-
-  -- the list with the range cut out
-  pub removed : {P : Type 0} (is_good : P → Type 0) (rank : P → ℕ) (items new : List (Item (AnyRange K) V)) (r : AnyRange K) (w : Window P) (place : ℕ) (left right : Option (Item (AnyRange K) V)) (d e : Item (AnyRange K) V) →
-      IsStored order same items → IsKnownRange order r → (IsEmptyRange order r → ⊥) → IsWindow order is_good rank items r w place → 0 < w.count →
-      IsLeftPart order same (get_or items place d) r left → IsRightPart order same (get_or items (place + w.count - 1) e) r right →
-      new ≡ take place items ++ option_items left ++ [] ++ option_items right ++ drop (place + w.count) items →
-      IsStored order same new × IsUnboundAfter order same items new r
-  removed is_good rank items new r w place left right d e stored known full window some left_part right_part at =
-      let chain = stored_chain order lawful same equal items stored in
-      let all = stored_known order lawful same equal items stored in
-      let good = (nonempty_good order lawful r known).0 full in
-      let on_left = left_of items place d r left (omega (arith, window.in_range)) chain window.below window.above left_part in
-      let on_right = right_of items (place + w.count) e r right (omega arith) window.in_range chain (window.meets e some) window.behind right_part in
-      let result = unbound (places order lawful) (position_total order.cmp lawful.total) same equal (item_lower order) (item_upper order) (λ i. i.value) items (take place items ++ option_items left) (option_items right ++ drop (place + w.count) items) (lower order r) (upper order r) on_left on_right good in
-      let others = every_append _ (take place items ++ option_items left) (option_items right ++ drop (place + w.count) items)
-      (every_append _ (take place items) (option_items left) (known_take items place all) (left_known (get_or items place d) r left left_part))
-      (every_append _ (option_items right) (drop (place + w.count) items) (right_known (get_or items (place + w.count - 1) e) r right right_part) (known_drop items (place + w.count) all)) in
-      let same_list : new ≡ (take place items ++ option_items left) ++ (option_items right ++ drop (place + w.count) items) = at ∙ regroup (take place items) (option_items left) (option_items right) (drop (place + w.count) items) in
-      rw same_list (chain_stored order lawful same equal _ others result.chain, unbound_after order lawful same equal items _ r known all others result)
-
   -- a range that meets nothing
   pub unmet : {P : Type 0} (is_good : P → Type 0) (rank : P → ℕ) (items : List (Item (AnyRange K) V)) (r : AnyRange K) (w : Window P) (place : ℕ) →
       IsStored order same items → IsKnownRange order r → (IsEmptyRange order r → ⊥) → IsWindow order is_good rank items r w place → w.count ≡ 0 → IsUnboundAfter order same items items r

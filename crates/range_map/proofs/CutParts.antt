@@ -1,10 +1,10 @@
 -- What is left of an item that a range cuts, by places.
-use Rattle.std.proofs.Common.{◌≡◌, refl, ap, sym, ◌∙◌, ◌↔◌, Option, Some, None, Bool, true, false, IsTrue, inl, inr}
+use Rattle.std.proofs.Common.{◌≡◌, refl, ap, sym, ◌∙◌, ◌↔◌, Option, Some, None, Bool, true, false, not, IsTrue, inl, inr}
 use Rattle.std.specs.declared.ops.Bound.{Bound}
 use Rattle.std.specs.declared.ops.Bound.TheVariants.{Included, Excluded, Unbounded}
 use Rattle.std.specs.declared.cmp.Ordering.{Ordering}
 use Rattle.std.specs.declared.cmp.Ordering.TheVariants.{Less, Equal, Greater}
-use Rattle.std.specs.Ordering.{is_gt}
+use Rattle.std.specs.Ordering.{is_gt, is_lt}
 use Rattle.std.specs.Cmp.{IsEquivalence, tied_back, tied_itself}
 use Rattle.range_keys.specs.Order.{KeyOrder, IsLawful}
 use Rattle.range_keys.specs.Position.{start_position, end_position, position_cmp}
@@ -16,15 +16,11 @@ use Rattle.range_algebra.specs.Compared.{inverted}
 use Rattle.range_algebra.specs.Clones.{SameBound, same_start}
 use Rattle.range_store.specs.declared.storage.Item.{Item}
 use Rattle.range_algebra.specs.Intervals.{Le, Lt}
-use Rattle.range_algebra.specs.Orders.{le_refl, lt_le, eq_le, eq_ge, le_trans, lt_le_trans, le_lt_trans, not_lt}
+use Rattle.range_algebra.specs.Orders.{le_refl, lt_le, eq_le, eq_ge, le_trans, lt_le_trans, le_lt_trans, lt_not_le}
 use Rattle.range_algebra.specs.Cuts.{past, lower, upper}
-use Rattle.range_map.specs.ItemCuts.{item_lower, item_upper}
-use Rattle.range_map.specs.Window.{IsLeftPart, IsRightPart}
-use Rattle.range_algebra.proofs.Places.{reaches, turned, turned_back, turned_known, unbounded_end}
+use Rattle.range_map.specs.Edits.{turned_bound}
+use Rattle.range_algebra.proofs.Places.{reaches, turned, turned_back, turned_known, unbounded_start, unbounded_end}
 use Rattle.range_map.proofs.Forms.{places}
-
-both_truths : (b : Bool) → true ≡ b → b ≡ false → ⊥
-both_truths b e f = let clash : true ≡ false = e ∙ f in cc
 
 module _ {K : Type 0} (order : KeyOrder K) (lawful : IsLawful order) where
   -- bounds of one kind with equal values have equal places past them
@@ -46,61 +42,69 @@ module _ {K : Type 0} (order : KeyOrder K) (lawful : IsLawful order) where
   same_past Unbounded (Included b) h = absurd h
   same_past Unbounded (Excluded b) h = absurd h
 
-  -- the end just before a start bound
-  past_turned : (s e : Bound K) → Some e ≡ inverted s → places order lawful (past order (end_position order e)) (start_position order s) ≡ Equal
-  past_turned s e turns = turned order lawful e s (turned_back order lawful s e (sym turns))
+  same_itself : (b : Bound K) → SameBound order b b
+  same_itself (Included a) = tied_itself lawful.total a
+  same_itself (Excluded a) = tied_itself lawful.total a
+  same_itself Unbounded = tt
 
-  starts_past : (s e : Bound K) → IsKnownBound order s → IsKnownBound order e → true ≡ is_gt (places order lawful (start_position order s) (end_position order e)) → Le (places order lawful) (past order (end_position order e)) (start_position order s)
-  starts_past s e known others h =
-      not_lt (places order lawful) (position_total order.cmp lawful.total) (past order (end_position order e)) (start_position order s) (λ l. both_truths _ h ((reaches order lawful s e known others).1 l))
+  pub known_turned : (b : Bound K) → IsKnownBound order b → IsKnownBound order (turned_bound b)
+  known_turned (Included a) h = h
+  known_turned (Excluded a) h = h
+  known_turned Unbounded h = h
 
-  module _ {V : Type 0} (same : V → V → Bool) where
-    pub left_kept : (i : Item (AnyRange K) V) (r : AnyRange K) (e : Bound K) → IsKnownRange order i.key → IsKnownRange order r → Some e ≡ inverted r.start → true ≡ is_gt (places order lawful (start_position order i.key.start) (end_position order e)) → IsLeftPart order same i r None
-    left_kept i r e known others turns past_it =
-        let total = position_total order.cmp lawful.total in
-        let other = turned_known order lawful r.start e (sym turns) others.0 in
-        le_trans (places order lawful) total (lower order r) (past order (end_position order e)) (item_lower order i)
-        (eq_ge (places order lawful) total (past order (end_position order e)) (lower order r) (past_turned r.start e turns))
-        (starts_past i.key.start e known.0 other past_it)
+  end_by : (s t b : Bound K) → places order lawful (past order (end_position order t)) (start_position order s) ≡ Equal → SameBound order t b → places order lawful (past order (end_position order b)) (start_position order s) ≡ Equal
+  end_by s t b at h =
+      sym ((position_total order.cmp lawful.total).congr (past order (end_position order t)) (past order (end_position order b)) (start_position order s) (same_past t b h)) ∙ at
 
-    pub left_is : (i : Item (AnyRange K) V) (r : AnyRange K) (e : Bound K) (j : Item (AnyRange K) V) → IsKnownRange order i.key → IsKnownRange order r → IsKnownRange order j.key → Some e ≡ inverted r.start → false ≡ is_gt (places order lawful (start_position order i.key.start) (end_position order e)) → SameBound order i.key.start j.key.start → SameBound order e j.key.end → same j.value i.value ≡ true → IsLeftPart order same i r (Some j)
-    left_is i r e j known others new turns before starts ends values =
-        let total = position_total order.cmp lawful.total in
-        let cmp = places order lawful in
-        let other = turned_known order lawful r.start e (sym turns) others.0 in
-        let at = past_turned r.start e turns in (
-          lt_le_trans cmp total (item_lower order i) (past order (end_position order e)) (lower order r) ((reaches order lawful i.key.start e known.0 other).0 (sym before)) (eq_le cmp total (past order (end_position order e)) (lower order r) at),
-          tied_back total (item_lower order i) (item_lower order j) (same_start order lawful i.key.start j.key.start starts),
-          sym (total.congr (past order (end_position order e)) (item_upper order j) (lower order r) (same_past e j.key.end ends)) ∙ at,
-          values,
-          new,
-        )
+  -- the end just before a start bound that is not the first of all
+  pub cut_end : (a s b : Bound K) → IsKnownBound order a → Lt (places order lawful) (start_position order a) (start_position order s) → SameBound order (turned_bound s) b → places order lawful (past order (end_position order b)) (start_position order s) ≡ Equal
+  cut_end a (Included k) b known l h = end_by (Included k) (Excluded k) b (turned order lawful (Excluded k) (Included k) refl) h
+  cut_end a (Excluded k) b known l h = end_by (Excluded k) (Included k) b (turned order lawful (Included k) (Excluded k) refl) h
+  cut_end a Unbounded b known l h = absurd (lt_not_le (places order lawful) (position_total order.cmp lawful.total) (start_position order a) (start_position order Unbounded) l (unbounded_start order lawful a known))
 
-    unbounded_by : (i : Item (AnyRange K) V) (b : Bound K) → IsKnownRange order i.key → None ≡ inverted b → Le (places order lawful) (item_upper order i) (past order (end_position order b))
-    unbounded_by i (Included a) known turns = absurd (cc)
-    unbounded_by i (Excluded a) known turns = absurd (cc)
-    unbounded_by i Unbounded known turns = unbounded_end order lawful i.key.end known.1
+  start_by : (e t b : Bound K) → places order lawful (past order (end_position order e)) (start_position order t) ≡ Equal → SameBound order t b → places order lawful (start_position order b) (past order (end_position order e)) ≡ Equal
+  start_by e t b at h =
+      let total = position_total order.cmp lawful.total in
+      tied_back total (past order (end_position order e)) (start_position order b) (total.congr (past order (end_position order e)) (start_position order t) (start_position order b) at ∙ same_start order lawful t b h)
 
-    pub right_unbounded : (i : Item (AnyRange K) V) (r : AnyRange K) → IsKnownRange order i.key → None ≡ inverted r.end → IsRightPart order same i r None
-    right_unbounded i r known turns = unbounded_by i r.end known turns
+  -- the start just behind an end bound that is not the last of all
+  pub cut_start : (a e b : Bound K) → IsKnownBound order a → Lt (places order lawful) (past order (end_position order e)) (past order (end_position order a)) → SameBound order (turned_bound e) b → places order lawful (start_position order b) (past order (end_position order e)) ≡ Equal
+  cut_start a (Included k) b known l h = start_by (Included k) (Excluded k) b (turned order lawful (Included k) (Excluded k) refl) h
+  cut_start a (Excluded k) b known l h = start_by (Excluded k) (Included k) b (turned order lawful (Excluded k) (Included k) refl) h
+  cut_start a Unbounded b known l h = absurd (lt_not_le (places order lawful) (position_total order.cmp lawful.total) (past order (end_position order Unbounded)) (past order (end_position order a)) l (unbounded_end order lawful a known))
 
-    pub right_kept : (i : Item (AnyRange K) V) (r : AnyRange K) (s : Bound K) → IsKnownRange order i.key → IsKnownRange order r → Some s ≡ inverted r.end → true ≡ is_gt (places order lawful (start_position order s) (end_position order i.key.end)) → IsRightPart order same i r None
-    right_kept i r s known others turns past_it =
-        let total = position_total order.cmp lawful.total in
-        let other = turned_known order lawful r.end s (sym turns) others.1 in
-        le_trans (places order lawful) total (item_upper order i) (start_position order s) (upper order r)
-        (starts_past s i.key.end other known.1 past_it)
-        (eq_ge (places order lawful) total (upper order r) (start_position order s) (turned order lawful r.end s (sym turns)))
+  pub same_turned : (b : Bound K) → SameBound order (turned_bound b) (turned_bound b)
+  same_turned b = same_itself (turned_bound b)
 
-    pub right_is : (i : Item (AnyRange K) V) (r : AnyRange K) (s : Bound K) (j : Item (AnyRange K) V) → IsKnownRange order i.key → IsKnownRange order r → IsKnownRange order j.key → Some s ≡ inverted r.end → false ≡ is_gt (places order lawful (start_position order s) (end_position order i.key.end)) → SameBound order s j.key.start → SameBound order i.key.end j.key.end → same j.value i.value ≡ true → IsRightPart order same i r (Some j)
-    right_is i r s j known others new turns before starts ends values =
-        let total = position_total order.cmp lawful.total in
-        let cmp = places order lawful in
-        let other = turned_known order lawful r.end s (sym turns) others.1 in
-        let at = turned order lawful r.end s (sym turns) in (
-          le_lt_trans cmp total (upper order r) (start_position order s) (item_upper order i) (eq_le cmp total (upper order r) (start_position order s) at) ((reaches order lawful s i.key.end other known.1).0 (sym before)),
-          tied_back total (upper order r) (item_lower order j) (total.congr (upper order r) (start_position order s) (item_lower order j) at ∙ same_start order lawful s j.key.start starts),
-          tied_back total (item_upper order i) (item_upper order j) (same_past i.key.end j.key.end ends),
-          values,
-          new,
-        )
+  not_past_all : (e a : Bound K) → None ≡ inverted e → IsKnownBound order a → Lt (places order lawful) (past order (end_position order e)) (past order (end_position order a)) → ⊥
+  not_past_all (Included k) a turns known l = cc
+  not_past_all (Excluded k) a turns known l = cc
+  not_past_all Unbounded a turns known l = lt_not_le (places order lawful) (position_total order.cmp lawful.total) (past order (end_position order Unbounded)) (past order (end_position order a)) l (unbounded_end order lawful a known)
+
+  -- nothing ends after an unbounded end
+  pub ends_never : (r i : AnyRange K) → IsKnownRange order i → None ≡ inverted r.end → IsTrue false ↔ Lt (places order lawful) (upper order r) (upper order i)
+  ends_never r i known turns = (λ h. absurd (cc), λ l. absurd (not_past_all r.end i.end turns known.1 l))
+
+  not_is : (b : Bool) → IsTrue (not b) ↔ b ≡ false
+  not_is true = (λ h. absurd (cc), λ h. absurd (cc))
+  not_is false = (λ h. refl, λ h. refl)
+
+  -- a range ends after another where it reaches the start just behind it
+  pub ends_after_is : (r i : AnyRange K) (s : Bound K) → IsKnownRange order r → IsKnownRange order i → Some s ≡ inverted r.end → IsTrue (not (is_gt (places order lawful (start_position order s) (end_position order i.end)))) ↔ Lt (places order lawful) (upper order r) (upper order i)
+  ends_after_is r i s known others turns =
+      let total = position_total order.cmp lawful.total in
+      let cmp = places order lawful in
+      let at = turned order lawful r.end s (sym turns) in
+      let reach = reaches order lawful s i.end (turned_known order lawful r.end s (sym turns) known.1) others.1 in
+      let test = not_is (is_gt (cmp (start_position order s) (end_position order i.end))) in (
+        λ h. le_lt_trans cmp total (upper order r) (start_position order s) (upper order i) (eq_le cmp total (upper order r) (start_position order s) at) (reach.0 (test.0 h)),
+        λ l. test.1 (reach.1 (le_lt_trans cmp total (start_position order s) (upper order r) (upper order i) (eq_ge cmp total (upper order r) (start_position order s) at) l)),
+      )
+
+less_test : (o : Ordering) → IsTrue (is_lt o) ↔ o ≡ Less
+less_test Less = (λ h. refl, λ h. refl)
+less_test Equal = (λ h. absurd (cc), λ h. absurd (cc))
+less_test Greater = (λ h. absurd (cc), λ h. absurd (cc))
+
+pub less_is : (b : Bool) (o : Ordering) → b ≡ is_lt o → IsTrue b ↔ o ≡ Less
+less_is b o e = rw e (less_test o)

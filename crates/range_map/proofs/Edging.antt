@@ -1,3 +1,4 @@
+-- What stands on each side of a range, and the list in which it is bound or unbound.
 use Rattle.std.proofs.Common.{◌≡◌, ℕ, zero, suc, ◌+◌, ◌-◌, ◌<◌, ◌≤◌, List, [], ◌∷◌, ◌++◌, length, take, drop, get_or, refl, ap, sym, ◌∙◌, ◌↔◌, arith, subst, Option, Some, None, Bool, true, false, IsTrue, inl, inr, length-drop, append_assoc}
 use Rattle.std.proofs.lemmas.List.{append-nil, drop_more, take_more, get_or-drop}
 use Rattle.std.specs.declared.cmp.Ordering.TheVariants.{Less, Equal, Greater}
@@ -17,7 +18,6 @@ use Rattle.range_algebra.specs.Joins.{IsBoundTo, IsUnbound, unbound}
 use Rattle.range_algebra.specs.Cuts.{past, lower, upper}
 use Rattle.range_map.specs.ItemCuts.{item_lower, item_upper}
 use Rattle.range_map.specs.Stored.{IsStored}
-use Rattle.range_map.specs.Bindings.{IsUnboundAfter, IsBoundAfter}
 use Rattle.range_algebra.proofs.Holding.{empty_is_keyless}
 use Rattle.range_map.specs.Window.{IsWindow, IsLeftPart, IsRightPart, option_items}
 use Rattle.range_map.specs.declared.window.Window.{Window}
@@ -33,7 +33,13 @@ use Rattle.range_algebra.specs.Orders.{eq_le, eq_ge, lt_not_le}
 use Rattle.range_algebra.specs.Chains.{Trails, Respects}
 use Rattle.range_algebra.specs.Joins.{IsLeftOf, IsRightOf, left_apart, left_joined, right_apart, right_joined, leading_last, trailing_first, bound}
 use Rattle.range_map.specs.Stored.{Touches}
-use Rattle.range_map.specs.Bindings.{IsBoundAfter}
+use Rattle.range_map.specs.Changes.{IsInserted, IsRemoved}
+use Rattle.range_map.specs.Reach.{ReachesBefore, ReachesBehind}
+use Rattle.range_map.specs.Edits.{turned_bound, with_start, with_end}
+use Rattle.range_algebra.specs.Clones.{SameBound}
+use Rattle.range_algebra.specs.Range.{IsKnownBound}
+use Rattle.range_map.proofs.Openings.{regrouped, regrouped_out}
+use Rattle.range_map.proofs.CutParts.{cut_end, cut_start, known_turned, same_turned}
 use Rattle.range_map.specs.Edges.{IsLeftRest, IsRightRest, IsLeftEdge, IsRightEdge, TouchesBefore, TouchesNoneBefore, TouchesAfter, TouchesNoneAfter, edge_start, edge_end}
 use Rattle.range_map.proofs.Forms.{touches_is, bound_after}
 use Rattle.range_map.proofs.CutOut.{Left, Right, left_all, right_all, left_of, right_of, left_known, right_known, known_take, known_drop}
@@ -45,10 +51,24 @@ if_ok P Q (Err e) f h = tt
 both_truths : (b : Bool) → b ≡ true → b ≡ false → ⊥
 both_truths b e f = let clash : true ≡ false = sym e ∙ f in cc
 
-element : {X : Type 0} (xs : List X) (n : ℕ) → n < length xs → X
+pub element : {X : Type 0} (xs : List X) (n : ℕ) → n < length xs → X
 element [] n within = absurd (omega arith)
 element (x ∷ xs) zero within = x
 element (x ∷ xs) (suc n) within = element xs n (omega arith)
+
+pub element_is : {X : Type 0} (xs : List X) (n : ℕ) (within : n < length xs) (d : X) → element xs n within ≡ get_or xs n d
+unfolding element
+element_is [] n within d = absurd (omega arith)
+element_is (x ∷ xs) zero within d = refl
+element_is (x ∷ xs) (suc n) within d = element_is xs n (omega arith) d
+
+edge_start_is : {K : Type 0} (order : KeyOrder K) {V : Type 0} (same : V → V → Bool) (o : Option (Bound K)) (r : AnyRange K) → start_position order (unwrap_or o r.start) ≡ edge_start order same o r
+edge_start_is order same None r = refl
+edge_start_is order same (Some b) r = refl
+
+edge_end_is : {K : Type 0} (order : KeyOrder K) {V : Type 0} (same : V → V → Bool) (o : Option (Bound K)) (r : AnyRange K) → past order (end_position order (unwrap_or o r.end)) ≡ edge_end order same o r
+edge_end_is order same None r = refl
+edge_end_is order same (Some b) r = refl
 
 module _ {K : Type 0} (order : KeyOrder K) (lawful : IsLawful order) {V : Type 0} (same : V → V → Bool) (equal : IsEquivalence same) where
   module _ {P : Type 0} (is_good : P → Type 0) (rank : P → ℕ) (items : List (Item (AnyRange K) V)) (r : AnyRange K) (w : Window P) (place : ℕ) (stored : IsStored order same items) (known : IsKnownRange order r) (full : IsEmptyRange order r → ⊥) (window : IsWindow order is_good rank items r w place) where
@@ -103,59 +123,92 @@ module _ {K : Type 0} (order : KeyOrder K) (lawful : IsLawful order) {V : Type 0
           reaches = λ y e. right_reaches x y rest part e;
         }
 
-    -- the cut item has an equal value: the range takes its start
-    pub left_edge_cut : (v : V) (y : Item (AnyRange K) V) (b : Bound K) → IsLeftRest order same lawful equal items r place (Some y) → same y.value v ≡ true → b ≡ y.key.start → IsLeftEdge order same lawful equal is_good rank items r v place w.from 0 None (Some b)
-    left_edge_cut v y b rest values at =
+    known_at : (n : ℕ) (x : Item (AnyRange K) V) → n < length items → x ≡ get_or items n x → IsKnownRange order x.key
+    known_at n x within read = let at = every_at (λ i. IsKnownRange order i.key) items n x (stored_known order lawful same equal items stored) within in rw (← read) at at
+
+    left_rest_by : (n : ℕ) → w.count ≡ n → ReachesBefore order is_good rank items r place w.count None → IsLeftRest order same lawful equal items r place None
+    left_rest_by zero e reach = left_rest_none e
+    left_rest_by (suc n) e reach =
+        let within : place < length items = omega (arith, e, window.in_range) in
+        let x = element items place within in
+        let read = element_is items place within x in
+        left_rest_some (omega arith) x read None (reach x (omega arith) read)
+
+    right_rest_by : (n : ℕ) → w.count ≡ n → ReachesBehind order is_good rank items r place w.count None → IsRightRest order same lawful equal items r (place + w.count) None
+    right_rest_by zero e reach = right_rest_none e
+    right_rest_by (suc n) e reach =
+        let within : place + w.count - 1 < length items = omega (arith, e, window.in_range) in
+        let x = element items (place + w.count - 1) within in
+        let read = element_is items (place + w.count - 1) within x in
+        right_rest_some (omega arith) x read None (reach x (omega arith) read)
+
+    pub left_rest_whole : ReachesBefore order is_good rank items r place w.count None → IsLeftRest order same lawful equal items r place None
+    left_rest_whole reach = left_rest_by w.count refl reach
+
+    -- an item that starts before the range
+    pub left_rest_cut : (x : Item (AnyRange K) V) → x ≡ get_or items place x → 0 < w.count → Lt (places order lawful) (item_lower order x) (lower order r) → (b : Bound K) → IsKnownBound order b → SameBound order (turned_bound r.start) b → IsLeftRest order same lawful equal items r place (Some (with_end x b))
+    left_rest_cut x read some starts b known_b same_b =
+        let known_x = known_at place x (omega (arith, window.in_range)) read in
+        left_rest_some some x read (Some (with_end x b)) (starts, tied_itself (position_total order.cmp lawful.total) (item_lower order x), cut_end order lawful x.key.start r.start b known_x.0 starts same_b, equal.refl x.value, (known_x.0, known_b))
+
+    pub right_rest_whole : ReachesBehind order is_good rank items r place w.count None → IsRightRest order same lawful equal items r (place + w.count) None
+    right_rest_whole reach = right_rest_by w.count refl reach
+
+    -- an item that ends after the range, with a value that equals its own
+    pub right_rest_cut : (x : Item (AnyRange K) V) → x ≡ get_or items (place + w.count - 1) x → 0 < w.count → Lt (places order lawful) (upper order r) (item_upper order x) → (b : Bound K) → IsKnownBound order b → SameBound order (turned_bound r.end) b → (u : V) → same u x.value ≡ true → IsRightRest order same lawful equal items r (place + w.count) (Some (record { key = record { start = b; end = x.key.end }; value = u }))
+    right_rest_cut x read some ends b known_b same_b u values =
+        let known_x = known_at (place + w.count - 1) x (omega (arith, window.in_range)) read in
+        right_rest_some some x read (Some (record { key = record { start = b; end = x.key.end }; value = u })) (ends, cut_start order lawful x.key.end r.end b known_x.1 ends same_b, tied_itself (position_total order.cmp lawful.total) (item_upper order x), values, (known_b, known_x.1))
+
+    -- the item has an equal value: the range takes its start
+    pub left_edge_inside : (v : V) (x : Item (AnyRange K) V) → x ≡ get_or items place x → 0 < w.count → Lt (places order lawful) (item_lower order x) (lower order r) → same x.value v ≡ true → IsLeftEdge order same lawful equal items r v place None (Some x.key.start)
+    left_edge_inside v x read some starts values =
         let total = position_total order.cmp lawful.total in
+        let rest = left_rest_cut x read some starts (turned_bound r.start) (known_turned order lawful r.start known.0) (same_turned order lawful r.start) in
+        let y = with_end x (turned_bound r.start) in
         record {
-          at = place;
-          sum = omega arith;
-          position = window.position;
-          s = item_lower order y;
-          starts = rw at (tied_itself total (item_lower order y));
+          s = item_lower order x;
+          starts = tied_itself total (item_lower order x);
           left = rw (append-nil (take place items)) (left_joined (places order lawful) (position_total order.cmp lawful.total) same equal (item_lower order) (item_upper order) (λ i. i.value) items (take place items) y (lower order r) v rest.left (rest.reaches y refl) values);
           known = tt;
+          known_start = (known_at place x (omega (arith, window.in_range)) read).0;
         }
 
     -- it has another value: its lower part stays
-    pub left_edge_rest : (v : V) (y : Item (AnyRange K) V) → IsLeftRest order same lawful equal items r place (Some y) → same y.value v ≡ false → IsLeftEdge order same lawful equal is_good rank items r v place w.from 0 (Some y) None
+    pub left_edge_rest : (v : V) (y : Item (AnyRange K) V) → IsLeftRest order same lawful equal items r place (Some y) → same y.value v ≡ false → IsLeftEdge order same lawful equal items r v place (Some y) None
     left_edge_rest v y rest values =
         let total = position_total order.cmp lawful.total in
         let ends = every_right _ (take place items) (y ∷ []) rest.left.ends in
         record {
-          at = place;
-          sum = omega arith;
-          position = window.position;
           s = lower order r;
           starts = tied_itself total (lower order r);
           left = left_apart (places order lawful) (position_total order.cmp lawful.total) same equal (item_lower order) (item_upper order) (λ i. i.value) items (take place items ++ y ∷ []) (lower order r) v rest.left
               (leading_last (places order lawful) (position_total order.cmp lawful.total) same equal (item_lower order) (item_upper order) (λ i. i.value) (take place items) y (lower order r) v rest.left.chain (ends.0, λ k t. both_truths (same y.value v) t values));
           known = rest.known;
+          known_start = known.0;
         }
 
     take_last : (n : ℕ) (d : Item (AnyRange K) V) → 0 < n → n ≤ length items → take n items ≡ take (n - 1) items ++ get_or items (n - 1) d ∷ []
     take_last n d some within = let last : n - 1 + 1 ≡ n = omega arith in ap (λ m. take m items) (sym last) ∙ take_more items (n - 1) d (omega arith)
 
     -- an item before the range touches it and has an equal value: the range takes its start
-    pub left_edge_joined : (v : V) (q : P) (x : Item (AnyRange K) V) (b : Bound K) → IsLeftRest order same lawful equal items r place None → is_good q → rank q + 1 ≡ place → rank q < length items → x ≡ get_or items (rank q) x → TouchesBefore order same items place r v → places order lawful (start_position order x.key.start) (start_position order b) ≡ Equal → IsLeftEdge order same lawful equal is_good rank items r v place (Some q) 1 None (Some b)
-    left_edge_joined v q x b rest is at within read touching starts =
+    pub left_edge_joined : (v : V) (n : ℕ) (x : Item (AnyRange K) V) → IsLeftRest order same lawful equal items r place None → n + 1 ≡ place → n < length items → x ≡ get_or items n x → TouchesBefore order same items place r v → IsLeftEdge order same lawful equal items r v n None (Some x.key.start)
+    left_edge_joined v n x rest at within read touching =
         let cmp = places order lawful in
         let total = position_total order.cmp lawful.total in
-        let before : place - 1 ≡ rank q = omega (arith, at) in
+        let before : place - 1 ≡ n = omega (arith, at) in
         let same_item : get_or items (place - 1) x ≡ x = ap (λ n. get_or items n x) before ∙ sym read in
-        let split : take place items ≡ take (rank q) items ++ x ∷ [] = take_last place x (omega (arith, at)) (omega (arith, at)) ∙ (ap (λ n. take n items ++ get_or items (place - 1) x ∷ []) before ∙ ap (λ y. take (rank q) items ++ y ∷ []) same_item) in
-        let front : take place items ++ option_items None ≡ take (rank q) items ++ x ∷ [] = append-nil (take place items) ∙ split in
-        let left : Left order lawful same equal items (take (rank q) items ++ x ∷ []) (lower order r) = subst (λ (ys : List (Item (AnyRange K) V)). Left order lawful same equal items ys (lower order r)) front rest.left in
-        let ends = every_right _ (take (rank q) items) (x ∷ []) left.ends in
+        let split : take place items ≡ take n items ++ x ∷ [] = take_last place x (omega (arith, at)) (omega (arith, at)) ∙ (ap (λ n. take n items ++ get_or items (place - 1) x ∷ []) before ∙ ap (λ y. take n items ++ y ∷ []) same_item) in
+        let front : take place items ++ option_items None ≡ take n items ++ x ∷ [] = append-nil (take place items) ∙ split in
+        let left : Left order lawful same equal items (take n items ++ x ∷ []) (lower order r) = subst (λ (ys : List (Item (AnyRange K) V)). Left order lawful same equal items ys (lower order r)) front rest.left in
+        let ends = every_right _ (take n items) (x ∷ []) left.ends in
         let touch : Touches order x.key r × (same x.value v ≡ true) = subst (λ (y : Item (AnyRange K) V). Touches order y.key r × (same y.value v ≡ true)) same_item (touching x) in
         record {
-          at = rank q;
-          sum = at;
-          position = (is, refl);
           s = item_lower order x;
-          starts = tied_back total (start_position order x.key.start) (start_position order b) starts;
-          left = rw (append-nil (take (rank q) items)) (left_joined (places order lawful) (position_total order.cmp lawful.total) same equal (item_lower order) (item_upper order) (λ i. i.value) items (take (rank q) items) x (lower order r) v left ((touches_is order lawful x.key.end r known good ends.0).0 touch.0) touch.1);
+          starts = tied_itself total (item_lower order x);
+          left = rw (append-nil (take n items)) (left_joined (places order lawful) (position_total order.cmp lawful.total) same equal (item_lower order) (item_upper order) (λ i. i.value) items (take n items) x (lower order r) v left ((touches_is order lawful x.key.end r known good ends.0).0 touch.0) touch.1);
           known = tt;
+          known_start = (known_at n x within read).0;
         }
 
     first_of : (n : ℕ) → n < length items → Item (AnyRange K) V
@@ -177,56 +230,58 @@ module _ {K : Type 0} (order : KeyOrder K) (lawful : IsLawful order) {V : Type 0
         let within' : n < length items = omega arith in
         parts_lead n v (first_of n within') before within' (subst (λ (ys : List (Item (AnyRange K) V)). Left order lawful same equal items ys (lower order r)) (append-nil (take place items)) rest.left) none e
 
-    pub left_edge_none : (v : V) → place ≤ length items → IsLeftRest order same lawful equal items r place None → TouchesNoneBefore order same items place r v → IsLeftEdge order same lawful equal is_good rank items r v place w.from 0 None None
+    pub left_edge_none : (v : V) → place ≤ length items → IsLeftRest order same lawful equal items r place None → TouchesNoneBefore order same items place r v → IsLeftEdge order same lawful equal items r v place None None
     left_edge_none v within rest none =
         let total = position_total order.cmp lawful.total in
         record {
-          at = place;
-          sum = omega arith;
-          position = window.position;
           s = lower order r;
           starts = tied_itself total (lower order r);
           left = left_apart (places order lawful) (position_total order.cmp lawful.total) same equal (item_lower order) (item_upper order) (λ i. i.value) items (take place items ++ []) (lower order r) v rest.left (rw (append-nil (take place items)) (all_lead place v refl within rest none));
           known = tt;
+          known_start = known.0;
         }
 
-    pub right_edge_cut : (end : ℕ) (v : V) (y : Item (AnyRange K) V) (b : Bound K) → end ≤ length items → IsRightRest order same lawful equal items r end (Some y) → same y.value v ≡ true → b ≡ y.key.end → IsRightEdge order same lawful equal items r v end 0 None (Some b)
-    right_edge_cut end v y b within rest values at =
+    pub right_edge_inside : (v : V) (x : Item (AnyRange K) V) → x ≡ get_or items (place + w.count - 1) x → 0 < w.count → Lt (places order lawful) (upper order r) (item_upper order x) → same x.value v ≡ true → IsRightEdge order same lawful equal items r v (place + w.count) None (Some x.key.end)
+    right_edge_inside v x read some ends values =
         let total = position_total order.cmp lawful.total in
-        let plus : end + 0 ≡ end = omega arith in
+        let rest = right_rest_cut x read some ends (turned_bound r.end) (known_turned order lawful r.end known.1) (same_turned order lawful r.end) x.value (equal.refl x.value) in
+        let y : Item (AnyRange K) V = record { key = record { start = turned_bound r.end; end = x.key.end }; value = x.value } in
         record {
-          in_range = omega arith;
-          e = item_upper order y;
-          ends = rw at (tied_itself total (item_upper order y));
-          right = rw plus (right_joined (places order lawful) (position_total order.cmp lawful.total) same equal (item_lower order) (item_upper order) (λ i. i.value) items (drop end items) y (upper order r) v rest.right (rest.reaches y refl) values);
+          in_range = window.in_range;
+          e = item_upper order x;
+          ends = tied_itself total (item_upper order x);
+          right = right_joined (places order lawful) (position_total order.cmp lawful.total) same equal (item_lower order) (item_upper order) (λ i. i.value) items (drop (place + w.count) items) y (upper order r) v rest.right (rest.reaches y refl) values;
           known = tt;
+          known_end = (known_at (place + w.count - 1) x (omega (arith, window.in_range)) read).1;
         }
 
-    pub right_edge_rest : (end : ℕ) (v : V) (y : Item (AnyRange K) V) → end ≤ length items → IsRightRest order same lawful equal items r end (Some y) → same y.value v ≡ false → IsRightEdge order same lawful equal items r v end 0 (Some y) None
+    pub right_edge_rest : (end : ℕ) (v : V) (y : Item (AnyRange K) V) → end ≤ length items → IsRightRest order same lawful equal items r end (Some y) → same y.value v ≡ false → IsRightEdge order same lawful equal items r v end (Some y) None
     right_edge_rest end v y within rest values =
         let total = position_total order.cmp lawful.total in
-        let plus : end + 0 ≡ end = omega arith in
         record {
-          in_range = omega arith;
+          in_range = within;
           e = upper order r;
           ends = tied_itself total (upper order r);
-          right = rw plus (right_apart (places order lawful) (position_total order.cmp lawful.total) same equal (item_lower order) (item_upper order) (λ i. i.value) items (y ∷ drop end items) (upper order r) v rest.right
-              (trailing_first (places order lawful) (position_total order.cmp lawful.total) same equal (item_lower order) (item_upper order) (λ i. i.value) y (drop end items) (upper order r) v rest.right.chain (rest.right.starts.0, λ k t. both_truths (same y.value v) (equal.symm y.value v ∙ t) values)));
+          right = right_apart (places order lawful) (position_total order.cmp lawful.total) same equal (item_lower order) (item_upper order) (λ i. i.value) items (y ∷ drop end items) (upper order r) v rest.right
+              (trailing_first (places order lawful) (position_total order.cmp lawful.total) same equal (item_lower order) (item_upper order) (λ i. i.value) y (drop end items) (upper order r) v rest.right.chain (rest.right.starts.0, λ k t. both_truths (same y.value v) (equal.symm y.value v ∙ t) values));
           known = rest.known;
+          known_end = known.1;
         }
 
-    pub right_edge_joined : (end : ℕ) (v : V) (x : Item (AnyRange K) V) (b : Bound K) → end < length items → x ≡ get_or items end x → IsKnownRange order x.key → IsRightRest order same lawful equal items r end None → TouchesAfter order same items end r v → places order lawful (past order (end_position order x.key.end)) (past order (end_position order b)) ≡ Equal → IsRightEdge order same lawful equal items r v end 1 None (Some b)
-    right_edge_joined end v x b within read known_x rest touching ends =
+    pub right_edge_joined : (end : ℕ) (v : V) (x : Item (AnyRange K) V) → end < length items → x ≡ get_or items end x → IsRightRest order same lawful equal items r end None → TouchesAfter order same items end r v → IsRightEdge order same lawful equal items r v (end + 1) None (Some x.key.end)
+    right_edge_joined end v x within read rest touching =
         let total = position_total order.cmp lawful.total in
+        let known_x = known_at end x within read in
         let split : drop end items ≡ x ∷ drop (end + 1) items = drop_more items end x within ∙ ap (λ y. y ∷ drop (end + 1) items) (sym read) in
         let right : Right order lawful same equal items (x ∷ drop (end + 1) items) (upper order r) = subst (λ (ys : List (Item (AnyRange K) V)). Right order lawful same equal items ys (upper order r)) split rest.right in
         let touch : Touches order r x.key × (same v x.value ≡ true) = subst (λ (y : Item (AnyRange K) V). Touches order r y.key × (same v y.value ≡ true)) (sym read) (touching x) in
         record {
           in_range = omega arith;
           e = item_upper order x;
-          ends = tied_back total (past order (end_position order x.key.end)) (past order (end_position order b)) ends;
+          ends = tied_itself total (item_upper order x);
           right = right_joined (places order lawful) (position_total order.cmp lawful.total) same equal (item_lower order) (item_upper order) (λ i. i.value) items (drop (end + 1) items) x (upper order r) v right ((touches_is order lawful r.end x.key known_x right.chain.0 right.starts.0).0 touch.0) (equal.symm x.value v ∙ touch.1);
           known = tt;
+          known_end = known_x.1;
         }
 
     all_trail : (end : ℕ) (v : V) (ys : List (Item (AnyRange K) V)) → Known order lawful same equal ys → Right order lawful same equal items ys (upper order r) → ((d : Item (AnyRange K) V) → 0 < length ys → Touches order r (get_or ys 0 d).key → same v (get_or ys 0 d).value ≡ true → ⊥) → Every (λ i. Trails (places order lawful) (position_total order.cmp lawful.total) same equal (item_lower order) (item_upper order) (λ i. i.value) (upper order r) v i) ys
@@ -234,46 +289,53 @@ module _ {K : Type 0} (order : KeyOrder K) (lawful : IsLawful order) {V : Type 0
     all_trail end v (y ∷ ys) others right none =
         trailing_first (places order lawful) (position_total order.cmp lawful.total) same equal (item_lower order) (item_upper order) (λ i. i.value) y ys (upper order r) v right.chain (right.starts.0, λ k t. none y (omega arith) ((touches_is order lawful r.end y.key others.0 right.chain.0 right.starts.0).1 k) t)
 
-    pub right_edge_none : (end : ℕ) (v : V) → end ≤ length items → IsRightRest order same lawful equal items r end None → TouchesNoneAfter order same items end r v → IsRightEdge order same lawful equal items r v end 0 None None
+    pub right_edge_none : (end : ℕ) (v : V) → end ≤ length items → IsRightRest order same lawful equal items r end None → TouchesNoneAfter order same items end r v → IsRightEdge order same lawful equal items r v end None None
     right_edge_none end v within rest none =
         let total = position_total order.cmp lawful.total in
         let plus : end + 0 ≡ end = omega arith in
         let others = known_drop order lawful same equal items end (stored_known order lawful same equal items stored) in
         record {
-          in_range = omega arith;
+          in_range = within;
           e = upper order r;
           ends = tied_itself total (upper order r);
-          right = rw plus (right_apart (places order lawful) (position_total order.cmp lawful.total) same equal (item_lower order) (item_upper order) (λ i. i.value) items (drop end items) (upper order r) v rest.right
-              (all_trail end v (drop end items) others rest.right (λ d some. let at : get_or (drop end items) 0 d ≡ get_or items end d = get_or-drop end items 0 d ∙ ap (λ n. get_or items n d) plus in rw at (none d (omega (arith, length-drop end items))))));
+          right = right_apart (places order lawful) (position_total order.cmp lawful.total) same equal (item_lower order) (item_upper order) (λ i. i.value) items (drop end items) (upper order r) v rest.right
+              (all_trail end v (drop end items) others rest.right (λ d some. let at : get_or (drop end items) 0 d ≡ get_or items end d = get_or-drop end items 0 d ∙ ap (λ n. get_or items n d) plus in rw at (none d (omega (arith, length-drop end items)))));
           known = tt;
+          known_end = known.1;
         }
 
-    regrouped : (a b c e : List (Item (AnyRange K) V)) (m : Item (AnyRange K) V) → a ++ b ++ (m ∷ []) ++ c ++ e ≡ (a ++ b) ++ m ∷ (c ++ e)
-    regrouped a b c e m = append_assoc (a ++ b ++ (m ∷ [])) c e ∙ append_assoc (a ++ b) (m ∷ []) (c ++ e)
-
     -- the list with the range bound to v
-    pub inserted : (new : List (Item (AnyRange K) V)) (v : V) (m : Item (AnyRange K) V) (from : Option P) (extra extra_behind : ℕ) (left right : Option (Item (AnyRange K) V)) (start finish : Option (Bound K)) (at : ℕ) →
-        (on_left : IsLeftEdge order same lawful equal is_good rank items r v place from extra left start) → IsRightEdge order same lawful equal items r v (place + w.count) extra_behind right finish →
-        IsKnownRange order m.key → item_lower order m ≡ edge_start order same start r → item_upper order m ≡ edge_end order same finish r → m.value ≡ v → at ≡ on_left.at →
-        new ≡ take at items ++ option_items left ++ option_items (Some m) ++ option_items right ++ drop (at + (extra + w.count + extra_behind)) items →
-        IsStored order same new × IsBoundAfter order same items new r v
-    inserted new v m from extra extra_behind left right start finish at on_left on_right known_m starts ends values at_is changed =
+    pub inserted : (new : List (Item (AnyRange K) V)) (v : V) (m : Item (AnyRange K) V) (at end : ℕ) (left right : Option (Item (AnyRange K) V)) (start finish : Option (Bound K)) →
+        IsLeftEdge order same lawful equal items r v at left start → IsRightEdge order same lawful equal items r v end right finish →
+        m.key.start ≡ unwrap_or start r.start → m.key.end ≡ unwrap_or finish r.end → same m.value v ≡ true →
+        new ≡ take at items ++ option_items left ++ option_items (Some m) ++ option_items right ++ drop end items →
+        IsInserted order same items new r v
+    inserted new v m at end left right start finish on_left on_right starts ends values changed =
         let all = stored_known order lawful same equal items stored in
-        let skip : on_left.at + (extra + w.count + extra_behind) ≡ place + w.count + extra_behind = omega (arith, on_left.sum) in
-        let front = take on_left.at items ++ option_items left in
-        let behind = option_items right ++ drop (place + w.count + extra_behind) items in
-        let list : new ≡ front ++ m ∷ behind = changed ∙ (rw (at_is, skip) (regrouped (take on_left.at items) (option_items left) (option_items right) (drop (place + w.count + extra_behind) items) m)) in
-        let value_is : same m.value v ≡ true = rw values (equal.refl v) in
-        let result = bound (places order lawful) (position_total order.cmp lawful.total) same equal (item_lower order) (item_upper order) (λ i. i.value) items front behind m (lower order r) (upper order r) on_left.s on_right.e v on_left.left on_right.right good (rw starts on_left.starts) (rw ends on_right.ends) value_is in
+        let front = take at items ++ option_items left in
+        let behind = option_items right ++ drop end items in
+        let list : new ≡ front ++ m ∷ behind = changed ∙ sym (regrouped (take at items) (option_items left) (option_items right) (drop end items) m) in
+        let at_start : places order lawful (item_lower order m) on_left.s ≡ Equal = rw starts (rw (edge_start_is order same start r) on_left.starts) in
+        let at_end : places order lawful (item_upper order m) on_right.e ≡ Equal = rw ends (rw (edge_end_is order same finish r) on_right.ends) in
+        let result = bound (places order lawful) (position_total order.cmp lawful.total) same equal (item_lower order) (item_upper order) (λ i. i.value) items front behind m (lower order r) (upper order r) on_left.s on_right.e v on_left.left on_right.right good at_start at_end values in
+        let known_m : IsKnownRange order m.key = (rw starts on_left.known_start, rw ends on_right.known_end) in
         let others = every_append _ front (m ∷ behind)
-        (every_append _ (take on_left.at items) (option_items left) (known_take order lawful same equal items on_left.at all) on_left.known)
-        (known_m, every_append _ (option_items right) (drop (place + w.count + extra_behind) items) on_right.known (known_drop order lawful same equal items (place + w.count + extra_behind) all)) in
-        rw list (chain_stored order lawful same equal (front ++ m ∷ behind) others result.chain, bound_after order lawful same equal items (front ++ m ∷ behind) r v known all others result)
+        (every_append _ (take at items) (option_items left) (known_take order lawful same equal items at all) on_left.known)
+        (known_m, every_append _ (option_items right) (drop end items) on_right.known (known_drop order lawful same equal items end all)) in
+        rw list (record { stored = chain_stored order lawful same equal (front ++ m ∷ behind) others result.chain; bound = bound_after order lawful same equal items (front ++ m ∷ behind) r v known all others result })
 
-pub edge_start_is : {K : Type 0} (order : KeyOrder K) {V : Type 0} (same : V → V → Bool) (o : Option (Bound K)) (r : AnyRange K) → start_position order (unwrap_or o r.start) ≡ edge_start order same o r
-edge_start_is order same None r = refl
-edge_start_is order same (Some b) r = refl
-
-pub edge_end_is : {K : Type 0} (order : KeyOrder K) {V : Type 0} (same : V → V → Bool) (o : Option (Bound K)) (r : AnyRange K) → past order (end_position order (unwrap_or o r.end)) ≡ edge_end order same o r
-edge_end_is order same None r = refl
-edge_end_is order same (Some b) r = refl
+    -- the list with the range unbound
+    pub removed : (new : List (Item (AnyRange K) V)) (at end : ℕ) (left right : Option (Item (AnyRange K) V)) →
+        IsLeftRest order same lawful equal items r at left → IsRightRest order same lawful equal items r end right →
+        new ≡ take at items ++ option_items left ++ [] ++ option_items right ++ drop end items →
+        IsRemoved order same items new r
+    removed new at end left right on_left on_right changed =
+        let all = stored_known order lawful same equal items stored in
+        let front = take at items ++ option_items left in
+        let behind = option_items right ++ drop end items in
+        let list : new ≡ front ++ behind = changed ∙ sym (regrouped_out (take at items) (option_items left) (option_items right) (drop end items)) in
+        let result = unbound (places order lawful) (position_total order.cmp lawful.total) same equal (item_lower order) (item_upper order) (λ i. i.value) items front behind (lower order r) (upper order r) on_left.left on_right.right good in
+        let others = every_append _ front behind
+        (every_append _ (take at items) (option_items left) (known_take order lawful same equal items at all) on_left.known)
+        (every_append _ (option_items right) (drop end items) on_right.known (known_drop order lawful same equal items end all)) in
+        rw list (record { stored = chain_stored order lawful same equal (front ++ behind) others result.chain; unbound = unbound_after order lawful same equal items (front ++ behind) r known all others result })

@@ -137,6 +137,19 @@ module _ {K : Type 0} (order : KeyOrder K) (lawful : IsLawful order) {V : Type 0
       let split : items ≡ take place items ++ x ∷ drop (place + 1) items = parts items place ∙ ap (λ ys. take place items ++ ys) more in
       λ h. not_bound (take place items ++ x ∷ drop (place + 1) items) k none (rw split at h)
 
+  -- an item that starts past the key does not hold it
+  pub past_not : (x : Item (AnyRange K) V) (k : K) → order.is_key k → true ≡ is_gt (places order lawful (Start x) (Beside k At)) → Holds order x.key k → ⊥
+  past_not x k key past held =
+      let le : is_gt (places order lawful (Start x) (Beside k At)) ≡ false = ((holds_by_position order lawful x.key k key).0 held).0 in
+      let clash : true ≡ false = past ∙ le in cc
+
+  -- one that starts at it at most and does not end before it does
+  pub holds_at : (items : List (Item (AnyRange K) V)) (k : K) (place : ℕ) (x : Item (AnyRange K) V) → order.is_key k → place < length items → x ≡ get_or items place x → Every (λ i. Le (places order lawful) (Beside k At) (End i)) (drop place items) → false ≡ is_gt (places order lawful (Start x) (Beside k At)) → Holds order x.key k
+  holds_at items k place x key within read above starts =
+      let more : drop place items ≡ x ∷ drop (place + 1) items = drop_more items place x within ∙ ap (λ y. y ∷ drop (place + 1) items) (sym read) in
+      let ends : Every (λ i. Le (places order lawful) (Beside k At) (End i)) (x ∷ drop (place + 1) items) = rw more at above in
+      (holds_by_position order lawful x.key k key).1 (sym starts, ends.0)
+
   pub bound_at : (items : List (Item (AnyRange K) V)) (k : K) (place : ℕ) (x : Item (AnyRange K) V) → IsEquivalence same → place < length items → x ≡ get_or items place x → Holds order x.key k → BindsTo order same items k x.value
   bound_at [] k place x equal within read held = absurd (omega arith)
   bound_at (i ∷ rest) k zero x equal within read held = let at : x ≡ i = read in rw (← at) (inl (held, equal.refl x.value))

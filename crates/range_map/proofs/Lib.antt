@@ -1,10 +1,10 @@
 pub mod CutOut
 pub mod CutParts
 pub mod Edging
-pub mod Edits
 pub mod Forms
 pub mod Found
-pub mod Frames
 pub mod Histories
+pub mod Openings
+pub mod Planning
 pub mod Replies
 pub mod Windows

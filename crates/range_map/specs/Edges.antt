@@ -1,5 +1,5 @@
 -- How a range that is bound joins what stands beside it.
-use Rattle.std.specs.Prelude.{◌≡◌, ℕ, ◌+◌, ◌-◌, ◌<◌, ◌≤◌, Bool, true, IsTrue, List, [], ◌∷◌, ◌++◌, length, take, drop, slice_index_or, Option, Some, None}
+use Rattle.std.specs.Prelude.{◌≡◌, ℕ, ◌+◌, ◌-◌, ◌<◌, ◌≤◌, Bool, true, IsTrue, List, [], ◌∷◌, ◌++◌, length, take, drop, slice_index_or, slice_set, Option, Some, None, ⊤}
 use Rattle.std.specs.declared.ops.Bound.{Bound}
 use Rattle.std.specs.declared.cmp.Ordering.TheVariants.{Equal}
 use Rattle.std.specs.Cmp.{IsEquivalence}
@@ -7,7 +7,12 @@ use Rattle.range_keys.specs.Order.{KeyOrder, IsLawful}
 use Rattle.range_keys.specs.Position.{start_position, end_position, position_cmp}
 use Rattle.range_keys.specs.PositionOrder.{position_total}
 use Rattle.range_keys.specs.declared.inner.position.Position.{Position}
-use Rattle.range_algebra.specs.Range.{IsKnownRange}
+use Rattle.range_algebra.specs.Range.{IsKnownRange, IsKnownBound}
+use Rattle.std.specs.Option.{unwrap_or}
+use Rattle.std.specs.declared.ops.Bound.TheVariants.{Unbounded}
+use Rattle.range_map.specs.declared.edges.Edge.{Edge}
+use Rattle.range_map.specs.declared.edges.Edge.TheVariants.{Plain, Cut, Joined}
+use Rattle.range_map.specs.Edits.{with_start, with_end}
 use Rattle.range_algebra.specs.declared.any.AnyRange.{AnyRange}
 use Rattle.range_store.specs.declared.storage.Item.{Item}
 use Rattle.range_store.specs.Places.{IsAt}
@@ -55,20 +60,60 @@ module _ {K : Type 0} (order : KeyOrder K) {V : Type 0} (same : V → V → Bool
       pub known : Every (λ i. IsKnownRange order i.key) (option_items rest)
       pub reaches : (y : Item (AnyRange K) V) → rest ≡ Some y → Le (position_cmp order.cmp) (item_lower order y) (upper order r)
 
-    -- what stands before the range when it is bound to v
-    pub record IsLeftEdge {P : Type 0} (is_good : P → Type 0) (rank : P → ℕ) (items : List (Item (AnyRange K) V)) (r : AnyRange K) (v : V) (place : ℕ) (from : Option P) (extra : ℕ) (rest : Option (Item (AnyRange K) V)) (start : Option (Bound K)) : Type 0 where
-      pub at : ℕ
-      pub sum : at + extra ≡ place
-      pub position : IsAt is_good rank (length items) from at
+    -- what stands before the range when it is bound to v: the first `at` items and a rest, behind which the range starts at `start`
+    pub record IsLeftEdge (items : List (Item (AnyRange K) V)) (r : AnyRange K) (v : V) (at : ℕ) (rest : Option (Item (AnyRange K) V)) (start : Option (Bound K)) : Type 0 where
       pub s : Position K
       pub starts : position_cmp order.cmp (edge_start start r) s ≡ Equal
       pub left : IsLeftOf (position_cmp order.cmp) (position_total order.cmp lawful.total) same equal (item_lower order) (item_upper order) (λ i. i.value) items (take at items ++ option_items rest) (lower order r) s v
       pub known : Every (λ i. IsKnownRange order i.key) (option_items rest)
+      pub known_start : IsKnownBound order (unwrap_or start r.start)
 
     -- what stands behind it
-    pub record IsRightEdge (items : List (Item (AnyRange K) V)) (r : AnyRange K) (v : V) (end extra : ℕ) (rest : Option (Item (AnyRange K) V)) (finish : Option (Bound K)) : Type 0 where
-      pub in_range : end + extra ≤ length items
+    pub record IsRightEdge (items : List (Item (AnyRange K) V)) (r : AnyRange K) (v : V) (end : ℕ) (rest : Option (Item (AnyRange K) V)) (finish : Option (Bound K)) : Type 0 where
+      pub in_range : end ≤ length items
       pub e : Position K
       pub ends : position_cmp order.cmp (edge_end finish r) e ≡ Equal
-      pub right : IsRightOf (position_cmp order.cmp) (position_total order.cmp lawful.total) same equal (item_lower order) (item_upper order) (λ i. i.value) items (option_items rest ++ drop (end + extra) items) (upper order r) e v
+      pub right : IsRightOf (position_cmp order.cmp) (position_total order.cmp lawful.total) same equal (item_lower order) (item_upper order) (λ i. i.value) items (option_items rest ++ drop end items) (upper order r) e v
       pub known : Every (λ i. IsKnownRange order i.key) (option_items rest)
+      pub known_end : IsKnownBound order (unwrap_or finish r.end)
+
+module _ {K P : Type 0} where
+  -- how many items an edge adds to those that give way
+  abbrev pub joined_count : Edge K P → ℕ
+  joined_count Plain = 0
+  joined_count (Cut p b) = 0
+  joined_count (Joined p) = 1
+
+  -- an item that is cut at the bound, if there is one
+  abbrev pub edge_at : Option P → Bound K → Edge K P
+  edge_at None b = Plain
+  edge_at (Some p) b = Cut p b
+
+  abbrev pub IsGoodEdge : (P → Type 0) → Edge K P → Type 0
+  IsGoodEdge is_good Plain = ⊤
+  IsGoodEdge is_good (Cut p b) = is_good p
+  IsGoodEdge is_good (Joined p) = is_good p
+
+  module _ {V : Type 0} where
+    -- how an edge before a range changes the items, and the start that it gives the range
+    abbrev pub IsLeftEdited : (P → ℕ) → List (Item (AnyRange K) V) → List (Item (AnyRange K) V) → Edge K P → Option (Bound K) → Type 0
+    IsLeftEdited rank items new Plain start = (new ≡ items) × (start ≡ None)
+    IsLeftEdited rank items new (Cut p b) start = ((d : Item (AnyRange K) V) → new ≡ slice_set items (rank p) (with_end (slice_index_or items (rank p) d) b)) × (start ≡ None)
+    IsLeftEdited rank items new (Joined p) start = (d : Item (AnyRange K) V) → (new ≡ slice_set items (rank p) (with_start (slice_index_or items (rank p) d) Unbounded)) × (start ≡ Some (slice_index_or items (rank p) d).key.start)
+
+    abbrev pub IsRightEdited : (P → ℕ) → List (Item (AnyRange K) V) → List (Item (AnyRange K) V) → Edge K P → Option (Bound K) → Type 0
+    IsRightEdited rank items new Plain finish = (new ≡ items) × (finish ≡ None)
+    IsRightEdited rank items new (Cut p b) finish = ((d : Item (AnyRange K) V) → new ≡ slice_set items (rank p) (with_start (slice_index_or items (rank p) d) b)) × (finish ≡ None)
+    IsRightEdited rank items new (Joined p) finish = (d : Item (AnyRange K) V) → (new ≡ slice_set items (rank p) (with_end (slice_index_or items (rank p) d) Unbounded)) × (finish ≡ Some (slice_index_or items (rank p) d).key.end)
+
+    -- `at` items and a rest stand before the run, which begins at `from`
+    abbrev pub IsLeftShape : (P → Type 0) → (P → ℕ) → List (Item (AnyRange K) V) → Edge K P → ℕ → ℕ → Option (Item (AnyRange K) V) → Option (Bound K) → Type 0
+    IsLeftShape is_good rank items Plain at from rest start = (from ≡ at) × (rest ≡ None) × (start ≡ None)
+    IsLeftShape is_good rank items (Cut p b) at from rest start = is_good p × (rank p ≡ at) × (from ≡ at + 1) × (start ≡ None) × ((x : Item (AnyRange K) V) × (x ≡ slice_index_or items at x) × (rest ≡ Some (with_end x b)))
+    IsLeftShape is_good rank items (Joined p) at from rest start = is_good p × (rank p ≡ at) × (from ≡ at) × (rest ≡ None) × ((x : Item (AnyRange K) V) × (x ≡ slice_index_or items at x) × (start ≡ Some x.key.start))
+
+    -- a rest and the items from `end` on stand behind the run, which ends at `upto`
+    abbrev pub IsRightShape : (P → Type 0) → (P → ℕ) → List (Item (AnyRange K) V) → Edge K P → ℕ → ℕ → Option (Item (AnyRange K) V) → Option (Bound K) → Type 0
+    IsRightShape is_good rank items Plain upto end rest finish = (upto ≡ end) × (rest ≡ None) × (finish ≡ None)
+    IsRightShape is_good rank items (Cut p b) upto end rest finish = is_good p × (rank p ≡ upto) × (end ≡ upto + 1) × (finish ≡ None) × ((x : Item (AnyRange K) V) × (x ≡ slice_index_or items upto x) × (rest ≡ Some (with_start x b)))
+    IsRightShape is_good rank items (Joined p) upto end rest finish = is_good p × (rank p + 1 ≡ upto) × (upto ≡ end) × (rest ≡ None) × ((x : Item (AnyRange K) V) × (x ≡ slice_index_or items (rank p) x) × (finish ≡ Some x.key.end))

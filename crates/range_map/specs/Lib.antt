@@ -1,7 +1,11 @@
 pub mod Bindings
+pub mod Changes
 pub mod Edges
+pub mod Edits
 pub mod History
 pub mod ItemCuts
+pub mod Plans
+pub mod Reach
 pub mod Runs
 pub mod Stored
 pub mod Window

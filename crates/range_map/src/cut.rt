@@ -1,23 +1,24 @@
-//! What is left of an item that a range cuts.
-ghost use Rattle.std.specs.Prelude.{◌≡◌, IfOk};
+//! Where a range cuts a stored item, and the bound that the item then has.
+ghost use Rattle.std.specs.Prelude.{◌≡◌, ◌↔◌, IfOk, IsTrue};
 ghost use Rattle.std.specs.Option.{option_map};
 ghost use Rattle.std.specs.Range.Bound.{bound_map};
-ghost use Rattle.range_algebra.specs.Range.{ClonesAreEqual};
+ghost use Rattle.range_keys.specs.Order.{IsLawful};
+ghost use Rattle.range_keys.specs.Position.{position_cmp};
 ghost use Rattle.range_algebra.specs.Clones.{IsBoundClone};
-ghost use Rattle.range_keys.specs.Position.{position_cmp, start_position, end_position};
-ghost use Rattle.std.specs.Ordering.{is_gt};
 ghost use Rattle.range_algebra.specs.Compared.{inverted};
-ghost use Rattle.range_map.specs.Window.{IsLeftPart, IsRightPart};
+ghost use Rattle.range_algebra.specs.Cuts.{lower, upper};
+ghost use Rattle.range_algebra.specs.Intervals.{Lt};
+ghost use Rattle.range_algebra.specs.Range.{IsKnownBound};
+ghost use Rattle.range_map.specs.Edits.{turned_bound};
 
-use range_algebra::any::{AnyRange, clone_bound};
+use range_algebra::any::AnyRange;
 use range_keys::inner::position::{compare_positions, position_of_end, position_of_start};
 use range_keys::traits::PartialEnum;
-use range_store::storage::Item;
 use std::alloc::AllocError;
 use std::ops::{Bound, RangeBounds};
 
 /// The bound just past a bound, on its other side.
-pub fn invert<K>(bound: Bound<&K>) -> Option<Bound<&K>>
+fn invert<K>(bound: Bound<&K>) -> Option<Bound<&K>>
     ensures { option_map (bound_map (λ x. x.now)) result ≡ inverted (bound_map (λ x. x.now) bound.entry) }
 {
     match bound {
@@ -27,74 +28,61 @@ pub fn invert<K>(bound: Bound<&K>) -> Option<Bound<&K>>
     }
 }
 
-/// What is left of an item below a range.
-pub fn left_part<K: PartialEnum + Clone, V: Eq + Clone>(
-    item: &Item<AnyRange<K>, V>,
-    range: &AnyRange<K>,
-) -> Result<Option<Item<AnyRange<K>, V>>, AllocError>
-    requires keys { ClonesAreEqual K.is_clone K.eq }
-    requires values { ClonesAreEqual V.is_clone V.eq }
-    ensures { IfOk result (λ left. IsLeftPart K.order V.eq item.now range.now left) }
+/// The bound on the other side of a bound: what it includes is excluded, and the other way round.
+pub(crate) fn turned<K>(bound: Bound<K>) -> Bound<K>
+    ensures { result ≡ turned_bound bound }
 {
-    item.key.known();
-    range.known();
-    match invert(range.start_bound()) {
-        None => Ok(None),
-        Some(end) => {
-            if starts_after_end(item.key.start_bound(), end) {
-                return Ok(None);
-            }
-            let key = AnyRange {
-                start: clone_bound(&item.key.start)?,
-                end: copied_bound(end)?,
-            };
-            key.known();
-            Ok(Some(Item::new(key, item.value.clone()?)))
-        }
+    match bound {
+        Bound::Included(key) => Bound::Excluded(key),
+        Bound::Excluded(key) => Bound::Included(key),
+        Bound::Unbounded => Bound::Unbounded,
     }
 }
 
-/// What is left of an item above a range.
-pub fn right_part<K: PartialEnum + Clone, V: Eq + Clone>(
-    item: &Item<AnyRange<K>, V>,
-    range: &AnyRange<K>,
-) -> Result<Option<Item<AnyRange<K>, V>>, AllocError>
-    requires keys { ClonesAreEqual K.is_clone K.eq }
-    requires values { ClonesAreEqual V.is_clone V.eq }
-    ensures { IfOk result (λ right. IsRightPart K.order V.eq item.now range.now right) }
-{
-    item.key.known();
-    range.known();
-    match invert(range.end_bound()) {
-        None => Ok(None),
-        Some(start) => {
-            if starts_after_end(start, item.key.end_bound()) {
-                return Ok(None);
-            }
-            let key = AnyRange {
-                start: copied_bound(start)?,
-                end: clone_bound(&item.key.end)?,
-            };
-            key.known();
-            Ok(Some(Item::new(key, item.value.clone()?)))
-        }
-    }
-}
-
-/// Whether a start lies past an end.
-fn starts_after_end<K: PartialEnum>(start: Bound<&K>, end: Bound<&K>) -> bool
-    ensures { result ≡ is_gt (position_cmp K.order.cmp (start_position K.order (bound_map (λ x. x.now) start.entry)) (end_position K.order (bound_map (λ x. x.now) end.entry))) }
-{
-    compare_positions(&position_of_start(start), &position_of_end(end)).is_gt()
-}
-
-/// A clone of the key behind a bound, in a bound of the same kind.
-fn copied_bound<K: Clone>(bound: Bound<&K>) -> Result<Bound<K>, AllocError>
-    ensures { IfOk result (λ copy. IsBoundClone K.is_clone (bound_map (λ x. x.now) bound.entry) copy) }
+/// A clone of the bound on the other side of a bound.
+pub(crate) fn turned_clone<K: Clone>(bound: &Bound<K>) -> Result<Bound<K>, AllocError>
+    ensures { IfOk result (λ copy. IsBoundClone K.is_clone (turned_bound bound.now) copy) }
 {
     Ok(match bound {
-        Bound::Included(key) => Bound::Included(key.clone()?),
-        Bound::Excluded(key) => Bound::Excluded(key.clone()?),
+        Bound::Included(key) => Bound::Excluded(key.clone()?),
+        Bound::Excluded(key) => Bound::Included(key.clone()?),
         Bound::Unbounded => Bound::Unbounded,
     })
+}
+
+/// Does nothing, and promises that the bound is a key.
+pub(crate) fn known_bound<K: PartialEnum>(bound: &Bound<K>)
+    ensures { IsKnownBound K.order bound.now }
+{
+    match bound {
+        Bound::Included(key) | Bound::Excluded(key) => key.known(),
+        Bound::Unbounded => (),
+    }
+}
+
+/// Whether the first range starts before the second.
+pub(crate) fn starts_before<K: PartialEnum>(first: &AnyRange<K>, second: &AnyRange<K>) -> bool
+    ensures { IsTrue result ↔ Lt (position_cmp K.order.cmp) (lower K.order first.now) (lower K.order second.now) }
+{
+    compare_positions(
+        &position_of_start(first.start_bound()),
+        &position_of_start(second.start_bound()),
+    )
+    .is_lt()
+}
+
+/// Whether the first range ends after the second.
+pub(crate) fn ends_after<K: PartialEnum>(first: &AnyRange<K>, second: &AnyRange<K>) -> bool
+    ensures { IsTrue result ↔ Lt (position_cmp K.order.cmp) (upper K.order second.now) (upper K.order first.now) }
+{
+    first.known();
+    second.known();
+    match invert(second.end_bound()) {
+        None => false,
+        Some(start) => !compare_positions(
+            &position_of_start(start),
+            &position_of_end(first.end_bound()),
+        )
+        .is_gt(),
+    }
 }

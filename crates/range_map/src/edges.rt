@@ -1,4 +1,4 @@
-//! How a range that is bound joins what stands beside it.
+//! What a range that is bound leaves or joins on each side.
 ghost use Rattle.std.specs.Prelude.{◌≡◌, ◌+◌, length, IfOk, MatchOption};
 ghost use Rattle.std.specs.Cmp.{IsEquivalence};
 ghost use Rattle.range_keys.specs.Order.{IsLawful};
@@ -8,11 +8,13 @@ ghost use Rattle.range_algebra.specs.Range.{ClonesAreEqual, IsEmptyRange};
 ghost use Rattle.range_store.specs.Places.{place_before};
 ghost use Rattle.range_map.specs.Stored.{IsStored};
 ghost use Rattle.range_map.specs.Window.{IsWindow};
-ghost use Rattle.range_map.specs.Edges.{IsLeftRest, IsRightRest, IsLeftEdge, IsRightEdge, TouchesBefore, TouchesNoneBefore, TouchesAfter, TouchesNoneAfter};
+ghost use Rattle.range_map.specs.Reach.{ReachesBefore, ReachesBehind};
+ghost use Rattle.range_map.specs.Edges.{joined_count, edge_at, TouchesBefore, TouchesNoneBefore, TouchesAfter, TouchesNoneAfter};
+ghost use Rattle.range_map.specs.Plans.{IsLeftPlan, IsRightPlan};
 
-use crate::cut::{left_part, right_part};
+use crate::cut::{known_bound, turned_clone};
 use crate::window::Window;
-use range_algebra::any::{AnyRange, clone_bound};
+use range_algebra::any::AnyRange;
 use range_algebra::ordering::starts_at_end;
 use range_keys::inner::position::position_of_start;
 use range_keys::traits::PartialEnum;
@@ -20,70 +22,42 @@ use range_store::storage::{Item, Storage};
 use std::alloc::AllocError;
 use std::ops::{Bound, RangeBounds};
 
-/// What a bound range leaves or joins before it.
+/// What becomes of an item at one side of a range.
 #[derive(Drop)]
-pub struct LeftEdge<K, V, P: Copy> {
-    /// The first item that gives way.
+pub enum Edge<K, P: Copy> {
+    /// Nothing stands there that the range cuts or joins.
+    Plain,
+    /// The item is shortened to this bound.
+    Cut(P, Bound<K>),
+    /// The item becomes one with the range.
+    Joined(P),
+}
+
+/// The side before a range, and the first item that gives way.
+#[derive(Drop)]
+pub struct LeftSide<K, P: Copy> {
+    pub edge: Edge<K, P>,
     pub from: Option<P>,
-    /// Whether an item before the window gives way too.
-    pub extra: usize,
-    /// What is left of a cut item.
-    pub rest: Option<Item<AnyRange<K>, V>>,
-    /// The start of the item that the range joins.
-    pub start: Option<Bound<K>>,
 }
 
-/// What a bound range leaves or joins behind it.
-#[derive(Drop)]
-pub struct RightEdge<K, V> {
-    /// Whether an item behind the window gives way too.
-    pub extra: usize,
-    /// What is left of a cut item.
-    pub rest: Option<Item<AnyRange<K>, V>>,
-    /// The end of the item that the range joins.
-    pub end: Option<Bound<K>>,
-}
-
-/// What the first item of a window leaves before the range.
-pub fn left_rest<K: PartialEnum + Clone, V: Eq + Clone, C: Storage<Item<AnyRange<K>, V>>>(
-    stored: &C,
-    window: &Window<C::Position>,
-    range: &AnyRange<K>,
-) -> Result<Option<Item<AnyRange<K>, V>>, AllocError>
-    requires keys { ClonesAreEqual K.is_clone K.eq }
-    requires values { ClonesAreEqual V.is_clone V.eq }
-    requires stored { IsStored K.order V.eq (C.items stored.now) }
-    requires nonempty { ¬ IsEmptyRange K.order range.now }
-    requires window { IsWindow K.order (C.is_good stored.now) (C.rank stored.now) (C.items stored.now) range.now window.now (place_before (C.rank stored.now) (length (C.items stored.now)) window.now.from) }
-    ensures { IfOk result (λ rest. (lawful : IsLawful K.order) → (equal : IsEquivalence V.eq) → IsLeftRest K.order V.eq lawful equal (C.items stored.now) range.now (place_before (C.rank stored.now) (length (C.items stored.now)) window.now.from) rest) }
+/// How many items an edge adds to those that give way.
+pub(crate) fn joined_items<K, P: Copy>(edge: &Edge<K, P>) -> usize
+    ensures { result ≡ joined_count edge.now }
 {
-    range.known();
-    if window.count == 0 {
-        return Ok(None);
-    }
-    match window.from {
-        Some(first) => left_part::<K, V>(stored.get(first), range),
-        None => Ok(None),
+    match edge {
+        Edge::Plain => 0,
+        Edge::Cut(_, _) => 0,
+        Edge::Joined(_) => 1,
     }
 }
 
-/// What the last item of a window leaves behind the range.
-pub fn right_rest<K: PartialEnum + Clone, V: Eq + Clone, C: Storage<Item<AnyRange<K>, V>>>(
-    stored: &C,
-    window: &Window<C::Position>,
-    range: &AnyRange<K>,
-) -> Result<Option<Item<AnyRange<K>, V>>, AllocError>
-    requires keys { ClonesAreEqual K.is_clone K.eq }
-    requires values { ClonesAreEqual V.is_clone V.eq }
-    requires stored { IsStored K.order V.eq (C.items stored.now) }
-    requires nonempty { ¬ IsEmptyRange K.order range.now }
-    requires window { IsWindow K.order (C.is_good stored.now) (C.rank stored.now) (C.items stored.now) range.now window.now (place_before (C.rank stored.now) (length (C.items stored.now)) window.now.from) }
-    ensures { IfOk result (λ rest. (lawful : IsLawful K.order) → (equal : IsEquivalence V.eq) → IsRightRest K.order V.eq lawful equal (C.items stored.now) range.now (place_before (C.rank stored.now) (length (C.items stored.now)) window.now.from + window.now.count) rest) }
+/// What becomes of an item that a range cuts at the bound, where there is one.
+pub(crate) fn cut_edge<K: Drop, P: Copy>(item: Option<P>, bound: Bound<K>) -> Edge<K, P>
+    ensures { result ≡ edge_at item bound }
 {
-    range.known();
-    match window.last {
-        Some(last) => right_part::<K, V>(stored.get(last), range),
-        None => Ok(None),
+    match item {
+        Some(p) => Edge::Cut(p, bound),
+        None => Edge::Plain,
     }
 }
 
@@ -95,7 +69,7 @@ fn touches<K: PartialEnum>(first: &AnyRange<K>, second: &AnyRange<K>) -> bool
 }
 
 /// The item just before a window, if the range touches it and has an equal value.
-pub fn joined_before<K: PartialEnum, V: Eq + Drop, C: Storage<Item<AnyRange<K>, V>>>(
+fn joined_before<K: PartialEnum, V: Eq + Drop, C: Storage<Item<AnyRange<K>, V>>>(
     stored: &C,
     window: &Window<C::Position>,
     range: &AnyRange<K>,
@@ -119,7 +93,7 @@ pub fn joined_before<K: PartialEnum, V: Eq + Drop, C: Storage<Item<AnyRange<K>, 
 }
 
 /// The item just behind a window, if the range touches it and has an equal value.
-pub fn joined_after<K: PartialEnum, V: Eq + Drop, C: Storage<Item<AnyRange<K>, V>>>(
+fn joined_after<K: PartialEnum, V: Eq + Drop, C: Storage<Item<AnyRange<K>, V>>>(
     stored: &C,
     window: &Window<C::Position>,
     range: &AnyRange<K>,
@@ -139,5 +113,90 @@ pub fn joined_after<K: PartialEnum, V: Eq + Drop, C: Storage<Item<AnyRange<K>, V
                 None
             }
         }
+    }
+}
+
+/// What a bound range leaves or joins before it; `first` is the item that reaches out of it there.
+pub(crate) fn left_side<K: PartialEnum + Clone, V: Eq + Drop, C: Storage<Item<AnyRange<K>, V>>>(
+    stored: &C,
+    window: &Window<C::Position>,
+    first: Option<C::Position>,
+    range: &AnyRange<K>,
+    value: &V,
+) -> Result<LeftSide<K, C::Position>, AllocError>
+    requires keys { ClonesAreEqual K.is_clone K.eq }
+    requires stored { IsStored K.order V.eq (C.items stored.now) }
+    requires nonempty { ¬ IsEmptyRange K.order range.now }
+    requires window { IsWindow K.order (C.is_good stored.now) (C.rank stored.now) (C.items stored.now) range.now window.now (place_before (C.rank stored.now) (length (C.items stored.now)) window.now.from) }
+    requires first { ReachesBefore K.order (C.is_good stored.now) (C.rank stored.now) (C.items stored.now) range.now (place_before (C.rank stored.now) (length (C.items stored.now)) window.now.from) window.now.count first }
+    ensures { IfOk result (λ side. (lawful : IsLawful K.order) → (equal : IsEquivalence V.eq) → IsLeftPlan K.order V.eq lawful equal (C.is_good stored.now) (C.rank stored.now) (C.items stored.now) range.now value.now (place_before (C.rank stored.now) (length (C.items stored.now)) window.now.from) first side.edge side.from) }
+{
+    range.known();
+    match first {
+        Some(first) => {
+            let item = stored.get(first);
+            item.key.known();
+            let joins = item.value == *value;
+            if joins {
+                return Ok(LeftSide {
+                    edge: Edge::Joined(first),
+                    from: Some(first),
+                });
+            }
+            let end = turned_clone(&range.start)?;
+            known_bound(&end);
+            Ok(LeftSide {
+                edge: Edge::Cut(first, end),
+                from: stored.next(first),
+            })
+        }
+        None => match joined_before::<K, V, C>(stored, window, range, value) {
+            Some(before) => Ok(LeftSide {
+                edge: Edge::Joined(before),
+                from: Some(before),
+            }),
+            None => Ok(LeftSide {
+                edge: Edge::Plain,
+                from: window.from,
+            }),
+        },
+    }
+}
+
+/// What a bound range leaves or joins behind it; `last` is the item that reaches out of it there.
+pub(crate) fn right_side<K: PartialEnum + Clone, V: Eq + Drop, C: Storage<Item<AnyRange<K>, V>>>(
+    stored: &C,
+    window: &Window<C::Position>,
+    last: Option<C::Position>,
+    range: &AnyRange<K>,
+    value: &V,
+) -> Result<Edge<K, C::Position>, AllocError>
+    requires keys { ClonesAreEqual K.is_clone K.eq }
+    requires stored { IsStored K.order V.eq (C.items stored.now) }
+    requires nonempty { ¬ IsEmptyRange K.order range.now }
+    requires window { IsWindow K.order (C.is_good stored.now) (C.rank stored.now) (C.items stored.now) range.now window.now (place_before (C.rank stored.now) (length (C.items stored.now)) window.now.from) }
+    requires last { ReachesBehind K.order (C.is_good stored.now) (C.rank stored.now) (C.items stored.now) range.now (place_before (C.rank stored.now) (length (C.items stored.now)) window.now.from) window.now.count last }
+    ensures { IfOk result (λ edge. (lawful : IsLawful K.order) → (equal : IsEquivalence V.eq) → IsRightPlan K.order V.eq lawful equal (C.is_good stored.now) (C.rank stored.now) (C.items stored.now) range.now value.now (place_before (C.rank stored.now) (length (C.items stored.now)) window.now.from + window.now.count) last edge) }
+{
+    range.known();
+    match last {
+        Some(last) => {
+            let item = stored.get(last);
+            item.key.known();
+            let joins = item.value == *value;
+            if joins {
+                return Ok(Edge::Joined(last));
+            }
+            let start = turned_clone(&range.end)?;
+            known_bound(&start);
+            Ok(Edge::Cut(last, start))
+        }
+        None => match joined_after::<K, V, C>(stored, window, range, value) {
+            Some(after) => {
+                stored.get(after).key.known();
+                Ok(Edge::Joined(after))
+            }
+            None => Ok(Edge::Plain),
+        },
     }
 }

@@ -4,7 +4,10 @@ ghost use Rattle.std.specs.Option.{option_copied};
 ghost use Rattle.range_map.specs.Stored.{IsStored};
 ghost use Rattle.range_map.specs.Bindings.{Binds};
 
-use crate::window::find;
+pub use crate::command::{Command, Reply, answer, run};
+pub use crate::error::MapError;
+
+use crate::window::{find, starts_past};
 use range_algebra::any::AnyRange;
 use range_keys::inner::position::{KeyRef, Position, Side};
 use range_keys::traits::PartialEnum;
@@ -30,6 +33,7 @@ impl<K: PartialEnum, V: Eq, C: Storage<Item<AnyRange<K>, V>>> Model for RangeMap
 }
 
 impl<K: PartialEnum, V: Eq + Drop, C: Storage<Item<AnyRange<K>, V>>> RangeMap<K, V, C> {
+    /// A map that binds no key. Takes no memory.
     pub fn new(alloc: Global) -> Self
         ensures { C.items result ≡ [] }
     {
@@ -40,13 +44,13 @@ impl<K: PartialEnum, V: Eq + Drop, C: Storage<Item<AnyRange<K>, V>>> RangeMap<K,
     }
 
     /// Does nothing, and promises the form of what is stored.
-    pub fn in_form(&self)
+    pub(crate) fn in_form(&self)
         ensures { IsStored K.order V.eq (C.items self.now) }
     {
         let _count = self.stored.len();
     }
 
-    /// How many ranges are stored.
+    /// How many ranges are stored. Takes no memory.
     pub fn range_count(&self) -> usize
         ensures { result ≡ length (C.items self.now) }
     {
@@ -54,20 +58,22 @@ impl<K: PartialEnum, V: Eq + Drop, C: Storage<Item<AnyRange<K>, V>>> RangeMap<K,
     }
 
     /// The value to which the key is bound.
-    pub fn get(&self, key: &K) -> Option<&V>
-        ensures { Binds K.order V.eq (C.items self.now) key.now (option_copied result) }
+    ///
+    /// Costs one search and one comparison more. Takes no memory.
+    pub fn get(&self, key: K) -> Option<&V>
+        ensures { Binds K.order V.eq (C.items self.now) key (option_copied result) }
     {
         key.known();
-        let position = Position::Beside(KeyRef::Given(key), Side::At);
+        let position = Position::Beside(KeyRef::Given(&key), Side::At);
         let (_, from) = find::<K, V, C>(&self.stored, &position);
         match from {
             None => None,
             Some(p) => {
                 let item = self.stored.get(p);
-                if item.key.holds(key) {
-                    Some(&item.value)
-                } else {
+                if starts_past::<K, V>(item, &position) {
                     None
+                } else {
+                    Some(&item.value)
                 }
             }
         }

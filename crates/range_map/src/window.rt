@@ -33,7 +33,7 @@ pub struct Window<P: Copy> {
 }
 
 /// The last item that ends before a position, and the one after it.
-pub fn find<K: PartialEnum, V: Eq + Drop, C: Storage<Item<AnyRange<K>, V>>>(
+pub(crate) fn find<K: PartialEnum, V: Eq + Drop, C: Storage<Item<AnyRange<K>, V>>>(
     stored: &C,
     position: &Position<KeyRef<'_, K>>,
 ) -> (Option<C::Position>, Option<C::Position>)
@@ -51,7 +51,7 @@ pub fn find<K: PartialEnum, V: Eq + Drop, C: Storage<Item<AnyRange<K>, V>>>(
 }
 
 /// Whether the item starts past the position.
-fn starts_past<K: PartialEnum, V>(
+pub(crate) fn starts_past<K: PartialEnum, V>(
     item: &Item<AnyRange<K>, V>,
     position: &Position<KeyRef<'_, K>>,
 ) -> bool
@@ -61,7 +61,7 @@ fn starts_past<K: PartialEnum, V>(
 }
 
 /// How many items from one on start at most at a position, the last of them and the one after it.
-pub fn walk<K: PartialEnum, V: Eq + Drop, C: Storage<Item<AnyRange<K>, V>>>(
+pub(crate) fn walk<K: PartialEnum, V: Eq + Drop, C: Storage<Item<AnyRange<K>, V>>>(
     stored: &C,
     from: Option<C::Position>,
     end: &Position<KeyRef<'_, K>>,
@@ -84,7 +84,7 @@ pub fn walk<K: PartialEnum, V: Eq + Drop, C: Storage<Item<AnyRange<K>, V>>>(
 }
 
 /// The items that a range meets.
-pub fn find_window<K: PartialEnum, V: Eq + Drop, C: Storage<Item<AnyRange<K>, V>>>(
+pub(crate) fn find_window<K: PartialEnum, V: Eq + Drop, C: Storage<Item<AnyRange<K>, V>>>(
     stored: &C,
     range: &AnyRange<K>,
 ) -> Window<C::Position>

@@ -1,22 +1,21 @@
 use Rattle.std.proofs.Common.{◌≡◌, ◌+◌, ◌<◌, length, refl, ◌∙◌, sym}
-use Rattle.range_keys.specs.declared.inner.position.Position.TheVariants.{Beside}
-use Rattle.range_map.proofs.Found.{none_bound, other_bound, bound_at}
+use Rattle.range_map.proofs.Found.{none_bound, other_bound, bound_at, holds_at, past_not}
 use Rattle.range_map.proofs.map.RangeMap.get.Goals as goal
 
 pub returns-in-None : goal.returns-in-None
 returns-in-None g c =
     let items = g.C.Storage.items c.self.inside.stored in
-    rw (← c.self.view_is) (none_bound g.K.MaybeBounded.order g.met.K.PartialEnum.lawful g.V.PartialEq.eq items c.args.key.now (length items) c.known.ensures (rw c.in-None.is at c.find-from.ensures.below) refl)
+    rw (← c.self.view_is) (none_bound g.K.MaybeBounded.order g.met.K.PartialEnum.lawful g.V.PartialEq.eq items c.args.key (length items) c.known.ensures (rw c.in-None.is at c.find-from.ensures.below) refl)
 
-pub returns-then-holds : goal.returns-then-holds
-returns-then-holds g c =
+pub returns-then-starts_past : goal.returns-then-starts_past
+returns-then-starts_past g c =
     let storage = g.C.Storage in
     let stored = c.self.inside.stored in
     let items = storage.items stored in
     let position = rw c.in-Some.is at c.find-from.ensures.position in
     let place = storage.rank stored c.in-Some.p in
     let within : place < length items = g.met.C.Storage.good_is_in_range stored c.in-Some.p position.0 in
-    rw (← c.self.view_is) (bound_at g.K.MaybeBounded.order g.met.K.PartialEnum.lawful g.V.PartialEq.eq items c.args.key.now place c.get-item.result.now g.met.V.Eq.laws within c.get-item.ensures (c.if-holds.ensures.held.0 refl))
+    rw (← c.self.view_is) (other_bound g.K.MaybeBounded.order g.met.K.PartialEnum.lawful g.V.PartialEq.eq items c.args.key place c.get-item.result.now c.known.ensures c.self.invariant within c.get-item.ensures (rw c.in-Some.is at c.find-from.ensures.below) (rw c.in-Some.is at c.find-from.ensures.above) (past_not g.K.MaybeBounded.order g.met.K.PartialEnum.lawful g.V.PartialEq.eq c.get-item.result.now c.args.key c.known.ensures c.if-starts_past.ensures))
 
 pub returns : goal.returns
 returns g c =
@@ -26,4 +25,5 @@ returns g c =
     let position = rw c.in-Some.is at c.find-from.ensures.position in
     let place = storage.rank stored c.in-Some.p in
     let within : place < length items = g.met.C.Storage.good_is_in_range stored c.in-Some.p position.0 in
-    rw (← c.self.view_is) (other_bound g.K.MaybeBounded.order g.met.K.PartialEnum.lawful g.V.PartialEq.eq items c.args.key.now place c.get-item.result.now c.known.ensures c.self.invariant within c.get-item.ensures (rw c.in-Some.is at c.find-from.ensures.below) (rw c.in-Some.is at c.find-from.ensures.above) (λ h. let t = c.if-holds.ensures.held.1 h in cc))
+    let held = holds_at g.K.MaybeBounded.order g.met.K.PartialEnum.lawful g.V.PartialEq.eq items c.args.key place c.get-item.result.now c.known.ensures within c.get-item.ensures (rw c.in-Some.is at c.find-from.ensures.above) c.if-starts_past.ensures in
+    rw (← c.self.view_is) (bound_at g.K.MaybeBounded.order g.met.K.PartialEnum.lawful g.V.PartialEq.eq items c.args.key place c.get-item.result.now g.met.V.Eq.laws within c.get-item.ensures held)

@@ -1,0 +1,175 @@
+-- What is to become of the items on each side of a range that is bound.
+use Rattle.std.proofs.Common.{◌≡◌, ℕ, ◌+◌, ◌-◌, ◌<◌, ◌≤◌, List, length, get_or, refl, ap, sym, ◌∙◌, arith, subst, Option, Some, None, Bool, true, false}
+use Rattle.std.specs.Cmp.{IsEquivalence}
+use Rattle.std.specs.declared.ops.Bound.{Bound}
+use Rattle.range_keys.specs.Order.{KeyOrder, IsLawful}
+use Rattle.range_algebra.specs.declared.any.AnyRange.{AnyRange}
+use Rattle.range_algebra.specs.Range.{IsKnownRange, IsKnownBound, IsEmptyRange}
+use Rattle.range_algebra.specs.Clones.{SameBound}
+use Rattle.range_store.specs.declared.storage.Item.{Item}
+use Rattle.range_store.specs.Places.{IsAt}
+use Rattle.range_map.specs.Stored.{IsStored}
+use Rattle.range_map.specs.Window.{IsWindow, option_items}
+use Rattle.range_map.specs.declared.window.Window.{Window}
+use Rattle.range_map.specs.Edits.{turned_bound, with_start, with_end}
+use Rattle.range_map.specs.Reach.{ReachesBefore, ReachesBehind}
+use Rattle.range_map.specs.Edges.{edge_at, IsLeftShape, IsRightShape, IsLeftRest, IsRightRest, TouchesBefore, TouchesNoneBefore, TouchesAfter, TouchesNoneAfter}
+use Rattle.range_map.specs.Plans.{IsLeftPlan, IsRightPlan}
+use Rattle.range_map.specs.declared.edges.Edge.{Edge}
+use Rattle.range_map.specs.declared.edges.Edge.TheVariants.{Plain, Cut, Joined}
+use Rattle.range_map.proofs.Edging.{element, element_is, left_rest_whole, left_rest_cut, right_rest_whole, right_rest_cut, left_edge_inside, left_edge_rest, left_edge_joined, left_edge_none, right_edge_inside, right_edge_rest, right_edge_joined, right_edge_none}
+
+module _ {K : Type 0} (order : KeyOrder K) (lawful : IsLawful order) {V : Type 0} (same : V → V → Bool) (equal : IsEquivalence same) {P : Type 0} (is_good : P → Type 0) (rank : P → ℕ) (items : List (Item (AnyRange K) V)) (r : AnyRange K) (w : Window P) (place : ℕ) (stored : IsStored order same items) (known : IsKnownRange order r) (full : IsEmptyRange order r → ⊥) (window : IsWindow order is_good rank items r w place) (v : V) where
+  pub left_plan_inside : (p : P) (x : Item (AnyRange K) V) → ReachesBefore order is_good rank items r place w.count (Some p) → x ≡ get_or items (rank p) x → same x.value v ≡ true → IsLeftPlan order same lawful equal is_good rank items r v place (Some p) (Joined p) (Some p)
+  left_plan_inside p x reach read values =
+      let here : x ≡ get_or items place x = read ∙ ap (λ n. get_or items n x) reach.1 in
+      record {
+        at = place;
+        begin = place;
+        rest = None;
+        start = Some x.key.start;
+        shape = (reach.0, reach.1, refl, refl, (x, here, refl));
+        side = left_edge_inside order lawful same equal is_good rank items r w place stored known full window v x here reach.2 (reach.3 x here) values;
+        run = (reach.0, reach.1);
+        begins = omega arith;
+      }
+
+  pub left_plan_cut : (p : P) (x : Item (AnyRange K) V) (b : Bound K) (from : Option P) → ReachesBefore order is_good rank items r place w.count (Some p) → x ≡ get_or items (rank p) x → same x.value v ≡ false → IsKnownBound order b → SameBound order (turned_bound r.start) b → IsAt is_good rank (length items) from (rank p + 1) → IsLeftPlan order same lawful equal is_good rank items r v place (Some p) (Cut p b) from
+  left_plan_cut p x b from reach read values known_b same_b next =
+      let here : x ≡ get_or items place x = read ∙ ap (λ n. get_or items n x) reach.1 in
+      record {
+        at = place;
+        begin = place + 1;
+        rest = Some (with_end x b);
+        start = None;
+        shape = (reach.0, reach.1, refl, refl, (x, here, refl));
+        side = left_edge_rest order lawful same equal is_good rank items r w place stored known full window v (with_end x b) (left_rest_cut order lawful same equal is_good rank items r w place stored known full window x here reach.2 (reach.3 x here) b known_b same_b) values;
+        run = subst (λ (n : ℕ). IsAt is_good rank (length items) from (n + 1)) reach.1 next;
+        begins = omega arith;
+      }
+
+  pub left_plan_joined : (q : P) (x : Item (AnyRange K) V) → ReachesBefore order is_good rank items r place w.count None → is_good q → rank q + 1 ≡ place → rank q < length items → x ≡ get_or items (rank q) x → TouchesBefore order same items place r v → IsLeftPlan order same lawful equal is_good rank items r v place None (Joined q) (Some q)
+  left_plan_joined q x reach is at within read touching = record {
+    at = rank q;
+    begin = rank q;
+    rest = None;
+    start = Some x.key.start;
+    shape = (is, refl, refl, refl, (x, read, refl));
+    side = left_edge_joined order lawful same equal is_good rank items r w place stored known full window v (rank q) x (left_rest_whole order lawful same equal is_good rank items r w place stored known full window reach) at within read touching;
+    run = (is, refl);
+    begins = omega (arith, at);
+  }
+
+  -- the item is the one at the position
+  pub left_joined_at : (q : P) → ReachesBefore order is_good rank items r place w.count None → is_good q → rank q + 1 ≡ place → rank q < length items → TouchesBefore order same items place r v → IsLeftPlan order same lawful equal is_good rank items r v place None (Joined q) (Some q)
+  left_joined_at q reach is at within touching = left_plan_joined q (element items (rank q) within) reach is at within (element_is items (rank q) within (element items (rank q) within)) touching
+
+  pub left_plan_plain : ReachesBefore order is_good rank items r place w.count None → TouchesNoneBefore order same items place r v → IsLeftPlan order same lawful equal is_good rank items r v place None Plain w.from
+  left_plan_plain reach none = record {
+    at = place;
+    begin = place;
+    rest = None;
+    start = None;
+    shape = (refl, refl, refl);
+    side = left_edge_none order lawful same equal is_good rank items r w place stored known full window v (omega (arith, window.in_range)) (left_rest_whole order lawful same equal is_good rank items r w place stored known full window reach) none;
+    run = window.position;
+    begins = omega arith;
+  }
+
+  last_at : (p : P) (x : Item (AnyRange K) V) → rank p + 1 ≡ place + w.count → x ≡ get_or items (rank p) x → x ≡ get_or items (place + w.count - 1) x
+  last_at p x at read = let index : rank p ≡ place + w.count - 1 = omega arith in read ∙ ap (λ n. get_or items n x) index
+
+  pub right_plan_inside : (p : P) (x : Item (AnyRange K) V) → ReachesBehind order is_good rank items r place w.count (Some p) → x ≡ get_or items (rank p) x → same x.value v ≡ true → IsRightPlan order same lawful equal is_good rank items r v (place + w.count) (Some p) (Joined p)
+  right_plan_inside p x reach read values =
+      let here = last_at p x reach.1 read in
+      record {
+        upto = place + w.count;
+        end = place + w.count;
+        rest = None;
+        finish = Some x.key.end;
+        shape = (reach.0, reach.1, refl, refl, (x, read, refl));
+        side = right_edge_inside order lawful same equal is_good rank items r w place stored known full window v x here reach.2 (reach.3 x here) values;
+        ends = omega arith;
+      }
+
+  pub right_plan_cut : (p : P) (x : Item (AnyRange K) V) (b : Bound K) → ReachesBehind order is_good rank items r place w.count (Some p) → x ≡ get_or items (rank p) x → same x.value v ≡ false → IsKnownBound order b → SameBound order (turned_bound r.end) b → IsRightPlan order same lawful equal is_good rank items r v (place + w.count) (Some p) (Cut p b)
+  right_plan_cut p x b reach read values known_b same_b =
+      let here = last_at p x reach.1 read in
+      record {
+        upto = place + w.count - 1;
+        end = place + w.count;
+        rest = Some (with_start x b);
+        finish = None;
+        shape = (reach.0, omega (arith, reach.1), omega (arith, reach.2), refl, (x, here, refl));
+        side = right_edge_rest order lawful same equal is_good rank items r w place stored known full window (place + w.count) v (with_start x b) window.in_range (right_rest_cut order lawful same equal is_good rank items r w place stored known full window x here reach.2 (reach.3 x here) b known_b same_b x.value (equal.refl x.value)) values;
+        ends = omega (arith, reach.2);
+      }
+
+  pub right_plan_joined : (q : P) (x : Item (AnyRange K) V) → ReachesBehind order is_good rank items r place w.count None → is_good q → rank q ≡ place + w.count → rank q < length items → x ≡ get_or items (rank q) x → TouchesAfter order same items (place + w.count) r v → IsRightPlan order same lawful equal is_good rank items r v (place + w.count) None (Joined q)
+  right_plan_joined q x reach is at within read touching =
+      let here : x ≡ get_or items (place + w.count) x = read ∙ ap (λ n. get_or items n x) at in
+      record {
+        upto = place + w.count + 1;
+        end = place + w.count + 1;
+        rest = None;
+        finish = Some x.key.end;
+        shape = (is, omega (arith, at), refl, refl, (x, read, refl));
+        side = right_edge_joined order lawful same equal is_good rank items r w place stored known full window (place + w.count) v x (omega (arith, at, within)) here (right_rest_whole order lawful same equal is_good rank items r w place stored known full window reach) touching;
+        ends = omega arith;
+      }
+
+  pub right_plan_plain : ReachesBehind order is_good rank items r place w.count None → TouchesNoneAfter order same items (place + w.count) r v → IsRightPlan order same lawful equal is_good rank items r v (place + w.count) None Plain
+  right_plan_plain reach none = record {
+    upto = place + w.count;
+    end = place + w.count;
+    rest = None;
+    finish = None;
+    shape = (refl, refl, refl);
+    side = right_edge_none order lawful same equal is_good rank items r w place stored known full window (place + w.count) v window.in_range (right_rest_whole order lawful same equal is_good rank items r w place stored known full window reach) none;
+    ends = omega arith;
+  }
+
+module _ {K : Type 0} (order : KeyOrder K) (lawful : IsLawful order) {V : Type 0} (same : V → V → Bool) (equal : IsEquivalence same) {P : Type 0} (is_good : P → Type 0) (rank : P → ℕ) (items : List (Item (AnyRange K) V)) (r : AnyRange K) (w : Window P) (place : ℕ) (stored : IsStored order same items) (known : IsKnownRange order r) (full : IsEmptyRange order r → ⊥) (window : IsWindow order is_good rank items r w place) where
+  -- what stands before a range that is unbound
+  pub record IsLeftCut (first : Option P) (b : Bound K) : Type 0 where
+    pub rest : Option (Item (AnyRange K) V)
+    pub shape : IsLeftShape is_good rank items (edge_at first b) place (place + length (option_items first)) rest None
+    pub side : IsLeftRest order same lawful equal items r place rest
+
+  pub left_cut_plan : (first : Option P) (b : Bound K) → ReachesBefore order is_good rank items r place w.count first → IsKnownBound order b → SameBound order (turned_bound r.start) b → IsLeftCut first b
+  left_cut_plan None b reach known_b same_b = record {
+    rest = None;
+    shape = (omega arith, refl, refl);
+    side = left_rest_whole order lawful same equal is_good rank items r w place stored known full window reach;
+  }
+  left_cut_plan (Some p) b reach known_b same_b =
+      let within : place < length items = omega (arith, reach.2, window.in_range) in
+      let x = element items place within in
+      let here = element_is items place within x in
+      record {
+        rest = Some (with_end x b);
+        shape = (reach.0, reach.1, omega arith, refl, (x, here, refl));
+        side = left_rest_cut order lawful same equal is_good rank items r w place stored known full window x here reach.2 (reach.3 x here) b known_b same_b;
+      }
+
+  pub record IsRightCut (last : Option P) (b : Bound K) (upto : ℕ) : Type 0 where
+    pub rest : Option (Item (AnyRange K) V)
+    pub shape : IsRightShape is_good rank items (edge_at last b) upto (place + w.count) rest None
+    pub side : IsRightRest order same lawful equal items r (place + w.count) rest
+
+  pub right_cut_plan : (last : Option P) (b : Bound K) (upto : ℕ) → upto + length (option_items last) ≡ place + w.count → ReachesBehind order is_good rank items r place w.count last → IsKnownBound order b → SameBound order (turned_bound r.end) b → IsRightCut last b upto
+  right_cut_plan None b upto at reach known_b same_b = record {
+    rest = None;
+    shape = (omega (arith, at), refl, refl);
+    side = right_rest_whole order lawful same equal is_good rank items r w place stored known full window reach;
+  }
+  right_cut_plan (Some p) b upto at reach known_b same_b =
+      let within : place + w.count - 1 < length items = omega (arith, reach.2, window.in_range) in
+      let x = element items (place + w.count - 1) within in
+      let here = element_is items (place + w.count - 1) within x in
+      let index : place + w.count - 1 ≡ upto = omega (arith, at) in
+      record {
+        rest = Some (with_start x b);
+        shape = (reach.0, omega (arith, at, reach.1), omega (arith, at), refl, (x, here ∙ ap (λ n. get_or items n x) index, refl));
+        side = right_rest_cut order lawful same equal is_good rank items r w place stored known full window x here reach.2 (reach.3 x here) b known_b same_b x.value (equal.refl x.value);
+      }

@@ -1,0 +1,54 @@
+use Rattle.std.proofs.Common.{◌≡◌, ◌+◌, ◌<◌, length, get_or, ap, sym, ◌∙◌, refl, arith}
+use Rattle.std.specs.Cmp.{Equal-is}
+use Rattle.range_algebra.specs.Clones.{bound_clone}
+use Rattle.range_store.specs.Places.{place_before}
+use Rattle.range_map.specs.Edits.{turned_bound}
+use Rattle.range_map.proofs.Planning.{left_plan_inside, left_plan_cut, left_joined_at, left_plan_plain}
+use Rattle.range_map.proofs.edges.left_side.Goals as goal
+
+pub returns-then-joins : goal.returns-then-joins
+returns-then-joins g c = λ lawful equal.
+    let order = g.K.MaybeBounded.order in
+    let storage = g.C.Storage in
+    let stored = c.args.stored.now in
+    let items = storage.items stored in
+    let w = c.args.window.now in
+    let place = place_before (storage.rank stored) (length items) w.from in
+    rw c.in-Some.is (left_plan_inside order lawful g.V.PartialEq.eq equal (storage.is_good stored) (storage.rank stored) items c.args.range.now w place c.requires.stored c.known.ensures c.requires.nonempty c.requires.window c.args.value.now c.in-Some.first c.get-item.result.now (rw c.in-Some.is at c.requires.first) c.get-item.ensures (sym c.if-joins.ensures))
+
+pub returns-in_ok-end-in-Some : goal.returns-in_ok-end-in-Some
+returns-in_ok-end-in-Some g c = λ lawful equal.
+    let order = g.K.MaybeBounded.order in
+    let storage = g.C.Storage in
+    let stored = c.args.stored.now in
+    let items = storage.items stored in
+    let w = c.args.window.now in
+    let place = place_before (storage.rank stored) (length items) w.from in
+    let equal_keys = λ (x : g.row.K.Denot) (y : g.row.K.Denot) (h : g.K.Clone.is_clone x y).
+    sym (g.met.K.MaybeBounded.order_is_cmp x y) ∙ (Equal-is (g.K.Ord.cmp x y)).0 (sym (g.met.K.Ord.matches_eq x y) ∙ c.requires.keys x y h) in
+    let bound = c.in_ok-end-in-Some.end in
+    let cloned = bound_clone order lawful g.K.Clone.is_clone equal_keys (turned_bound c.args.range.now.start) bound c.in_ok-end-in-Some.ensures in
+    rw c.in-Some.is (left_plan_cut order lawful g.V.PartialEq.eq equal (storage.is_good stored) (storage.rank stored) items c.args.range.now w place c.requires.stored c.known.ensures c.requires.nonempty c.requires.window c.args.value.now c.in-Some.first c.get-item.result.now bound c.next.result (rw c.in-Some.is at c.requires.first) c.get-item.ensures (sym c.if-joins.ensures) c.known_bound.ensures cloned c.next.ensures)
+
+pub returns-in-Some-joined_before : goal.returns-in-Some-joined_before
+returns-in-Some-joined_before g c = λ lawful equal.
+    let order = g.K.MaybeBounded.order in
+    let storage = g.C.Storage in
+    let stored = c.args.stored.now in
+    let items = storage.items stored in
+    let w = c.args.window.now in
+    let place = place_before (storage.rank stored) (length items) w.from in
+    let q = c.in-Some-joined_before.before in
+    let found = c.in-Some-joined_before.ensures in
+    let within : storage.rank stored q < length items = g.met.C.Storage.good_is_in_range stored q found.0 in
+    rw c.in-None.is (left_joined_at order lawful g.V.PartialEq.eq equal (storage.is_good stored) (storage.rank stored) items c.args.range.now w place c.requires.stored c.known.ensures c.requires.nonempty c.requires.window c.args.value.now q (rw c.in-None.is at c.requires.first) found.0 found.1 within found.2)
+
+pub returns-in-None-joined_before : goal.returns-in-None-joined_before
+returns-in-None-joined_before g c = λ lawful equal.
+    let order = g.K.MaybeBounded.order in
+    let storage = g.C.Storage in
+    let stored = c.args.stored.now in
+    let items = storage.items stored in
+    let w = c.args.window.now in
+    let place = place_before (storage.rank stored) (length items) w.from in
+    rw c.in-None.is (left_plan_plain order lawful g.V.PartialEq.eq equal (storage.is_good stored) (storage.rank stored) items c.args.range.now w place c.requires.stored c.known.ensures c.requires.nonempty c.requires.window c.args.value.now (rw c.in-None.is at c.requires.first) c.in-None-joined_before.ensures)

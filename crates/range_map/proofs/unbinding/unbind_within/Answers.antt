@@ -1,0 +1,42 @@
+use Rattle.std.proofs.Common.{◌≡◌, ◌+◌, ◌-◌, ◌<◌, ◌∷◌, ◌++◌, [], length, take, drop, get_or, refl, ap, sym, ◌∙◌, arith, Some, None, true, false}
+use Rattle.range_algebra.specs.declared.any.AnyRange.{AnyRange}
+use Rattle.range_store.specs.declared.storage.Item.{Item}
+use Rattle.range_store.specs.Places.{place_before}
+use Rattle.range_map.specs.Edits.{turned_bound, with_end}
+use Rattle.range_map.proofs.CutParts.{same_turned}
+use Rattle.range_map.proofs.Edging.{removed, left_rest_cut, right_rest_cut}
+use Rattle.range_map.proofs.unbinding.unbind_within.Goals as goal
+
+pub returns-clause-ok : goal.returns-clause-ok
+returns-clause-ok g c =
+    let order = g.K.MaybeBounded.order in
+    let lawful = g.met.K.PartialEnum.lawful in
+    let equal = g.met.V.Eq.laws in
+    let same = g.V.PartialEq.eq in
+    let storage = g.C.Storage in
+    let stored = c.args.stored.now in
+    let items = storage.items stored in
+    let r = c.args.range in
+    let w = c.args.window.now in
+    let place = place_before (storage.rank stored) (length items) w.from in
+    let x = c.get-item.result.now in
+    let first = c.requires.first in
+    let last = c.requires.last in
+    let here : x ≡ get_or items place x = c.get-item.ensures ∙ ap (λ n. get_or items n x) first.1 in
+    let one : place + w.count ≡ place + 1 = ap (λ n. place + n) c.requires.one in
+    let at_end : place ≡ place + w.count - 1 = omega (arith, one) in
+    let here_end : x ≡ get_or items (place + w.count - 1) x = here ∙ ap (λ n. get_or items n x) at_end in
+    let copy = c.in_ok-copy.copy in
+    let copied : same copy x.value ≡ true = equal.symm copy x.value ∙ c.requires.values x.value copy c.in_ok-copy.ensures.cases in
+    let end = turned_bound r.start in
+    let start = turned_bound r.end in
+    let end_is : c.turned-before.result ≡ end = c.turned-before.ensures ∙ ap turned_bound c.into_bounds-start.ensures.start in
+    let start_is : c.turned-behind.result ≡ start = c.turned-behind.ensures ∙ ap turned_bound c.into_bounds-start.ensures.end in
+    let behind : Item (AnyRange g.row.K.Denot) g.row.V.Denot = record { key = record { start = start; end = x.key.end }; value = copy } in
+    let left = left_rest_cut order lawful same equal (storage.is_good stored) (storage.rank stored) items r w place c.requires.stored c.known.ensures c.requires.nonempty c.requires.window x here first.2 (first.3 x here) end (rw end_is at c.known_bound.ensures) (same_turned order lawful r.start) in
+    let right = right_rest_cut order lawful same equal (storage.is_good stored) (storage.rank stored) items r w place c.requires.stored c.known.ensures c.requires.nonempty c.requires.window x here_end last.2 (last.3 x here_end) start (rw start_is at c.known_bound-2.ensures) (same_turned order lawful r.end) copy copied in
+    let ready = c.reserve.new.self in
+    let list = c.reserve.ensures.list in
+    let rank_is : storage.rank ready c.args.p ≡ place = (c.reserve.ensures.positions c.args.p first.0).1 ∙ first.1 in
+    let made = rw (list, rank_is, sym here, sym one, end_is, start_is) at (c.divide.ensures x) in
+    removed order lawful same equal (storage.is_good stored) (storage.rank stored) items r w place c.requires.stored c.known.ensures c.requires.nonempty c.requires.window (storage.items c.divide.new.stored) place (place + w.count) (Some (with_end x end)) (Some behind) left right made

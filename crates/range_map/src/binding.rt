@@ -1,0 +1,118 @@
+//! Binding a nonempty range in a container.
+ghost use Rattle.std.specs.Prelude.{◌≡◌, ◌+◌, ◌≤◌, length, OnOk, OnErr};
+ghost use Rattle.range_algebra.specs.Range.{ClonesAreEqual, IsEmptyRange, IsKnownRange};
+ghost use Rattle.range_store.specs.Places.{place_before};
+ghost use Rattle.range_map.specs.Stored.{IsStored};
+ghost use Rattle.range_map.specs.Window.{IsWindow, option_items};
+ghost use Rattle.range_map.specs.Reach.{ReachesBefore, ReachesBehind};
+ghost use Rattle.range_map.specs.Changes.{IsInserted};
+
+use crate::change::{change, divide};
+use crate::cut::{known_bound, turned_clone};
+use crate::edges::{joined_items, left_side, right_side};
+use crate::reach::{item_count, reaching_before, reaching_behind, surrounding};
+use crate::window::{Window, find_window};
+use range_algebra::any::AnyRange;
+use range_keys::traits::PartialEnum;
+use range_store::inner::cursor::Cursor;
+use range_store::storage::{Item, Storage};
+use std::alloc::AllocError;
+
+/// How much room one item in the place of a run needs.
+fn growth(count: usize) -> usize
+    ensures { 1 ≤ count + result }
+{
+    if count == 0 { 1 } else { 0 }
+}
+
+/// Binds a range that lies within one stored range: with an equal value nothing changes, with another it stands between two parts.
+fn bind_within<K: PartialEnum + Clone, V: Eq + Clone, C: Storage<Item<AnyRange<K>, V>>>(
+    stored: &mut C,
+    window: &Window<C::Position>,
+    p: C::Position,
+    range: AnyRange<K>,
+    value: V,
+) -> Result<(), AllocError>
+    requires keys { ClonesAreEqual K.is_clone K.eq }
+    requires values { ClonesAreEqual V.is_clone V.eq }
+    requires stored { IsStored K.order V.eq (C.items stored.old) }
+    requires nonempty { ¬ IsEmptyRange K.order range }
+    requires window { IsWindow K.order (C.is_good stored.old) (C.rank stored.old) (C.items stored.old) range window.now (place_before (C.rank stored.old) (length (C.items stored.old)) window.now.from) }
+    requires one { window.now.count ≡ 1 }
+    requires first { ReachesBefore K.order (C.is_good stored.old) (C.rank stored.old) (C.items stored.old) range (place_before (C.rank stored.old) (length (C.items stored.old)) window.now.from) window.now.count (Some p) }
+    requires last { ReachesBehind K.order (C.is_good stored.old) (C.rank stored.old) (C.items stored.old) range (place_before (C.rank stored.old) (length (C.items stored.old)) window.now.from) window.now.count (Some p) }
+    ensures ok { OnOk result (IsInserted K.order V.eq (C.items stored.old) (C.items stored.new) range value) }
+    ensures refused { OnErr result (C.items stored.new ≡ C.items stored.old) }
+{
+    range.known();
+    let item = stored.get(p);
+    item.key.known();
+    let joins = item.value == value;
+    if joins {
+        return Ok(());
+    }
+    let copy = item.value.clone()?;
+    let end = turned_clone(&range.start)?;
+    known_bound(&end);
+    let start = turned_clone(&range.end)?;
+    known_bound(&start);
+    stored.reserve(2)?;
+    let middle = Item { key: range, value };
+    divide::<K, V, C>(stored, p, end, Some(middle), start, copy);
+    Ok(())
+}
+
+/// Binds a range that no stored range surrounds.
+fn bind_over<K: PartialEnum + Clone, V: Eq + Clone, C: Storage<Item<AnyRange<K>, V>>>(
+    stored: &mut C,
+    window: &Window<C::Position>,
+    first: Option<C::Position>,
+    last: Option<C::Position>,
+    range: AnyRange<K>,
+    value: V,
+) -> Result<(), AllocError>
+    requires keys { ClonesAreEqual K.is_clone K.eq }
+    requires stored { IsStored K.order V.eq (C.items stored.old) }
+    requires nonempty { ¬ IsEmptyRange K.order range }
+    requires window { IsWindow K.order (C.is_good stored.old) (C.rank stored.old) (C.items stored.old) range window.now (place_before (C.rank stored.old) (length (C.items stored.old)) window.now.from) }
+    requires first { ReachesBefore K.order (C.is_good stored.old) (C.rank stored.old) (C.items stored.old) range (place_before (C.rank stored.old) (length (C.items stored.old)) window.now.from) window.now.count first }
+    requires last { ReachesBehind K.order (C.is_good stored.old) (C.rank stored.old) (C.items stored.old) range (place_before (C.rank stored.old) (length (C.items stored.old)) window.now.from) window.now.count last }
+    requires apart { length (option_items first) + length (option_items last) ≤ window.now.count }
+    ensures ok { OnOk result (IsInserted K.order V.eq (C.items stored.old) (C.items stored.new) range value) }
+    ensures refused { OnErr result (C.items stored.new ≡ C.items stored.old) }
+{
+    range.known();
+    let left = left_side::<K, V, C>(stored, window, first, &range, &value)?;
+    let right = right_side::<K, V, C>(stored, window, last, &range, &value)?;
+    let inner = window.count - (item_count(&first) + item_count(&last));
+    let count = joined_items(&left.edge) + inner + joined_items(&right);
+    stored.reserve(growth(count))?;
+    let run = Cursor {
+        at: left.from,
+        left: count,
+    };
+    change::<K, V, C>(stored, run, left.edge, right, range, value);
+    Ok(())
+}
+
+/// Binds each key of a nonempty range to the value.
+pub(crate) fn bind<K: PartialEnum + Clone, V: Eq + Clone, C: Storage<Item<AnyRange<K>, V>>>(
+    stored: &mut C,
+    range: AnyRange<K>,
+    value: V,
+) -> Result<(), AllocError>
+    requires keys { ClonesAreEqual K.is_clone K.eq }
+    requires values { ClonesAreEqual V.is_clone V.eq }
+    requires stored { IsStored K.order V.eq (C.items stored.old) }
+    requires nonempty { ¬ IsEmptyRange K.order range }
+    ensures ok { OnOk result (IsInserted K.order V.eq (C.items stored.old) (C.items stored.new) range value) }
+    ensures refused { OnErr result (C.items stored.new ≡ C.items stored.old) }
+{
+    let window = find_window::<K, V, C>(stored, &range);
+    let first = reaching_before::<K, V, C>(stored, &window, &range);
+    let last = reaching_behind::<K, V, C>(stored, &window, &range);
+    match surrounding(window.count, first, last) {
+        Some(p) => bind_within::<K, V, C>(stored, &window, p, range, value),
+        None => bind_over::<K, V, C>(stored, &window, first, last, range, value),
+    }
+}

@@ -1,0 +1,173 @@
+//! The one change to a container: nothing here takes memory beyond the container's room, and nothing fails.
+ghost use Rattle.std.specs.Prelude.{◌≡◌, ◌+◌, ◌≤◌, ◌∷◌, ◌++◌, [], length, take, drop, slice_set, slice_index_or, Some, Option, List, ℕ};
+ghost use Rattle.std.specs.Option.{ForSome, unwrap_or};
+ghost use Rattle.std.specs.declared.ops.Bound.{Bound};
+ghost use Rattle.range_store.specs.declared.storage.Item.{Item};
+ghost use Rattle.range_store.specs.Places.{place_before, IsAt};
+ghost use Rattle.range_algebra.specs.declared.any.AnyRange.{AnyRange};
+ghost use Rattle.range_map.specs.Edits.{with_start, with_end};
+ghost use Rattle.range_map.specs.Window.{option_items};
+ghost use Rattle.range_map.specs.Edges.{joined_count, IsGoodEdge, IsLeftEdited, IsRightEdited, IsLeftShape, IsRightShape};
+
+use crate::edges::Edge;
+use range_algebra::any::AnyRange;
+use range_store::inner::cursor::{Cursor, remove_rest, replace_run};
+use range_store::storage::{Item, Storage};
+use std::mem;
+use std::ops::Bound;
+
+/// Gives the item at a position another start, and answers the one that it had.
+pub(crate) fn replace_start<K: Drop, V: Drop, C: Storage<Item<AnyRange<K>, V>>>(
+    stored: &mut C,
+    p: C::Position,
+    start: Bound<K>,
+) -> Bound<K>
+    requires { C.is_good stored.old p }
+    ensures list { (d : Item (AnyRange K) V) → C.items stored.new ≡ slice_set (C.items stored.old) (C.rank stored.old p) (with_start (slice_index_or (C.items stored.old) (C.rank stored.old p) d) start) }
+    ensures start { (d : Item (AnyRange K) V) → result ≡ (slice_index_or (C.items stored.old) (C.rank stored.old p) d).key.start }
+    ensures size { length (C.items stored.new) ≡ length (C.items stored.old) }
+    ensures space { C.room stored.new ≡ C.room stored.old }
+    ensures positions { (q : C.Position) → C.is_good stored.old q → C.is_good stored.new q × (C.rank stored.new q ≡ C.rank stored.old q) }
+{
+    mem::replace(&mut stored.get_mut(p).key.start, start)
+}
+
+/// Gives the item at a position another end, and answers the one that it had.
+pub(crate) fn replace_end<K: Drop, V: Drop, C: Storage<Item<AnyRange<K>, V>>>(
+    stored: &mut C,
+    p: C::Position,
+    end: Bound<K>,
+) -> Bound<K>
+    requires { C.is_good stored.old p }
+    ensures list { (d : Item (AnyRange K) V) → C.items stored.new ≡ slice_set (C.items stored.old) (C.rank stored.old p) (with_end (slice_index_or (C.items stored.old) (C.rank stored.old p) d) end) }
+    ensures end { (d : Item (AnyRange K) V) → result ≡ (slice_index_or (C.items stored.old) (C.rank stored.old p) d).key.end }
+    ensures size { length (C.items stored.new) ≡ length (C.items stored.old) }
+    ensures space { C.room stored.new ≡ C.room stored.old }
+    ensures positions { (q : C.Position) → C.is_good stored.old q → C.is_good stored.new q × (C.rank stored.new q ≡ C.rank stored.old q) }
+{
+    mem::replace(&mut stored.get_mut(p).key.end, end)
+}
+
+/// Shortens the item before a range, or takes the start of the one that the range joins.
+fn open_left<K: Drop, V: Drop, C: Storage<Item<AnyRange<K>, V>>>(
+    stored: &mut C,
+    edge: Edge<K, C::Position>,
+) -> Option<Bound<K>>
+    requires { IsGoodEdge (C.is_good stored.old) edge }
+    ensures edited { IsLeftEdited (C.rank stored.old) (C.items stored.old) (C.items stored.new) edge result }
+    ensures size { length (C.items stored.new) ≡ length (C.items stored.old) }
+    ensures space { C.room stored.new ≡ C.room stored.old }
+    ensures positions { (q : C.Position) → C.is_good stored.old q → C.is_good stored.new q × (C.rank stored.new q ≡ C.rank stored.old q) }
+{
+    match edge {
+        Edge::Plain => None,
+        Edge::Cut(p, end) => {
+            let _before = replace_end::<K, V, C>(stored, p, end);
+            None
+        }
+        Edge::Joined(p) => Some(replace_start::<K, V, C>(stored, p, Bound::Unbounded)),
+    }
+}
+
+/// Shortens the item behind a range, or takes the end of the one that the range joins.
+fn open_right<K: Drop, V: Drop, C: Storage<Item<AnyRange<K>, V>>>(
+    stored: &mut C,
+    edge: Edge<K, C::Position>,
+) -> Option<Bound<K>>
+    requires { IsGoodEdge (C.is_good stored.old) edge }
+    ensures edited { IsRightEdited (C.rank stored.old) (C.items stored.old) (C.items stored.new) edge result }
+    ensures size { length (C.items stored.new) ≡ length (C.items stored.old) }
+    ensures space { C.room stored.new ≡ C.room stored.old }
+    ensures positions { (q : C.Position) → C.is_good stored.old q → C.is_good stored.new q × (C.rank stored.new q ≡ C.rank stored.old q) }
+{
+    match edge {
+        Edge::Plain => None,
+        Edge::Cut(p, start) => {
+            let _before = replace_start::<K, V, C>(stored, p, start);
+            None
+        }
+        Edge::Joined(p) => Some(replace_end::<K, V, C>(stored, p, Bound::Unbounded)),
+    }
+}
+
+/// The bound that is joined, or else the own one.
+fn joined<K: Drop>(other: Option<Bound<K>>, own: Bound<K>) -> Bound<K>
+    ensures { result ≡ unwrap_or other own }
+{
+    match other {
+        Some(bound) => bound,
+        None => own,
+    }
+}
+
+/// Binds a range where `left` and `right` say what becomes of the items beside it, and a run gives way to it.
+pub(crate) fn change<K: Drop, V: Drop, C: Storage<Item<AnyRange<K>, V>>>(
+    stored: &mut C,
+    run: Cursor<C::Position>,
+    left: Edge<K, C::Position>,
+    right: Edge<K, C::Position>,
+    range: AnyRange<K>,
+    value: V,
+)
+    requires left { IsGoodEdge (C.is_good stored.old) left }
+    requires right { IsGoodEdge (C.is_good stored.old) right }
+    requires good { ForSome run.at (C.is_good stored.old) }
+    requires in_range { place_before (C.rank stored.old) (length (C.items stored.old)) run.at + run.left ≤ length (C.items stored.old) }
+    requires space { 1 ≤ run.left + C.room stored.old }
+    ensures { (at end : ℕ) (before behind : Option (Item (AnyRange K) V)) (start finish : Option (Bound K)) → let from = place_before (C.rank stored.old) (length (C.items stored.old)) run.at in IsLeftShape (C.is_good stored.old) (C.rank stored.old) (C.items stored.old) left at from before start → IsRightShape (C.is_good stored.old) (C.rank stored.old) (C.items stored.old) right (from + run.left) end behind finish → joined_count left + joined_count right ≤ run.left → C.items stored.new ≡ take at (C.items stored.old) ++ option_items before ++ option_items (Some (record { key = record { start = unwrap_or start range.start; end = unwrap_or finish range.end }; value = value })) ++ option_items behind ++ drop end (C.items stored.old) }
+{
+    let start = open_left::<K, V, C>(stored, left);
+    let end = open_right::<K, V, C>(stored, right);
+    let (own_start, own_end) = range.into_bounds();
+    let key = AnyRange {
+        start: joined(start, own_start),
+        end: joined(end, own_end),
+    };
+    replace_run::<Item<AnyRange<K>, V>, C>(stored, run, Item { key, value });
+}
+
+/// Removes a run, where `left` and `right` say what becomes of the items beside it.
+pub(crate) fn clear<K: Drop, V: Drop, C: Storage<Item<AnyRange<K>, V>>>(
+    stored: &mut C,
+    run: Cursor<C::Position>,
+    left: Edge<K, C::Position>,
+    right: Edge<K, C::Position>,
+)
+    requires left { IsGoodEdge (C.is_good stored.old) left }
+    requires right { IsGoodEdge (C.is_good stored.old) right }
+    requires good { ForSome run.at (C.is_good stored.old) }
+    requires in_range { place_before (C.rank stored.old) (length (C.items stored.old)) run.at + run.left ≤ length (C.items stored.old) }
+    ensures { (at end : ℕ) (before behind : Option (Item (AnyRange K) V)) (start finish : Option (Bound K)) → let from = place_before (C.rank stored.old) (length (C.items stored.old)) run.at in IsLeftShape (C.is_good stored.old) (C.rank stored.old) (C.items stored.old) left at from before start → IsRightShape (C.is_good stored.old) (C.rank stored.old) (C.items stored.old) right (from + run.left) end behind finish → joined_count left + joined_count right ≤ run.left → C.items stored.new ≡ take at (C.items stored.old) ++ option_items before ++ [] ++ option_items behind ++ drop end (C.items stored.old) }
+{
+    let _start = open_left::<K, V, C>(stored, left);
+    let _end = open_right::<K, V, C>(stored, right);
+    remove_rest::<Item<AnyRange<K>, V>, C>(stored, run);
+}
+
+/// Shortens an item to `end`, and puts `middle` and what it was behind `start`, with a clone of its value, after it.
+pub(crate) fn divide<K: Drop, V: Drop, C: Storage<Item<AnyRange<K>, V>>>(
+    stored: &mut C,
+    p: C::Position,
+    end: Bound<K>,
+    middle: Option<Item<AnyRange<K>, V>>,
+    start: Bound<K>,
+    value: V,
+)
+    requires good { C.is_good stored.old p }
+    requires space { length (option_items middle) + 1 ≤ C.room stored.old }
+    ensures { (d : Item (AnyRange K) V) → let place = C.rank stored.old p in let item = slice_index_or (C.items stored.old) place d in C.items stored.new ≡ take place (C.items stored.old) ++ option_items (Some (with_end item end)) ++ option_items middle ++ option_items (Some (record { key = record { start = start; end = item.key.end }; value = value })) ++ drop (place + 1) (C.items stored.old) }
+{
+    let old_end = replace_end::<K, V, C>(stored, p, end);
+    let key = AnyRange {
+        start,
+        end: old_end,
+    };
+    let behind = stored.next(p);
+    let at = stored.insert_at(behind, Item { key, value });
+    match middle {
+        Some(item) => {
+            let _at = stored.insert_at(Some(at), item);
+        }
+        None => (),
+    }
+}

@@ -1,0 +1,97 @@
+//! Which of the items that a range meets reach out of it.
+ghost use Rattle.std.specs.Prelude.{◌≡◌, ◌+◌, ◌≤◌, length, Some, IsSome, MatchOption};
+ghost use Rattle.range_keys.specs.Order.{IsLawful};
+ghost use Rattle.std.specs.Option.{ForSome};
+ghost use Rattle.range_store.specs.Places.{place_before, IsAt};
+ghost use Rattle.range_map.specs.Window.{IsWindow, option_items};
+ghost use Rattle.range_map.specs.Reach.{ReachesBefore, ReachesBehind};
+
+use crate::cut::{ends_after, starts_before};
+use crate::window::Window;
+use range_algebra::any::AnyRange;
+use range_keys::traits::PartialEnum;
+use range_store::storage::{Item, Storage};
+
+/// The first item that the range meets, if it starts before the range.
+pub(crate) fn reaching_before<K: PartialEnum, V: Eq + Drop, C: Storage<Item<AnyRange<K>, V>>>(
+    stored: &C,
+    window: &Window<C::Position>,
+    range: &AnyRange<K>,
+) -> Option<C::Position>
+    requires window { IsWindow K.order (C.is_good stored.now) (C.rank stored.now) (C.items stored.now) range.now window.now (place_before (C.rank stored.now) (length (C.items stored.now)) window.now.from) }
+    ensures { ReachesBefore K.order (C.is_good stored.now) (C.rank stored.now) (C.items stored.now) range.now (place_before (C.rank stored.now) (length (C.items stored.now)) window.now.from) window.now.count result }
+{
+    if window.count == 0 {
+        return None;
+    }
+    match window.from {
+        Some(first) => {
+            if starts_before(&stored.get(first).key, range) {
+                Some(first)
+            } else {
+                None
+            }
+        }
+        None => None,
+    }
+}
+
+/// The last item that the range meets, if it ends after the range.
+pub(crate) fn reaching_behind<K: PartialEnum, V: Eq + Drop, C: Storage<Item<AnyRange<K>, V>>>(
+    stored: &C,
+    window: &Window<C::Position>,
+    range: &AnyRange<K>,
+) -> Option<C::Position>
+    requires window { IsWindow K.order (C.is_good stored.now) (C.rank stored.now) (C.items stored.now) range.now window.now (place_before (C.rank stored.now) (length (C.items stored.now)) window.now.from) }
+    ensures { ReachesBehind K.order (C.is_good stored.now) (C.rank stored.now) (C.items stored.now) range.now (place_before (C.rank stored.now) (length (C.items stored.now)) window.now.from) window.now.count result }
+{
+    match window.last {
+        Some(last) => {
+            if ends_after(&stored.get(last).key, range) {
+                Some(last)
+            } else {
+                None
+            }
+        }
+        None => None,
+    }
+}
+
+/// The one item that a range meets, if it reaches out on both sides.
+pub(crate) fn surrounding<P: Copy>(count: usize, first: Option<P>, last: Option<P>) -> Option<P>
+    requires first { length (option_items first) ≤ count }
+    requires last { length (option_items last) ≤ count }
+    ensures { MatchOption result (length (option_items first) + length (option_items last) ≤ count) (λ p. (count ≡ 1) × (first ≡ Some p) × IsSome last) }
+{
+    if count == 1 && last.is_some() {
+        first
+    } else {
+        None
+    }
+}
+
+/// The first item behind the one that reaches out before the range.
+pub(crate) fn run_start<K: PartialEnum, V: Eq + Drop, C: Storage<Item<AnyRange<K>, V>>>(
+    stored: &C,
+    from: Option<C::Position>,
+    first: Option<C::Position>,
+) -> Option<C::Position>
+    requires from { ForSome from (C.is_good stored.now) }
+    requires first { ForSome first (λ p. C.is_good stored.now p × (C.rank stored.now p ≡ place_before (C.rank stored.now) (length (C.items stored.now)) from)) }
+    ensures { IsAt (C.is_good stored.now) (C.rank stored.now) (length (C.items stored.now)) result (place_before (C.rank stored.now) (length (C.items stored.now)) from + length (option_items first)) }
+{
+    match first {
+        Some(p) => stored.next(p),
+        None => from,
+    }
+}
+
+/// How many items an option names.
+pub(crate) fn item_count<T>(item: &Option<T>) -> usize
+    ensures { result ≡ length (option_items item.now) }
+{
+    match item {
+        Some(_) => 1,
+        None => 0,
+    }
+}

@@ -1,0 +1,49 @@
+-- Edits just behind a front.
+use Rattle.std.proofs.Common.{◌≡◌, ℕ, ◌+◌, ◌-◌, ◌<◌, ◌≤◌, List, [], ◌∷◌, ◌++◌, length, take, drop, get_or, refl, ap, sym, ◌∙◌, arith, length-append, append_assoc, take-append-drop}
+use Rattle.std.specs.List.{insert, remove}
+use Rattle.std.proofs.lemmas.List.{take_at, drop_at, drop_more, take_more, length-take-le, drop-drop, take-set, drop-set}
+use Rattle.std.proofs.Math.ListN.{set}
+use Rattle.std.proofs.lemmas.List.Edits.{remove-append_right, insert-append_right}
+
+pub insert_behind : {T : Type 0} (front back : List T) (x : T) (place : ℕ) → length front ≡ place → insert (front ++ back) place x ≡ front ++ x ∷ back
+insert_behind front back x place e = rw (take_at front back place e, drop_at front back place e) refl
+
+pub remove_behind : {T : Type 0} (front back : List T) (x : T) (place : ℕ) → length front ≡ place → remove (front ++ x ∷ back) place ≡ front ++ back
+remove_behind front back x place e =
+    let at_zero : place - place ≡ 0 = omega arith in
+    let step : remove (front ++ x ∷ back) place ≡ front ++ remove (x ∷ back) (place - place) = remove-append_right front (x ∷ back) place place e (omega arith) in
+    rw at_zero at step
+
+-- a run with one more item removed
+pub removed_one : {T : Type 0} (before now new : List T) (place i r : ℕ) (d : T) → now ≡ take place before ++ drop (place + i) before → new ≡ remove now r → r ≡ place → place + i < length before → new ≡ take place before ++ drop (place + (i + 1)) before
+removed_one before now new place i r d was done same within =
+    let front : length (take place before) ≡ place = length-take-le place before (omega arith) in
+    let more = drop_more before (place + i) d within in
+    let after = remove_behind (take place before) (drop (place + i + 1) before) (get_or before (place + i) d) place front in
+    let next : place + (i + 1) ≡ place + i + 1 = omega arith in
+    rw (done, same, was, more, after, next) refl
+
+-- an item is put before a place
+pub put_before : {T : Type 0} (before new : List T) (place r : ℕ) (x : T) → new ≡ insert before r x → r ≡ place → new ≡ take place before ++ x ∷ drop (place + (0 - 0)) before
+put_before before new place r x done same =
+    let none : place + (0 - 0) ≡ place = omega arith in
+    rw none (done ∙ ap (λ n. insert before n x) same)
+
+pub set_parts : {T : Type 0} (xs : List T) (i : ℕ) (y : T) → i < length xs → set xs i y ≡ take i xs ++ y ∷ drop (i + 1) xs
+set_parts xs i y within = sym (take-append-drop i (set xs i y)) ∙ (ap (λ ys. ys ++ drop i (set xs i y)) (take-set xs i y) ∙ ap (λ ys. take i xs ++ ys) (drop-set xs i y within))
+
+-- an item is put in the place of another
+pub put_over : {T : Type 0} (before new : List T) (place r left : ℕ) (x : T) → new ≡ set before r x → r ≡ place → place < length before → 0 < left → new ≡ take place before ++ x ∷ drop (place + (left - (left - 1))) before
+put_over before new place r left x done same within some = let one : left - (left - 1) ≡ 1 = omega arith in rw one (done ∙ (ap (λ n. set before n x) same ∙ set_parts before place x within))
+
+-- a run gives way to one item, then the rest of it is removed
+pub replaced_run : {T : Type 0} (before now new : List T) (place left less : ℕ) (x : T) → now ≡ take place before ++ x ∷ drop (place + (left - less)) before → less ≡ left - 1 → place + left ≤ length before → new ≡ take (place + 1) now ++ drop (place + 1 + less) now → new ≡ take place before ++ x ∷ drop (place + left) before
+replaced_run before now new place left less x was fewer within done =
+    let front : length (take place before) ≡ place = length-take-le place before (omega arith) in
+    let one : length (take place before ++ x ∷ []) ≡ place + 1 = length-append (take place before) (x ∷ []) ∙ ap (λ n. n + 1) front in
+    let whole : now ≡ (take place before ++ x ∷ []) ++ drop (place + (left - less)) before = was ∙ sym (append_assoc (take place before) (x ∷ []) (drop (place + (left - less)) before)) in
+    let kept : take (place + 1) now ≡ take place before ++ x ∷ [] = ap (take (place + 1)) whole ∙ take_at (take place before ++ x ∷ []) (drop (place + (left - less)) before) (place + 1) one in
+    let rest : drop (place + 1) now ≡ drop (place + (left - less)) before = ap (drop (place + 1)) whole ∙ drop_at (take place before ++ x ∷ []) (drop (place + (left - less)) before) (place + 1) one in
+    let tail : drop (place + 1 + less) now ≡ drop (place + left) before =
+        sym (drop-drop less (place + 1) now) ∙ (ap (drop less) rest ∙ (drop-drop less (place + (left - less)) before ∙ ap (λ n. drop n before) (omega (arith, fewer)))) in
+    done ∙ (ap (λ ys. ys ++ drop (place + 1 + less) now) kept ∙ (ap (λ ys. (take place before ++ x ∷ []) ++ ys) tail ∙ append_assoc (take place before) (x ∷ []) (drop (place + left) before)))

@@ -1,0 +1,14 @@
+use Rattle.std.proofs.Common.{◌≡◌, ◌+◌, ◌≤◌, ◌++◌, length, take, drop}
+use Rattle.range_store.specs.Places.{place_before, IsAt}
+use Rattle.range_store.proofs.inner.cursor.remove_rest.Given as goal
+
+abbrev pub invariant-loop-removed : goal.invariant-loop-removed
+invariant-loop-removed g l =
+    let storage = g.C.Storage in
+    let before = storage.items l.fn.stored in
+    let place = place_before (storage.rank l.fn.stored) (length before) l.fn.cursor.at in
+    record {
+      position : IsAt (storage.is_good l.stored) (storage.rank l.stored) (length (storage.items l.stored)) l.at place;
+      changed : storage.items l.stored ≡ take place before ++ drop (place + l._removed) before;
+      space : storage.room l.fn.stored ≤ storage.room l.stored;
+    }

@@ -1,0 +1,3 @@
+//! What the crates above need beyond the container itself.
+
+pub mod cursor;

@@ -1,0 +1,80 @@
+//! A run of items that gives way to others where it stands, so that only the difference in number is inserted or removed.
+ghost use Rattle.std.specs.Prelude.{◌≡◌, ◌+◌, ◌-◌, ◌≤◌, ◌∷◌, ◌++◌, length, take, drop};
+ghost use Rattle.std.specs.Option.{ForSome};
+ghost use Rattle.range_store.specs.Places.{place_before, IsAt};
+
+use crate::storage::Storage;
+
+/// The items that are still to give way: `left` of them, from `at` on.
+#[derive(Drop)]
+pub struct Cursor<P: Copy> {
+    /// The first of them, or the item before which others are put; `None` at the end of the list.
+    pub at: Option<P>,
+    /// How many are left.
+    pub left: usize,
+}
+
+/// Puts an item in the place of the next one that gives way, or, where none is left, before the cursor.
+///
+/// Takes no memory beyond the container's room, and none of that while items are left.
+pub fn put<T: Drop, C: Storage<T>>(
+    stored: &mut C,
+    cursor: Cursor<C::Position>,
+    item: T,
+) -> Cursor<C::Position>
+    requires good { ForSome cursor.at (C.is_good stored.old) }
+    requires in_range { place_before (C.rank stored.old) (length (C.items stored.old)) cursor.at + cursor.left ≤ length (C.items stored.old) }
+    requires space { 1 ≤ cursor.left + C.room stored.old }
+    ensures list { let place = place_before (C.rank stored.old) (length (C.items stored.old)) cursor.at in C.items stored.new ≡ take place (C.items stored.old) ++ item ∷ drop (place + (cursor.left - result.left)) (C.items stored.old) }
+    ensures left { result.left ≡ cursor.left - 1 }
+    ensures space { C.room stored.old + cursor.left ≤ C.room stored.new + result.left + 1 }
+    ensures position { let place = place_before (C.rank stored.old) (length (C.items stored.old)) cursor.at in IsAt (C.is_good stored.new) (C.rank stored.new) (length (C.items stored.new)) result.at (place + 1) }
+{
+    if cursor.left == 0 {
+        let inserted = stored.insert_at(cursor.at, item);
+        return Cursor {
+            at: stored.next(inserted),
+            left: 0,
+        };
+    }
+    match cursor.at {
+        Some(p) => {
+            let _replaced = stored.replace(p, item);
+            Cursor {
+                at: stored.next(p),
+                left: cursor.left - 1,
+            }
+        }
+        None => unreachable!(),
+    }
+}
+
+/// Removes the items that are left.
+pub fn remove_rest<T: Drop, C: Storage<T>>(stored: &mut C, cursor: Cursor<C::Position>)
+    requires good { ForSome cursor.at (C.is_good stored.old) }
+    requires in_range { place_before (C.rank stored.old) (length (C.items stored.old)) cursor.at + cursor.left ≤ length (C.items stored.old) }
+    ensures list { let place = place_before (C.rank stored.old) (length (C.items stored.old)) cursor.at in C.items stored.new ≡ take place (C.items stored.old) ++ drop (place + cursor.left) (C.items stored.old) }
+    ensures space { C.room stored.old ≤ C.room stored.new }
+{
+    let mut at = cursor.at;
+    for _removed in 0..cursor.left {
+        match at {
+            Some(p) => {
+                let (_, following) = stored.remove_at(p);
+                at = following;
+            }
+            None => unreachable!(),
+        }
+    }
+}
+
+/// Lets one item stand for the whole run.
+pub fn replace_run<T: Drop, C: Storage<T>>(stored: &mut C, cursor: Cursor<C::Position>, item: T)
+    requires good { ForSome cursor.at (C.is_good stored.old) }
+    requires in_range { place_before (C.rank stored.old) (length (C.items stored.old)) cursor.at + cursor.left ≤ length (C.items stored.old) }
+    requires space { 1 ≤ cursor.left + C.room stored.old }
+    ensures { let place = place_before (C.rank stored.old) (length (C.items stored.old)) cursor.at in C.items stored.new ≡ take place (C.items stored.old) ++ item ∷ drop (place + cursor.left) (C.items stored.old) }
+{
+    let rest = put::<T, C>(stored, cursor, item);
+    remove_rest::<T, C>(stored, rest);
+}
