@@ -4,8 +4,12 @@ pub use Rattle.range_keys.specs.Order
 pub use Rattle.range_keys.specs.Position
 pub use Rattle.range_keys.specs.Signed
 pub use Rattle.range_keys.specs.Unsigned
+pub use Rattle.range_algebra.specs.Combined
+pub use Rattle.range_algebra.specs.Compared
 pub use Rattle.range_algebra.specs.Extremes
+pub use Rattle.range_algebra.specs.Parts
 pub use Rattle.range_algebra.specs.Range
+pub use Rattle.range_algebra.specs.Relations
 pub use Rattle.range_store.specs.Counting
 pub use Rattle.range_store.specs.Places
 pub use Rattle.range_map.specs.Bindings
@@ -16,5 +20,5 @@ pub use Rattle.range_map.specs.Stored
 -- The types that contracts name.
 pub use Rattle.range_algebra.specs.declared.any.AnyRange
 pub use Rattle.range_store.specs.declared.storage.Item
-pub use Rattle.range_map.specs.declared.run.Command
-pub use Rattle.range_map.specs.declared.run.Reply
+pub use Rattle.range_map.specs.declared.command.Command
+pub use Rattle.range_map.specs.declared.command.Reply

@@ -9,10 +9,13 @@ pub mod range;
 pub mod storage;
 
 pub use range::any::AnyRange;
-pub use range::bound::{AsBound, BoundOrd, BoundOrdering, Directed};
-pub use range::ordering::RangeOrdering;
+pub use range::bound::{AsBound, BoundOrd, BoundOrdering, BoundPartialOrd, Directed, Dist};
+pub use range::ordering::{RangeOrdering, RangePartialOrd};
 pub use range::traits::{Measure, PartialEnum};
-pub use range::{AsRange, IntoRange};
+pub use range::{
+    AsRange, Difference, IntoRange, Product, ProductArg, RangeFromExcluded, RangeFromExcludedTo,
+    RangeFromExcludedToIncluded, RelativePosition,
+};
 
 use storage::{Item, VecStorage};
 
