@@ -97,11 +97,11 @@ module _ {K : Type 0} (order : KeyOrder K) (lawful : IsLawful order) where
     last_is_by P Greater h = inl h
 
   -- a key that a start holds is held by an earlier one
-  start_below : (a b : Bound K) (k : K) → order.is_key k → Le places (start_position order a) (start_position order b) → StartHolds order b k → StartHolds order a k
+  pub start_below : (a b : Bound K) (k : K) → order.is_key k → Le places (start_position order a) (start_position order b) → StartHolds order b k → StartHolds order a k
   start_below a b k key le h =
       (start_holds order lawful a k key).1 (le_trans places (position_total order.cmp lawful.total) (start_position order a) (start_position order b) (Beside k At) le ((start_holds order lawful b k key).0 h))
 
-  end_above : (a b : Bound K) (k : K) → order.is_key k → Le places (end_position order b) (end_position order a) → EndHolds order b k → EndHolds order a k
+  pub end_above : (a b : Bound K) (k : K) → order.is_key k → Le places (end_position order b) (end_position order a) → EndHolds order b k → EndHolds order a k
   end_above a b k key le h =
       (end_holds order lawful a k key).1 (le_trans places (position_total order.cmp lawful.total) (Beside k At) (end_position order b) (end_position order a) ((end_holds order lawful b k key).0 h) le)
 

@@ -4,8 +4,10 @@ pub mod Completeness
 pub mod Ends
 pub mod Holding
 pub mod Lists
+pub mod Measures
 pub mod Meeting
 pub mod Pieces
 pub mod Places
 pub mod Products
 pub mod Results
+pub mod Taking

@@ -33,6 +33,13 @@ IsBoundInfallible is_infallible (Included a) = is_infallible a
 IsBoundInfallible is_infallible (Excluded a) = is_infallible a
 IsBoundInfallible is_infallible Unbounded = Unit {0}
 
+-- both bounds are cloned
+abbrev pub IsRangeClone : {T : Type 0} → (T → T → Type 0) → AnyRange T → AnyRange T → Type 0
+IsRangeClone is_clone r s = IsBoundClone is_clone r.start s.start × IsBoundClone is_clone r.end s.end
+
+abbrev pub IsRangeInfallible : {T : Type 0} → (T → Type 0) → AnyRange T → Type 0
+IsRangeInfallible is_infallible r = IsBoundInfallible is_infallible r.start × IsBoundInfallible is_infallible r.end
+
 -- both bounds are of one kind, with equal values
 abbrev pub SameBound : {K : Type 0} → KeyOrder K → Bound K → Bound K → Type 0
 SameBound order (Included a) (Included b) = order.cmp a b ≡ Equal
@@ -81,6 +88,11 @@ module _ {K : Type 0} (order : KeyOrder K) (lawful : IsLawful order) where
   pub same_bounds : (r s : AnyRange K) → SameBound order r.start s.start → SameBound order r.end s.end → range_cmp order r s ≡ Equal
   same_bounds r s h k =
       level (position_cmp order.cmp (start_position order r.start) (start_position order s.start)) (position_cmp order.cmp (end_position order r.end) (end_position order s.end)) (same_start r.start s.start h) (same_end r.end s.end k)
+
+  pub same_itself : (a : Bound K) → SameBound order a a
+  same_itself (Included a) = tied_itself lawful.total a
+  same_itself (Excluded a) = tied_itself lawful.total a
+  same_itself Unbounded = tt
 
   module _ (is_clone : K → K → Type 0) (equal : (x y : K) → is_clone x y → order.cmp x y ≡ Equal) where
     pub bound_clone : (a b : Bound K) → IsBoundClone is_clone a b → SameBound order a b

@@ -6,7 +6,9 @@ pub mod Cuts
 pub mod Extremes
 pub mod Intervals
 pub mod Joins
+pub mod Number
 pub mod Orders
+pub mod PartClones
 pub mod Parts
 pub mod Range
 pub mod RangeOrder

@@ -4,7 +4,7 @@ ghost use Rattle.std.specs.Prelude.{◌≡◌, ◌↔◌, ⊤, IsTrue, IfOk, IfS
 ghost use Rattle.range_algebra.specs.Extremes.{IsLeastOf, IsGreatestOf, HasNoLeast, HasNoGreatest};
 ghost use Rattle.range_algebra.specs.Clones.{IsBoundClone, IsBoundInfallible};
 ghost use Rattle.std.specs.declared.cmp.Ordering.TheVariants.{Equal};
-ghost use Rattle.std.specs.Option.{option_map};
+ghost use Rattle.std.specs.Option.{option_or};
 ghost use Rattle.range_keys.specs.Order.{IsComplete, SameAnswer};
 ghost use Rattle.range_algebra.specs.Range.{IsEmptyRange, IsKeyless, Holds, HoldSame, LiesWithin, IsKnownRange, ClonesAreEqual, start_key, end_key};
 ghost use Rattle.std.proofs.Common.{refl, ap, ◌∙◌};
@@ -12,7 +12,10 @@ ghost use Rattle.std.specs.Ordering.{eq_by_cmp, as_partial_cmp, is_eq};
 ghost use Rattle.std.specs.Cmp.{eq_by_cmp_equiv, partial_equiv_from_equiv, partial_order_from_total};
 ghost use Rattle.range_algebra.specs.RangeOrder.{range_cmp, range_total, range_input, range_respects};
 
+mod combined;
 mod conversion;
+mod measure;
+mod references;
 
 use crate::inner;
 pub use crate::inner::clone_bound;
@@ -145,6 +148,21 @@ impl<T: PartialEnum + Bounded + Clone> AnyRange<T> {
             return Ok(None);
         }
         key_of_end(&self.end)
+    }
+}
+
+impl<T: PartialEnum + Bounded + Clone> AnyRange<T> {
+    /// A key of the range: the least, or else the greatest, or `None` where the range is empty or its bounds name no key.
+    pub fn pick(&self) -> Result<Option<T>, AllocError>
+        requires clones { ClonesAreEqual T.is_clone T.eq }
+        ensures empty { IsEmptyRange T.order self.now → IfOk result (λ key. key ≡ None) }
+        ensures nonempty { ¬ IsEmptyRange T.order self.now → IfOk result (λ key. SameAnswer T.order (option_or (start_key T.order self.now.start) (end_key T.order self.now.end)) key) }
+        ensures held { IfOk result (λ key. IfSome key (Holds T.order self.now)) }
+    {
+        match self.first()? {
+            Some(key) => Ok(Some(key)),
+            None => self.last(),
+        }
     }
 }
 

@@ -14,13 +14,20 @@ use crate::inner::{compare_bounds, starts_past_end};
 use crate::range::{AsRange, Difference, Product, ProductArg};
 use range_keys::inner::position::{compare_positions, position_of_end, position_of_start};
 use range_keys::traits::PartialEnum;
-use std::ops::Bound;
+use std::ops::{Bound, RangeBounds};
 
 /// The range over references to its bounds.
 pub fn bounds_of<R: AsRange>(range: &R) -> AnyRange<&R::Item>
     ensures { range_of result ≡ R.range range.now }
 {
     AnyRange::new(range.start(), range.end())
+}
+
+/// The range over references to its bounds.
+pub fn by_reference<T: Drop>(range: &AnyRange<T>) -> AnyRange<&T>
+    ensures { range_of result ≡ range.now }
+{
+    AnyRange::new(range.start_bound(), range.end_bound())
 }
 
 /// The bound on the other side of the same place.

@@ -59,6 +59,13 @@ pub fn holds<T: PartialEnum>(range: &AnyRange<T>, key: &T) -> bool
 pub fn clone_bound<T: Clone>(bound: &Bound<T>) -> Result<Bound<T>, AllocError>
     ensures { MatchResult result (IsBoundClone T.is_clone bound.now) (λ _. IsBoundInfallible T.is_infallible bound.now → ⊥) }
 {
+    clone_of(bound.as_ref())
+}
+
+/// A clone of what the bound refers to, in a bound of the same kind.
+pub fn clone_of<T: Clone>(bound: Bound<&T>) -> Result<Bound<T>, AllocError>
+    ensures { MatchResult result (IsBoundClone T.is_clone (bound_map (λ x. x.now) bound.entry)) (λ _. IsBoundInfallible T.is_infallible (bound_map (λ x. x.now) bound.entry) → ⊥) }
+{
     Ok(match bound {
         Bound::Included(key) => Bound::Included(key.clone()?),
         Bound::Excluded(key) => Bound::Excluded(key.clone()?),

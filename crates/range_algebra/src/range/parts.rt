@@ -1,6 +1,12 @@
 //! The parts of ranges that are cut by one another.
 
+ghost use Rattle.std.specs.Prelude.{MatchResult};
+ghost use Rattle.range_algebra.specs.PartClones.{IsPartClone, IsPartInfallible, IsOptionClone, IsOptionInfallible, IsProductClone, IsProductInfallible};
+ghost use Rattle.std.specs.Option.{option_map};
+ghost use Rattle.range_algebra.specs.References.{part_of, product_of};
+
 use crate::any::AnyRange;
+use std::alloc::AllocError;
 
 /// Where something lies to a range.
 #[derive(Clone, Copy, PartialEq, Eq, Debug)]
@@ -40,4 +46,47 @@ pub struct Product<T> {
     pub intersection: Option<AnyRange<T>>,
     /// What one of the ranges holds after the other.
     pub after: Option<ProductArg<T>>,
+}
+
+impl<'a, T: Clone> ProductArg<&'a T> {
+    /// The same part over clones of the keys.
+    pub fn cloned(&self) -> Result<ProductArg<T>, AllocError>
+        ensures { MatchResult result (IsPartClone T.is_clone (part_of self.now)) (λ _. ¬ IsPartInfallible T.is_infallible (part_of self.now)) }
+    {
+        match self {
+            ProductArg::Subject(range) => Ok(ProductArg::Subject((*range).cloned()?)),
+            ProductArg::Object(range) => Ok(ProductArg::Object((*range).cloned()?)),
+        }
+    }
+}
+
+impl<'a, T: Clone> Product<&'a T> {
+    /// The same parts over clones of the keys.
+    pub fn cloned(&self) -> Result<Product<T>, AllocError>
+        ensures { MatchResult result (IsProductClone T.is_clone (product_of self.now)) (λ _. ¬ IsProductInfallible T.is_infallible (product_of self.now)) }
+    {
+        let before = part_cloned(&self.before)?;
+        let intersection = match &self.intersection {
+            Some(range) => Some((*range).cloned()?),
+            None => None,
+        };
+        let after = part_cloned(&self.after)?;
+        Ok(Product {
+            before,
+            intersection,
+            after,
+        })
+    }
+}
+
+/// The same part, if there is one, over clones of the keys.
+fn part_cloned<'a, T: Clone>(
+    part: &Option<ProductArg<&'a T>>,
+) -> Result<Option<ProductArg<T>>, AllocError>
+    ensures { MatchResult result (IsOptionClone (IsPartClone T.is_clone) (option_map part_of part.now)) (λ _. ¬ IsOptionInfallible (IsPartInfallible T.is_infallible) (option_map part_of part.now)) }
+{
+    match part {
+        Some(part) => Ok(Some(part.cloned()?)),
+        None => Ok(None),
+    }
 }
