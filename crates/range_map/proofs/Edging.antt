@@ -32,8 +32,12 @@ use Rattle.range_store.specs.Places.{IsAt}
 use Rattle.range_algebra.specs.Orders.{eq_le, eq_ge, lt_not_le}
 use Rattle.range_algebra.specs.Chains.{Trails, Respects}
 use Rattle.range_algebra.specs.Joins.{IsLeftOf, IsRightOf, left_apart, left_joined, right_apart, right_joined, leading_last, trailing_first, bound}
-use Rattle.range_map.specs.Stored.{Touches}
+use Rattle.range_map.specs.Ranges.{Touches}
 use Rattle.range_map.specs.Changes.{IsInserted, IsRemoved}
+use Rattle.range_map.specs.Ranges.{Meets}
+use Rattle.range_map.specs.Frames.{GaveWayTo, WasCutOut}
+use Rattle.range_map.proofs.Forms.{before_is}
+use Rattle.range_map.proofs.Windows.{every_both}
 use Rattle.range_map.specs.Reach.{ReachesBefore, ReachesBehind}
 use Rattle.range_map.specs.Edits.{turned_bound, with_start, with_end}
 use Rattle.range_algebra.specs.Clones.{SameBound}
@@ -308,9 +312,10 @@ module _ {K : Type 0} (order : KeyOrder K) (lawful : IsLawful order) {V : Type 0
     pub inserted : (new : List (Item (AnyRange K) V)) (v : V) (m : Item (AnyRange K) V) (at end : ℕ) (left right : Option (Item (AnyRange K) V)) (start finish : Option (Bound K)) →
         IsLeftEdge order same lawful equal items r v at left start → IsRightEdge order same lawful equal items r v end right finish →
         m.key.start ≡ unwrap_or start r.start → m.key.end ≡ unwrap_or finish r.end → same m.value v ≡ true →
+        GaveWayTo order same items new r v →
         new ≡ take at items ++ option_items left ++ option_items (Some m) ++ option_items right ++ drop end items →
         IsInserted order same items new r v
-    inserted new v m at end left right start finish on_left on_right starts ends values changed =
+    inserted new v m at end left right start finish on_left on_right starts ends values frame changed =
         let all = stored_known order lawful same equal items stored in
         let front = take at items ++ option_items left in
         let behind = option_items right ++ drop end items in
@@ -322,14 +327,15 @@ module _ {K : Type 0} (order : KeyOrder K) (lawful : IsLawful order) {V : Type 0
         let others = every_append _ front (m ∷ behind)
         (every_append _ (take at items) (option_items left) (known_take order lawful same equal items at all) on_left.known)
         (known_m, every_append _ (option_items right) (drop end items) on_right.known (known_drop order lawful same equal items end all)) in
-        rw list (record { stored = chain_stored order lawful same equal (front ++ m ∷ behind) others result.chain; bound = bound_after order lawful same equal items (front ++ m ∷ behind) r v known all others result })
+        record { stored = rw list (chain_stored order lawful same equal (front ++ m ∷ behind) others result.chain); bound = rw list (bound_after order lawful same equal items (front ++ m ∷ behind) r v known all others result); frame = frame }
 
     -- the list with the range unbound
     pub removed : (new : List (Item (AnyRange K) V)) (at end : ℕ) (left right : Option (Item (AnyRange K) V)) →
         IsLeftRest order same lawful equal items r at left → IsRightRest order same lawful equal items r end right →
+        WasCutOut order same items new r →
         new ≡ take at items ++ option_items left ++ [] ++ option_items right ++ drop end items →
         IsRemoved order same items new r
-    removed new at end left right on_left on_right changed =
+    removed new at end left right on_left on_right frame changed =
         let all = stored_known order lawful same equal items stored in
         let front = take at items ++ option_items left in
         let behind = option_items right ++ drop end items in
@@ -338,4 +344,13 @@ module _ {K : Type 0} (order : KeyOrder K) (lawful : IsLawful order) {V : Type 0
         let others = every_append _ front behind
         (every_append _ (take at items) (option_items left) (known_take order lawful same equal items at all) on_left.known)
         (every_append _ (option_items right) (drop end items) on_right.known (known_drop order lawful same equal items end all)) in
-        rw list (record { stored = chain_stored order lawful same equal (front ++ behind) others result.chain; unbound = unbound_after order lawful same equal items (front ++ behind) r known all others result })
+        let known_front = every_append _ (take at items) (option_items left) (known_take order lawful same equal items at all) on_left.known in
+        let known_behind = every_append _ (option_items right) (drop end items) on_right.known (known_drop order lawful same equal items end all) in
+        let before = every_weaker _ _ front (λ i h m. m.0 ((before_is order lawful i.key.end r.start h.0.1 known.0).1 h.1)) (every_both (λ i. IsKnownRange order i.key) _ front known_front on_left.left.ends) in
+        let after = every_weaker _ _ behind (λ i h m. m.1 ((before_is order lawful r.end i.key.start known.1 h.0.0).1 h.1)) (every_both (λ i. IsKnownRange order i.key) _ behind known_behind on_right.right.starts) in
+        record {
+          stored = rw list (chain_stored order lawful same equal (front ++ behind) others result.chain);
+          unbound = rw list (unbound_after order lawful same equal items (front ++ behind) r known all others result);
+          apart = rw list (every_append (λ i. Meets order i.key r → ⊥) front behind before after);
+          frame = frame;
+        }

@@ -22,8 +22,10 @@ use Rattle.range_algebra.specs.Chains.{Good, Leads, Follows, IsChain, Held, Has,
 use Rattle.range_algebra.specs.Joins.{IsBoundTo, IsUnbound}
 use Rattle.range_algebra.specs.Cuts.{past, lower, upper}
 use Rattle.range_map.specs.ItemCuts.{item_lower, item_upper}
-use Rattle.range_map.specs.Stored.{LiesBefore, Touches, IsStored}
+use Rattle.range_map.specs.Stored.{IsStored}
+use Rattle.range_map.specs.Ranges.{LiesBefore, Touches}
 use Rattle.range_map.specs.Bindings.{IsBound, BindsTo, Binds, IsSomeOf, IsBoundAfter, IsUnboundAfter}
+use Rattle.range_map.proofs.Listed.{IsListed, listed, stored_by}
 use Rattle.range_algebra.proofs.Places.{reaches, turned, unbounded_end, held_between}
 
 not_greater : (o : Ordering) → (o ≡ Greater → ⊥) → is_gt o ≡ false
@@ -86,30 +88,39 @@ module _ {K : Type 0} (order : KeyOrder K) (lawful : IsLawful order) where
     abbrev pub Hold : (V → Bool) → Position K → List (Item (AnyRange K) V) → Type 0
     Hold W p items = Has places (position_total order.cmp lawful.total) same equal (item_lower order) (item_upper order) (λ i. i.value) W p items
 
-    pub stored_known : (items : List (Item (AnyRange K) V)) → IsStored order same items → Known items
-    stored_known [] h = tt
-    stored_known (i ∷ []) h = (h.0, tt)
-    stored_known (i ∷ j ∷ rest) h = (h.0, stored_known (j ∷ rest) h.4)
+    listed_known : (items : List (Item (AnyRange K) V)) → IsListed order lawful same items → Known items
+    listed_known [] h = tt
+    listed_known (i ∷ []) h = (h.0, tt)
+    listed_known (i ∷ j ∷ rest) h = (h.0, listed_known (j ∷ rest) h.4)
 
-    pub stored_chain : (items : List (Item (AnyRange K) V)) → IsStored order same items → Chained items
-    stored_chain [] h = tt
-    stored_chain (i ∷ []) h = ((nonempty_good i.key h.0).0 h.1, tt)
-    stored_chain (i ∷ j ∷ rest) h =
-        let known = stored_known (j ∷ rest) h.4 in
-        let chain = stored_chain (j ∷ rest) h.4 in
+    pub stored_known : (items : List (Item (AnyRange K) V)) → IsStored order same items → Known items
+    stored_known items h = listed_known items (listed order lawful same items h)
+
+    listed_chain : (items : List (Item (AnyRange K) V)) → IsListed order lawful same items → Chained items
+    listed_chain [] h = tt
+    listed_chain (i ∷ []) h = ((nonempty_good i.key h.0).0 h.1, tt)
+    listed_chain (i ∷ j ∷ rest) h =
+        let known = listed_known (j ∷ rest) h.4 in
+        let chain = listed_chain (j ∷ rest) h.4 in
         let le = (before_is i.key.end j.key.start h.0.1 known.0.0).0 h.2 in
         ((nonempty_good i.key h.0).0 h.1, ((le, λ k s. h.3 ((touches_is i.key.end j.key known.0 chain.0 le).1 k) s), chain))
 
-    pub chain_stored : (items : List (Item (AnyRange K) V)) → Known items → Chained items → IsStored order same items
-    chain_stored [] known chain = tt
-    chain_stored (i ∷ []) known chain = (known.0, (nonempty_good i.key known.0).1 chain.0)
-    chain_stored (i ∷ j ∷ rest) known chain = (
+    pub stored_chain : (items : List (Item (AnyRange K) V)) → IsStored order same items → Chained items
+    stored_chain items h = listed_chain items (listed order lawful same items h)
+
+    chain_listed : (items : List (Item (AnyRange K) V)) → Known items → Chained items → IsListed order lawful same items
+    chain_listed [] known chain = tt
+    chain_listed (i ∷ []) known chain = (known.0, (nonempty_good i.key known.0).1 chain.0)
+    chain_listed (i ∷ j ∷ rest) known chain = (
       known.0,
       (nonempty_good i.key known.0).1 chain.0,
       (before_is i.key.end j.key.start known.0.1 known.1.0.0).1 chain.1.0.0,
       λ touching s. chain.1.0.1 ((touches_is i.key.end j.key known.1.0 chain.1.1.0 chain.1.0.0).0 touching) s,
-      chain_stored (j ∷ rest) known.1 chain.1.1,
+      chain_listed (j ∷ rest) known.1 chain.1.1,
     )
+
+    pub chain_stored : (items : List (Item (AnyRange K) V)) → Known items → Chained items → IsStored order same items
+    chain_stored items known chain = stored_by order lawful same items (chain_listed items known chain)
 
     pub binds_hold : (items : List (Item (AnyRange K) V)) (k : K) (v : V) → Known items → order.is_key k → BindsTo order same items k v ↔ Hold (λ u. same u v) (Beside k At) items
     binds_hold [] k v known key = (λ h. h, λ h. h)

@@ -25,6 +25,7 @@ use Rattle.range_map.specs.Stored.{IsStored}
 use Rattle.range_map.specs.Bindings.{IsBound, BindsTo}
 use Rattle.range_map.specs.Window.{IsFound, IsJustBefore}
 use Rattle.range_map.proofs.Forms.{places}
+use Rattle.range_map.proofs.Listed.{IsListed, listed}
 use Rattle.range_algebra.proofs.Lists.{every_at, every_take, every_drop, parts, parts_at, drop_all}
 
 less_is : (o : Ordering) → o ≡ Less → is_lt o ≡ true
@@ -50,16 +51,16 @@ module _ {K : Type 0} (order : KeyOrder K) (lawful : IsLawful order) {V : Type 0
   own_order : (i : Item (AnyRange K) V) → (IsEmptyRange order i.key → ⊥) → Le (places order lawful) (Start i) (End i)
   own_order i h = not_greater (places order lawful (Start i) (End i)) h
 
-  stored_nonempty : (i : Item (AnyRange K) V) (rest : List (Item (AnyRange K) V)) → IsStored order same (i ∷ rest) → IsEmptyRange order i.key → ⊥
+  stored_nonempty : (i : Item (AnyRange K) V) (rest : List (Item (AnyRange K) V)) → IsListed order lawful same (i ∷ rest) → IsEmptyRange order i.key → ⊥
   stored_nonempty i [] h = h.1
   stored_nonempty i (j ∷ rest) h = h.1
 
-  pub stored_tail : (i : Item (AnyRange K) V) (rest : List (Item (AnyRange K) V)) → IsStored order same (i ∷ rest) → IsStored order same rest
+  stored_tail : (i : Item (AnyRange K) V) (rest : List (Item (AnyRange K) V)) → IsListed order lawful same (i ∷ rest) → IsListed order lawful same rest
   stored_tail i [] h = tt
   stored_tail i (j ∷ rest) h = h.4
 
   -- what follows an item starts past its end
-  pub starts_rise : (i : Item (AnyRange K) V) (rest : List (Item (AnyRange K) V)) → IsStored order same (i ∷ rest) → Every (λ j. Lt (places order lawful) (End i) (Start j)) rest
+  starts_rise : (i : Item (AnyRange K) V) (rest : List (Item (AnyRange K) V)) → IsListed order lawful same (i ∷ rest) → Every (λ j. Lt (places order lawful) (End i) (Start j)) rest
   starts_rise i [] h = tt
   starts_rise i (j ∷ rest) h =
       let total = position_total order.cmp lawful.total in
@@ -67,22 +68,25 @@ module _ {K : Type 0} (order : KeyOrder K) (lawful : IsLawful order) {V : Type 0
       let own = own_order j (stored_nonempty j rest h.4) in
       (h.2, every_weaker _ _ rest (λ k l. lt_trans cmp total (End i) (End j) (Start k) (lt_le_trans cmp total (End i) (Start j) (End j) h.2 own) l) (starts_rise j rest h.4))
 
-  every_nonempty : (rest : List (Item (AnyRange K) V)) → IsStored order same rest → Every (λ j. Le (places order lawful) (Start j) (End j)) rest
+  every_nonempty : (rest : List (Item (AnyRange K) V)) → IsListed order lawful same rest → Every (λ j. Le (places order lawful) (Start j) (End j)) rest
   every_nonempty [] h = tt
   every_nonempty (i ∷ rest) h = (own_order i (stored_nonempty i rest h), every_nonempty rest (stored_tail i rest h))
 
-  pub partitioned : (items : List (Item (AnyRange K) V)) (p : Position K) → IsStored order same items → IsPartitionedBy (λ i. is_lt (places order lawful (End i) p)) items
-  partitioned [] p h i j d le within passes = absurd (omega arith)
-  partitioned (x ∷ xs) p h zero zero d le within passes = passes
-  partitioned (x ∷ xs) p h zero (suc j) d le within passes =
+  listed_partitioned : (items : List (Item (AnyRange K) V)) (p : Position K) → IsListed order lawful same items → IsPartitionedBy (λ i. is_lt (places order lawful (End i) p)) items
+  listed_partitioned [] p h i j d le within passes = absurd (omega arith)
+  listed_partitioned (x ∷ xs) p h zero zero d le within passes = passes
+  listed_partitioned (x ∷ xs) p h zero (suc j) d le within passes =
       let total = position_total order.cmp lawful.total in
       let cmp = places order lawful in
       let y = get_or xs j d in
       let rise = every_at (λ k. Lt cmp (End x) (Start k)) xs j d (starts_rise x xs h) (omega arith) in
       let own = every_at (λ k. Le cmp (Start k) (End k)) xs j d (every_nonempty xs (stored_tail x xs h)) (omega arith) in
       less_is (cmp (End x) p) (lt_trans cmp total (End x) (End y) p (lt_le_trans cmp total (End x) (Start y) (End y) rise own) (lt_of (cmp (End y) p) passes))
-  partitioned (x ∷ xs) p h (suc i) zero d le within passes = absurd (omega arith)
-  partitioned (x ∷ xs) p h (suc i) (suc j) d le within passes = partitioned xs p (stored_tail x xs h) i j d (omega arith) (omega arith) passes
+  listed_partitioned (x ∷ xs) p h (suc i) zero d le within passes = absurd (omega arith)
+  listed_partitioned (x ∷ xs) p h (suc i) (suc j) d le within passes = listed_partitioned xs p (stored_tail x xs h) i j d (omega arith) (omega arith) passes
+
+  pub partitioned : (items : List (Item (AnyRange K) V)) (p : Position K) → IsStored order same items → IsPartitionedBy (λ i. is_lt (places order lawful (End i) p)) items
+  partitioned items p h = listed_partitioned items p (listed order lawful same items h)
 
   pub found_at : {P : Type 0} (is_good : P → Type 0) (rank : P → ℕ) (items : List (Item (AnyRange K) V)) (p : Position K) (before from : Option P) (place : ℕ) → IsAt is_good rank (length items) from place → IsJustBefore is_good rank before place → IsFrontOf (λ i. is_lt (places order lawful (End i) p)) items place → IsFound order is_good rank items p before from
   found_at is_good rank items p before from place at previous front =
@@ -97,7 +101,7 @@ module _ {K : Type 0} (order : KeyOrder K) (lawful : IsLawful order) {V : Type 0
         above = rw same_place (every_weaker _ _ (drop place items) (λ i e. not_lt cmp total p (End i) (not_less (cmp (End i) p) e)) (every_drop (λ i. is_lt (cmp (End i) p) ≡ false) items place front.0 front.1.1));
       }
 
-  pub stored_drop : (n : ℕ) (items : List (Item (AnyRange K) V)) → IsStored order same items → IsStored order same (drop n items)
+  stored_drop : (n : ℕ) (items : List (Item (AnyRange K) V)) → IsListed order lawful same items → IsListed order lawful same (drop n items)
   stored_drop zero items h = h
   stored_drop (suc n) [] h = tt
   stored_drop (suc n) (i ∷ rest) h = stored_drop n rest (stored_tail i rest h)
@@ -130,7 +134,7 @@ module _ {K : Type 0} (order : KeyOrder K) (lawful : IsLawful order) {V : Type 0
       let cmp = places order lawful in
       let total = position_total order.cmp lawful.total in
       let more : drop place items ≡ x ∷ drop (place + 1) items = drop_more items place x within ∙ ap (λ y. y ∷ drop (place + 1) items) (sym read) in
-      let rest : IsStored order same (x ∷ drop (place + 1) items) = rw more at (stored_drop place items stored) in
+      let rest : IsListed order lawful same (x ∷ drop (place + 1) items) = rw more at (stored_drop place items (listed order lawful same items stored)) in
       let ends : Every (λ i. Le cmp (Beside k At) (End i)) (x ∷ drop (place + 1) items) = rw more at above in
       let none = every_join (λ i. Holds order i.key k → ⊥) (take place items) (x ∷ drop (place + 1) items) (every_weaker _ _ (take place items) (λ i l. below_not i k key l) below)
       (not_held, every_weaker _ _ (drop (place + 1) items) (λ i l. above_not i k key (le_lt_trans cmp total (Beside k At) (End x) (Start i) ends.0 l)) (starts_rise x (drop (place + 1) items) rest)) in

@@ -3,8 +3,12 @@ pub mod CutParts
 pub mod Edging
 pub mod Forms
 pub mod Found
+pub mod Framing
 pub mod Histories
+pub mod Listed
 pub mod Openings
 pub mod Planning
 pub mod Replies
+pub mod RunParts
+pub mod Scans
 pub mod Windows

@@ -1,5 +1,11 @@
 -- What is to become of the items on each side of a range that is bound.
-use Rattle.std.proofs.Common.{◌≡◌, ℕ, ◌+◌, ◌-◌, ◌<◌, ◌≤◌, List, length, get_or, refl, ap, sym, ◌∙◌, arith, subst, Option, Some, None, Bool, true, false}
+use Rattle.std.proofs.Common.{◌≡◌, ℕ, ◌+◌, ◌-◌, ◌<◌, ◌≤◌, List, length, get_or, refl, ap, sym, ◌∙◌, arith, subst, Option, Some, None, Bool, true, false, IsTrue, [], ◌∷◌, ◌++◌, take, drop, inl, inr}
+use Rattle.std.proofs.lemmas.List.{append-nil, take_more, drop_more}
+use Rattle.range_algebra.specs.Chains.{any_left, any_right}
+use Rattle.range_algebra.specs.Intervals.{Every}
+use Rattle.range_map.specs.Ranges.{Touches}
+use Rattle.range_map.specs.Frames.{IsPart}
+use Rattle.range_map.proofs.Framing.{any_of_run, run_some}
 use Rattle.std.specs.Cmp.{IsEquivalence}
 use Rattle.std.specs.declared.ops.Bound.{Bound}
 use Rattle.range_keys.specs.Order.{KeyOrder, IsLawful}
@@ -14,13 +20,87 @@ use Rattle.range_map.specs.declared.window.Window.{Window}
 use Rattle.range_map.specs.Edits.{turned_bound, with_start, with_end}
 use Rattle.range_map.specs.Reach.{ReachesBefore, ReachesBehind}
 use Rattle.range_map.specs.Edges.{edge_at, IsLeftShape, IsRightShape, IsLeftRest, IsRightRest, TouchesBefore, TouchesNoneBefore, TouchesAfter, TouchesNoneAfter}
-use Rattle.range_map.specs.Plans.{IsLeftPlan, IsRightPlan}
+use Rattle.range_map.specs.Plans.{IsLeftFrame, IsRightFrame, IsLeftPlan, IsRightPlan}
 use Rattle.range_map.specs.declared.edges.Edge.{Edge}
 use Rattle.range_map.specs.declared.edges.Edge.TheVariants.{Plain, Cut, Joined}
 use Rattle.range_map.proofs.Edging.{element, element_is, left_rest_whole, left_rest_cut, right_rest_whole, right_rest_cut, left_edge_inside, left_edge_rest, left_edge_joined, left_edge_none, right_edge_inside, right_edge_rest, right_edge_joined, right_edge_none}
 
+none_last : {X : Type 0} (xs : List X) (y : X) → xs ++ y ∷ [] ≡ [] → ⊥
+none_last [] y e = cc
+none_last (x ∷ xs) y e = cc
+
 module _ {K : Type 0} (order : KeyOrder K) (lawful : IsLawful order) {V : Type 0} (same : V → V → Bool) (equal : IsEquivalence same) {P : Type 0} (is_good : P → Type 0) (rank : P → ℕ) (items : List (Item (AnyRange K) V)) (r : AnyRange K) (w : Window P) (place : ℕ) (stored : IsStored order same items) (known : IsKnownRange order r) (full : IsEmptyRange order r → ⊥) (window : IsWindow order is_good rank items r w place) (v : V) where
-  pub left_plan_inside : (p : P) (x : Item (AnyRange K) V) → ReachesBefore order is_good rank items r place w.count (Some p) → x ≡ get_or items (rank p) x → same x.value v ≡ true → IsLeftPlan order same lawful equal is_good rank items r v place (Some p) (Joined p) (Some p)
+  first_read : (x : Item (AnyRange K) V) → x ≡ get_or items place x → x ≡ get_or items (place + 0) x
+  first_read x read = let plus : place ≡ place + 0 = omega arith in read ∙ ap (λ n. get_or items n x) plus
+
+  last_read : (x : Item (AnyRange K) V) → 0 < w.count → x ≡ get_or items (place + w.count - 1) x → x ≡ get_or items (place + (w.count - 1)) x
+  last_read x some read = let plus : place + w.count - 1 ≡ place + (w.count - 1) = omega arith in read ∙ ap (λ n. get_or items n x) plus
+
+  pub left_frame_inside : (x : Item (AnyRange K) V) → x ≡ get_or items place x → 0 < w.count → IsLeftFrame order same items r v place w.count place None (Some x.key.start)
+  left_frame_inside x here some = record {
+    extra = [];
+    split = sym (append-nil (take place items));
+    touched = tt;
+    start_of = inr (inl (any_of_run (λ i. x.key.start ≡ i.key.start) items place w.count 0 x window.in_range some (first_read x here) refl));
+    made = tt;
+    whole = λ e. absurd (run_some items place w.count window.in_range some e);
+  }
+
+  pub left_frame_cut : (x : Item (AnyRange K) V) → x ≡ get_or items place x → 0 < w.count → (b : Bound K) → SameBound order (turned_bound r.start) b → IsLeftFrame order same items r v place w.count place (Some (with_end x b)) None
+  left_frame_cut x here some b same_b = record {
+    extra = [];
+    split = sym (append-nil (take place items));
+    touched = tt;
+    start_of = inl refl;
+    made = (
+      record {
+        start = inr (inl (any_of_run (λ i. x.key.start ≡ i.key.start) items place w.count 0 x window.in_range some (first_read x here) refl));
+        end = inr (inr same_b);
+        value = inr (any_of_run (λ i. IsTrue (same x.value i.value)) items place w.count 0 x window.in_range some (first_read x here) (equal.refl x.value));
+      },
+      tt,
+    );
+    whole = λ e. absurd (run_some items place w.count window.in_range some e);
+  }
+
+  pub right_frame_inside : (x : Item (AnyRange K) V) → x ≡ get_or items (place + w.count - 1) x → 0 < w.count → IsRightFrame order same items r v place w.count (place + w.count) None (Some x.key.end)
+  right_frame_inside x here some = record {
+    extra = [];
+    split = refl;
+    touched = tt;
+    end_of = inr (inl (any_left (λ i. x.key.end ≡ i.key.end) (take w.count (drop place items)) [] (any_of_run (λ i. x.key.end ≡ i.key.end) items place w.count (w.count - 1) x window.in_range (omega (arith, some)) (last_read x some here) refl)));
+    made = tt;
+    whole = λ e. absurd (run_some items place w.count window.in_range some (sym (append-nil (take w.count (drop place items))) ∙ e));
+  }
+
+  pub right_frame_cut : (x : Item (AnyRange K) V) → x ≡ get_or items (place + w.count - 1) x → 0 < w.count → (b : Bound K) (u : V) → SameBound order (turned_bound r.end) b → same u x.value ≡ true → IsRightFrame order same items r v place w.count (place + w.count) (Some (record { key = record { start = b; end = x.key.end }; value = u })) None
+  right_frame_cut x here some b u same_b values = record {
+    extra = [];
+    split = refl;
+    touched = tt;
+    end_of = inl refl;
+    made = (
+      record {
+        start = inr (inr same_b);
+        end = inr (inl (any_left (λ i. x.key.end ≡ i.key.end) (take w.count (drop place items)) [] (any_of_run (λ i. x.key.end ≡ i.key.end) items place w.count (w.count - 1) x window.in_range (omega (arith, some)) (last_read x some here) refl)));
+        value = inr (any_left (λ i. IsTrue (same u i.value)) (take w.count (drop place items)) [] (any_of_run (λ i. IsTrue (same u i.value)) items place w.count (w.count - 1) x window.in_range (omega (arith, some)) (last_read x some here) values));
+      },
+      tt,
+    );
+    whole = λ e. absurd (run_some items place w.count window.in_range some (sym (append-nil (take w.count (drop place items))) ∙ e));
+  }
+
+  touched_before : (n : ℕ) (x : Item (AnyRange K) V) → n + 1 ≡ place → x ≡ get_or items n x → TouchesBefore order same items place r v → Touches order x.key r × (same x.value v ≡ true)
+  touched_before n x at read touching =
+      let before : place - 1 ≡ n = omega (arith, at) in
+      subst (λ (y : Item (AnyRange K) V). Touches order y.key r × (same y.value v ≡ true)) (ap (λ m. get_or items m x) before ∙ sym read) (touching x)
+
+  touched_after : (x : Item (AnyRange K) V) → x ≡ get_or items (place + w.count) x → TouchesAfter order same items (place + w.count) r v → Touches order r x.key × (same x.value v ≡ true)
+  touched_after x read touching =
+      let t = subst (λ (y : Item (AnyRange K) V). Touches order r y.key × (same v y.value ≡ true)) (sym read) (touching x) in
+      (t.0, equal.symm x.value v ∙ t.1)
+
+  pub left_plan_inside : (p : P) (x : Item (AnyRange K) V) → ReachesBefore order is_good rank items r place w.count (Some p) → x ≡ get_or items (rank p) x → same x.value v ≡ true → IsLeftPlan order same lawful equal is_good rank items r v place w.count (Some p) (Joined p) (Some p)
   left_plan_inside p x reach read values =
       let here : x ≡ get_or items place x = read ∙ ap (λ n. get_or items n x) reach.1 in
       record {
@@ -31,10 +111,12 @@ module _ {K : Type 0} (order : KeyOrder K) (lawful : IsLawful order) {V : Type 0
         shape = (reach.0, reach.1, refl, refl, (x, here, refl));
         side = left_edge_inside order lawful same equal is_good rank items r w place stored known full window v x here reach.2 (reach.3 x here) values;
         run = (reach.0, reach.1);
+        frame = left_frame_inside x here reach.2;
+        few = omega arith;
         begins = omega arith;
       }
 
-  pub left_plan_cut : (p : P) (x : Item (AnyRange K) V) (b : Bound K) (from : Option P) → ReachesBefore order is_good rank items r place w.count (Some p) → x ≡ get_or items (rank p) x → same x.value v ≡ false → IsKnownBound order b → SameBound order (turned_bound r.start) b → IsAt is_good rank (length items) from (rank p + 1) → IsLeftPlan order same lawful equal is_good rank items r v place (Some p) (Cut p b) from
+  pub left_plan_cut : (p : P) (x : Item (AnyRange K) V) (b : Bound K) (from : Option P) → ReachesBefore order is_good rank items r place w.count (Some p) → x ≡ get_or items (rank p) x → same x.value v ≡ false → IsKnownBound order b → SameBound order (turned_bound r.start) b → IsAt is_good rank (length items) from (rank p + 1) → IsLeftPlan order same lawful equal is_good rank items r v place w.count (Some p) (Cut p b) from
   left_plan_cut p x b from reach read values known_b same_b next =
       let here : x ≡ get_or items place x = read ∙ ap (λ n. get_or items n x) reach.1 in
       record {
@@ -45,10 +127,12 @@ module _ {K : Type 0} (order : KeyOrder K) (lawful : IsLawful order) {V : Type 0
         shape = (reach.0, reach.1, refl, refl, (x, here, refl));
         side = left_edge_rest order lawful same equal is_good rank items r w place stored known full window v (with_end x b) (left_rest_cut order lawful same equal is_good rank items r w place stored known full window x here reach.2 (reach.3 x here) b known_b same_b) values;
         run = subst (λ (n : ℕ). IsAt is_good rank (length items) from (n + 1)) reach.1 next;
+        frame = left_frame_cut x here reach.2 b same_b;
+        few = omega arith;
         begins = omega arith;
       }
 
-  pub left_plan_joined : (q : P) (x : Item (AnyRange K) V) → ReachesBefore order is_good rank items r place w.count None → is_good q → rank q + 1 ≡ place → rank q < length items → x ≡ get_or items (rank q) x → TouchesBefore order same items place r v → IsLeftPlan order same lawful equal is_good rank items r v place None (Joined q) (Some q)
+  pub left_plan_joined : (q : P) (x : Item (AnyRange K) V) → ReachesBefore order is_good rank items r place w.count None → is_good q → rank q + 1 ≡ place → rank q < length items → x ≡ get_or items (rank q) x → TouchesBefore order same items place r v → IsLeftPlan order same lawful equal is_good rank items r v place w.count None (Joined q) (Some q)
   left_plan_joined q x reach is at within read touching = record {
     at = rank q;
     begin = rank q;
@@ -57,14 +141,23 @@ module _ {K : Type 0} (order : KeyOrder K) (lawful : IsLawful order) {V : Type 0
     shape = (is, refl, refl, refl, (x, read, refl));
     side = left_edge_joined order lawful same equal is_good rank items r w place stored known full window v (rank q) x (left_rest_whole order lawful same equal is_good rank items r w place stored known full window reach) at within read touching;
     run = (is, refl);
+    frame = record {
+      extra = x ∷ [];
+      split = ap (λ n. take n items) (sym at) ∙ (take_more items (rank q) x within ∙ ap (λ y. take (rank q) items ++ y ∷ []) (sym read));
+      touched = (touched_before (rank q) x at read touching, tt);
+      start_of = inr (inl (inl refl));
+      made = tt;
+      whole = λ e. absurd (cc);
+    };
+    few = omega arith;
     begins = omega (arith, at);
   }
 
   -- the item is the one at the position
-  pub left_joined_at : (q : P) → ReachesBefore order is_good rank items r place w.count None → is_good q → rank q + 1 ≡ place → rank q < length items → TouchesBefore order same items place r v → IsLeftPlan order same lawful equal is_good rank items r v place None (Joined q) (Some q)
+  pub left_joined_at : (q : P) → ReachesBefore order is_good rank items r place w.count None → is_good q → rank q + 1 ≡ place → rank q < length items → TouchesBefore order same items place r v → IsLeftPlan order same lawful equal is_good rank items r v place w.count None (Joined q) (Some q)
   left_joined_at q reach is at within touching = left_plan_joined q (element items (rank q) within) reach is at within (element_is items (rank q) within (element items (rank q) within)) touching
 
-  pub left_plan_plain : ReachesBefore order is_good rank items r place w.count None → TouchesNoneBefore order same items place r v → IsLeftPlan order same lawful equal is_good rank items r v place None Plain w.from
+  pub left_plan_plain : ReachesBefore order is_good rank items r place w.count None → TouchesNoneBefore order same items place r v → IsLeftPlan order same lawful equal is_good rank items r v place w.count None Plain w.from
   left_plan_plain reach none = record {
     at = place;
     begin = place;
@@ -73,13 +166,22 @@ module _ {K : Type 0} (order : KeyOrder K) (lawful : IsLawful order) {V : Type 0
     shape = (refl, refl, refl);
     side = left_edge_none order lawful same equal is_good rank items r w place stored known full window v (omega (arith, window.in_range)) (left_rest_whole order lawful same equal is_good rank items r w place stored known full window reach) none;
     run = window.position;
+    frame = record {
+      extra = [];
+      split = sym (append-nil (take place items));
+      touched = tt;
+      start_of = inl refl;
+      made = tt;
+      whole = λ e. (refl, refl);
+    };
+    few = omega arith;
     begins = omega arith;
   }
 
   last_at : (p : P) (x : Item (AnyRange K) V) → rank p + 1 ≡ place + w.count → x ≡ get_or items (rank p) x → x ≡ get_or items (place + w.count - 1) x
   last_at p x at read = let index : rank p ≡ place + w.count - 1 = omega arith in read ∙ ap (λ n. get_or items n x) index
 
-  pub right_plan_inside : (p : P) (x : Item (AnyRange K) V) → ReachesBehind order is_good rank items r place w.count (Some p) → x ≡ get_or items (rank p) x → same x.value v ≡ true → IsRightPlan order same lawful equal is_good rank items r v (place + w.count) (Some p) (Joined p)
+  pub right_plan_inside : (p : P) (x : Item (AnyRange K) V) → ReachesBehind order is_good rank items r place w.count (Some p) → x ≡ get_or items (rank p) x → same x.value v ≡ true → IsRightPlan order same lawful equal is_good rank items r v place w.count (Some p) (Joined p)
   right_plan_inside p x reach read values =
       let here = last_at p x reach.1 read in
       record {
@@ -89,10 +191,12 @@ module _ {K : Type 0} (order : KeyOrder K) (lawful : IsLawful order) {V : Type 0
         finish = Some x.key.end;
         shape = (reach.0, reach.1, refl, refl, (x, read, refl));
         side = right_edge_inside order lawful same equal is_good rank items r w place stored known full window v x here reach.2 (reach.3 x here) values;
+        frame = right_frame_inside x here reach.2;
+        few = omega arith;
         ends = omega arith;
       }
 
-  pub right_plan_cut : (p : P) (x : Item (AnyRange K) V) (b : Bound K) → ReachesBehind order is_good rank items r place w.count (Some p) → x ≡ get_or items (rank p) x → same x.value v ≡ false → IsKnownBound order b → SameBound order (turned_bound r.end) b → IsRightPlan order same lawful equal is_good rank items r v (place + w.count) (Some p) (Cut p b)
+  pub right_plan_cut : (p : P) (x : Item (AnyRange K) V) (b : Bound K) → ReachesBehind order is_good rank items r place w.count (Some p) → x ≡ get_or items (rank p) x → same x.value v ≡ false → IsKnownBound order b → SameBound order (turned_bound r.end) b → IsRightPlan order same lawful equal is_good rank items r v place w.count (Some p) (Cut p b)
   right_plan_cut p x b reach read values known_b same_b =
       let here = last_at p x reach.1 read in
       record {
@@ -102,10 +206,12 @@ module _ {K : Type 0} (order : KeyOrder K) (lawful : IsLawful order) {V : Type 0
         finish = None;
         shape = (reach.0, omega (arith, reach.1), omega (arith, reach.2), refl, (x, here, refl));
         side = right_edge_rest order lawful same equal is_good rank items r w place stored known full window (place + w.count) v (with_start x b) window.in_range (right_rest_cut order lawful same equal is_good rank items r w place stored known full window x here reach.2 (reach.3 x here) b known_b same_b x.value (equal.refl x.value)) values;
+        frame = right_frame_cut x here reach.2 b x.value same_b (equal.refl x.value);
+        few = omega arith;
         ends = omega (arith, reach.2);
       }
 
-  pub right_plan_joined : (q : P) (x : Item (AnyRange K) V) → ReachesBehind order is_good rank items r place w.count None → is_good q → rank q ≡ place + w.count → rank q < length items → x ≡ get_or items (rank q) x → TouchesAfter order same items (place + w.count) r v → IsRightPlan order same lawful equal is_good rank items r v (place + w.count) None (Joined q)
+  pub right_plan_joined : (q : P) (x : Item (AnyRange K) V) → ReachesBehind order is_good rank items r place w.count None → is_good q → rank q ≡ place + w.count → rank q < length items → x ≡ get_or items (rank q) x → TouchesAfter order same items (place + w.count) r v → IsRightPlan order same lawful equal is_good rank items r v place w.count None (Joined q)
   right_plan_joined q x reach is at within read touching =
       let here : x ≡ get_or items (place + w.count) x = read ∙ ap (λ n. get_or items n x) at in
       record {
@@ -115,10 +221,19 @@ module _ {K : Type 0} (order : KeyOrder K) (lawful : IsLawful order) {V : Type 0
         finish = Some x.key.end;
         shape = (is, omega (arith, at), refl, refl, (x, read, refl));
         side = right_edge_joined order lawful same equal is_good rank items r w place stored known full window (place + w.count) v x (omega (arith, at, within)) here (right_rest_whole order lawful same equal is_good rank items r w place stored known full window reach) touching;
+        frame = record {
+          extra = x ∷ [];
+          split = drop_more items (place + w.count) x (omega (arith, at, within)) ∙ ap (λ y. y ∷ drop (place + w.count + 1) items) (sym here);
+          touched = (touched_after x here touching, tt);
+          end_of = inr (inl (any_right (λ i. x.key.end ≡ i.key.end) (take w.count (drop place items)) (x ∷ []) (inl refl)));
+          made = tt;
+          whole = λ e. absurd (none_last (take w.count (drop place items)) x e);
+        };
+        few = omega arith;
         ends = omega arith;
       }
 
-  pub right_plan_plain : ReachesBehind order is_good rank items r place w.count None → TouchesNoneAfter order same items (place + w.count) r v → IsRightPlan order same lawful equal is_good rank items r v (place + w.count) None Plain
+  pub right_plan_plain : ReachesBehind order is_good rank items r place w.count None → TouchesNoneAfter order same items (place + w.count) r v → IsRightPlan order same lawful equal is_good rank items r v place w.count None Plain
   right_plan_plain reach none = record {
     upto = place + w.count;
     end = place + w.count;
@@ -126,21 +241,55 @@ module _ {K : Type 0} (order : KeyOrder K) (lawful : IsLawful order) {V : Type 0
     finish = None;
     shape = (refl, refl, refl);
     side = right_edge_none order lawful same equal is_good rank items r w place stored known full window (place + w.count) v window.in_range (right_rest_whole order lawful same equal is_good rank items r w place stored known full window reach) none;
+    frame = record {
+      extra = [];
+      split = refl;
+      touched = tt;
+      end_of = inl refl;
+      made = tt;
+      whole = λ e. (refl, refl);
+    };
+    few = omega arith;
     ends = omega arith;
   }
 
 module _ {K : Type 0} (order : KeyOrder K) (lawful : IsLawful order) {V : Type 0} (same : V → V → Bool) (equal : IsEquivalence same) {P : Type 0} (is_good : P → Type 0) (rank : P → ℕ) (items : List (Item (AnyRange K) V)) (r : AnyRange K) (w : Window P) (place : ℕ) (stored : IsStored order same items) (known : IsKnownRange order r) (full : IsEmptyRange order r → ⊥) (window : IsWindow order is_good rank items r w place) where
+  -- what is left of the first item of a window, and of the last
+  pub left_part : (x : Item (AnyRange K) V) → x ≡ get_or items place x → 0 < w.count → (b : Bound K) → SameBound order (turned_bound r.start) b → IsPart order same (take w.count (drop place items)) r (with_end x b)
+  left_part x here some b same_b =
+      let plus : place ≡ place + 0 = omega arith in
+      let read : x ≡ get_or items (place + 0) x = here ∙ ap (λ n. get_or items n x) plus in
+      record {
+        start = inr (inl (any_of_run (λ i. x.key.start ≡ i.key.start) items place w.count 0 x window.in_range some read refl));
+        end = inr (inr same_b);
+        value = any_of_run (λ i. IsTrue (same x.value i.value)) items place w.count 0 x window.in_range some read (equal.refl x.value);
+      }
+
+  pub right_part : (x : Item (AnyRange K) V) → x ≡ get_or items (place + w.count - 1) x → 0 < w.count → (b : Bound K) (u : V) → SameBound order (turned_bound r.end) b → same u x.value ≡ true → IsPart order same (take w.count (drop place items)) r (record { key = record { start = b; end = x.key.end }; value = u })
+  right_part x here some b u same_b values =
+      let plus : place + w.count - 1 ≡ place + (w.count - 1) = omega arith in
+      let read : x ≡ get_or items (place + (w.count - 1)) x = here ∙ ap (λ n. get_or items n x) plus in
+      record {
+        start = inr (inr same_b);
+        end = inr (inl (any_of_run (λ i. x.key.end ≡ i.key.end) items place w.count (w.count - 1) x window.in_range (omega (arith, some)) read refl));
+        value = any_of_run (λ i. IsTrue (same u i.value)) items place w.count (w.count - 1) x window.in_range (omega (arith, some)) read values;
+      }
+
   -- what stands before a range that is unbound
   pub record IsLeftCut (first : Option P) (b : Bound K) : Type 0 where
     pub rest : Option (Item (AnyRange K) V)
     pub shape : IsLeftShape is_good rank items (edge_at first b) place (place + length (option_items first)) rest None
     pub side : IsLeftRest order same lawful equal items r place rest
+    pub made : Every (IsPart order same (take w.count (drop place items)) r) (option_items rest)
+    pub few : length (option_items rest) ≤ 1
 
   pub left_cut_plan : (first : Option P) (b : Bound K) → ReachesBefore order is_good rank items r place w.count first → IsKnownBound order b → SameBound order (turned_bound r.start) b → IsLeftCut first b
   left_cut_plan None b reach known_b same_b = record {
     rest = None;
     shape = (omega arith, refl, refl);
     side = left_rest_whole order lawful same equal is_good rank items r w place stored known full window reach;
+    made = tt;
+    few = omega arith;
   }
   left_cut_plan (Some p) b reach known_b same_b =
       let within : place < length items = omega (arith, reach.2, window.in_range) in
@@ -150,18 +299,24 @@ module _ {K : Type 0} (order : KeyOrder K) (lawful : IsLawful order) {V : Type 0
         rest = Some (with_end x b);
         shape = (reach.0, reach.1, omega arith, refl, (x, here, refl));
         side = left_rest_cut order lawful same equal is_good rank items r w place stored known full window x here reach.2 (reach.3 x here) b known_b same_b;
+        made = (left_part x here reach.2 b same_b, tt);
+        few = omega arith;
       }
 
   pub record IsRightCut (last : Option P) (b : Bound K) (upto : ℕ) : Type 0 where
     pub rest : Option (Item (AnyRange K) V)
     pub shape : IsRightShape is_good rank items (edge_at last b) upto (place + w.count) rest None
     pub side : IsRightRest order same lawful equal items r (place + w.count) rest
+    pub made : Every (IsPart order same (take w.count (drop place items)) r) (option_items rest)
+    pub few : length (option_items rest) ≤ 1
 
   pub right_cut_plan : (last : Option P) (b : Bound K) (upto : ℕ) → upto + length (option_items last) ≡ place + w.count → ReachesBehind order is_good rank items r place w.count last → IsKnownBound order b → SameBound order (turned_bound r.end) b → IsRightCut last b upto
   right_cut_plan None b upto at reach known_b same_b = record {
     rest = None;
     shape = (omega (arith, at), refl, refl);
     side = right_rest_whole order lawful same equal is_good rank items r w place stored known full window reach;
+    made = tt;
+    few = omega arith;
   }
   right_cut_plan (Some p) b upto at reach known_b same_b =
       let within : place + w.count - 1 < length items = omega (arith, reach.2, window.in_range) in
@@ -172,4 +327,6 @@ module _ {K : Type 0} (order : KeyOrder K) (lawful : IsLawful order) {V : Type 0
         rest = Some (with_start x b);
         shape = (reach.0, omega (arith, at, reach.1), omega (arith, at), refl, (x, here ∙ ap (λ n. get_or items n x) index, refl));
         side = right_rest_cut order lawful same equal is_good rank items r w place stored known full window x here reach.2 (reach.3 x here) b known_b same_b x.value (equal.refl x.value);
+        made = (right_part x here reach.2 b x.value same_b (equal.refl x.value), tt);
+        few = omega arith;
       }

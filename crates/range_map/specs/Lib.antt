@@ -2,9 +2,14 @@ pub mod Bindings
 pub mod Changes
 pub mod Edges
 pub mod Edits
+pub mod Frames
 pub mod History
 pub mod ItemCuts
+pub mod Iterating
+pub mod Neighbours
+pub mod Pieces
 pub mod Plans
+pub mod Ranges
 pub mod Reach
 pub mod Runs
 pub mod Stored

@@ -23,7 +23,7 @@ pub enum Command<K, V> {
 }
 
 /// What a call answered.
-#[derive(Drop)]
+#[derive(Debug, Drop, PartialEq, Eq)]
 pub enum Reply<V> {
     Done,
     Memory,

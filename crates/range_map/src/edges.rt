@@ -129,7 +129,7 @@ pub(crate) fn left_side<K: PartialEnum + Clone, V: Eq + Drop, C: Storage<Item<An
     requires nonempty { ¬ IsEmptyRange K.order range.now }
     requires window { IsWindow K.order (C.is_good stored.now) (C.rank stored.now) (C.items stored.now) range.now window.now (place_before (C.rank stored.now) (length (C.items stored.now)) window.now.from) }
     requires first { ReachesBefore K.order (C.is_good stored.now) (C.rank stored.now) (C.items stored.now) range.now (place_before (C.rank stored.now) (length (C.items stored.now)) window.now.from) window.now.count first }
-    ensures { IfOk result (λ side. (lawful : IsLawful K.order) → (equal : IsEquivalence V.eq) → IsLeftPlan K.order V.eq lawful equal (C.is_good stored.now) (C.rank stored.now) (C.items stored.now) range.now value.now (place_before (C.rank stored.now) (length (C.items stored.now)) window.now.from) first side.edge side.from) }
+    ensures { IfOk result (λ side. (lawful : IsLawful K.order) → (equal : IsEquivalence V.eq) → IsLeftPlan K.order V.eq lawful equal (C.is_good stored.now) (C.rank stored.now) (C.items stored.now) range.now value.now (place_before (C.rank stored.now) (length (C.items stored.now)) window.now.from) window.now.count first side.edge side.from) }
 {
     range.known();
     match first {
@@ -176,7 +176,7 @@ pub(crate) fn right_side<K: PartialEnum + Clone, V: Eq + Drop, C: Storage<Item<A
     requires nonempty { ¬ IsEmptyRange K.order range.now }
     requires window { IsWindow K.order (C.is_good stored.now) (C.rank stored.now) (C.items stored.now) range.now window.now (place_before (C.rank stored.now) (length (C.items stored.now)) window.now.from) }
     requires last { ReachesBehind K.order (C.is_good stored.now) (C.rank stored.now) (C.items stored.now) range.now (place_before (C.rank stored.now) (length (C.items stored.now)) window.now.from) window.now.count last }
-    ensures { IfOk result (λ edge. (lawful : IsLawful K.order) → (equal : IsEquivalence V.eq) → IsRightPlan K.order V.eq lawful equal (C.is_good stored.now) (C.rank stored.now) (C.items stored.now) range.now value.now (place_before (C.rank stored.now) (length (C.items stored.now)) window.now.from + window.now.count) last edge) }
+    ensures { IfOk result (λ edge. (lawful : IsLawful K.order) → (equal : IsEquivalence V.eq) → IsRightPlan K.order V.eq lawful equal (C.is_good stored.now) (C.rank stored.now) (C.items stored.now) range.now value.now (place_before (C.rank stored.now) (length (C.items stored.now)) window.now.from) window.now.count last edge) }
 {
     range.known();
     match last {

@@ -6,7 +6,7 @@ ghost use Rattle.range_map.specs.Bindings.{Binds};
 
 pub use crate::command::{Command, Reply, answer, run};
 pub use crate::error::MapError;
-
+pub use crate::iter::Iter;
 use crate::window::{find, starts_past};
 use range_algebra::any::AnyRange;
 use range_keys::inner::position::{KeyRef, Position, Side};
@@ -77,5 +77,14 @@ impl<K: PartialEnum, V: Eq + Drop, C: Storage<Item<AnyRange<K>, V>>> RangeMap<K,
                 }
             }
         }
+    }
+
+    /// The stored ranges with their values, in rising order, from both ends. Takes no memory.
+    pub fn iter(&self) -> Iter<'_, K, V, C>
+        ensures items { result ≡ C.items self.now }
+        ensures form { IsStored K.order V.eq result }
+    {
+        self.in_form();
+        Iter::new(&self.stored)
     }
 }

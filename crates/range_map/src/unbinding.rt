@@ -1,10 +1,12 @@
 //! Unbinding a nonempty range in a container.
-ghost use Rattle.std.specs.Prelude.{◌≡◌, ◌+◌, ◌≤◌, ◌<◌, length, OnOk, OnErr};
+ghost use Rattle.std.specs.Prelude.{◌≡◌, ◌+◌, ◌≤◌, ◌<◌, length, OnOk, OnErr, IsOk};
 ghost use Rattle.range_algebra.specs.Range.{ClonesAreEqual, IsEmptyRange, IsKnownRange};
 ghost use Rattle.range_store.specs.Places.{place_before};
 ghost use Rattle.range_map.specs.Stored.{IsStored};
 ghost use Rattle.range_map.specs.Window.{IsWindow, option_items};
 ghost use Rattle.range_map.specs.Reach.{ReachesBefore, ReachesBehind};
+ghost use Rattle.range_algebra.specs.Intervals.{Every};
+ghost use Rattle.range_map.specs.Ranges.{Meets};
 ghost use Rattle.range_map.specs.Changes.{IsRemoved};
 
 use crate::change::{clear, divide};
@@ -79,6 +81,31 @@ fn unbind_over<K: PartialEnum, V: Eq + Drop, C: Storage<Item<AnyRange<K>, V>>>(
     clear::<K, V, C>(stored, run, cut_edge(first, before), cut_edge(last, behind));
 }
 
+/// Unbinds a range that meets a stored range.
+fn unbind_met<K: PartialEnum, V: Eq + Clone, C: Storage<Item<AnyRange<K>, V>>>(
+    stored: &mut C,
+    window: &Window<C::Position>,
+    range: AnyRange<K>,
+) -> Result<(), AllocError>
+    requires values { ClonesAreEqual V.is_clone V.eq }
+    requires stored { IsStored K.order V.eq (C.items stored.old) }
+    requires nonempty { ¬ IsEmptyRange K.order range }
+    requires window { IsWindow K.order (C.is_good stored.old) (C.rank stored.old) (C.items stored.old) range window.now (place_before (C.rank stored.old) (length (C.items stored.old)) window.now.from) }
+    requires some { 0 < window.now.count }
+    ensures ok { OnOk result (IsRemoved K.order V.eq (C.items stored.old) (C.items stored.new) range) }
+    ensures refused { OnErr result (C.items stored.new ≡ C.items stored.old) }
+{
+    let first = reaching_before::<K, V, C>(stored, window, &range);
+    let last = reaching_behind::<K, V, C>(stored, window, &range);
+    match surrounding(window.count, first, last) {
+        Some(p) => unbind_within::<K, V, C>(stored, window, p, range),
+        None => {
+            unbind_over::<K, V, C>(stored, window, first, last, range);
+            Ok(())
+        }
+    }
+}
+
 /// Binds no key of a nonempty range.
 pub(crate) fn unbind<K: PartialEnum, V: Eq + Clone, C: Storage<Item<AnyRange<K>, V>>>(
     stored: &mut C,
@@ -89,19 +116,13 @@ pub(crate) fn unbind<K: PartialEnum, V: Eq + Clone, C: Storage<Item<AnyRange<K>,
     requires nonempty { ¬ IsEmptyRange K.order range }
     ensures ok { OnOk result (IsRemoved K.order V.eq (C.items stored.old) (C.items stored.new) range) }
     ensures refused { OnErr result (C.items stored.new ≡ C.items stored.old) }
+    ensures unmet { Every (λ i. ¬ Meets K.order i.key range) (C.items stored.old) → IsOk result }
+    ensures unmet_unchanged { Every (λ i. ¬ Meets K.order i.key range) (C.items stored.old) → C.items stored.new ≡ C.items stored.old }
 {
     range.known();
     let window = find_window::<K, V, C>(stored, &range);
     if window.count == 0 {
         return Ok(());
     }
-    let first = reaching_before::<K, V, C>(stored, &window, &range);
-    let last = reaching_behind::<K, V, C>(stored, &window, &range);
-    match surrounding(window.count, first, last) {
-        Some(p) => unbind_within::<K, V, C>(stored, &window, p, range),
-        None => {
-            unbind_over::<K, V, C>(stored, &window, first, last, range);
-            Ok(())
-        }
-    }
+    unbind_met::<K, V, C>(stored, &window, range)
 }

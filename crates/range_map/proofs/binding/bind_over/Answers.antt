@@ -7,6 +7,7 @@ use Rattle.range_store.proofs.PlacesLemmas.{place_at, kept_at, good_at}
 use Rattle.range_map.specs.Edges.{joined_count, IsLeftShape, IsRightShape}
 use Rattle.range_map.specs.Window.{option_items}
 use Rattle.range_map.proofs.Openings.{left_kept, right_kept, left_good, right_good, upto_end}
+use Rattle.range_map.proofs.Framing.{gave_way, all_meet}
 use Rattle.range_map.proofs.Edging.{inserted}
 use Rattle.range_map.proofs.binding.bind_over.Goals as goal
 
@@ -107,4 +108,6 @@ returns-clause-ok g c =
     let on_right = subst (λ n. IsRightShape (storage.is_good ready) (storage.rank ready) (storage.items ready) c.in_ok-right.right n right.end right.rest right.finish) (sym (ap (λ n. n + count) here ∙ upto)) (right_kept (storage.is_good stored) (storage.is_good ready) (storage.rank stored) (storage.rank ready) items (storage.items ready) kept same c.in_ok-right.right right.upto right.end right.rest right.finish right.shape) in
     let done = c.change.ensures left.at right.end left.rest right.rest left.start right.finish on_left on_right (omega (arith, c.joined_items.ensures, c.joined_items-2.ensures)) in
     let item : Item (AnyRange g.row.K.Denot) g.row.V.Denot = record { key = record { start = unwrap_or left.start c.args.range.start; end = unwrap_or right.finish c.args.range.end }; value = c.args.value } in
-    inserted order g.met.K.PartialEnum.lawful g.V.PartialEq.eq g.met.V.Eq.laws (storage.is_good stored) (storage.rank stored) items c.args.range w place c.requires.stored c.known.ensures c.requires.nonempty c.requires.window (storage.items c.change.new.stored) c.args.value item left.at right.end left.rest right.rest left.start right.finish left.side right.side refl refl (g.met.V.Eq.laws.refl c.args.value) (rw same at done)
+    let made = rw same at done in
+    let frame = gave_way order g.met.K.PartialEnum.lawful g.V.PartialEq.eq g.met.V.Eq.laws (storage.is_good stored) (storage.rank stored) items c.args.range w place c.requires.stored c.known.ensures c.requires.window (storage.items c.change.new.stored) c.args.value item left.at right.end left.rest right.rest left.start right.finish (all_meet order g.met.K.PartialEnum.lawful g.V.PartialEq.eq g.met.V.Eq.laws (storage.is_good stored) (storage.rank stored) items c.args.range w place c.requires.stored c.known.ensures c.requires.window) left.frame right.frame (omega (arith, left.few, right.few, c.requires.apart)) refl refl (g.met.V.Eq.laws.refl c.args.value) (λ e. refl) made in
+    inserted order g.met.K.PartialEnum.lawful g.V.PartialEq.eq g.met.V.Eq.laws (storage.is_good stored) (storage.rank stored) items c.args.range w place c.requires.stored c.known.ensures c.requires.nonempty c.requires.window (storage.items c.change.new.stored) c.args.value item left.at right.end left.rest right.rest left.start right.finish left.side right.side refl refl (g.met.V.Eq.laws.refl c.args.value) frame made

@@ -6,6 +6,8 @@ use Rattle.range_store.specs.declared.storage.Item.{Item}
 use Rattle.range_store.specs.Places.{place_before}
 use Rattle.range_map.specs.Edits.{turned_bound, with_end}
 use Rattle.range_map.proofs.Openings.{standing}
+use Rattle.range_map.proofs.Framing.{gave_way, all_meet}
+use Rattle.range_map.proofs.Planning.{left_frame_inside, left_frame_cut, right_frame_inside, right_frame_cut}
 use Rattle.range_map.proofs.Edging.{inserted, left_edge_inside, right_edge_inside, left_rest_cut, right_rest_cut, left_edge_rest, right_edge_rest}
 use Rattle.range_map.proofs.binding.bind_within.Goals as goal
 
@@ -31,7 +33,9 @@ returns-then-joins-clause-ok g c =
     let values = sym c.if-joins.ensures in
     let left = left_edge_inside order lawful same equal (storage.is_good stored) (storage.rank stored) items r w place c.requires.stored c.known.ensures c.requires.nonempty c.requires.window c.args.value x here first.2 (first.3 x here) values in
     let right = right_edge_inside order lawful same equal (storage.is_good stored) (storage.rank stored) items r w place c.requires.stored c.known.ensures c.requires.nonempty c.requires.window c.args.value x here_end last.2 (last.3 x here_end) values in
-    inserted order lawful same equal (storage.is_good stored) (storage.rank stored) items r w place c.requires.stored c.known.ensures c.requires.nonempty c.requires.window items c.args.value x place (place + w.count) None None (Some x.key.start) (Some x.key.end) left right refl refl values (standing items place (place + w.count) x (omega (arith, c.requires.window.in_range, first.2)) here one)
+    let list = standing items place (place + w.count) x (omega (arith, c.requires.window.in_range, first.2)) here one in
+    let frame = gave_way order lawful same equal (storage.is_good stored) (storage.rank stored) items r w place c.requires.stored c.known.ensures c.requires.window items c.args.value x place (place + w.count) None None (Some x.key.start) (Some x.key.end) (all_meet order lawful same equal (storage.is_good stored) (storage.rank stored) items r w place c.requires.stored c.known.ensures c.requires.window) (left_frame_inside order lawful same equal (storage.is_good stored) (storage.rank stored) items r w place c.requires.stored c.known.ensures c.requires.nonempty c.requires.window c.args.value x here first.2) (right_frame_inside order lawful same equal (storage.is_good stored) (storage.rank stored) items r w place c.requires.stored c.known.ensures c.requires.nonempty c.requires.window c.args.value x here_end last.2) (omega arith) refl refl values (λ e. absurd (omega (arith, c.requires.one, e))) list in
+    inserted order lawful same equal (storage.is_good stored) (storage.rank stored) items r w place c.requires.stored c.known.ensures c.requires.nonempty c.requires.window items c.args.value x place (place + w.count) None None (Some x.key.start) (Some x.key.end) left right refl refl values frame list
 
 pub returns-clause-ok : goal.returns-clause-ok
 returns-clause-ok g c =
@@ -70,4 +74,5 @@ returns-clause-ok g c =
     let list = c.reserve.ensures.list in
     let rank_is : storage.rank ready c.args.p ≡ place = (c.reserve.ensures.positions c.args.p first.0).1 ∙ first.1 in
     let made = rw (list, rank_is, sym here, sym one) at (c.divide.ensures x) in
-    inserted order lawful same equal (storage.is_good stored) (storage.rank stored) items r w place c.requires.stored c.known.ensures c.requires.nonempty c.requires.window (storage.items c.divide.new.stored) c.args.value item place (place + w.count) (Some (with_end x end)) (Some behind) None None left right refl refl (equal.refl c.args.value) made
+    let frame = gave_way order lawful same equal (storage.is_good stored) (storage.rank stored) items r w place c.requires.stored c.known.ensures c.requires.window (storage.items c.divide.new.stored) c.args.value item place (place + w.count) (Some (with_end x end)) (Some behind) None None (all_meet order lawful same equal (storage.is_good stored) (storage.rank stored) items r w place c.requires.stored c.known.ensures c.requires.window) (left_frame_cut order lawful same equal (storage.is_good stored) (storage.rank stored) items r w place c.requires.stored c.known.ensures c.requires.nonempty c.requires.window c.args.value x here first.2 end end_clone) (right_frame_cut order lawful same equal (storage.is_good stored) (storage.rank stored) items r w place c.requires.stored c.known.ensures c.requires.nonempty c.requires.window c.args.value x here_end last.2 start copy start_clone copied) (omega (arith, c.requires.one)) refl refl (equal.refl c.args.value) (λ e. refl) made in
+    inserted order lawful same equal (storage.is_good stored) (storage.rank stored) items r w place c.requires.stored c.known.ensures c.requires.nonempty c.requires.window (storage.items c.divide.new.stored) c.args.value item place (place + w.count) (Some (with_end x end)) (Some behind) None None left right refl refl (equal.refl c.args.value) frame made

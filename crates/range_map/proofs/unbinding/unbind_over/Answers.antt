@@ -5,6 +5,7 @@ use Rattle.range_map.specs.Edges.{IsLeftShape, IsRightShape, joined_count, edge_
 use Rattle.range_map.specs.Edits.{turned_bound}
 use Rattle.range_map.specs.Window.{option_items}
 use Rattle.range_map.proofs.CutParts.{same_turned}
+use Rattle.range_map.proofs.Framing.{cut_way}
 use Rattle.range_map.proofs.Edging.{removed}
 use Rattle.range_map.proofs.Openings.{cut_joins_none}
 use Rattle.range_map.proofs.Planning.{left_cut_plan, right_cut_plan}
@@ -42,4 +43,5 @@ returns g c =
     let none : joined_count c.cut_edge.result ≡ 0 = ap joined_count edge ∙ cut_joins_none first end in
     let none_behind : joined_count c.cut_edge-2.result ≡ 0 = ap joined_count edge_behind ∙ cut_joins_none last start in
     let done = c.clear.ensures place (place + w.count) left.rest right.rest None None on_left on_right (omega (arith, none, none_behind)) in
-    removed order lawful same equal (storage.is_good stored) (storage.rank stored) items r w place c.requires.stored c.known.ensures c.requires.nonempty c.requires.window (storage.items c.clear.new.stored) place (place + w.count) left.rest right.rest left.side right.side done
+    let frame = cut_way order lawful same equal (storage.is_good stored) (storage.rank stored) items r w place c.requires.stored c.known.ensures c.requires.window (storage.items c.clear.new.stored) left.rest right.rest c.requires.some left.made right.made left.few right.few done in
+    removed order lawful same equal (storage.is_good stored) (storage.rank stored) items r w place c.requires.stored c.known.ensures c.requires.nonempty c.requires.window (storage.items c.clear.new.stored) place (place + w.count) left.rest right.rest left.side right.side frame done

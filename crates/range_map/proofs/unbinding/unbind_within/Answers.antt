@@ -4,6 +4,8 @@ use Rattle.range_store.specs.declared.storage.Item.{Item}
 use Rattle.range_store.specs.Places.{place_before}
 use Rattle.range_map.specs.Edits.{turned_bound, with_end}
 use Rattle.range_map.proofs.CutParts.{same_turned}
+use Rattle.range_map.proofs.Framing.{cut_way}
+use Rattle.range_map.proofs.Planning.{left_part, right_part}
 use Rattle.range_map.proofs.Edging.{removed, left_rest_cut, right_rest_cut}
 use Rattle.range_map.proofs.unbinding.unbind_within.Goals as goal
 
@@ -39,4 +41,5 @@ returns-clause-ok g c =
     let list = c.reserve.ensures.list in
     let rank_is : storage.rank ready c.args.p ≡ place = (c.reserve.ensures.positions c.args.p first.0).1 ∙ first.1 in
     let made = rw (list, rank_is, sym here, sym one, end_is, start_is) at (c.divide.ensures x) in
-    removed order lawful same equal (storage.is_good stored) (storage.rank stored) items r w place c.requires.stored c.known.ensures c.requires.nonempty c.requires.window (storage.items c.divide.new.stored) place (place + w.count) (Some (with_end x end)) (Some behind) left right made
+    let frame = cut_way order lawful same equal (storage.is_good stored) (storage.rank stored) items r w place c.requires.stored c.known.ensures c.requires.window (storage.items c.divide.new.stored) (Some (with_end x end)) (Some behind) first.2 (left_part order lawful same equal (storage.is_good stored) (storage.rank stored) items r w place c.requires.stored c.known.ensures c.requires.nonempty c.requires.window x here first.2 end (same_turned order lawful r.start), tt) (right_part order lawful same equal (storage.is_good stored) (storage.rank stored) items r w place c.requires.stored c.known.ensures c.requires.nonempty c.requires.window x here_end last.2 start copy (same_turned order lawful r.end) copied, tt) (omega arith) (omega arith) made in
+    removed order lawful same equal (storage.is_good stored) (storage.rank stored) items r w place c.requires.stored c.known.ensures c.requires.nonempty c.requires.window (storage.items c.divide.new.stored) place (place + w.count) (Some (with_end x end)) (Some behind) left right frame made

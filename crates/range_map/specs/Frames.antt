@@ -1,0 +1,66 @@
+-- How a change leaves what it does not concern, and what it puts in the place of the rest.
+use Rattle.std.specs.Prelude.{◌≡◌, ℕ, ◌+◌, ◌≤◌, Bool, IsTrue, List, [], ◌∷◌, ◌++◌, ◌⊎◌, length}
+use Rattle.std.specs.declared.ops.Bound.{Bound}
+use Rattle.range_keys.specs.Order.{KeyOrder}
+use Rattle.range_algebra.specs.Clones.{SameBound}
+use Rattle.range_algebra.specs.Intervals.{Any, Every}
+use Rattle.range_algebra.specs.declared.any.AnyRange.{AnyRange}
+use Rattle.range_store.specs.declared.storage.Item.{Item}
+use Rattle.range_map.specs.Edits.{turned_bound}
+use Rattle.range_map.specs.Ranges.{Meets, Touches}
+
+module _ {K : Type 0} (order : KeyOrder K) {V : Type 0} where
+  -- the start is that of the range or of a run's item, or begins just behind the range
+  abbrev pub IsStartOf : List (Item (AnyRange K) V) → AnyRange K → Bound K → Type 0
+  IsStartOf run r b = (b ≡ r.start) ⊎ (Any (λ i. b ≡ i.key.start) run ⊎ SameBound order (turned_bound r.end) b)
+
+  -- the end is that of the range or of a run's item, or stops just before the range
+  abbrev pub IsEndOf : List (Item (AnyRange K) V) → AnyRange K → Bound K → Type 0
+  IsEndOf run r b = (b ≡ r.end) ⊎ (Any (λ i. b ≡ i.key.end) run ⊎ SameBound order (turned_bound r.start) b)
+
+  module _ (same_value : V → V → Bool) where
+    -- some item of the run has an equal value
+    abbrev pub HasValue : List (Item (AnyRange K) V) → V → Type 0
+    HasValue run v = Any (λ i. IsTrue (same_value v i.value)) run
+
+    -- the item meets the range, or touches it with an equal value
+    abbrev pub JoinsOrMeets : AnyRange K → V → Item (AnyRange K) V → Type 0
+    JoinsOrMeets r v i = Meets order i.key r ⊎ ((Touches order i.key r ⊎ Touches order r i.key) × IsTrue (same_value i.value v))
+
+    -- the bounds and the value of an item that is put in the place of a run, where the range is bound to v
+    pub record IsNewItem (run : List (Item (AnyRange K) V)) (r : AnyRange K) (v : V) (j : Item (AnyRange K) V) : Type 0 where
+      pub start : IsStartOf run r j.key.start
+      pub end : IsEndOf run r j.key.end
+      pub value : IsTrue (same_value j.value v) ⊎ HasValue run j.value
+
+    -- a run of items, each of which meets the range or touches it with an equal value, gave way to others, and all else stands as before
+    pub record GaveWayTo (items new : List (Item (AnyRange K) V)) (r : AnyRange K) (v : V) : Type 0 where
+      pub front : List (Item (AnyRange K) V)
+      pub run : List (Item (AnyRange K) V)
+      pub others : List (Item (AnyRange K) V)
+      pub behind : List (Item (AnyRange K) V)
+      pub before : items ≡ front ++ run ++ behind
+      pub after : new ≡ front ++ others ++ behind
+      pub concerned : Every (JoinsOrMeets r v) run
+      pub few : length others ≤ length run + 2
+      pub whole : run ≡ [] → others ≡ record { key = r; value = v } ∷ []
+      pub made : Every (IsNewItem run r v) others
+
+    -- the bounds and the value of what is left of an item that the range cuts
+    pub record IsPart (run : List (Item (AnyRange K) V)) (r : AnyRange K) (j : Item (AnyRange K) V) : Type 0 where
+      pub start : IsStartOf run r j.key.start
+      pub end : IsEndOf run r j.key.end
+      pub value : HasValue run j.value
+
+    -- a run of items, each of which meets the range, gave way to its parts outside the range, and all else stands as before
+    pub record WasCutOut (items new : List (Item (AnyRange K) V)) (r : AnyRange K) : Type 0 where
+      pub front : List (Item (AnyRange K) V)
+      pub run : List (Item (AnyRange K) V)
+      pub others : List (Item (AnyRange K) V)
+      pub behind : List (Item (AnyRange K) V)
+      pub before : items ≡ front ++ run ++ behind
+      pub after : new ≡ front ++ others ++ behind
+      pub concerned : Every (λ i. Meets order i.key r) run
+      pub few : length others ≤ length run + 1
+      pub whole : run ≡ [] → others ≡ []
+      pub made : Every (IsPart run r) others

@@ -1,0 +1,3 @@
+//! What the crates above need beyond the map itself.
+
+pub mod scan;
