@@ -6,16 +6,8 @@ use Rattle.std.specs.Io.BufRead.{first_line, drop_through, take_through}
 use Rattle.std.specs.Ordering.{int_eq}
 use Rattle.btree_range_map.specs.AnyRange.{AnyRange}
 use Rattle.btree_range_map.specs.Item.{Item}
-use Rattle.btree_range_map.specs.Command.{Command}
-use Rattle.btree_range_map.specs.Command.TheVariants.{Insert, Remove, Get, Count}
 use Rattle.btree_range_map.specs.Order.{KeyOrder}
-use Rattle.btree_range_map.specs.Reply.{Reply}
-use Rattle.btree_range_map.specs.Reply.TheVariants.{Done, Memory, Value, Count as Counted}
-use Rattle.btree_range_map.specs.Runs.{IsStep}
-use Rattle.btree_range_map.specs.Stored.{IsStored}
-use Rattle.btree_range_map.specs.Range.{IsEmptyRange}
 use Rattle.rangerun.specs.declared.command_line.CommandLine.{CommandLine}
-use Rattle.rangerun.specs.declared.command_line.CommandLine.TheVariants.{Run, Show}
 use Rattle.rangerun.specs.Grammar.{SpellsLine}
 use Rattle.rangerun.specs.Replies.{part_text, HasEnds, SpellsParts, SpellsAll, Writes}
 use Rattle.rangerun.specs.Text.{line_content}
@@ -74,39 +66,6 @@ module _ {K : Type 0} (order : KeyOrder K) (as_number : K → ℤ) where
   pub empty_is_all : (all : List (Item (AnyRange K) ℤ)) (text : List ℕ) → length all ≡ 0 → text ≡ codes "empty\n" → SpellsAll order as_number all text
   empty_is_all [] text none e = e
   empty_is_all (item ∷ items) text none e = absurd (omega (arith, none))
-
-  -- the first of a stored list is not empty, and the others are a stored list
-  pub first_nonempty : (same : ℤ → ℤ → Bool) (item : Item (AnyRange K) ℤ) (left : List (Item (AnyRange K) ℤ)) → IsStored order same (item ∷ left) → ¬ IsEmptyRange order item.key
-  first_nonempty same item [] stored = stored.1
-  first_nonempty same item (next ∷ left) stored = stored.1
-
-  pub others_stored : (same : ℤ → ℤ → Bool) (item : Item (AnyRange K) ℤ) (left : List (Item (AnyRange K) ℤ)) → IsStored order same (item ∷ left) → IsStored order same left
-  others_stored same item [] stored = tt
-  others_stored same item (next ∷ left) stored = stored.4
-
-  step_stored : (items next : List (Item (AnyRange K) ℤ)) (command : Command K ℤ) (reply : Reply ℤ) → IsStep order int_eq items command reply next → IsStored order int_eq items → IsStored order int_eq next
-  step_stored items next (Insert range value) Done step stored = step.1
-  step_stored items next (Insert range value) Memory step stored = subst (IsStored order int_eq) (sym step) stored
-  step_stored items next (Insert range value) (Value found) step stored = absurd step
-  step_stored items next (Insert range value) (Counted count) step stored = absurd step
-  step_stored items next (Remove range) Done step stored = step.1
-  step_stored items next (Remove range) Memory step stored = subst (IsStored order int_eq) (sym step) stored
-  step_stored items next (Remove range) (Value found) step stored = absurd step
-  step_stored items next (Remove range) (Counted count) step stored = absurd step
-  step_stored items next (Get key) Done step stored = absurd step
-  step_stored items next (Get key) Memory step stored = subst (IsStored order int_eq) (sym step) stored
-  step_stored items next (Get key) (Value found) step stored = subst (IsStored order int_eq) (sym step.1) stored
-  step_stored items next (Get key) (Counted count) step stored = absurd step
-  step_stored items next Count Done step stored = absurd step
-  step_stored items next Count Memory step stored = absurd step
-  step_stored items next Count (Value found) step stored = absurd step
-  step_stored items next Count (Counted count) step stored = subst (IsStored order int_eq) (sym step.1) stored
-
-  -- what an answer leaves is in the form of what every map stores
-  pub answer_stored : (items next : List (Item (AnyRange K) ℤ)) (command : Option (CommandLine K)) (text : List ℕ) → Answers order as_number items command text next → IsStored order int_eq items → IsStored order int_eq next
-  answer_stored items next None text answer stored = subst (IsStored order int_eq) (sym answer.1) stored
-  answer_stored items next (Some Show) text answer stored = subst (IsStored order int_eq) (sym answer.1) stored
-  answer_stored items next (Some (Run command)) text (reply, step, spelled) stored = step_stored items next command reply step stored
 
   -- the lines of the input before those that are left are answered
   pub record HasAnswered (input : List ℕ) (left before now : Option (List ℕ)) (items : List (Item (AnyRange K) ℤ)) : Type 0 where

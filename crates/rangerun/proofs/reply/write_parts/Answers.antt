@@ -1,9 +1,9 @@
 use Rattle.std.proofs.Common.{◌≡◌, ◌∷◌, subst, ℤ, List, []}
-use Rattle.std.specs.Ordering.{int_eq}
+use Rattle.std.specs.List.{AllByRecursion}
 use Rattle.btree_range_map.specs.AnyRange.{AnyRange}
 use Rattle.btree_range_map.specs.Item.{Item}
-use Rattle.btree_range_map.specs.Stored.{IsStored}
-use Rattle.rangerun.proofs.Progress.{HasShown, shown_more, shown_all, others_stored}
+use Rattle.btree_range_map.specs.Range.{IsEmptyRange}
+use Rattle.rangerun.proofs.Progress.{HasShown, shown_more, shown_all}
 use Rattle.rangerun.proofs.reply.write_parts.Goals as goal
 
 pub loop-range-preserved : goal.loop-range-preserved
@@ -18,7 +18,7 @@ loop-range-preserved g c =
     let next = g.W.Write.contents c.write_part.new.out in
     let step : c.loop-range.parts ≡ item ∷ left = c.in-Some.ensures.steps in
     record {
-      stored = others_stored order as_number int_eq item left (subst (IsStored order int_eq) step c.loop-range.invariant.stored);
+      nonempty = (subst (AllByRecursion (λ (i : Item (AnyRange _) ℤ). ¬ IsEmptyRange order i.key)) step c.loop-range.invariant.nonempty).1;
       shown = shown_more order as_number all left item before now next c.in_ok-span.span.0 c.in_ok-span.span.1
           (subst (λ items. HasShown order as_number all items before now) step c.loop-range.invariant.shown) c.in_ok-span.ensures c.in_ok-write_part.ensures;
     }

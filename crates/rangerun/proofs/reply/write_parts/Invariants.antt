@@ -1,12 +1,12 @@
 use Rattle.std.proofs.Common.{length}
-use Rattle.std.specs.Ordering.{int_eq}
-use Rattle.btree_range_map.specs.Stored.{IsStored}
+use Rattle.std.specs.List.{AllByRecursion}
+use Rattle.btree_range_map.specs.Range.{IsEmptyRange}
 use Rattle.rangerun.proofs.Progress.{HasShown}
 use Rattle.rangerun.proofs.reply.write_parts.Given as goal
 
 abbrev pub invariant-loop-range : goal.invariant-loop-range
 invariant-loop-range g l = record {
-  stored : IsStored g.K.MaybeBounded.order int_eq l.parts;
+  nonempty : AllByRecursion (λ item. ¬ IsEmptyRange g.K.MaybeBounded.order item.key) l.parts;
   shown : HasShown g.K.MaybeBounded.order g.K.SpelledKey.as_number (g.C.Storage.items l.map) l.parts (g.W.Write.contents l.fn.out) (g.W.Write.contents l.out);
 }
 

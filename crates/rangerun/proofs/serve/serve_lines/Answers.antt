@@ -5,7 +5,7 @@ use Rattle.rangerun.specs.Text.{line_content}
 use Rattle.std.specs.Io.KnownBytes.{IsAtEnd}
 use Rattle.rangerun.specs.Replies.{Writes}
 use Rattle.rangerun.specs.Conversation.{Conversation, Answers}
-use Rattle.rangerun.proofs.Progress.{HasAnswered, answered_more, answered_all, is_read, if_some_as, line_of, none_of_none, first_line_of, answer_stored}
+use Rattle.rangerun.proofs.Progress.{HasAnswered, answered_more, answered_all, is_read, if_some_as, line_of, none_of_none, first_line_of}
 use Rattle.rangerun.proofs.serve.serve_lines.Goals as goal
 
 pub returns-then-count-eq0-clause-answered : goal.returns-then-count-eq0-clause-answered
@@ -18,7 +18,7 @@ returns-then-count-eq0-clause-answered g c =
     let items = g.C.Storage.items c.loop.map in
     if_some_as (g.R.Read.remaining c.args.input.now) (λ bytes. HasAnswered order as_number bytes left before now items) (λ bytes. Writes before now (Conversation order as_number [] bytes))
     (λ bytes known answered. answered_all order as_number bytes left before now items answered (subst IsAtEnd answered.left_is (c.in-Ok.ensures.end c.if-count-eq0.true)))
-    c.loop.invariant.answered
+    c.loop.invariant
 
 pub loop-preserved : goal.loop-preserved
 loop-preserved g c =
@@ -31,8 +31,7 @@ loop-preserved g c =
     let next = g.W.Write.contents c.answer_line.new.out in
     let items = g.C.Storage.items c.loop.map in
     let changed = g.C.Storage.items c.answer_line.new.map in
-    let reply = c.in-Ok-answer_line.ensures in
-    let answered_as = if_some_as (g.R.Read.remaining c.args.input.now) (λ bytes. HasAnswered order as_number bytes left before now items) (λ bytes. HasAnswered order as_number bytes later before next changed)
+    if_some_as (g.R.Read.remaining c.args.input.now) (λ bytes. HasAnswered order as_number bytes left before now items) (λ bytes. HasAnswered order as_number bytes later before next changed)
     (λ bytes known answered.
     let bytes_read = rw answered.left_is at (c.in-Ok.ensures.bytes) in
     let rest_read = rw answered.left_is at (c.in-Ok.ensures.rest) in
@@ -44,6 +43,5 @@ loop-preserved g c =
     let line_is : c.in-Ok-from_utf8.text.now ≡ first_line answered.remaining =
     first_line_of c.in-Ok-from_utf8.text.now c.as_slice.result.now answered.remaining (c.in-Ok-from_utf8.ensures.cases.0 ∙ c.without_line_end.ensures) (c.as_slice.ensures.value ∙ read) in
     answered_more order as_number bytes left later before now next items changed c.in-Ok-from_utf8.text.now c.parse-command.result answered some rest_read line_is
-    (is_read order as_number c.in-Ok-from_utf8.text.now c.parse-command.result c.parse-command.ensures.found c.parse-command.ensures.none) reply)
-    c.loop.invariant.answered in
-    record { stored = answer_stored order as_number items changed c.parse-command.result reply.0 reply.1 c.loop.invariant.stored; answered = answered_as }
+    (is_read order as_number c.in-Ok-from_utf8.text.now c.parse-command.result c.parse-command.ensures.found c.parse-command.ensures.none) c.in-Ok-answer_line.ensures)
+    c.loop.invariant
