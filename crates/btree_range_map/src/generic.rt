@@ -1,0 +1,3 @@
+//! The collections, generic in their container.
+
+pub use range_map::map;

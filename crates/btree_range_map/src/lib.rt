@@ -1,0 +1,26 @@
+//! Maps whose keys are gathered into ranges.
+//!
+//! A [`RangeMap`] binds each key of a range to one value. Ranges that touch and have equal values are
+//! kept as one, so a map stores no more ranges than its bindings need.
+#![tactic(auto)]
+
+pub mod generic;
+pub mod range;
+pub mod storage;
+
+pub use range::any::AnyRange;
+pub use range::bound::{AsBound, BoundOrd, BoundOrdering, BoundPartialOrd, Directed, Dist};
+pub use range::ordering::{RangeOrdering, RangePartialOrd};
+pub use range::traits::{Measure, PartialEnum};
+pub use range::{
+    AsRange, Difference, IntoRange, Product, ProductArg, RangeFromExcluded, RangeFromExcludedTo,
+    RangeFromExcludedToIncluded, RelativePosition,
+};
+
+use storage::{Item, VecStorage};
+
+/// The container of a map that names none.
+pub type DefaultMapContainer<T> = VecStorage<T>;
+
+/// A map from ranges of keys to values, in the default container.
+pub type RangeMap<K, V> = generic::map::RangeMap<K, V, DefaultMapContainer<Item<AnyRange<K>, V>>>;

@@ -1,0 +1,34 @@
+use Rattle.std.proofs.Common.{◌≡◌, ◌∷◌, subst, ℤ, List, []}
+use Rattle.std.specs.List.{AllByRecursion}
+use Rattle.btree_range_map.specs.AnyRange.{AnyRange}
+use Rattle.btree_range_map.specs.Item.{Item}
+use Rattle.btree_range_map.specs.Range.{IsEmptyRange}
+use Rattle.rangerun.proofs.Progress.{HasShown, shown_more, shown_all}
+use Rattle.rangerun.proofs.reply.write_parts.Goals as goal
+
+pub loop-range-preserved : goal.loop-range-preserved
+loop-range-preserved g c =
+    let order = g.K.MaybeBounded.order in
+    let as_number = g.K.SpelledKey.as_number in
+    let all = g.C.Storage.items c.args.map.now in
+    let left = c.next.new.self in
+    let item : Item (AnyRange _) ℤ = record { key = c.in-Some.range.now; value = c.in-Some.value.now } in
+    let before = g.W.Write.contents c.args.out.now in
+    let now = g.W.Write.contents c.loop-range.out in
+    let next = g.W.Write.contents c.write_part.new.out in
+    let step : c.loop-range.parts ≡ item ∷ left = c.in-Some.ensures.steps in
+    record {
+      nonempty = (subst (AllByRecursion (λ (i : Item (AnyRange _) ℤ). ¬ IsEmptyRange order i.key)) step c.loop-range.invariant.nonempty).1;
+      shown = shown_more order as_number all left item before now next c.in_ok-span.span.0 c.in_ok-span.span.1
+          (subst (λ items. HasShown order as_number all items before now) step c.loop-range.invariant.shown) c.in_ok-span.ensures c.in_ok-write_part.ensures;
+    }
+
+pub returns : goal.returns
+returns g c =
+    let order = g.K.MaybeBounded.order in
+    let as_number = g.K.SpelledKey.as_number in
+    let all = g.C.Storage.items c.args.map.now in
+    let before = g.W.Write.contents c.args.out.now in
+    let now = g.W.Write.contents c.loop-range.out in
+    let ended : c.loop-range.parts ≡ [] = c.in_default.ensures.steps.0 in
+    shown_all order as_number all before now (subst (λ items. HasShown order as_number all items before now) ended c.loop-range.invariant.shown)

@@ -1,0 +1,47 @@
+use Rattle.std.proofs.Common.{◌≡◌, ◌≢◌, ◌∷◌, ◌++◌, ℕ, subst, ℤ, List, [], rules, arith, ◌∙◌, sym, ap, length}
+use Rattle.std.specs.Prelude.{Some, IfSome}
+use Rattle.std.specs.Io.BufRead.{first_line, drop_through, take_through}
+use Rattle.rangerun.specs.Text.{line_content}
+use Rattle.std.specs.Io.KnownBytes.{IsAtEnd}
+use Rattle.rangerun.specs.Replies.{Writes}
+use Rattle.rangerun.specs.Conversation.{Conversation, Answers}
+use Rattle.rangerun.proofs.Progress.{HasAnswered, answered_more, answered_all, is_read, if_some_as, line_of, none_of_none, first_line_of}
+use Rattle.rangerun.proofs.serve.serve_lines.Goals as goal
+
+pub returns-then-count-eq0-clause-answered : goal.returns-then-count-eq0-clause-answered
+returns-then-count-eq0-clause-answered g c =
+    let order = g.K.MaybeBounded.order in
+    let as_number = g.K.SpelledKey.as_number in
+    let left = g.R.Read.remaining c.loop.input in
+    let before = g.W.Write.contents c.args.out.now in
+    let now = g.W.Write.contents c.loop.out in
+    let items = g.C.Storage.items c.loop.map in
+    if_some_as (g.R.Read.remaining c.args.input.now) (λ bytes. HasAnswered order as_number bytes left before now items) (λ bytes. Writes before now (Conversation order as_number [] bytes))
+    (λ bytes known answered. answered_all order as_number bytes left before now items answered (subst IsAtEnd answered.left_is (c.in-Ok.ensures.end c.if-count-eq0.true)))
+    c.loop.invariant
+
+pub loop-preserved : goal.loop-preserved
+loop-preserved g c =
+    let order = g.K.MaybeBounded.order in
+    let as_number = g.K.SpelledKey.as_number in
+    let left = g.R.Read.remaining c.loop.input in
+    let later = g.R.Read.remaining c.read_until.new.self in
+    let before = g.W.Write.contents c.args.out.now in
+    let now = g.W.Write.contents c.loop.out in
+    let next = g.W.Write.contents c.answer_line.new.out in
+    let items = g.C.Storage.items c.loop.map in
+    let changed = g.C.Storage.items c.answer_line.new.map in
+    if_some_as (g.R.Read.remaining c.args.input.now) (λ bytes. HasAnswered order as_number bytes left before now items) (λ bytes. HasAnswered order as_number bytes later before next changed)
+    (λ bytes known answered.
+    let bytes_read = rw answered.left_is at (c.in-Ok.ensures.bytes) in
+    let rest_read = rw answered.left_is at (c.in-Ok.ensures.rest) in
+    let read : c.read_until.new.buf.items ≡ take_through 10 answered.remaining = line_of c.clear.new.self.items c.read_until.new.buf.items answered.remaining bytes_read c.clear.ensures.items in
+    let some : answered.remaining ≢ [] = λ empty.
+    let none = none_of_none c.read_until.new.buf.items answered.remaining read empty in
+    let counted = c.in-Ok.ensures.ok in
+    c.if-count-eq0.false (omega (arith, none, counted, c.read_until.new.buf.ok)) in
+    let line_is : c.in-Ok-from_utf8.text.now ≡ first_line answered.remaining =
+    first_line_of c.in-Ok-from_utf8.text.now c.as_slice.result.now answered.remaining (c.in-Ok-from_utf8.ensures.cases.0 ∙ c.without_line_end.ensures) (c.as_slice.ensures.value ∙ read) in
+    answered_more order as_number bytes left later before now next items changed c.in-Ok-from_utf8.text.now c.parse-command.result answered some rest_read line_is
+    (is_read order as_number c.in-Ok-from_utf8.text.now c.parse-command.result c.parse-command.ensures.found c.parse-command.ensures.none) c.in-Ok-answer_line.ensures)
+    c.loop.invariant

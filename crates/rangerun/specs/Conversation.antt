@@ -1,0 +1,33 @@
+-- What a map answers to lines of text, from the first to the last.
+use Rattle.std.specs.Prelude.{◌≡◌, ◌≢◌, ℕ, ℤ, Option, None, Some, List, [], ◌++◌, codes}
+use Rattle.std.specs.Io.BufRead.{first_line, drop_through}
+use Rattle.std.specs.Ordering.{int_eq}
+use Rattle.btree_range_map.specs.AnyRange.{AnyRange}
+use Rattle.btree_range_map.specs.Item.{Item}
+use Rattle.btree_range_map.specs.Order.{KeyOrder}
+use Rattle.btree_range_map.specs.Reply.{Reply}
+use Rattle.btree_range_map.specs.Runs.{IsStep}
+use Rattle.rangerun.specs.declared.command_line.CommandLine.{CommandLine}
+use Rattle.rangerun.specs.declared.command_line.CommandLine.TheVariants.{Run, Show}
+use Rattle.rangerun.specs.Grammar.{SpellsLine}
+use Rattle.rangerun.specs.Replies.{reply_text, SpellsAll}
+
+-- of keys, each with its number
+module _ {K : Type 0} (order : KeyOrder K) (as_number : K → ℤ) where
+  -- the command that the line spells, or none where it spells none
+  abbrev pub IsRead : List ℕ → Option (CommandLine K) → Type 0
+  IsRead line None = (known : CommandLine K) → SpellsLine order.is_key as_number line known → ⊥
+  IsRead line (Some known) = SpellsLine order.is_key as_number line known
+
+  -- the text that may answer a command over the stored list, and the list that is stored then
+  abbrev pub Answers : List (Item (AnyRange K) ℤ) → Option (CommandLine K) → List ℕ → List (Item (AnyRange K) ℤ) → Type 0
+  Answers items None text next = (text ≡ codes "bad line\n") × (next ≡ items)
+  Answers items (Some Show) text next = SpellsAll order as_number items text × (next ≡ items)
+  Answers items (Some (Run command)) text next = (reply : Reply ℤ) × IsStep order int_eq items command reply next × (text ≡ reply_text reply)
+
+  -- the text that may answer the lines of the input over the stored list: one answer for each line, in order
+  pub data Conversation : List (Item (AnyRange K) ℤ) → List ℕ → List ℕ → Type 0 where
+    Ended : (items : List (Item (AnyRange K) ℤ)) → Conversation items [] []
+    Answered : (items next : List (Item (AnyRange K) ℤ)) (input text answer rest : List ℕ) (command : Option (CommandLine K))
+        → input ≢ [] → IsRead (first_line input) command → Answers items command answer next → Conversation next (drop_through 10 input) rest → text ≡ answer ++ rest
+        → Conversation items input text

@@ -1,0 +1,182 @@
+use super::*;
+use std::io::{self, ErrorKind, Read};
+use std::test::Fail;
+
+/// The status, the replies and what was written of errors.
+fn served(rt: &HostRuntime, word: &str, script: &[u8]) -> Result<(u8, Vec<u8>, Vec<u8>), Fail> {
+    let alloc = rt.alloc();
+    let words = [String::from_str(alloc, word)?];
+    let mut out = Vec::new(alloc);
+    let mut err = Vec::new(alloc);
+    let status = serve(alloc, &words, script, &mut out, &mut err);
+    Ok((status, out, err))
+}
+
+#[test]
+fn answers_every_line(rt: HostRuntime) -> Result<(), Fail> {
+    let rows: [(&str, &[u8], &[u8]); 11] = [
+        (
+            "i32",
+            b"insert 3... 1\ninsert 2...4 1\ninsert 0...=2 1\ncount\nshow\nremove 8..3\nremove 5..5\ncount\n",
+            b"ok\nok\nok\n1\n1..=2147483647 1\nok\nok\n1\n",
+        ),
+        ("i32", b"", b""),
+        ("i32", b"\n", b"bad line\n"),
+        ("i32", b"count\r\nshow", b"0\nempty\n"),
+        ("i32", b"count\r", b"bad line\n"),
+        (
+            "u8",
+            b"insert .... 1\nget 256\nget -0\n",
+            b"bad line\nbad line\nnone\n",
+        ),
+        (
+            "u8",
+            b"insert ... -9223372036854775808\nshow\n",
+            b"ok\n0..=255 -9223372036854775808\n",
+        ),
+        (
+            "i32",
+            b"get  1\nget +1\nget 0000000000000000000000000000001\n",
+            b"bad line\nbad line\nnone\n",
+        ),
+        (
+            "i32",
+            b"insert ..5 1\ninsert 1..2..3 1\ninsert 1..=+2 1\nremove ...\n",
+            b"bad line\nbad line\nbad line\nok\n",
+        ),
+        (
+            "i32",
+            b"insert -3...=2 7\nget -3\nget -2\nremove 0..1\nshow\n",
+            b"ok\nnone\n7\nok\n-2..=-1 7\n1..=2 7\n",
+        ),
+        (
+            "i32",
+            b"levels\ncount 1\n count\nCount\ninsert 0..5\ninsert 0..5 9223372036854775808\n",
+            b"bad line\nbad line\nbad line\nbad line\nbad line\nbad line\n",
+        ),
+    ];
+    for (word, script, replies) in rows {
+        let (status, out, err) = served(&rt, word, script)?;
+        assert_eq!(rt; status, 0, "at {script:?}");
+        assert_eq!(rt; out.as_slice(), replies, "at {script:?}");
+        assert_eq!(rt; err.len(), 0, "at {script:?}");
+    }
+    Ok(())
+}
+
+#[test]
+fn stops_at_bytes_that_are_no_text(rt: HostRuntime) -> Result<(), Fail> {
+    let (status, out, err) = served(&rt, "i32", b"insert 0..5 1\n\xff\ncount\n")?;
+    assert_eq!(rt; status, 1);
+    assert_eq!(rt; out.as_slice(), b"ok\n".as_slice());
+    assert_eq!(rt; err.as_slice(), b"read error\n".as_slice());
+    Ok(())
+}
+
+#[test]
+fn wants_one_known_word(rt: HostRuntime) -> Result<(), Fail> {
+    let alloc = rt.alloc();
+    let none: [String; 0] = [];
+    let other = [String::from_str(alloc, "i64")?];
+    let two = [
+        String::from_str(alloc, "u8")?,
+        String::from_str(alloc, "u8")?,
+    ];
+    let lists: [&[String]; 3] = [&none, &other, &two];
+    for words in lists {
+        let script: &[u8] = b"count\n";
+        let mut out = Vec::new(alloc);
+        let mut err = Vec::new(alloc);
+        assert_eq!(rt; serve(alloc, words, script, &mut out, &mut err), 2);
+        assert_eq!(rt; out.len(), 0);
+        assert_eq!(rt; err.as_slice(), b"usage: rangerun u8|i32\n".as_slice());
+    }
+    Ok(())
+}
+
+/// A reader whose every read fails.
+#[derive(Drop)]
+struct Broken;
+
+impl Read for Broken {
+    fn read(&mut self, _buffer: &mut [u8]) -> io::Result<usize> {
+        Err(io::Error::from(ErrorKind::BrokenPipe))
+    }
+}
+
+impl BufRead for Broken {
+    fn fill_buf(&mut self) -> io::Result<&[u8]> {
+        Err(io::Error::from(ErrorKind::BrokenPipe))
+    }
+
+    fn consume(&mut self, _amount: usize) {}
+}
+
+/// A writer that takes so many bytes and no more, and may fail to flush them.
+#[derive(Drop)]
+struct Short {
+    room: usize,
+    flushes: bool,
+}
+
+impl Write for Short {
+    fn write(&mut self, bytes: &[u8]) -> io::Result<usize> {
+        let taken = bytes.len().min(self.room);
+        self.room -= taken;
+        Ok(taken)
+    }
+
+    fn flush(&mut self) -> io::Result<()> {
+        if self.flushes {
+            Ok(())
+        } else {
+            Err(io::Error::from(ErrorKind::BrokenPipe))
+        }
+    }
+}
+
+#[test]
+fn stops_where_a_stream_fails(rt: HostRuntime) -> Result<(), Fail> {
+    let alloc = rt.alloc();
+    let words = [String::from_str(alloc, "i32")?];
+    let mut out = Vec::new(alloc);
+    let mut err = Vec::new(alloc);
+    let script: &[u8] = b"count\ncou";
+    let input = script.chain(Broken);
+    assert_eq!(rt; serve(alloc, &words, input, &mut out, &mut err), 1);
+    assert_eq!(rt; out.as_slice(), b"0\n".as_slice());
+    assert_eq!(rt; err.as_slice(), b"read error\n".as_slice());
+    for room in 0..9 {
+        let script: &[u8] = b"count\ninsert 0..1 1\nshow\n";
+        let mut out = Short {
+            room,
+            flushes: true,
+        };
+        let mut err = Vec::new(alloc);
+        let status = serve(alloc, &words, script, &mut out, &mut err);
+        assert_eq!(rt; status, 1, "with room for {room}");
+        assert_eq!(rt; err.len(), 0);
+    }
+    let script: &[u8] = b"count\n";
+    let mut out = Short {
+        room: 9,
+        flushes: false,
+    };
+    let mut err = Vec::new(alloc);
+    assert_eq!(rt; serve(alloc, &words, script, &mut out, &mut err), 1);
+    assert_eq!(rt; err.len(), 0);
+    Ok(())
+}
+
+/// Where an allocation is refused, the reply says so, the map is as before, and serving goes on.
+#[test]
+fn goes_on_after_a_refusal(rt: HostRuntime) -> Result<(), Fail> {
+    let script = b"insert 0..9 1\ninsert 3..5 2\ncount\n";
+    let (status, out, _err) = served(&rt, "u8", script)?;
+    let expected: [&[u8]; 3] = [b"ok\nok\n3\n", b"memory\nok\n1\n", b"ok\nmemory\n1\n"];
+    assert!(rt;
+        status == 1 || expected.iter().any(|replies| *replies == out.as_slice()),
+        "{out:?}"
+    );
+    Ok(())
+}
