@@ -13,6 +13,7 @@ use crate::edges::{joined_items, left_side, right_side};
 use crate::reach::{item_count, reaching_before, reaching_behind, surrounding};
 use crate::window::{Window, find_window};
 use range_algebra::any::AnyRange;
+use range_algebra::inner;
 use range_keys::traits::PartialEnum;
 use range_store::inner::cursor::Cursor;
 use range_store::storage::{Item, Storage};
@@ -44,9 +45,9 @@ fn bind_within<K: PartialEnum + Clone, V: Eq + Clone, C: Storage<Item<AnyRange<K
     ensures ok { OnOk result (IsInserted K.order V.eq (C.items stored.old) (C.items stored.new) range value) }
     ensures refused { OnErr result (C.items stored.new ≡ C.items stored.old) }
 {
-    range.known();
+    inner::known(&range);
     let item = stored.get(p);
-    item.key.known();
+    inner::known(&item.key);
     let joins = item.value == value;
     if joins {
         return Ok(());
@@ -81,7 +82,7 @@ fn bind_over<K: PartialEnum + Clone, V: Eq + Clone, C: Storage<Item<AnyRange<K>,
     ensures ok { OnOk result (IsInserted K.order V.eq (C.items stored.old) (C.items stored.new) range value) }
     ensures refused { OnErr result (C.items stored.new ≡ C.items stored.old) }
 {
-    range.known();
+    inner::known(&range);
     let left = left_side::<K, V, C>(stored, window, first, &range, &value)?;
     let right = right_side::<K, V, C>(stored, window, last, &range, &value)?;
     let inner = window.count - (item_count(&first) + item_count(&last));

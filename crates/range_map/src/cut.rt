@@ -12,6 +12,7 @@ ghost use Rattle.range_algebra.specs.Range.{IsKnownBound};
 ghost use Rattle.range_map.specs.Edits.{turned_bound};
 
 use range_algebra::any::AnyRange;
+use range_algebra::inner;
 use range_keys::inner::position::{compare_positions, position_of_end, position_of_start};
 use range_keys::traits::PartialEnum;
 use std::alloc::AllocError;
@@ -75,8 +76,8 @@ pub(crate) fn starts_before<K: PartialEnum>(first: &AnyRange<K>, second: &AnyRan
 pub(crate) fn ends_after<K: PartialEnum>(first: &AnyRange<K>, second: &AnyRange<K>) -> bool
     ensures { IsTrue result ↔ Lt (position_cmp K.order.cmp) (upper K.order second.now) (upper K.order first.now) }
 {
-    first.known();
-    second.known();
+    inner::known(first);
+    inner::known(second);
     match invert(second.end_bound()) {
         None => false,
         Some(start) => !compare_positions(

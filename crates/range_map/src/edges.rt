@@ -15,7 +15,8 @@ ghost use Rattle.range_map.specs.Plans.{IsLeftPlan, IsRightPlan};
 use crate::cut::{known_bound, turned_clone};
 use crate::window::Window;
 use range_algebra::any::AnyRange;
-use range_algebra::ordering::starts_at_end;
+use range_algebra::inner;
+use range_algebra::inner::starts_at_end;
 use range_keys::inner::position::position_of_start;
 use range_keys::traits::PartialEnum;
 use range_store::storage::{Item, Storage};
@@ -131,11 +132,11 @@ pub(crate) fn left_side<K: PartialEnum + Clone, V: Eq + Drop, C: Storage<Item<An
     requires first { ReachesBefore K.order (C.is_good stored.now) (C.rank stored.now) (C.items stored.now) range.now (place_before (C.rank stored.now) (length (C.items stored.now)) window.now.from) window.now.count first }
     ensures { IfOk result (λ side. (lawful : IsLawful K.order) → (equal : IsEquivalence V.eq) → IsLeftPlan K.order V.eq lawful equal (C.is_good stored.now) (C.rank stored.now) (C.items stored.now) range.now value.now (place_before (C.rank stored.now) (length (C.items stored.now)) window.now.from) window.now.count first side.edge side.from) }
 {
-    range.known();
+    inner::known(range);
     match first {
         Some(first) => {
             let item = stored.get(first);
-            item.key.known();
+            inner::known(&item.key);
             let joins = item.value == *value;
             if joins {
                 return Ok(LeftSide {
@@ -178,11 +179,11 @@ pub(crate) fn right_side<K: PartialEnum + Clone, V: Eq + Drop, C: Storage<Item<A
     requires last { ReachesBehind K.order (C.is_good stored.now) (C.rank stored.now) (C.items stored.now) range.now (place_before (C.rank stored.now) (length (C.items stored.now)) window.now.from) window.now.count last }
     ensures { IfOk result (λ edge. (lawful : IsLawful K.order) → (equal : IsEquivalence V.eq) → IsRightPlan K.order V.eq lawful equal (C.is_good stored.now) (C.rank stored.now) (C.items stored.now) range.now value.now (place_before (C.rank stored.now) (length (C.items stored.now)) window.now.from) window.now.count last edge) }
 {
-    range.known();
+    inner::known(range);
     match last {
         Some(last) => {
             let item = stored.get(last);
-            item.key.known();
+            inner::known(&item.key);
             let joins = item.value == *value;
             if joins {
                 return Ok(Edge::Joined(last));
@@ -193,7 +194,7 @@ pub(crate) fn right_side<K: PartialEnum + Clone, V: Eq + Drop, C: Storage<Item<A
         }
         None => match joined_after::<K, V, C>(stored, window, range, value) {
             Some(after) => {
-                stored.get(after).key.known();
+                inner::known(&stored.get(after).key);
                 Ok(Edge::Joined(after))
             }
             None => Ok(Edge::Plain),

@@ -15,6 +15,7 @@ use crate::edges::cut_edge;
 use crate::reach::{item_count, reaching_before, reaching_behind, run_start, surrounding};
 use crate::window::{Window, find_window};
 use range_algebra::any::AnyRange;
+use range_algebra::inner;
 use range_keys::traits::PartialEnum;
 use range_store::inner::cursor::Cursor;
 use range_store::storage::{Item, Storage};
@@ -37,9 +38,9 @@ fn unbind_within<K: PartialEnum, V: Eq + Clone, C: Storage<Item<AnyRange<K>, V>>
     ensures ok { OnOk result (IsRemoved K.order V.eq (C.items stored.old) (C.items stored.new) range) }
     ensures refused { OnErr result (C.items stored.new ≡ C.items stored.old) }
 {
-    range.known();
+    inner::known(&range);
     let item = stored.get(p);
-    item.key.known();
+    inner::known(&item.key);
     let copy = item.value.clone()?;
     stored.reserve(1)?;
     let (start, end) = range.into_bounds();
@@ -68,7 +69,7 @@ fn unbind_over<K: PartialEnum, V: Eq + Drop, C: Storage<Item<AnyRange<K>, V>>>(
     requires apart { length (option_items first) + length (option_items last) ≤ window.now.count }
     ensures { IsRemoved K.order V.eq (C.items stored.old) (C.items stored.new) range }
 {
-    range.known();
+    inner::known(&range);
     let (start, end) = range.into_bounds();
     let before = turned(start);
     known_bound(&before);
@@ -119,7 +120,7 @@ pub(crate) fn unbind<K: PartialEnum, V: Eq + Clone, C: Storage<Item<AnyRange<K>,
     ensures unmet { Every (λ i. ¬ Meets K.order i.key range) (C.items stored.old) → IsOk result }
     ensures unmet_unchanged { Every (λ i. ¬ Meets K.order i.key range) (C.items stored.old) → C.items stored.new ≡ C.items stored.old }
 {
-    range.known();
+    inner::known(&range);
     let window = find_window::<K, V, C>(stored, &range);
     if window.count == 0 {
         return Ok(());

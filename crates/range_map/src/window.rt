@@ -10,6 +10,7 @@ ghost use Rattle.range_map.specs.Window.{IsFound, IsWalk, IsWindow};
 
 use crate::probe::EndsBefore;
 use range_algebra::any::AnyRange;
+use range_algebra::inner;
 use range_keys::inner::position::{
     KeyRef, Position, compare_positions, position_of_end, position_of_start,
 };
@@ -91,7 +92,7 @@ pub(crate) fn find_window<K: PartialEnum, V: Eq + Drop, C: Storage<Item<AnyRange
     requires { IsStored K.order V.eq (C.items stored.now) }
     ensures { IsWindow K.order (C.is_good stored.now) (C.rank stored.now) (C.items stored.now) range.now result (place_before (C.rank stored.now) (length (C.items stored.now)) result.from) }
 {
-    range.known();
+    inner::known(range);
     let start = position_of_start(range.start_bound());
     let end = position_of_end(range.end_bound());
     let (before, from) = find::<K, V, C>(stored, &start);

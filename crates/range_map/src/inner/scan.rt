@@ -3,6 +3,7 @@ ghost use Rattle.std.specs.Option.{option_map};
 ghost use Rattle.range_map.specs.Bindings.{Binds};
 
 use range_algebra::any::AnyRange;
+use range_algebra::inner;
 use range_keys::traits::PartialEnum;
 use range_store::storage::Item;
 
@@ -13,7 +14,7 @@ pub fn find<'a, K: PartialEnum, V: Eq>(items: &'a [Item<AnyRange<K>, V>], key: &
     ensures { Binds K.order V.eq items.now key.now (option_map (λ v. v.now) result) }
 {
     for item in items {
-        if item.key.holds(key) {
+        if inner::holds(&item.key, key) {
             return Some(&item.value);
         }
     }
