@@ -10,6 +10,7 @@ ghost use Rattle.range_algebra.specs.Numbers.{IsNumberOfKeys};
 ghost use Rattle.range_algebra.specs.Range.{IsEmptyRange, IsKnownBound, Holds};
 
 use crate::any::AnyRange;
+use crate::inner;
 use range_keys::inner::position::KeyRef;
 use range_keys::traits::{Bounded, MaybeBounded, Measure, PartialEnum};
 use std::ops::{Bound, RangeBounds};
@@ -51,7 +52,7 @@ impl<T: Measure> AnyRange<T> {
         ensures untold { IsNone result ↔ HasUntoldEnd T.order self.now }
         ensures counted { IsCountedMeasure T.order T.len T.distance → IsSomeAnd result (IsNumberOfKeys T.order (Holds T.order self.now)) }
     {
-        self.known();
+        inner::known(self);
         if self.is_empty() {
             return Some(0);
         }
