@@ -1,20 +1,18 @@
 -- What a window and the parts left of its first and last item make of a stored list.
-use Rattle.std.proofs.Common.{◌≡◌, ℕ, zero, suc, ◌+◌, ◌-◌, ◌<◌, ◌≤◌, List, [], ◌∷◌, ◌++◌, length, take, drop, get_or, refl, ap, sym, ◌∙◌, ◌↔◌, arith, subst, Option, Some, None, Bool, true, false, IsTrue, inl, inr, length-drop, append_assoc}
-use Rattle.std.proofs.lemmas.List.{append-nil, drop_more, get_or-drop}
-use Rattle.std.specs.declared.cmp.Ordering.TheVariants.{Less, Equal, Greater}
+use Rattle.std.proofs.Common.{◌≡◌, ℕ, ◌+◌, ◌-◌, ◌<◌, ◌≤◌, List, [], ◌∷◌, ◌++◌, length, take, drop, get_or, ap, sym, ◌∙◌, arith, subst, Option, Some, None, Bool, append_assoc}
+use Rattle.std.proofs.lemmas.List.{append-nil, drop_more}
 use Rattle.std.specs.Cmp.{IsEquivalence}
 use Rattle.range_keys.specs.Order.{KeyOrder, IsLawful}
-use Rattle.range_keys.specs.Position.{start_position, end_position, position_cmp}
 use Rattle.range_keys.specs.PositionOrder.{position_total}
 use Rattle.range_keys.specs.declared.inner.position.Position.{Position}
 use Rattle.range_algebra.specs.declared.any.AnyRange.{AnyRange}
 use Rattle.range_algebra.specs.Range.{IsKnownRange, IsEmptyRange}
 use Rattle.range_store.specs.declared.storage.Item.{Item}
 use Rattle.range_algebra.specs.Intervals.{Le, Lt, Every}
-use Rattle.range_algebra.specs.Orders.{le_refl, lt_le, le_trans, lt_le_trans, lt_trans}
-use Rattle.range_algebra.specs.Chains.{every_weaker, every_append, every_left, every_right, chain_above, chain_right, chain_before, follows_above, Leads}
+use Rattle.range_algebra.specs.Orders.{lt_le, le_trans}
+use Rattle.range_algebra.specs.Chains.{every_weaker, every_append, every_left, every_right, chain_above, chain_right, chain_before}
 use Rattle.range_algebra.specs.Sides.{IsLeft, IsRight, left_whole, left_cut, right_whole, right_cut}
-use Rattle.range_algebra.specs.Joins.{IsBoundTo, IsUnbound, unbound}
+use Rattle.range_algebra.specs.Joins.{IsUnbound, unbound}
 use Rattle.range_algebra.specs.Cuts.{lower, upper}
 use Rattle.range_map.specs.ItemCuts.{item_lower, item_upper}
 use Rattle.range_map.specs.Stored.{IsStored}
@@ -22,8 +20,8 @@ use Rattle.range_map.specs.Bindings.{IsUnboundAfter, IsBoundAfter}
 use Rattle.range_algebra.proofs.Holding.{empty_is_keyless}
 use Rattle.range_map.specs.Window.{IsWindow, IsLeftPart, IsRightPart, option_items}
 use Rattle.range_map.specs.declared.window.Window.{Window}
-use Rattle.range_map.proofs.Forms.{places, nonempty_good, Known, Chained, stored_known, stored_chain, chain_stored, unbound_after}
-use Rattle.range_algebra.proofs.Lists.{every_at, parts, parts_at}
+use Rattle.range_map.proofs.Forms.{places, nonempty_good, Known, Chained, stored_known, stored_chain, unbound_after}
+use Rattle.range_algebra.proofs.Lists.{parts, parts_at}
 
 module _ {K : Type 0} (order : KeyOrder K) (lawful : IsLawful order) {V : Type 0} (same : V → V → Bool) (equal : IsEquivalence same) where
   abbrev Stored : Type 0

@@ -1,25 +1,23 @@
 -- What is left of an item that a range cuts, by places.
-use Rattle.std.proofs.Common.{◌≡◌, refl, ap, sym, ◌∙◌, ◌↔◌, Option, Some, None, Bool, true, false, not, IsTrue, inl, inr}
+use Rattle.std.proofs.Common.{◌≡◌, refl, sym, ◌∙◌, ◌↔◌, Some, None, Bool, true, false, not, IsTrue}
 use Rattle.std.specs.declared.ops.Bound.{Bound}
 use Rattle.std.specs.declared.ops.Bound.TheVariants.{Included, Excluded, Unbounded}
 use Rattle.std.specs.declared.cmp.Ordering.{Ordering}
-use Rattle.std.specs.declared.cmp.Ordering.TheVariants.{Less, Equal, Greater}
+use Rattle.std.specs.declared.cmp.Ordering.TheVariants.{Less, Equal}
 use Rattle.std.specs.Ordering.{is_gt, is_lt}
-use Rattle.std.specs.Cmp.{IsEquivalence, tied_back, tied_itself}
+use Rattle.std.specs.Cmp.{tied_back, tied_itself}
 use Rattle.range_keys.specs.Order.{KeyOrder, IsLawful}
-use Rattle.range_keys.specs.Position.{start_position, end_position, position_cmp}
+use Rattle.range_keys.specs.Position.{start_position, end_position}
 use Rattle.range_keys.specs.PositionOrder.{position_total}
-use Rattle.range_keys.specs.declared.inner.position.Position.{Position}
 use Rattle.range_algebra.specs.declared.any.AnyRange.{AnyRange}
 use Rattle.range_algebra.specs.Range.{IsKnownBound, IsKnownRange}
 use Rattle.range_algebra.specs.Compared.{inverted}
 use Rattle.range_algebra.specs.Clones.{SameBound, same_start}
-use Rattle.range_store.specs.declared.storage.Item.{Item}
-use Rattle.range_algebra.specs.Intervals.{Le, Lt}
-use Rattle.range_algebra.specs.Orders.{le_refl, lt_le, eq_le, eq_ge, le_trans, lt_le_trans, le_lt_trans, lt_not_le}
-use Rattle.range_algebra.specs.Cuts.{past, lower, upper}
+use Rattle.range_algebra.specs.Intervals.{Lt}
+use Rattle.range_algebra.specs.Orders.{eq_le, eq_ge, le_lt_trans, lt_not_le}
+use Rattle.range_algebra.specs.Cuts.{past, upper}
 use Rattle.range_map.specs.Edits.{turned_bound}
-use Rattle.range_algebra.proofs.Places.{reaches, turned, turned_back, turned_known, unbounded_start, unbounded_end}
+use Rattle.range_algebra.proofs.Places.{reaches, turned, turned_known, unbounded_start, unbounded_end}
 use Rattle.range_map.proofs.Forms.{places}
 use Rattle.range_map.proofs.Listed.{less_test}
 

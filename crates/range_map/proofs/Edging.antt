@@ -1,37 +1,32 @@
 -- What stands on each side of a range, and the list in which it is bound or unbound.
-use Rattle.std.proofs.Common.{◌≡◌, ℕ, zero, suc, ◌+◌, ◌-◌, ◌<◌, ◌≤◌, List, [], ◌∷◌, ◌++◌, length, take, drop, get_or, refl, ap, sym, ◌∙◌, ◌↔◌, arith, subst, Option, Some, None, Bool, true, false, IsTrue, inl, inr, length-drop, append_assoc}
+use Rattle.std.proofs.Common.{◌≡◌, ℕ, zero, suc, ◌+◌, ◌-◌, ◌<◌, ◌≤◌, List, [], ◌∷◌, ◌++◌, length, take, drop, get_or, refl, ap, sym, ◌∙◌, arith, subst, Option, Some, None, Bool, true, false, length-drop}
 use Rattle.std.proofs.lemmas.List.{append-nil, drop_more, take_more, get_or-drop}
-use Rattle.std.specs.declared.cmp.Ordering.TheVariants.{Less, Equal, Greater}
+use Rattle.std.specs.declared.cmp.Ordering.TheVariants.{Equal}
 use Rattle.std.specs.Cmp.{IsEquivalence}
 use Rattle.range_keys.specs.Order.{KeyOrder, IsLawful}
-use Rattle.range_keys.specs.Position.{start_position, end_position, position_cmp}
+use Rattle.range_keys.specs.Position.{start_position, end_position}
 use Rattle.range_keys.specs.PositionOrder.{position_total}
-use Rattle.range_keys.specs.declared.inner.position.Position.{Position}
 use Rattle.range_algebra.specs.declared.any.AnyRange.{AnyRange}
 use Rattle.range_algebra.specs.Range.{IsKnownRange, IsEmptyRange}
 use Rattle.range_store.specs.declared.storage.Item.{Item}
 use Rattle.range_algebra.specs.Intervals.{Le, Lt, Every}
-use Rattle.range_algebra.specs.Orders.{le_refl, lt_le, le_trans, lt_le_trans, lt_trans}
-use Rattle.range_algebra.specs.Chains.{every_weaker, every_append, every_left, every_right, chain_above, chain_right, chain_before, follows_above, Leads}
-use Rattle.range_algebra.specs.Sides.{IsLeft, IsRight, left_whole, left_cut, right_whole, right_cut}
-use Rattle.range_algebra.specs.Joins.{IsBoundTo, IsUnbound, unbound}
+use Rattle.range_algebra.specs.Orders.{lt_le, le_trans}
+use Rattle.range_algebra.specs.Chains.{every_weaker, every_append, every_right, Leads}
+use Rattle.range_algebra.specs.Joins.{unbound}
 use Rattle.range_algebra.specs.Cuts.{past, lower, upper}
 use Rattle.range_map.specs.ItemCuts.{item_lower, item_upper}
 use Rattle.range_map.specs.Stored.{IsStored}
-use Rattle.range_algebra.proofs.Holding.{empty_is_keyless}
 use Rattle.range_map.specs.Window.{IsWindow, IsLeftPart, IsRightPart, option_items}
 use Rattle.range_map.specs.declared.window.Window.{Window}
-use Rattle.range_map.proofs.Forms.{places, nonempty_good, Known, Chained, stored_known, stored_chain, chain_stored, unbound_after}
-use Rattle.range_algebra.proofs.Lists.{every_at, parts, parts_at}
+use Rattle.range_map.proofs.Forms.{places, nonempty_good, Known, stored_known, stored_chain, chain_stored, unbound_after}
+use Rattle.range_algebra.proofs.Lists.{every_at, parts}
 use Rattle.std.proofs.Common.{Result, Ok, Err, IfOk}
-use Rattle.range_algebra.specs.Compared.{starts_at_end}
-use Rattle.std.specs.Cmp.{tied_itself, tied_back}
+use Rattle.std.specs.Cmp.{tied_itself}
 use Rattle.std.specs.declared.ops.Bound.{Bound}
 use Rattle.std.specs.Option.{unwrap_or}
-use Rattle.range_store.specs.Places.{IsAt}
-use Rattle.range_algebra.specs.Orders.{eq_le, eq_ge, lt_not_le}
-use Rattle.range_algebra.specs.Chains.{Trails, Respects}
-use Rattle.range_algebra.specs.Joins.{IsLeftOf, IsRightOf, left_apart, left_joined, right_apart, right_joined, leading_last, trailing_first, bound}
+use Rattle.range_algebra.specs.Orders.{eq_le, eq_ge}
+use Rattle.range_algebra.specs.Chains.{Trails}
+use Rattle.range_algebra.specs.Joins.{left_apart, left_joined, right_apart, right_joined, leading_last, trailing_first, bound}
 use Rattle.range_map.specs.Ranges.{Touches}
 use Rattle.range_map.specs.Changes.{IsInserted, IsRemoved}
 use Rattle.range_map.specs.Ranges.{Meets}
@@ -39,7 +34,7 @@ use Rattle.range_map.specs.Frames.{GaveWayTo, WasCutOut}
 use Rattle.range_map.proofs.Forms.{before_is}
 use Rattle.range_map.proofs.Windows.{every_both}
 use Rattle.range_map.specs.Reach.{ReachesBefore, ReachesBehind}
-use Rattle.range_map.specs.Edits.{turned_bound, with_start, with_end}
+use Rattle.range_map.specs.Edits.{turned_bound, with_end}
 use Rattle.range_algebra.specs.Clones.{SameBound}
 use Rattle.range_algebra.specs.Range.{IsKnownBound}
 use Rattle.range_map.proofs.Openings.{regrouped, regrouped_out}

@@ -1,15 +1,13 @@
 -- Which items give way to a range, and what stands in their place.
-use Rattle.std.proofs.Common.{◌≡◌, ℕ, zero, suc, ◌+◌, ◌-◌, ◌<◌, ◌≤◌, List, [], ◌∷◌, ◌++◌, length, take, drop, get_or, refl, ap, sym, ◌∙◌, arith, subst, Option, Some, None, Bool, true, IsTrue, ◌⊎◌, inl, inr, length-append, length-drop, append_assoc}
+use Rattle.std.proofs.Common.{◌≡◌, ℕ, zero, suc, ◌+◌, ◌-◌, ◌<◌, ◌≤◌, List, [], ◌∷◌, ◌++◌, length, take, drop, get_or, refl, ap, sym, ◌∙◌, arith, subst, Option, Some, Bool, true, IsTrue, ◌⊎◌, inl, inr, length-append, length-drop, append_assoc}
 use Rattle.std.proofs.lemmas.List.{append-nil, get_or-drop, get_or-take, drop-take, drop-drop, take_more, length-take-le}
 use Rattle.std.specs.Cmp.{IsEquivalence}
 use Rattle.std.specs.Option.{unwrap_or}
 use Rattle.std.specs.declared.ops.Bound.{Bound}
 use Rattle.range_keys.specs.Order.{KeyOrder, IsLawful}
-use Rattle.range_keys.specs.Position.{position_cmp}
 use Rattle.range_keys.specs.PositionOrder.{position_total}
 use Rattle.range_algebra.specs.declared.any.AnyRange.{AnyRange}
 use Rattle.range_algebra.specs.Range.{IsKnownRange}
-use Rattle.range_algebra.specs.Clones.{SameBound}
 use Rattle.range_algebra.specs.Intervals.{Le, Lt, Any, Every}
 use Rattle.range_algebra.specs.Orders.{lt_trans, lt_not_le, le_lt_trans}
 use Rattle.range_algebra.specs.Chains.{any_left, any_right, every_weaker, every_append, every_left, every_right, chain_before}
@@ -18,13 +16,13 @@ use Rattle.range_algebra.proofs.Lists.{parts, parts_at, every_at}
 use Rattle.range_map.proofs.Edging.{element}
 use Rattle.range_store.specs.declared.storage.Item.{Item}
 use Rattle.range_map.specs.ItemCuts.{item_lower, item_upper}
-use Rattle.range_map.specs.Ranges.{LiesBefore, Touches, Meets}
+use Rattle.range_map.specs.Ranges.{LiesBefore, Meets}
 use Rattle.range_map.specs.Stored.{IsStored}
 use Rattle.range_map.specs.Window.{IsWindow, option_items}
 use Rattle.range_map.specs.declared.window.Window.{Window}
-use Rattle.range_map.specs.Frames.{IsStartOf, IsEndOf, HasValue, JoinsOrMeets, IsNewItem, GaveWayTo, IsPart, WasCutOut}
+use Rattle.range_map.specs.Frames.{IsStartOf, IsEndOf, HasValue, IsNewItem, GaveWayTo, IsPart, WasCutOut}
 use Rattle.range_map.specs.Plans.{IsLeftFrame, IsRightFrame}
-use Rattle.range_map.proofs.Forms.{places, before_is, Known, Chained, stored_known, stored_chain}
+use Rattle.range_map.proofs.Forms.{places, before_is, Chained, stored_known, stored_chain}
 use Rattle.range_map.proofs.Windows.{every_both}
 use Rattle.range_map.proofs.CutOut.{known_take, known_drop}
 

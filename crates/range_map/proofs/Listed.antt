@@ -1,5 +1,5 @@
 -- The form of a stored list, item by item.
-use Rattle.std.proofs.Common.{◌≡◌, refl, sym, ap, ◌∙◌, ◌↔◌, Bool, true, false, not, ◌&&◌, ◌||◌, if◌then◌else◌, IsTrue, List, [], ◌∷◌}
+use Rattle.std.proofs.Common.{◌≡◌, refl, ◌↔◌, Bool, true, false, not, ◌||◌, if◌then◌else◌, IsTrue, List, [], ◌∷◌}
 use Rattle.std.specs.declared.cmp.Ordering.{Ordering}
 use Rattle.std.specs.declared.cmp.Ordering.TheVariants.{Less, Equal, Greater}
 use Rattle.std.specs.Ordering.{is_gt, is_lt, is_eq}
@@ -13,7 +13,7 @@ use Rattle.range_algebra.specs.declared.ordering.RangeOrdering.TheVariants.{Befo
 use Rattle.range_algebra.specs.Orders.{le_lt_trans}
 use Rattle.range_algebra.specs.declared.any.AnyRange.{AnyRange}
 use Rattle.range_store.specs.declared.storage.Item.{Item}
-use Rattle.range_map.specs.Neighbours.{BeforeFirst, EachNext}
+use Rattle.range_map.specs.Neighbours.{EachNext}
 use Rattle.range_map.specs.Ranges.{LiesBefore, Touches}
 use Rattle.range_map.specs.Stored.{IsFollowedBy, IsStored}
 

@@ -1,23 +1,21 @@
 -- The items that a range meets, by places.
-use Rattle.std.proofs.Common.{◌≡◌, ℕ, zero, suc, ◌+◌, ◌-◌, ◌<◌, ◌≤◌, List, [], ◌∷◌, ◌++◌, length, take, drop, get_or, refl, ap, sym, ◌∙◌, ◌↔◌, arith, Option, Some, None, Bool, true, false, IsTrue, inl, inr, length-drop}
+use Rattle.std.proofs.Common.{◌≡◌, ℕ, ◌+◌, ◌-◌, ◌<◌, List, [], ◌∷◌, ◌++◌, length, take, drop, get_or, arith, Option, Bool, length-drop}
 use Rattle.std.specs.Cmp.{IsEquivalence}
 use Rattle.std.proofs.lemmas.List.{get_or-drop}
 use Rattle.range_keys.specs.Order.{KeyOrder, IsLawful}
-use Rattle.range_keys.specs.Position.{start_position, end_position, position_cmp}
+use Rattle.range_keys.specs.Position.{start_position, end_position}
 use Rattle.range_keys.specs.PositionOrder.{position_total}
 use Rattle.range_keys.specs.declared.inner.position.Position.{Position}
 use Rattle.range_algebra.specs.declared.any.AnyRange.{AnyRange}
-use Rattle.range_algebra.specs.Range.{Holds, IsKnownRange, IsEmptyRange}
+use Rattle.range_algebra.specs.Range.{IsKnownRange}
 use Rattle.range_store.specs.declared.storage.Item.{Item}
-use Rattle.range_store.specs.Places.{IsAt, place_before}
+use Rattle.range_store.specs.Places.{place_before}
 use Rattle.range_algebra.specs.Intervals.{Le, Lt, Every}
-use Rattle.range_algebra.specs.Orders.{le_refl, lt_le}
 use Rattle.range_algebra.specs.Chains.{every_weaker, every_left, every_right, chain_above, chain_right}
 use Rattle.range_algebra.specs.Cuts.{lower, upper}
 use Rattle.range_map.specs.ItemCuts.{item_lower, item_upper}
 use Rattle.range_map.specs.Stored.{IsStored}
 use Rattle.range_map.specs.Window.{IsFound, IsWalk, IsWindow}
-use Rattle.range_map.specs.declared.window.Window.{Window}
 use Rattle.range_algebra.proofs.Places.{reaches}
 use Rattle.range_map.proofs.Forms.{places, before_is, Known, Chained, stored_known, stored_chain}
 use Rattle.range_algebra.proofs.Lists.{every_at, parts}

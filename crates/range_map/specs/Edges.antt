@@ -1,5 +1,5 @@
 -- How a range that is bound joins what stands beside it.
-use Rattle.std.specs.Prelude.{◌≡◌, ℕ, ◌+◌, ◌-◌, ◌<◌, ◌≤◌, Bool, true, IsTrue, List, [], ◌∷◌, ◌++◌, length, take, drop, slice_index_or, slice_set, Option, Some, None, ⊤}
+use Rattle.std.specs.Prelude.{◌≡◌, ℕ, ◌+◌, ◌-◌, ◌<◌, ◌≤◌, Bool, true, List, ◌++◌, length, take, drop, slice_index_or, slice_set, Option, Some, None, ⊤}
 use Rattle.std.specs.declared.ops.Bound.{Bound}
 use Rattle.std.specs.declared.cmp.Ordering.TheVariants.{Equal}
 use Rattle.std.specs.Cmp.{IsEquivalence}
@@ -15,7 +15,6 @@ use Rattle.range_map.specs.declared.edges.Edge.TheVariants.{Plain, Cut, Joined}
 use Rattle.range_map.specs.Edits.{with_start, with_end}
 use Rattle.range_algebra.specs.declared.any.AnyRange.{AnyRange}
 use Rattle.range_store.specs.declared.storage.Item.{Item}
-use Rattle.range_store.specs.Places.{IsAt}
 use Rattle.range_algebra.specs.Intervals.{Every, Le}
 use Rattle.range_algebra.specs.Sides.{IsLeft, IsRight}
 use Rattle.range_algebra.specs.Joins.{IsLeftOf, IsRightOf}

@@ -45,5 +45,5 @@ replaced_run before now new place left less x was fewer within done =
     let kept : take (place + 1) now ≡ take place before ++ x ∷ [] = ap (take (place + 1)) whole ∙ take_at (take place before ++ x ∷ []) (drop (place + (left - less)) before) (place + 1) one in
     let rest : drop (place + 1) now ≡ drop (place + (left - less)) before = ap (drop (place + 1)) whole ∙ drop_at (take place before ++ x ∷ []) (drop (place + (left - less)) before) (place + 1) one in
     let tail : drop (place + 1 + less) now ≡ drop (place + left) before =
-        sym (drop-drop less (place + 1) now) ∙ (ap (drop less) rest ∙ (drop-drop less (place + (left - less)) before ∙ ap (λ n. drop n before) (omega (arith, fewer)))) in
+    sym (drop-drop less (place + 1) now) ∙ (ap (drop less) rest ∙ (drop-drop less (place + (left - less)) before ∙ ap (λ n. drop n before) (omega (arith, fewer)))) in
     done ∙ (ap (λ ys. ys ++ drop (place + 1 + less) now) kept ∙ (ap (λ ys. (take place before ++ x ∷ []) ++ ys) tail ∙ append_assoc (take place before) (x ∷ []) (drop (place + left) before)))

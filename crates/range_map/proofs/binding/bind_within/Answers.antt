@@ -1,4 +1,4 @@
-use Rattle.std.proofs.Common.{◌≡◌, ◌+◌, ◌-◌, ◌<◌, ◌∷◌, ◌++◌, [], length, take, drop, get_or, refl, ap, sym, ◌∙◌, arith, Some, None, true, false}
+use Rattle.std.proofs.Common.{◌≡◌, ◌+◌, ◌-◌, length, get_or, refl, ap, sym, ◌∙◌, arith, Some, None, true, false}
 use Rattle.std.specs.Cmp.{Equal-is}
 use Rattle.range_algebra.specs.Clones.{bound_clone}
 use Rattle.range_algebra.specs.declared.any.AnyRange.{AnyRange}

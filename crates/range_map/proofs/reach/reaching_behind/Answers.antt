@@ -1,9 +1,9 @@
-use Rattle.std.proofs.Common.{◌≡◌, ◌+◌, ◌-◌, ◌<◌, length, get_or, ap, sym, ◌∙◌, arith, true, IsTrue, subst}
+use Rattle.std.proofs.Common.{◌≡◌, ◌+◌, ◌-◌, ◌<◌, length, get_or, ap, sym, ◌∙◌, arith, IsTrue, subst}
 use Rattle.std.proofs.lemmas.List.{get_or_read}
 use Rattle.range_keys.specs.Position.{position_cmp}
 use Rattle.range_keys.specs.PositionOrder.{position_total}
 use Rattle.range_algebra.specs.Cuts.{upper}
-use Rattle.range_algebra.specs.Intervals.{Le, Lt}
+use Rattle.range_algebra.specs.Intervals.{Le}
 use Rattle.range_algebra.specs.Orders.{not_lt}
 use Rattle.range_store.specs.Places.{place_before}
 use Rattle.range_map.specs.ItemCuts.{item_upper}

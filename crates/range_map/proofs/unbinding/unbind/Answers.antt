@@ -1,4 +1,4 @@
-use Rattle.std.proofs.Common.{◌≡◌, ◌<◌, length, arith}
+use Rattle.std.proofs.Common.{◌<◌, length, arith}
 use Rattle.range_store.specs.Places.{place_before}
 use Rattle.range_map.proofs.CutOut.{unmet}
 use Rattle.range_map.proofs.Framing.{none_meets, some_meets, not_cut}

@@ -1,4 +1,4 @@
-use Rattle.std.proofs.Common.{◌≡◌, ◌+◌, ◌-◌, ◌<◌, ◌∷◌, ◌++◌, [], length, take, drop, get_or, refl, ap, sym, ◌∙◌, arith, Some, None, subst}
+use Rattle.std.proofs.Common.{◌≡◌, ◌+◌, ◌-◌, length, ap, sym, ◌∙◌, arith, None, subst}
 use Rattle.range_store.specs.Places.{place_before}
 use Rattle.range_store.proofs.PlacesLemmas.{place_at}
 use Rattle.range_map.specs.Edges.{IsLeftShape, IsRightShape, joined_count, edge_at}

@@ -1,7 +1,5 @@
-use Rattle.std.proofs.Common.{◌≡◌, ◌+◌, arith, length, sym, ◌∙◌, ap, refl}
+use Rattle.std.proofs.Common.{arith, length, sym, ◌∙◌}
 use Rattle.range_store.specs.Places.{place_before}
-use Rattle.range_store.proofs.PlacesLemmas.{place_at}
-use Rattle.range_map.specs.Iterating.{IsLastBelow}
 use Rattle.range_map.proofs.RunParts.{last_of_run}
 use Rattle.range_map.proofs.iter.IterDoubleEndedIterator.next_back.Goals as goal
 

@@ -1,4 +1,4 @@
-use Rattle.std.proofs.Common.{◌≡◌, ◌+◌, arith, length, sym, ◌∙◌, ap, refl, take, drop, List, ℕ, ◌-◌, ◌∷◌}
+use Rattle.std.proofs.Common.{◌≡◌, ◌+◌, arith, length, sym, ◌∙◌, ap, take, drop, ◌-◌, ◌∷◌}
 use Rattle.range_store.specs.Places.{place_before}
 use Rattle.range_store.proofs.PlacesLemmas.{place_at}
 use Rattle.range_map.proofs.RunParts.{first_of_run}

@@ -1,4 +1,4 @@
-use Rattle.std.proofs.Common.{◌≡◌, ◌+◌, ◌<◌, length, refl, ◌∙◌, sym}
+use Rattle.std.proofs.Common.{◌<◌, length, refl}
 use Rattle.range_map.proofs.Found.{none_bound, other_bound, bound_at, holds_at, past_not}
 use Rattle.range_map.proofs.map.RangeMap.get.Goals as goal
 
