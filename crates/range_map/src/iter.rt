@@ -76,7 +76,8 @@ impl<'a, K: 'a, V: 'a, C: Storage<Item<AnyRange<K>, V>> + 'a> Iterator for Iter<
 }
 
 impl<'a, K: 'a, V: 'a, C: Storage<Item<AnyRange<K>, V>> + 'a> DoubleEndedIterator
-    for Iter<'a, K, V, C> {
+    for Iter<'a, K, V, C>
+{
     ghost next_back_gives = { YieldsLastBy shown_item (λ rest. rest) };
 
     fn next_back(&mut self) -> Option<(&'a AnyRange<K>, &'a V)> {
@@ -96,7 +97,8 @@ impl<'a, K: 'a, V: 'a, C: Storage<Item<AnyRange<K>, V>> + 'a> DoubleEndedIterato
 }
 
 impl<'a, K: 'a, V: 'a, C: Storage<Item<AnyRange<K>, V>> + 'a> ExactSizeIterator
-    for Iter<'a, K, V, C> {
+    for Iter<'a, K, V, C>
+{
     fn len(&self) -> usize {
         self.left
     }

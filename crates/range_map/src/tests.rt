@@ -7,6 +7,8 @@ use std::test::Fail;
 
 type VecMap = RangeMap<u8, i64, VecStorage<Item<AnyRange<u8>, i64>>>;
 
+
+
 fn range(start: u8, end: u8) -> AnyRange<u8> {
     AnyRange::new(Bound::Included(start), Bound::Excluded(end))
 }
