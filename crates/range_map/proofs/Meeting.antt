@@ -41,7 +41,8 @@ not_both Less h e = cc
 not_both Equal h e = cc
 not_both Greater h e = cc
 
-any_at : {X : Type 0} (P : X → Type 0) (xs : List X) (place : ℕ) (x : X) → place < length xs → x ≡ get_or xs place x → P x → Any P xs
+-- an item that is such is some item
+pub any_at : {X : Type 0} (P : X → Type 0) (xs : List X) (place : ℕ) (x : X) → place < length xs → x ≡ get_or xs place x → P x → Any P xs
 any_at P [] place x within read h = absurd (omega arith)
 any_at P (y ∷ ys) zero x within read h = let at : x ≡ y = read in inl (rw at at h)
 any_at P (y ∷ ys) (suc place) x within read h = inr (any_at P ys place x (omega arith) read h)

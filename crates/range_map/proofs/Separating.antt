@@ -1,5 +1,6 @@
 -- A range that lies apart from all stored ones, and the list with it.
 use Rattle.std.proofs.Common.{◌≡◌, ℕ, zero, suc, ◌+◌, ◌<◌, ◌≤◌, List, [], ◌∷◌, ◌++◌, length, take, drop, get_or, refl, ap, sym, subst, ◌∙◌, arith, Option, Some, None, Bool, true, false, ◌&&◌, IsTrue, ◌⊎◌, inl, inr}
+use Rattle.std.specs.Prelude.{insert}
 use Rattle.std.specs.declared.cmp.Ordering.{Ordering}
 use Rattle.std.specs.declared.cmp.Ordering.TheVariants.{Less, Equal, Greater}
 use Rattle.std.specs.Cmp.{IsEquivalence, tied_itself}
@@ -18,6 +19,7 @@ use Rattle.range_algebra.specs.Range.{IsEmptyRange, IsKnownRange}
 use Rattle.range_algebra.specs.Sides.{left_whole, right_whole}
 use Rattle.range_algebra.specs.declared.any.AnyRange.{AnyRange}
 use Rattle.range_algebra.proofs.Lists.{drop_all, parts}
+use Rattle.range_store.proofs.PlacesLemmas.{kept_at, place_at}
 use Rattle.range_store.specs.Places.{IsAt, place_before}
 use Rattle.range_store.specs.declared.storage.Item.{Item}
 use Rattle.range_map.specs.Bindings.{IsBoundAfter}
@@ -28,17 +30,20 @@ use Rattle.range_map.specs.Ranges.{LiesBefore, Meets, Touches}
 use Rattle.range_map.specs.Stored.{IsStored}
 use Rattle.range_map.specs.Window.{IsFound, IsJustBefore}
 use Rattle.range_map.proofs.Forms.{Chained, Known, before_is, bound_after, chain_stored, nonempty_good, stored_chain, stored_known, touches_is}
+use Rattle.range_map.proofs.Meeting.{any_at}
 use Rattle.range_map.proofs.Searching.{touching_same}
+
+-- where an item was put once room was made, by the list from before
+pub put_at : {T P : Type 0} (is_good good_after : P → Type 0) (rank rank_after : P → ℕ) (items ready new : List T) (from : Option P) (x : T) → IsAt is_good rank (length items) from (place_before rank (length items) from) → ready ≡ items → ((p : P) → is_good p → good_after p × (rank_after p ≡ rank p)) → new ≡ insert ready (place_before rank_after (length ready) from) x → new ≡ insert items (place_before rank (length items) from) x
+put_at is_good good_after rank rank_after items ready new from x at same kept done =
+    let place = place_before rank (length items) from in
+    let here : place_before rank_after (length ready) from ≡ place = ap (λ n. place_before rank_after n from) (ap length same) ∙ place_at good_after rank_after (length items) from place (kept_at is_good good_after rank rank_after (length items) from place kept at) in
+    done ∙ (ap (λ n. insert ready n x) here ∙ ap (λ xs. insert xs place x) same)
 
 item_at : {X : Type 0} (xs : List X) (n : ℕ) → n < length xs → (x : X) × (x ≡ get_or xs n x)
 item_at [] n within = absurd (omega arith)
 item_at (x ∷ xs) zero within = (x, refl)
 item_at (x ∷ xs) (suc n) within = item_at xs n (omega arith)
-
-any_at : {X : Type 0} (P : X → Type 0) (xs : List X) (n : ℕ) (x : X) → n < length xs → x ≡ get_or xs n x → P x → Any P xs
-any_at P [] n x within read h = absurd (omega arith)
-any_at P (y ∷ ys) zero x within read h = let at : x ≡ y = read in inl (rw at at h)
-any_at P (y ∷ ys) (suc n) x within read h = inr (any_at P ys n x (omega arith) read h)
 
 every_both : {X : Type 0} (P Q : X → Type 0) (xs : List X) → Every P xs → Every Q xs → Every (λ x. P x × Q x) xs
 every_both P Q [] h k = tt
