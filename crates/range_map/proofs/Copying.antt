@@ -1,11 +1,10 @@
 -- A list of clones: equal item by item to its source, and in the same form.
-use Rattle.std.proofs.Common.{◌≡◌, refl, sym, ap, ◌∙◌, ◌↔◌, List, [], ◌∷◌, Option, Some, None, Bool, true, false, ◌&&◌, IsTrue}
+use Rattle.std.proofs.Common.{◌≡◌, refl, sym, ap, ◌∙◌, List, [], ◌∷◌, Option, Some, None, Bool, true, false, ◌&&◌}
 use Rattle.std.specs.List.{All, AllZip, AllByRecursion}
-use Rattle.std.specs.declared.ops.Bound.{Bound}
 use Rattle.std.specs.declared.cmp.Ordering.{Ordering}
 use Rattle.std.specs.declared.cmp.Ordering.TheVariants.{Less, Equal, Greater}
 use Rattle.std.specs.Ordering.{is_eq, ordering_then}
-use Rattle.std.specs.Cmp.{IsEquivalence, alike_right, tied_back, tied_itself}
+use Rattle.std.specs.Cmp.{IsEquivalence, alike_right, tied_back}
 use Rattle.std.proofs.lemmas.List.Elements.{recursion_from_All}
 use Rattle.range_keys.specs.Order.{KeyOrder, IsLawful, SameAnswer}
 use Rattle.range_keys.specs.Position.{start_position, end_position, position_cmp, at_told}
@@ -15,7 +14,6 @@ use Rattle.range_keys.specs.declared.inner.position.Position.TheVariants.{MinusI
 use Rattle.range_keys.specs.declared.inner.position.Side.TheVariants.{Before, At, After}
 use Rattle.range_algebra.specs.Clones.{IsBoundClone, range_clone}
 use Rattle.range_algebra.specs.Cuts.{past, lower, upper}
-use Rattle.range_algebra.specs.Intervals.{Le, Lt}
 use Rattle.range_algebra.specs.Orders.{eq_le, eq_ge, le_trans}
 use Rattle.range_algebra.specs.Range.{IsKnownRange, IsEmptyRange}
 use Rattle.range_algebra.specs.RangeOrder.{range_cmp, range_total}

@@ -1,5 +1,5 @@
 -- Which stored ranges a range meets, and which keys both then hold.
-use Rattle.std.proofs.Common.{◌≡◌, ℕ, zero, suc, ◌+◌, ◌<◌, ◌≤◌, Bool, List, [], ◌∷◌, ◌++◌, length, take, drop, get_or, refl, ap, sym, ◌∙◌, arith, true, false, ◌⊎◌, inl, inr, not, IsTrue, ◌↔◌, Option, Some, None}
+use Rattle.std.proofs.Common.{◌≡◌, ℕ, zero, suc, ◌+◌, ◌<◌, ◌≤◌, Bool, List, [], ◌∷◌, ◌++◌, length, take, drop, get_or, refl, ap, sym, ◌∙◌, arith, true, false, inl, inr, not, IsTrue, ◌↔◌, Option, Some, None}
 use Rattle.std.specs.Borrow.{Bor}
 use Rattle.std.specs.List.{AllByRecursion}
 use Rattle.std.specs.Option.{option_copied, is_some}
@@ -27,7 +27,7 @@ use Rattle.range_store.specs.declared.storage.Item.{Item}
 use Rattle.range_map.specs.Bindings.{IsBound, BindsTo, Binds}
 use Rattle.range_map.specs.ItemCuts.{item_lower, item_upper}
 use Rattle.range_map.specs.Lookups.{MeetsSome, BindsKeyOf}
-use Rattle.range_map.specs.Ranges.{LiesBefore, Meets}
+use Rattle.range_map.specs.Ranges.{Meets}
 use Rattle.range_map.specs.Stored.{IsStored}
 use Rattle.range_map.proofs.Forms.{Chained, stored_chain}
 

@@ -1,5 +1,5 @@
 -- What one comparison of an element says of the items behind.
-use Rattle.std.proofs.Common.{◌≡◌, ℕ, zero, suc, ◌+◌, ◌-◌, ◌<◌, ◌≤◌, List, [], ◌∷◌, length, get_or, refl, ap, sym, ◌∙◌, arith, Bool, true, false, not, ◌||◌, ◌&&◌, if◌then◌else◌, IsTrue, ◌↔◌}
+use Rattle.std.proofs.Common.{◌≡◌, ℕ, zero, suc, ◌<◌, ◌≤◌, List, [], ◌∷◌, length, get_or, refl, sym, ◌∙◌, arith, Bool, true, false, not, ◌||◌, if◌then◌else◌, IsTrue, ◌↔◌}
 use Rattle.std.specs.List.{AllByRecursion}
 use Rattle.std.specs.declared.ops.Bound.{Bound}
 use Rattle.std.specs.declared.ops.Bound.TheVariants.{Included, Excluded, Unbounded}
@@ -22,7 +22,7 @@ use Rattle.range_algebra.proofs.Lists.{every_at}
 use Rattle.range_algebra.proofs.Places.{turned}
 use Rattle.range_store.specs.declared.storage.Item.{Item}
 use Rattle.range_map.specs.Neighbours.{EachNext}
-use Rattle.range_map.specs.Ranges.{LiesBefore, Touches}
+use Rattle.range_map.specs.Ranges.{LiesBefore}
 use Rattle.range_map.specs.Searches.{ElementIsBefore}
 use Rattle.range_map.proofs.Forms.{before_is}
 

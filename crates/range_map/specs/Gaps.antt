@@ -1,7 +1,5 @@
 -- Where a range stands that neither meets nor touches a stored one, and what is said where there is no such place.
 use Rattle.std.specs.Prelude.{◌≡◌, ◌↔◌, ℕ, ◌≤◌, Bool, true, false, IsTrue, List, length, take, drop, slice_index_or, Option, Some, None, ⊤}
-use Rattle.std.specs.declared.result.Result.{Result}
-use Rattle.std.specs.declared.result.Result.TheVariants.{Ok, Err}
 use Rattle.range_keys.specs.Order.{KeyOrder}
 use Rattle.range_keys.specs.Position.{position_cmp}
 use Rattle.range_algebra.specs.Cuts.{lower, upper}

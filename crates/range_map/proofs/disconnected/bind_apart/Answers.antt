@@ -1,4 +1,4 @@
-use Rattle.std.proofs.Common.{◌≡◌, length, IsTrue, true, rules}
+use Rattle.std.proofs.Common.{◌≡◌, length, IsTrue, rules}
 use Rattle.std.specs.Prelude.{insert}
 use Rattle.range_algebra.specs.declared.any.AnyRange.{AnyRange}
 use Rattle.range_store.specs.Places.{place_before}

@@ -1,4 +1,4 @@
-use Rattle.std.proofs.Common.{◌≡◌, ◌&&◌, ap, sym, ◌∙◌, rules}
+use Rattle.std.proofs.Common.{◌≡◌, ◌&&◌, ap, ◌∙◌, rules}
 use Rattle.range_keys.specs.Position.{start_position, key_value, position_map}
 use Rattle.range_map.proofs.Separating.{gap_is}
 use Rattle.range_map.proofs.disconnected.find_gap.Goals as goal

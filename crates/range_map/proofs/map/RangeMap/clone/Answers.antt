@@ -1,4 +1,4 @@
-use Rattle.std.proofs.Common.{◌≡◌, get_or, sym, ◌∙◌}
+use Rattle.std.proofs.Common.{get_or, sym, ◌∙◌}
 use Rattle.std.specs.Cmp.{Equal-is}
 use Rattle.range_map.proofs.Copying.{copied, copy_stored, item_clone}
 use Rattle.range_map.proofs.map.RangeMap.clone.Goals as goal

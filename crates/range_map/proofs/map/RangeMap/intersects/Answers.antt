@@ -1,4 +1,4 @@
-use Rattle.std.proofs.Common.{◌≡◌, ◌+◌, ◌<◌, length, refl, ap, ◌∙◌, sym, ◌↔◌, IsTrue, not}
+use Rattle.std.proofs.Common.{◌<◌, length, ap, ◌∙◌}
 use Rattle.range_keys.specs.Position.{start_position, end_position, key_value, position_map}
 use Rattle.range_algebra.specs.Range.{IsEmptyRange}
 use Rattle.range_map.specs.Lookups.{MeetsSome}
