@@ -9,7 +9,8 @@ pub use Rattle.range_algebra.specs.Clones
 pub use Rattle.range_algebra.specs.Combined
 pub use Rattle.range_algebra.specs.Compared
 pub use Rattle.range_algebra.specs.Extremes
-pub use Rattle.range_algebra.specs.Number
+pub use Rattle.range_algebra.specs.Measures
+pub use Rattle.range_algebra.specs.Numbers
 pub use Rattle.range_algebra.specs.PartClones
 pub use Rattle.range_algebra.specs.Parts
 pub use Rattle.range_algebra.specs.Range

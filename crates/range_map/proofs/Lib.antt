@@ -1,3 +1,4 @@
+pub mod Copying
 pub mod CutOut
 pub mod CutParts
 pub mod Edging
@@ -6,9 +7,12 @@ pub mod Found
 pub mod Framing
 pub mod Histories
 pub mod Listed
+pub mod Meeting
 pub mod Openings
 pub mod Planning
 pub mod Replies
 pub mod RunParts
 pub mod Scans
+pub mod Searching
+pub mod Separating
 pub mod Windows

@@ -5,8 +5,10 @@ ghost use Rattle.range_map.specs.Stored.{IsStored};
 ghost use Rattle.range_map.specs.Bindings.{Binds};
 
 pub use crate::command::{Command, Reply, answer, run};
-pub use crate::error::MapError;
+pub use crate::error::{MapError, NotInserted};
 pub use crate::iter::Iter;
+pub use crate::search::binary_search;
+
 use crate::window::{find, starts_past};
 use range_algebra::any::AnyRange;
 use range_keys::inner::position::{KeyRef, Position, Side};

@@ -1,0 +1,160 @@
+-- A list of clones: equal item by item to its source, and in the same form.
+use Rattle.std.proofs.Common.{◌≡◌, refl, sym, ap, ◌∙◌, List, [], ◌∷◌, Option, Some, None, Bool, true, false, ◌&&◌}
+use Rattle.std.specs.List.{All, AllZip, AllByRecursion}
+use Rattle.std.specs.declared.cmp.Ordering.{Ordering}
+use Rattle.std.specs.declared.cmp.Ordering.TheVariants.{Less, Equal, Greater}
+use Rattle.std.specs.Ordering.{is_eq, ordering_then}
+use Rattle.std.specs.Cmp.{IsEquivalence, alike_right, tied_back}
+use Rattle.std.proofs.lemmas.List.Elements.{recursion_from_All}
+use Rattle.range_keys.specs.Order.{KeyOrder, IsLawful, SameAnswer}
+use Rattle.range_keys.specs.Position.{start_position, end_position, position_cmp, at_told}
+use Rattle.range_keys.specs.PositionOrder.{position_total}
+use Rattle.range_keys.specs.declared.inner.position.Position.{Position}
+use Rattle.range_keys.specs.declared.inner.position.Position.TheVariants.{MinusInfinity, Beside, PlusInfinity}
+use Rattle.range_keys.specs.declared.inner.position.Side.TheVariants.{Before, At, After}
+use Rattle.range_algebra.specs.Clones.{IsBoundClone, range_clone}
+use Rattle.range_algebra.specs.Cuts.{past, lower, upper}
+use Rattle.range_algebra.specs.Orders.{eq_le, eq_ge, le_trans}
+use Rattle.range_algebra.specs.Range.{IsKnownRange, IsEmptyRange}
+use Rattle.range_algebra.specs.RangeOrder.{range_cmp, range_total}
+use Rattle.range_algebra.specs.declared.any.AnyRange.{AnyRange}
+use Rattle.range_store.specs.declared.storage.Item.{Item}
+use Rattle.range_map.specs.Copies.{IsCopyOf}
+use Rattle.range_map.specs.Ranges.{LiesBefore, Touches}
+use Rattle.range_map.specs.Stored.{IsStored}
+use Rattle.range_map.proofs.Forms.{before_is, nonempty_good, touches_is}
+use Rattle.range_map.proofs.Listed.{IsListed, listed, stored_by}
+
+both_parts : (o p : Ordering) → ordering_then o p ≡ Equal → (o ≡ Equal) × (p ≡ Equal)
+both_parts Less p h = cc
+both_parts Equal p h = (refl, h)
+both_parts Greater p h = cc
+
+level : (o p : Ordering) → o ≡ Equal → p ≡ Equal → ordering_then o p ≡ Equal
+level o p e f = rw e f
+
+both_true : (a b : Bool) → a ≡ true → b ≡ true → (a && b) ≡ true
+both_true a b e f = rw e f
+
+true_parts : (a b : Bool) → (a && b) ≡ true → (a ≡ true) × (b ≡ true)
+true_parts true b e = (refl, e)
+true_parts false b e = cc
+
+equal_is : (o : Ordering) → is_eq o ≡ true → o ≡ Equal
+equal_is Less h = cc
+equal_is Equal h = refl
+equal_is Greater h = cc
+
+module _ {K : Type 0} (order : KeyOrder K) (lawful : IsLawful order) where
+  abbrev Same : Position K → Position K → Type 0
+  Same p q = position_cmp order.cmp p q ≡ Equal
+
+  told_same : (o p : Option K) (q r : Position K) → SameAnswer order o p → Same q r → Same (at_told o q) (at_told p r)
+  told_same None None q r h e = e
+  told_same None (Some y) q r h e = absurd h
+  told_same (Some x) None q r h e = absurd h
+  told_same (Some x) (Some y) q r h e = level (order.cmp x y) Equal h refl
+
+  -- the places past equal ends are equal
+  past_same : (p q : Position K) → Same p q → Same (past order p) (past order q)
+  past_same MinusInfinity MinusInfinity h = refl
+  past_same MinusInfinity (Beside b t) h = cc
+  past_same MinusInfinity PlusInfinity h = cc
+  past_same (Beside a s) MinusInfinity h = cc
+  past_same (Beside a s) PlusInfinity h = cc
+  past_same PlusInfinity MinusInfinity h = cc
+  past_same PlusInfinity (Beside b t) h = cc
+  past_same PlusInfinity PlusInfinity h = refl
+  past_same (Beside a Before) (Beside b Before) h = level (order.cmp a b) Equal (both_parts (order.cmp a b) Equal h).0 refl
+  past_same (Beside a At) (Beside b At) h =
+      let e = (both_parts (order.cmp a b) Equal h).0 in
+      told_same (order.succ a) (order.succ b) (Beside a After) (Beside b After) (lawful.succ_congr a b e) (level (order.cmp a b) Equal e refl)
+  past_same (Beside a After) (Beside b After) h = level (order.cmp a b) Equal (both_parts (order.cmp a b) Equal h).0 refl
+  past_same (Beside a Before) (Beside b At) h = absurd (let e = (both_parts (order.cmp a b) Less h).1 in cc)
+  past_same (Beside a Before) (Beside b After) h = absurd (let e = (both_parts (order.cmp a b) Less h).1 in cc)
+  past_same (Beside a At) (Beside b Before) h = absurd (let e = (both_parts (order.cmp a b) Greater h).1 in cc)
+  past_same (Beside a At) (Beside b After) h = absurd (let e = (both_parts (order.cmp a b) Less h).1 in cc)
+  past_same (Beside a After) (Beside b Before) h = absurd (let e = (both_parts (order.cmp a b) Greater h).1 in cc)
+  past_same (Beside a After) (Beside b At) h = absurd (let e = (both_parts (order.cmp a b) Greater h).1 in cc)
+
+  alike : (p q s t : Position K) → Same p q → Same s t → position_cmp order.cmp p s ≡ position_cmp order.cmp q t
+  alike p q s t e f =
+      let total = position_total order.cmp lawful.total in total.congr p q s e ∙ alike_right total s t q f
+
+  starts_same : (r s : AnyRange K) → range_cmp order r s ≡ Equal → Same (start_position order r.start) (start_position order s.start)
+  starts_same r s e =
+      (both_parts (position_cmp order.cmp (start_position order r.start) (start_position order s.start)) (position_cmp order.cmp (end_position order r.end) (end_position order s.end)) e).0
+
+  ends_same : (r s : AnyRange K) → range_cmp order r s ≡ Equal → Same (end_position order r.end) (end_position order s.end)
+  ends_same r s e =
+      (both_parts (position_cmp order.cmp (start_position order r.start) (start_position order s.start)) (position_cmp order.cmp (end_position order r.end) (end_position order s.end)) e).1
+
+  same_empty : (r s : AnyRange K) → range_cmp order r s ≡ Equal → IsEmptyRange order r → IsEmptyRange order s
+  same_empty r s e h =
+      sym (alike (start_position order r.start) (start_position order s.start) (end_position order r.end) (end_position order s.end) (starts_same r s e) (ends_same r s e)) ∙ h
+
+  same_before : (r s r' s' : AnyRange K) → range_cmp order r r' ≡ Equal → range_cmp order s s' ≡ Equal → LiesBefore order r' s' → LiesBefore order r s
+  same_before r s r' s' e f h =
+      alike (end_position order r.end) (end_position order r'.end) (start_position order s.start) (start_position order s'.start) (ends_same r r' e) (starts_same s s' f) ∙ h
+
+  same_touches : (r s r' s' : AnyRange K) → IsKnownRange order r → IsKnownRange order s → IsKnownRange order r' → IsKnownRange order s' → (IsEmptyRange order s → ⊥) → (IsEmptyRange order s' → ⊥) → LiesBefore order r s → LiesBefore order r' s' → range_cmp order r r' ≡ Equal → range_cmp order s s' ≡ Equal → Touches order r s → Touches order r' s'
+  same_touches r s r' s' known others known' others' full full' before before' e f h =
+      let cmp = position_cmp order.cmp in
+      let total = position_total order.cmp lawful.total in
+      let le = (before_is order lawful r.end s.start known.1 others.0).0 before in
+      let le' = (before_is order lawful r'.end s'.start known'.1 others'.0).0 before' in
+      let back = (touches_is order lawful r.end s others ((nonempty_good order lawful s others).0 full) le).0 h in
+      let start = eq_ge cmp total (lower order s) (lower order s') (starts_same s s' f) in
+      let end = eq_le cmp total (upper order r) (upper order r') (past_same (end_position order r.end) (end_position order r'.end) (ends_same r r' e)) in
+      (touches_is order lawful r'.end s' others' ((nonempty_good order lawful s' others').0 full') le').1 (le_trans cmp total (lower order s') (lower order s) (upper order r') start (le_trans cmp total (lower order s) (upper order r) (upper order r') back end))
+
+  module _ {V : Type 0} (same : V → V → Bool) (equal : IsEquivalence same) where
+    same_values : (v w v' w' : V) → same v v' ≡ true → same w w' ≡ true → same v w ≡ true → same v' w' ≡ true
+    same_values v w v' w' e f h =
+        let crossed : same v' w ≡ true = sym (equal.congr v v' w e) ∙ h in
+        equal.symm v' w' ∙ (sym (equal.congr w w' v' f) ∙ (equal.symm w v' ∙ crossed))
+
+    copy_full : (i j : Item (AnyRange K) V) → range_cmp order i.key j.key ≡ Equal → (IsEmptyRange order j.key → ⊥) → IsEmptyRange order i.key → ⊥
+    copy_full i j e full h = full (same_empty i.key j.key e h)
+
+    listed_full : (j : Item (AnyRange K) V) (rest : List (Item (AnyRange K) V)) → IsListed order lawful same (j ∷ rest) → IsEmptyRange order j.key → ⊥
+    listed_full j [] h = h.1
+    listed_full j (k ∷ rest) h = h.1
+
+    listed_known : (j : Item (AnyRange K) V) (rest : List (Item (AnyRange K) V)) → IsListed order lawful same (j ∷ rest) → IsKnownRange order j.key
+    listed_known j [] h = h.0
+    listed_known j (k ∷ rest) h = h.0
+
+    copy_listed : (copy items : List (Item (AnyRange K) V)) → IsCopyOf order same copy items → AllByRecursion (λ i. IsKnownRange order i.key) copy → IsListed order lawful same items → IsListed order lawful same copy
+    copy_listed [] items zip known h = tt
+    copy_listed (i ∷ []) [] zip known h = absurd zip
+    copy_listed (i ∷ []) (j ∷ others) zip known h = (known.0, copy_full i j zip.0.0 (listed_full j others h))
+    copy_listed (i ∷ i' ∷ rest) [] zip known h = absurd zip
+    copy_listed (i ∷ i' ∷ rest) (j ∷ []) zip known h = absurd zip.1
+    copy_listed (i ∷ i' ∷ rest) (j ∷ j' ∷ others) zip known h =
+        let next = listed_full j' others h.4 in
+        let before = same_before i.key i'.key j.key j'.key zip.0.0 zip.1.0.0 h.2 in
+        let full = copy_full i' j' zip.1.0.0 next in (
+          known.0,
+          copy_full i j zip.0.0 h.1,
+          before,
+          λ touching s. h.3 (same_touches i.key i'.key j.key j'.key known.0 known.1.0 h.0 (listed_known j' others h.4) full next before h.2 zip.0.0 zip.1.0.0 touching) (same_values i.value i'.value j.value j'.value zip.0.1 zip.1.0.1 s),
+          copy_listed (i' ∷ rest) (j' ∷ others) zip.1 known.1 h.4,
+        )
+
+    pub copy_stored : (copy items : List (Item (AnyRange K) V)) → IsCopyOf order same copy items → All (λ i. IsKnownRange order i.key) copy → IsStored order same items → IsStored order same copy
+    copy_stored copy items zip known h =
+        stored_by order lawful same copy (copy_listed copy items zip (recursion_from_All (λ i. IsKnownRange order i.key) copy known) (listed order lawful same items h))
+
+    pub copied : (items copy : List (Item (AnyRange K) V)) → AllZip (λ x y. (is_eq (range_cmp order y.key x.key) && same y.value x.value) ≡ true) items copy → IsCopyOf order same copy items
+    copied [] [] zip = tt
+    copied [] (y ∷ ys) zip = absurd zip
+    copied (x ∷ xs) [] zip = absurd zip
+    copied (x ∷ xs) (y ∷ ys) zip =
+        let both = true_parts (is_eq (range_cmp order y.key x.key)) (same y.value x.value) zip.0 in
+        ((equal_is (range_cmp order y.key x.key) both.0, both.1), copied xs ys zip.1)
+
+    -- the clone of an item equals it
+    pub item_clone : (is_clone : K → K → Type 0) (keys : (x y : K) → is_clone x y → order.cmp x y ≡ Equal) (is_value_clone : V → V → Type 0) (values : (x y : V) → is_value_clone x y → same x y ≡ true) (x y : Item (AnyRange K) V) → (IsBoundClone is_clone x.key.start y.key.start × IsBoundClone is_clone x.key.end y.key.end) → is_value_clone x.value y.value → (is_eq (range_cmp order y.key x.key) && same y.value x.value) ≡ true
+    item_clone is_clone keys is_value_clone values x y key value =
+        both_true (is_eq (range_cmp order y.key x.key)) (same y.value x.value) (ap is_eq (tied_back (range_total order lawful) x.key y.key (range_clone order lawful is_clone keys x.key y.key key))) (equal.symm y.value x.value ∙ values x.value y.value value)

@@ -1,0 +1,21 @@
+use Rattle.std.proofs.Common.{◌-◌, length, take}
+use Rattle.std.specs.List.{All}
+use Rattle.range_algebra.specs.Range.{IsKnownRange}
+use Rattle.range_store.specs.Places.{place_before, IsAt}
+use Rattle.range_map.proofs.cloning.known_items.Given as goal
+
+abbrev pub invariant-loop-at : goal.invariant-loop-at
+invariant-loop-at g l =
+    let storage = g.C.Storage in
+    let items = storage.items l.stored in
+    let place = place_before (storage.rank l.stored) (length items) l.at in
+    record {
+      position : IsAt (storage.is_good l.stored) (storage.rank l.stored) (length items) l.at place;
+      known : All (λ i. IsKnownRange g.K.MaybeBounded.order i.key) (take place items);
+    }
+
+abbrev pub decreases-loop-at : goal.decreases-loop-at
+decreases-loop-at g l =
+    let storage = g.C.Storage in
+    let items = storage.items l.stored in
+    length items - place_before (storage.rank l.stored) (length items) l.at

@@ -1,0 +1,31 @@
+-- What a range meets among the stored ones, and where it stands once it is put among them.
+use Rattle.std.specs.Prelude.{◌≡◌, ℕ, ◌≤◌, ◌⊎◌, List, length, insert}
+use Rattle.range_keys.specs.Order.{KeyOrder}
+use Rattle.range_algebra.specs.Intervals.{Any}
+use Rattle.range_algebra.specs.Range.{Holds}
+use Rattle.range_algebra.specs.declared.any.AnyRange.{AnyRange}
+use Rattle.range_store.specs.declared.storage.Item.{Item}
+use Rattle.range_map.specs.Bindings.{IsBound}
+use Rattle.range_map.specs.Ranges.{Meets, Touches}
+
+module _ {K : Type 0} (order : KeyOrder K) where
+  -- the ranges meet, or one starts where the other ends
+  abbrev pub IsConnectedTo : AnyRange K → AnyRange K → Type 0
+  IsConnectedTo r s = Meets order r s ⊎ (Touches order r s ⊎ Touches order s r)
+
+  module _ {V : Type 0} where
+    -- some stored range meets the range
+    abbrev pub MeetsSome : List (Item (AnyRange K) V) → AnyRange K → Type 0
+    MeetsSome items r = Any (λ i. Meets order i.key r) items
+
+    -- some stored range meets or touches it
+    abbrev pub IsConnectedToSome : List (Item (AnyRange K) V) → AnyRange K → Type 0
+    IsConnectedToSome items r = Any (λ i. IsConnectedTo i.key r) items
+
+    -- some key of the range is bound
+    abbrev pub BindsKeyOf : List (Item (AnyRange K) V) → AnyRange K → Type 0
+    BindsKeyOf items r = (k : K) × order.is_key k × Holds order r k × IsBound order items k
+
+-- the one list with an item put in somewhere is the other
+abbrev pub IsPutInto : {T : Type 0} → List T → List T → T → Type 0
+IsPutInto before after x = (place : ℕ) × (place ≤ length before) × (after ≡ insert before place x)

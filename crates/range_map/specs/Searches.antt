@@ -1,0 +1,18 @@
+-- Which item of a rising list an element belongs to.
+use Rattle.std.specs.Prelude.{ℕ, ◌+◌, ◌<◌, Bool, IsTrue, List, length, slice_index_or}
+use Rattle.std.specs.List.{AllWithin}
+use Rattle.range_keys.specs.Order.{KeyOrder}
+use Rattle.range_algebra.specs.Compared.{range_ordering, is_before}
+use Rattle.range_algebra.specs.declared.any.AnyRange.{AnyRange}
+use Rattle.range_store.specs.declared.storage.Item.{Item}
+
+module _ {K : Type 0} (order : KeyOrder K) (element : AnyRange K) (connected : Bool) where
+  -- the element lies before the range, and apart from it where touching counts as meeting
+  abbrev pub ElementIsBefore : AnyRange K → Type 0
+  ElementIsBefore r = IsTrue (is_before (range_ordering order element r) connected)
+
+  -- the element is not before the item at the index, and is before each behind it
+  pub record IsLastNotAfter {V : Type 0} (items : List (Item (AnyRange K) V)) (at : ℕ) : Type 0 where
+    pub in_range : at < length items
+    pub reached : (d : Item (AnyRange K) V) → ¬ ElementIsBefore (slice_index_or items at d).key
+    pub behind : AllWithin (λ i. ElementIsBefore i.key) items (at + 1) (length items)

@@ -1,0 +1,54 @@
+//! Copies of a map, and an empty one.
+ghost use Rattle.std.specs.Prelude.{◌≡◌, [], IfOk, All};
+ghost use Rattle.range_algebra.specs.Range.{ClonesAreEqual, IsKnownRange};
+ghost use Rattle.range_map.specs.Stored.{IsStored};
+ghost use Rattle.range_map.specs.Copies.{IsCopyOf};
+
+use crate::map::RangeMap;
+use range_algebra::any::AnyRange;
+use range_algebra::inner;
+use range_keys::traits::PartialEnum;
+use range_store::storage::{Item, Storage};
+use std::alloc::{AllocError, Global};
+use std::marker::PhantomData;
+
+/// Does nothing, and promises that the bounds of all items are keys.
+fn known_items<K: PartialEnum, V, C: Storage<Item<AnyRange<K>, V>>>(stored: &C)
+    ensures { All (λ i. IsKnownRange K.order i.key) (C.items stored.now) }
+{
+    let mut at = stored.first();
+    while let Some(p) = at {
+        inner::known(&stored.get(p).key);
+        at = stored.next(p);
+    }
+}
+
+impl<K: PartialEnum, V: Eq + Drop, C: Storage<Item<AnyRange<K>, V>>> RangeMap<K, V, C> {
+    /// A map that binds no key. Takes no memory.
+    pub fn default(alloc: Global) -> Self
+        ensures { C.items result ≡ [] }
+    {
+        RangeMap::new(alloc)
+    }
+}
+
+impl<K: PartialEnum + Clone, V: Eq + Clone, C: Storage<Item<AnyRange<K>, V>>> RangeMap<K, V, C> {
+    /// A map that stores equal ranges with equal values, and shares nothing with this one.
+    ///
+    /// Takes memory for its items and for each clone; fails where that is refused. Costs a clone and a
+    /// step for each stored range.
+    pub fn clone(&self) -> Result<Self, AllocError>
+        requires keys { ClonesAreEqual K.is_clone K.eq }
+        requires values { ClonesAreEqual V.is_clone V.eq }
+        ensures equal { IfOk result (λ copy. IsCopyOf K.order V.eq (C.items copy) (C.items self.now)) }
+        ensures form { IfOk result (λ copy. IsStored K.order V.eq (C.items copy)) }
+    {
+        self.in_form();
+        let stored = self.stored.clone()?;
+        known_items::<K, V, C>(&stored);
+        Ok(RangeMap {
+            stored,
+            item: PhantomData,
+        })
+    }
+}
