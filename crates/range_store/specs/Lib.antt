@@ -1,3 +1,7 @@
 pub mod Counting
+pub mod Falling
 pub mod Lending
+pub mod Listed
+pub mod Nodes
+pub mod Occurrences
 pub mod Places

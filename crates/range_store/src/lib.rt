@@ -1,5 +1,6 @@
 //! An ordered container, seen as a list of items and a room.
 #![tactic(auto)]
 
+pub mod btree;
 pub mod storage;
 pub mod vec_storage;

@@ -1,0 +1,5 @@
+//! A container kept as a B-tree.
+pub mod insertion;
+pub mod node;
+pub mod place;
+pub mod tree;

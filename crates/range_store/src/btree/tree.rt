@@ -1,0 +1,108 @@
+//! A list of numbers by rank, as a B-tree.
+ghost use Rattle.std.specs.Prelude.{◌≡◌, ℕ, ◌+◌, ◌-◌, ◌*◌, ◌<◌, ◌≤◌, ◌^◌, [], length, slice_index, insert, remove, OnOk};
+
+use crate::btree::insertion::{Root, insert_into};
+use crate::btree::node::{LEAST, Node, count};
+use crate::btree::place::number_at;
+use slab::Slab;
+use std::alloc::{AllocError, Global};
+use std::marker::Model;
+
+/// A list of numbers by rank, as a B-tree.
+#[derive(Drop)]
+pub struct NumberTree {
+    nodes: Slab<Node>,
+    root: usize,
+    levels: usize,
+}
+
+impl Model for NumberTree {
+    ghost use Rattle.std.specs.Prelude.{◌-◌, ◌*◌, length};
+    ghost use Rattle.range_store.specs.Nodes.{Ranked, ranked_code};
+
+    ghost Value = { Ranked };
+
+    ghost coded = { ranked_code };
+
+    ghost use Rattle.range_store.specs.declared.btree.node.TheConstants.{LEAST};
+
+    ghost use Rattle.range_store.specs.Nodes.{numbers as numbers_below, IsTree};
+
+    ghost view = { λ t. record {
+      numbers = numbers_below t.nodes t.levels t.root;
+      room = LEAST * t.nodes.capacity - length (numbers_below t.nodes t.levels t.root);
+      levels = t.levels;
+    } };
+
+    ghost invariant = { λ t. IsTree t.nodes t.levels t.root };
+}
+
+impl NumberTree {
+    pub fn new(alloc: Global) -> Self
+        ensures empty { result.numbers ≡ [] }
+        ensures levels { result.levels ≡ 0 }
+    {
+        NumberTree {
+            nodes: Slab::new(alloc),
+            root: 0,
+            levels: 0,
+        }
+    }
+
+    /// The number of levels.
+    pub fn levels(&self) -> usize
+        ensures { result ≡ self.now.levels }
+    {
+        self.levels
+    }
+
+    /// The number at a rank.
+    pub fn get(&self, rank: usize) -> usize
+        requires { rank < length self.now.numbers }
+        ensures { result ≡ slice_index self.now.numbers rank }
+    {
+        number_at(&self.nodes, self.levels - 1, self.root, rank)
+    }
+
+    /// Makes room for `additional` more numbers.
+    pub fn reserve(&mut self, additional: usize) -> Result<(), AllocError>
+        ensures room { OnOk result (additional ≤ self.new.room) }
+        ensures no_less { self.old.room ≤ self.new.room }
+        ensures numbers { self.new.numbers ≡ self.old.numbers }
+        ensures levels { self.new.levels ≡ self.old.levels }
+    {
+        let len = self.len();
+        if additional > usize::MAX - len {
+            return Err(AllocError);
+        }
+        let wanted = (len + additional) / LEAST + 1;
+        self.nodes.reserve(wanted.saturating_sub(self.nodes.len()))
+    }
+
+    /// How many numbers there are.
+    pub fn len(&self) -> usize
+        ensures { result ≡ length self.now.numbers }
+    {
+        if self.levels == 0 {
+            0
+        } else {
+            count(&self.nodes, self.root)
+        }
+    }
+
+    /// Puts a number before the one at a rank, or last.
+    pub fn insert(&mut self, rank: usize, number: usize)
+        requires within { rank ≤ length self.old.numbers }
+        requires room { 1 ≤ self.old.room }
+        requires small { length self.old.numbers + 1 < 2 ^ 64 }
+        ensures numbers { self.new.numbers ≡ insert self.old.numbers rank number }
+        ensures room { self.new.room + 1 ≡ self.old.room }
+    {
+        let Root {
+            number: root,
+            levels,
+        } = insert_into(&mut self.nodes, self.levels, self.root, rank, number);
+        self.root = root;
+        self.levels = levels;
+    }
+}
