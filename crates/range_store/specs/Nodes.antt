@@ -214,25 +214,14 @@ pub record Pools (old new : Slab Node) (l r x : ℕ) : Type 0 where
   pub len : slab_len new + 1 ≡ slab_len old
   pub capacity : new.capacity ≡ old.capacity
 
--- the nodes l and r may be pooled, and n is neither
-pub record CanPool (s : Slab Node) (l r n : ℕ) : Type 0 where
+-- the nodes l and r may be pooled
+pub record CanPool (s : Slab Node) (l r : ℕ) : Type 0 where
   pub left_present : IsSome (get s l)
   pub right_present : IsSome (get s r)
   pub apart : l ≢ r
-  pub not_left : n ≢ l
-  pub not_right : n ≢ r
   pub items_fit : length (items_of (get s l)) + 1 + length (items_of (get s r)) ≤ ITEM_PLACES
   pub children_fit : length (children_of (get s l)) + length (children_of (get s r)) ≤ CHILD_PLACES
   pub small : count_of (get s l) + 1 + count_of (get s r) < 2 ^ 64
-
--- the two children of n at j were pooled, and n lost the item between them
-pub record Merges (old new : Slab Node) (n j : ℕ) : Type 0 where
-  pub between : Slab Node
-  pub pooled : Pools old between (slice_index (children_of (get old n)) j) (slice_index (children_of (get old n)) (j + 1)) (slice_index (items_of (get old n)) j)
-  pub written : Rewrites between new n
-  pub items : items_of (get new n) ≡ remove (items_of (get old n)) j
-  pub children : children_of (get new n) ≡ remove (children_of (get old n)) (j + 1)
-  pub count : count_of (get new n) ≡ count_of (get old n)
 
 -- the subtree of n, over d levels, became one with this list, at most one item shorter
 pub record Shrinks (old new : Slab Node) (d n : ℕ) (list : List ℕ) : Type 0 where

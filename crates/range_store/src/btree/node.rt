@@ -234,12 +234,7 @@ pub fn divide(nodes: &mut Slab<Node>, number: usize, half: usize, moved: usize) 
 
 // Moves the node `right` and the item before it into the node `left`.
 pub fn pool(nodes: &mut Slab<Node>, left: usize, middle: usize, right: usize)
-    requires left_present { ContainsKey nodes.old left }
-    requires right_present { ContainsKey nodes.old right }
-    requires apart { left ≢ right }
-    requires items_fit { length (items_of (get nodes.old left)) + 1 + length (items_of (get nodes.old right)) ≤ ITEM_PLACES }
-    requires children_fit { length (children_of (get nodes.old left)) + length (children_of (get nodes.old right)) ≤ CHILD_PLACES }
-    requires small { count_of (get nodes.old left) + 1 + count_of (get nodes.old right) < 2 ^ 64 }
+    requires { CanPool nodes.old left right }
     ensures { Pools nodes.old nodes.new left right middle }
 {
     let Node {
@@ -254,6 +249,22 @@ pub fn pool(nodes: &mut Slab<Node>, left: usize, middle: usize, right: usize)
         .try_extend_from_slice(children.as_slice())
         .unwrap();
     node.count = node.count + 1 + count;
+}
+
+// Puts another item and another child behind it in the place of those at `index` and behind it.
+pub fn set_border(nodes: &mut Slab<Node>, number: usize, index: usize, split: Split)
+    requires present { ContainsKey nodes.old number }
+    requires item { index < length (items_of (get nodes.old number)) }
+    requires child { index + 1 < length (children_of (get nodes.old number)) }
+    ensures rewritten { Rewrites nodes.old nodes.new number }
+    ensures items { items_of (get nodes.new number) ≡ slice_set (items_of (get nodes.old number)) index split.middle }
+    ensures children { children_of (get nodes.new number) ≡ slice_set (children_of (get nodes.old number)) (index + 1) split.right }
+    ensures count { count_of (get nodes.new number) ≡ count_of (get nodes.old number) }
+{
+    let _many = item_count(nodes, number);
+    let node = &mut nodes[number];
+    node.items.as_mut_slice()[index] = split.middle;
+    node.children.as_mut_slice()[index + 1] = split.right;
 }
 
 // Takes the item at `index` out of a node, and the child behind it.
