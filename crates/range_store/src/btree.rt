@@ -2,4 +2,5 @@
 pub mod insertion;
 pub mod node;
 pub mod place;
+pub mod removal;
 pub mod tree;
