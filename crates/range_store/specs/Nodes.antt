@@ -184,6 +184,13 @@ pub record IsTree (s : Slab Node) (levels root : ℕ) : Type 0 where
   pub once : (k : ℕ) → occurrences k (used s levels root) ≡ here s k
   pub len : slab_len s ≡ length (used s levels root)
 
+-- a tree that has a level, and whose root may be empty
+pub record IsLooseTree (s : Slab Node) (levels root : ℕ) : Type 0 where
+  pub some : 0 < levels
+  pub shaped : ShapedBut 0 MOST s (levels - 1) root
+  pub once : (k : ℕ) → occurrences k (used s levels root) ≡ here s k
+  pub len : slab_len s ≡ length (used s levels root)
+
 -- a new node was stored under n, with these items and children
 pub record Stores (old new : Slab Node) (n : ℕ) (items children : List ℕ) (count : ℕ) : Type 0 where
   pub fresh : get old n ≡ None

@@ -2,9 +2,9 @@
 ghost use Rattle.std.specs.Prelude.{◌≡◌, ◌⊎◌, ℕ, suc, ◌+◌, ◌-◌, ◌*◌, ◌<◌, ◌≤◌, ◌^◌, length, slice_index, remove};
 ghost use Rattle.std.specs.List.{All};
 ghost use Rattle.slab.specs.Slab.{get, ContainsKey};
-ghost use Rattle.range_store.specs.Nodes.{numbers, items_of, children_of, ShapedBut, Owned, Shrinks, IsMendable, IsLevelled};
+ghost use Rattle.range_store.specs.Nodes.{numbers, items_of, children_of, ShapedBut, Owned, Shrinks, IsMendable, IsLevelled, IsTree, IsLooseTree};
 
-use crate::btree::insertion::cut_at;
+use crate::btree::insertion::{Root, cut_at};
 use crate::btree::node::{LEAST, MOST, Node, child_at, count, count_off, detach, item_at, item_count, pool, set_border, swap_item, take_item};
 use crate::btree::place::descend;
 use slab::Slab;
@@ -89,4 +89,32 @@ pub fn remove_below(nodes: &mut Slab<Node>, below: usize, number: usize, rank: u
     let item = swap_item(nodes, number, place.index, before);
     mend(nodes, below - 1, number, place.index);
     item
+}
+
+// The root of a tree after a removal: a root with no item goes, and its only child takes its place, if it has one.
+pub fn settle(nodes: &mut Slab<Node>, levels: usize, root: usize) -> Root
+    requires { IsLooseTree nodes.old levels root }
+    ensures tree { IsTree nodes.new result.levels result.number }
+    ensures numbers { numbers nodes.new result.levels result.number ≡ numbers nodes.old levels root }
+    ensures capacity { nodes.new.capacity ≡ nodes.old.capacity }
+{
+    if item_count(nodes, root) > 0 {
+        return Root {
+            number: root,
+            levels,
+        };
+    }
+    if levels == 1 {
+        let _ = nodes.remove(root);
+        return Root {
+            number: 0,
+            levels: 0,
+        };
+    }
+    let child = child_at(nodes, root, 0);
+    let _ = nodes.remove(root);
+    Root {
+        number: child,
+        levels: levels - 1,
+    }
 }

@@ -4,6 +4,7 @@ ghost use Rattle.std.specs.Prelude.{◌≡◌, ℕ, ◌+◌, ◌-◌, ◌*◌, �
 use crate::btree::insertion::{Root, insert_into};
 use crate::btree::node::{LEAST, Node, count};
 use crate::btree::place::number_at;
+use crate::btree::removal::{remove_below, settle};
 use slab::Slab;
 use std::alloc::{AllocError, Global};
 use std::marker::Model;
@@ -104,5 +105,22 @@ impl NumberTree {
         } = insert_into(&mut self.nodes, self.levels, self.root, rank, number);
         self.root = root;
         self.levels = levels;
+    }
+
+    /// Takes the number at a rank out.
+    pub fn remove(&mut self, rank: usize) -> usize
+        requires { rank < length self.old.numbers }
+        ensures value { result ≡ slice_index self.old.numbers rank }
+        ensures numbers { self.new.numbers ≡ remove self.old.numbers rank }
+        ensures room { self.old.room ≤ self.new.room }
+    {
+        let number = remove_below(&mut self.nodes, self.levels - 1, self.root, rank);
+        let Root {
+            number: root,
+            levels,
+        } = settle(&mut self.nodes, self.levels, self.root);
+        self.root = root;
+        self.levels = levels;
+        number
     }
 }
