@@ -3,4 +3,5 @@ pub mod insertion;
 pub mod node;
 pub mod place;
 pub mod removal;
+pub mod searching;
 pub mod tree;
