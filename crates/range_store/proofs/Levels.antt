@@ -1,5 +1,5 @@
 -- How many levels a tree of so many items may have.
-use Rattle.std.proofs.Common.{ℕ, zero, suc, ◌+◌, ◌*◌, ◌^◌, ◌≤◌, List, [], ◌∷◌, length, map, ap, arith}
+use Rattle.std.proofs.Common.{◌≡◌, ℕ, zero, suc, ◌+◌, ◌-◌, ◌*◌, ◌^◌, ◌<◌, ◌≤◌, List, [], ◌∷◌, length, map, ap, arith}
 use Rattle.std.specs.List.{All}
 use Rattle.std.proofs.Math.Nat.{pow-suc, suc-mul, zero-mul, mul-one, mul_comm, mul-le-mul_right, le_trans}
 use Rattle.std.proofs.lemmas.List.{nil_from_length}
@@ -74,3 +74,14 @@ pow_more (suc d) = omega (arith, pow-suc (LEAST + 1) d, pow_more d)
 pub levels_le : (s : Slab Node) (levels root : ℕ) → IsTree s levels root → levels ≤ length (numbers s levels root)
 levels_le s zero root tree = omega arith
 levels_le s (suc d) root tree = omega (arith, tree_lower s d root tree, pow_more d)
+
+pub empty_levels : (s : Slab Node) (levels root : ℕ) → IsTree s levels root → length (numbers s levels root) ≡ 0 → levels ≡ 0
+empty_levels s levels root tree none = omega (arith, levels_le s levels root tree)
+
+pub levels_least : (s : Slab Node) (levels root : ℕ) → IsTree s levels root → 0 < length (numbers s levels root) → 2 * (LEAST + 1) ^ (levels - 1) ≤ length (numbers s levels root) + 1
+levels_least s zero root tree some = absurd (omega (arith, ap length (numbers_none s root)))
+levels_least s (suc d) root tree some = let level : suc d - 1 ≡ d = omega arith in rw level (tree_lower s d root tree)
+
+pub levels_most : (s : Slab Node) (levels root : ℕ) → IsTree s levels root → 0 < length (numbers s levels root) → length (numbers s levels root) + 1 ≤ (MOST + 1) ^ levels
+levels_most s zero root tree some = absurd (omega (arith, ap length (numbers_none s root)))
+levels_most s (suc d) root tree some = tree_upper s d root tree

@@ -26,7 +26,7 @@ module _ {X : Type 0} where
       ∙ ap (λ n. f ++ remove (k ++ r) n) offset
       ∙ ap (λ zs. f ++ zs) (remove-append_left k r rest within)
 
-  remove_last : (k : List X) (j : ℕ) (d : X) → j + 1 ≡ length k → remove k j ++ (get_or k j d ∷ []) ≡ k
+  pub remove_last : (k : List X) (j : ℕ) (d : X) → j + 1 ≡ length k → remove k j ++ (get_or k j d ∷ []) ≡ k
   remove_last [] j d last = absurd (omega arith)
   remove_last (x ∷ []) zero d last = refl
   remove_last (x ∷ []) (suc j) d last = absurd (omega arith)

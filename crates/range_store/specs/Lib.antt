@@ -1,5 +1,6 @@
 pub mod Counting
 pub mod Falling
+pub mod Holding
 pub mod Lending
 pub mod Listed
 pub mod Nodes

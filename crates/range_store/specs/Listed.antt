@@ -119,7 +119,7 @@ module _ {T : Type 0} where
           | inr over ↦ rw (past over) refl
         ]
 
-    still_len : slab_len (with_value s n x) ≡ slab_len s
+    pub still_len : slab_len (with_value s n x) ≡ slab_len s
     still_len =
         elim (cases_lt r (length tree.numbers)) [
           | inl within ↦

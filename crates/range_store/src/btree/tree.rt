@@ -1,10 +1,15 @@
 //! A list of numbers by rank, as a B-tree.
-ghost use Rattle.std.specs.Prelude.{◌≡◌, ℕ, ◌+◌, ◌-◌, ◌*◌, ◌<◌, ◌≤◌, ◌^◌, [], length, slice_index, insert, remove, OnOk};
+ghost use Rattle.std.specs.Prelude.{◌≡◌, ℕ, ◌+◌, ◌-◌, ◌*◌, ◌<◌, ◌≤◌, ◌^◌, [], length, slice_index, insert, remove, OnOk, count_by};
+ghost use Rattle.range_store.specs.Counting.{AddsSteps};
+ghost use Rattle.range_store.specs.Falling.{Falls, passes};
+ghost use Rattle.range_store.specs.Listed.{Stored};
 
 use crate::btree::insertion::{Root, insert_into};
-use crate::btree::node::{LEAST, Node, count};
+use crate::btree::node::{LEAST, MOST, Node, count};
 use crate::btree::place::number_at;
 use crate::btree::removal::{remove_below, settle};
+use crate::btree::searching::{HALVINGS, search_below};
+use crate::storage::Probe;
 use slab::Slab;
 use std::alloc::{AllocError, Global};
 use std::marker::Model;
@@ -52,8 +57,12 @@ impl NumberTree {
 
     /// The number of levels.
     pub fn levels(&self) -> usize
-        ensures { result ≡ self.now.levels }
+        ensures value { result ≡ self.now.levels }
+        ensures empty { length self.now.numbers ≡ 0 → result ≡ 0 }
+        ensures least { 0 < length self.now.numbers → 2 * (LEAST + 1) ^ (result - 1) ≤ length self.now.numbers + 1 }
+        ensures most { 0 < length self.now.numbers → length self.now.numbers + 1 ≤ (MOST + 1) ^ result }
     {
+        let _root = self.root;
         self.levels
     }
 
@@ -122,5 +131,19 @@ impl NumberTree {
         self.root = root;
         self.levels = levels;
         number
+    }
+
+    /// How many numbers' items pass the probe's test, which holds on a front of them alone.
+    pub fn search<T, P: Probe<T>>(&self, items: &Slab<T>, probe: &mut P) -> usize
+        requires stored { Stored items.now self.now.numbers }
+        requires falls { Falls (passes items.now (P.test probe.old)) self.now.numbers }
+        ensures count { result ≡ count_by (passes items.now (P.test probe.old)) self.now.numbers }
+        ensures kept { P.test probe.new ≡ P.test probe.old }
+        ensures asked { AddsSteps (P.steps_taken probe.old) (P.steps_taken probe.new) self.now.levels (HALVINGS * self.now.levels) }
+    {
+        if self.levels == 0 {
+            return 0;
+        }
+        search_below(&self.nodes, items, self.levels - 1, self.root, probe)
     }
 }
