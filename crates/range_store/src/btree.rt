@@ -12,6 +12,8 @@ pub mod node;
 pub mod place;
 pub mod removal;
 pub mod searching;
+#[cfg(test)]
+mod tests;
 pub mod tree;
 
 use crate::btree::node::{LEAST, MOST};
