@@ -256,3 +256,10 @@ pub record IsLevelled (s : Slab Node) (low n j : ℕ) : Type 0 where
   pub behind : All (Shaped s (suc low)) (drop (j + 2) (children_of (get s n)))
   pub enough : LEAST + LEAST ≤ length (items_of (get s (slice_index (children_of (get s n)) j))) + 1 + length (items_of (get s (slice_index (children_of (get s n)) (j + 1))))
   pub fits : length (items_of (get s (slice_index (children_of (get s n)) j))) + 1 + length (items_of (get s (slice_index (children_of (get s n)) (j + 1)))) ≤ MOST + LEAST
+
+-- the number stands at this place of the leaf n
+pub record StandsIn (s : Slab Node) (n i number : ℕ) : Type 0 where
+  pub present : IsSome (get s n)
+  pub childless : length (children_of (get s n)) ≡ 0
+  pub within : i < length (items_of (get s n))
+  pub is : slice_index (items_of (get s n)) i ≡ number

@@ -17,6 +17,7 @@ mod tests;
 pub mod tree;
 
 use crate::btree::node::{LEAST, MOST};
+use crate::btree::place::{Found, Spot};
 use crate::btree::searching::HALVINGS;
 use crate::btree::tree::NumberTree;
 use crate::storage::{Probe, Storage};
@@ -29,7 +30,15 @@ use std::mem;
 pub struct BoxPosition {
     rank: usize,
     number: usize,
+    // Where the number was found, which saves the next step a descent while it still stands there.
+    spot: Spot,
 }
+
+// No place.
+const NOWHERE: Spot = Spot {
+    node: usize::MAX,
+    index: 0,
+};
 
 /// Items in a B-tree: insertion, removal and search take steps in the logarithm of their number.
 #[derive(Drop)]
@@ -57,10 +66,8 @@ impl<T> BoxStorage<T> {
         ensures { MatchOption result (length self.now.tree.numbers ≤ rank) (λ p. IsGood self.now p.rank p.number × (p.rank ≡ rank)) }
     {
         if rank < self.tree.len() {
-            Some(BoxPosition {
-                rank,
-                number: self.tree.get(rank),
-            })
+            let Found { number, spot } = self.tree.find(rank);
+            Some(BoxPosition { rank, number, spot })
         } else {
             None
         }
@@ -135,14 +142,27 @@ impl<T: Drop> Storage<T> for BoxStorage<T> {
 
     fn next(&self, p: BoxPosition) -> Option<BoxPosition> {
         let _len = self.tree.len();
-        self.at(p.rank + 1)
+        match self.tree.behind(p.spot, p.number) {
+            Some(Found { number, spot }) => Some(BoxPosition {
+                rank: p.rank + 1,
+                number,
+                spot,
+            }),
+            None => self.at(p.rank + 1),
+        }
     }
 
     fn prev(&self, p: BoxPosition) -> Option<BoxPosition> {
         if p.rank == 0 {
-            None
-        } else {
-            self.at(p.rank - 1)
+            return None;
+        }
+        match self.tree.before(p.spot, p.number) {
+            Some(Found { number, spot }) => Some(BoxPosition {
+                rank: p.rank - 1,
+                number,
+                spot,
+            }),
+            None => self.at(p.rank - 1),
         }
     }
 
@@ -183,7 +203,11 @@ impl<T: Drop> Storage<T> for BoxStorage<T> {
         let number = self.items.insert_reserved(item);
         let _many = self.items.len();
         self.tree.insert(rank, number);
-        BoxPosition { rank, number }
+        BoxPosition {
+            rank,
+            number,
+            spot: NOWHERE,
+        }
     }
 
     fn remove_at(&mut self, p: BoxPosition) -> (T, Option<BoxPosition>) {
@@ -215,7 +239,7 @@ impl<T: Drop> Storage<T> for BoxStorage<T> {
         let mut copy = <Self as Storage<T>>::new(self.alloc);
         copy.reserve(self.tree.len())?;
         for rank in 0..self.tree.len() {
-            let item = self.items[self.tree.get(rank)].clone()?;
+            let item = self.items[self.tree.find(rank).number].clone()?;
             copy.insert_at(None, item);
         }
         Ok(copy)

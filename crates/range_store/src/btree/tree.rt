@@ -1,12 +1,13 @@
 //! A list of numbers by rank, as a B-tree.
-ghost use Rattle.std.specs.Prelude.{◌≡◌, ℕ, ◌+◌, ◌-◌, ◌*◌, ◌<◌, ◌≤◌, ◌^◌, [], length, slice_index, insert, remove, OnOk, count_by};
+ghost use Rattle.std.specs.Prelude.{◌≡◌, ℕ, ◌+◌, ◌-◌, ◌*◌, ◌<◌, ◌≤◌, ◌^◌, [], length, slice_index, insert, remove, OnOk, IfSome, count_by};
+ghost use Rattle.range_store.specs.Occurrences.{occurrences};
 ghost use Rattle.range_store.specs.Counting.{AddsSteps};
 ghost use Rattle.range_store.specs.Falling.{Falls, passes};
 ghost use Rattle.range_store.specs.Listed.{Stored};
 
 use crate::btree::insertion::{Root, insert_into};
-use crate::btree::node::{LEAST, MOST, Node, count};
-use crate::btree::place::number_at;
+use crate::btree::node::{LEAST, MOST, Node, count, item_count};
+use crate::btree::place::{Found, Spot, find_below, found_at, stands_in_leaf};
 use crate::btree::removal::{remove_below, settle};
 use crate::btree::searching::{HALVINGS, search_below};
 use crate::storage::Probe;
@@ -66,12 +67,40 @@ impl NumberTree {
         self.levels
     }
 
-    /// The number at a rank.
-    pub fn get(&self, rank: usize) -> usize
+    /// The number at a rank, and where it stands.
+    pub fn find(&self, rank: usize) -> Found
         requires { rank < length self.now.numbers }
-        ensures { result ≡ slice_index self.now.numbers rank }
+        ensures { result.number ≡ slice_index self.now.numbers rank }
     {
-        number_at(&self.nodes, self.levels - 1, self.root, rank)
+        find_below(&self.nodes, self.levels - 1, self.root, rank)
+    }
+
+    /// What stands behind a number, if that still stands at this place of a leaf and is not the last one there. One node is read.
+    pub fn behind(&self, spot: Spot, number: usize) -> Option<Found>
+        requires { (k : ℕ) → occurrences k self.now.numbers ≤ 1 }
+        ensures { IfSome result (λ f. (r : ℕ) → r < length self.now.numbers → slice_index self.now.numbers r ≡ number → (r + 1 < length self.now.numbers) × (slice_index self.now.numbers (r + 1) ≡ f.number)) }
+    {
+        if stands_in_leaf(&self.nodes, spot, number) {
+            let many = item_count(&self.nodes, spot.node);
+            let index = spot.index + 1;
+            if index < many {
+                return Some(found_at(&self.nodes, spot.node, index));
+            }
+        }
+        None
+    }
+
+    /// What stands before a number, if that still stands at this place of a leaf and is not the first one there. One node is read.
+    pub fn before(&self, spot: Spot, number: usize) -> Option<Found>
+        requires { (k : ℕ) → occurrences k self.now.numbers ≤ 1 }
+        ensures { IfSome result (λ f. (r : ℕ) → r < length self.now.numbers → slice_index self.now.numbers r ≡ number → (0 < r) × (slice_index self.now.numbers (r - 1) ≡ f.number)) }
+    {
+        if stands_in_leaf(&self.nodes, spot, number) {
+            if spot.index > 0 {
+                return Some(found_at(&self.nodes, spot.node, spot.index - 1));
+            }
+        }
+        None
     }
 
     /// Makes room for `additional` more numbers.

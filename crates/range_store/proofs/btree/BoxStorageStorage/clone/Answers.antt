@@ -10,7 +10,7 @@ use Rattle.range_store.proofs.btree.BoxStorageStorage.clone.Goals as goal
 
 pub index-requires : goal.index-requires
 index-requires g c =
-    storage_stored c.args.self.now.items c.args.self.now.tree c.args.self.now.whole c.get.result (rw c.get.ensures (occurrences_at c.args.self.now.tree.numbers c.loop-rank.rank (omega (arith, c.loop-rank-test.true))))
+    storage_stored c.args.self.now.items c.args.self.now.tree c.args.self.now.whole c.find.result.number (rw c.find.ensures (occurrences_at c.args.self.now.tree.numbers c.loop-rank.rank (omega (arith, c.loop-rank-test.true))))
 
 pub loop-rank-init : goal.loop-rank-init
 loop-rank-init g c = record {
@@ -27,7 +27,7 @@ loop-rank-preserved g c =
     let item = c.in_ok-item.item in
     let below : c.loop-rank.rank < length c.args.self.now.tree.numbers = omega (arith, c.loop-rank-test.true, c.len-rank-end.ensures) in
     let within : c.loop-rank.rank < length (box_items c.args.self.now) = omega (arith, below, box_length s) in
-    let read = sym (get_or-listed s.items s.tree.numbers rank x x (storage_stored s.items s.tree s.whole) below (rw c.get.ensures at c.index.ensures)) in
+    let read = sym (get_or-listed s.items s.tree.numbers rank x x (storage_stored s.items s.tree s.whole) below (rw c.find.ensures at c.index.ensures)) in
     let front = take_more xs rank x within ∙ ap (λ z. take rank xs ++ (z ∷ [])) (sym read) in
     let equal = subst (λ (z : g.row.T.Denot). (y : g.row.T.Denot) → g.T.Clone.is_clone z y → g.T.PartialEq.eq y z ≡ true) (sym read) (c.requires rank x within) item c.in_ok-item.ensures.cases in
     let new = c.insert_at.ensures.list ∙ insert_end (box_items c.loop-rank.copy) (length (box_items c.loop-rank.copy)) item refl in
