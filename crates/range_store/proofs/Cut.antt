@@ -9,7 +9,7 @@ use Rattle.std.proofs.lemmas.Bool.{cases_eq}
 use Rattle.slab.specs.Slab.{Slab, get, slab_len}
 use Rattle.range_store.specs.declared.btree.node.Node.{Node}
 use Rattle.range_store.specs.declared.btree.node.Split.{Split}
-use Rattle.range_store.specs.declared.btree.node.TheConstants.{MOST, LEAST, HALF}
+use Rattle.range_store.specs.declared.btree.node.TheConstants.{MOST, LEAST}
 use Rattle.range_store.specs.Nodes.{weave, rest_of, items_of, children_of, count_of, child_count, numbers, used, Shaped, ShapedBut, here, Owned, Replaces, counts, Divides, IsCuttable}
 use Rattle.range_store.proofs.Weave.{weave_cut}
 use Rattle.range_store.proofs.Frame.{SameChildren, same_children}

@@ -17,7 +17,7 @@ use Rattle.range_store.specs.Falling.{Falls}
 use Rattle.range_store.specs.Listed.{Stored}
 use Rattle.range_store.proofs.Front.{count-yes, count-no, count-append, answer, falls_parts}
 use Rattle.range_store.proofs.Below.{children_length, lists_length, weave_numbers, numbers_at, length-before_more, child_known}
-use Rattle.range_store.specs.Occurrences.{occurrences, occurrences-append, occurrences-cons, occurrences_at, occurrences_here}
+use Rattle.range_store.specs.Occurrences.{occurrences, occurrences-append, occurrences-cons}
 
 occurrences-rest_of : (k : ℕ) (xs : List ℕ) (ks : List (List ℕ)) → length ks ≡ length xs → occurrences k xs ≤ occurrences k (rest_of xs ks)
 occurrences-rest_of k xs [] same = omega arith

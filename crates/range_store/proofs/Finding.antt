@@ -1,6 +1,5 @@
 -- A test of the items, as a test of their numbers.
-use Rattle.std.proofs.Common.{◌≡◌, ℕ, zero, suc, ◌+◌, ◌<◌, ◌≤◌, Bool, true, false, List, [], ◌∷◌, length, get_or, refl, sym, ap, subst, ◌∙◌, inl, inr, arith, count_by, Some}
-use Rattle.std.specs.List.{AllWithin}
+use Rattle.std.proofs.Common.{◌≡◌, ℕ, zero, suc, ◌+◌, ◌<◌, ◌≤◌, Bool, true, false, List, [], ◌∷◌, length, get_or, refl, sym, ap, subst, ◌∙◌, inl, inr, arith, count_by}
 use Rattle.std.specs.List.Sorted.{IsPartitionedBy}
 use Rattle.std.proofs.lemmas.List.Sums.{count_by-le-length}
 use Rattle.std.proofs.lemmas.Bool.{false_from_ne_true, both_ways}
@@ -27,8 +26,7 @@ module _ {T : Type 0} (s : Slab T) (test : T → Bool) where
   falls_listed (n ∷ ns) stored part =
       let head = some_cases (get s n) (stored_head s n ns stored) in
       let whole = listed-cons s n head.0 ns head.1 in
-      let part' = subst (λ zs. IsPartitionedBy test zs) whole part in
-      (
+      let part' = subst (λ zs. IsPartitionedBy test zs) whole part in (
         (λ fails. none_counted ns (stored_tail s n ns stored) (λ k d within. false_from_ne_true _ (λ holds. both_ways (test head.0) (sym (passing s test n head.0 head.1) ∙ fails) (part' 0 (suc k) d (omega arith) (omega (arith, within)) holds)))),
         falls_listed ns (stored_tail s n ns stored) (λ i j d le within holds. part' (suc i) (suc j) d (omega arith) (omega (arith, within)) holds),
       )

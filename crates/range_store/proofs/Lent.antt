@@ -1,14 +1,13 @@
 -- A `BoxStorage` with another item at a number.
-use Rattle.std.proofs.Common.{◌≡◌, ℕ, ◌<◌, ◌≤◌, ◌^◌, length, get_or, sym, ap, ◌∙◌, subst, arith, Some}
-use Rattle.std.specs.Prelude.{cond, is_some}
+use Rattle.std.proofs.Common.{◌≡◌, ℕ, ◌<◌, length, get_or, sym, ap, ◌∙◌, subst, arith, Some}
 use Rattle.std.proofs.lemmas.List.{get_or_default}
 use Rattle.std.proofs.Math.ListN.{set}
 use Rattle.std.proofs.Math.Bridge.{le_prop}
 use Rattle.std.proofs.Math.Nat.{ℕ_set}
-use Rattle.slab.specs.Slab.{Slab, get, slab_len, with_value}
+use Rattle.slab.specs.Slab.{Slab, get, with_value}
 use Rattle.range_store.specs.Occurrences.{occurrences, occurrences_at}
 use Rattle.range_store.specs.Nodes.{Ranked}
-use Rattle.range_store.specs.Listed.{IsStorage, Stored, listed, number_or_none, with_storage, storage_stored, listed-set}
+use Rattle.range_store.specs.Listed.{IsStorage, listed, number_or_none, with_storage, storage_stored, listed-set}
 use Rattle.range_store.specs.Holding.{box_items, IsGood, with_stored}
 use Rattle.range_store.specs.declared.btree.BoxStorage.{BoxStorage}
 use Rattle.range_store.proofs.Listing.{get_or-listed}

@@ -1,18 +1,18 @@
 -- Two neighbouring children become one, or two with as many items as each other.
-use Rattle.std.proofs.Common.{◌≡◌, ◌≢◌, ℕ, zero, suc, ◌+◌, ◌-◌, ◌/◌, ◌<◌, ◌≤◌, ◌^◌, List, [], ◌∷◌, ◌++◌, length, get_or, take, drop, map, refl, sym, ap, ◌∙◌, inl, inr, add-one, arith, Option, Some, None, IsSome}
+use Rattle.std.proofs.Common.{◌≡◌, ◌≢◌, ℕ, zero, suc, ◌+◌, ◌-◌, ◌/◌, ◌<◌, ◌≤◌, ◌^◌, List, [], ◌∷◌, ◌++◌, length, get_or, take, drop, map, refl, sym, ap, ◌∙◌, add-one, arith, Some}
 use Rattle.std.specs.List.{All, flat_map, remove}
 use Rattle.std.proofs.Math.ListN.{set}
 use Rattle.std.proofs.lemmas.List.{append_assoc, append-nil, length-append, drop_more, take_more, length-take-le, length-drop}
 use Rattle.std.proofs.lemmas.List.Elements.{All-nil, All-cons, All-weaker}
-use Rattle.slab.specs.Slab.{Slab, get, slab_len}
+use Rattle.slab.specs.Slab.{Slab, get}
 use Rattle.range_store.specs.declared.btree.node.Node.{Node}
 use Rattle.range_store.specs.declared.btree.node.Split.{Split}
-use Rattle.range_store.specs.declared.btree.node.TheConstants.{MOST, LEAST, ITEM_PLACES, CHILD_PLACES}
+use Rattle.range_store.specs.declared.btree.node.TheConstants.{MOST, LEAST, CHILD_PLACES}
 use Rattle.range_store.specs.Nodes.{weave, rest_of, front_of, items_of, children_of, count_of, child_count, numbers, used, Shaped, ShapedBut, Rewrites, Reweaves, Replaces, Pools, CanPool, Owned, here, Shrinks, IsLevelled, IsCuttable}
 use Rattle.range_store.specs.Occurrences.{occurrences, occurrences-cons, occurrences-append, occurrences_itself}
-use Rattle.range_store.proofs.Replace.{used_is, used_parts, occurrences_parts, parts, here_some, here_le, Shaped-from_but}
+use Rattle.range_store.proofs.Replace.{used_is, used_parts, occurrences_parts, parts, here_le, Shaped-from_but}
 use Rattle.range_store.proofs.Pooling.{pooled_numbers, pooled, pooled_shape}
-use Rattle.range_store.proofs.Segment.{Segment, rewoven, numbers_old, numbers_new, children_shaped, n_kept, Reweaves-then, Replaces-woven, Owned-after}
+use Rattle.range_store.proofs.Segment.{Segment, rewoven, numbers_old, numbers_new, children_shaped, Reweaves-then, Replaces-woven}
 
 -- a list with another element at j
 pub set_parts : {X : Type 0} (xs : List X) (j : ℕ) (y : X) → j < length xs → set xs j y ≡ take j xs ++ (y ∷ drop (j + 1) xs)

@@ -1,5 +1,5 @@
 -- The items under the numbers of a tree, after a number came or went.
-use Rattle.std.proofs.Common.{◌≡◌, ◌≢◌, ℕ, zero, suc, ◌+◌, ◌<◌, ◌≤◌, ◌^◌, List, [], ◌∷◌, ◌++◌, length, get_or, take, drop, refl, sym, ap, ◌∙◌, inl, inr, add-one, arith, Option, Some, None, IsSome, is_some, cond}
+use Rattle.std.proofs.Common.{◌≡◌, ◌≢◌, ℕ, zero, suc, ◌+◌, ◌<◌, ◌≤◌, ◌^◌, List, [], ◌∷◌, ◌++◌, length, get_or, take, drop, refl, sym, ap, ◌∙◌, inl, inr, add-one, arith, Some, None, is_some, cond}
 use Rattle.std.specs.List.{insert, remove}
 use Rattle.std.proofs.lemmas.List.{take-append-drop, drop_more}
 use Rattle.std.proofs.lemmas.List.Elements.{filter_map-append}
@@ -8,7 +8,7 @@ use Rattle.std.proofs.lemmas.Bool.{cases_eq}
 use Rattle.slab.specs.Slab.{Slab, get, slab_len, Updates}
 use Rattle.range_store.specs.Occurrences.{occurrences, occurrences-append, occurrences-cons, occurrences_itself, occurrences_other, occurrences-nil}
 use Rattle.range_store.specs.Nodes.{Ranked}
-use Rattle.range_store.specs.Listed.{Stored, listed, IsStorage, some_cases, stored_head, stored_tail, listed-cons, listed-same, length-listed, storage_stored}
+use Rattle.range_store.specs.Listed.{Stored, listed, IsStorage, some_cases, stored_head, stored_tail, listed-cons, listed-same, storage_stored}
 
 module _ {T : Type 0} where
   pub take-listed : (s : Slab T) (r : ℕ) (xs : List ℕ) → Stored s xs → take r (listed s xs) ≡ listed s (take r xs)

@@ -1,19 +1,17 @@
 -- Two neighbouring nodes become one.
-use Rattle.std.proofs.Common.{◌≡◌, ◌≢◌, ℕ, zero, suc, ◌+◌, ◌<◌, ◌≤◌, List, [], ◌∷◌, ◌++◌, length, get_or, take, drop, map, refl, sym, ap, ◌∙◌, inl, inr, add-one, arith}
+use Rattle.std.proofs.Common.{◌≡◌, ◌≢◌, ℕ, zero, suc, ◌+◌, ◌<◌, ◌≤◌, List, [], ◌∷◌, ◌++◌, length, map, refl, sym, ap, ◌∙◌, inl, inr, arith}
 use Rattle.std.specs.List.{flat_map}
-use Rattle.std.proofs.lemmas.List.{append_assoc, append-nil, length-append, length-map, map-append, drop_more, take_more, length-take-le}
+use Rattle.std.proofs.lemmas.List.{append-nil, length-append, length-map, map-append}
 use Rattle.std.proofs.lemmas.List.Concat.{flat_map-append}
 use Rattle.std.proofs.lemmas.List.Elements.{All-append}
 use Rattle.std.proofs.lemmas.Bool.{cases_eq}
 use Rattle.slab.specs.Slab.{Slab, get}
 use Rattle.range_store.specs.declared.btree.node.Node.{Node}
-use Rattle.range_store.specs.declared.btree.node.TheConstants.{MOST, LEAST}
-use Rattle.range_store.specs.Nodes.{weave, rest_of, front_of, items_of, children_of, child_count, numbers, used, Shaped, ShapedBut, Reweaves, Pools, Owned, here}
+use Rattle.range_store.specs.Nodes.{weave, items_of, children_of, child_count, numbers, used, Shaped, ShapedBut, Reweaves, Pools, here}
 use Rattle.range_store.proofs.Weave.{weave_cut}
 use Rattle.range_store.proofs.Frame.{SameChildren, same_children}
-use Rattle.range_store.proofs.Below.{weave_numbers, children_length}
-use Rattle.range_store.proofs.Replace.{used_is, used_parts, occurrences_parts, parts, Shaped-but, here_some, here_le}
-
+use Rattle.range_store.proofs.Below.{weave_numbers}
+use Rattle.range_store.proofs.Replace.{used_is, here_some, here_le}
 use Rattle.range_store.specs.Occurrences.{occurrences, occurrences-append, occurrences-cons, occurrences_itself, occurrences_other}
 
 weave_join : (xs : List ℕ) (x : ℕ) (ys : List ℕ) (ks ls : List (List ℕ)) (d : ℕ) → length ks ≡ child_count d (length xs) → length ls ≡ child_count d (length ys) → weave (xs ++ (x ∷ ys)) (ks ++ ls) ≡ weave xs ks ++ (x ∷ weave ys ls)

@@ -1,10 +1,10 @@
 -- An item goes out of a child, and then the node above it is written.
-use Rattle.std.proofs.Common.{◌≡◌, ℕ, zero, suc, ◌+◌, ◌-◌, ◌<◌, ◌≤◌, List, [], ◌∷◌, ◌++◌, length, get_or, take, drop, map, refl, sym, ap, ◌∙◌, add-one, arith}
-use Rattle.std.specs.List.{All, flat_map, remove}
+use Rattle.std.proofs.Common.{◌≡◌, ℕ, zero, suc, ◌+◌, ◌-◌, ◌<◌, ◌≤◌, List, [], ◌∷◌, ◌++◌, length, get_or, take, drop, map, refl, sym, ap, ◌∙◌, arith}
+use Rattle.std.specs.List.{remove}
 use Rattle.std.proofs.Math.ListN.{set}
-use Rattle.std.proofs.lemmas.List.{append_assoc, append-nil, length-append, length-map, drop_more, take_more, length-take-le, length-drop, take-append-drop, take-map, nil_from_length}
+use Rattle.std.proofs.lemmas.List.{append_assoc, append-nil, length-append, drop_more, length-take-le, length-drop, take-append-drop, take-map, nil_from_length}
 use Rattle.std.proofs.lemmas.List.Edits.{length-remove, remove-append_left, remove-append_right}
-use Rattle.std.proofs.lemmas.List.Elements.{All-nil, All-cons, All-take, All-drop}
+use Rattle.std.proofs.lemmas.List.Elements.{All-nil, All-take, All-drop}
 use Rattle.slab.specs.Slab.{Slab, get}
 use Rattle.range_store.specs.declared.btree.node.Node.{Node}
 use Rattle.range_store.specs.declared.btree.node.TheConstants.{MOST, LEAST}
@@ -15,7 +15,7 @@ use Rattle.range_store.proofs.Insert.{kid_apart}
 use Rattle.range_store.proofs.Levelling.{set_parts}
 use Rattle.range_store.proofs.Replace.{parts, Shaped-but, numbers_leaf}
 use Rattle.range_store.proofs.Room.{numbers_size}
-use Rattle.range_store.proofs.Segment.{Segment, rewoven, numbers_old, numbers_new, agree_middle, same_left, same_right, n_kept, Reweaves-then, Owned-after, but_same, written_woven}
+use Rattle.range_store.proofs.Segment.{Segment, rewoven, numbers_old, numbers_new, agree_middle, same_left, same_right, Reweaves-then, Owned-after, but_same, written_woven}
 
 module _ {X : Type 0} where
   -- the element at a place within the middle part goes

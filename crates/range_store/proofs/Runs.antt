@@ -1,7 +1,7 @@
 -- The items of a leaf stand next to one another in the list of the tree.
-use Rattle.std.proofs.Common.{◌≡◌, ◌≢◌, ℕ, zero, suc, ◌+◌, ◌-◌, ◌<◌, ◌≤◌, List, [], ◌∷◌, ◌++◌, length, get_or, map, refl, sym, ap, ◌∙◌, inl, inr, arith, IsSome}
+use Rattle.std.proofs.Common.{◌≡◌, ℕ, zero, suc, ◌+◌, ◌-◌, ◌<◌, ◌≤◌, List, [], ◌∷◌, ◌++◌, length, get_or, map, refl, sym, ap, ◌∙◌, inl, inr, arith, IsSome}
 use Rattle.std.specs.List.{All, flat_map}
-use Rattle.std.proofs.lemmas.List.{append_assoc, append-nil, length-append, length-map, nil_from_length, get_or-append-add, get_or_append_left}
+use Rattle.std.proofs.lemmas.List.{append_assoc, append-nil, length-append, nil_from_length, get_or-append-add, get_or_append_left}
 use Rattle.std.proofs.lemmas.List.Elements.{All-head, All-tail}
 use Rattle.std.proofs.lemmas.Bool.{cases_eq, cases_lt}
 use Rattle.slab.specs.Slab.{Slab, get}
@@ -59,12 +59,12 @@ in_but least most s d n m childless below shaped among =
     let both : occurrences m (used s (suc d) n) ≡ occurrences m (n ∷ []) + occurrences m (flat_map (used s d) (children_of (get s n))) = ap (occurrences m) (used_is s d n) ∙ occurrences-cons m n (flat_map (used s d) (children_of (get s n))) in
     rw weave_numbers (elim (cases_eq m n) [
       | inl same ↦ record {
-          front = [];
-          back = [];
-          is =
-              let none : children_of (get s n) ≡ [] = nil_from_length (children_of (get s n)) (rw same at childless) in
-              ap (λ zs. weave (items_of (get s n)) (map (numbers s d) zs)) none ∙ ap (λ k. items_of (get s k)) (sym same) ∙ sym (append-nil (items_of (get s m)));
-        }
+        front = [];
+        back = [];
+        is =
+            let none : children_of (get s n) ≡ [] = nil_from_length (children_of (get s n)) (rw same at childless) in
+            ap (λ zs. weave (items_of (get s n)) (map (numbers s d) zs)) none ∙ ap (λ k. items_of (get s k)) (sym same) ∙ sym (append-nil (items_of (get s m)));
+      }
       | inr other ↦
           let none : occurrences m (n ∷ []) ≡ 0 = occurrences_other m n (λ e. other (sym e)) in
           in_weave s d m (items_of (get s m)) below (items_of (get s n)) (children_of (get s n)) shaped.node.branches shaped.children (omega (arith, among, both, none))

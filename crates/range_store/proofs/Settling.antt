@@ -1,13 +1,13 @@
 -- A whole tree after a removal.
-use Rattle.std.proofs.Common.{◌≡◌, ◌≢◌, ℕ, zero, suc, ◌+◌, ◌-◌, ◌<◌, ◌≤◌, List, [], ◌∷◌, ◌++◌, length, get_or, map, refl, sym, ap, ◌∙◌, inl, inr, arith, None}
-use Rattle.std.specs.List.{All, flat_map}
+use Rattle.std.proofs.Common.{◌≡◌, ◌≢◌, ℕ, zero, suc, ◌+◌, ◌-◌, ◌<◌, ◌≤◌, List, [], ◌∷◌, length, get_or, map, refl, sym, ap, ◌∙◌, inl, inr, arith, None}
+use Rattle.std.specs.List.{flat_map}
 use Rattle.std.proofs.lemmas.List.{append-nil, nil_from_length}
 use Rattle.std.proofs.lemmas.Bool.{cases_eq}
 use Rattle.slab.specs.Slab.{Slab, get, slab_len, Updates}
 use Rattle.range_store.specs.declared.btree.node.Node.{Node}
 use Rattle.range_store.specs.declared.btree.node.TheConstants.{MOST, LEAST}
 use Rattle.range_store.specs.Occurrences.{occurrences, occurrences-cons, occurrences-nil, occurrences_itself, occurrences_other}
-use Rattle.range_store.specs.Nodes.{weave, items_of, children_of, numbers, used, here, Shaped, ShapedBut, IsTree, IsLooseTree, Shrinks}
+use Rattle.range_store.specs.Nodes.{weave, items_of, children_of, numbers, used, here, Shaped, IsTree, IsLooseTree, Shrinks}
 use Rattle.range_store.proofs.Below.{weave_numbers}
 use Rattle.range_store.proofs.Frame.{same_below, SameBelow}
 use Rattle.range_store.proofs.Rank.{numbers_none, used_none}

@@ -1,9 +1,8 @@
 -- What a `BoxStorage` holds, and what it is once an item was written.
-use Rattle.std.specs.Prelude.{◌≡◌, ℕ, ◌+◌, ◌-◌, ◌<◌, ◌^◌, List, length, slice_index, slice_set, min}
-use Rattle.std.proofs.Common.{sym, ap, ◌∙◌, arith, subst}
-use Rattle.slab.specs.Slab.{Slab, get, slab_len, with_value}
-use Rattle.range_store.specs.Nodes.{Ranked}
-use Rattle.range_store.specs.Listed.{listed, IsStorage, number_or_none, with_storage, listed-with, still_len, storage_stored, length-listed}
+use Rattle.std.specs.Prelude.{◌≡◌, ℕ, ◌-◌, ◌<◌, ◌^◌, List, length, slice_index, slice_set, min}
+use Rattle.std.proofs.Common.{ap, arith}
+use Rattle.slab.specs.Slab.{slab_len, with_value}
+use Rattle.range_store.specs.Listed.{listed, number_or_none, with_storage, listed-with, still_len, storage_stored, length-listed}
 use Rattle.range_store.specs.declared.btree.BoxStorage.{BoxStorage}
 
 module _ {T : Type 0} where

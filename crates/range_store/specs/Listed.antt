@@ -1,7 +1,7 @@
 -- The items of a slab under the numbers of a list.
-use Rattle.std.specs.Prelude.{◌≡◌, ◌≢◌, ◌⊎◌, ℕ, zero, suc, ◌+◌, ◌<◌, ◌≤◌, ◌^◌, List, [], ◌∷◌, length, Option, Some, None, IsSome, is_some, cond, filter_map, refl, slice_index_or, slice_set}
-use Rattle.std.proofs.Common.{get_or, take, drop, sym, ap, ◌∙◌, inl, inr, arith}
-use Rattle.std.proofs.Math.ListN.{set, length-set}
+use Rattle.std.specs.Prelude.{◌≡◌, ◌≢◌, ℕ, zero, suc, ◌+◌, ◌<◌, ◌≤◌, ◌^◌, List, [], ◌∷◌, length, Option, Some, None, IsSome, is_some, cond, filter_map, refl, slice_index_or, slice_set}
+use Rattle.std.proofs.Common.{get_or, sym, ap, ◌∙◌, inl, inr, arith}
+use Rattle.std.proofs.Math.ListN.{set}
 use Rattle.std.proofs.lemmas.List.{get_or-set_same, get_or-set_other, get_or_past, get_or_default, set_past}
 use Rattle.std.proofs.lemmas.Bool.{cases_eq, cases_lt}
 use Rattle.std.proofs.lemmas.Option.{none-some}
@@ -72,17 +72,17 @@ module _ {T : Type 0} where
       let head = some_cases (get s m) (stored_head s m xs stored) in
       let found : get (with_value s n x) m ≡ Some x = rw at (get_same s n x (rw at at (stored_head s m xs stored))) in
       let later : listed (with_value s n x) xs ≡ listed s xs = listed-same s (with_value s n x) xs (λ k among. get_other s n x k (λ same.
-          let twice : occurrences n (m ∷ xs) ≡ occurrences n (m ∷ []) + occurrences n xs = occurrences-cons n m xs in
-          let one : occurrences n (m ∷ []) ≡ 1 = rw at (occurrences_itself n) in
-          let some : 0 < occurrences n xs = rw same at among in
-          omega (arith, twice, one, some, once n))) in
+      let twice : occurrences n (m ∷ xs) ≡ occurrences n (m ∷ []) + occurrences n xs = occurrences-cons n m xs in
+      let one : occurrences n (m ∷ []) ≡ 1 = rw at (occurrences_itself n) in
+      let some : 0 < occurrences n xs = rw same at among in
+      omega (arith, twice, one, some, once n))) in
       listed-cons (with_value s n x) m x xs found ∙ ap (λ zs. x ∷ zs) later ∙ sym (ap (λ zs. set zs 0 x) (listed-cons s m head.0 xs head.1))
   listed-set s (m ∷ xs) (suc r) n x stored once within at =
       let head = some_cases (get s m) (stored_head s m xs stored) in
       let other : m ≢ n = λ same.
-          let some : 0 < occurrences n xs = rw at at (occurrences_at xs r (omega arith)) in
-          let one : occurrences n (m ∷ []) ≡ 1 = rw same (occurrences_itself n) in
-          omega (arith, occurrences-cons n m xs, some, one, once n) in
+      let some : 0 < occurrences n xs = rw at at (occurrences_at xs r (omega arith)) in
+      let one : occurrences n (m ∷ []) ≡ 1 = rw same (occurrences_itself n) in
+      omega (arith, occurrences-cons n m xs, some, one, once n) in
       let found : get (with_value s n x) m ≡ Some head.0 = get_other s n x m other ∙ head.1 in
       let later = listed-set s xs r n x (stored_tail s m xs stored) (λ k. omega (arith, occurrences-cons k m xs, once k)) (omega arith) at in
       listed-cons (with_value s n x) m head.0 xs found ∙ ap (λ zs. head.0 ∷ zs) later ∙ sym (ap (λ zs. set zs (suc r) x) (listed-cons s m head.0 xs head.1))

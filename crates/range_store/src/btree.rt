@@ -7,16 +7,16 @@ ghost use Rattle.slab.specs.Slab.{slab_len};
 ghost use Rattle.range_store.specs.Listed.{listed, IsStorage};
 ghost use Rattle.range_store.specs.Places.{place_before};
 
-pub mod insertion;
-pub mod node;
-pub mod place;
-pub mod removal;
-pub mod searching;
+mod insertion;
+mod node;
+mod place;
+mod removal;
+mod searching;
 #[cfg(test)]
 mod tests;
-pub mod tree;
+mod tree;
 
-use crate::btree::node::{LEAST, MOST};
+pub use crate::btree::node::{LEAST, MOST};
 use crate::btree::place::{Found, Spot};
 use crate::btree::searching::HALVINGS;
 use crate::btree::tree::NumberTree;
@@ -100,7 +100,6 @@ impl<T> BoxStorage<T> {
 
 impl<T: Drop> Storage<T> for BoxStorage<T> {
     ghost use Rattle.range_store.specs.declared.btree.searching.TheConstants.{HALVINGS};
-
     ghost use Rattle.range_store.specs.Holding.{box_items, IsGood, with_stored, items_with_stored, room_with_stored, good_in_range, items_fit};
 
     type Position = BoxPosition;
@@ -180,11 +179,7 @@ impl<T: Drop> Storage<T> for BoxStorage<T> {
 
     fn search<P: Probe<T>>(&self, probe: &mut P) -> Option<BoxPosition> {
         let count = self.tree.search(&self.items, probe);
-        if count == 0 {
-            None
-        } else {
-            self.at(count - 1)
-        }
+        if count == 0 { None } else { self.at(count - 1) }
     }
 
     fn reserve(&mut self, n: usize) -> Result<(), AllocError> {

@@ -3,7 +3,10 @@ ghost use Rattle.std.specs.Prelude.{◌≡◌, ℕ, suc, ◌+◌, ◌-◌, ◌*�
 ghost use Rattle.slab.specs.Slab.{HasRoomFor};
 ghost use Rattle.range_store.specs.Nodes.{numbers, used, ShapedBut, Replaces, Owned, HasTreeRoom, IsReady, IsCuttable, IsTree};
 
-use crate::btree::node::{HALF, LEAST, MOST, Node, Split, attach, children_from, count, divide, item_count, put_item, store_leaf, store_root, total};
+use crate::btree::node::{
+    HALF, LEAST, MOST, Node, Split, attach, children_from, count, divide, item_count, put_item,
+    store_leaf, store_root, total,
+};
 use crate::btree::place::descend;
 use slab::Slab;
 
@@ -63,7 +66,13 @@ pub struct Root {
 }
 
 // Puts an item before the one of this rank, or last, and tells the root of the tree that then stands.
-pub fn insert_into(nodes: &mut Slab<Node>, levels: usize, root: usize, rank: usize, item: usize) -> Root
+pub fn insert_into(
+    nodes: &mut Slab<Node>,
+    levels: usize,
+    root: usize,
+    rank: usize,
+    item: usize,
+) -> Root
     requires tree { IsTree nodes.old levels root }
     requires within { rank ≤ length (numbers nodes.old levels root) }
     requires small { length (numbers nodes.old levels root) + 1 < 2 ^ 64 }

@@ -78,14 +78,22 @@ pub fn count(nodes: &Slab<Node>, number: usize) -> usize
     nodes[number].count
 }
 
-pub fn children_from(nodes: &Slab<Node>, number: usize, from: usize) -> ArrayVec<usize, CHILD_PLACES>
+pub fn children_from(
+    nodes: &Slab<Node>,
+    number: usize,
+    from: usize,
+) -> ArrayVec<usize, CHILD_PLACES>
     requires { ContainsKey nodes.now number }
     ensures { result.items ≡ drop from (children_of (get nodes.now number)) }
 {
     suffix(&nodes[number].children, from)
 }
 
-pub fn children_before(nodes: &Slab<Node>, number: usize, end: usize) -> ArrayVec<usize, CHILD_PLACES>
+pub fn children_before(
+    nodes: &Slab<Node>,
+    number: usize,
+    end: usize,
+) -> ArrayVec<usize, CHILD_PLACES>
     requires present { ContainsKey nodes.now number }
     requires within { end ≤ length (children_of (get nodes.now number)) }
     ensures { result.items ≡ take end (children_of (get nodes.now number)) }
@@ -173,7 +181,13 @@ pub fn count_off(nodes: &mut Slab<Node>, number: usize)
 }
 
 // Counts `added` more items below a node, and after a split of the child at `index` puts in its halves' border and the new half.
-pub fn attach(nodes: &mut Slab<Node>, number: usize, index: usize, split: Option<Split>, added: usize)
+pub fn attach(
+    nodes: &mut Slab<Node>,
+    number: usize,
+    index: usize,
+    split: Option<Split>,
+    added: usize,
+)
     requires present { ContainsKey nodes.old number }
     requires within { index ≤ length (items_of (get nodes.old number)) }
     requires items_room { length (items_of (get nodes.old number)) < ITEM_PLACES }

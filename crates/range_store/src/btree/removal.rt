@@ -5,7 +5,10 @@ ghost use Rattle.slab.specs.Slab.{get, ContainsKey};
 ghost use Rattle.range_store.specs.Nodes.{numbers, items_of, children_of, ShapedBut, Owned, Shrinks, IsMendable, IsLevelled, IsTree, IsLooseTree};
 
 use crate::btree::insertion::{Root, cut_at};
-use crate::btree::node::{LEAST, MOST, Node, child_at, count, count_off, detach, item_at, item_count, pool, set_border, swap_item, take_item};
+use crate::btree::node::{
+    LEAST, MOST, Node, child_at, count, count_off, detach, item_at, item_count, pool, set_border,
+    swap_item, take_item,
+};
 use crate::btree::place::descend;
 use slab::Slab;
 

@@ -6,7 +6,9 @@ ghost use Rattle.range_store.specs.Falling.{Falls, passes};
 ghost use Rattle.range_store.specs.Listed.{Stored};
 ghost use Rattle.range_store.specs.Nodes.{numbers, items_of, ShapedBut};
 
-use crate::btree::node::{MOST, Node, child_at, children_before, count, item_at, item_count, total};
+use crate::btree::node::{
+    MOST, Node, child_at, children_before, count, item_at, item_count, total,
+};
 use crate::storage::Probe;
 use slab::Slab;
 
@@ -14,7 +16,12 @@ use slab::Slab;
 pub const HALVINGS: usize = 3;
 
 // How many items of a node pass, found by halving.
-pub fn halve<T, P: Probe<T>>(nodes: &Slab<Node>, items: &Slab<T>, number: usize, probe: &mut P) -> usize
+pub fn halve<T, P: Probe<T>>(
+    nodes: &Slab<Node>,
+    items: &Slab<T>,
+    number: usize,
+    probe: &mut P,
+) -> usize
     requires present { ContainsKey nodes.now number }
     requires stored { Stored items.now (items_of (get nodes.now number)) }
     requires falls { Falls (passes items.now (P.test probe.old)) (items_of (get nodes.now number)) }

@@ -86,7 +86,12 @@ fn levels(rt: HostRuntime) -> Result<(), Fail> {
 }
 
 // A step of a long run of calls, on both containers, from one number.
-fn step(rt: &impl Abort, tree: &mut BoxStorage<u64>, list: &mut VecStorage<u64>, number: u64) -> Result<(), AllocError> {
+fn step(
+    rt: &impl Abort,
+    tree: &mut BoxStorage<u64>,
+    list: &mut VecStorage<u64>,
+    number: u64,
+) -> Result<(), AllocError> {
     let len = list.len();
     let rank = (number / 16) as usize % (len + 1);
     match number % 16 {
@@ -131,7 +136,13 @@ fn as_a_vector(rt: HostRuntime) -> Result<(), Fail> {
 }
 
 // Puts an item into both, and where the tree is refused memory it is as it was.
-fn put_again(rt: &impl Abort, tree: &mut BoxStorage<u64>, list: &mut VecStorage<u64>, rank: usize, item: u64) -> Result<(), AllocError> {
+fn put_again(
+    rt: &impl Abort,
+    tree: &mut BoxStorage<u64>,
+    list: &mut VecStorage<u64>,
+    rank: usize,
+    item: u64,
+) -> Result<(), AllocError> {
     if put(tree, rank, item).is_err() {
         same(rt, tree, list);
         put(tree, rank, item)?;

@@ -32,7 +32,6 @@ impl Model for NumberTree {
     ghost coded = { ranked_code };
 
     ghost use Rattle.range_store.specs.declared.btree.node.TheConstants.{LEAST};
-
     ghost use Rattle.range_store.specs.Nodes.{numbers as numbers_below, IsTree};
 
     ghost view = { λ t. record {

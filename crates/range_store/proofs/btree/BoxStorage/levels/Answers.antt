@@ -1,4 +1,3 @@
-use Rattle.std.proofs.Common.{arith}
 use Rattle.range_store.specs.Holding.{box_length}
 use Rattle.range_store.proofs.btree.BoxStorage.levels.Goals as goal
 

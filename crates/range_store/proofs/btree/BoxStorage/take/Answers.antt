@@ -1,4 +1,3 @@
-use Rattle.std.proofs.Common.{◌<◌, arith}
 use Rattle.range_store.specs.Listed.{storage_stored}
 use Rattle.range_store.specs.Occurrences.{occurrences_at}
 use Rattle.range_store.proofs.Listing.{removed_item, removed_listed, removed_storage}

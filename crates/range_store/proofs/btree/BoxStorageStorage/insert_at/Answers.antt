@@ -1,4 +1,4 @@
-use Rattle.std.proofs.Common.{◌≡◌, ◌<◌, ◌∙◌, length, sym, ap, arith}
+use Rattle.std.proofs.Common.{◌∙◌, sym, ap, arith}
 use Rattle.std.specs.List.{insert}
 use Rattle.std.proofs.lemmas.List.Edits.{get_or-insert_at}
 use Rattle.range_store.specs.Holding.{box_items}
@@ -20,8 +20,7 @@ returns-clause-list g c =
 
 pub returns-clause-position : goal.returns-clause-position
 returns-clause-position g c =
-    let longer = inserted_length c.args.self.now.items c.insert_reserved-number.new.self c.insert_reserved-number.result c.rank_before-rank.result c.args.item c.args.self.now.tree c.insert.new.self c.args.self.now.whole c.insert_reserved-number.ensures.was_vacant c.insert_reserved-number.ensures.updates c.insert_reserved-number.ensures.len c.rank_before-rank.ensures.within c.insert.ensures.numbers in
-    (
+    let longer = inserted_length c.args.self.now.items c.insert_reserved-number.new.self c.insert_reserved-number.result c.rank_before-rank.result c.args.item c.args.self.now.tree c.insert.new.self c.args.self.now.whole c.insert_reserved-number.ensures.was_vacant c.insert_reserved-number.ensures.updates c.insert_reserved-number.ensures.len c.rank_before-rank.ensures.within c.insert.ensures.numbers in (
       record {
         within = omega (arith, longer, c.rank_before-rank.ensures.within);
         number_is = rw c.insert.ensures.numbers (sym (get_or-insert_at c.args.self.now.tree.numbers c.rank_before-rank.result c.insert_reserved-number.result 0 c.rank_before-rank.ensures.within));

@@ -1,5 +1,5 @@
-use Rattle.std.proofs.Common.{◌+◌, ◌≤◌, length, arith}
-use Rattle.range_store.specs.Holding.{box_items, box_length, IsGood}
+use Rattle.std.proofs.Common.{◌+◌, arith}
+use Rattle.range_store.specs.Holding.{box_length}
 use Rattle.range_store.proofs.Positions.{at_from}
 use Rattle.range_store.proofs.btree.BoxStorageStorage.next.Goals as goal
 

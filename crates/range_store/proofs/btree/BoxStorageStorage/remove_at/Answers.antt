@@ -1,6 +1,6 @@
-use Rattle.std.proofs.Common.{◌+◌, ◌≤◌, length, ap, arith}
+use Rattle.std.proofs.Common.{length, ap, arith}
 use Rattle.std.proofs.lemmas.List.Edits.{length-remove}
-use Rattle.range_store.specs.Holding.{box_items, box_length, IsGood}
+use Rattle.range_store.specs.Holding.{box_items, box_length}
 use Rattle.range_store.proofs.Positions.{at_from}
 use Rattle.range_store.proofs.btree.BoxStorageStorage.remove_at.Goals as goal
 

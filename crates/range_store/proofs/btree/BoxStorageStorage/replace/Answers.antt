@@ -1,4 +1,4 @@
-use Rattle.std.proofs.Common.{◌∙◌, ap, sym}
+use Rattle.std.proofs.Common.{◌∙◌, ap}
 use Rattle.std.proofs.Math.ListN.{set}
 use Rattle.range_store.specs.Listed.{storage_stored}
 use Rattle.range_store.specs.Holding.{box_items}

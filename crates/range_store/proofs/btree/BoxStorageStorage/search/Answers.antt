@@ -1,8 +1,7 @@
-use Rattle.std.proofs.Common.{◌≡◌, ◌+◌, ◌∙◌, sym, ap, arith}
+use Rattle.std.proofs.Common.{◌≡◌, ◌+◌, ◌∙◌, sym, arith}
 use Rattle.std.proofs.lemmas.List.Sums.{count_by-le-length}
-use Rattle.range_store.specs.Falling.{Falls, passes}
+use Rattle.range_store.specs.Falling.{passes}
 use Rattle.range_store.specs.Listed.{storage_stored}
-use Rattle.range_store.specs.Places.{IsFrontOf}
 use Rattle.range_store.proofs.Finding.{falls_listed, front_listed}
 use Rattle.range_store.proofs.Positions.{match_weaker}
 use Rattle.range_store.proofs.btree.BoxStorageStorage.search.Goals as goal

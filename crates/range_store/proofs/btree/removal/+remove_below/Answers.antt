@@ -1,8 +1,8 @@
-use Rattle.std.proofs.Common.{◌≡◌, ℕ, suc, ◌+◌, ◌-◌, ◌<◌, ◌≤◌, ◌∙◌, length, get_or, ap, sym, arith}
+use Rattle.std.proofs.Common.{◌≡◌, ℕ, suc, ◌-◌, ◌<◌, ◌∙◌, length, get_or, ap, sym, arith}
 use Rattle.std.specs.List.{remove}
 use Rattle.slab.specs.Slab.{get}
 use Rattle.range_store.specs.declared.btree.node.TheConstants.{MOST}
-use Rattle.range_store.specs.Nodes.{numbers, items_of, children_of, count_of}
+use Rattle.range_store.specs.Nodes.{numbers, children_of}
 use Rattle.range_store.proofs.Insert.{kid_owned, but_from_shaped}
 use Rattle.range_store.proofs.Rank.{kid_known, rank_in_child, item_behind, rank_at_item, leaf_numbers}
 use Rattle.range_store.proofs.Removing.{Step, top_same, plain_step, swap_step, leaf_removed, kid_some}
@@ -41,8 +41,7 @@ remove_below-item-requires t c =
     let index = c.descend-place.ensures.index in
     let known = kid_known 1 MOST s below n i inner c.requires.shaped index in
     let counted = rw (← kid) at known.counted in
-    let less : c.descend-place.result.rest < length (numbers s below c.descend-place.result.child) = omega (arith, counted) in
-    (
+    let less : c.descend-place.result.rest < length (numbers s below c.descend-place.result.child) = omega (arith, counted) in (
       omega (arith, c.decreases),
       (
         rw kid (but_from_shaped s below (get_or (children_of (get s n)) i 0) inner known.shaped),
@@ -157,8 +156,7 @@ remove_below-before-requires t c =
     let end : c.descend-place.result.rest ≡ length (numbers s below c.descend-place.result.child) = omega (arith, counted, c.descend-place.ensures.rest) in
     let end' = rw kid at end in
     let some = kid_some s below (get_or (children_of (get s n)) i 0) inner known.shaped in
-    let less : c.descend-place.result.rest - 1 < length (numbers s below c.descend-place.result.child) = omega (arith, end, end', some) in
-    (
+    let less : c.descend-place.result.rest - 1 < length (numbers s below c.descend-place.result.child) = omega (arith, end, end', some) in (
       omega (arith, c.decreases),
       (
         rw kid (but_from_shaped s below (get_or (children_of (get s n)) i 0) inner known.shaped),

@@ -1,4 +1,4 @@
-use Rattle.std.proofs.Common.{◌≡◌, ℕ, suc, ◌+◌, ◌<◌, ◌≤◌, length, get_or, arith, Some}
+use Rattle.std.proofs.Common.{◌≡◌, suc, ◌+◌, ◌<◌, ◌≤◌, length, get_or, arith, Some}
 use Rattle.slab.specs.Slab.{get}
 use Rattle.range_store.specs.Nodes.{items_of, children_of, numbers, Pools, Replaces}
 use Rattle.range_store.specs.declared.btree.node.TheConstants.{MOST, LEAST}

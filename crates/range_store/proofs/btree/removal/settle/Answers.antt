@@ -1,6 +1,4 @@
-use Rattle.std.proofs.Common.{◌≡◌, ◌<◌, length, arith}
-use Rattle.slab.specs.Slab.{get}
-use Rattle.range_store.specs.Nodes.{items_of}
+use Rattle.std.proofs.Common.{arith}
 use Rattle.range_store.proofs.Settling.{stays_root, emptied, lowered}
 use Rattle.range_store.proofs.btree.removal.settle.Goals as goal
 

@@ -1,4 +1,4 @@
-use Rattle.std.proofs.Common.{◌≡◌, ◌-◌, suc, ap, sym, ◌∙◌, count_by, arith}
+use Rattle.std.proofs.Common.{ap, sym, ◌∙◌, count_by}
 use Rattle.range_store.specs.Falling.{passes}
 use Rattle.range_store.proofs.Rank.{numbers_none}
 use Rattle.range_store.proofs.btree.tree.NumberTree.search.Goals as goal
