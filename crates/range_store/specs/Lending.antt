@@ -1,5 +1,5 @@
 -- A container with another item at a place.
-use Rattle.std.specs.Prelude.{◌≡◌, ℕ, ◌<◌, length}
+use Rattle.std.specs.Prelude.{ℕ, ◌<◌, length}
 use Rattle.std.specs.Vec.{with_item}
 use Rattle.std.proofs.Common.{subst, sym}
 use Rattle.std.proofs.Math.ListN.{length-set}

@@ -1,0 +1,102 @@
+-- A tree has a node for each LEAST of its items at most, so room that is counted in items serves its nodes.
+use Rattle.std.proofs.Common.{◌≡◌, ◌⊎◌, ℕ, zero, suc, ◌+◌, ◌-◌, ◌*◌, ◌<◌, ◌≤◌, List, [], ◌∷◌, ◌++◌, length, get_or, take, drop, map, ap, ◌∙◌, inl, inr, arith, IsSome}
+use Rattle.std.specs.List.{All, flat_map, sum_by}
+use Rattle.std.proofs.lemmas.List.{length-append, length-map, map-append, take-append-drop, nil_from_length}
+use Rattle.std.proofs.lemmas.List.Concat.{flat_map-append}
+use Rattle.std.proofs.lemmas.List.Sums.{sum_by-cons, sum_by-append}
+use Rattle.std.proofs.lemmas.List.Elements.{All-nil, All-head, All-tail, All-take, All-drop, All-weaker}
+use Rattle.slab.specs.Slab.{Slab, get, slab_len}
+use Rattle.range_store.specs.declared.btree.node.Node.{Node}
+use Rattle.range_store.specs.declared.btree.node.TheConstants.{MOST, LEAST, HALF}
+use Rattle.range_store.specs.Nodes.{items_of, children_of, count_of, child_count, numbers, used, Shaped, ShapedBut, counts, HasTreeRoom, IsReady, IsCuttable}
+use Rattle.range_store.proofs.Below.{weave_numbers, children_length, Shaped-is_child}
+use Rattle.range_store.proofs.Cut.{length-weave, child_count_cases, counts_are}
+use Rattle.range_store.proofs.Replace.{used_is, parts, Shaped-but}
+
+-- how many items stand below these nodes
+abbrev pub sizes : Slab Node → ℕ → List ℕ → ℕ
+sizes s d ns = sum_by length (map (numbers s d) ns)
+
+pub sizes-append : (s : Slab Node) (d : ℕ) (us vs : List ℕ) → sizes s d (us ++ vs) ≡ sizes s d us + sizes s d vs
+sizes-append s d us vs = ap (sum_by length) (map-append (numbers s d) us vs) ∙ sum_by-append (length {A = ℕ}) (map (numbers s d) us) (map (numbers s d) vs)
+
+pub numbers_size : (least most : ℕ) (s : Slab Node) (d n : ℕ) → ShapedBut least most s d n → length (numbers s (suc d) n) ≡ length (items_of (get s n)) + sizes s d (children_of (get s n))
+numbers_size least most s d n shaped =
+    ap length (weave_numbers s d n)
+    ∙ length-weave (items_of (get s n)) (map (numbers s d) (children_of (get s n))) (child_count_cases d _ _ (length-map (children_of (get s n)) (numbers s d) ∙ shaped.node.branches))
+
+children_le_from : (s : Slab Node) (d : ℕ) → ((n : ℕ) → Shaped s d n → LEAST * length (used s d n) ≤ length (numbers s d n)) → (ns : List ℕ) → All (Shaped s d) ns → LEAST * length (flat_map (used s d) ns) ≤ sizes s d ns
+children_le_from s d below [] shaped = omega arith
+children_le_from s d below (n ∷ ns) shaped =
+    omega (arith, below n (All-head (Shaped s d) n ns shaped), children_le_from s d below ns (All-tail (Shaped s d) n ns shaped), length-append (used s d n) (flat_map (used s d) ns), sum_by-cons (length {A = ℕ}) (numbers s d n) (map (numbers s d) ns))
+
+pub used_le : (s : Slab Node) (d n : ℕ) → Shaped s d n → LEAST * length (used s d n) ≤ length (numbers s d n)
+unfolding used numbers
+used_le s zero n shaped = omega arith
+used_le s (suc d) n shaped =
+    let but = Shaped-but s d n shaped in
+    omega (arith, ap length (used_is s d n), numbers_size LEAST MOST s d n but, children_le_from s d (used_le s d) (children_of (get s n)) but.children, but.node.enough)
+
+pub children_le : (s : Slab Node) (d : ℕ) (ns : List ℕ) → All (Shaped s d) ns → LEAST * length (flat_map (used s d) ns) ≤ sizes s d ns
+children_le s d ns shaped = children_le_from s d (used_le s d) ns shaped
+
+pub used_le_but : (least most : ℕ) (s : Slab Node) (d n : ℕ) → ShapedBut least most s d n → LEAST * length (used s (suc d) n) + length (items_of (get s n)) ≤ length (numbers s (suc d) n) + LEAST
+used_le_but least most s d n shaped =
+    omega (arith, ap length (used_is s d n), numbers_size least most s d n shaped, children_le s d (children_of (get s n)) shaped.children)
+
+-- room below a node is room below each of its children
+pub HasTreeRoom-child : (most : ℕ) (s : Slab Node) (d n i more : ℕ) → 0 < d → i ≤ length (items_of (get s n)) → ShapedBut 1 most s d n → HasTreeRoom s (suc d) n more → HasTreeRoom s d (get_or (children_of (get s n)) i 0) more
+HasTreeRoom-child most s d n i more inner within shaped room =
+    let ks = children_of (get s n) in
+    let kid = get_or ks i 0 in
+    let many : length ks ≡ length (items_of (get s n)) + 1 = children_length 1 most s d n inner shaped in
+    let three : ks ≡ take i ks ++ (kid ∷ drop (i + 1) ks) = parts ks i 0 (omega (arith, many)) in
+    let sizes_all : sizes s d ks ≡ sizes s d (take i ks) + (length (numbers s d kid) + sizes s d (drop (i + 1) ks)) =
+    ap (sizes s d) three ∙ sizes-append s d (take i ks) (kid ∷ drop (i + 1) ks) ∙ ap (λ m. sizes s d (take i ks) + m) (sum_by-cons (length {A = ℕ}) (numbers s d kid) (map (numbers s d) (drop (i + 1) ks))) in
+    let used_all : length (flat_map (used s d) ks) ≡ length (flat_map (used s d) (take i ks)) + (length (used s d kid) + length (flat_map (used s d) (drop (i + 1) ks))) =
+    ap (λ zs. length (flat_map (used s d) zs)) three ∙ ap length (flat_map-append (used s d) (take i ks) (kid ∷ drop (i + 1) ks))
+    ∙ length-append (flat_map (used s d) (take i ks)) (used s d kid ++ flat_map (used s d) (drop (i + 1) ks))
+    ∙ ap (λ m. length (flat_map (used s d) (take i ks)) + m) (length-append (used s d kid) (flat_map (used s d) (drop (i + 1) ks))) in
+    let lefts = children_le s d (take i ks) (All-take (Shaped s d) i ks shaped.children) in
+    let rights = children_le s d (drop (i + 1) ks) (All-drop (Shaped s d) (i + 1) ks shaped.children) in
+    let kept : LEAST * slab_len s + (length (numbers s d kid) + more) + 1 ≤ LEAST * s.capacity + LEAST * length (used s d kid) + LEAST = omega (arith, room.few, ap length (used_is s d n), numbers_size 1 most s d n shaped, sizes_all, used_all, lefts, rights) in
+    record { filled = kept; few = few_from d kid kept (shaped.children i 0 (omega (arith, many))) inner }
+  where
+    few_from : (b m : ℕ) → LEAST * slab_len s + (length (numbers s b m) + more) + 1 ≤ LEAST * s.capacity + LEAST * length (used s b m) + LEAST → Shaped s b m → 0 < b → LEAST * slab_len s + (length (numbers s b m) + more) + 1 ≤ LEAST * s.capacity + LEAST * length (used s b m) + length (items_of (get s m))
+    few_from zero m kept known some = absurd (omega arith)
+    few_from (suc b) m kept known some = omega (arith, kept, (Shaped-but s b m known).node.enough)
+
+-- the items of the second part are fewer than all
+pub moved_below : (top : ℕ) (s : Slab Node) (d n half : ℕ) → ShapedBut 0 top s d n → half < length (items_of (get s n)) → (counts s (drop (half + 1) (children_of (get s n))) + (length (items_of (get s n)) - half - 1) < count_of (get s n))
+moved_below top s d n half shaped within =
+    let ks = children_of (get s n) in
+    let leaf : (0 < d) ⊎ (ks ≡ []) = leaf_or_inner d (length (items_of (get s n))) ks shaped.node.branches in
+    let all = counts_are s d ks leaf shaped.children in
+    let both = ap (counts s) (take-append-drop (half + 1) ks) in
+    omega (arith, shaped.node.counted, numbers_size 0 top s d n shaped, all, both, sum_by-append (λ k. count_of (get s k)) (take (half + 1) ks) (drop (half + 1) ks), within)
+  where
+    leaf_or_inner : (b k : ℕ) (ns : List ℕ) → length ns ≡ child_count b k → (0 < b) ⊎ (ns ≡ [])
+    leaf_or_inner zero k ns h = inr (nil_from_length ns h)
+    leaf_or_inner (suc b) k ns h = inl (omega arith)
+
+pub children_present : (s : Slab Node) (d k : ℕ) (ns : List ℕ) → length ns ≡ child_count d k → All (Shaped s d) ns → All (λ c. IsSome (get s c)) ns
+children_present s zero k ns none shaped = rw (nil_from_length ns none) (All-nil (λ c. IsSome (get s c)))
+children_present s (suc d) k ns some shaped = All-weaker (Shaped s (suc d)) (λ c. IsSome (get s c)) (λ c h. (Shaped-is_child s (suc d) c (omega arith) h).present) ns shaped
+
+-- the bounds on a node may be wider
+pub wider : (low least most top : ℕ) (s : Slab Node) (d n : ℕ) → low ≤ least → most ≤ top → ShapedBut least most s d n → ShapedBut low top s d n
+wider low least most top s d n le le' shaped = record {
+  node = record { present = shaped.node.present; enough = omega (arith, shaped.node.enough); fits = omega (arith, shaped.node.fits); branches = shaped.node.branches; counted = shaped.node.counted };
+  children = shaped.children;
+}
+
+pub cuttable : (s : Slab Node) (d n : ℕ) → IsReady s d n → MOST < length (items_of (get s n)) → IsCuttable s d n HALF
+cuttable s d n ready over = record {
+  shaped = wider 0 0 (MOST + 1) (MOST + LEAST) s d n (omega arith) (omega arith) ready.shaped;
+  owned = ready.owned;
+  least_left = omega arith;
+  most_left = omega arith;
+  least_right = omega (arith, over);
+  most_right = omega (arith, ready.shaped.node.fits);
+  room = ready.room over;
+}

@@ -1,0 +1,89 @@
+-- Lists with items between them.
+use Rattle.std.proofs.Common.{◌≡◌, ℕ, ◌+◌, ◌-◌, ◌<◌, ◌≤◌, List, [], ◌∷◌, ◌++◌, length, get_or, take, drop, refl, sym, ap, ◌∙◌, arith}
+use Rattle.std.specs.List.{insert}
+use Rattle.std.proofs.lemmas.List.{append_assoc, append-nil, length-take-le, take-append-drop, drop_more, take_more}
+use Rattle.std.proofs.lemmas.List.Edits.{insert-append_left, insert-append_right}
+use Rattle.range_store.specs.Nodes.{rest_of, weave, front_of, before, after}
+
+module _ {X : Type 0} where
+  pub weave-cons : (x : X) (xs : List X) (j k : List X) (ks : List (List X)) → weave (x ∷ xs) (j ∷ k ∷ ks) ≡ (j ++ x ∷ []) ++ weave xs (k ∷ ks)
+  weave-cons x xs j k ks = sym (append_assoc j (x ∷ []) (k ++ rest_of xs ks))
+
+  -- what stands before the list k, that list, and what stands after it
+  pub weave_split : (xs ys : List X) (ks : List (List X)) (k : List X) (ls : List (List X)) → length xs ≡ length ks → weave (xs ++ ys) (ks ++ k ∷ ls) ≡ front_of xs ks ++ (k ++ rest_of ys ls)
+  weave_split [] ys [] k ls same = refl
+  weave_split [] ys (j ∷ ks) k ls same = absurd (omega arith)
+  weave_split (x ∷ xs) ys [] k ls same = absurd (omega arith)
+  weave_split (x ∷ xs) ys (j ∷ []) k ls same =
+      let later = weave_split xs ys [] k ls (omega arith) in
+      weave-cons x (xs ++ ys) j k ls ∙ ap (λ zs. (j ++ x ∷ []) ++ zs) later ∙ sym (append_assoc (j ++ x ∷ []) (front_of xs []) (k ++ rest_of ys ls))
+  weave_split (x ∷ xs) ys (j ∷ i ∷ ks) k ls same =
+      let later = weave_split xs ys (i ∷ ks) k ls (omega arith) in
+      weave-cons x (xs ++ ys) j i (ks ++ k ∷ ls) ∙ ap (λ zs. (j ++ x ∷ []) ++ zs) later ∙ sym (append_assoc (j ++ x ∷ []) (front_of xs (i ∷ ks)) (k ++ rest_of ys ls))
+
+  pub rest_of-append : (xs ys : List X) (ks ls : List (List X)) → length xs ≡ length ks → rest_of (xs ++ ys) (ks ++ ls) ≡ rest_of xs ks ++ rest_of ys ls
+  rest_of-append [] ys [] ls same = refl
+  rest_of-append [] ys (k ∷ ks) ls same = absurd (omega arith)
+  rest_of-append (x ∷ xs) ys [] ls same = absurd (omega arith)
+  rest_of-append (x ∷ xs) ys (k ∷ ks) ls same =
+      ap (λ zs. x ∷ zs) (ap (λ zs. k ++ zs) (rest_of-append xs ys ks ls (omega arith)) ∙ sym (append_assoc k (rest_of xs ks) (rest_of ys ls)))
+
+  -- a node cut in two round the item y
+  pub weave_cut : (xs : List X) (y : X) (ys : List X) (k : List X) (ks : List (List X)) (l : List X) (ls : List (List X)) → length xs ≡ length ks → weave (xs ++ y ∷ ys) ((k ∷ ks) ++ (l ∷ ls)) ≡ weave xs (k ∷ ks) ++ (y ∷ weave ys (l ∷ ls))
+  weave_cut xs y ys k ks l ls same =
+      ap (λ zs. k ++ zs) (rest_of-append xs (y ∷ ys) ks (l ∷ ls) same) ∙ sym (append_assoc k (rest_of xs ks) (y ∷ weave ys (l ∷ ls)))
+
+  -- an item into the list k
+  pub weave-insert : (xs ys : List X) (ks : List (List X)) (k : List X) (ls : List (List X)) (rest : ℕ) (y : X) → length xs ≡ length ks → rest ≤ length k → weave (xs ++ ys) (ks ++ insert k rest y ∷ ls) ≡ insert (weave (xs ++ ys) (ks ++ k ∷ ls)) (length (front_of xs ks) + rest) y
+  weave-insert xs ys ks k ls rest y same within =
+      let right = insert-append_right (front_of xs ks) (k ++ rest_of ys ls) (length (front_of xs ks)) (length (front_of xs ks) + rest) y refl (omega arith) in
+      let offset : length (front_of xs ks) + rest - length (front_of xs ks) ≡ rest = omega arith in
+      let left = insert-append_left k (rest_of ys ls) rest y within in
+      weave_split xs ys ks (insert k rest y) ls same
+      ∙ sym (ap (λ zs. insert zs (length (front_of xs ks) + rest) y) (weave_split xs ys ks k ls same)
+      ∙ right ∙ ap (λ n. front_of xs ks ++ insert (k ++ rest_of ys ls) n y) offset ∙ ap (λ zs. front_of xs ks ++ zs) left)
+
+  -- an item into the list k, which is cut in two
+  pub weave-insert_cut : (xs ys : List X) (ks : List (List X)) (k : List X) (ls : List (List X)) (rest : ℕ) (y : X) (left : List X) (m : X) (right : List X) → length xs ≡ length ks → rest ≤ length k → insert k rest y ≡ left ++ m ∷ right → weave (xs ++ m ∷ ys) (ks ++ left ∷ right ∷ ls) ≡ insert (weave (xs ++ ys) (ks ++ k ∷ ls)) (length (front_of xs ks) + rest) y
+  weave-insert_cut xs ys ks k ls rest y left m right same within cut =
+      weave_split xs (m ∷ ys) ks left (right ∷ ls) same
+      ∙ ap (λ zs. front_of xs ks ++ zs) (sym (append_assoc left (m ∷ right) (rest_of ys ls)) ∙ ap (λ zs. zs ++ rest_of ys ls) (sym cut))
+      ∙ sym (weave_split xs ys ks (insert k rest y) ls same)
+      ∙ weave-insert xs ys ks k ls rest y same within
+
+  pub front_of-append : (xs ys : List X) (ks ls : List (List X)) → length xs ≡ length ks → front_of (xs ++ ys) (ks ++ ls) ≡ front_of xs ks ++ front_of ys ls
+  front_of-append [] ys [] ls same = refl
+  front_of-append [] ys (k ∷ ks) ls same = absurd (omega arith)
+  front_of-append (x ∷ xs) ys [] ls same = absurd (omega arith)
+  front_of-append (x ∷ xs) ys (k ∷ ks) ls same =
+      ap (λ zs. (k ++ x ∷ []) ++ zs) (front_of-append xs ys ks ls (omega arith)) ∙ sym (append_assoc (k ++ x ∷ []) (front_of xs ks) (front_of ys ls))
+
+  pub weave_at : (xs : List X) (ks : List (List X)) (i : ℕ) → i ≤ length xs → length ks ≡ length xs + 1 → weave xs ks ≡ before xs ks i ++ (get_or ks i [] ++ after xs ks i)
+  weave_at xs ks i within same =
+      let cut : take i ks ++ (get_or ks i [] ∷ drop (i + 1) ks) ≡ ks = ap (λ zs. take i ks ++ zs) (sym (drop_more ks i [] (omega arith))) ∙ take-append-drop i ks in
+      let lengths : length (take i xs) ≡ length (take i ks) = length-take-le i xs within ∙ sym (length-take-le i ks (omega arith)) in
+      let split = weave_split (take i xs) (drop i xs) (take i ks) (get_or ks i []) (drop (i + 1) ks) lengths in
+      sym (ap (λ zs. weave zs (take i ks ++ get_or ks i [] ∷ drop (i + 1) ks)) (take-append-drop i xs) ∙ ap (weave xs) cut) ∙ split
+
+  pub before_more : (xs : List X) (ks : List (List X)) (i : ℕ) (d : X) → i < length xs → length ks ≡ length xs + 1 → before xs ks (i + 1) ≡ before xs ks i ++ (get_or ks i [] ++ get_or xs i d ∷ [])
+  before_more xs ks i d within same =
+      let lengths : length (take i xs) ≡ length (take i ks) = length-take-le i xs (omega arith) ∙ sym (length-take-le i ks (omega arith)) in
+      ap (λ zs. front_of zs (take (i + 1) ks)) (take_more xs i d within)
+      ∙ ap (front_of (take i xs ++ get_or xs i d ∷ [])) (take_more ks i [] (omega arith))
+      ∙ front_of-append (take i xs) (get_or xs i d ∷ []) (take i ks) (get_or ks i [] ∷ []) lengths
+      ∙ ap (λ zs. before xs ks i ++ zs) (append-nil (get_or ks i [] ++ get_or xs i d ∷ []))
+
+  -- some lists in the place of one
+  pub weave_splice : (xs seps ys : List X) (ks : List (List X)) (t : List X) (ts ls : List (List X)) → length xs ≡ length ks → length seps ≡ length ts → weave (xs ++ (seps ++ ys)) (ks ++ ((t ∷ ts) ++ ls)) ≡ front_of xs ks ++ (weave seps (t ∷ ts) ++ rest_of ys ls)
+  weave_splice xs seps ys ks t ts ls same same' =
+      weave_split xs (seps ++ ys) ks t (ts ++ ls) same
+      ∙ ap (λ zs. front_of xs ks ++ (t ++ zs)) (rest_of-append seps ys ts ls same')
+      ∙ ap (λ zs. front_of xs ks ++ zs) (sym (append_assoc t (rest_of seps ts) (rest_of ys ls)))
+
+  -- an item into the middle of three parts
+  pub insert_middle : (f k r : List X) (rest : ℕ) (y : X) → rest ≤ length k → insert (f ++ (k ++ r)) (length f + rest) y ≡ f ++ (insert k rest y ++ r)
+  insert_middle f k r rest y within =
+      let offset : length f + rest - length f ≡ rest = omega arith in
+      insert-append_right f (k ++ r) (length f) (length f + rest) y refl (omega arith)
+      ∙ ap (λ n. f ++ insert (k ++ r) n y) offset
+      ∙ ap (λ zs. f ++ zs) (insert-append_left k r rest y within)

@@ -1,0 +1,5 @@
+use Rattle.range_store.proofs.Listing.{empty_storage}
+use Rattle.range_store.proofs.btree.BoxStorageStorage.new.Goals as goal
+
+pub invariant_of-result : goal.invariant_of-result
+invariant_of-result g c = record { whole = empty_storage c.new.result c.new-2.result c.new.ensures.empty c.new-2.ensures.empty }

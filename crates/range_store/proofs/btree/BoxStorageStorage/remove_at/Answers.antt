@@ -1,0 +1,12 @@
+use Rattle.std.proofs.Common.{length, ap, arith}
+use Rattle.std.proofs.lemmas.List.Edits.{length-remove}
+use Rattle.range_store.specs.Holding.{box_items, box_length}
+use Rattle.range_store.proofs.Positions.{at_from}
+use Rattle.range_store.proofs.btree.BoxStorageStorage.remove_at.Goals as goal
+
+pub returns-clause-following : goal.returns-clause-following
+returns-clause-following g c =
+    let before = box_length c.args.self.now in
+    let after = box_length c.take-removed.new.self in
+    let shorter = length-remove (box_items c.args.self.now) c.args.p.rank (omega (arith, before, c.requires.within)) in
+    rw after (at_from _ _ _ c.args.p.rank c.at.result (omega (arith, before, after, shorter, ap length c.take-removed.ensures.list, c.requires.within)) c.at.ensures)

@@ -1,0 +1,91 @@
+use Rattle.std.proofs.Common.{◌≡◌, ℕ, suc, ◌+◌, ◌-◌, ◌<◌, get_or, arith, None}
+use Rattle.std.specs.List.{insert}
+use Rattle.slab.specs.Slab.{get}
+use Rattle.range_store.specs.declared.btree.node.TheConstants.{MOST}
+use Rattle.range_store.specs.Nodes.{numbers, children_of, Replaces}
+use Rattle.range_store.proofs.Insert.{ready, finish, leaf_step, leaf_within, kids_many, kid_owned, kid_apart, kid_smaller, kid_room, kid_shaped, but_from_shaped, inner_grown}
+use Rattle.range_store.proofs.btree.insertion.+insert_below.Goals as goal
+use Rattle.range_store.proofs.btree.insertion.+insert_below.Goals.{After-put_item, After-insert_below-split, After-attach}
+
+pub put_item-requires-clause-within : goal.put_item-requires-clause-within
+put_item-requires-clause-within t c = leaf_within c.args.nodes.now c.args.below c.args.number c.args.rank c.if-below-eq0.true c.requires.shaped c.requires.within
+
+pub cut_overfull-requires : goal.cut_overfull-requires
+cut_overfull-requires t c =
+    let r = c.args.nodes.now in
+    let s = c.put_item.new.nodes in
+    let step = leaf_step r s c.args.below c.args.number c.args.rank c.args.item c.if-below-eq0.true c.requires.shaped c.requires.within c.put_item.ensures.rewritten c.put_item.ensures.items c.put_item.ensures.children c.put_item.ensures.count in
+    ready r s c.args.below c.args.number c.args.rank c.args.item c.requires.shaped c.requires.owned c.requires.within c.requires.room step
+
+pub returns-then-below-eq0 : goal.returns-then-below-eq0
+returns-then-below-eq0 t c =
+    let r = c.args.nodes.now in
+    let s = c.put_item.new.nodes in
+    let step = leaf_step r s c.args.below c.args.number c.args.rank c.args.item c.if-below-eq0.true c.requires.shaped c.requires.within c.put_item.ensures.rewritten c.put_item.ensures.items c.put_item.ensures.children c.put_item.ensures.count in
+    finish r s c.cut_overfull.new.nodes c.args.below c.args.number c.cut_overfull.result _ c.requires.shaped.node.present step c.cut_overfull.ensures
+
+pub insert_below-split-requires : goal.insert_below-split-requires
+insert_below-split-requires t c =
+    let s = c.args.nodes.now in
+    let below = c.args.below in
+    let n = c.args.number in
+    let i = c.descend-place.result.index in
+    let inner : 0 < below = omega arith in
+    let level : suc (below - 1) ≡ below = omega arith in
+    let kid = c.descend-place.ensures.child in
+    let index = c.descend-place.ensures.index in
+    let shaped = c.requires.shaped in
+    let owned = c.requires.owned in
+    let smaller = kid_smaller s below n i inner shaped owned index in
+    rw (kid, level) (
+      omega (arith, c.decreases),
+      (
+        but_from_shaped s below (get_or (children_of (get s n)) i 0) inner (kid_shaped s below n i inner shaped owned index),
+        (
+          kid_owned s below n i inner shaped owned index,
+          (
+            rw kid at c.descend-place.ensures.rest,
+            (
+              omega (arith, smaller, c.requires.small),
+              kid_room s below n i inner shaped owned index c.requires.room,
+            ),
+          ),
+        ),
+      ),
+    )
+
+-- the node itself is as it was, after the child was written
+kept : (t : ℕ) (c : After-insert_below-split t) → get c.insert_below-split.new.nodes c.args.number ≡ get c.args.nodes.now c.args.number
+kept t c =
+    let s = c.args.nodes.now in
+    let level : suc (c.args.below - 1) ≡ c.args.below = omega arith in
+    let apart = kid_apart s c.args.below c.args.number c.descend-place.result.index (omega arith) c.requires.shaped c.requires.owned c.descend-place.ensures.index in
+    c.insert_below-split.ensures.outside c.args.number (rw (level, c.descend-place.ensures.child) apart) c.requires.shaped.node.present
+
+pub attach-requires : goal.attach-requires
+attach-requires t c =
+    let s = c.args.nodes.now in
+    let many = kids_many s c.args.below c.args.number c.descend-place.result.index (omega arith) c.requires.shaped c.requires.owned c.descend-place.ensures.index in
+    let same = kept t (goal.at.attach-requires t c).After-insert_below-split in
+    record {
+      present = rw same c.requires.shaped.node.present;
+      within = rw same c.descend-place.ensures.index;
+      items_room = rw same (omega (arith, c.requires.shaped.node.fits));
+      children = rw same many;
+      small = rw same (omega (arith, c.requires.shaped.node.counted, c.requires.small));
+    }
+
+-- the child and the node are written, and the node may be overfull
+step : (t : ℕ) (c : After-attach t) → get c.insert_below-split.new.nodes c.args.number ≡ get c.args.nodes.now c.args.number → Replaces (MOST + 1) c.args.nodes.now c.attach.new.nodes c.args.below c.args.number None (insert (numbers c.args.nodes.now (suc c.args.below) c.args.number) c.args.rank c.args.item)
+step t c same =
+    let s = c.args.nodes.now in
+    let kid = c.descend-place.ensures.child in
+    inner_grown s c.insert_below-split.new.nodes c.attach.new.nodes c.args.below c.args.number c.descend-place.result.index c.descend-place.result.rest c.args.rank c.args.item c.insert_below-split.result (omega arith) c.requires.shaped c.requires.owned c.descend-place.ensures.index (rw kid at c.descend-place.ensures.rest) c.descend-place.ensures.rank (rw kid at c.insert_below-split.ensures) same c.attach.ensures.rewritten c.attach.ensures.items c.attach.ensures.children c.attach.ensures.count
+
+pub cut_overfull-requires-2 : goal.cut_overfull-requires-2
+cut_overfull-requires-2 t c =
+    ready c.args.nodes.now c.attach.new.nodes c.args.below c.args.number c.args.rank c.args.item c.requires.shaped c.requires.owned c.requires.within c.requires.room (step t (goal.at.cut_overfull-requires-2 t c).After-attach (kept t (goal.at.cut_overfull-requires-2 t c).After-insert_below-split))
+
+pub returns : goal.returns
+returns t c =
+    finish c.args.nodes.now c.attach.new.nodes c.cut_overfull-2.new.nodes c.args.below c.args.number c.cut_overfull-2.result _ c.requires.shaped.node.present (step t (goal.at.returns t c).After-attach (kept t (goal.at.returns t c).After-insert_below-split)) c.cut_overfull-2.ensures

@@ -1,0 +1,58 @@
+use Rattle.std.proofs.Common.{◌≡◌, suc, ◌+◌, ◌<◌, ◌≤◌, length, get_or, arith, Some}
+use Rattle.slab.specs.Slab.{get}
+use Rattle.range_store.specs.Nodes.{items_of, children_of, numbers, Pools, Replaces}
+use Rattle.range_store.specs.declared.btree.node.TheConstants.{MOST, LEAST}
+use Rattle.range_store.proofs.Levelling.{can_pool, many, top_kept, cuttable_at, cut_kept, detached, bordered}
+use Rattle.range_store.proofs.btree.removal.level.Goals as goal
+use Rattle.range_store.proofs.btree.removal.level.Goals.{After-pool, After-cut_at-split}
+
+pub pool-requires : goal.pool-requires
+pool-requires c =
+    rw (c.child_at-left.ensures, c.child_at-right.ensures) (can_pool c.args.nodes.now c.args.low c.args.number c.args.index c.requires (omega (arith, c.count-whole.ensures, c.count-whole.type_inv)))
+
+pool : (c : After-pool) → Pools c.args.nodes.now c.pool.new.nodes (get_or (children_of (get c.args.nodes.now c.args.number)) c.args.index 0) (get_or (children_of (get c.args.nodes.now c.args.number)) (c.args.index + 1) 0) (get_or (items_of (get c.args.nodes.now c.args.number)) c.args.index 0)
+pool c = rw (c.child_at-left.ensures, c.child_at-right.ensures, c.item_at-middle.ensures) at c.pool.ensures
+
+kept : (c : After-pool) → get c.pool.new.nodes c.args.number ≡ get c.args.nodes.now c.args.number
+kept c = top_kept c.args.nodes.now c.pool.new.nodes c.args.low c.args.number c.args.index c.requires (pool c)
+
+pub detach-requires : goal.detach-requires
+detach-requires c =
+    let same = kept (goal.at.detach-requires c).After-pool in
+    record {
+      present = rw same c.requires.node.present;
+      item = rw same c.requires.within;
+      child = rw same (omega (arith, many c.args.nodes.now c.args.low c.args.number c.args.index c.requires, c.requires.within));
+    }
+
+pub returns-then-pooled : goal.returns-then-pooled
+returns-then-pooled c =
+    let a = (goal.at.returns-then-pooled c).After-pool in
+    let short : length (items_of (get c.pool.new.nodes c.child_at-left.result)) ≤ LEAST + LEAST = omega (arith, c.item_count-pooled.ensures) in
+    let short' = rw c.child_at-left.ensures at short in
+    detached c.args.nodes.now c.pool.new.nodes c.args.low c.args.number c.args.index c.requires (pool a) c.detach.new.nodes c.detach.ensures.rewritten c.detach.ensures.items c.detach.ensures.children c.detach.ensures.count short'
+
+pub cut_at-split-requires : goal.cut_at-split-requires
+cut_at-split-requires c =
+    let a = (goal.at.cut_at-split-requires c).After-pool in
+    let long : LEAST + LEAST < length (items_of (get c.pool.new.nodes c.child_at-left.result)) = omega (arith, c.item_count-pooled.ensures) in
+    let long' = rw c.child_at-left.ensures at long in
+    rw (c.item_count-pooled.ensures, c.child_at-left.ensures) (cuttable_at c.args.nodes.now c.pool.new.nodes c.args.low c.args.number c.args.index c.requires (pool a) long')
+
+cut : (c : After-cut_at-split) → Replaces MOST c.pool.new.nodes c.cut_at-split.new.nodes c.args.low (get_or (children_of (get c.args.nodes.now c.args.number)) c.args.index 0) (Some c.cut_at-split.result) (numbers c.pool.new.nodes (suc c.args.low) (get_or (children_of (get c.args.nodes.now c.args.number)) c.args.index 0))
+cut c = rw c.child_at-left.ensures at c.cut_at-split.ensures
+
+pub set_border-requires : goal.set_border-requires
+set_border-requires c =
+    let a = (goal.at.set_border-requires c).After-pool in
+    let same = cut_kept c.args.nodes.now c.pool.new.nodes c.args.low c.args.number c.args.index c.requires (pool a) c.cut_at-split.new.nodes c.cut_at-split.result (cut (goal.at.set_border-requires c).After-cut_at-split) in
+    record {
+      present = rw same c.requires.node.present;
+      item = rw same c.requires.within;
+      child = rw same (omega (arith, many c.args.nodes.now c.args.low c.args.number c.args.index c.requires, c.requires.within));
+    }
+
+pub returns : goal.returns
+returns c =
+    let a = (goal.at.returns c).After-pool in
+    bordered c.args.nodes.now c.pool.new.nodes c.args.low c.args.number c.args.index c.requires (pool a) c.cut_at-split.new.nodes c.cut_at-split.result (cut (goal.at.returns c).After-cut_at-split) c.set_border.new.nodes c.set_border.ensures.rewritten c.set_border.ensures.items c.set_border.ensures.children c.set_border.ensures.count

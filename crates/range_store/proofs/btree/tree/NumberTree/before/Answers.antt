@@ -1,0 +1,13 @@
+use Rattle.std.proofs.Common.{◌∙◌, sym, arith, refl}
+use Rattle.slab.specs.Slab.{get}
+use Rattle.range_store.specs.Nodes.{items_of, numbers}
+use Rattle.range_store.proofs.Runs.{leaf_within, prev_in_run}
+use Rattle.range_store.proofs.btree.tree.NumberTree.before.Goals as goal
+
+pub returns-then-spot-gt0 : goal.returns-then-spot-gt0
+returns-then-spot-gt0 c =
+    let s = c.self.inside in
+    let stands = c.if-stands_in_leaf.ensures refl in
+    let once = rw (← c.self.view_is) at c.requires in
+    let run = leaf_within s.nodes s.levels s.root c.args.spot.node c.self.invariant stands.present stands.childless in
+    rw (← c.self.view_is, c.found_at.ensures) (λ r within at. prev_in_run (items_of (get s.nodes c.args.spot.node)) (numbers s.nodes s.levels s.root) c.args.spot.index r run once (omega arith) stands.within within (at ∙ sym stands.is))

@@ -1,0 +1,52 @@
+use Rattle.std.proofs.Common.{◌≡◌, suc, ◌-◌, ◌∙◌, length, ap, arith}
+use Rattle.std.specs.List.{remove}
+use Rattle.std.proofs.lemmas.List.Edits.{length-remove}
+use Rattle.range_store.specs.Nodes.{numbers}
+use Rattle.range_store.proofs.Rank.{levels_some, root_shaped}
+use Rattle.range_store.proofs.Settling.{loosened, loosened_numbers, tree_owned}
+use Rattle.range_store.proofs.btree.tree.NumberTree.remove.Goals as goal
+
+pub overflow_sub-self-inside : goal.overflow_sub-self-inside
+overflow_sub-self-inside c =
+    omega (arith, levels_some c.self.inside.nodes c.self.inside.levels c.self.inside.root c.args.rank (rw (← c.self.view_is) at c.requires))
+
+pub remove_below-number-requires : goal.remove_below-number-requires
+remove_below-number-requires c =
+    let within = rw (← c.self.view_is) at c.requires in
+    let some = levels_some c.self.inside.nodes c.self.inside.levels c.self.inside.root c.args.rank within in
+    let level : suc (c.self.inside.levels - 1) ≡ c.self.inside.levels = omega arith in
+    record {
+      shaped = root_shaped c.self.inside.nodes c.self.inside.levels c.self.inside.root some c.self.invariant;
+      owned = rw level (tree_owned c.self.inside.nodes c.self.inside.levels c.self.inside.root c.self.invariant);
+      within = rw level within;
+    }
+
+pub settle-root-requires : goal.settle-root-requires
+settle-root-requires c =
+    let within = rw (← c.self.view_is) at c.requires in
+    let some = levels_some c.self.inside.nodes c.self.inside.levels c.self.inside.root c.args.rank within in
+    loosened c.self.inside.nodes c.remove_below-number.new.nodes c.self.inside.levels c.self.inside.root _ some c.self.invariant c.remove_below-number.ensures.shrinks
+
+pub returns-clause-value : goal.returns-clause-value
+returns-clause-value c =
+    let within = rw (← c.self.view_is) at c.requires in
+    let some = levels_some c.self.inside.nodes c.self.inside.levels c.self.inside.root c.args.rank within in
+    let level : suc (c.self.inside.levels - 1) ≡ c.self.inside.levels = omega arith in
+    rw (← c.self.view_is) (rw level at c.remove_below-number.ensures.value)
+
+pub returns-clause-numbers : goal.returns-clause-numbers
+returns-clause-numbers c =
+    let within = rw (← c.self.view_is) at c.requires in
+    let some = levels_some c.self.inside.nodes c.self.inside.levels c.self.inside.root c.args.rank within in
+    let level : suc (c.self.inside.levels - 1) ≡ c.self.inside.levels = omega arith in
+    c.settle-root.ensures.numbers ∙ loosened_numbers c.self.inside.nodes c.remove_below-number.new.nodes c.self.inside.levels c.self.inside.root _ some c.remove_below-number.ensures.shrinks
+    ∙ ap (λ m. remove (numbers c.self.inside.nodes m c.self.inside.root) c.args.rank) level ∙ ap (λ v. remove v.numbers c.args.rank) c.self.view_is
+
+pub returns-clause-room : goal.returns-clause-room
+returns-clause-room c =
+    let within = rw (← c.self.view_is) at c.requires in
+    let some = levels_some c.self.inside.nodes c.self.inside.levels c.self.inside.root c.args.rank within in
+    let level : suc (c.self.inside.levels - 1) ≡ c.self.inside.levels = omega arith in
+    let list = c.settle-root.ensures.numbers ∙ loosened_numbers c.self.inside.nodes c.remove_below-number.new.nodes c.self.inside.levels c.self.inside.root _ some c.remove_below-number.ensures.shrinks
+    ∙ ap (λ m. remove (numbers c.self.inside.nodes m c.self.inside.root) c.args.rank) level in
+    omega (arith, ap length list, length-remove (numbers c.self.inside.nodes c.self.inside.levels c.self.inside.root) c.args.rank within, c.settle-root.ensures.capacity, c.remove_below-number.ensures.shrinks.woven.capacity, ap (λ v. v.room) c.self.view_is)

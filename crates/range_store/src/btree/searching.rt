@@ -1,0 +1,73 @@
+//! A search below a node, which halves within each node on its way.
+ghost use Rattle.std.specs.Prelude.{◌≡◌, ℕ, suc, ◌+◌, ◌-◌, ◌*◌, ◌<◌, ◌≤◌, length, count_by};
+ghost use Rattle.slab.specs.Slab.{get, ContainsKey};
+ghost use Rattle.range_store.specs.Counting.{AddsSteps};
+ghost use Rattle.range_store.specs.Falling.{Falls, passes};
+ghost use Rattle.range_store.specs.Listed.{Stored};
+ghost use Rattle.range_store.specs.Nodes.{numbers, items_of, ShapedBut};
+
+use crate::btree::node::{
+    MOST, Node, child_at, children_before, count, item_at, item_count, total,
+};
+use crate::storage::Probe;
+use slab::Slab;
+
+// How often a node is asked at most.
+pub const HALVINGS: usize = 3;
+
+// How many items of a node pass, found by halving.
+pub fn halve<T, P: Probe<T>>(
+    nodes: &Slab<Node>,
+    items: &Slab<T>,
+    number: usize,
+    probe: &mut P,
+) -> usize
+    requires present { ContainsKey nodes.now number }
+    requires stored { Stored items.now (items_of (get nodes.now number)) }
+    requires falls { Falls (passes items.now (P.test probe.old)) (items_of (get nodes.now number)) }
+    requires some { 0 < length (items_of (get nodes.now number)) }
+    requires fits { length (items_of (get nodes.now number)) ≤ MOST }
+    ensures count { result ≡ count_by (passes items.now (P.test probe.old)) (items_of (get nodes.now number)) }
+    ensures kept { P.test probe.new ≡ P.test probe.old }
+    ensures asked { AddsSteps (P.steps_taken probe.old) (P.steps_taken probe.new) 1 HALVINGS }
+{
+    let mut low = 0;
+    let mut high = item_count(nodes, number);
+    while low < high {
+        let middle = low + (high - low) / 2;
+        let item = item_at(nodes, number, middle);
+        if probe.ask(&items[item]) {
+            low = middle + 1;
+        } else {
+            high = middle;
+        }
+    }
+    low
+}
+
+// How many items below a node pass, by one descent to a leaf.
+pub fn search_below<T, P: Probe<T>>(
+    nodes: &Slab<Node>,
+    items: &Slab<T>,
+    below: usize,
+    number: usize,
+    probe: &mut P,
+) -> usize
+    requires shaped { ShapedBut 1 MOST nodes.now below number }
+    requires stored { Stored items.now (numbers nodes.now (suc below) number) }
+    requires falls { Falls (passes items.now (P.test probe.old)) (numbers nodes.now (suc below) number) }
+    ensures count { result ≡ count_by (passes items.now (P.test probe.old)) (numbers nodes.now (suc below) number) }
+    ensures kept { P.test probe.new ≡ P.test probe.old }
+    ensures asked { AddsSteps (P.steps_taken probe.old) (P.steps_taken probe.new) (suc below) (HALVINGS * suc below) }
+{
+    let index = halve(nodes, items, number, probe);
+    if below == 0 {
+        return index;
+    }
+    let _whole = count(nodes, number);
+    let front = children_before(nodes, number, index);
+    let skipped = total(nodes, front.as_slice());
+    let child = child_at(nodes, number, index);
+    let later = search_below(nodes, items, below - 1, child, probe);
+    index + skipped + later
+}
