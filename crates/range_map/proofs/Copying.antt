@@ -20,7 +20,7 @@ use Rattle.range_algebra.specs.RangeOrder.{range_cmp, range_total}
 use Rattle.range_algebra.specs.declared.any.AnyRange.{AnyRange}
 use Rattle.range_store.specs.declared.storage.Item.{Item}
 use Rattle.range_map.specs.Copies.{IsCopyOf}
-use Rattle.range_map.specs.Ranges.{LiesBefore, Touches}
+use Rattle.range_algebra.specs.Relations.{LiesBefore, Touches}
 use Rattle.range_map.specs.Stored.{IsStored}
 use Rattle.range_map.proofs.Forms.{before_is, nonempty_good, touches_is}
 use Rattle.range_map.proofs.Listed.{IsListed, listed, stored_by}

@@ -27,9 +27,9 @@ use Rattle.std.specs.Option.{unwrap_or}
 use Rattle.range_algebra.specs.Orders.{eq_le, eq_ge}
 use Rattle.range_algebra.specs.Chains.{Trails}
 use Rattle.range_algebra.specs.Joins.{left_apart, left_joined, right_apart, right_joined, leading_last, trailing_first, bound}
-use Rattle.range_map.specs.Ranges.{Touches}
+use Rattle.range_algebra.specs.Relations.{Touches}
 use Rattle.range_map.specs.Changes.{IsInserted, IsRemoved}
-use Rattle.range_map.specs.Ranges.{Meets}
+use Rattle.range_map.specs.Ranges.{Overlap}
 use Rattle.range_map.specs.Frames.{GaveWayTo, WasCutOut}
 use Rattle.range_map.proofs.Forms.{before_is}
 use Rattle.range_map.proofs.Windows.{every_both}
@@ -346,6 +346,6 @@ module _ {K : Type 0} (order : KeyOrder K) (lawful : IsLawful order) {V : Type 0
         record {
           stored = rw list (chain_stored order lawful same equal (front ++ behind) others result.chain);
           unbound = rw list (unbound_after order lawful same equal items (front ++ behind) r known all others result);
-          apart = rw list (every_append (λ i. Meets order i.key r → ⊥) front behind before after);
+          apart = rw list (every_append (λ i. Overlap order i.key r → ⊥) front behind before after);
           frame = frame;
         }

@@ -16,7 +16,8 @@ use Rattle.range_algebra.proofs.Lists.{parts, parts_at, every_at}
 use Rattle.range_map.proofs.Edging.{element}
 use Rattle.range_store.specs.declared.storage.Item.{Item}
 use Rattle.range_map.specs.ItemCuts.{item_lower, item_upper}
-use Rattle.range_map.specs.Ranges.{LiesBefore, Meets}
+use Rattle.range_algebra.specs.Relations.{LiesBefore}
+use Rattle.range_map.specs.Ranges.{Overlap}
 use Rattle.range_map.specs.Stored.{IsStored}
 use Rattle.range_map.specs.Window.{IsWindow, option_items}
 use Rattle.range_map.specs.declared.window.Window.{Window}
@@ -146,40 +147,40 @@ module _ {K : Type 0} (order : KeyOrder K) (lawful : IsLawful order) {V : Type 0
         (every_append _ (take (end - 1) items) (last ∷ []) (every_weaker _ _ (take (end - 1) items) (λ i h. lt_trans cmp total (item_lower order i) (item_upper order i) (upper order r) h.1 (le_lt_trans cmp total (item_upper order i) (item_lower order last) (upper order r) h.0.0 meets)) (every_both _ _ (take (end - 1) items) ordered full)) (meets, tt))))
 
     -- each item of the window meets the range
-    pub window_meets : (d : Item (AnyRange K) V) → 0 < w.count → Every (λ i. Meets order i.key r) (take w.count (drop place items))
+    pub window_meets : (d : Item (AnyRange K) V) → 0 < w.count → Every (λ i. Overlap order i.key r) (take w.count (drop place items))
     window_meets d some =
         let before = every_left (λ i. LiesBefore order i.key r → ⊥) (take w.count (drop place items)) (drop w.count (drop place items)) (rw (parts (drop place items) w.count) at not_before) in
         let front = take (place + w.count) items in
         let behind = every_right (λ i. LiesBefore order r i.key → ⊥) (take place front) (drop place front) (rw (parts front place) at (not_behind d some)) in
         every_both (λ i. LiesBefore order i.key r → ⊥) (λ i. LiesBefore order r i.key → ⊥) (take w.count (drop place items)) before (rw (drop-take place w.count items) at behind)
 
-    meets_by : (n : ℕ) → w.count ≡ n → Every (λ i. Meets order i.key r) (take w.count (drop place items))
+    meets_by : (n : ℕ) → w.count ≡ n → Every (λ i. Overlap order i.key r) (take w.count (drop place items))
     meets_by zero e = rw e tt
     meets_by (suc n) e = window_meets (element items place (omega (arith, e, window.in_range))) (omega arith)
 
-    pub all_meet : Every (λ i. Meets order i.key r) (take w.count (drop place items))
+    pub all_meet : Every (λ i. Overlap order i.key r) (take w.count (drop place items))
     all_meet = meets_by w.count refl
 
     -- a window that is not empty holds an item that meets the range
-    pub some_meets : 0 < w.count → Every (λ i. Meets order i.key r → ⊥) items → ⊥
+    pub some_meets : 0 < w.count → Every (λ i. Overlap order i.key r → ⊥) items → ⊥
     some_meets some none =
         let within : place < length items = omega (arith, some, window.in_range) in
         let x = element items place within in
         let size = run_size items place w.count window.in_range in
-        let met = every_at (λ i. Meets order i.key r) (take w.count (drop place items)) 0 x all_meet (omega (arith, size)) in
+        let met = every_at (λ i. Overlap order i.key r) (take w.count (drop place items)) 0 x all_meet (omega (arith, size)) in
         let plus : place + 0 ≡ place = omega arith in
         let there : get_or (take w.count (drop place items)) 0 x ≡ get_or items place x = get_or-take w.count (drop place items) 0 x some ∙ (get_or-drop place items 0 x ∙ ap (λ n. get_or items n x) plus) in
-        every_at (λ i. Meets order i.key r → ⊥) items place x none within (subst (λ (y : Item (AnyRange K) V). Meets order y.key r) there met)
+        every_at (λ i. Overlap order i.key r → ⊥) items place x none within (subst (λ (y : Item (AnyRange K) V). Overlap order y.key r) there met)
 
     -- an empty window leaves no item that meets the range
-    pub none_meets : w.count ≡ 0 → Every (λ i. Meets order i.key r → ⊥) items
+    pub none_meets : w.count ≡ 0 → Every (λ i. Overlap order i.key r → ⊥) items
     none_meets none =
         let all = stored_known order lawful same equal items stored in
         let at : place + w.count ≡ place = omega (arith, none) in
         let behind : Every (λ i. Le (places order lawful) (upper order r) (item_lower order i)) (drop place items) = rw at at window.behind in
         let before = every_weaker _ _ (take place items) (λ i h m. m.0 ((before_is order lawful i.key.end r.start h.0.1 known.0).1 h.1)) (every_both (λ i. IsKnownRange order i.key) _ (take place items) (known_take order lawful same equal items place all) window.below) in
         let after = every_weaker _ _ (drop place items) (λ i h m. m.1 ((before_is order lawful r.end i.key.start known.1 h.0.0).1 h.1)) (every_both (λ i. IsKnownRange order i.key) _ (drop place items) (known_drop order lawful same equal items place all) behind) in
-        rw (parts items place) (every_append (λ i. Meets order i.key r → ⊥) (take place items) (drop place items) before after)
+        rw (parts items place) (every_append (λ i. Overlap order i.key r → ⊥) (take place items) (drop place items) before after)
 
     -- nothing gives way to nothing
     pub not_cut : WasCutOut order same items items r
@@ -218,7 +219,7 @@ module _ {K : Type 0} (order : KeyOrder K) (lawful : IsLawful order) {V : Type 0
         }
 
     pub gave_way : (new : List (Item (AnyRange K) V)) (v : V) (m : Item (AnyRange K) V) (at end : ℕ) (left right : Option (Item (AnyRange K) V)) (start finish : Option (Bound K)) →
-        Every (λ i. Meets order i.key r) (take w.count (drop place items)) →
+        Every (λ i. Overlap order i.key r) (take w.count (drop place items)) →
         IsLeftFrame order same items r v place w.count at left start → IsRightFrame order same items r v place w.count end right finish →
         length (option_items left) + length (option_items right) ≤ w.count + 1 →
         m.key.start ≡ unwrap_or start r.start → m.key.end ≡ unwrap_or finish r.end → same m.value v ≡ true → (w.count ≡ 0 → m.value ≡ v) →

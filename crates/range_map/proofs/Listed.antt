@@ -14,7 +14,7 @@ use Rattle.range_algebra.specs.Orders.{le_lt_trans}
 use Rattle.range_algebra.specs.declared.any.AnyRange.{AnyRange}
 use Rattle.range_store.specs.declared.storage.Item.{Item}
 use Rattle.range_map.specs.Neighbours.{EachNext}
-use Rattle.range_map.specs.Ranges.{LiesBefore, Touches}
+use Rattle.range_algebra.specs.Relations.{LiesBefore, Touches}
 use Rattle.range_map.specs.Stored.{IsFollowedBy, IsStored}
 
 pub less_test : (o : Ordering) → IsTrue (is_lt o) ↔ o ≡ Less

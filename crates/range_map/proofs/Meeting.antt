@@ -27,7 +27,7 @@ use Rattle.range_store.specs.declared.storage.Item.{Item}
 use Rattle.range_map.specs.Bindings.{IsBound, BindsTo, Binds}
 use Rattle.range_map.specs.ItemCuts.{item_lower, item_upper}
 use Rattle.range_map.specs.Lookups.{MeetsSome, BindsKeyOf}
-use Rattle.range_map.specs.Ranges.{Meets}
+use Rattle.range_map.specs.Ranges.{Overlap}
 use Rattle.range_map.specs.Stored.{IsStored}
 use Rattle.range_map.proofs.Forms.{Chained, stored_chain}
 
@@ -61,7 +61,7 @@ module _ {K : Type 0} (order : KeyOrder K) (lawful : IsLawful order) where
   End r = end_position order r.end
 
   -- ranges that hold the same key meet
-  shared_meets : (r s : AnyRange K) (k : K) → order.is_key k → Holds order r k → Holds order s k → Meets order r s
+  shared_meets : (r s : AnyRange K) (k : K) → order.is_key k → Holds order r k → Holds order s k → Overlap order r s
   shared_meets r s k key h g =
       let total = position_total order.cmp lawful.total in
       let cmp = position_cmp order.cmp in
@@ -97,7 +97,7 @@ module _ {K : Type 0} (order : KeyOrder K) (lawful : IsLawful order) where
       ]
 
   -- over complete keys ranges that meet share a key
-  shared_key : (r s : AnyRange K) → IsComplete order → IsKnownRange order r → IsKnownRange order s → (IsEmptyRange order r → ⊥) → (IsEmptyRange order s → ⊥) → Meets order r s → (k : K) × order.is_key k × Holds order r k × Holds order s k
+  shared_key : (r s : AnyRange K) → IsComplete order → IsKnownRange order r → IsKnownRange order s → (IsEmptyRange order r → ⊥) → (IsEmptyRange order s → ⊥) → Overlap order r s → (k : K) × order.is_key k × Holds order r k × Holds order s k
   shared_key r s complete known others full full_s meets =
       let total = position_total order.cmp lawful.total in
       let cmp = position_cmp order.cmp in
@@ -148,7 +148,7 @@ module _ {K : Type 0} (order : KeyOrder K) (lawful : IsLawful order) where
     none_meets items r place below at h =
         let le : length items ≤ place = omega arith in
         let all : Every (λ i. PLt (End i.key) (Start r)) items = rw (take_all place items le) at below in
-        any_none (λ i. Meets order i.key r) (λ i. PLt (End i.key) (Start r)) items all (λ i l meets. meets.0 l) h
+        any_none (λ i. Overlap order i.key r) (λ i. PLt (End i.key) (Start r)) items all (λ i l meets. meets.0 l) h
 
     -- it starts within the range at the latest
     pub met_at : (items : List (Item (AnyRange K) V)) (r : AnyRange K) (place : ℕ) (x : Item (AnyRange K) V) → place < length items → x ≡ get_or items place x → Every (λ i. PLe (Start r) (End i.key)) (drop place items) → false ≡ is_gt (position_cmp order.cmp (Start x.key) (End r)) → MeetsSome order items r
@@ -157,7 +157,7 @@ module _ {K : Type 0} (order : KeyOrder K) (lawful : IsLawful order) where
         let cmp = position_cmp order.cmp in
         let more : drop place items ≡ x ∷ drop (place + 1) items = drop_more items place x within ∙ ap (λ y. y ∷ drop (place + 1) items) (sym read) in
         let ends : Every (λ i. PLe (Start r) (End i.key)) (x ∷ drop (place + 1) items) = rw more at above in
-        any_at (λ i. Meets order i.key r) items place x within read (λ l. lt_not_le cmp total (End x.key) (Start r) l ends.0, λ l. lt_not_le cmp total (End r) (Start x.key) l (sym starts))
+        any_at (λ i. Overlap order i.key r) items place x within read (λ l. lt_not_le cmp total (End x.key) (Start r) l ends.0, λ l. lt_not_le cmp total (End r) (Start x.key) l (sym starts))
 
     module _ (same : V → V → Bool) (equal : IsEquivalence same) where
       -- the first that does not end before the range starts past it
@@ -173,9 +173,9 @@ module _ {K : Type 0} (order : KeyOrder K) (lawful : IsLawful order) where
           let over : PLt (End r) (Start x.key) = not_le_end (Start x.key) (End r) past in
           let behind : Every (λ i. PLt (End r) (Start i.key)) (x ∷ drop (place + 1) items) = every_weaker _ _ (x ∷ drop (place + 1) items) (λ i l. lt_le_trans cmp total (End r) (Start x.key) (Start i.key) over l) above in
           let parted : MeetsSome order (take place items ++ x ∷ drop (place + 1) items) r = rw split at h in
-          elim (any_split (λ i. Meets order i.key r) (take place items) (x ∷ drop (place + 1) items) parted) [
-            | inl k ↦ any_none (λ i. Meets order i.key r) (λ i. PLt (End i.key) (Start r)) (take place items) below (λ i l meets. meets.0 l) k
-            | inr k ↦ any_none (λ i. Meets order i.key r) (λ i. PLt (End r) (Start i.key)) (x ∷ drop (place + 1) items) behind (λ i l meets. meets.1 l) k
+          elim (any_split (λ i. Overlap order i.key r) (take place items) (x ∷ drop (place + 1) items) parted) [
+            | inl k ↦ any_none (λ i. Overlap order i.key r) (λ i. PLt (End i.key) (Start r)) (take place items) below (λ i l meets. meets.0 l) k
+            | inr k ↦ any_none (λ i. Overlap order i.key r) (λ i. PLt (End r) (Start i.key)) (x ∷ drop (place + 1) items) behind (λ i l meets. meets.1 l) k
           ]
 
       -- the first that does not end before a nonempty range decides

@@ -3,7 +3,7 @@ use Rattle.std.proofs.Common.{◌≡◌, ℕ, ◌+◌, ◌-◌, ◌<◌, ◌≤�
 use Rattle.std.proofs.lemmas.List.{append-nil, take_more, drop_more}
 use Rattle.range_algebra.specs.Chains.{any_left, any_right}
 use Rattle.range_algebra.specs.Intervals.{Every}
-use Rattle.range_map.specs.Ranges.{Touches}
+use Rattle.range_algebra.specs.Relations.{Touches}
 use Rattle.range_map.specs.Frames.{IsPart}
 use Rattle.range_map.proofs.Framing.{any_of_run, run_some}
 use Rattle.std.specs.Cmp.{IsEquivalence}

@@ -22,7 +22,7 @@ use Rattle.range_algebra.proofs.Lists.{every_at}
 use Rattle.range_algebra.proofs.Places.{turned}
 use Rattle.range_store.specs.declared.storage.Item.{Item}
 use Rattle.range_map.specs.Neighbours.{EachNext}
-use Rattle.range_map.specs.Ranges.{LiesBefore}
+use Rattle.range_algebra.specs.Relations.{LiesBefore}
 use Rattle.range_map.specs.Searches.{ElementIsBefore}
 use Rattle.range_map.proofs.Forms.{before_is}
 

@@ -5,7 +5,7 @@ use Rattle.range_algebra.specs.declared.any.AnyRange.{AnyRange}
 use Rattle.range_store.specs.declared.storage.Item.{Item}
 use Rattle.range_map.specs.Stored.{IsStored}
 use Rattle.range_algebra.specs.Intervals.{Every}
-use Rattle.range_map.specs.Ranges.{Meets}
+use Rattle.range_map.specs.Ranges.{Overlap}
 use Rattle.range_map.specs.Frames.{GaveWayTo, WasCutOut}
 use Rattle.range_map.specs.Bindings.{IsBoundAfter, IsUnboundAfter}
 
@@ -18,5 +18,5 @@ module _ {K : Type 0} (order : KeyOrder K) {V : Type 0} (same : V → V → Bool
   pub record IsRemoved (items new : List (Item (AnyRange K) V)) (r : AnyRange K) : Type 0 where
     pub stored : IsStored order same new
     pub unbound : IsUnboundAfter order same items new r
-    pub apart : Every (λ i. ¬ Meets order i.key r) new
+    pub apart : Every (λ i. ¬ Overlap order i.key r) new
     pub frame : WasCutOut order same items new r

@@ -20,7 +20,7 @@ use Rattle.range_algebra.specs.Sides.{IsLeft, IsRight}
 use Rattle.range_algebra.specs.Joins.{IsLeftOf, IsRightOf}
 use Rattle.range_algebra.specs.Cuts.{past, lower, upper}
 use Rattle.range_map.specs.ItemCuts.{item_lower, item_upper}
-use Rattle.range_map.specs.Ranges.{Touches}
+use Rattle.range_algebra.specs.Relations.{Touches}
 use Rattle.range_map.specs.Window.{option_items}
 
 module _ {K : Type 0} (order : KeyOrder K) {V : Type 0} (same : V → V → Bool) where

@@ -7,7 +7,8 @@ use Rattle.range_algebra.specs.Intervals.{Any, Every}
 use Rattle.range_algebra.specs.declared.any.AnyRange.{AnyRange}
 use Rattle.range_store.specs.declared.storage.Item.{Item}
 use Rattle.range_map.specs.Edits.{turned_bound}
-use Rattle.range_map.specs.Ranges.{Meets, Touches}
+use Rattle.range_algebra.specs.Relations.{Touches}
+use Rattle.range_map.specs.Ranges.{Overlap}
 
 module _ {K : Type 0} (order : KeyOrder K) {V : Type 0} where
   -- the start is that of the range or of a run's item, or begins just behind the range
@@ -25,7 +26,7 @@ module _ {K : Type 0} (order : KeyOrder K) {V : Type 0} where
 
     -- the item meets the range, or touches it with an equal value
     abbrev pub JoinsOrMeets : AnyRange K → V → Item (AnyRange K) V → Type 0
-    JoinsOrMeets r v i = Meets order i.key r ⊎ ((Touches order i.key r ⊎ Touches order r i.key) × IsTrue (same_value i.value v))
+    JoinsOrMeets r v i = Overlap order i.key r ⊎ ((Touches order i.key r ⊎ Touches order r i.key) × IsTrue (same_value i.value v))
 
     -- the bounds and the value of an item that is put in the place of a run, where the range is bound to v
     pub record IsNewItem (run : List (Item (AnyRange K) V)) (r : AnyRange K) (v : V) (j : Item (AnyRange K) V) : Type 0 where
@@ -60,7 +61,7 @@ module _ {K : Type 0} (order : KeyOrder K) {V : Type 0} where
       pub behind : List (Item (AnyRange K) V)
       pub before : items ≡ front ++ run ++ behind
       pub after : new ≡ front ++ others ++ behind
-      pub concerned : Every (λ i. Meets order i.key r) run
+      pub concerned : Every (λ i. Overlap order i.key r) run
       pub few : length others ≤ length run + 1
       pub whole : run ≡ [] → others ≡ []
       pub made : Every (IsPart run r) others

@@ -6,17 +6,18 @@ use Rattle.range_algebra.specs.Range.{Holds}
 use Rattle.range_algebra.specs.declared.any.AnyRange.{AnyRange}
 use Rattle.range_store.specs.declared.storage.Item.{Item}
 use Rattle.range_map.specs.Bindings.{IsBound}
-use Rattle.range_map.specs.Ranges.{Meets, Touches}
+use Rattle.range_algebra.specs.Relations.{Touches}
+use Rattle.range_map.specs.Ranges.{Overlap}
 
 module _ {K : Type 0} (order : KeyOrder K) where
   -- the ranges meet, or one starts where the other ends
   abbrev pub IsConnectedTo : AnyRange K → AnyRange K → Type 0
-  IsConnectedTo r s = Meets order r s ⊎ (Touches order r s ⊎ Touches order s r)
+  IsConnectedTo r s = Overlap order r s ⊎ (Touches order r s ⊎ Touches order s r)
 
   module _ {V : Type 0} where
     -- some stored range meets the range
     abbrev pub MeetsSome : List (Item (AnyRange K) V) → AnyRange K → Type 0
-    MeetsSome items r = Any (λ i. Meets order i.key r) items
+    MeetsSome items r = Any (λ i. Overlap order i.key r) items
 
     -- some stored range meets or touches it
     abbrev pub IsConnectedToSome : List (Item (AnyRange K) V) → AnyRange K → Type 0

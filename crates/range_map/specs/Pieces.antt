@@ -11,7 +11,8 @@ use Rattle.range_algebra.specs.RangeOrder.{range_cmp}
 use Rattle.range_algebra.specs.declared.any.AnyRange.{AnyRange}
 use Rattle.range_store.specs.declared.storage.Item.{Item}
 use Rattle.range_map.specs.Neighbours.{EachNext}
-use Rattle.range_map.specs.Ranges.{LiesBefore, Meets}
+use Rattle.range_algebra.specs.Relations.{LiesBefore}
+use Rattle.range_map.specs.Ranges.{Overlap}
 
 module _ {K : Type 0} (order : KeyOrder K) where
   abbrev pub later : Position K → Position K → Position K
@@ -36,7 +37,7 @@ module _ {K : Type 0} (order : KeyOrder K) where
       pub known : IsKnownRange order part
       pub nonempty : ¬ IsEmptyRange order part
       pub within : LiesIn part r
-      pub free : Every (λ i. ¬ Meets order i.key part) items
+      pub free : Every (λ i. ¬ Overlap order i.key part) items
 
     -- a part of r with the value of the item that it is a part of, or a free one that is as wide as it goes
     abbrev pub IsPiece : AnyRange K → Option V → Type 0

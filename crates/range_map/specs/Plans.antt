@@ -9,7 +9,7 @@ use Rattle.range_store.specs.Places.{IsAt}
 use Rattle.range_map.specs.declared.edges.Edge.{Edge}
 use Rattle.std.specs.Option.{unwrap_or}
 use Rattle.range_algebra.specs.Intervals.{Every}
-use Rattle.range_map.specs.Ranges.{Touches}
+use Rattle.range_algebra.specs.Relations.{Touches}
 use Rattle.range_map.specs.Frames.{IsStartOf, IsEndOf, IsNewItem}
 use Rattle.range_map.specs.Window.{option_items}
 use Rattle.range_map.specs.Edges.{IsLeftEdge, IsRightEdge, IsLeftShape, IsRightShape, joined_count}

@@ -6,7 +6,7 @@ ghost use Rattle.range_map.specs.Stored.{IsStored};
 ghost use Rattle.range_map.specs.Window.{IsWindow, option_items};
 ghost use Rattle.range_map.specs.Reach.{ReachesBefore, ReachesBehind};
 ghost use Rattle.range_algebra.specs.Intervals.{Every};
-ghost use Rattle.range_map.specs.Ranges.{Meets};
+ghost use Rattle.range_map.specs.Ranges.{Overlap};
 ghost use Rattle.range_map.specs.Changes.{IsRemoved};
 
 use crate::change::{clear, divide};
@@ -117,8 +117,8 @@ pub(crate) fn unbind<K: PartialEnum, V: Eq + Clone, C: Storage<Item<AnyRange<K>,
     requires nonempty { ¬ IsEmptyRange K.order range }
     ensures ok { OnOk result (IsRemoved K.order V.eq (C.items stored.old) (C.items stored.new) range) }
     ensures refused { OnErr result (C.items stored.new ≡ C.items stored.old) }
-    ensures unmet { Every (λ i. ¬ Meets K.order i.key range) (C.items stored.old) → IsOk result }
-    ensures unmet_unchanged { Every (λ i. ¬ Meets K.order i.key range) (C.items stored.old) → C.items stored.new ≡ C.items stored.old }
+    ensures unmet { Every (λ i. ¬ Overlap K.order i.key range) (C.items stored.old) → IsOk result }
+    ensures unmet_unchanged { Every (λ i. ¬ Overlap K.order i.key range) (C.items stored.old) → C.items stored.new ≡ C.items stored.old }
 {
     inner::known(&range);
     let window = find_window::<K, V, C>(stored, &range);

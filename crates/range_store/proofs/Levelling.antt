@@ -2,7 +2,7 @@
 use Rattle.std.proofs.Common.{◌≡◌, ◌≢◌, ℕ, zero, suc, ◌+◌, ◌-◌, ◌/◌, ◌<◌, ◌≤◌, ◌^◌, List, [], ◌∷◌, ◌++◌, length, get_or, take, drop, map, refl, sym, ap, ◌∙◌, add-one, arith, Some}
 use Rattle.std.specs.List.{All, flat_map, remove}
 use Rattle.std.proofs.Math.ListN.{set}
-use Rattle.std.proofs.lemmas.List.{append_assoc, append-nil, length-append, drop_more, take_more, length-take-le, length-drop}
+use Rattle.std.proofs.lemmas.List.{append_assoc, append-nil, length-append, drop_more, take_more, length-take-le, length-drop, length-set}
 use Rattle.std.proofs.lemmas.List.Elements.{All-nil, All-cons, All-weaker}
 use Rattle.slab.specs.Slab.{Slab, get}
 use Rattle.range_store.specs.declared.btree.node.Node.{Node}
@@ -206,3 +206,6 @@ module _ (s t : Slab Node) (low n j : ℕ) (pair : IsLevelled s low n j) (pool :
         (rw cut_kept at children) ∙ set_parts kids (j + 1) split.right (omega (arith, many s low n j pair, pair.within)) ∙ ap (λ m. take (j + 1) kids ++ (split.right ∷ drop m kids)) far ∙ ap (λ zs. zs ++ (split.right ∷ drop (j + 2) kids)) (take_more kids j 0 wide) ∙ append_assoc (take j kids) (l s low n j pair ∷ []) (split.right ∷ drop (j + 2) kids) in
         let two = All-weaker (ShapedBut LEAST MOST u low) (Shaped u (suc low)) (λ k. Shaped-from_but u low k) (l s low n j pair ∷ split.right ∷ []) (cut.shape LEAST (omega arith) tt) in
         levelled u v (l s low n j pair ∷ split.right ∷ []) (split.middle ∷ []) (split.right ∷ []) (Replaces-woven MOST t u low (l s low n j pair) (Some split) (numbers t (suc low) (l s low n j pair)) cut) refl refl (omega arith) cut.listed two written items' children' (rw cut_kept at count)
+
+    pub bordered_size : (v : Slab Node) → items_of (get v n) ≡ set (items_of (get u n)) j split.middle → length (items_of (get v n)) ≡ length (items_of (get s n))
+    bordered_size v items = ap length (rw cut_kept at items) ∙ length-set (items_of (get s n)) j split.middle

@@ -6,7 +6,7 @@ use Rattle.std.proofs.lemmas.List.Elements.{All-cons, All-head, All-tail, All-ap
 use Rattle.slab.specs.Slab.{Slab, get}
 use Rattle.range_store.specs.declared.btree.node.Node.{Node}
 use Rattle.range_store.specs.declared.btree.node.TheConstants.{MOST, LEAST}
-use Rattle.range_store.specs.Nodes.{items_of, children_of, numbers, Shaped, ShapedBut, Shrinks, IsMendable, IsLevelled}
+use Rattle.range_store.specs.Nodes.{items_of, children_of, numbers, Shaped, ShapedBut, Shrinks, IsMendable, IsLevelled, child_size}
 use Rattle.range_store.proofs.Below.{Shaped-is_child}
 use Rattle.range_store.proofs.Replace.{parts, Shaped-from_but, Shaped-but}
 use Rattle.range_store.proofs.Room.{wider}
@@ -111,3 +111,10 @@ module _ (s : Slab Node) (low n i : ℕ) (m : IsMendable s low n i) where
   pub pair_levelled : (j : ℕ) → j < length xs → (j ≡ i) ⊎ (j + 1 ≡ i) → length (items_of (get s kid)) < LEAST → IsLevelled s low n j
   pair_levelled j within (inl same) short = rw same (with_behind (omega arith) short)
   pair_levelled j within (inr next) short = with_before j next short
+
+  -- a short child and one with an item to spare have enough for both
+  pub enough_to_share : (j : ℕ) → (j ≡ i) ⊎ (j + 1 ≡ i) → child_size s n i < LEAST → (LEAST < child_size s n j) ⊎ (LEAST < child_size s n (j + 1)) → LEAST + LEAST < child_size s n j + 1 + child_size s n (j + 1)
+  enough_to_share j (inl same) short (inl spare) = let here : child_size s n j ≡ child_size s n i = rw same refl in absurd (omega arith)
+  enough_to_share j (inl same) short (inr spare) = let here : child_size s n j ≡ child_size s n i = rw same refl in omega (arith, m.child.node.enough)
+  enough_to_share j (inr next) short (inl spare) = let here : child_size s n (j + 1) ≡ child_size s n i = rw next refl in omega (arith, m.child.node.enough)
+  enough_to_share j (inr next) short (inr spare) = let here : child_size s n (j + 1) ≡ child_size s n i = rw next refl in absurd (omega arith)

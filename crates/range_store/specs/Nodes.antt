@@ -1,5 +1,5 @@
 -- What a slab of nodes means: the numbers of the items in order, the nodes in use, and the shape.
-use Rattle.std.specs.Prelude.{◌≡◌, ◌≢◌, ℕ, zero, suc, ◌+◌, ◌-◌, ◌*◌, ◌^◌, ◌<◌, ◌≤◌, List, [], ◌∷◌, ◌++◌, length, map, take, drop, Option, Some, None, IsSome, is_some, cond, slice_index, refl}
+use Rattle.std.specs.Prelude.{◌≡◌, ◌≢◌, ◌⊎◌, ℕ, zero, suc, ◌+◌, ◌-◌, ◌*◌, ◌^◌, ◌<◌, ◌≤◌, List, [], ◌∷◌, ◌++◌, length, map, take, drop, Option, Some, None, IsSome, is_some, cond, slice_index, refl}
 use Rattle.std.specs.Coded.{Coded, code_by, coded×, coded_ℕ, coded_list}
 use Rattle.std.specs.List.{All, flat_map, sum_by}
 use Rattle.slab.specs.Slab.{Slab, get, slab_len, HasRoomFor}
@@ -191,6 +191,11 @@ pub record IsLooseTree (s : Slab Node) (levels root : ℕ) : Type 0 where
   pub once : (k : ℕ) → occurrences k (used s levels root) ≡ here s k
   pub len : slab_len s ≡ length (used s levels root)
 
+-- a tree with no more numbers than its capacity is counted for
+pub record IsRoomy (s : Slab Node) (levels root : ℕ) : Type 0 where
+  pub tree : IsTree s levels root
+  pub fits : length (numbers s levels root) ≤ LEAST * s.capacity
+
 -- a new node was stored under n, with these items and children
 pub record Stores (old new : Slab Node) (n : ℕ) (items children : List ℕ) (count : ℕ) : Type 0 where
   pub fresh : get old n ≡ None
@@ -263,3 +268,13 @@ pub record StandsIn (s : Slab Node) (n i number : ℕ) : Type 0 where
   pub childless : length (children_of (get s n)) ≡ 0
   pub within : i < length (items_of (get s n))
   pub is : slice_index (items_of (get s n)) i ≡ number
+
+-- how many items the child of n at k has
+abbrev pub child_size : Slab Node → ℕ → ℕ → ℕ
+child_size s n k = length (items_of (get s (slice_index (children_of (get s n)) k)))
+
+-- the child at k stands beside the one at i, and has an item to spare
+pub record IsLender (s : Slab Node) (n i k : ℕ) : Type 0 where
+  pub beside : (k + 1 ≡ i) ⊎ (k ≡ i + 1)
+  pub within : k ≤ length (items_of (get s n))
+  pub spare : LEAST < child_size s n k

@@ -2,7 +2,7 @@
 ghost use Rattle.std.specs.Prelude.{◌≡◌, ◌⊎◌, ℕ, suc, ◌+◌, ◌-◌, ◌*◌, ◌<◌, ◌≤◌, ◌^◌, length, slice_index, remove};
 ghost use Rattle.std.specs.List.{All};
 ghost use Rattle.slab.specs.Slab.{get, ContainsKey};
-ghost use Rattle.range_store.specs.Nodes.{numbers, items_of, children_of, ShapedBut, Owned, Shrinks, IsMendable, IsLevelled, IsTree, IsLooseTree};
+ghost use Rattle.range_store.specs.Nodes.{numbers, items_of, children_of, ShapedBut, Owned, Shrinks, IsMendable, IsLevelled, IsTree, IsLooseTree, IsLender, child_size};
 
 use crate::btree::insertion::{Root, cut_at};
 use crate::btree::node::{
@@ -15,7 +15,8 @@ use slab::Slab;
 // Levels the child at `index` with the one behind it: they become one, or two with as many items.
 pub fn level(nodes: &mut Slab<Node>, low: usize, number: usize, index: usize)
     requires { IsLevelled nodes.old low number index }
-    ensures { Shrinks nodes.old nodes.new (suc low) number (numbers nodes.old (suc (suc low)) number) }
+    ensures shrinks { Shrinks nodes.old nodes.new (suc low) number (numbers nodes.old (suc (suc low)) number) }
+    ensures shared { LEAST + LEAST < child_size nodes.old number index + 1 + child_size nodes.old number (index + 1) → length (items_of (get nodes.new number)) ≡ length (items_of (get nodes.old number)) }
 {
     let _whole = count(nodes, number);
     let _many = item_count(nodes, number);
@@ -41,6 +42,7 @@ pub fn pair_start(nodes: &Slab<Node>, number: usize, index: usize) -> usize
     requires within { index ≤ length (items_of (get nodes.now number)) }
     ensures inside { result < length (items_of (get nodes.now number)) }
     ensures near { (result ≡ index) ⊎ (result + 1 ≡ index) }
+    ensures spare { (k : ℕ) → IsLender nodes.now number index k → (LEAST < child_size nodes.now number result) ⊎ (LEAST < child_size nodes.now number (result + 1)) }
 {
     if index == 0 {
         return 0;
@@ -60,7 +62,8 @@ pub fn pair_start(nodes: &Slab<Node>, number: usize, index: usize) -> usize
 // Gives the child at `index` an item if it is short: from a neighbour that has one to spare, else by joining the two.
 pub fn mend(nodes: &mut Slab<Node>, low: usize, number: usize, index: usize)
     requires { IsMendable nodes.old low number index }
-    ensures { Shrinks nodes.old nodes.new (suc low) number (numbers nodes.old (suc (suc low)) number) }
+    ensures shrinks { Shrinks nodes.old nodes.new (suc low) number (numbers nodes.old (suc (suc low)) number) }
+    ensures lent { (k : ℕ) → IsLender nodes.old number index k → length (items_of (get nodes.new number)) ≡ length (items_of (get nodes.old number)) }
 {
     let child = child_at(nodes, number, index);
     if item_count(nodes, child) >= LEAST {

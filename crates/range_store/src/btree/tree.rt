@@ -32,7 +32,7 @@ impl Model for NumberTree {
     ghost coded = { ranked_code };
 
     ghost use Rattle.range_store.specs.declared.btree.node.TheConstants.{LEAST};
-    ghost use Rattle.range_store.specs.Nodes.{numbers as numbers_below, IsTree};
+    ghost use Rattle.range_store.specs.Nodes.{numbers as numbers_below, IsRoomy};
 
     ghost view = { λ t. record {
       numbers = numbers_below t.nodes t.levels t.root;
@@ -40,7 +40,7 @@ impl Model for NumberTree {
       levels = t.levels;
     } };
 
-    ghost invariant = { λ t. IsTree t.nodes t.levels t.root };
+    ghost invariant = { λ t. IsRoomy t.nodes t.levels t.root };
 }
 
 impl NumberTree {
@@ -149,7 +149,7 @@ impl NumberTree {
         requires { rank < length self.old.numbers }
         ensures value { result ≡ slice_index self.old.numbers rank }
         ensures numbers { self.new.numbers ≡ remove self.old.numbers rank }
-        ensures room { self.old.room ≤ self.new.room }
+        ensures room { self.new.room ≡ self.old.room + 1 }
     {
         let number = remove_below(&mut self.nodes, self.levels - 1, self.root, rank);
         let Root {
@@ -173,5 +173,119 @@ impl NumberTree {
             return 0;
         }
         search_below(&self.nodes, items, self.levels - 1, self.root, probe)
+    }
+}
+
+#[cfg(test)]
+mod tests {
+    use super::*;
+    use std::process::Abort;
+    use std::test::Fail;
+
+    // Puts a number at a rank.
+    fn put(rt: &impl Abort, tree: &mut NumberTree, rank: usize, number: usize) -> Result<(), Fail> {
+        tree.reserve(1)?;
+        assert!(rt; rank <= tree.len());
+        assert!(rt; tree.len() < 10_000);
+        tree.insert(rank, number);
+        Ok(())
+    }
+
+    // Takes the number of a rank out.
+    fn take(rt: &impl Abort, tree: &mut NumberTree, rank: usize) -> usize {
+        assert!(rt; rank < tree.len());
+        tree.remove(rank)
+    }
+
+    fn check(rt: &impl Abort, tree: &NumberTree, expected: &[usize]) {
+        assert_eq!(rt; tree.len(), expected.len());
+        for (rank, number) in expected.iter().enumerate() {
+            assert!(rt; rank < tree.len());
+            assert_eq!(rt; tree.find(rank).number, *number);
+        }
+    }
+
+    #[test]
+    fn levels(rt: HostRuntime) -> Result<(), Fail> {
+        let mut tree = NumberTree::new(rt.alloc());
+        for (upto, levels) in [(7, 1), (8, 2), (64, 3)] {
+            for number in tree.len()..upto {
+                put(&rt, &mut tree, number, number)?;
+            }
+            assert_eq!(rt; tree.len(), upto);
+            assert_eq!(rt; tree.levels(), levels);
+        }
+        for (left, levels) in [(30, 2), (7, 2), (0, 0)] {
+            for _ in left..tree.len() {
+                let len = tree.len();
+                assert!(rt; len <= 64);
+                assert_eq!(rt; take(&rt, &mut tree, 0), 64 - len);
+            }
+            assert_eq!(rt; tree.len(), left);
+            assert_eq!(rt; tree.levels(), levels);
+        }
+        Ok(())
+    }
+
+    #[test]
+    fn from_behind(rt: HostRuntime) -> Result<(), Fail> {
+        let mut tree = NumberTree::new(rt.alloc());
+        for number in 0..500 {
+            put(&rt, &mut tree, 0, number)?;
+        }
+        for number in 0..500 {
+            let len = tree.len();
+            assert!(rt; len > 0);
+            assert_eq!(rt; take(&rt, &mut tree, len - 1), number);
+        }
+        assert_eq!(rt; tree.levels(), 0);
+        Ok(())
+    }
+
+    // No memory is asked for: a number that went makes room for the next one.
+    #[test]
+    fn exchanges(rt: HostRuntime) -> Result<(), Fail> {
+        let mut tree = NumberTree::new(rt.alloc());
+        for number in 0..400 {
+            put(&rt, &mut tree, number, number)?;
+        }
+        for number in 0..4000 {
+            let rank = (number * 37) % 400;
+            assert!(rt; rank < tree.len());
+            assert!(rt; tree.len() < 10_000);
+            let old = tree.remove(rank);
+            tree.insert(0, old);
+        }
+        assert_eq!(rt; tree.len(), 400);
+        Ok(())
+    }
+
+    #[test]
+    fn as_a_vector(rt: HostRuntime) -> Result<(), Fail> {
+        let mut tree = NumberTree::new(rt.alloc());
+        let mut expected = Vec::new(rt.alloc());
+        let mut state = 1_u64;
+        for step in 0..6000_usize {
+            state = state
+                .wrapping_mul(6_364_136_223_846_793_005)
+                .wrapping_add(1_442_695_040_888_963_407);
+            let pick = (state >> 33) as usize;
+            let len = expected.len();
+            assert!(rt; len < 10_000);
+            let grows = (pick / 16_384) % 5 < if step < 3000 { 3 } else { 2 };
+            if grows || len == 0 {
+                let rank = pick % (len + 1);
+                expected.insert(rank, step)?;
+                put(&rt, &mut tree, rank, step)?;
+            } else {
+                let rank = pick % len;
+                assert_eq!(rt; take(&rt, &mut tree, rank), expected.remove(rank));
+            }
+            if step % 100 == 0 {
+                check(&rt, &tree, &expected);
+            }
+        }
+        check(&rt, &tree, &expected);
+        Ok(())
     }
 }

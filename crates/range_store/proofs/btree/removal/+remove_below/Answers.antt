@@ -122,7 +122,7 @@ returns-then-place-count-clause-shrinks t c =
     let known = kid_known 1 MOST s below n i inner c.requires.shaped index in
     let counted = rw (← kid) at known.counted in
     let less : c.descend-place.result.rest < length (numbers s below c.descend-place.result.child) = omega (arith, counted) in
-    (plain_step s c.remove_below-item.new.nodes c.count_off.new.nodes below n i c.descend-place.result.rest c.args.rank (plain t (goal.at.returns-then-place-count-clause-shrinks t c).After-count_off inner) (rw kid at less) c.count_off.ensures.items).finish c.mend.new.nodes c.mend.ensures
+    (plain_step s c.remove_below-item.new.nodes c.count_off.new.nodes below n i c.descend-place.result.rest c.args.rank (plain t (goal.at.returns-then-place-count-clause-shrinks t c).After-count_off inner) (rw kid at less) c.count_off.ensures.items).finish c.mend.new.nodes c.mend.ensures.shrinks
 
 pub overflow_sub-place : goal.overflow_sub-place
 overflow_sub-place t c =
@@ -255,4 +255,4 @@ returns-clause-shrinks t c =
     let some = kid_some s below (get_or (children_of (get s n)) i 0) inner known.shaped in
     let behind = item_behind 1 MOST s below n i c.descend-place.result.rest c.args.rank inner c.requires.shaped index c.descend-place.ensures.rank end' c.requires.within in
     let moved = rw (c.remove_below-before.ensures.value, kid) at c.swap_item-item.ensures.items in
-    (swap_step s c.remove_below-before.new.nodes c.swap_item-item.new.nodes below n i c.descend-place.result.rest c.args.rank (swapped t (goal.at.returns-clause-shrinks t c).After-swap_item-item inner) end' (omega (arith, end', some)) behind moved).finish c.mend-2.new.nodes c.mend-2.ensures
+    (swap_step s c.remove_below-before.new.nodes c.swap_item-item.new.nodes below n i c.descend-place.result.rest c.args.rank (swapped t (goal.at.returns-clause-shrinks t c).After-swap_item-item inner) end' (omega (arith, end', some)) behind moved).finish c.mend-2.new.nodes c.mend-2.ensures.shrinks

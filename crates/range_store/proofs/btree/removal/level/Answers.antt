@@ -2,7 +2,7 @@ use Rattle.std.proofs.Common.{◌≡◌, suc, ◌+◌, ◌<◌, ◌≤◌, lengt
 use Rattle.slab.specs.Slab.{get}
 use Rattle.range_store.specs.Nodes.{items_of, children_of, numbers, Pools, Replaces}
 use Rattle.range_store.specs.declared.btree.node.TheConstants.{MOST, LEAST}
-use Rattle.range_store.proofs.Levelling.{can_pool, many, top_kept, cuttable_at, cut_kept, detached, bordered}
+use Rattle.range_store.proofs.Levelling.{can_pool, many, top_kept, cuttable_at, cut_kept, detached, bordered, pooled_length, bordered_size}
 use Rattle.range_store.proofs.btree.removal.level.Goals as goal
 use Rattle.range_store.proofs.btree.removal.level.Goals.{After-pool, After-cut_at-split}
 
@@ -25,9 +25,16 @@ detach-requires c =
       child = rw same (omega (arith, many c.args.nodes.now c.args.low c.args.number c.args.index c.requires, c.requires.within));
     }
 
-pub returns-then-pooled : goal.returns-then-pooled
-returns-then-pooled c =
-    let a = (goal.at.returns-then-pooled c).After-pool in
+pub returns-then-pooled-clause-shared : goal.returns-then-pooled-clause-shared
+returns-then-pooled-clause-shared c =
+    let a = (goal.at.returns-then-pooled-clause-shared c).After-pool in
+    let size = rw c.child_at-left.ensures at c.item_count-pooled.ensures in
+    let sum = pooled_length c.args.nodes.now c.pool.new.nodes c.args.low c.args.number c.args.index c.requires (pool a) in
+    λ many. absurd (omega (arith, size, sum, many))
+
+pub returns-then-pooled-clause-shrinks : goal.returns-then-pooled-clause-shrinks
+returns-then-pooled-clause-shrinks c =
+    let a = (goal.at.returns-then-pooled-clause-shrinks c).After-pool in
     let short : length (items_of (get c.pool.new.nodes c.child_at-left.result)) ≤ LEAST + LEAST = omega (arith, c.item_count-pooled.ensures) in
     let short' = rw c.child_at-left.ensures at short in
     detached c.args.nodes.now c.pool.new.nodes c.args.low c.args.number c.args.index c.requires (pool a) c.detach.new.nodes c.detach.ensures.rewritten c.detach.ensures.items c.detach.ensures.children c.detach.ensures.count short'
@@ -52,7 +59,12 @@ set_border-requires c =
       child = rw same (omega (arith, many c.args.nodes.now c.args.low c.args.number c.args.index c.requires, c.requires.within));
     }
 
-pub returns : goal.returns
-returns c =
-    let a = (goal.at.returns c).After-pool in
-    bordered c.args.nodes.now c.pool.new.nodes c.args.low c.args.number c.args.index c.requires (pool a) c.cut_at-split.new.nodes c.cut_at-split.result (cut (goal.at.returns c).After-cut_at-split) c.set_border.new.nodes c.set_border.ensures.rewritten c.set_border.ensures.items c.set_border.ensures.children c.set_border.ensures.count
+pub returns-clause-shared : goal.returns-clause-shared
+returns-clause-shared c =
+    let a = (goal.at.returns-clause-shared c).After-pool in
+    λ many. bordered_size c.args.nodes.now c.pool.new.nodes c.args.low c.args.number c.args.index c.requires (pool a) c.cut_at-split.new.nodes c.cut_at-split.result (cut (goal.at.returns-clause-shared c).After-cut_at-split) c.set_border.new.nodes c.set_border.ensures.items
+
+pub returns-clause-shrinks : goal.returns-clause-shrinks
+returns-clause-shrinks c =
+    let a = (goal.at.returns-clause-shrinks c).After-pool in
+    bordered c.args.nodes.now c.pool.new.nodes c.args.low c.args.number c.args.index c.requires (pool a) c.cut_at-split.new.nodes c.cut_at-split.result (cut (goal.at.returns-clause-shrinks c).After-cut_at-split) c.set_border.new.nodes c.set_border.ensures.rewritten c.set_border.ensures.items c.set_border.ensures.children c.set_border.ensures.count

@@ -12,7 +12,7 @@ find_below-requires c =
     let some = levels_some c.self.inside.nodes c.self.inside.levels c.self.inside.root c.args.rank within in
     let level : suc (c.self.inside.levels - 1) ≡ c.self.inside.levels = omega arith in
     record {
-      shaped = root_shaped c.self.inside.nodes c.self.inside.levels c.self.inside.root some c.self.invariant;
+      shaped = root_shaped c.self.inside.nodes c.self.inside.levels c.self.inside.root some c.self.invariant.tree;
       within = rw level within;
     }
 

@@ -14,7 +14,11 @@ same_len c = ap slab_len c.reserve.ensures.rest_kept
 pub invariant_of-self : goal.invariant_of-self
 invariant_of-self c =
     let a = (goal.at.invariant_of-self c).After-reserve in
-    tree_kept c.self.inside.nodes c.reserve.new.self (same a) (same_len a) c.self.inside.levels c.self.inside.root c.self.invariant
+    let kept = numbers_kept c.self.inside.nodes c.reserve.new.self (same a) (same_len a) c.self.inside.levels c.self.inside.root in
+    record {
+      tree = tree_kept c.self.inside.nodes c.reserve.new.self (same a) (same_len a) c.self.inside.levels c.self.inside.root c.self.invariant.tree;
+      fits = omega (arith, ap length kept, c.self.invariant.fits, c.reserve.ensures.capacity);
+    }
 
 pub returns-clause-numbers : goal.returns-clause-numbers
 returns-clause-numbers c =
