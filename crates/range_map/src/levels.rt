@@ -1,0 +1,23 @@
+//! The levels of a map's tree.
+ghost use Rattle.std.specs.Prelude.{◌≡◌, ◌+◌, ◌-◌, ◌*◌, ◌^◌, ◌<◌, ◌≤◌, length};
+ghost use Rattle.range_store.specs.Holding.{box_items};
+ghost use Rattle.range_store.specs.declared.btree.node.TheConstants.{LEAST, MOST};
+
+use crate::map::RangeMap;
+use range_algebra::any::AnyRange;
+use range_keys::traits::PartialEnum;
+use range_store::btree::BoxStorage;
+use range_store::storage::Item;
+
+impl<K: PartialEnum, V: Eq + Drop> RangeMap<K, V, BoxStorage<Item<AnyRange<K>, V>>> {
+    /// How many levels of nodes the tree has in which the ranges are kept: 0 for a map without any.
+    ///
+    /// A look-up reads one node on each level. Takes no memory.
+    pub fn levels(&self) -> usize
+        ensures empty { length (box_items self.now) ≡ 0 → result ≡ 0 }
+        ensures least { 0 < length (box_items self.now) → 2 * (LEAST + 1) ^ (result - 1) ≤ length (box_items self.now) + 1 }
+        ensures most { 0 < length (box_items self.now) → length (box_items self.now) + 1 ≤ (MOST + 1) ^ result }
+    {
+        self.stored.levels()
+    }
+}
