@@ -17,11 +17,13 @@ pub use Rattle.range_algebra.specs.Range
 pub use Rattle.range_algebra.specs.References
 pub use Rattle.range_algebra.specs.Relations
 pub use Rattle.range_store.specs.Counting
+pub use Rattle.range_store.specs.Holding
 pub use Rattle.range_store.specs.Places
 pub use Rattle.range_map.specs.Bindings
 pub use Rattle.range_map.specs.Frames
 pub use Rattle.range_map.specs.History
 pub use Rattle.range_map.specs.Iterating
+pub use Rattle.range_map.specs.Lookups
 pub use Rattle.range_map.specs.Ranges
 pub use Rattle.range_map.specs.Runs
 pub use Rattle.range_map.specs.Stored

@@ -4,6 +4,7 @@
 //! kept as one, so a map stores no more ranges than its bindings need.
 #![tactic(auto)]
 
+pub mod btree;
 pub mod generic;
 pub mod range;
 pub mod storage;
@@ -17,10 +18,11 @@ pub use range::{
     RangeFromExcludedToIncluded, RelativePosition,
 };
 
-use storage::{Item, VecStorage};
+use btree::BoxStorage;
+use storage::Item;
 
-/// The container of a map that names none.
-pub type DefaultMapContainer<T> = VecStorage<T>;
+/// The container of a map that names none: a B-tree.
+pub type DefaultMapContainer<T> = BoxStorage<T>;
 
 /// A map from ranges of keys to values, in the default container.
 pub type RangeMap<K, V> = generic::map::RangeMap<K, V, DefaultMapContainer<Item<AnyRange<K>, V>>>;
