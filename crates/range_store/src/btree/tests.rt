@@ -1,7 +1,7 @@
 ghost use Rattle.std.specs.Option.{ForSome};
 
 use crate::btree::BoxStorage;
-use crate::storage::Storage;
+use crate::storage::{Probe, Steps, Storage};
 use crate::vec_storage::VecStorage;
 use std::alloc::AllocError;
 use std::process::Abort;
@@ -167,6 +167,56 @@ fn refused_memory(rt: HostRuntime) -> Result<(), Fail> {
             same(&rt, &copy, &list);
         }
         same(&rt, &tree, &list);
+    }
+    Ok(())
+}
+
+// Gives one answer to every item.
+#[derive(Drop)]
+struct Always {
+    answer: bool,
+    steps: Steps,
+}
+
+impl Probe<u64> for Always {
+    ghost test = { λ p x. p.answer };
+
+    ghost steps_taken = { λ p. p.steps };
+
+    fn ask(&mut self, _item: &u64) -> bool {
+        self.steps.tick();
+        self.answer
+    }
+
+    fn steps(&self) -> &Steps {
+        &self.steps
+    }
+}
+
+#[test]
+fn searches(rt: HostRuntime) -> Result<(), Fail> {
+    let mut tree = <BoxStorage<u64> as Storage<u64>>::new(rt.alloc());
+    for (first, end, levels) in [(0, 7, 1), (7, 8, 2), (8, 64, 3)] {
+        for item in first..end {
+            put(&mut tree, item as usize, item)?;
+        }
+        let mut every = Always {
+            answer: true,
+            steps: Steps::new(),
+        };
+        let mut none = Always {
+            answer: false,
+            steps: Steps::new(),
+        };
+        match tree.search(&mut every) {
+            Some(p) => assert_eq!(rt; *tree.get(p), end - 1),
+            None => assert!(rt; false),
+        }
+        assert!(rt; tree.search(&mut none).is_none());
+        for probe in [every, none] {
+            assert!(rt; probe.steps().count() >= levels);
+            assert!(rt; probe.steps().count() <= 3 * levels);
+        }
     }
     Ok(())
 }
