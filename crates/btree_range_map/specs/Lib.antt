@@ -27,7 +27,6 @@ pub use Rattle.range_map.specs.Lookups
 pub use Rattle.range_map.specs.Ranges
 pub use Rattle.range_map.specs.Runs
 pub use Rattle.range_map.specs.Stored
-
 -- The types that contracts name.
 pub use Rattle.range_algebra.specs.declared.any.AnyRange
 pub use Rattle.range_store.specs.declared.storage.Item

@@ -9,6 +9,7 @@ pub mod generic;
 pub mod range;
 pub mod storage;
 
+use btree::BoxStorage;
 pub use range::any::AnyRange;
 pub use range::bound::{AsBound, BoundOrd, BoundOrdering, BoundPartialOrd, Directed, Dist};
 pub use range::ordering::{RangeOrdering, RangePartialOrd};
@@ -17,8 +18,6 @@ pub use range::{
     AsRange, Difference, IntoRange, Product, ProductArg, RangeFromExcluded, RangeFromExcludedTo,
     RangeFromExcludedToIncluded, RelativePosition,
 };
-
-use btree::BoxStorage;
 use storage::Item;
 
 /// The container of a map that names none: a B-tree.

@@ -83,13 +83,7 @@ fn examples<C: Storage<Item<AnyRange<i32>, i64>>>(rt: &HostRuntime) -> Result<()
             Call::Remove(Included(1), Excluded(9)),
         ],
         2,
-        &[
-            (0, Some(1)),
-            (1, None),
-            (8, None),
-            (9, Some(1)),
-            (10, None),
-        ],
+        &[(0, Some(1)), (1, None), (8, None), (9, Some(1)), (10, None)],
     )?;
     check::<C>(
         rt,

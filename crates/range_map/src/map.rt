@@ -8,7 +8,6 @@ pub use crate::command::{Command, Reply, answer, run};
 pub use crate::error::{MapError, NotInserted};
 pub use crate::iter::Iter;
 pub use crate::search::binary_search;
-
 use crate::window::{find, starts_past};
 use range_algebra::any::AnyRange;
 use range_keys::inner::position::{KeyRef, Position, Side};

@@ -1,9 +1,9 @@
 -- Edits just behind a front.
 use Rattle.std.proofs.Common.{◌≡◌, ℕ, ◌+◌, ◌-◌, ◌<◌, ◌≤◌, List, [], ◌∷◌, ◌++◌, length, take, drop, get_or, refl, ap, sym, ◌∙◌, arith, length-append, append_assoc, take-append-drop}
 use Rattle.std.specs.List.{insert, remove}
-use Rattle.std.proofs.lemmas.List.{take_at, drop_at, drop_more, take_more, length-take-le, drop-drop, take-set, drop-set}
+use Rattle.std.proofs.lemmas.List.{take_at, drop_at, drop_more, length-take-le, drop-drop, take-set, drop-set}
 use Rattle.std.proofs.Math.ListN.{set}
-use Rattle.std.proofs.lemmas.List.Edits.{remove-append_right, insert-append_right}
+use Rattle.std.proofs.lemmas.List.Edits.{remove-append_right}
 
 pub insert_behind : {T : Type 0} (front back : List T) (x : T) (place : ℕ) → length front ≡ place → insert (front ++ back) place x ≡ front ++ x ∷ back
 insert_behind front back x place e = rw (take_at front back place e, drop_at front back place e) refl

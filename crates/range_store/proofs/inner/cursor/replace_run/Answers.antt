@@ -1,4 +1,4 @@
-use Rattle.std.proofs.Common.{◌≡◌, ◌+◌, length}
+use Rattle.std.proofs.Common.{◌+◌, length}
 use Rattle.range_store.specs.Places.{place_before}
 use Rattle.range_store.proofs.PlacesLemmas.{place_at}
 use Rattle.range_store.proofs.Edits.{replaced_run}
