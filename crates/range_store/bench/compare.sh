@@ -1,0 +1,16 @@
+#!/bin/sh
+# Times searches, insertions and removals at scattered keys, and a walk, of a map over the B-tree and over the
+# vector, and of std's BTreeMap, at 1,000 to 1,000,000 items. Needs `rt`; proves what is not proved yet.
+set -eu
+top=$(cd "$(dirname "$0")/../../.." && pwd)
+work=$(mktemp -d)
+trap 'rm -rf "$work"' EXIT
+mkdir -p "$work/crates/containers/src"
+for crate in range_keys range_algebra range_store range_map btree_range_map; do
+    cp -r "$top/crates/$crate" "$work/crates/"
+done
+cp "$top/HANDLES" "$work/"
+{ grep -v '^rangerun' "$top/crates.txt"; echo 'containers: btree_range_map anyhow'; } > "$work/crates.txt"
+cp "$(dirname "$0")/containers.txt" "$work/crates/containers/src/main.rt"
+cd "$work/crates/containers"
+rt run
