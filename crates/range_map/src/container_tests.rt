@@ -3,8 +3,10 @@ use range_algebra::any::AnyRange;
 use range_store::btree::BoxStorage;
 use range_store::storage::{Item, Storage};
 use range_store::vec_storage::VecStorage;
+use std::alloc::Global;
 use std::ops::Bound;
 use std::ops::Bound::{Excluded, Included, Unbounded};
+use std::process::Abort;
 use std::test::Fail;
 
 /// A call on a map, with the bounds of its range.
@@ -15,13 +17,14 @@ enum Call {
 }
 
 /// Makes the calls on a new map, and looks at the number of its ranges and at what keys are bound to.
-fn check<C: Storage<Item<AnyRange<i32>, i64>>>(
-    rt: &HostRuntime,
+fn check<C: Storage<Item<AnyRange<i32>, i64>>, R: Abort>(
+    rt: &R,
+    alloc: Global,
     calls: &[Call],
     count: usize,
     bindings: &[(i32, Option<i64>)],
 ) -> Result<(), Fail> {
-    let mut map: RangeMap<i32, i64, C> = RangeMap::new(rt.alloc());
+    let mut map: RangeMap<i32, i64, C> = RangeMap::new(alloc);
     for call in calls {
         match *call {
             Call::Insert(start, end, value) => map.insert(AnyRange::new(start, end), value)?,
@@ -36,9 +39,13 @@ fn check<C: Storage<Item<AnyRange<i32>, i64>>>(
 }
 
 /// The worked examples of calls on a map, over one container.
-fn examples<C: Storage<Item<AnyRange<i32>, i64>>>(rt: &HostRuntime) -> Result<(), Fail> {
-    check::<C>(
+fn examples<C: Storage<Item<AnyRange<i32>, i64>>, R: Abort>(
+    rt: &R,
+    alloc: Global,
+) -> Result<(), Fail> {
+    check::<C, R>(
         rt,
+        alloc,
         &[
             Call::Insert(Included(0), Included(5), 1),
             Call::Insert(Included(4), Included(4), 0),
@@ -53,8 +60,9 @@ fn examples<C: Storage<Item<AnyRange<i32>, i64>>>(rt: &HostRuntime) -> Result<()
             (6, None),
         ],
     )?;
-    check::<C>(
+    check::<C, R>(
         rt,
+        alloc,
         &[
             Call::Insert(Unbounded, Excluded(1), 1),
             Call::Insert(Unbounded, Included(1), 1),
@@ -66,8 +74,9 @@ fn examples<C: Storage<Item<AnyRange<i32>, i64>>>(rt: &HostRuntime) -> Result<()
         1,
         &[(i32::MIN, Some(1)), (4, Some(1)), (i32::MAX, Some(1))],
     )?;
-    check::<C>(
+    check::<C, R>(
         rt,
+        alloc,
         &[
             Call::Insert(Excluded(3), Unbounded, 1),
             Call::Insert(Excluded(2), Excluded(4), 1),
@@ -76,8 +85,9 @@ fn examples<C: Storage<Item<AnyRange<i32>, i64>>>(rt: &HostRuntime) -> Result<()
         1,
         &[(0, None), (1, Some(1)), (i32::MAX, Some(1))],
     )?;
-    check::<C>(
+    check::<C, R>(
         rt,
+        alloc,
         &[
             Call::Insert(Included(0), Excluded(10), 1),
             Call::Remove(Included(1), Excluded(9)),
@@ -85,8 +95,9 @@ fn examples<C: Storage<Item<AnyRange<i32>, i64>>>(rt: &HostRuntime) -> Result<()
         2,
         &[(0, Some(1)), (1, None), (8, None), (9, Some(1)), (10, None)],
     )?;
-    check::<C>(
+    check::<C, R>(
         rt,
+        alloc,
         &[
             Call::Insert(Included(10), Excluded(15), 1),
             Call::Insert(Included(20), Excluded(25), 1),
@@ -96,8 +107,9 @@ fn examples<C: Storage<Item<AnyRange<i32>, i64>>>(rt: &HostRuntime) -> Result<()
         1,
         &[(17, Some(0)), (34, Some(0)), (35, None)],
     )?;
-    check::<C>(
+    check::<C, R>(
         rt,
+        alloc,
         &[
             Call::Insert(Included(0), Excluded(10), 1),
             Call::Remove(Included(8), Excluded(3)),
@@ -109,8 +121,11 @@ fn examples<C: Storage<Item<AnyRange<i32>, i64>>>(rt: &HostRuntime) -> Result<()
 }
 
 /// Many ranges that stand apart, then one over them all, then a hole in it.
-fn many_ranges<C: Storage<Item<AnyRange<i32>, i64>>>(rt: &HostRuntime) -> Result<(), Fail> {
-    let mut map: RangeMap<i32, i64, C> = RangeMap::new(rt.alloc());
+fn many_ranges<C: Storage<Item<AnyRange<i32>, i64>>, R: Abort>(
+    rt: &R,
+    alloc: Global,
+) -> Result<(), Fail> {
+    let mut map: RangeMap<i32, i64, C> = RangeMap::new(alloc);
     for place in 0..64 {
         let key = 2 * place;
         map.insert(AnyRange::new(Included(key), Included(key)), i64::from(key))?;
@@ -131,12 +146,12 @@ fn many_ranges<C: Storage<Item<AnyRange<i32>, i64>>>(rt: &HostRuntime) -> Result
 
 #[test]
 fn a_map_over_a_vector(rt: HostRuntime) -> Result<(), Fail> {
-    examples::<VecStorage<Item<AnyRange<i32>, i64>>>(&rt)?;
-    many_ranges::<VecStorage<Item<AnyRange<i32>, i64>>>(&rt)
+    examples::<VecStorage<Item<AnyRange<i32>, i64>>, HostRuntime>(&rt, rt.alloc())?;
+    many_ranges::<VecStorage<Item<AnyRange<i32>, i64>>, HostRuntime>(&rt, rt.alloc())
 }
 
 #[test]
 fn a_map_over_a_tree(rt: HostRuntime) -> Result<(), Fail> {
-    examples::<BoxStorage<Item<AnyRange<i32>, i64>>>(&rt)?;
-    many_ranges::<BoxStorage<Item<AnyRange<i32>, i64>>>(&rt)
+    examples::<BoxStorage<Item<AnyRange<i32>, i64>>, HostRuntime>(&rt, rt.alloc())?;
+    many_ranges::<BoxStorage<Item<AnyRange<i32>, i64>>, HostRuntime>(&rt, rt.alloc())
 }
