@@ -127,14 +127,14 @@ fn many_ranges<C: Storage<Item<AnyRange<i32>, i64>>, R: Abort>(
 ) -> Result<(), Fail> {
     let mut map: RangeMap<i32, i64, C> = RangeMap::new(alloc);
     for place in 0..64 {
-        let key = 2 * place;
+        let key = 2i32.wrapping_mul(place);
         map.insert(AnyRange::new(Included(key), Included(key)), i64::from(key))?;
     }
     assert_eq!(rt; map.range_count(), 64);
     for place in 0..64 {
-        let key = 2 * place;
+        let key = 2i32.wrapping_mul(place);
         assert!(rt; map.get(key).copied() == Some(i64::from(key)), "at {key}");
-        assert!(rt; map.get(key + 1) == None, "behind {key}");
+        assert!(rt; map.get(key.wrapping_add(1)) == None, "behind {key}");
     }
     map.insert(AnyRange::new(Included(0), Included(126)), 1)?;
     assert_eq!(rt; map.range_count(), 1);
