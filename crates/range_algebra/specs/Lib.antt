@@ -16,3 +16,4 @@ pub mod RangeOrder
 pub mod References
 pub mod Relations
 pub mod Sides
+pub mod Texts

@@ -12,7 +12,7 @@ ghost use Rattle.range_algebra.specs.declared.range.parts.ProductArg.TheVariants
 use crate::any::AnyRange;
 use crate::inner::{compare_bounds, starts_past_end};
 use crate::range::{AsRange, Difference, Product, ProductArg};
-use range_keys::inner::position::{compare_positions, position_of_end, position_of_start};
+use range_keys::bound::Directed;
 use range_keys::traits::PartialEnum;
 use std::ops::{Bound, RangeBounds};
 
@@ -45,7 +45,7 @@ fn inverted<'a, T>(bound: Bound<&'a T>) -> Option<Bound<&'a T>>
 fn later_start<'a, T: PartialEnum>(first: Bound<&'a T>, second: Bound<&'a T>) -> Bound<&'a T>
     ensures { bound_map (λ x. x.now) result ≡ later_start T.order (bound_map (λ x. x.now) first.entry) (bound_map (λ x. x.now) second.entry) }
 {
-    if compare_positions(&position_of_start(first), &position_of_start(second)).is_lt() {
+    if Directed::Start(first).cmp(&Directed::Start(second)).is_lt() {
         second
     } else {
         first
@@ -56,7 +56,7 @@ fn later_start<'a, T: PartialEnum>(first: Bound<&'a T>, second: Bound<&'a T>) ->
 fn earlier_end<'a, T: PartialEnum>(first: Bound<&'a T>, second: Bound<&'a T>) -> Bound<&'a T>
     ensures { bound_map (λ x. x.now) result ≡ earlier_end T.order (bound_map (λ x. x.now) first.entry) (bound_map (λ x. x.now) second.entry) }
 {
-    if compare_positions(&position_of_end(first), &position_of_end(second)).is_gt() {
+    if Directed::End(first).cmp(&Directed::End(second)).is_gt() {
         second
     } else {
         first

@@ -3,7 +3,7 @@
 ghost use Rattle.std.specs.Prelude.{◌≡◌, ◌↔◌, IsTrue, IfOk, MatchResult};
 ghost use Rattle.std.specs.Range.Bound.{bound_map};
 ghost use Rattle.std.specs.declared.cmp.Ordering.TheVariants.{Equal};
-ghost use Rattle.range_keys.specs.Position.{position_map, key_value};
+ghost use Rattle.range_keys.specs.Position.{start_position};
 ghost use Rattle.range_algebra.specs.Clones.{IsBoundClone, IsBoundInfallible};
 ghost use Rattle.range_algebra.specs.Compared.{range_ordering, bounds_ordering, starts_at_end, starts_past_end};
 ghost use Rattle.range_algebra.specs.Range.{Holds, LiesWithin, IsKnownBound, IsKnownRange, ClonesAreEqual};
@@ -12,12 +12,9 @@ ghost use Rattle.range_algebra.specs.RangeOrder.{range_cmp};
 use crate::any::AnyRange;
 use crate::ordering::RangeOrdering;
 use crate::range::AsRange;
-use range_keys::inner::position::{
-    KeyRef, Position, compare_positions, position_of_end, position_of_start,
-};
+use range_keys::bound::Directed;
 use range_keys::traits::PartialEnum;
 use std::alloc::AllocError;
-use std::cmp::Ordering;
 use std::ops::{Bound, RangeBounds};
 
 /// Does nothing, and promises that the bound's value is a key.
@@ -85,19 +82,19 @@ pub fn copied<T: PartialEnum + Clone>(range: &AnyRange<T>) -> Result<AnyRange<T>
 pub fn starts_past_end<T: PartialEnum>(start: Bound<&T>, end: Bound<&T>) -> bool
     ensures { result ≡ starts_past_end T.order (bound_map (λ x. x.now) start.entry) (bound_map (λ x. x.now) end.entry) }
 {
-    compare_positions(&position_of_start(start), &position_of_end(end)).is_gt()
+    Directed::Start(start).cmp(&Directed::End(end)).is_gt()
 }
 
-/// Whether the position is that of the start bound just past the end bound.
-pub fn starts_at_end<T: PartialEnum>(end: Bound<&T>, position: &Position<KeyRef<'_, T>>) -> bool
-    ensures { result ≡ starts_at_end T.order (bound_map (λ x. x.now) end.entry) (position_map key_value position.now) }
+/// Whether a range that starts at the start bound touches one that ends at the end bound.
+pub fn starts_at_end<T: PartialEnum>(end: Bound<&T>, start: Bound<&T>) -> bool
+    ensures { result ≡ starts_at_end T.order (bound_map (λ x. x.now) end.entry) (start_position T.order (bound_map (λ x. x.now) start.entry)) }
 {
     let inverted = match end {
         Bound::Included(key) => Bound::Excluded(key),
         Bound::Excluded(key) => Bound::Included(key),
         Bound::Unbounded => return false,
     };
-    compare_positions(&position_of_start(inverted), position) == Ordering::Equal
+    Directed::Start(inverted) == Directed::Start(start)
 }
 
 /// Compares two ranges by their bounds.
@@ -116,20 +113,20 @@ pub fn compare_bounds<T: PartialEnum>(
 ) -> RangeOrdering
     ensures { result ≡ bounds_ordering T.order (bound_map (λ x. x.now) left.entry) (bound_map (λ x. x.now) left_end.entry) (bound_map (λ x. x.now) right.entry) (bound_map (λ x. x.now) right_end.entry) }
 {
-    let start = position_of_start(left);
-    let other_start = position_of_start(right);
-    let starts = compare_positions(&start, &other_start);
-    let end = position_of_end(left_end);
-    let other_end = position_of_end(right_end);
-    let ends = compare_positions(&end, &other_end);
+    let start = Directed::Start(left);
+    let other_start = Directed::Start(right);
+    let starts = start.cmp(&other_start);
+    let end = Directed::End(left_end);
+    let other_end = Directed::End(right_end);
+    let ends = end.cmp(&other_end);
     if starts.is_lt() {
-        if compare_positions(&end, &other_start).is_lt() {
-            RangeOrdering::Before(starts_at_end(left_end, &other_start))
+        if end.cmp(&other_start).is_lt() {
+            RangeOrdering::Before(starts_at_end(left_end, right))
         } else {
             RangeOrdering::Intersecting(false, ends.is_eq())
         }
-    } else if compare_positions(&start, &other_end).is_gt() {
-        RangeOrdering::After(starts_at_end(right_end, &start))
+    } else if start.cmp(&other_end).is_gt() {
+        RangeOrdering::After(starts_at_end(right_end, left))
     } else {
         RangeOrdering::Intersecting(starts.is_eq(), ends.is_eq())
     }

@@ -10,7 +10,7 @@ ghost use Rattle.range_algebra.specs.Range.{StartHolds, EndHolds, Holds, ClonesA
 
 use crate::any::AnyRange;
 use crate::{cutting, inner};
-use range_keys::inner::position::{compare_positions, position_of_end, position_of_start};
+use range_keys::bound::Directed;
 use range_keys::traits::PartialEnum;
 use std::alloc::AllocError;
 use std::ops::{Bound, RangeBounds};
@@ -70,7 +70,7 @@ fn start_to_take<T: PartialEnum + Clone>(
     requires { ClonesAreEqual T.is_clone T.eq }
     ensures { IfOk result (λ taken. SameBound T.order (earlier_start T.order (bound_map (λ x. x.now) own.entry) (bound_map (λ x. x.now) other.entry)) (unwrap_or taken (bound_map (λ x. x.now) own.entry))) }
 {
-    if compare_positions(&position_of_start(own), &position_of_start(other)).is_lt() {
+    if Directed::Start(own).cmp(&Directed::Start(other)).is_lt() {
         Ok(None)
     } else {
         Ok(Some(inner::clone_of(other)?))
@@ -85,7 +85,7 @@ fn end_to_take<T: PartialEnum + Clone>(
     requires { ClonesAreEqual T.is_clone T.eq }
     ensures { IfOk result (λ taken. SameBound T.order (later_end T.order (bound_map (λ x. x.now) own.entry) (bound_map (λ x. x.now) other.entry)) (unwrap_or taken (bound_map (λ x. x.now) own.entry))) }
 {
-    if compare_positions(&position_of_end(own), &position_of_end(other)).is_gt() {
+    if Directed::End(own).cmp(&Directed::End(other)).is_gt() {
         Ok(None)
     } else {
         Ok(Some(inner::clone_of(other)?))

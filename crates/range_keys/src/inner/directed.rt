@@ -13,7 +13,7 @@ use crate::traits::PartialEnum;
 use std::cmp::Ordering;
 
 /// The position of a directed bound.
-pub fn position_of<B: AsBound>(directed: &Directed<B>) -> Position<KeyRef<'_, B::Item>>
+pub(crate) fn position_of<B: AsBound>(directed: &Directed<B>) -> Position<KeyRef<'_, B::Item>>
 where
     B::Item: PartialEnum,
     ensures { position_map key_value result ≡ directed_position B.Item.order (directed_map B.bound directed.now) }
@@ -25,7 +25,7 @@ where
 }
 
 /// Whether no bound of the type can lie between the first position and the second, which is greater.
-pub fn touches<T: PartialEnum>(
+pub(crate) fn touches<T: PartialEnum>(
     low: &Position<KeyRef<'_, T>>,
     high: &Position<KeyRef<'_, T>>,
 ) -> bool
