@@ -3,8 +3,9 @@ use Rattle.std.proofs.Common.{◌≡◌, ℕ, zero, suc, ◌+◌, ◌<◌, ◌�
 use Rattle.std.proofs.lemmas.List.{length-append, length-map, get_or-map, drop_all}
 use Rattle.slab.specs.Slab.{Slab, get}
 use Rattle.range_store.specs.declared.btree.node.Node.{Node}
-use Rattle.range_store.specs.Nodes.{weave, rest_of, before, after, items_of, children_of, count_of, numbers, Shaped, ShapedBut, child_count}
+use Rattle.range_store.specs.Nodes.{weave, rest_of, before, after, items_of, children_of, sizes_of, count_of, numbers, Shaped, ShapedBut, child_count}
 use Rattle.range_store.proofs.Weave.{weave_at, before_more}
+use Rattle.range_store.proofs.Sizes.{sizes_length, size_is}
 
 -- what a child is known to be
 pub record IsChild (s : Slab Node) (d c : ℕ) : Type 0 where
@@ -28,6 +29,12 @@ weave_numbers s d n = refl
 module _ (least most : ℕ) (s : Slab Node) (d n : ℕ) (inner : 0 < d) (shaped : ShapedBut least most s d n) where
   pub children_length : length (children_of (get s n)) ≡ length (items_of (get s n)) + 1
   children_length = shaped.node.branches ∙ child_count_inner d _ inner
+
+  pub sizes_many : length (sizes_of (get s n)) ≡ length (items_of (get s n)) + 1
+  sizes_many = sizes_length (numbers s d) (children_of (get s n)) (sizes_of (get s n)) shaped.node.sized ∙ children_length
+
+  pub size_known : (i : ℕ) → i ≤ length (items_of (get s n)) → get_or (sizes_of (get s n)) i 0 ≡ length (numbers s d (get_or (children_of (get s n)) i 0))
+  size_known i within = size_is (numbers s d) (children_of (get s n)) (sizes_of (get s n)) shaped.node.sized i (omega (arith, children_length))
 
   pub child_known : (i : ℕ) → i < length (children_of (get s n)) → IsChild s d (get_or (children_of (get s n)) i 0)
   child_known i within = Shaped-is_child s d _ inner (shaped.children i 0 within)

@@ -1,19 +1,20 @@
 -- What a cut of an overfull node does to its subtree.
 use Rattle.std.proofs.Common.{◌≡◌, ◌≢◌, ◌⊎◌, ℕ, zero, suc, ◌+◌, ◌-◌, ◌<◌, ◌≤◌, List, [], ◌∷◌, ◌++◌, length, get_or, take, drop, map, refl, sym, ap, ◌∙◌, inl, inr, add-zero, add-one, arith, Some, None}
-use Rattle.std.specs.List.{All, flat_map, sum_by}
-use Rattle.std.proofs.lemmas.List.{append-nil, length-append, length-map, take-append-drop, drop_more, length-take-le, length-drop, nil_from_length, take-map, drop-map}
+use Rattle.std.specs.List.{flat_map, sum, sum_by}
+use Rattle.std.proofs.lemmas.List.{append-nil, length-append, length-map, take-append-drop, drop_more, length-take-le, length-drop, take-map, drop-map}
 use Rattle.std.proofs.lemmas.List.Concat.{flat_map-append}
 use Rattle.std.proofs.lemmas.List.Sums.{sum_by-cons}
-use Rattle.std.proofs.lemmas.List.Elements.{All-nil, All-cons, All-head, All-tail, All-take, All-drop}
+use Rattle.std.proofs.lemmas.List.Elements.{All-nil, All-cons, All-take, All-drop}
 use Rattle.std.proofs.lemmas.Bool.{cases_eq}
 use Rattle.slab.specs.Slab.{Slab, get, slab_len}
 use Rattle.range_store.specs.declared.btree.node.Node.{Node}
 use Rattle.range_store.specs.declared.btree.node.Split.{Split}
 use Rattle.range_store.specs.declared.btree.node.TheConstants.{MOST, LEAST}
-use Rattle.range_store.specs.Nodes.{weave, rest_of, items_of, children_of, count_of, child_count, numbers, used, Shaped, ShapedBut, here, Owned, Replaces, counts, Divides, IsCuttable}
+use Rattle.range_store.specs.Nodes.{weave, rest_of, items_of, children_of, sizes_of, count_of, child_count, numbers, used, Shaped, ShapedBut, here, Owned, Replaces, Divides, IsCuttable}
 use Rattle.range_store.proofs.Weave.{weave_cut}
 use Rattle.range_store.proofs.Frame.{SameChildren, same_children}
-use Rattle.range_store.proofs.Below.{weave_numbers, Shaped-is_child}
+use Rattle.range_store.proofs.Below.{weave_numbers}
+use Rattle.range_store.proofs.Sizes.{sizes_take, sizes_drop, sum_sizes_drop}
 use Rattle.range_store.proofs.Replace.{used_is, here_some, here_le, parts}
 use Rattle.range_store.specs.Occurrences.{occurrences, occurrences-append, occurrences-cons, occurrences_itself, occurrences_other}
 
@@ -47,14 +48,6 @@ module _ {X : Type 0} where
   length-weave xs (k ∷ ks) (inl none) = absurd (omega (arith, none))
   length-weave xs (k ∷ ks) (inr many) = omega (arith, length-append k (rest_of xs ks), length-rest_of xs ks (omega (arith, many)), sum_by-cons (length {A = X}) k ks)
 
--- the counts of children are the lengths of their lists
-pub counts_are : (s : Slab Node) (d : ℕ) (ns : List ℕ) → (0 < d) ⊎ (ns ≡ []) → All (Shaped s d) ns → counts s ns ≡ sum_by length (map (numbers s d) ns)
-counts_are s d [] inner shaped = refl
-counts_are s d (n ∷ ns) (inr none) shaped = absurd (cc)
-counts_are s d (n ∷ ns) (inl inner) shaped =
-    let known = Shaped-is_child s d n inner (All-head (Shaped s d) n ns shaped) in
-    omega (arith, sum_by-cons (λ k. count_of (get s k)) n ns, sum_by-cons (length {A = ℕ}) (numbers s d n) (map (numbers s d) ns), known.counted, counts_are s d ns (inl inner) (All-tail (Shaped s d) n ns shaped))
-
 pub child_count_cases : (d k m : ℕ) → m ≡ child_count d k → (m ≡ 0) ⊎ (m ≡ k + 1)
 child_count_cases zero k m h = inl h
 child_count_cases (suc d) k m h = inr h
@@ -64,7 +57,7 @@ pub child_count_part : (d k m k' m' : ℕ) → m ≡ child_count d k → (m ≡ 
 child_count_part zero k m k' m' h none some = none h
 child_count_part (suc d) k m k' m' h none some = some h
 
-module _ (s t : Slab Node) (d n half moved : ℕ) (split : Split) (cuttable : IsCuttable s d n half) (sum : moved ≡ (length (items_of (get s n)) - half - 1) + counts s (drop (half + 1) (children_of (get s n)))) (cut : Divides s t n half moved split) where
+module _ (s t : Slab Node) (d n half moved : ℕ) (split : Split) (cuttable : IsCuttable s d n half) (sum : moved ≡ (length (items_of (get s n)) - half - 1) + sum (drop (half + 1) (sizes_of (get s n)))) (cut : Divides s t n half moved split) where
   shaped : ShapedBut 0 (MOST + LEAST) s d n
   shaped = cuttable.shaped
 
@@ -178,16 +171,9 @@ module _ (s t : Slab Node) (d n half moved : ℕ) (split : Split) (cuttable : Is
   right_length : length (items_of (get t split.right)) ≡ length xs - half - 1
   right_length = omega (arith, ap length cut.right_items, length-drop (half + 1) xs, left_fits)
 
-  leaf_or_inner : (0 < d) ⊎ (vs ≡ [])
-  leaf_or_inner = at_levels d branches_right
-    where
-      at_levels : (b : ℕ) → length vs ≡ child_count b (length xs - half - 1) → (0 < b) ⊎ (vs ≡ [])
-      at_levels zero h = inr (nil_from_length vs h)
-      at_levels (suc b) h = inl (omega arith)
-
   right_counted : moved ≡ length (numbers t (suc d) split.right)
   right_counted =
-      let sizes = counts_are s d vs leaf_or_inner (All-drop (Shaped s d) (half + 1) ks shaped.children) in
+      let sizes = sum_sizes_drop (numbers s d) ks (sizes_of (get s n)) shaped.node.sized (half + 1) in
       let lists = length-map vs (numbers s d) in
       let long = length-weave (drop (half + 1) xs) (map (numbers s d) vs) (child_count_cases d _ _ (lists ∙ branches_right ∙ ap (child_count d) (sym (sym (ap length cut.right_items) ∙ right_length)))) in
       omega (arith, sum, sizes, long, ap length right_numbers, ap length cut.right_items, right_length)
@@ -195,15 +181,21 @@ module _ (s t : Slab Node) (d n half moved : ℕ) (split : Split) (cuttable : Is
   left_counted : count_of (get t n) ≡ length (numbers t (suc d) n)
   left_counted = omega (arith, cut.left_count, right_counted, shaped.node.counted, ap length numbers_old, length-append (numbers t (suc d) n) (split.middle ∷ numbers t (suc d) split.right))
 
+  left_sized : sizes_of (get t n) ≡ map length (map (numbers t d) (children_of (get t n)))
+  left_sized = cut.left_sizes ∙ sizes_take (numbers s d) ks (sizes_of (get s n)) shaped.node.sized (half + 1) ∙ rw (cut.left_children, same_left.numbers_same) refl
+
+  right_sized : sizes_of (get t split.right) ≡ map length (map (numbers t d) (children_of (get t split.right)))
+  right_sized = cut.right_sizes ∙ sizes_drop (numbers s d) ks (sizes_of (get s n)) shaped.node.sized (half + 1) ∙ rw (cut.right_children, same_right.numbers_same) refl
+
   left_shape : (least : ℕ) → least ≤ LEAST → ShapedBut least MOST t d n
   left_shape least small = record {
-    node = record { present = cut.left_present; enough = omega (arith, left_length, cuttable.least_left); fits = omega (arith, left_length, cuttable.most_left); branches = ap length cut.left_children ∙ branches_left ∙ ap (child_count d) (sym left_length); counted = left_counted };
+    node = record { present = cut.left_present; enough = omega (arith, left_length, cuttable.least_left); fits = omega (arith, left_length, cuttable.most_left); branches = ap length cut.left_children ∙ branches_left ∙ ap (child_count d) (sym left_length); counted = left_counted; sized = left_sized };
     children = rw cut.left_children (same_left.shaped_same (All-take (Shaped s d) (half + 1) ks shaped.children));
   }
 
   right_shape : (least : ℕ) → least ≤ LEAST → ShapedBut least MOST t d split.right
   right_shape least small = record {
-    node = record { present = cut.right_present; enough = omega (arith, right_length, cuttable.least_right); fits = omega (arith, right_length, cuttable.most_right); branches = ap length cut.right_children ∙ branches_right ∙ ap (child_count d) (sym right_length); counted = cut.right_count ∙ right_counted };
+    node = record { present = cut.right_present; enough = omega (arith, right_length, cuttable.least_right); fits = omega (arith, right_length, cuttable.most_right); branches = ap length cut.right_children ∙ branches_right ∙ ap (child_count d) (sym right_length); counted = cut.right_count ∙ right_counted; sized = right_sized };
     children = rw cut.right_children (same_right.shaped_same (All-drop (Shaped s d) (half + 1) ks shaped.children));
   }
 
@@ -228,7 +220,7 @@ stays s d n shaped fits = record {
   len = ap (λ zs. slab_len s + length zs) (sym (append-nil (used s (suc d) n)));
   capacity = refl;
   shape = λ least small enough. All-cons (ShapedBut least MOST s d) n [] (record {
-    node = record { present = shaped.node.present; enough = enough; fits = fits; branches = shaped.node.branches; counted = shaped.node.counted };
+    node = record { present = shaped.node.present; enough = enough; fits = fits; branches = shaped.node.branches; counted = shaped.node.counted; sized = shaped.node.sized };
     children = shaped.children;
   }) (All-nil _);
 }

@@ -1,22 +1,22 @@
 -- A search below a node goes on in one child.
-use Rattle.std.proofs.Common.{◌≡◌, ◌⊎◌, ℕ, zero, suc, ◌+◌, ◌<◌, ◌≤◌, Bool, List, [], ◌∷◌, ◌++◌, length, get_or, take, map, refl, ap, ◌∙◌, inl, inr, add-one, arith, count_by, IsSome}
-use Rattle.std.proofs.lemmas.List.{append-nil, length-append, length-map, get_or-map, take_more}
-use Rattle.std.proofs.lemmas.List.Sums.{sum_by-append, count_by-le-length}
-use Rattle.std.specs.List.{All}
-use Rattle.std.proofs.lemmas.List.Elements.{All-take}
+use Rattle.std.proofs.Common.{◌≡◌, ◌⊎◌, ℕ, zero, suc, ◌+◌, ◌-◌, ◌<◌, ◌≤◌, Bool, List, [], ◌∷◌, ◌++◌, length, get_or, take, map, refl, sym, ap, ◌∙◌, inl, inr, add-one, arith, count_by, Option, Some, None}
+use Rattle.std.proofs.lemmas.List.{append-nil, length-append, length-map, get_or-map}
+use Rattle.std.proofs.lemmas.List.Sums.{sum_by_more, count_by-le-length}
+use Rattle.std.specs.List.{sum}
 use Rattle.range_store.proofs.Cut.{child_count_cases}
-use Rattle.range_store.proofs.Room.{children_present}
-use Rattle.range_store.proofs.Rank.{leaf_numbers}
+use Rattle.range_store.proofs.Sizes.{size_is, sizes_length}
+use Rattle.range_store.proofs.Rank.{leaf_numbers, rank_in_child, rank_at_item}
+use Rattle.range_store.specs.declared.btree.place.Found.{Found}
 use Rattle.range_store.specs.Nodes.{child_count}
 use Rattle.slab.specs.Slab.{Slab, get}
 use Rattle.std.proofs.lemmas.Bool.{cases_lt}
 use Rattle.range_store.specs.declared.btree.node.Node.{Node}
 use Rattle.range_store.specs.declared.btree.node.TheConstants.{MOST}
-use Rattle.range_store.specs.Nodes.{weave, rest_of, before, after, items_of, children_of, count_of, numbers, ShapedBut, counts}
+use Rattle.range_store.specs.Nodes.{weave, rest_of, before, after, items_of, children_of, sizes_of, numbers, ShapedBut, IsLast}
 use Rattle.range_store.specs.Falling.{Falls}
 use Rattle.range_store.specs.Listed.{Stored}
 use Rattle.range_store.proofs.Front.{count-yes, count-no, count-append, answer, falls_parts}
-use Rattle.range_store.proofs.Below.{children_length, lists_length, weave_numbers, numbers_at, length-before_more, child_known}
+use Rattle.range_store.proofs.Below.{children_length, lists_length, weave_numbers, numbers_at, length-before_more}
 use Rattle.range_store.specs.Occurrences.{occurrences, occurrences-append, occurrences-cons}
 
 occurrences-rest_of : (k : ℕ) (xs : List ℕ) (ks : List (List ℕ)) → length ks ≡ length xs → occurrences k xs ≤ occurrences k (rest_of xs ks)
@@ -92,19 +92,19 @@ module _ (p : ℕ → Bool) where
             rw step (omega (arith, whole, zero_tail, none, split))
       ]
 
--- how many items stand before a child, by the counts
+-- how many items stand before a child, by the sizes
 module _ (least most : ℕ) (s : Slab Node) (d n : ℕ) (inner : 0 < d) (shaped : ShapedBut least most s d n) where
-  pub before_counts : (i : ℕ) → i ≤ length (items_of (get s n)) → length (before (items_of (get s n)) (map (numbers s d) (children_of (get s n))) i) ≡ i + counts s (take i (children_of (get s n)))
-  before_counts zero within = refl
-  before_counts (suc i) within =
+  pub before_sizes : (i : ℕ) → i ≤ length (items_of (get s n)) → length (before (items_of (get s n)) (map (numbers s d) (children_of (get s n))) i) ≡ i + sum (take i (sizes_of (get s n)))
+  before_sizes zero within = refl
+  before_sizes (suc i) within =
       let ks = children_of (get s n) in
       let many = children_length least most s d n inner shaped in
       let lt : i < length ks = omega (arith, many) in
       let more = rw add-one at (length-before_more least most s d n inner shaped i (omega arith)) in
-      let known = child_known least most s d n inner shaped i lt in
-      let taken = rw add-one at (ap (counts s) (take_more ks i 0 lt)) in
-      let sum = sum_by-append (λ k. count_of (get s k)) (take i ks) (get_or ks i 0 ∷ []) in
-      omega (arith, more, known.counted, taken, sum, before_counts i (omega arith))
+      let long = sizes_length (numbers s d) ks (sizes_of (get s n)) shaped.node.sized in
+      let size = size_is (numbers s d) ks (sizes_of (get s n)) shaped.node.sized i lt in
+      let total = rw add-one at (sum_by_more (λ k. k) (sizes_of (get s n)) i 0 (omega (arith, long))) in
+      omega (arith, more, size, total, before_sizes i (omega arith))
 
 pub fits_weave : (s : Slab Node) (d n : ℕ) → length (children_of (get s n)) ≡ child_count d (length (items_of (get s n))) → (length (map (numbers s d) (children_of (get s n))) ≡ 0) ⊎ (length (map (numbers s d) (children_of (get s n))) ≡ length (items_of (get s n)) + 1)
 fits_weave s d n branches = child_count_cases d _ _ (length-map (children_of (get s n)) (numbers s d) ∙ branches)
@@ -131,7 +131,7 @@ module _ {T : Type 0} (items : Slab T) (p : ℕ → Bool) (least most : ℕ) (s 
         let first = falls_parts p (before (items_of (get s n)) lists i) (numbers s d (get_or (children_of (get s n)) i 0) ++ after (items_of (get s n)) lists i) (rw whole at falls) in
         (falls_parts p (numbers s d (get_or (children_of (get s n)) i 0)) (after (items_of (get s n)) lists i) first.back).front
 
-  pub search_step : 0 < d → Falls p (numbers s (suc d) n) → count_by p (numbers s (suc d) n) ≡ count_by p (items_of (get s n)) + counts s (take (count_by p (items_of (get s n))) (children_of (get s n))) + count_by p (numbers s d (get_or (children_of (get s n)) (count_by p (items_of (get s n))) 0))
+  pub search_step : 0 < d → Falls p (numbers s (suc d) n) → count_by p (numbers s (suc d) n) ≡ count_by p (items_of (get s n)) + sum (take (count_by p (items_of (get s n))) (sizes_of (get s n))) + count_by p (numbers s d (get_or (children_of (get s n)) (count_by p (items_of (get s n))) 0))
   search_step inner falls =
       let xs = items_of (get s n) in
       let ks = children_of (get s n) in
@@ -139,11 +139,34 @@ module _ {T : Type 0} (items : Slab T) (p : ℕ → Bool) (least most : ℕ) (s 
       let many = children_length least most s d n inner shaped in
       let main = count-weave p xs (map (numbers s d) ks) (lists_length least most s d n inner shaped) (rw weave_numbers at falls) in
       let kid = get_or-map (numbers s d) ks (count_by p xs) 0 [] (omega (arith, many)) in
-      omega (arith, ap (count_by p) (weave_numbers s d n), main, ap (count_by p) kid, before_counts least most s d n inner shaped (count_by p xs) within)
+      omega (arith, ap (count_by p) (weave_numbers s d n), main, ap (count_by p) kid, before_sizes least most s d n inner shaped (count_by p xs) within)
 
 pub search_leaf : (p : ℕ → Bool) (s : Slab Node) (below n : ℕ) → below ≡ 0 → ShapedBut 1 MOST s below n → count_by p (numbers s (suc below) n) ≡ count_by p (items_of (get s n))
 search_leaf p s below n leaf shaped = ap (count_by p) (leaf_numbers s below n leaf shaped)
 
--- the children before the i-th may be counted together
-pub front_present : (s : Slab Node) (d n i : ℕ) → ShapedBut 1 MOST s d n → All (λ c. IsSome (get s c)) (take i (children_of (get s n)))
-front_present s d n i shaped = All-take (λ c. IsSome (get s c)) i (children_of (get s n)) (children_present s d _ (children_of (get s n)) shaped.node.branches shaped.children)
+-- the last item that passes stands in the child, or before it where none of the child's passes
+module _ (s : Slab Node) (d n i skipped later count : ℕ) (inner : 0 < d) (shaped : ShapedBut 1 MOST s d n) (within : i ≤ length (items_of (get s n))) (before_is : skipped ≡ sum (take i (sizes_of (get s n)))) (count_is : count ≡ i + skipped + later) where
+  abbrev kid : ℕ
+  kid = get_or (children_of (get s n)) i 0
+
+  pub last_in_child : (last : Option Found) → 0 < later → later ≤ length (numbers s d (get_or (children_of (get s n)) i 0)) → IsLast (numbers s d (get_or (children_of (get s n)) i 0)) later last → IsLast (numbers s (suc d) n) count last
+  last_in_child None some fits none = absurd (omega arith)
+  last_in_child (Some found) some fits at =
+      let sizes = before_sizes 1 MOST s d n inner shaped i within in
+      let there = rank_in_child 1 MOST s d n i (later - 1) (count - 1) inner shaped within (omega (arith, sizes, before_is, count_is, some)) (omega (arith, some, fits)) in
+      (omega (arith, some, count_is), at.1 ∙ sym there)
+
+  pub last_at_item : (last : Option Found) → later ≡ 0 → count ≤ length (numbers s (suc d) n) → IsLast (items_of (get s n)) i last → IsLast (numbers s (suc d) n) count last
+  last_at_item None nothing fits none =
+      let sizes = before_sizes 1 MOST s d n inner shaped i within in
+      let front : length (before (items_of (get s n)) (map (numbers s d) (children_of (get s n))) i) ≡ 0 = rw none refl in
+      omega (arith, sizes, front, before_is, count_is, nothing)
+  last_at_item (Some found) nothing fits at =
+      let sizes = before_sizes 1 MOST s d n inner shaped i within in
+      let next : i - 1 + 1 ≡ i = omega (arith, at.0) in
+      let more = rw next at (length-before_more 1 MOST s d n inner shaped (i - 1) (omega (arith, at.0, within))) in
+      let there = rank_at_item 1 MOST s d n (i - 1) (length (numbers s d (get_or (children_of (get s n)) (i - 1) 0))) (count - 1) inner shaped (omega (arith, within)) (omega (arith, sizes, more, before_is, count_is, nothing)) refl (omega (arith, fits, at.0, count_is)) in
+      (omega (arith, at.0, count_is), at.1 ∙ sym there)
+
+pub last_leaf : (s : Slab Node) (below n count : ℕ) (last : Option Found) → below ≡ 0 → ShapedBut 1 MOST s below n → IsLast (items_of (get s n)) count last → IsLast (numbers s (suc below) n) count last
+last_leaf s below n count last leaf shaped at = rw (leaf_numbers s below n leaf shaped) at

@@ -40,9 +40,9 @@ same_children_from s t d below (n ∷ ns) agree =
       shaped_same = λ h. All-cons (Shaped t d) n ns (first.shaped_same (All-head (Shaped s d) n ns h)) (later.shaped_same (All-tail (Shaped s d) n ns h));
     }
 
-pub IsNode-same : (least most : ℕ) (s t : Slab Node) (d n : ℕ) → get t n ≡ get s n → numbers t (suc d) n ≡ numbers s (suc d) n → IsNode least most s d n → IsNode least most t d n
-IsNode-same least most s t d n here same node =
-    record { present = rw here node.present; enough = rw here node.enough; fits = rw here node.fits; branches = rw here node.branches; counted = rw (here, same) node.counted }
+pub IsNode-same : (least most : ℕ) (s t : Slab Node) (d n : ℕ) → get t n ≡ get s n → numbers t (suc d) n ≡ numbers s (suc d) n → map (numbers t d) (children_of (get s n)) ≡ map (numbers s d) (children_of (get s n)) → IsNode least most s d n → IsNode least most t d n
+IsNode-same least most s t d n here same lists node =
+    record { present = rw here node.present; enough = rw here node.enough; fits = rw here node.fits; branches = rw here node.branches; counted = rw (here, same) node.counted; sized = rw (here, lists) node.sized }
 
 pub same_below : (s t : Slab Node) (d n : ℕ) → AgreeAt s t (used s d n) → SameBelow s t d n
 unfolding numbers used Shaped
@@ -54,7 +54,7 @@ same_below s t (suc d) n agree =
     record {
       numbers_same = numbers_eq;
       used_same = rw (here, children.used_same);
-      shaped_same = λ h. (IsNode-same LEAST MOST s t d n here numbers_eq h.0, rw here (children.shaped_same h.1));
+      shaped_same = λ h. (IsNode-same LEAST MOST s t d n here numbers_eq children.numbers_same h.0, rw here (children.shaped_same h.1));
     }
 
 pub same_children : (s t : Slab Node) (d : ℕ) (ns : List ℕ) → AgreeAt s t (flat_map (used s d) ns) → SameChildren s t d ns

@@ -9,7 +9,7 @@ use Rattle.slab.specs.Slab.{Slab, get}
 use Rattle.range_store.specs.declared.btree.node.Node.{Node}
 use Rattle.range_store.specs.declared.btree.node.Split.{Split}
 use Rattle.range_store.specs.declared.btree.node.TheConstants.{MOST, LEAST}
-use Rattle.range_store.specs.Nodes.{before, front_of, items_of, children_of, count_of, numbers, used, Shaped, ShapedBut, Owned, tops, separators, rights, Replaces, EnoughFor, Rewrites, HasTreeRoom, IsReady}
+use Rattle.range_store.specs.Nodes.{before, front_of, items_of, children_of, sizes_of, count_of, counts, numbers, used, Shaped, ShapedBut, Owned, tops, separators, rights, Replaces, EnoughFor, Rewrites, HasTreeRoom, IsReady}
 use Rattle.range_store.proofs.Below.{children_length}
 use Rattle.range_store.proofs.Replace.{used_is, used_parts, occurrences_parts, parts, Shaped-but, here_le, Replaces-then, Grows, grown, leaf_grown, numbers_leaf}
 use Rattle.range_store.proofs.Room.{sizes, sizes-append, numbers_size, used_le_but, HasTreeRoom-child, wider}
@@ -90,10 +90,11 @@ pub inner_grown : (s0 s1 s2 : Slab Node) (below n i rest rank item : ℕ) (split
     → get s1 n ≡ get s0 n → Rewrites s1 s2 n
     → items_of (get s2 n) ≡ take i (items_of (get s1 n)) ++ (separators split ++ drop i (items_of (get s1 n)))
     → children_of (get s2 n) ≡ take (i + 1) (children_of (get s1 n)) ++ (rights split ++ drop (i + 1) (children_of (get s1 n)))
+    → sizes_of (get s2 n) ≡ take i (sizes_of (get s1 n)) ++ (counts s1 (tops (get_or (children_of (get s0 n)) i 0) split) ++ drop (i + 1) (sizes_of (get s1 n)))
     → count_of (get s2 n) ≡ count_of (get s1 n) + 1
     → Replaces (MOST + 1) s0 s2 below n None (insert (numbers s0 (suc below) n) rank item)
-inner_grown s0 s1 s2 zero n i rest rank item split inner shaped owned within rest_within place child kept written items children count = absurd (omega arith)
-inner_grown s0 s1 s2 (suc e) n i rest rank item split inner shaped owned within rest_within place child kept written items children count =
+inner_grown s0 s1 s2 zero n i rest rank item split inner shaped owned within rest_within place child kept written items children sizes count = absurd (omega arith)
+inner_grown s0 s1 s2 (suc e) n i rest rank item split inner shaped owned within rest_within place child kept written items children sizes count =
     let level : suc e - 1 ≡ e = omega arith in
     let ks = children_of (get s0 n) in
     let many : length ks ≡ length (items_of (get s0 n)) + 1 = kids_many s0 (suc e) n i inner shaped owned within in
@@ -110,16 +111,17 @@ inner_grown s0 s1 s2 (suc e) n i rest rank item split inner shaped owned within 
           (rw kept at children) ∙ ap (λ zs. zs ++ (rights split ++ drop (i + 1) ks)) front
           ∙ append_assoc (take i ks) (get_or ks i 0 ∷ []) (rights split ++ drop (i + 1) ks)
           ∙ ap (λ zs. take i ks ++ zs) (sym (append_assoc (get_or ks i 0 ∷ []) (rights split) (drop (i + 1) ks)) ∙ ap (λ zs. zs ++ drop (i + 1) ks) (sym (tops_are (get_or ks i 0) split)));
+      sizes = rw kept at sizes;
       count = rw kept at count;
     } in
     let same : length (before (items_of (get s0 n)) (map (numbers s0 (suc e)) ks) i) ≡ length (front_of (take i (items_of (get s0 n))) (map (numbers s0 (suc e)) (take i ks))) = ap (λ zs. length (front_of (take i (items_of (get s0 n))) zs)) (take-map (numbers s0 (suc e)) i ks) in
     rw (← place, same) (grown e n i rest item s0 s1 s2 split g)
 
 -- the same at a leaf
-pub leaf_step : (s t : Slab Node) (below n rank item : ℕ) → below ≡ 0 → ShapedBut 1 MOST s below n → rank ≤ length (numbers s (suc below) n) → Rewrites s t n → items_of (get t n) ≡ insert (items_of (get s n)) rank item → children_of (get t n) ≡ children_of (get s n) → count_of (get t n) ≡ count_of (get s n) + 1 → Replaces (MOST + 1) s t below n None (insert (numbers s (suc below) n) rank item)
-leaf_step s t zero n rank item leaf shaped within written items children count =
-    leaf_grown s t n rank item (weaker 0 1 MOST s zero n (omega arith) shaped) (omega (arith, within, ap length (numbers_leaf s n shaped.node.branches))) written items children count
-leaf_step s t (suc e) n rank item leaf shaped within written items children count = absurd (omega arith)
+pub leaf_step : (s t : Slab Node) (below n rank item : ℕ) → below ≡ 0 → ShapedBut 1 MOST s below n → rank ≤ length (numbers s (suc below) n) → Rewrites s t n → items_of (get t n) ≡ insert (items_of (get s n)) rank item → children_of (get t n) ≡ children_of (get s n) → sizes_of (get t n) ≡ sizes_of (get s n) → count_of (get t n) ≡ count_of (get s n) + 1 → Replaces (MOST + 1) s t below n None (insert (numbers s (suc below) n) rank item)
+leaf_step s t zero n rank item leaf shaped within written items children sizes count =
+    leaf_grown s t n rank item (weaker 0 1 MOST s zero n (omega arith) shaped) (omega (arith, within, ap length (numbers_leaf s n shaped.node.branches))) written items children sizes count
+leaf_step s t (suc e) n rank item leaf shaped within written items children sizes count = absurd (omega arith)
 
 pub leaf_within : (s : Slab Node) (below n rank : ℕ) → below ≡ 0 → ShapedBut 1 MOST s below n → rank ≤ length (numbers s (suc below) n) → rank ≤ length (items_of (get s n))
 leaf_within s zero n rank leaf shaped within = omega (arith, within, ap length (numbers_leaf s n shaped.node.branches))

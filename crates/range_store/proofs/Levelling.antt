@@ -8,17 +8,13 @@ use Rattle.slab.specs.Slab.{Slab, get}
 use Rattle.range_store.specs.declared.btree.node.Node.{Node}
 use Rattle.range_store.specs.declared.btree.node.Split.{Split}
 use Rattle.range_store.specs.declared.btree.node.TheConstants.{MOST, LEAST, CHILD_PLACES}
-use Rattle.range_store.specs.Nodes.{weave, rest_of, front_of, items_of, children_of, count_of, child_count, numbers, used, Shaped, ShapedBut, Rewrites, Reweaves, Replaces, Pools, CanPool, Owned, here, Shrinks, IsLevelled, IsCuttable}
+use Rattle.range_store.specs.Nodes.{weave, rest_of, front_of, items_of, children_of, sizes_of, count_of, counts, child_count, numbers, used, Shaped, ShapedBut, Rewrites, Reweaves, Replaces, Pools, CanPool, Owned, here, Shrinks, IsLevelled, IsCuttable}
 use Rattle.range_store.specs.Occurrences.{occurrences, occurrences-cons, occurrences-append, occurrences_itself}
 use Rattle.range_store.proofs.Replace.{used_is, used_parts, occurrences_parts, parts, here_le, Shaped-from_but}
 use Rattle.range_store.proofs.Pooling.{pooled_numbers, pooled, pooled_shape}
-use Rattle.range_store.proofs.Segment.{Segment, rewoven, numbers_old, numbers_new, children_shaped, Reweaves-then, Replaces-woven}
-
--- a list with another element at j
-pub set_parts : {X : Type 0} (xs : List X) (j : ℕ) (y : X) → j < length xs → set xs j y ≡ take j xs ++ (y ∷ drop (j + 1) xs)
-set_parts [] j y within = absurd (omega arith)
-set_parts (x ∷ xs) zero y within = refl
-set_parts (x ∷ xs) (suc j) y within = rw add-one (ap (λ zs. x ∷ zs) (rw add-one at (set_parts xs j y (omega arith))))
+use Rattle.range_store.proofs.Below.{Shaped-is_child}
+use Rattle.range_store.proofs.Sizes.{set_parts, remove_behind_set, set_two, sizes_length, resized, counts_listed}
+use Rattle.range_store.proofs.Segment.{Segment, rewoven, lists_new, numbers_old, numbers_new, children_shaped, Reweaves-then, Replaces-woven}
 
 -- the two children, before anything is written
 module _ (s : Slab Node) (low n j : ℕ) (pair : IsLevelled s low n j) where
@@ -39,6 +35,9 @@ module _ (s : Slab Node) (low n j : ℕ) (pair : IsLevelled s low n j) where
 
   pub many : length ks ≡ length xs + 1
   many = pair.node.branches
+
+  pub sizes_wide : j + 1 < length (sizes_of (get s n))
+  sizes_wide = omega (arith, sizes_length (numbers s (suc low)) (children_of (get s n)) (sizes_of (get s n)) pair.node.sized, many, pair.within)
 
   pub xs_parts : xs ≡ take j xs ++ ((x ∷ []) ++ drop (j + 1) xs)
   xs_parts = parts xs j 0 pair.within
@@ -90,6 +89,8 @@ module _ (s : Slab Node) (low n j : ℕ) (pair : IsLevelled s low n j) where
     apart = apart;
     items_fit = pair.fits;
     children_fit = fit low pair.left.node.branches pair.right.node.branches;
+    sizes_fit =
+        omega (arith, fit low pair.left.node.branches pair.right.node.branches, sizes_length (numbers s low) (children_of (get s l)) (sizes_of (get s l)) pair.left.node.sized, sizes_length (numbers s low) (children_of (get s r)) (sizes_of (get s r)) pair.right.node.sized);
     small =
         omega (arith, small, pair.node.counted, pair.left.node.counted, pair.right.node.counted, ap length list_old, length-append (front_of (take j xs) (map (numbers s (suc low)) (take j ks))) ((numbers s (suc low) l ++ (x ∷ (numbers s (suc low) r ++ []))) ++ rest_of (drop (j + 1) xs) (map (numbers s (suc low)) (drop (j + 2) ks))), length-append (numbers s (suc low) l ++ (x ∷ (numbers s (suc low) r ++ []))) (rest_of (drop (j + 1) xs) (map (numbers s (suc low)) (drop (j + 2) ks))), length-append (numbers s (suc low) l) (x ∷ (numbers s (suc low) r ++ [])), length-append (numbers s (suc low) r) []);
   }
@@ -135,7 +136,7 @@ module _ (s t : Slab Node) (low n j : ℕ) (pair : IsLevelled s low n j) (pool :
   top_kept = below.outside n n_apart pair.node.present
 
   -- the pair as it is in the end: the run ms', with these items between
-  module _ (u v : Slab Node) (ms' ss' : List ℕ) (more : List ℕ) (step : Reweaves t u (suc low) (l s low n j pair ∷ []) ms') (first : ms' ≡ l s low n j pair ∷ more) (between : length ss' ≡ length more) (few : length ss' ≤ 1) (list : weave ss' (map (numbers u (suc low)) ms') ≡ numbers t (suc low) (l s low n j pair)) (shaped : All (Shaped u (suc low)) ms') (written : Rewrites u v n) (items : items_of (get v n) ≡ take j (items_of (get s n)) ++ (ss' ++ drop (j + 1) (items_of (get s n)))) (children : children_of (get v n) ≡ take j (children_of (get s n)) ++ (ms' ++ drop (j + 2) (children_of (get s n)))) (count : count_of (get v n) ≡ count_of (get s n)) where
+  module _ (u v : Slab Node) (ms' ss' : List ℕ) (more : List ℕ) (step : Reweaves t u (suc low) (l s low n j pair ∷ []) ms') (first : ms' ≡ l s low n j pair ∷ more) (between : length ss' ≡ length more) (few : length ss' ≤ 1) (list : weave ss' (map (numbers u (suc low)) ms') ≡ numbers t (suc low) (l s low n j pair)) (shaped : All (Shaped u (suc low)) ms') (written : Rewrites u v n) (items : items_of (get v n) ≡ take j (items_of (get s n)) ++ (ss' ++ drop (j + 1) (items_of (get s n)))) (children : children_of (get v n) ≡ take j (children_of (get s n)) ++ (ms' ++ drop (j + 2) (children_of (get s n)))) (sizes : sizes_of (get v n) ≡ take j (sizes_of (get s n)) ++ (counts u ms' ++ drop (j + 2) (sizes_of (get s n)))) (count : count_of (get v n) ≡ count_of (get s n)) where
     segment : Segment s u v (suc low) n (take j (children_of (get s n))) (l s low n j pair ∷ r s low n j pair ∷ []) (drop (j + 2) (children_of (get s n))) ms'
     segment = record {
       present = pair.node.present;
@@ -161,6 +162,15 @@ module _ (s t : Slab Node) (low n j : ℕ) (pair : IsLevelled s low n j) (pool :
     children_length : length (children_of (get v n)) ≡ length (items_of (get v n)) + 1
     children_length = omega (arith, items_length, ap length children, length-append (take j (children_of (get s n))) (ms' ++ drop (j + 2) (children_of (get s n))), length-append ms' (drop (j + 2) (children_of (get s n))), ap length first, length-take-le j (children_of (get s n)) (omega (arith, many s low n j pair, pair.within)), length-drop (j + 2) (children_of (get s n)), many s low n j pair, pair.within)
 
+    counted_run : All (λ k. count_of (get u k) ≡ length (numbers u (suc low) k)) ms'
+    counted_run = All-weaker (Shaped u (suc low)) (λ k. count_of (get u k) ≡ length (numbers u (suc low) k)) (λ k h. (Shaped-is_child u (suc low) k (omega arith) h).counted) ms' shaped
+
+    sized_new : sizes_of (get v n) ≡ map length (map (numbers v (suc low)) (children_of (get v n)))
+    sized_new =
+        resized (numbers s (suc low)) (children_of (get s n)) (sizes_of (get s n)) pair.node.sized j (j + 2) (map (numbers u (suc low)) ms') _ _ (counts u ms')
+        (lists_new s u v (suc low) n (take j (children_of (get s n))) (l s low n j pair ∷ r s low n j pair ∷ []) (drop (j + 2) (children_of (get s n))) ms' segment)
+        (counts_listed u (suc low) ms' counted_run) sizes
+
     pub levelled : Shrinks s v (suc low) n (numbers s (suc (suc low)) n)
     levelled = record {
       listed = list_new;
@@ -172,22 +182,28 @@ module _ (s t : Slab Node) (low n j : ℕ) (pair : IsLevelled s low n j) (pool :
           fits = omega (arith, items_length, pair.node.fits, few);
           branches = children_length;
           counted = count ∙ pair.node.counted ∙ sym (ap length list_new);
+          sized = sized_new;
         };
         children = children_shaped s u v (suc low) n (take j (children_of (get s n))) (l s low n j pair ∷ r s low n j pair ∷ []) (drop (j + 2) (children_of (get s n))) ms' segment pair.before shaped pair.behind;
       };
     }
 
   -- where the two became one
-  pub detached : (v : Slab Node) → Rewrites t v n → items_of (get v n) ≡ remove (items_of (get t n)) j → children_of (get v n) ≡ remove (children_of (get t n)) (j + 1) → count_of (get v n) ≡ count_of (get t n) → length (items_of (get t (l s low n j pair))) ≤ LEAST + LEAST → Shrinks s v (suc low) n (numbers s (suc (suc low)) n)
-  detached v written items children count short =
+  pub detached : (v : Slab Node) → Rewrites t v n → items_of (get v n) ≡ remove (items_of (get t n)) j → children_of (get v n) ≡ remove (children_of (get t n)) (j + 1) → sizes_of (get v n) ≡ remove (set (sizes_of (get t n)) j (count_of (get t (l s low n j pair)))) (j + 1) → count_of (get v n) ≡ count_of (get t n) → length (items_of (get t (l s low n j pair))) ≤ LEAST + LEAST → Shrinks s v (suc low) n (numbers s (suc (suc low)) n)
+  detached v written items children sizes count short =
       let kids = children_of (get s n) in
       let far : suc (j + 1) ≡ j + 2 = omega arith in
       let wide : j < length kids = omega (arith, many s low n j pair, pair.within) in
       let items' : items_of (get v n) ≡ take j (items_of (get s n)) ++ drop (j + 1) (items_of (get s n)) = rw add-one (rw top_kept at items) in
       let children' : children_of (get v n) ≡ take j kids ++ (l s low n j pair ∷ drop (j + 2) kids) =
       (rw top_kept at children) ∙ ap (λ m. take (j + 1) kids ++ drop m kids) far ∙ ap (λ zs. zs ++ drop (j + 2) kids) (take_more kids j 0 wide) ∙ append_assoc (take j kids) (l s low n j pair ∷ []) (drop (j + 2) kids) in
+      let next : j + 1 ≡ suc j = omega arith in
+      let past : suc (suc j) ≡ j + 2 = omega arith in
+      let long = sizes_length (numbers s (suc low)) kids (sizes_of (get s n)) pair.node.sized in
+      let sizes' : sizes_of (get v n) ≡ take j (sizes_of (get s n)) ++ (count_of (get t (l s low n j pair)) ∷ drop (j + 2) (sizes_of (get s n))) =
+      (rw (top_kept, next) at sizes) ∙ remove_behind_set (sizes_of (get s n)) j (count_of (get t (l s low n j pair))) (omega (arith, long, wide)) ∙ ap (λ m. take j (sizes_of (get s n)) ++ (count_of (get t (l s low n j pair)) ∷ drop m (sizes_of (get s n)))) past in
       let one = Shaped-from_but t low (l s low n j pair) (pooled_but LEAST MOST (omega (arith, pooled_length, pair.enough)) (omega (arith, short))) in
-      levelled t v (l s low n j pair ∷ []) [] [] (record { owned = λ k. refl; outside = λ k unused there. refl; len = refl; capacity = refl }) refl refl (omega arith) (append-nil (numbers t (suc low) (l s low n j pair))) (All-cons (Shaped t (suc low)) (l s low n j pair) [] one (All-nil _)) written items' children' (rw top_kept at count)
+      levelled t v (l s low n j pair ∷ []) [] [] (record { owned = λ k. refl; outside = λ k unused there. refl; len = refl; capacity = refl }) refl refl (omega arith) (append-nil (numbers t (suc low) (l s low n j pair))) (All-cons (Shaped t (suc low)) (l s low n j pair) [] one (All-nil _)) written items' children' sizes' (rw top_kept at count)
 
   -- where the one was cut again
   module _ (u : Slab Node) (split : Split) (cut : Replaces MOST t u low (l s low n j pair) (Some split) (numbers t (suc low) (l s low n j pair))) where
@@ -196,16 +212,21 @@ module _ (s t : Slab Node) (low n j : ℕ) (pair : IsLevelled s low n j) (pool :
         let same : here t n ≡ here s n = rw top_kept refl in
         cut.outside n (omega (arith, below.owned n, n_apart, same, ap (occurrences n) (append-nil (used t (suc low) (l s low n j pair))))) (rw top_kept pair.node.present) ∙ top_kept
 
-    pub bordered : (v : Slab Node) → Rewrites u v n → items_of (get v n) ≡ set (items_of (get u n)) j split.middle → children_of (get v n) ≡ set (children_of (get u n)) (j + 1) split.right → count_of (get v n) ≡ count_of (get u n) → Shrinks s v (suc low) n (numbers s (suc (suc low)) n)
-    bordered v written items children count =
+    pub bordered : (v : Slab Node) → Rewrites u v n → items_of (get v n) ≡ set (items_of (get u n)) j split.middle → children_of (get v n) ≡ set (children_of (get u n)) (j + 1) split.right → sizes_of (get v n) ≡ set (set (sizes_of (get u n)) j (count_of (get u (l s low n j pair)))) (j + 1) (count_of (get u split.right)) → count_of (get v n) ≡ count_of (get u n) → Shrinks s v (suc low) n (numbers s (suc (suc low)) n)
+    bordered v written items children sizes count =
         let kids = children_of (get s n) in
         let far : j + 1 + 1 ≡ j + 2 = omega arith in
         let wide : j < length kids = omega (arith, many s low n j pair, pair.within) in
         let items' : items_of (get v n) ≡ take j (items_of (get s n)) ++ (split.middle ∷ drop (j + 1) (items_of (get s n))) = (rw cut_kept at items) ∙ set_parts (items_of (get s n)) j split.middle pair.within in
         let children' : children_of (get v n) ≡ take j kids ++ (l s low n j pair ∷ split.right ∷ drop (j + 2) kids) =
         (rw cut_kept at children) ∙ set_parts kids (j + 1) split.right (omega (arith, many s low n j pair, pair.within)) ∙ ap (λ m. take (j + 1) kids ++ (split.right ∷ drop m kids)) far ∙ ap (λ zs. zs ++ (split.right ∷ drop (j + 2) kids)) (take_more kids j 0 wide) ∙ append_assoc (take j kids) (l s low n j pair ∷ []) (split.right ∷ drop (j + 2) kids) in
+        let next : j + 1 ≡ suc j = omega arith in
+        let past : suc (suc j) ≡ j + 2 = omega arith in
+        let long = sizes_length (numbers s (suc low)) kids (sizes_of (get s n)) pair.node.sized in
+        let sizes' : sizes_of (get v n) ≡ take j (sizes_of (get s n)) ++ (count_of (get u (l s low n j pair)) ∷ count_of (get u split.right) ∷ drop (j + 2) (sizes_of (get s n))) =
+        (rw (cut_kept, next) at sizes) ∙ set_two (sizes_of (get s n)) j (count_of (get u (l s low n j pair))) (count_of (get u split.right)) (omega (arith, long, many s low n j pair, pair.within)) ∙ ap (λ m. take j (sizes_of (get s n)) ++ (count_of (get u (l s low n j pair)) ∷ count_of (get u split.right) ∷ drop m (sizes_of (get s n)))) past in
         let two = All-weaker (ShapedBut LEAST MOST u low) (Shaped u (suc low)) (λ k. Shaped-from_but u low k) (l s low n j pair ∷ split.right ∷ []) (cut.shape LEAST (omega arith) tt) in
-        levelled u v (l s low n j pair ∷ split.right ∷ []) (split.middle ∷ []) (split.right ∷ []) (Replaces-woven MOST t u low (l s low n j pair) (Some split) (numbers t (suc low) (l s low n j pair)) cut) refl refl (omega arith) cut.listed two written items' children' (rw cut_kept at count)
+        levelled u v (l s low n j pair ∷ split.right ∷ []) (split.middle ∷ []) (split.right ∷ []) (Replaces-woven MOST t u low (l s low n j pair) (Some split) (numbers t (suc low) (l s low n j pair)) cut) refl refl (omega arith) cut.listed two written items' children' sizes' (rw cut_kept at count)
 
     pub bordered_size : (v : Slab Node) → items_of (get v n) ≡ set (items_of (get u n)) j split.middle → length (items_of (get v n)) ≡ length (items_of (get s n))
     bordered_size v items = ap length (rw cut_kept at items) ∙ length-set (items_of (get s n)) j split.middle

@@ -53,7 +53,7 @@ module _ (s : Slab Node) (low n i : ℕ) (m : IsMendable s low n i) where
   pub stays_mended : LEAST ≤ length (items_of (get s kid)) → Shrinks s s (suc low) n (numbers s (suc (suc low)) n)
   stays_mended enough =
       let here = Shaped-from_but s low kid (record {
-        node = record { present = m.child.node.present; enough = enough; fits = m.child.node.fits; branches = m.child.node.branches; counted = m.child.node.counted };
+        node = record { present = m.child.node.present; enough = enough; fits = m.child.node.fits; branches = m.child.node.branches; counted = m.child.node.counted; sized = m.child.node.sized };
         children = m.child.children;
       }) in
       let children = subst (All P) (sym kids) (All-append P (take i ks) (kid ∷ drop (i + 1) ks) m.before (All-cons P kid (drop (i + 1) ks) here m.behind)) in
@@ -61,7 +61,7 @@ module _ (s : Slab Node) (low n i : ℕ) (m : IsMendable s low n i) where
         listed = refl;
         woven = Reweaves-same s (suc (suc low)) (n ∷ []);
         shape = λ least more. record {
-          node = record { present = m.node.present; enough = omega arith; fits = m.node.fits; branches = m.node.branches; counted = m.node.counted };
+          node = record { present = m.node.present; enough = omega arith; fits = m.node.fits; branches = m.node.branches; counted = m.node.counted; sized = m.node.sized };
           children = children;
         };
       }

@@ -7,7 +7,7 @@ use Rattle.std.proofs.lemmas.List.Elements.{All-append}
 use Rattle.std.proofs.lemmas.Bool.{cases_eq}
 use Rattle.slab.specs.Slab.{Slab, get}
 use Rattle.range_store.specs.declared.btree.node.Node.{Node}
-use Rattle.range_store.specs.Nodes.{weave, items_of, children_of, child_count, numbers, used, Shaped, ShapedBut, Reweaves, Pools, here}
+use Rattle.range_store.specs.Nodes.{weave, items_of, children_of, sizes_of, child_count, numbers, used, Shaped, ShapedBut, Reweaves, Pools, here}
 use Rattle.range_store.proofs.Weave.{weave_cut}
 use Rattle.range_store.proofs.Frame.{SameChildren, same_children}
 use Rattle.range_store.proofs.Below.{weave_numbers}
@@ -57,6 +57,12 @@ module _ (low most : ℕ) (s t : Slab Node) (d l r x : ℕ) (first : ShapedBut l
       let lists : map (numbers t d) (children_of (get t l)) ≡ map (numbers s d) us ++ map (numbers s d) vs =
       ap (map (numbers t d)) pool.children ∙ map-append (numbers t d) us vs ∙ rw (same_first.numbers_same, same_second.numbers_same) refl in
       weave_numbers t d l ∙ rw (pool.items, lists, weave_numbers s d l, weave_numbers s d r) (weave_join (items_of (get s l)) x (items_of (get s r)) (map (numbers s d) us) (map (numbers s d) vs) d (length-map us (numbers s d) ∙ first.node.branches) (length-map vs (numbers s d) ∙ second.node.branches))
+
+  pooled_sized : sizes_of (get t l) ≡ map length (map (numbers t d) (children_of (get t l)))
+  pooled_sized =
+      let lists : map (numbers t d) (children_of (get t l)) ≡ map (numbers s d) us ++ map (numbers s d) vs =
+      ap (map (numbers t d)) pool.children ∙ map-append (numbers t d) us vs ∙ rw (same_first.numbers_same, same_second.numbers_same) refl in
+      pool.sizes ∙ rw (first.node.sized, second.node.sized) (sym (map-append (length {A = ℕ}) (map (numbers s d) us) (map (numbers s d) vs))) ∙ sym (ap (map (length {A = ℕ})) lists)
 
   used_new : used t (suc d) l ≡ l ∷ (flat_map (used s d) us ++ flat_map (used s d) vs)
   used_new =
@@ -111,6 +117,7 @@ module _ (low most : ℕ) (s t : Slab Node) (d l r x : ℕ) (first : ShapedBut l
           fits = omega (arith, long);
           branches = ap length pool.children ∙ length-append us vs ∙ child_count-join d _ _ _ _ first.node.branches second.node.branches ∙ ap (child_count d) (sym long);
           counted = omega (arith, pool.count, first.node.counted, second.node.counted, ap length pooled_numbers, length-append (numbers s (suc d) l) (x ∷ numbers s (suc d) r));
+          sized = pooled_sized;
         };
         children = rw pool.children (All-append (Shaped t d) us vs (same_first.shaped_same first.children) (same_second.shaped_same second.children));
       }

@@ -1,7 +1,7 @@
 -- Positions that a call may or may not return, and the ends of a list.
-use Rattle.std.proofs.Common.{◌≡◌, ℕ, zero, suc, ◌+◌, ◌<◌, ◌≤◌, List, [], ◌∷◌, ◌++◌, length, get_or, refl, sym, ap, ◌∙◌, arith, Option, Some, None}
+use Rattle.std.proofs.Common.{◌≡◌, ℕ, ◌+◌, ◌<◌, ◌≤◌, List, [], ◌∷◌, ◌++◌, length, get_or, refl, sym, ap, ◌∙◌, arith, Option, Some, None}
 use Rattle.std.specs.Prelude.{MatchOption}
-use Rattle.std.specs.List.{AllZip, insert, remove}
+use Rattle.std.specs.List.{remove}
 use Rattle.range_store.specs.Places.{IsAt}
 use Rattle.range_store.proofs.Removing.{remove_last}
 
@@ -22,15 +22,3 @@ module _ {X : Type 0} where
   pub popped_last : (xs ys : List X) (x : X) (j : ℕ) → j + 1 ≡ length xs → x ≡ get_or xs j x → ys ≡ remove xs j → xs ≡ ys ++ (x ∷ [])
   popped_last xs ys x j last here rest =
       sym (remove_last xs j x last) ∙ ap (λ zs. zs ++ (get_or xs j x ∷ [])) (sym rest) ∙ ap (λ z. ys ++ (z ∷ [])) (sym here)
-
-  pub insert_end : (xs : List X) (n : ℕ) (x : X) → n ≡ length xs → insert xs n x ≡ xs ++ (x ∷ [])
-  insert_end [] zero x end = refl
-  insert_end [] (suc n) x end = absurd (omega arith)
-  insert_end (y ∷ xs) zero x end = absurd (omega arith)
-  insert_end (y ∷ xs) (suc n) x end = ap (λ zs. y ∷ zs) (insert_end xs n x (omega arith))
-
-  pub AllZip-end : (R : X → X → Type 0) (xs ys : List X) (x y : X) → AllZip R xs ys → R x y → AllZip R (xs ++ (x ∷ [])) (ys ++ (y ∷ []))
-  AllZip-end R [] [] x y zip last = (last, zip)
-  AllZip-end R [] (z ∷ ys) x y zip last = absurd zip
-  AllZip-end R (z ∷ xs) [] x y zip last = absurd zip
-  AllZip-end R (z ∷ xs) (w ∷ ys) x y zip last = (zip.0, AllZip-end R xs ys x y zip.1 last)

@@ -117,7 +117,7 @@ module _ (s t : Slab Node) (same : (k : ℕ) → get t k ≡ get s k) (len : sla
 
   pub but_kept : (least most d n : ℕ) → ShapedBut least most s d n → ShapedBut least most t d n
   but_kept least most d n shaped = record {
-    node = IsNode-same least most s t d n (same n) (numbers_kept (suc d) n) shaped.node;
+    node = IsNode-same least most s t d n (same n) (numbers_kept (suc d) n) (same_children s t d (children_of (get s n)) (λ k among. same k)).numbers_same shaped.node;
     children = rw (same n) ((same_children s t d (children_of (get s n)) (λ k among. same k)).shaped_same shaped.children);
   }
 

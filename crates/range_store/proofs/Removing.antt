@@ -8,14 +8,14 @@ use Rattle.std.proofs.lemmas.List.Elements.{All-nil, All-take, All-drop}
 use Rattle.slab.specs.Slab.{Slab, get}
 use Rattle.range_store.specs.declared.btree.node.Node.{Node}
 use Rattle.range_store.specs.declared.btree.node.TheConstants.{MOST, LEAST}
-use Rattle.range_store.specs.Nodes.{before, rest_of, front_of, items_of, children_of, count_of, numbers, used, Shaped, ShapedBut, Rewrites, Reweaves, Owned, Shrinks, IsMendable}
+use Rattle.range_store.specs.Nodes.{before, rest_of, front_of, items_of, children_of, sizes_of, count_of, numbers, used, Shaped, ShapedBut, Rewrites, Reweaves, Owned, Shrinks, IsMendable}
 use Rattle.range_store.specs.Occurrences.{occurrences}
 use Rattle.range_store.proofs.Frame.{AgreeAt-left}
 use Rattle.range_store.proofs.Insert.{kid_apart}
-use Rattle.range_store.proofs.Levelling.{set_parts}
+use Rattle.range_store.proofs.Sizes.{set_parts, size_is, sizes_length, resized, leaf_sized}
 use Rattle.range_store.proofs.Replace.{parts, Shaped-but, numbers_leaf}
 use Rattle.range_store.proofs.Room.{numbers_size}
-use Rattle.range_store.proofs.Segment.{Segment, rewoven, numbers_old, numbers_new, agree_middle, same_left, same_right, Reweaves-then, Owned-after, but_same, written_woven}
+use Rattle.range_store.proofs.Segment.{Segment, rewoven, lists_new, numbers_old, numbers_new, agree_middle, same_left, same_right, Reweaves-then, Owned-after, but_same, written_woven}
 
 module _ {X : Type 0} where
   -- the element at a place within the middle part goes
@@ -57,6 +57,8 @@ pub record Lessens (s0 s1 s2 : Slab Node) (e n i : ℕ) (list rest : List ℕ) :
   pub items : items_of (get s2 n) ≡ take i (items_of (get s0 n)) ++ rest
   pub long : length rest ≡ length (drop i (items_of (get s0 n)))
   pub children : children_of (get s2 n) ≡ children_of (get s0 n)
+  pub sizes : sizes_of (get s2 n) ≡ set (sizes_of (get s0 n)) i (get_or (sizes_of (get s0 n)) i 0 - 1)
+  pub shorter : length list + 1 ≡ length (numbers s0 (suc e) (get_or (children_of (get s0 n)) i 0))
   pub count : count_of (get s2 n) + 1 ≡ count_of (get s0 n)
 
 module _ (s0 s1 s2 : Slab Node) (e n i : ℕ) (list rest : List ℕ) (g : Lessens s0 s1 s2 e n i list rest) where
@@ -110,6 +112,18 @@ module _ (s0 s1 s2 : Slab Node) (e n i : ℕ) (list rest : List ℕ) (g : Lessen
   items_length : length (items_of (get s2 n)) ≡ length xs
   items_length = omega (arith, ap length g.items, length-append (take i xs) rest, g.long, length-take-le i xs g.within, length-drop i xs, g.within)
 
+  -- the child has one item less, and so its size says
+  sized_new : sizes_of (get s2 n) ≡ map length (map (numbers s2 (suc e)) (children_of (get s2 n)))
+  sized_new =
+      let wide : i < length ks = omega (arith, many, g.within) in
+      let old = sizes_of (get s0 n) in
+      let less = get_or old i 0 - 1 in
+      let was = size_is (numbers s0 (suc e)) ks old g.shaped.node.sized i wide in
+      let one : less ∷ [] ≡ map length (map (numbers s1 (suc e)) (kid ∷ [])) = ap (λ m. m ∷ []) (omega (arith, was, g.shorter, ap length g.child.listed)) in
+      resized (numbers s0 (suc e)) ks old g.shaped.node.sized i (i + 1) (map (numbers s1 (suc e)) (kid ∷ [])) _ _ (less ∷ [])
+      (lists_new s0 s1 s2 (suc e) n (take i ks) (kid ∷ []) (drop (i + 1) ks) (kid ∷ []) segment)
+      one (g.sizes ∙ set_parts old i less (omega (arith, wide, sizes_length (numbers s0 (suc e)) ks old g.shaped.node.sized)))
+
   kid_enough : LEAST ≤ length (items_of (get s0 kid))
   kid_enough = (Shaped-but s0 e kid (g.shaped.children i 0 (omega (arith, many, g.within)))).node.enough
 
@@ -122,6 +136,7 @@ module _ (s0 s1 s2 : Slab Node) (e n i : ℕ) (list rest : List ℕ) (g : Lessen
         fits = omega (arith, items_length, g.shaped.node.fits);
         branches = omega (arith, ap length g.children, many, items_length);
         counted = omega (arith, g.count, g.shaped.node.counted, ap length became, shorter);
+        sized = sized_new;
       };
       owned = Owned-after s0 s2 (suc (suc e)) n n g.owned woven;
       within = omega (arith, items_length, g.within);
@@ -148,6 +163,7 @@ pub record Step (s0 s1 s2 : Slab Node) (below n i rest rank : ℕ) (list : List 
   pub child : Shrinks s0 s1 (below - 1) (get_or (children_of (get s0 n)) i 0) list
   pub written : Rewrites s1 s2 n
   pub children : children_of (get s2 n) ≡ children_of (get s1 n)
+  pub sizes : sizes_of (get s2 n) ≡ set (sizes_of (get s1 n)) i (get_or (sizes_of (get s1 n)) i 0 - 1)
   pub count : count_of (get s2 n) + 1 ≡ count_of (get s1 n)
 
 -- what comes of it
@@ -163,7 +179,7 @@ top_same s0 s1 below n i list inner shaped owned within child =
     let apart = kid_apart s0 below n i inner shaped owned within in
     child.woven.outside n (rw level (ap (occurrences n) (append-nil (used s0 below kid)) ∙ apart)) shaped.node.present
 
-module _ (s0 s1 s2 : Slab Node) (e n i rest rank : ℕ) (list tail : List ℕ) (g : Step s0 s1 s2 (suc e) n i rest rank list) (items : items_of (get s2 n) ≡ take i (items_of (get s0 n)) ++ tail) (long : length tail ≡ length (drop i (items_of (get s0 n)))) where
+module _ (s0 s1 s2 : Slab Node) (e n i rest rank : ℕ) (list tail : List ℕ) (g : Step s0 s1 s2 (suc e) n i rest rank list) (items : items_of (get s2 n) ≡ take i (items_of (get s0 n)) ++ tail) (long : length tail ≡ length (drop i (items_of (get s0 n)))) (shorter : length list + 1 ≡ length (numbers s0 (suc e) (get_or (children_of (get s0 n)) i 0))) where
   same : get s1 n ≡ get s0 n
   same = top_same s0 s1 (suc e) n i list g.inner g.shaped g.owned g.within g.child
 
@@ -180,6 +196,8 @@ module _ (s0 s1 s2 : Slab Node) (e n i rest rank : ℕ) (list tail : List ℕ) (
     items = items;
     long = long;
     children = g.children ∙ rw same refl;
+    sizes = rw same at g.sizes;
+    shorter = shorter;
     count = g.count ∙ rw same refl;
   }
 
@@ -188,10 +206,10 @@ module _ (s0 s1 s2 : Slab Node) (e n i rest rank : ℕ) (list tail : List ℕ) (
 
   result : numbers s2 (suc (suc e)) n ≡ remove (numbers s0 (suc (suc e)) n) rank → Mendable s0 s2 (suc e) n i rank
   result became =
-      let shorter = length-remove (numbers s0 (suc (suc e)) n) rank g.inside in
+      let fewer = length-remove (numbers s0 (suc (suc e)) n) rank g.inside in
       record {
-        mendable = rw level (mendable s0 s1 s2 e n i list tail lessens (remove (numbers s0 (suc (suc e)) n) rank) became shorter);
-        finish = rw level (lessened s0 s1 s2 e n i list tail lessens (remove (numbers s0 (suc (suc e)) n) rank) became shorter);
+        mendable = rw level (mendable s0 s1 s2 e n i list tail lessens (remove (numbers s0 (suc (suc e)) n) rank) became fewer);
+        finish = rw level (lessened s0 s1 s2 e n i list tail lessens (remove (numbers s0 (suc (suc e)) n) rank) became fewer);
       }
 
 -- where the item lies in the child
@@ -204,14 +222,15 @@ plain_step s0 s1 s2 (suc e) n i rest rank g less items =
     let down : suc e - 1 ≡ e = omega arith in
     let kept = top_same s0 s1 (suc e) n i list g.inner g.shaped g.owned g.within g.child in
     let items' : items_of (get s2 n) ≡ take i xs ++ drop i xs = items ∙ ap items_of kept ∙ sym (take-append-drop i xs) in
-    let less' = lessens s0 s1 s2 e n i rest rank list (drop i xs) g items' refl in
+    let here : list ≡ remove (numbers s0 (suc e) kid) rest = rw down refl in
+    let shorter : length list + 1 ≡ length (numbers s0 (suc e) kid) = ap (λ zs. length zs + 1) here ∙ length-remove (numbers s0 (suc e) kid) rest less in
+    let less' = lessens s0 s1 s2 e n i rest rank list (drop i xs) g items' refl shorter in
     let f = front_of (take i xs) (map (numbers s0 (suc e)) (take i (children_of (get s0 n)))) in
     let b = rest_of (drop i xs) (map (numbers s0 (suc e)) (drop (i + 1) (children_of (get s0 n)))) in
-    let here : list ≡ remove (numbers s0 (suc e) kid) rest = rw down refl in
-    result s0 s1 s2 e n i rest rank list (drop i xs) g items' refl
+    result s0 s1 s2 e n i rest rank list (drop i xs) g items' refl shorter
     (list_new s0 s1 s2 e n i list (drop i xs) less' ∙ ap (λ zs. f ++ (zs ++ b)) here
     ∙ sym (remove_middle f (numbers s0 (suc e) kid) b rest less)
-    ∙ ap (remove (f ++ (numbers s0 (suc e) kid ++ b))) (at_front s0 s1 s2 e n i rest rank list (drop i xs) g items' refl)
+    ∙ ap (remove (f ++ (numbers s0 (suc e) kid ++ b))) (at_front s0 s1 s2 e n i rest rank list (drop i xs) g items' refl shorter)
     ∙ ap (λ zs. remove zs rank) (sym (list_old s0 s1 s2 e n i list (drop i xs) less')))
 
 -- where the item stands behind the child, whose last item comes in its place
@@ -227,30 +246,31 @@ swap_step s0 s1 s2 (suc e) n i rest rank g end some inside items =
     let tail = last ∷ drop (i + 1) xs in
     let items' : items_of (get s2 n) ≡ take i xs ++ (last ∷ drop (i + 1) xs) = items ∙ ap (λ o. set (items_of o) i last) kept ∙ set_parts xs i last inside in
     let long : length (last ∷ drop (i + 1) xs) ≡ length (drop i xs) = omega (arith, length-drop (i + 1) xs, length-drop i xs, inside) in
-    let less' = lessens s0 s1 s2 e n i rest rank list (last ∷ drop (i + 1) xs) g items' long in
+    let here : list ≡ remove (numbers s0 (suc e) kid) (rest - 1) = rw down refl in
+    let shorter : length list + 1 ≡ length (numbers s0 (suc e) kid) = ap (λ zs. length zs + 1) here ∙ length-remove (numbers s0 (suc e) kid) (rest - 1) (omega (arith, end, some)) in
+    let less' = lessens s0 s1 s2 e n i rest rank list (last ∷ drop (i + 1) xs) g items' long shorter in
     let f = front_of (take i xs) (map (numbers s0 (suc e)) (take i (children_of (get s0 n)))) in
     let lists = map (numbers s0 (suc e)) (drop (i + 1) (children_of (get s0 n))) in
     let x = get_or xs i 0 in
     let r = drop 1 (rest_of (x ∷ drop (i + 1) xs) lists) in
     let old : rest_of (drop i xs) lists ≡ x ∷ drop 1 (rest_of (x ∷ drop (i + 1) xs) lists) = ap (λ zs. rest_of zs lists) (drop_more xs i 0 inside) ∙ rest_of_cons x x (drop (i + 1) xs) lists in
     let new : rest_of (last ∷ drop (i + 1) xs) lists ≡ last ∷ drop 1 (rest_of (x ∷ drop (i + 1) xs) lists) = rest_of_cons last x (drop (i + 1) xs) lists in
-    let here : list ≡ remove (numbers s0 (suc e) kid) (rest - 1) = rw down refl in
     let there : last ≡ get_or (numbers s0 (suc e) kid) (rest - 1) 0 = rw down refl in
-    result s0 s1 s2 e n i rest rank list (last ∷ drop (i + 1) xs) g items' long
+    result s0 s1 s2 e n i rest rank list (last ∷ drop (i + 1) xs) g items' long shorter
     (list_new s0 s1 s2 e n i list (last ∷ drop (i + 1) xs) less'
     ∙ ap (λ zs. f ++ (list ++ zs)) new
     ∙ ap (λ zs. f ++ (zs ++ (last ∷ r))) here
     ∙ ap (λ z. f ++ (remove (numbers s0 (suc e) kid) (rest - 1) ++ (z ∷ r))) there
     ∙ sym (remove_behind f (numbers s0 (suc e) kid) x r (rest - 1) 0 (omega arith))
     ∙ ap (λ m. remove (f ++ (numbers s0 (suc e) kid ++ (x ∷ r))) (length f + m)) (sym end)
-    ∙ ap (remove (f ++ (numbers s0 (suc e) kid ++ (x ∷ r)))) (at_front s0 s1 s2 e n i rest rank list (last ∷ drop (i + 1) xs) g items' long)
+    ∙ ap (remove (f ++ (numbers s0 (suc e) kid ++ (x ∷ r)))) (at_front s0 s1 s2 e n i rest rank list (last ∷ drop (i + 1) xs) g items' long shorter)
     ∙ ap (λ zs. remove (f ++ (numbers s0 (suc e) kid ++ zs)) rank) (sym old)
     ∙ ap (λ zs. remove zs rank) (sym (list_old s0 s1 s2 e n i list (last ∷ drop (i + 1) xs) less')))
 
 -- the item of a leaf
-pub leaf_removed : (s t : Slab Node) (below n rank : ℕ) → below ≡ 0 → ShapedBut 1 MOST s below n → Owned s (suc below) n → rank < length (numbers s (suc below) n) → Rewrites s t n → items_of (get t n) ≡ remove (items_of (get s n)) rank → children_of (get t n) ≡ children_of (get s n) → count_of (get t n) + 1 ≡ count_of (get s n) → Shrinks s t below n (remove (numbers s (suc below) n) rank)
-leaf_removed s t (suc e) n rank leaf shaped owned within written items children count = absurd (omega arith)
-leaf_removed s t zero n rank leaf shaped owned within written items children count =
+pub leaf_removed : (s t : Slab Node) (below n rank : ℕ) → below ≡ 0 → ShapedBut 1 MOST s below n → Owned s (suc below) n → rank < length (numbers s (suc below) n) → Rewrites s t n → items_of (get t n) ≡ remove (items_of (get s n)) rank → children_of (get t n) ≡ children_of (get s n) → sizes_of (get t n) ≡ sizes_of (get s n) → count_of (get t n) + 1 ≡ count_of (get s n) → Shrinks s t below n (remove (numbers s (suc below) n) rank)
+leaf_removed s t (suc e) n rank leaf shaped owned within written items children sizes count = absurd (omega arith)
+leaf_removed s t zero n rank leaf shaped owned within written items children sizes count =
     let old = numbers_leaf s n shaped.node.branches in
     let none : length (children_of (get t n)) ≡ 0 = ap length children ∙ shaped.node.branches in
     let new : numbers t (suc zero) n ≡ remove (numbers s (suc zero) n) rank = numbers_leaf t n none ∙ items ∙ ap (λ zs. remove zs rank) (sym old) in
@@ -266,6 +286,7 @@ leaf_removed s t zero n rank leaf shaped owned within written items children cou
           fits = omega (arith, ap length items, shorter, shaped.node.fits);
           branches = none;
           counted = omega (arith, count, shaped.node.counted, ap length new, length-remove (numbers s (suc zero) n) rank within);
+          sized = leaf_sized (numbers s zero) (numbers t zero) (children_of (get s n)) (children_of (get t n)) (sizes_of (get s n)) (sizes_of (get t n)) shaped.node.branches none shaped.node.sized sizes;
         };
         children = rw (nil_from_length (children_of (get t n)) none) (All-nil (Shaped t zero));
       };

@@ -10,10 +10,11 @@ use Rattle.slab.specs.Slab.{Slab, get}
 use Rattle.range_store.specs.declared.btree.node.Node.{Node}
 use Rattle.range_store.specs.declared.btree.node.Split.{Split}
 use Rattle.range_store.specs.declared.btree.node.TheConstants.{MOST, LEAST}
-use Rattle.range_store.specs.Nodes.{weave, rest_of, front_of, items_of, children_of, count_of, numbers, used, Shaped, ShapedBut, Rewrites, here, Owned, tops, separators, Replaces, EnoughFor}
+use Rattle.range_store.specs.Nodes.{weave, rest_of, front_of, items_of, children_of, sizes_of, count_of, counts, numbers, used, Shaped, ShapedBut, Rewrites, here, Owned, tops, separators, Replaces, EnoughFor}
 use Rattle.range_store.proofs.Weave.{weave_splice, insert_middle, weave_split}
 use Rattle.range_store.proofs.Frame.{AgreeAt, SameChildren, same_children}
-use Rattle.range_store.proofs.Below.{weave_numbers, children_length}
+use Rattle.range_store.proofs.Below.{weave_numbers, children_length, Shaped-is_child}
+use Rattle.range_store.proofs.Sizes.{resized, counts_listed, leaf_sized}
 use Rattle.range_store.specs.Occurrences.{occurrences, occurrences-append, occurrences-cons, occurrences_itself}
 
 pub used_is : (s : Slab Node) (d n : ℕ) → used s (suc d) n ≡ n ∷ flat_map (used s d) (children_of (get s n))
@@ -65,6 +66,7 @@ pub record Grows (e n i rest item : ℕ) (s0 s1 s2 : Slab Node) (split : Option 
   pub written : Rewrites s1 s2 n
   pub items : items_of (get s2 n) ≡ take i (items_of (get s0 n)) ++ (separators split ++ drop i (items_of (get s0 n)))
   pub children : children_of (get s2 n) ≡ take i (children_of (get s0 n)) ++ (tops (get_or (children_of (get s0 n)) i 0) split ++ drop (i + 1) (children_of (get s0 n)))
+  pub sizes : sizes_of (get s2 n) ≡ take i (sizes_of (get s0 n)) ++ (counts s1 (tops (get_or (children_of (get s0 n)) i 0) split) ++ drop (i + 1) (sizes_of (get s0 n)))
   pub count : count_of (get s2 n) ≡ count_of (get s0 n) + 1
 
 module _ (e n i rest item : ℕ) (s0 s1 s2 : Slab Node) (split : Option Split) (g : Grows e n i rest item s0 s1 s2 split) where
@@ -225,6 +227,12 @@ module _ (e n i rest item : ℕ) (s0 s1 s2 : Slab Node) (split : Option Split) (
   tops_shaped : All (Shaped s1 (suc e)) ts
   tops_shaped = All-weaker (ShapedBut LEAST MOST s1 e) (Shaped s1 (suc e)) (λ k. Shaped-from_but s1 e k) ts (g.child.shape LEAST (omega arith) (EnoughFor-any LEAST split (length (items_of (get s0 kid))) (Shaped-but s0 e kid kid_shaped).node.enough))
 
+  tops_counted : All (λ k. count_of (get s1 k) ≡ length (numbers s1 (suc e) k)) ts
+  tops_counted = All-weaker (Shaped s1 (suc e)) (λ k. count_of (get s1 k) ≡ length (numbers s1 (suc e) k)) (λ k h. (Shaped-is_child s1 (suc e) k (omega arith) h).counted) ts tops_shaped
+
+  sized_new : sizes_of (get s2 n) ≡ map length (map (numbers s2 (suc e)) (children_of (get s2 n)))
+  sized_new = resized (numbers s0 (suc e)) ks (sizes_of (get s0 n)) g.shaped.node.sized i (i + 1) (map (numbers s1 (suc e)) ts) _ _ (counts s1 ts) lists_new (counts_listed s1 (suc e) ts tops_counted) g.sizes
+
   shape_new : (least : ℕ) → least ≤ length xs → ShapedBut least (MOST + 1) s2 (suc e) n
   shape_new least enough = record {
     node = record {
@@ -235,6 +243,7 @@ module _ (e n i rest item : ℕ) (s0 s1 s2 : Slab Node) (split : Option Split) (
       counted =
           let grown = length-insert (numbers s0 (suc (suc e)) n) (length (front_of (take i xs) (map (numbers s0 (suc e)) (take i ks))) + rest) item place_within in
           omega (arith, g.count, g.shaped.node.counted, grown, ap length numbers_new);
+      sized = sized_new;
     };
     children = rw children_new (All-append (Shaped s2 (suc e)) (take i ks) (ts ++ drop (i + 1) ks) (same_left.shaped_same (All-take (Shaped s0 (suc e)) i ks g.shaped.children))
         (All-append (Shaped s2 (suc e)) ts (drop (i + 1) ks) (same_tops.shaped_same tops_shaped) (same_right.shaped_same (All-drop (Shaped s0 (suc e)) (i + 1) ks g.shaped.children))));
@@ -256,7 +265,7 @@ numbers_leaf s n none = weave_numbers s zero n ∙ ap (λ zs. weave (items_of (g
 pub used_leaf : (s : Slab Node) (n : ℕ) → length (children_of (get s n)) ≡ 0 → used s (suc zero) n ≡ n ∷ []
 used_leaf s n none = used_is s zero n ∙ ap (λ zs. n ∷ flat_map (used s zero) zs) (nil_from_length (children_of (get s n)) none)
 
-module _ (s t : Slab Node) (n i item : ℕ) (shaped : ShapedBut 0 MOST s zero n) (within : i ≤ length (items_of (get s n))) (written : Rewrites s t n) (items : items_of (get t n) ≡ insert (items_of (get s n)) i item) (children : children_of (get t n) ≡ children_of (get s n)) (count : count_of (get t n) ≡ count_of (get s n) + 1) where
+module _ (s t : Slab Node) (n i item : ℕ) (shaped : ShapedBut 0 MOST s zero n) (within : i ≤ length (items_of (get s n))) (written : Rewrites s t n) (items : items_of (get t n) ≡ insert (items_of (get s n)) i item) (children : children_of (get t n) ≡ children_of (get s n)) (sizes : sizes_of (get t n) ≡ sizes_of (get s n)) (count : count_of (get t n) ≡ count_of (get s n) + 1) where
   leaf_children : length (children_of (get t n)) ≡ 0
   leaf_children = ap length children ∙ shaped.node.branches
 
@@ -295,6 +304,7 @@ module _ (s t : Slab Node) (n i item : ℕ) (shaped : ShapedBut 0 MOST s zero n)
             fits = omega (arith, ap length leaf_items, longer, shaped.node.fits);
             branches = leaf_children;
             counted = omega (arith, count, shaped.node.counted, ap length leaf_numbers, ap length leaf_numbers_old, length-insert (numbers s (suc zero) n) i item (omega (arith, ap length leaf_numbers_old)));
+            sized = leaf_sized (numbers s zero) (numbers t zero) (children_of (get s n)) (children_of (get t n)) (sizes_of (get s n)) (sizes_of (get t n)) shaped.node.branches leaf_children shaped.node.sized sizes;
           };
           children = rw (nil_from_length (children_of (get t n)) leaf_children) (All-nil (Shaped t zero));
         }) (All-nil _);

@@ -78,7 +78,7 @@ module _ (s0 s1 s2 : Slab Node) (d n : ℕ) (us ms vs ms' : List ℕ) (g : Segme
   children_shaped first second third =
       rw g.children_new (All-append (Shaped s2 d) us (ms' ++ vs) (same_left.shaped_same first) (All-append (Shaped s2 d) ms' vs (same_middle.shaped_same second) (same_right.shaped_same third)))
 
-  lists_new : map (numbers s2 d) (children_of (get s2 n)) ≡ map (numbers s0 d) us ++ (map (numbers s1 d) ms' ++ map (numbers s0 d) vs)
+  pub lists_new : map (numbers s2 d) (children_of (get s2 n)) ≡ map (numbers s0 d) us ++ (map (numbers s1 d) ms' ++ map (numbers s0 d) vs)
   lists_new =
       ap (map (numbers s2 d)) g.children_new ∙ lists_parts s2 d us ms' vs
       ∙ rw (same_left.numbers_same, same_middle.numbers_same, same_right.numbers_same) refl
@@ -166,6 +166,6 @@ but_same least most s t d n agree shaped =
     let here : get t n ≡ get s n = among n (occurrences_here n (flat_map (used s d) (children_of (get s n)))) in
     let children = same_children s t d (children_of (get s n)) (AgreeAt-right s t (n ∷ []) (flat_map (used s d) (children_of (get s n))) among) in
     record {
-      node = IsNode-same least most s t d n here (same_below s t (suc d) n agree).numbers_same shaped.node;
+      node = IsNode-same least most s t d n here (same_below s t (suc d) n agree).numbers_same children.numbers_same shaped.node;
       children = rw here (children.shaped_same shaped.children);
     }

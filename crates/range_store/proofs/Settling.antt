@@ -40,7 +40,7 @@ stays_root s (suc d) root loose full =
     let shaped = rw level at loose.shaped in
     record {
       shaped = record {
-        node = record { present = shaped.node.present; enough = full; fits = shaped.node.fits; branches = shaped.node.branches; counted = shaped.node.counted };
+        node = record { present = shaped.node.present; enough = full; fits = shaped.node.fits; branches = shaped.node.branches; counted = shaped.node.counted; sized = shaped.node.sized };
         children = shaped.children;
       };
       once = loose.once;

@@ -1,6 +1,6 @@
 -- An insertion into a whole tree: the first item, one below the root, and one that cuts the root.
-use Rattle.std.proofs.Common.{◌≡◌, ℕ, zero, suc, ◌+◌, ◌-◌, ◌*◌, ◌<◌, ◌≤◌, List, [], ◌∷◌, ◌++◌, length, refl, sym, ap, ◌∙◌, inl, inr, add-one, arith, Some, None}
-use Rattle.std.specs.List.{flat_map, insert}
+use Rattle.std.proofs.Common.{◌≡◌, ℕ, zero, suc, ◌+◌, ◌-◌, ◌*◌, ◌<◌, ◌≤◌, List, [], ◌∷◌, ◌++◌, length, map, refl, sym, ap, ◌∙◌, inl, inr, add-one, arith, Some, None, IsSome}
+use Rattle.std.specs.List.{All, flat_map, insert}
 use Rattle.std.proofs.lemmas.List.{append-nil, length-append}
 use Rattle.std.proofs.lemmas.List.Edits.{length-insert}
 use Rattle.range_store.proofs.Room.{used_le}
@@ -10,16 +10,17 @@ use Rattle.slab.specs.Slab.{Slab, get, HasRoomFor}
 use Rattle.range_store.specs.declared.btree.node.Node.{Node}
 use Rattle.range_store.specs.declared.btree.node.Split.{Split}
 use Rattle.range_store.specs.declared.btree.node.TheConstants.{MOST, LEAST}
-use Rattle.range_store.specs.Nodes.{weave, children_of, numbers, used, Shaped, ShapedBut, IsTree, here, Replaces, Stores}
-use Rattle.range_store.proofs.Below.{weave_numbers}
+use Rattle.range_store.specs.Nodes.{weave, children_of, sizes_of, count_of, counts, numbers, used, Shaped, ShapedBut, IsTree, here, Replaces, Stores}
+use Rattle.range_store.proofs.Below.{weave_numbers, Shaped-is_child}
+use Rattle.range_store.proofs.Sizes.{counts_listed}
 use Rattle.range_store.proofs.Frame.{AgreeAt, SameChildren, same_children}
 use Rattle.range_store.proofs.Replace.{used_is, here_some, numbers_leaf, used_leaf, Shaped-from_but}
 use Rattle.range_store.proofs.Rank.{used_none, numbers_none}
 use Rattle.range_store.specs.Occurrences.{occurrences, occurrences-cons, occurrences-nil, occurrences_itself, occurrences_other}
 
 -- a stored node is the only new one
-pub Stores-here : (s t : Slab Node) (n : ℕ) (items children : List ℕ) (count : ℕ) → Stores s t n items children count → (k : ℕ) → here t k ≡ here s k + occurrences k (n ∷ [])
-Stores-here s t n items children count stored k =
+pub Stores-here : (s t : Slab Node) (n : ℕ) (items children sizes : List ℕ) (count : ℕ) → Stores s t n items children sizes count → (k : ℕ) → here t k ≡ here s k + occurrences k (n ∷ [])
+Stores-here s t n items children sizes count stored k =
     elim (cases_eq k n) [
       | inl same ↦
           let now : here t n ≡ 1 = here_some t n stored.present in
@@ -31,7 +32,7 @@ Stores-here s t n items children count stored k =
           omega (arith, none, kept)
     ]
 
-module _ (s t : Slab Node) (root n item : ℕ) (tree : IsTree s zero root) (stored : Stores s t n (item ∷ []) [] 1) where
+module _ (s t : Slab Node) (root n item : ℕ) (tree : IsTree s zero root) (stored : Stores s t n (item ∷ []) [] [] 1) where
   childless : length (children_of (get t n)) ≡ 0
   childless = ap length stored.children_are
 
@@ -41,10 +42,10 @@ module _ (s t : Slab Node) (root n item : ℕ) (tree : IsTree s zero root) (stor
   pub first_tree : IsTree t (suc zero) n
   first_tree = record {
     shaped = record {
-      node = record { present = stored.present; enough = omega (arith, ap length stored.items_are); fits = omega (arith, ap length stored.items_are); branches = childless; counted = stored.count_is ∙ sym (ap length first_numbers) };
+      node = record { present = stored.present; enough = omega (arith, ap length stored.items_are); fits = omega (arith, ap length stored.items_are); branches = childless; counted = stored.count_is ∙ sym (ap length first_numbers); sized = stored.sizes_are ∙ rw stored.children_are refl };
       children = rw stored.children_are (All-nil (Shaped t zero));
     };
-    once = λ k. omega (arith, ap (occurrences k) (used_leaf t n childless), Stores-here s t n (item ∷ []) [] 1 stored k, tree.once k, ap (occurrences k) (used_none s root), occurrences-nil k);
+    once = λ k. omega (arith, ap (occurrences k) (used_leaf t n childless), Stores-here s t n (item ∷ []) [] [] 1 stored k, tree.once k, ap (occurrences k) (used_none s root), occurrences-nil k);
     len = omega (arith, ap length (used_leaf t n childless), stored.len, tree.len, ap length (used_none s root));
   }
 
@@ -61,7 +62,7 @@ module _ (s t : Slab Node) (d root : ℕ) (list : List ℕ) (tree : IsTree s (su
         len = omega (arith, step.len, tree.len, ap length single);
       }
 
-module _ (s t u : Slab Node) (d root n : ℕ) (split : Split) (list : List ℕ) (tree : IsTree s (suc d) root) (step : Replaces MOST s t d root (Some split) list) (stored : Stores t u n (split.middle ∷ []) (root ∷ split.right ∷ []) (length list)) where
+module _ (s t u : Slab Node) (d root n : ℕ) (split : Split) (list : List ℕ) (tree : IsTree s (suc d) root) (step : Replaces MOST s t d root (Some split) list) (stored : Stores t u n (split.middle ∷ []) (root ∷ split.right ∷ []) (counts t (root ∷ split.right ∷ [])) (length list)) where
   abbrev ts : List ℕ
   ts = root ∷ split.right ∷ []
 
@@ -77,20 +78,29 @@ module _ (s t u : Slab Node) (d root n : ℕ) (split : Split) (list : List ℕ) 
   pub taller_numbers : numbers u (suc (suc d)) n ≡ list
   taller_numbers = weave_numbers u (suc d) n ∙ rw (stored.items_are, stored.children_are) (ap (weave (split.middle ∷ [])) same.numbers_same ∙ step.listed)
 
+  ts_shaped : All (Shaped t (suc d)) ts
+  ts_shaped = All-weaker (ShapedBut LEAST MOST t d) (Shaped t (suc d)) (λ k. Shaped-from_but t d k) ts (step.shape LEAST (omega arith) tt)
+
+  ts_counted : All (λ k. count_of (get t k) ≡ length (numbers t (suc d) k)) ts
+  ts_counted = All-weaker (Shaped t (suc d)) (λ k. count_of (get t k) ≡ length (numbers t (suc d) k)) (λ k h. (Shaped-is_child t (suc d) k (omega arith) h).counted) ts ts_shaped
+
+  taller_sized : sizes_of (get u n) ≡ map length (map (numbers u (suc d)) (children_of (get u n)))
+  taller_sized = stored.sizes_are ∙ counts_listed t (suc d) ts ts_counted ∙ rw stored.children_are (ap (map (length {A = ℕ})) (sym same.numbers_same))
+
   used_now : used u (suc (suc d)) n ≡ n ∷ flat_map (used t (suc d)) ts
   used_now = used_is u (suc d) n ∙ rw stored.children_are (ap (λ zs. n ∷ zs) same.used_same)
 
   pub taller_tree : IsTree u (suc (suc d)) n
   taller_tree = record {
     shaped = record {
-      node = record { present = stored.present; enough = omega (arith, ap length stored.items_are); fits = omega (arith, ap length stored.items_are); branches = omega (arith, ap length stored.items_are, ap length stored.children_are); counted = stored.count_is ∙ sym (ap length taller_numbers) };
-      children = rw stored.children_are (same.shaped_same (All-weaker (ShapedBut LEAST MOST t d) (Shaped t (suc d)) (λ k. Shaped-from_but t d k) ts (step.shape LEAST (omega arith) tt)));
+      node = record { present = stored.present; enough = omega (arith, ap length stored.items_are); fits = omega (arith, ap length stored.items_are); branches = omega (arith, ap length stored.items_are, ap length stored.children_are); counted = stored.count_is ∙ sym (ap length taller_numbers); sized = taller_sized };
+      children = rw stored.children_are (same.shaped_same ts_shaped);
     };
-    once = λ k. omega (arith, ap (occurrences k) used_now, occurrences-cons k n (flat_map (used t (suc d)) ts), once_before k, Stores-here t u n (split.middle ∷ []) ts (length list) stored k);
+    once = λ k. omega (arith, ap (occurrences k) used_now, occurrences-cons k n (flat_map (used t (suc d)) ts), once_before k, Stores-here t u n (split.middle ∷ []) ts (counts t ts) (length list) stored k);
     len = omega (arith, ap length used_now, stored.len, step.len, tree.len);
   }
 
-pub first_step : (s t : Slab Node) (levels root n rank item : ℕ) → levels ≡ 0 → rank ≤ length (numbers s levels root) → IsTree s levels root → Stores s t n (item ∷ []) [] 1 → IsTree t (suc zero) n × (numbers t (suc zero) n ≡ insert (numbers s levels root) rank item)
+pub first_step : (s t : Slab Node) (levels root n rank item : ℕ) → levels ≡ 0 → rank ≤ length (numbers s levels root) → IsTree s levels root → Stores s t n (item ∷ []) [] [] 1 → IsTree t (suc zero) n × (numbers t (suc zero) n ≡ insert (numbers s levels root) rank item)
 first_step s t zero root n rank item none within tree stored =
     let low : rank ≡ 0 = omega (arith, within, ap length (numbers_none s root)) in (
       first_tree s t root n item tree stored,
@@ -115,10 +125,15 @@ taller_room s t (suc d) root rank item split some within room tree step' =
     let nothing' = ap length (append-nil (numbers t (suc d) split.right)) in
     omega (arith, left, right, both, nothing, long, woven, nothing', length-insert (numbers s (suc d) root) rank item within, step.len, tree.len, step.capacity, room)
 
-pub taller_step : (s t u : Slab Node) (levels root n count : ℕ) (split : Split) (list : List ℕ) → 0 < levels → IsTree s levels root → Replaces MOST s t (levels - 1) root (Some split) list → Stores t u n (split.middle ∷ []) (root ∷ split.right ∷ []) count → count ≡ length list → IsTree u (levels + 1) n × (numbers u (levels + 1) n ≡ list)
+pub taller_step : (s t u : Slab Node) (levels root n count : ℕ) (split : Split) (list : List ℕ) → 0 < levels → IsTree s levels root → Replaces MOST s t (levels - 1) root (Some split) list → Stores t u n (split.middle ∷ []) (root ∷ split.right ∷ []) (counts t (root ∷ split.right ∷ [])) count → count ≡ length list → IsTree u (levels + 1) n × (numbers u (levels + 1) n ≡ list)
 taller_step s t u zero root n count split list some tree step stored size = absurd (omega arith)
 taller_step s t u (suc d) root n count split list some tree step stored size =
     let level : suc d - 1 ≡ d = omega arith in
     let step' = rw level at step in
     let stored' = rw size at stored in
     rw add-one (taller_tree s t u d root n split list tree step' stored', taller_numbers s t u d root n split list tree step' stored')
+
+-- both halves of the old root are there
+pub halves_present : (s t : Slab Node) (d root : ℕ) (split : Split) (list : List ℕ) → Replaces MOST s t d root (Some split) list → All (λ k. IsSome (get t k)) (root ∷ split.right ∷ [])
+halves_present s t d root split list step =
+    All-weaker (ShapedBut LEAST MOST t d) (λ k. IsSome (get t k)) (λ k h. h.node.present) (root ∷ split.right ∷ []) (step.shape LEAST (omega arith) tt)

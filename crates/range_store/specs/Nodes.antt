@@ -1,11 +1,12 @@
 -- What a slab of nodes means: the numbers of the items in order, the nodes in use, and the shape.
 use Rattle.std.specs.Prelude.{◌≡◌, ◌≢◌, ◌⊎◌, ℕ, zero, suc, ◌+◌, ◌-◌, ◌*◌, ◌^◌, ◌<◌, ◌≤◌, List, [], ◌∷◌, ◌++◌, length, map, take, drop, Option, Some, None, IsSome, is_some, cond, slice_index, refl}
 use Rattle.std.specs.Coded.{Coded, code_by, coded×, coded_ℕ, coded_list}
-use Rattle.std.specs.List.{All, flat_map, sum_by}
+use Rattle.std.specs.List.{All, flat_map}
 use Rattle.slab.specs.Slab.{Slab, get, slab_len, HasRoomFor}
 use Rattle.range_store.specs.Occurrences.{occurrences}
 use Rattle.range_store.specs.declared.btree.node.Node.{Node}
 use Rattle.range_store.specs.declared.btree.node.Split.{Split}
+use Rattle.range_store.specs.declared.btree.place.Found.{Found}
 use Rattle.range_store.specs.declared.btree.node.TheConstants.{MOST, LEAST, ITEM_PLACES, CHILD_PLACES}
 
 module _ {X : Type 0} where
@@ -43,6 +44,11 @@ abbrev pub children_of : Option Node → List ℕ
 children_of None = []
 children_of (Some node) = node.children.items
 
+-- how many items stand below each child, as the node has it
+abbrev pub sizes_of : Option Node → List ℕ
+sizes_of None = []
+sizes_of (Some node) = node.sizes.items
+
 abbrev pub count_of : Option Node → ℕ
 count_of None = 0
 count_of (Some node) = node.count
@@ -69,6 +75,7 @@ pub record IsNode (least most : ℕ) (s : Slab Node) (d n : ℕ) : Type 0 where
   pub fits : length (items_of (get s n)) ≤ most
   pub branches : length (children_of (get s n)) ≡ child_count d (length (items_of (get s n)))
   pub counted : count_of (get s n) ≡ length (numbers s (suc d) n)
+  pub sized : sizes_of (get s n) ≡ map length (map (numbers s d) (children_of (get s n)))
 
 -- each node has from LEAST to MOST items, and all leaves are at one depth
 unfoldable pub Shaped : Slab Node → ℕ → ℕ → Type 0
@@ -122,9 +129,9 @@ pub record Replaces (most : ℕ) (old new : Slab Node) (d n : ℕ) (split : Opti
   pub capacity : new.capacity ≡ old.capacity
   pub shape : (least : ℕ) → least ≤ LEAST → EnoughFor least split (length (items_of (get old n))) → All (ShapedBut least most new d) (tops n split)
 
--- the items below these nodes, by their counts
-abbrev pub counts : Slab Node → List ℕ → ℕ
-counts s ns = sum_by (λ k. count_of (get s k)) ns
+-- how many items stand below each of these nodes, by their counts
+abbrev pub counts : Slab Node → List ℕ → List ℕ
+counts s ns = map (λ k. count_of (get s k)) ns
 
 -- the items of n behind the one at `half` went to a new node, which has so many items below it
 pub record Divides (old new : Slab Node) (n half moved : ℕ) (split : Split) : Type 0 where
@@ -133,10 +140,12 @@ pub record Divides (old new : Slab Node) (n half moved : ℕ) (split : Split) : 
   pub left_present : IsSome (get new n)
   pub left_items : items_of (get new n) ≡ take half (items_of (get old n))
   pub left_children : children_of (get new n) ≡ take (half + 1) (children_of (get old n))
+  pub left_sizes : sizes_of (get new n) ≡ take (half + 1) (sizes_of (get old n))
   pub left_count : count_of (get new n) + (moved + 1) ≡ count_of (get old n)
   pub right_present : IsSome (get new split.right)
   pub right_items : items_of (get new split.right) ≡ drop (half + 1) (items_of (get old n))
   pub right_children : children_of (get new split.right) ≡ drop (half + 1) (children_of (get old n))
+  pub right_sizes : sizes_of (get new split.right) ≡ drop (half + 1) (sizes_of (get old n))
   pub right_count : count_of (get new split.right) ≡ moved
   pub others : (k : ℕ) → k ≢ n → k ≢ split.right → get new k ≡ get old k
   pub len : slab_len new ≡ slab_len old + 1
@@ -197,11 +206,12 @@ pub record IsRoomy (s : Slab Node) (levels root : ℕ) : Type 0 where
   pub fits : length (numbers s levels root) ≤ LEAST * s.capacity
 
 -- a new node was stored under n, with these items and children
-pub record Stores (old new : Slab Node) (n : ℕ) (items children : List ℕ) (count : ℕ) : Type 0 where
+pub record Stores (old new : Slab Node) (n : ℕ) (items children sizes : List ℕ) (count : ℕ) : Type 0 where
   pub fresh : get old n ≡ None
   pub present : IsSome (get new n)
   pub items_are : items_of (get new n) ≡ items
   pub children_are : children_of (get new n) ≡ children
+  pub sizes_are : sizes_of (get new n) ≡ sizes
   pub count_is : count_of (get new n) ≡ count
   pub others : (k : ℕ) → k ≢ n → get new k ≡ get old k
   pub len : slab_len new ≡ slab_len old + 1
@@ -219,6 +229,7 @@ pub record Pools (old new : Slab Node) (l r x : ℕ) : Type 0 where
   pub present : IsSome (get new l)
   pub items : items_of (get new l) ≡ items_of (get old l) ++ (x ∷ items_of (get old r))
   pub children : children_of (get new l) ≡ children_of (get old l) ++ children_of (get old r)
+  pub sizes : sizes_of (get new l) ≡ sizes_of (get old l) ++ sizes_of (get old r)
   pub count : count_of (get new l) ≡ count_of (get old l) + 1 + count_of (get old r)
   pub freed : get new r ≡ None
   pub room : HasRoomFor new 1
@@ -233,6 +244,7 @@ pub record CanPool (s : Slab Node) (l r : ℕ) : Type 0 where
   pub apart : l ≢ r
   pub items_fit : length (items_of (get s l)) + 1 + length (items_of (get s r)) ≤ ITEM_PLACES
   pub children_fit : length (children_of (get s l)) + length (children_of (get s r)) ≤ CHILD_PLACES
+  pub sizes_fit : length (sizes_of (get s l)) + length (sizes_of (get s r)) ≤ CHILD_PLACES
   pub small : count_of (get s l) + 1 + count_of (get s r) < 2 ^ 64
 
 -- the subtree of n, over d levels, became one with this list, at most one item shorter
@@ -261,6 +273,16 @@ pub record IsLevelled (s : Slab Node) (low n j : ℕ) : Type 0 where
   pub behind : All (Shaped s (suc low)) (drop (j + 2) (children_of (get s n)))
   pub enough : LEAST + LEAST ≤ length (items_of (get s (slice_index (children_of (get s n)) j))) + 1 + length (items_of (get s (slice_index (children_of (get s n)) (j + 1))))
   pub fits : length (items_of (get s (slice_index (children_of (get s n)) j))) + 1 + length (items_of (get s (slice_index (children_of (get s n)) (j + 1)))) ≤ MOST + LEAST
+
+-- the number before a place of a list, or none where that is the first place
+abbrev pub IsLast : List ℕ → ℕ → Option Found → Type 0
+IsLast list place None = place ≡ 0
+IsLast list place (Some found) = (0 < place) × (found.number ≡ slice_index list (place - 1))
+
+-- the number at a place of a list, or none past its end
+abbrev pub IsNumberAt : List ℕ → ℕ → Option Found → Type 0
+IsNumberAt list place None = length list ≤ place
+IsNumberAt list place (Some found) = (place < length list) × (found.number ≡ slice_index list place)
 
 -- the number stands at this place of the leaf n
 pub record StandsIn (s : Slab Node) (n i number : ℕ) : Type 0 where

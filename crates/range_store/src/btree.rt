@@ -1,5 +1,5 @@
 //! A container kept as a B-tree.
-ghost use Rattle.std.specs.Prelude.{◌≡◌, ℕ, ◌+◌, ◌-◌, ◌*◌, ◌^◌, ◌<◌, ◌≤◌, List, length, insert, remove, slice_index_or, slice_set, min, MatchOption, OnOk, All};
+ghost use Rattle.std.specs.Prelude.{◌≡◌, ℕ, ◌+◌, ◌-◌, ◌*◌, ◌^◌, ◌<◌, ◌≤◌, List, length, insert, remove, slice_index_or, slice_set, min, MatchOption, OnOk, All, Some, None};
 ghost use Rattle.std.specs.List.{AllZip};
 ghost use Rattle.std.specs.Option.{ForSome};
 ghost use Rattle.std.proofs.Common.{refl};
@@ -18,7 +18,8 @@ mod tree;
 
 pub use crate::btree::node::{LEAST, MOST};
 use crate::btree::place::{Found, Spot};
-use crate::btree::searching::HALVINGS;
+use crate::btree::removal::Removed;
+use crate::btree::searching::{HALVINGS, Passed};
 use crate::btree::tree::NumberTree;
 use crate::storage::{Probe, Storage};
 use slab::Slab;
@@ -33,12 +34,6 @@ pub struct BoxPosition {
     // Where the number was found, which saves the next step a descent while it still stands there.
     spot: Spot,
 }
-
-// No place.
-const NOWHERE: Spot = Spot {
-    node: usize::MAX,
-    index: 0,
-};
 
 /// Items in a B-tree: insertion, removal and search take steps in the logarithm of their number.
 #[derive(Drop)]
@@ -85,16 +80,31 @@ impl<T> BoxStorage<T> {
         }
     }
 
-    // Takes the item at a rank out.
-    fn take(&mut self, rank: usize) -> T
+    // Takes the item at a rank out, and tells the position of the one that followed it.
+    fn take(&mut self, rank: usize) -> (T, Option<BoxPosition>)
         requires { rank < length self.old.tree.numbers }
-        ensures removed { result ≡ slice_index_or (box_items self.old) rank result }
+        ensures removed { result.0 ≡ slice_index_or (box_items self.old) rank result.0 }
         ensures list { box_items self.new ≡ remove (box_items self.old) rank }
+        ensures following { MatchOption result.1 (length self.new.tree.numbers ≤ rank) (λ p. IsGood self.new p.rank p.number × (p.rank ≡ rank)) }
         ensures items_space { self.old.items.capacity - slab_len self.old.items ≤ self.new.items.capacity - slab_len self.new.items }
         ensures tree_space { self.old.tree.room ≤ self.new.tree.room }
     {
-        let number = self.tree.remove(rank);
-        self.items.remove(number)
+        let Removed {
+            item: number,
+            following,
+        } = self.tree.remove(rank);
+        let item = self.items.remove(number);
+        (item, found_position(rank, following))
+    }
+}
+
+// The position of what was found at a rank.
+fn found_position(rank: usize, found: Option<Found>) -> Option<BoxPosition>
+    ensures { MatchOption result (found ≡ None) (λ p. (found ≡ Some (record { number = p.number; spot = p.spot })) × (p.rank ≡ rank)) }
+{
+    match found {
+        None => None,
+        Some(Found { number, spot }) => Some(BoxPosition { rank, number, spot }),
     }
 }
 
@@ -140,7 +150,6 @@ impl<T: Drop> Storage<T> for BoxStorage<T> {
     }
 
     fn next(&self, p: BoxPosition) -> Option<BoxPosition> {
-        let _len = self.tree.len();
         match self.tree.behind(p.spot, p.number) {
             Some(Found { number, spot }) => Some(BoxPosition {
                 rank: p.rank + 1,
@@ -178,8 +187,15 @@ impl<T: Drop> Storage<T> for BoxStorage<T> {
     }
 
     fn search<P: Probe<T>>(&self, probe: &mut P) -> Option<BoxPosition> {
-        let count = self.tree.search(&self.items, probe);
-        if count == 0 { None } else { self.at(count - 1) }
+        let Passed { count, last } = self.tree.search(&self.items, probe);
+        match last {
+            None => None,
+            Some(Found { number, spot }) => Some(BoxPosition {
+                rank: count - 1,
+                number,
+                spot,
+            }),
+        }
     }
 
     fn reserve(&mut self, n: usize) -> Result<(), AllocError> {
@@ -197,24 +213,19 @@ impl<T: Drop> Storage<T> for BoxStorage<T> {
         let rank = self.rank_before(before);
         let number = self.items.insert_reserved(item);
         let _many = self.items.len();
-        self.tree.insert(rank, number);
-        BoxPosition {
-            rank,
-            number,
-            spot: NOWHERE,
-        }
+        let spot = self.tree.insert(rank, number);
+        BoxPosition { rank, number, spot }
     }
 
     fn remove_at(&mut self, p: BoxPosition) -> (T, Option<BoxPosition>) {
-        let removed = self.take(p.rank);
-        (removed, self.at(p.rank))
+        self.take(p.rank)
     }
 
     fn pop_first(&mut self) -> Option<T> {
         if self.tree.len() == 0 {
             None
         } else {
-            Some(self.take(0))
+            Some(self.take(0).0)
         }
     }
 
@@ -223,7 +234,7 @@ impl<T: Drop> Storage<T> for BoxStorage<T> {
         if len == 0 {
             None
         } else {
-            Some(self.take(len - 1))
+            Some(self.take(len - 1).0)
         }
     }
 
@@ -231,13 +242,13 @@ impl<T: Drop> Storage<T> for BoxStorage<T> {
     where
         T: Clone + Eq,
     {
-        let mut copy = <Self as Storage<T>>::new(self.alloc);
-        copy.reserve(self.tree.len())?;
-        for rank in 0..self.tree.len() {
-            let item = self.items[self.tree.find(rank).number].clone()?;
-            copy.insert_at(None, item);
-        }
-        Ok(copy)
+        let items = self.items.clone()?;
+        let tree = self.tree.clone()?;
+        Ok(BoxStorage {
+            items,
+            tree,
+            alloc: self.alloc,
+        })
     }
 
     ghost good_is_in_range = { λ s p h. good_in_range s p.rank p.number h };

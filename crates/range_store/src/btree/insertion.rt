@@ -4,10 +4,10 @@ ghost use Rattle.slab.specs.Slab.{HasRoomFor};
 ghost use Rattle.range_store.specs.Nodes.{numbers, used, ShapedBut, Replaces, Owned, HasTreeRoom, IsReady, IsCuttable, IsTree};
 
 use crate::btree::node::{
-    HALF, LEAST, MOST, Node, Split, attach, children_from, count, divide, item_count, put_item,
-    store_leaf, store_root, total,
+    HALF, LEAST, MOST, Node, Split, attach, count, divide, item_count, put_item, size_from,
+    store_leaf, store_root,
 };
-use crate::btree::place::descend;
+use crate::btree::place::{Spot, descend};
 use slab::Slab;
 
 // Cuts a node in two, with `half` items in the first.
@@ -17,8 +17,7 @@ pub fn cut_at(nodes: &mut Slab<Node>, below: usize, number: usize, half: usize) 
 {
     let _below = below;
     let _whole = count(nodes, number);
-    let second = children_from(nodes, number, half + 1);
-    let moved = total(nodes, second.as_slice()) + (item_count(nodes, number) - half - 1);
+    let moved = size_from(nodes, number, half + 1) + (item_count(nodes, number) - half - 1);
     divide(nodes, number, half, moved)
 }
 
@@ -33,6 +32,27 @@ pub fn cut_overfull(nodes: &mut Slab<Node>, below: usize, number: usize) -> Opti
     Some(cut_at(nodes, below, number, HALF))
 }
 
+// Where an item went, and the cut that it caused.
+#[derive(Clone, Copy)]
+pub struct Inserted {
+    pub split: Option<Split>,
+    pub spot: Spot,
+}
+
+// Where the item at a place of a leaf is to be looked for after the leaf was cut. It is a hint alone:
+// who follows it sees whether the item still stands there.
+pub fn spot_after(leaf: usize, index: usize, split: Option<Split>) -> Spot {
+    if let Some(Split { right, .. }) = split {
+        if index > HALF {
+            return Spot {
+                node: right,
+                index: index - HALF - 1,
+            };
+        }
+    }
+    Spot { node: leaf, index }
+}
+
 // Puts an item before the one of this rank, or last, in the subtree of a node.
 pub fn insert_below(
     nodes: &mut Slab<Node>,
@@ -40,22 +60,27 @@ pub fn insert_below(
     number: usize,
     rank: usize,
     item: usize,
-) -> Option<Split>
+) -> Inserted
     requires shaped { ShapedBut 1 MOST nodes.old below number }
     requires owned { Owned nodes.old (suc below) number }
     requires within { rank ≤ length (numbers nodes.old (suc below) number) }
     requires small { length (numbers nodes.old (suc below) number) + 1 < 2 ^ 64 }
     requires room { HasTreeRoom nodes.old (suc below) number 1 }
-    ensures { Replaces MOST nodes.old nodes.new below number result (insert (numbers nodes.old (suc below) number) rank item) }
+    ensures { Replaces MOST nodes.old nodes.new below number result.split (insert (numbers nodes.old (suc below) number) rank item) }
 {
     if below == 0 {
         put_item(nodes, number, rank, item);
-        return cut_overfull(nodes, below, number);
+        let split = cut_overfull(nodes, below, number);
+        return Inserted {
+            split,
+            spot: spot_after(number, rank, split),
+        };
     }
     let place = descend(nodes, below, number, rank);
-    let split = insert_below(nodes, below - 1, place.child, place.rest, item);
-    attach(nodes, number, place.index, split, 1);
-    cut_overfull(nodes, below, number)
+    let Inserted { split, spot } = insert_below(nodes, below - 1, place.child, place.rest, item);
+    attach(nodes, number, place.index, place.child, split);
+    let cut = cut_overfull(nodes, below, number);
+    Inserted { split: cut, spot }
 }
 
 // The topmost node of a tree, and how many levels it has.
@@ -65,6 +90,13 @@ pub struct Root {
     pub levels: usize,
 }
 
+// The root of a tree after an insertion, and where the item went.
+#[derive(Clone, Copy)]
+pub struct Placed {
+    pub root: Root,
+    pub spot: Spot,
+}
+
 // Puts an item before the one of this rank, or last, and tells the root of the tree that then stands.
 pub fn insert_into(
     nodes: &mut Slab<Node>,
@@ -72,30 +104,43 @@ pub fn insert_into(
     root: usize,
     rank: usize,
     item: usize,
-) -> Root
+) -> Placed
     requires tree { IsTree nodes.old levels root }
     requires within { rank ≤ length (numbers nodes.old levels root) }
     requires small { length (numbers nodes.old levels root) + 1 < 2 ^ 64 }
     requires room { length (numbers nodes.old levels root) + 1 ≤ LEAST * nodes.old.capacity }
-    ensures tree { IsTree nodes.new result.levels result.number }
-    ensures numbers { numbers nodes.new result.levels result.number ≡ insert (numbers nodes.old levels root) rank item }
+    ensures tree { IsTree nodes.new result.root.levels result.root.number }
+    ensures numbers { numbers nodes.new result.root.levels result.root.number ≡ insert (numbers nodes.old levels root) rank item }
     ensures capacity { nodes.new.capacity ≡ nodes.old.capacity }
 {
     if levels == 0 {
         let number = store_leaf(nodes, item);
-        return Root { number, levels: 1 };
+        return Placed {
+            root: Root { number, levels: 1 },
+            spot: Spot {
+                node: number,
+                index: 0,
+            },
+        };
     }
     let many = count(nodes, root) + 1;
-    match insert_below(nodes, levels - 1, root, rank, item) {
-        None => Root {
-            number: root,
-            levels,
+    let Inserted { split, spot } = insert_below(nodes, levels - 1, root, rank, item);
+    match split {
+        None => Placed {
+            root: Root {
+                number: root,
+                levels,
+            },
+            spot,
         },
         Some(split) => {
             let number = store_root(nodes, root, split, many);
-            Root {
-                number,
-                levels: levels + 1,
+            Placed {
+                root: Root {
+                    number,
+                    levels: levels + 1,
+                },
+                spot,
             }
         }
     }

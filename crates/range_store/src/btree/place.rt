@@ -1,9 +1,9 @@
 //! A descent to a rank.
-ghost use Rattle.std.specs.Prelude.{◌≡◌, ℕ, suc, ◌+◌, ◌-◌, ◌<◌, ◌≤◌, length, map, slice_index, IsTrue};
+ghost use Rattle.std.specs.Prelude.{◌≡◌, ℕ, suc, ◌+◌, ◌-◌, ◌<◌, ◌≤◌, length, map, slice_index, IsTrue, MatchOption, Some};
 ghost use Rattle.slab.specs.Slab.{get, ContainsKey};
-ghost use Rattle.range_store.specs.Nodes.{numbers, ShapedBut, items_of, children_of, before, StandsIn};
+ghost use Rattle.range_store.specs.Nodes.{numbers, ShapedBut, items_of, children_of, before, IsLast, IsNumberAt, StandsIn};
 
-use crate::btree::node::{MOST, Node, child_at, count, item_at, item_count};
+use crate::btree::node::{MOST, Node, child_at, item_at, item_count, size_at};
 use slab::Slab;
 
 // Where a rank lies below a node: `rest` items on in the child at `index`.
@@ -14,7 +14,7 @@ pub struct Place {
     pub rest: usize,
 }
 
-// The place of a rank below a node that has children.
+// The place of a rank below a node that has children. No other node is read.
 pub fn descend(nodes: &Slab<Node>, below: usize, number: usize, rank: usize) -> Place
     requires inner { 0 < below }
     requires shaped { ShapedBut 0 MOST nodes.now below number }
@@ -26,9 +26,9 @@ pub fn descend(nodes: &Slab<Node>, below: usize, number: usize, rank: usize) -> 
 {
     let mut rest = rank;
     for index in 0..item_count(nodes, number) {
-        let child = child_at(nodes, number, index);
-        let within = count(nodes, child);
+        let within = size_at(nodes, number, index);
         if rest <= within {
+            let child = child_at(nodes, number, index);
             return Place { index, child, rest };
         }
         rest -= within + 1;
@@ -64,6 +64,47 @@ pub fn found_at(nodes: &Slab<Node>, node: usize, index: usize) -> Found
     }
 }
 
+// The item of a node at a place, if there is one.
+pub fn found_from(nodes: &Slab<Node>, node: usize, place: usize) -> Option<Found>
+    requires { ContainsKey nodes.now node }
+    ensures { IsNumberAt (items_of (get nodes.now node)) place result }
+{
+    if place < item_count(nodes, node) {
+        Some(found_at(nodes, node, place))
+    } else {
+        None
+    }
+}
+
+// What follows below a node: what follows below its child at `index`, or else the item behind that.
+pub fn found_or_behind(
+    nodes: &Slab<Node>,
+    node: usize,
+    index: usize,
+    later: Option<Found>,
+) -> Option<Found>
+    requires { ContainsKey nodes.now node }
+    ensures { MatchOption later (IsNumberAt (items_of (get nodes.now node)) index result) (λ found. result ≡ Some found) }
+{
+    match later {
+        Some(found) => Some(found),
+        None => found_from(nodes, node, index),
+    }
+}
+
+// The last item of a node before a place, if there is one.
+pub fn last_before(nodes: &Slab<Node>, node: usize, place: usize) -> Option<Found>
+    requires present { ContainsKey nodes.now node }
+    requires within { place ≤ length (items_of (get nodes.now node)) }
+    ensures { IsLast (items_of (get nodes.now node)) place result }
+{
+    if place == 0 {
+        None
+    } else {
+        Some(found_at(nodes, node, place - 1))
+    }
+}
+
 // The number at a rank below a node.
 pub fn find_below(nodes: &Slab<Node>, below: usize, number: usize, rank: usize) -> Found
     requires shaped { ShapedBut 1 MOST nodes.now below number }
@@ -74,7 +115,7 @@ pub fn find_below(nodes: &Slab<Node>, below: usize, number: usize, rank: usize) 
         return found_at(nodes, number, rank);
     }
     let place = descend(nodes, below, number, rank);
-    if place.rest < count(nodes, place.child) {
+    if place.rest < size_at(nodes, number, place.index) {
         find_below(nodes, below - 1, place.child, place.rest)
     } else {
         found_at(nodes, number, place.index)

@@ -2,14 +2,14 @@
 ghost use Rattle.std.specs.Prelude.{◌≡◌, ◌⊎◌, ℕ, suc, ◌+◌, ◌-◌, ◌*◌, ◌<◌, ◌≤◌, ◌^◌, length, slice_index, remove};
 ghost use Rattle.std.specs.List.{All};
 ghost use Rattle.slab.specs.Slab.{get, ContainsKey};
-ghost use Rattle.range_store.specs.Nodes.{numbers, items_of, children_of, ShapedBut, Owned, Shrinks, IsMendable, IsLevelled, IsTree, IsLooseTree, IsLender, child_size};
+ghost use Rattle.range_store.specs.Nodes.{numbers, items_of, children_of, ShapedBut, Owned, Shrinks, IsMendable, IsLevelled, IsTree, IsLooseTree, IsLender, IsNumberAt, child_size};
 
 use crate::btree::insertion::{Root, cut_at};
 use crate::btree::node::{
     LEAST, MOST, Node, child_at, count, count_off, detach, item_at, item_count, pool, set_border,
-    swap_item, take_item,
+    size_at, swap_item, take_item,
 };
-use crate::btree::place::descend;
+use crate::btree::place::{Found, descend, find_below, found_from, found_or_behind};
 use slab::Slab;
 
 // Levels the child at `index` with the one behind it: they become one, or two with as many items.
@@ -26,11 +26,11 @@ pub fn level(nodes: &mut Slab<Node>, low: usize, number: usize, index: usize)
     pool(nodes, left, middle, right);
     let pooled = item_count(nodes, left);
     if pooled <= LEAST + LEAST {
-        detach(nodes, number, index);
+        detach(nodes, number, index, left);
         return;
     }
     let split = cut_at(nodes, low, left, pooled / 2);
-    set_border(nodes, number, index, split);
+    set_border(nodes, number, index, left, split);
 }
 
 // Where the pair begins with which a short child is levelled: a neighbour with an item to spare is taken first.
@@ -73,28 +73,49 @@ pub fn mend(nodes: &mut Slab<Node>, low: usize, number: usize, index: usize)
     level(nodes, low, number, first);
 }
 
+// An item that was taken out, and the one that followed it.
+#[derive(Clone, Copy)]
+pub struct Removed {
+    pub item: usize,
+    pub following: Option<Found>,
+}
+
 // Takes the item of this rank out of the subtree of a node, which may be short then.
-pub fn remove_below(nodes: &mut Slab<Node>, below: usize, number: usize, rank: usize) -> usize
+pub fn remove_below(nodes: &mut Slab<Node>, below: usize, number: usize, rank: usize) -> Removed
     requires shaped { ShapedBut 1 MOST nodes.old below number }
     requires owned { Owned nodes.old (suc below) number }
     requires within { rank < length (numbers nodes.old (suc below) number) }
-    ensures value { result ≡ slice_index (numbers nodes.old (suc below) number) rank }
+    ensures value { result.item ≡ slice_index (numbers nodes.old (suc below) number) rank }
+    ensures following { IsNumberAt (numbers nodes.old (suc below) number) (rank + 1) result.following }
     ensures shrinks { Shrinks nodes.old nodes.new below number (remove (numbers nodes.old (suc below) number) rank) }
 {
     if below == 0 {
-        return take_item(nodes, number, rank);
+        let item = take_item(nodes, number, rank);
+        return Removed {
+            item,
+            following: found_from(nodes, number, rank),
+        };
     }
     let place = descend(nodes, below, number, rank);
-    if place.rest < count(nodes, place.child) {
-        let item = remove_below(nodes, below - 1, place.child, place.rest);
-        count_off(nodes, number);
+    if place.rest < size_at(nodes, number, place.index) {
+        let Removed {
+            item,
+            following: later,
+        } = remove_below(nodes, below - 1, place.child, place.rest);
+        count_off(nodes, number, place.index);
+        let following = found_or_behind(nodes, number, place.index, later);
         mend(nodes, below - 1, number, place.index);
-        return item;
+        return Removed { item, following };
     }
-    let before = remove_below(nodes, below - 1, place.child, place.rest - 1);
+    let next = child_at(nodes, number, place.index + 1);
+    let behind = find_below(nodes, below - 1, next, 0);
+    let Removed { item: before, .. } = remove_below(nodes, below - 1, place.child, place.rest - 1);
     let item = swap_item(nodes, number, place.index, before);
     mend(nodes, below - 1, number, place.index);
-    item
+    Removed {
+        item,
+        following: Some(behind),
+    }
 }
 
 // The root of a tree after a removal: a root with no item goes, and its only child takes its place, if it has one.

@@ -153,6 +153,91 @@ fn put_again(
     Ok(())
 }
 
+// What stands before a position.
+fn before<C: Storage<u64>>(storage: &C, p: C::Position) -> Option<u64>
+    requires { C.is_good storage.now p }
+{
+    let q = storage.prev(p)?;
+    Some(*storage.get(q))
+}
+
+// What stands behind a position.
+fn behind<C: Storage<u64>>(storage: &C, p: C::Position) -> Option<u64>
+    requires { C.is_good storage.now p }
+{
+    let q = storage.next(p)?;
+    Some(*storage.get(q))
+}
+
+// Puts an item at a rank, and tells what stands beside the answered position.
+fn put_between<C: Storage<u64>>(
+    storage: &mut C,
+    rank: usize,
+    item: u64,
+) -> Result<[Option<u64>; 3], AllocError> {
+    storage.reserve(1)?;
+    let next = nth(storage, rank);
+    let at = storage.insert_at(next, item);
+    Ok([
+        before(storage, at),
+        Some(*storage.get(at)),
+        behind(storage, at),
+    ])
+}
+
+// Takes the item of a rank out, and tells what stands round the position of the one that followed it.
+fn cut_between<C: Storage<u64>>(storage: &mut C, rank: usize) -> Option<[Option<u64>; 3]> {
+    let p = nth(storage, rank)?;
+    let (_, following) = storage.remove_at(p);
+    let at = following?;
+    Some([
+        before(storage, at),
+        Some(*storage.get(at)),
+        behind(storage, at),
+    ])
+}
+
+#[test]
+fn answered_positions(rt: HostRuntime) -> Result<(), Fail> {
+    let mut tree = <BoxStorage<u64> as Storage<u64>>::new(rt.alloc());
+    let mut list = <VecStorage<u64> as Storage<u64>>::new(rt.alloc());
+    for item in 0..200 {
+        let rank = (item * 7919) as usize % (list.len() + 1);
+        let round = put_between(&mut tree, rank, item)?;
+        assert_eq!(rt; round, put_between(&mut list, rank, item)?);
+    }
+    for turn in 0..200_u64 {
+        let rank = (turn * 7919) as usize % (list.len() + 1);
+        assert_eq!(rt; cut_between(&mut tree, rank), cut_between(&mut list, rank));
+    }
+    same(&rt, &tree, &list);
+    Ok(())
+}
+
+#[test]
+fn copies(rt: HostRuntime) -> Result<(), Fail> {
+    let mut tree = <BoxStorage<u64> as Storage<u64>>::new(rt.alloc());
+    let mut list = <VecStorage<u64> as Storage<u64>>::new(rt.alloc());
+    for item in 0..100 {
+        put(&mut tree, 0, item)?;
+        put(&mut list, 0, item)?;
+    }
+    for rank in 0..40 {
+        assert_eq!(rt; cut(&mut tree, rank), cut(&mut list, rank));
+    }
+    let mut copy = <BoxStorage<u64> as Storage<u64>>::clone(&tree)?;
+    let mut list_copy = <VecStorage<u64> as Storage<u64>>::clone(&list)?;
+    for item in 100..200 {
+        let rank = (item * 7919) as usize % (list_copy.len() + 1);
+        put(&mut copy, rank, item)?;
+        put(&mut list_copy, rank, item)?;
+        assert_eq!(rt; cut(&mut copy, 0), cut(&mut list_copy, 0));
+    }
+    same(&rt, &copy, &list_copy);
+    same(&rt, &tree, &list);
+    Ok(())
+}
+
 #[test]
 fn refused_memory(rt: HostRuntime) -> Result<(), Fail> {
     let mut tree = <BoxStorage<u64> as Storage<u64>>::new(rt.alloc());

@@ -1,15 +1,16 @@
 //! A list of numbers by rank, as a B-tree.
-ghost use Rattle.std.specs.Prelude.{◌≡◌, ℕ, ◌+◌, ◌-◌, ◌*◌, ◌<◌, ◌≤◌, ◌^◌, [], length, slice_index, insert, remove, OnOk, IfSome, count_by};
+ghost use Rattle.std.specs.Prelude.{◌≡◌, ℕ, ◌+◌, ◌-◌, ◌*◌, ◌<◌, ◌≤◌, ◌^◌, [], length, slice_index, insert, remove, OnOk, IfOk, IfSome, count_by};
 ghost use Rattle.range_store.specs.Occurrences.{occurrences};
 ghost use Rattle.range_store.specs.Counting.{AddsSteps};
 ghost use Rattle.range_store.specs.Falling.{Falls, passes};
 ghost use Rattle.range_store.specs.Listed.{Stored};
+ghost use Rattle.range_store.specs.Nodes.{IsLast, IsNumberAt};
 
-use crate::btree::insertion::{Root, insert_into};
+use crate::btree::insertion::{Placed, Root, insert_into};
 use crate::btree::node::{LEAST, MOST, Node, count, item_count};
 use crate::btree::place::{Found, Spot, find_below, found_at, stands_in_leaf};
-use crate::btree::removal::{remove_below, settle};
-use crate::btree::searching::{HALVINGS, search_below};
+use crate::btree::removal::{Removed, remove_below, settle};
+use crate::btree::searching::{HALVINGS, Passed, search_below};
 use crate::storage::Probe;
 use slab::Slab;
 use std::alloc::{AllocError, Global};
@@ -53,6 +54,20 @@ impl NumberTree {
             root: 0,
             levels: 0,
         }
+    }
+
+    /// A copy, with the memory that its own numbers need.
+    pub fn clone(&self) -> Result<Self, AllocError>
+        ensures numbers { IfOk result (λ copy. copy.numbers ≡ self.now.numbers) }
+    {
+        let mut nodes = self.nodes.clone()?;
+        let wanted = self.len() / LEAST + 1;
+        nodes.reserve(wanted.saturating_sub(nodes.len()))?;
+        Ok(NumberTree {
+            nodes,
+            root: self.root,
+            levels: self.levels,
+        })
     }
 
     /// The number of levels.
@@ -128,49 +143,58 @@ impl NumberTree {
         }
     }
 
-    /// Puts a number before the one at a rank, or last.
-    pub fn insert(&mut self, rank: usize, number: usize)
+    /// Puts a number before the one at a rank, or last, and tells where it went.
+    pub fn insert(&mut self, rank: usize, number: usize) -> Spot
         requires within { rank ≤ length self.old.numbers }
         requires room { 1 ≤ self.old.room }
         requires small { length self.old.numbers + 1 < 2 ^ 64 }
         ensures numbers { self.new.numbers ≡ insert self.old.numbers rank number }
         ensures room { self.new.room + 1 ≡ self.old.room }
     {
-        let Root {
-            number: root,
-            levels,
-        } = insert_into(&mut self.nodes, self.levels, self.root, rank, number);
-        self.root = root;
-        self.levels = levels;
+        let Placed { root, spot } = insert_into(
+            &mut self.nodes,
+            self.levels,
+            self.root,
+            rank,
+            number,
+        );
+        self.root = root.number;
+        self.levels = root.levels;
+        spot
     }
 
-    /// Takes the number at a rank out.
-    pub fn remove(&mut self, rank: usize) -> usize
+    /// Takes the number at a rank out, and tells what followed it.
+    pub fn remove(&mut self, rank: usize) -> Removed
         requires { rank < length self.old.numbers }
-        ensures value { result ≡ slice_index self.old.numbers rank }
+        ensures value { result.item ≡ slice_index self.old.numbers rank }
+        ensures following { IsNumberAt self.new.numbers rank result.following }
         ensures numbers { self.new.numbers ≡ remove self.old.numbers rank }
         ensures room { self.new.room ≡ self.old.room + 1 }
     {
-        let number = remove_below(&mut self.nodes, self.levels - 1, self.root, rank);
+        let removed = remove_below(&mut self.nodes, self.levels - 1, self.root, rank);
         let Root {
             number: root,
             levels,
         } = settle(&mut self.nodes, self.levels, self.root);
         self.root = root;
         self.levels = levels;
-        number
+        removed
     }
 
-    /// How many numbers' items pass the probe's test, which holds on a front of them alone.
-    pub fn search<T, P: Probe<T>>(&self, items: &Slab<T>, probe: &mut P) -> usize
+    /// Which numbers' items pass the probe's test, which holds on a front of them alone.
+    pub fn search<T, P: Probe<T>>(&self, items: &Slab<T>, probe: &mut P) -> Passed
         requires stored { Stored items.now self.now.numbers }
         requires falls { Falls (passes items.now (P.test probe.old)) self.now.numbers }
-        ensures count { result ≡ count_by (passes items.now (P.test probe.old)) self.now.numbers }
+        ensures count { result.count ≡ count_by (passes items.now (P.test probe.old)) self.now.numbers }
+        ensures last { IsLast self.now.numbers result.count result.last }
         ensures kept { P.test probe.new ≡ P.test probe.old }
         ensures asked { AddsSteps (P.steps_taken probe.old) (P.steps_taken probe.new) self.now.levels (HALVINGS * self.now.levels) }
     {
         if self.levels == 0 {
-            return 0;
+            return Passed {
+                count: 0,
+                last: None,
+            };
         }
         search_below(&self.nodes, items, self.levels - 1, self.root, probe)
     }
@@ -194,7 +218,7 @@ mod tests {
     // Takes the number of a rank out.
     fn take(rt: &impl Abort, tree: &mut NumberTree, rank: usize) -> usize {
         assert!(rt; rank < tree.len());
-        tree.remove(rank)
+        tree.remove(rank).item
     }
 
     fn check(rt: &impl Abort, tree: &NumberTree, expected: &[usize]) {
@@ -253,7 +277,7 @@ mod tests {
             let rank = (number * 37) % 400;
             assert!(rt; rank < tree.len());
             assert!(rt; tree.len() < 10_000);
-            let old = tree.remove(rank);
+            let old = tree.remove(rank).item;
             tree.insert(0, old);
         }
         assert_eq!(rt; tree.len(), 400);

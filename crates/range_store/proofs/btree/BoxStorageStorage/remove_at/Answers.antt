@@ -7,6 +7,6 @@ use Rattle.range_store.proofs.btree.BoxStorageStorage.remove_at.Goals as goal
 pub returns-clause-following : goal.returns-clause-following
 returns-clause-following g c =
     let before = box_length c.args.self.now in
-    let after = box_length c.take-removed.new.self in
+    let after = box_length c.take.new.self in
     let shorter = length-remove (box_items c.args.self.now) c.args.p.rank (omega (arith, before, c.requires.within)) in
-    rw after (at_from _ _ _ c.args.p.rank c.at.result (omega (arith, before, after, shorter, ap length c.take-removed.ensures.list, c.requires.within)) c.at.ensures)
+    rw after (at_from _ _ _ c.args.p.rank c.take.result.1 (omega (arith, before, after, shorter, ap length c.take.ensures.list, c.requires.within)) c.take.ensures.following)

@@ -1,41 +1,23 @@
-use Rattle.std.proofs.Common.{◌+◌, ◌-◌, ◌∙◌, ap, arith, IsSome}
-use Rattle.std.proofs.lemmas.List.Elements.{All-drop}
-use Rattle.slab.specs.Slab.{get}
+use Rattle.std.proofs.Common.{◌+◌, ◌-◌, arith}
 use Rattle.range_store.specs.declared.btree.node.TheConstants.{LEAST, MOST}
-use Rattle.range_store.specs.Nodes.{counts, children_of}
-use Rattle.range_store.proofs.Room.{children_present, moved_below}
+use Rattle.range_store.proofs.Room.{moved_below, sizes_below}
 use Rattle.range_store.proofs.Cut.{cut_replaces}
 use Rattle.range_store.proofs.btree.insertion.cut_at.Goals as goal
 
-pub total-requires-clause-present : goal.total-requires-clause-present
-total-requires-clause-present c =
-    let s = c.args.nodes.now in
-    let ks = children_of (get s c.args.number) in
-    let all = children_present s c.args.below _ ks c.requires.shaped.node.branches c.requires.shaped.children in
-    rw (c.as_slice.ensures.value, c.children_from-second.ensures) (All-drop (λ k. IsSome (get s k)) (c.args.half + 1) ks all)
-
-pub total-requires-clause-small : goal.total-requires-clause-small
-total-requires-clause-small c =
-    let s = c.args.nodes.now in
-    let less = moved_below (MOST + LEAST) s c.args.below c.args.number c.args.half c.requires.shaped (omega (arith, c.requires.least_right)) in
-    rw (c.as_slice.ensures.value, c.children_from-second.ensures) (omega arith)
+pub size_from-requires-clause-small : goal.size_from-requires-clause-small
+size_from-requires-clause-small c =
+    omega (arith, sizes_below 0 (MOST + LEAST) c.args.nodes.now c.args.below c.args.number c.requires.shaped, c.count-whole.ensures, c.count-whole.type_inv)
 
 pub overflow_add-moved : goal.overflow_add-moved
 overflow_add-moved c =
-    let s = c.args.nodes.now in
-    let less = moved_below (MOST + LEAST) s c.args.below c.args.number c.args.half c.requires.shaped (omega (arith, c.requires.least_right)) in
-    let sum = ap (counts s) (c.as_slice.ensures.value ∙ c.children_from-second.ensures) in
-    omega (arith, less, sum)
+    let less = moved_below (MOST + LEAST) c.args.nodes.now c.args.below c.args.number c.args.half c.requires.shaped (omega (arith, c.requires.least_right)) in
+    omega (arith, less, c.size_from.ensures, c.count-whole.ensures, c.count-whole.type_inv)
 
 pub divide-requires-clause-counted : goal.divide-requires-clause-counted
 divide-requires-clause-counted c =
-    let s = c.args.nodes.now in
-    let less = moved_below (MOST + LEAST) s c.args.below c.args.number c.args.half c.requires.shaped (omega (arith, c.requires.least_right)) in
-    let sum = ap (counts s) (c.as_slice.ensures.value ∙ c.children_from-second.ensures) in
-    omega (arith, less, sum)
+    let less = moved_below (MOST + LEAST) c.args.nodes.now c.args.below c.args.number c.args.half c.requires.shaped (omega (arith, c.requires.least_right)) in
+    omega (arith, less, c.size_from.ensures)
 
 pub returns : goal.returns
 returns c =
-    let s = c.args.nodes.now in
-    let sum = ap (counts s) (c.as_slice.ensures.value ∙ c.children_from-second.ensures) in
-    cut_replaces s c.divide.new.nodes c.args.below c.args.number c.args.half (c.total.result + (c.item_count.result - c.args.half - 1)) c.divide.result c.requires (omega (arith, sum, c.total.ensures, c.item_count.ensures)) c.divide.ensures
+    cut_replaces c.args.nodes.now c.divide.new.nodes c.args.below c.args.number c.args.half (c.size_from.result + (c.item_count.result - c.args.half - 1)) c.divide.result c.requires (omega (arith, c.size_from.ensures, c.item_count.ensures)) c.divide.ensures

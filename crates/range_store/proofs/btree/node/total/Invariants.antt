@@ -1,6 +1,6 @@
 use Rattle.std.proofs.Common.{◌≡◌, take}
-use Rattle.range_store.specs.Nodes.{counts}
+use Rattle.std.specs.List.{sum}
 use Rattle.range_store.proofs.btree.node.total.Given as goal
 
-abbrev pub invariant-loop-number : goal.invariant-loop-number
-invariant-loop-number l = l.sum ≡ counts l.nodes (take l.number-index l.numbers)
+abbrev pub invariant-loop-size : goal.invariant-loop-size
+invariant-loop-size l = l.sum ≡ sum (take l.size-index l.sizes)

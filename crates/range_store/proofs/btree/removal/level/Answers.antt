@@ -2,7 +2,8 @@ use Rattle.std.proofs.Common.{◌≡◌, suc, ◌+◌, ◌<◌, ◌≤◌, lengt
 use Rattle.slab.specs.Slab.{get}
 use Rattle.range_store.specs.Nodes.{items_of, children_of, numbers, Pools, Replaces}
 use Rattle.range_store.specs.declared.btree.node.TheConstants.{MOST, LEAST}
-use Rattle.range_store.proofs.Levelling.{can_pool, many, top_kept, cuttable_at, cut_kept, detached, bordered, pooled_length, bordered_size}
+use Rattle.range_store.proofs.Levelling.{can_pool, many, sizes_wide, top_kept, cuttable_at, cut_kept, detached, bordered, pooled_length, bordered_size}
+use Rattle.range_store.proofs.Whole.{halves_present}
 use Rattle.range_store.proofs.btree.removal.level.Goals as goal
 use Rattle.range_store.proofs.btree.removal.level.Goals.{After-pool, After-cut_at-split}
 
@@ -23,6 +24,8 @@ detach-requires c =
       present = rw same c.requires.node.present;
       item = rw same c.requires.within;
       child = rw same (omega (arith, many c.args.nodes.now c.args.low c.args.number c.args.index c.requires, c.requires.within));
+      sizes = rw same (sizes_wide c.args.nodes.now c.args.low c.args.number c.args.index c.requires);
+      stored = rw c.child_at-left.ensures (pool (goal.at.detach-requires c).After-pool).present;
     }
 
 pub returns-then-pooled-clause-shared : goal.returns-then-pooled-clause-shared
@@ -37,7 +40,7 @@ returns-then-pooled-clause-shrinks c =
     let a = (goal.at.returns-then-pooled-clause-shrinks c).After-pool in
     let short : length (items_of (get c.pool.new.nodes c.child_at-left.result)) ≤ LEAST + LEAST = omega (arith, c.item_count-pooled.ensures) in
     let short' = rw c.child_at-left.ensures at short in
-    detached c.args.nodes.now c.pool.new.nodes c.args.low c.args.number c.args.index c.requires (pool a) c.detach.new.nodes c.detach.ensures.rewritten c.detach.ensures.items c.detach.ensures.children c.detach.ensures.count short'
+    detached c.args.nodes.now c.pool.new.nodes c.args.low c.args.number c.args.index c.requires (pool a) c.detach.new.nodes c.detach.ensures.rewritten c.detach.ensures.items c.detach.ensures.children (rw c.child_at-left.ensures at c.detach.ensures.sizes) c.detach.ensures.count short'
 
 pub cut_at-split-requires : goal.cut_at-split-requires
 cut_at-split-requires c =
@@ -57,6 +60,8 @@ set_border-requires c =
       present = rw same c.requires.node.present;
       item = rw same c.requires.within;
       child = rw same (omega (arith, many c.args.nodes.now c.args.low c.args.number c.args.index c.requires, c.requires.within));
+      sizes = rw same (sizes_wide c.args.nodes.now c.args.low c.args.number c.args.index c.requires);
+      stored = rw c.child_at-left.ensures (halves_present c.pool.new.nodes c.cut_at-split.new.nodes c.args.low _ c.cut_at-split.result _ (cut (goal.at.set_border-requires c).After-cut_at-split));
     }
 
 pub returns-clause-shared : goal.returns-clause-shared
@@ -67,4 +72,4 @@ returns-clause-shared c =
 pub returns-clause-shrinks : goal.returns-clause-shrinks
 returns-clause-shrinks c =
     let a = (goal.at.returns-clause-shrinks c).After-pool in
-    bordered c.args.nodes.now c.pool.new.nodes c.args.low c.args.number c.args.index c.requires (pool a) c.cut_at-split.new.nodes c.cut_at-split.result (cut (goal.at.returns-clause-shrinks c).After-cut_at-split) c.set_border.new.nodes c.set_border.ensures.rewritten c.set_border.ensures.items c.set_border.ensures.children c.set_border.ensures.count
+    bordered c.args.nodes.now c.pool.new.nodes c.args.low c.args.number c.args.index c.requires (pool a) c.cut_at-split.new.nodes c.cut_at-split.result (cut (goal.at.returns-clause-shrinks c).After-cut_at-split) c.set_border.new.nodes c.set_border.ensures.rewritten c.set_border.ensures.items c.set_border.ensures.children (rw c.child_at-left.ensures at c.set_border.ensures.sizes) c.set_border.ensures.count
