@@ -1,10 +1,10 @@
 -- What is left of an item that a range cuts, by places.
-use Rattle.std.proofs.Common.{◌≡◌, refl, sym, ◌∙◌, ◌↔◌, Some, None, Bool, true, false, not, IsTrue}
+use Rattle.std.proofs.Common.{◌≡◌, refl, sym, ◌∙◌, ◌↔◌, Some, None, Bool, false, IsTrue}
 use Rattle.std.specs.declared.ops.Bound.{Bound}
 use Rattle.std.specs.declared.ops.Bound.TheVariants.{Included, Excluded, Unbounded}
 use Rattle.std.specs.declared.cmp.Ordering.{Ordering}
-use Rattle.std.specs.declared.cmp.Ordering.TheVariants.{Less, Equal}
-use Rattle.std.specs.Ordering.{is_gt, is_lt}
+use Rattle.std.specs.declared.cmp.Ordering.TheVariants.{Less, Equal, Greater}
+use Rattle.std.specs.Ordering.{is_gt, is_le, is_lt}
 use Rattle.std.specs.Cmp.{tied_back, tied_itself}
 use Rattle.range_keys.specs.Order.{KeyOrder, IsLawful}
 use Rattle.range_keys.specs.Position.{start_position, end_position}
@@ -84,18 +84,19 @@ module _ {K : Type 0} (order : KeyOrder K) (lawful : IsLawful order) where
   pub ends_never : (r i : AnyRange K) → IsKnownRange order i → None ≡ inverted r.end → IsTrue false ↔ Lt (places order lawful) (upper order r) (upper order i)
   ends_never r i known turns = (λ h. absurd (cc), λ l. absurd (not_past_all r.end i.end turns known.1 l))
 
-  not_is : (b : Bool) → IsTrue (not b) ↔ b ≡ false
-  not_is true = (λ h. absurd (cc), λ h. absurd (cc))
-  not_is false = (λ h. refl, λ h. refl)
+  pub le_is : (o : Ordering) → IsTrue (is_le o) ↔ is_gt o ≡ false
+  le_is Less = (λ h. refl, λ h. refl)
+  le_is Equal = (λ h. refl, λ h. refl)
+  le_is Greater = (λ h. absurd (cc), λ h. absurd (cc))
 
   -- a range ends after another where it reaches the start just behind it
-  pub ends_after_is : (r i : AnyRange K) (s : Bound K) → IsKnownRange order r → IsKnownRange order i → Some s ≡ inverted r.end → IsTrue (not (is_gt (places order lawful (start_position order s) (end_position order i.end)))) ↔ Lt (places order lawful) (upper order r) (upper order i)
+  pub ends_after_is : (r i : AnyRange K) (s : Bound K) → IsKnownRange order r → IsKnownRange order i → Some s ≡ inverted r.end → IsTrue (is_le (places order lawful (start_position order s) (end_position order i.end))) ↔ Lt (places order lawful) (upper order r) (upper order i)
   ends_after_is r i s known others turns =
       let total = position_total order.cmp lawful.total in
       let cmp = places order lawful in
       let at = turned order lawful r.end s (sym turns) in
       let reach = reaches order lawful s i.end (turned_known order lawful r.end s (sym turns) known.1) others.1 in
-      let test = not_is (is_gt (cmp (start_position order s) (end_position order i.end))) in (
+      let test = le_is (cmp (start_position order s) (end_position order i.end)) in (
         λ h. le_lt_trans cmp total (upper order r) (start_position order s) (upper order i) (eq_le cmp total (upper order r) (start_position order s) at) (reach.0 (test.0 h)),
         λ l. test.1 (reach.1 (le_lt_trans cmp total (start_position order s) (upper order r) (upper order i) (eq_ge cmp total (upper order r) (start_position order s) at) l)),
       )

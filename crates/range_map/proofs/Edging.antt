@@ -37,6 +37,7 @@ use Rattle.range_map.specs.Reach.{ReachesBefore, ReachesBehind}
 use Rattle.range_map.specs.Edits.{turned_bound, with_end}
 use Rattle.range_algebra.specs.Clones.{SameBound}
 use Rattle.range_algebra.specs.Range.{IsKnownBound}
+use Rattle.range_map.proofs.Covering.{meets_bound}
 use Rattle.range_map.proofs.Openings.{regrouped, regrouped_out}
 use Rattle.range_map.proofs.CutParts.{cut_end, cut_start, known_turned, same_turned}
 use Rattle.range_map.specs.Edges.{IsLeftRest, IsRightRest, IsLeftEdge, IsRightEdge, TouchesBefore, TouchesNoneBefore, TouchesAfter, TouchesNoneAfter, edge_start, edge_end}
@@ -322,7 +323,7 @@ module _ {K : Type 0} (order : KeyOrder K) (lawful : IsLawful order) {V : Type 0
         let others = every_append _ front (m ∷ behind)
         (every_append _ (take at items) (option_items left) (known_take order lawful same equal items at all) on_left.known)
         (known_m, every_append _ (option_items right) (drop end items) on_right.known (known_drop order lawful same equal items end all)) in
-        record { stored = rw list (chain_stored order lawful same equal (front ++ m ∷ behind) others result.chain); bound = rw list (bound_after order lawful same equal items (front ++ m ∷ behind) r v known all others result); frame = frame }
+        record { stored = rw list (chain_stored order lawful same equal (front ++ m ∷ behind) others result.chain); bound = rw list (bound_after order lawful same equal items (front ++ m ∷ behind) r v known all others result); frame = frame; meets = rw list (meets_bound order lawful same equal items (front ++ m ∷ behind) r v all others (stored_chain order lawful same equal items stored) known good result) }
 
     -- the list with the range unbound
     pub removed : (new : List (Item (AnyRange K) V)) (at end : ℕ) (left right : Option (Item (AnyRange K) V)) →

@@ -137,10 +137,10 @@ module _ {K : Type 0} (order : KeyOrder K) (lawful : IsLawful order) where
     respects_same : (v : V) → Respects places (position_total order.cmp lawful.total) same equal (item_lower order) (item_upper order) (λ (i : Item (AnyRange K) V). i.value) (λ u. same u v)
     respects_same v a b s h = sym (equal.congr a b v s) ∙ h
 
-    respects_any : Respects places (position_total order.cmp lawful.total) same equal (item_lower order) (item_upper order) (λ (i : Item (AnyRange K) V). i.value) (λ u. true)
+    pub respects_any : Respects places (position_total order.cmp lawful.total) same equal (item_lower order) (item_upper order) (λ (i : Item (AnyRange K) V). i.value) (λ u. true)
     respects_any a b s h = h
 
-    outside : (r : AnyRange K) (k : K) → IsKnownRange order r → order.is_key k → (Holds order r k → ⊥) → Lt places (Beside k At) (lower order r) ⊎ Le places (upper order r) (Beside k At)
+    pub outside : (r : AnyRange K) (k : K) → IsKnownRange order r → order.is_key k → (Holds order r k → ⊥) → Lt places (Beside k At) (lower order r) ⊎ Le places (upper order r) (Beside k At)
     outside r k known key h =
         let total = position_total order.cmp lawful.total in
         elim (cases places total (Beside k At) (lower order r)) [
@@ -148,7 +148,7 @@ module _ {K : Type 0} (order : KeyOrder K) (lawful : IsLawful order) where
           | inr from ↦ inr (not_lt places total (upper order r) (Beside k At) (λ upto. h ((held_between order lawful r k known key).1 (from, upto))))
         ]
 
-    same_binds : (before after : List (Item (AnyRange K) V)) (k : K) → Known before → Known after → order.is_key k → ((W : V → Bool) → Respects places (position_total order.cmp lawful.total) same equal (item_lower order) (item_upper order) (λ (i : Item (AnyRange K) V). i.value) W → Hold W (Beside k At) after ↔ Hold W (Beside k At) before) → (b : Option V) → Binds order same after k b ↔ Binds order same before k b
+    pub same_binds : (before after : List (Item (AnyRange K) V)) (k : K) → Known before → Known after → order.is_key k → ((W : V → Bool) → Respects places (position_total order.cmp lawful.total) same equal (item_lower order) (item_upper order) (λ (i : Item (AnyRange K) V). i.value) W → Hold W (Beside k At) after ↔ Hold W (Beside k At) before) → (b : Option V) → Binds order same after k b ↔ Binds order same before k b
     same_binds before after k known known' key f (Some v) =
         let own = f (λ u. same u v) (respects_same v) in
         let old = binds_hold before k v known key in

@@ -62,13 +62,13 @@ run_some xs place count within some e =
     let none : length (take count (drop place xs)) ≡ 0 = ap length e in
     omega (arith, size, none)
 
-parts_of : {X : Type 0} (xs : List X) (place count : ℕ) → drop place xs ≡ take count (drop place xs) ++ drop (place + count) xs
+pub parts_of : {X : Type 0} (xs : List X) (place count : ℕ) → drop place xs ≡ take count (drop place xs) ++ drop (place + count) xs
 parts_of xs place count = parts (drop place xs) count ∙ ap (λ ys. take count (drop place xs) ++ ys) (drop-drop count place xs)
 
-reassociate : {X : Type 0} (a b c d e : List X) → (a ++ b) ++ (c ++ (d ++ e)) ≡ a ++ (b ++ c ++ d) ++ e
+pub reassociate : {X : Type 0} (a b c d e : List X) → (a ++ b) ++ (c ++ (d ++ e)) ≡ a ++ (b ++ c ++ d) ++ e
 reassociate a b c d e = simp append_assoc
 
-reassociate_pieces : {X : Type 0} (a b c d e : List X) → a ++ b ++ c ++ d ++ e ≡ a ++ (b ++ c ++ d) ++ e
+pub reassociate_pieces : {X : Type 0} (a b c d e : List X) → a ++ b ++ c ++ d ++ e ≡ a ++ (b ++ c ++ d) ++ e
 reassociate_pieces a b c d e = simp append_assoc
 
 item_is : {K V : Type 0} (m : Item (AnyRange K) V) (r : AnyRange K) (v : V) → m.key.start ≡ r.start → m.key.end ≡ r.end → m.value ≡ v → m ≡ record { key = r; value = v }

@@ -156,15 +156,15 @@ module _ {K : Type 0} (order : KeyOrder K) (lawful : IsLawful order) {V : Type 0
   pub left_joined_at : (q : P) → ReachesBefore order is_good rank items r place w.count None → is_good q → rank q + 1 ≡ place → rank q < length items → TouchesBefore order same items place r v → IsLeftPlan order same lawful equal is_good rank items r v place w.count None (Joined q) (Some q)
   left_joined_at q reach is at within touching = left_plan_joined q (element items (rank q) within) reach is at within (element_is items (rank q) within (element items (rank q) within)) touching
 
-  pub left_plan_plain : ReachesBefore order is_good rank items r place w.count None → TouchesNoneBefore order same items place r v → IsLeftPlan order same lawful equal is_good rank items r v place w.count None Plain w.from
-  left_plan_plain reach none = record {
+  pub left_plan_free : (from : Option P) → IsAt is_good rank (length items) from place → ReachesBefore order is_good rank items r place w.count None → TouchesNoneBefore order same items place r v → IsLeftPlan order same lawful equal is_good rank items r v place w.count None Plain from
+  left_plan_free from run reach none = record {
     at = place;
     begin = place;
     rest = None;
     start = None;
     shape = (refl, refl, refl);
     side = left_edge_none order lawful same equal is_good rank items r w place stored known full window v (omega (arith, window.in_range)) (left_rest_whole order lawful same equal is_good rank items r w place stored known full window reach) none;
-    run = window.position;
+    run = run;
     frame = record {
       extra = [];
       split = sym (append-nil (take place items));
@@ -176,6 +176,9 @@ module _ {K : Type 0} (order : KeyOrder K) (lawful : IsLawful order) {V : Type 0
     few = omega arith;
     begins = omega arith;
   }
+
+  pub left_plan_plain : ReachesBefore order is_good rank items r place w.count None → TouchesNoneBefore order same items place r v → IsLeftPlan order same lawful equal is_good rank items r v place w.count None Plain w.from
+  left_plan_plain reach none = left_plan_free w.from window.position reach none
 
   last_at : (p : P) (x : Item (AnyRange K) V) → rank p + 1 ≡ place + w.count → x ≡ get_or items (rank p) x → x ≡ get_or items (place + w.count - 1) x
   last_at p x at read = let index : rank p ≡ place + w.count - 1 = omega arith in read ∙ ap (λ n. get_or items n x) index

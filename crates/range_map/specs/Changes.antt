@@ -6,6 +6,7 @@ use Rattle.range_store.specs.declared.storage.Item.{Item}
 use Rattle.range_map.specs.Stored.{IsStored}
 use Rattle.range_algebra.specs.Intervals.{Every}
 use Rattle.range_map.specs.Ranges.{Overlap}
+use Rattle.range_map.specs.Lookups.{MeetAlso}
 use Rattle.range_map.specs.Frames.{GaveWayTo, WasCutOut}
 use Rattle.range_map.specs.Bindings.{IsBoundAfter, IsUnboundAfter}
 
@@ -14,6 +15,7 @@ module _ {K : Type 0} (order : KeyOrder K) {V : Type 0} (same : V → V → Bool
     pub stored : IsStored order same new
     pub bound : IsBoundAfter order same items new r v
     pub frame : GaveWayTo order same items new r v
+    pub meets : MeetAlso order items new r
 
   pub record IsRemoved (items new : List (Item (AnyRange K) V)) (r : AnyRange K) : Type 0 where
     pub stored : IsStored order same new

@@ -12,7 +12,8 @@ use Rattle.std.specs.Option.{unwrap_or}
 use Rattle.std.specs.declared.ops.Bound.TheVariants.{Unbounded}
 use Rattle.range_map.specs.declared.edges.Edge.{Edge}
 use Rattle.range_map.specs.declared.edges.Edge.TheVariants.{Plain, Cut, Joined}
-use Rattle.range_map.specs.Edits.{with_start, with_end}
+use Rattle.range_map.specs.Edits.{turned_bound, with_start, with_end}
+use Rattle.range_algebra.specs.Clones.{SameBound}
 use Rattle.range_algebra.specs.declared.any.AnyRange.{AnyRange}
 use Rattle.range_store.specs.declared.storage.Item.{Item}
 use Rattle.range_algebra.specs.Intervals.{Every, Le}
@@ -87,6 +88,13 @@ module _ {K P : Type 0} where
   abbrev pub edge_at : Option P → Bound K → Edge K P
   edge_at None b = Plain
   edge_at (Some p) b = Cut p b
+
+  -- an item that is cut just outside the bound of a range, if there is one
+  pub record IsCutAt (order : KeyOrder K) (item : Option P) (bound : Bound K) (edge : Edge K P) : Type 0 where
+    pub cut : Bound K
+    pub at : edge ≡ edge_at item cut
+    pub known : IsKnownBound order cut
+    pub turned : SameBound order (turned_bound bound) cut
 
   abbrev pub IsGoodEdge : (P → Type 0) → Edge K P → Type 0
   IsGoodEdge is_good Plain = ⊤

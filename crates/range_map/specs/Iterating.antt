@@ -9,6 +9,10 @@ use Rattle.range_store.specs.Places.{IsAt, place_before}
 abbrev pub shown_item : {K V : Type 0} → Bor (AnyRange K) × Bor V → Item (AnyRange K) V
 shown_item pair = record { key = pair.0.now; value = pair.1.now }
 
+-- the item that a pair is made of
+abbrev pub pair_item : {K V : Type 0} → AnyRange K × V → Item (AnyRange K) V
+pair_item pair = record { key = pair.0; value = pair.1 }
+
 -- a good position, the last below `end`
 abbrev pub IsLastBelow : {P : Type 0} → (P → Type 0) → (P → ℕ) → Option P → ℕ → Type 0
 IsLastBelow is_good rank None end = ⊥

@@ -1,8 +1,8 @@
 -- What a range meets among the stored ones, and where it stands once it is put among them.
-use Rattle.std.specs.Prelude.{◌≡◌, ℕ, ◌≤◌, ◌⊎◌, List, length, insert}
+use Rattle.std.specs.Prelude.{◌≡◌, ℕ, ◌≤◌, ◌⊎◌, ◌↔◌, List, length, insert}
 use Rattle.range_keys.specs.Order.{KeyOrder}
 use Rattle.range_algebra.specs.Intervals.{Any}
-use Rattle.range_algebra.specs.Range.{Holds}
+use Rattle.range_algebra.specs.Range.{Holds, IsEmptyRange, IsKnownRange}
 use Rattle.range_algebra.specs.declared.any.AnyRange.{AnyRange}
 use Rattle.range_store.specs.declared.storage.Item.{Item}
 use Rattle.range_map.specs.Bindings.{IsBound}
@@ -18,6 +18,10 @@ module _ {K : Type 0} (order : KeyOrder K) where
     -- some stored range meets the range
     abbrev pub MeetsSome : List (Item (AnyRange K) V) → AnyRange K → Type 0
     MeetsSome items r = Any (λ i. Overlap order i.key r) items
+
+    -- a nonempty range meets one of the later list where it meets the given range or one of the earlier list, and nowhere else
+    abbrev pub MeetAlso : List (Item (AnyRange K) V) → List (Item (AnyRange K) V) → AnyRange K → Type 0
+    MeetAlso before after r = (s : AnyRange K) → IsKnownRange order s → (¬ IsEmptyRange order s) → MeetsSome after s ↔ (Overlap order r s ⊎ MeetsSome before s)
 
     -- some stored range meets or touches it
     abbrev pub IsConnectedToSome : List (Item (AnyRange K) V) → AnyRange K → Type 0

@@ -1,6 +1,6 @@
 //! Binding a nonempty range in a container.
 ghost use Rattle.std.specs.Prelude.{◌≡◌, ◌+◌, ◌-◌, ◌≤◌, length, OnOk, OnErr};
-ghost use Rattle.range_algebra.specs.Range.{ClonesAreEqual, IsEmptyRange, IsKnownRange};
+ghost use Rattle.range_algebra.specs.Range.{ClonesAreEqual, IsEmptyRange};
 ghost use Rattle.range_store.specs.Places.{place_before};
 ghost use Rattle.range_map.specs.Stored.{IsStored};
 ghost use Rattle.range_map.specs.Window.{IsWindow, option_items};
@@ -14,7 +14,7 @@ use crate::reach::{item_count, reaching_before, reaching_behind, surrounding};
 use crate::window::{Window, find_window};
 use range_algebra::any::AnyRange;
 use range_algebra::inner;
-use range_keys::traits::PartialEnum;
+use range_keys::traits::{Measure, PartialEnum};
 use range_store::inner::cursor::Cursor;
 use range_store::storage::{Item, Storage};
 use std::alloc::AllocError;
@@ -27,7 +27,7 @@ fn growth(count: usize) -> usize
 }
 
 /// Binds a range that lies within one stored range: with an equal value nothing changes, with another it stands between two parts.
-fn bind_within<K: PartialEnum + Clone, V: Eq + Clone, C: Storage<Item<AnyRange<K>, V>>>(
+pub(crate) fn bind_within<K: PartialEnum + Clone, V: Eq + Clone, C: Storage<Item<AnyRange<K>, V>>>(
     stored: &mut C,
     window: &Window<C::Position>,
     p: C::Position,
@@ -97,7 +97,7 @@ fn bind_over<K: PartialEnum + Clone, V: Eq + Clone, C: Storage<Item<AnyRange<K>,
 }
 
 /// Binds each key of a nonempty range to the value.
-pub(crate) fn bind<K: PartialEnum + Clone, V: Eq + Clone, C: Storage<Item<AnyRange<K>, V>>>(
+pub(crate) fn bind<K: Measure + Clone, V: Eq + Clone, C: Storage<Item<AnyRange<K>, V>>>(
     stored: &mut C,
     range: AnyRange<K>,
     value: V,
@@ -109,9 +109,9 @@ pub(crate) fn bind<K: PartialEnum + Clone, V: Eq + Clone, C: Storage<Item<AnyRan
     ensures ok { OnOk result (IsInserted K.order V.eq (C.items stored.old) (C.items stored.new) range value) }
     ensures refused { OnErr result (C.items stored.new ≡ C.items stored.old) }
 {
-    let window = find_window::<K, V, C>(stored, &range);
-    let first = reaching_before::<K, V, C>(stored, &window, &range);
-    let last = reaching_behind::<K, V, C>(stored, &window, &range);
+    let window = find_window::<K, V, C, AnyRange<K>>(stored, &range);
+    let first = reaching_before::<K, V, C, AnyRange<K>>(stored, &window, &range);
+    let last = reaching_behind::<K, V, C, AnyRange<K>>(stored, &window, &range);
     match surrounding(window.count, first, last) {
         Some(p) => bind_within::<K, V, C>(stored, &window, p, range, value),
         None => bind_over::<K, V, C>(stored, &window, first, last, range, value),

@@ -8,10 +8,11 @@ ghost use Rattle.range_algebra.specs.declared.any.AnyRange.{AnyRange};
 ghost use Rattle.range_map.specs.Edits.{with_start, with_end};
 ghost use Rattle.range_map.specs.Window.{option_items};
 ghost use Rattle.range_map.specs.Edges.{joined_count, IsGoodEdge, IsLeftEdited, IsRightEdited, IsLeftShape, IsRightShape};
+ghost use Rattle.range_map.specs.Seams.{with_first_start, with_last_end};
 
 use crate::edges::Edge;
 use range_algebra::any::AnyRange;
-use range_store::inner::cursor::{Cursor, remove_rest, replace_run};
+use range_store::inner::cursor::{Cursor, put, remove_rest, replace_run};
 use range_store::storage::{Item, Storage};
 use std::mem;
 use std::ops::Bound;
@@ -124,6 +125,68 @@ pub(crate) fn change<K: Drop, V: Drop, C: Storage<Item<AnyRange<K>, V>>>(
         end: joined(end, own_end),
     };
     replace_run::<Item<AnyRange<K>, V>, C>(stored, run, Item { key, value });
+}
+
+/// Gives the first item another start, where there is one.
+fn start_at<K: Drop, V: Drop>(items: &mut Vec<Item<AnyRange<K>, V>>, start: Option<Bound<K>>)
+    ensures { items.new.items ≡ with_first_start start items.old.items }
+{
+    if let Some(start) = start {
+        if let Some(item) = items.first_mut() {
+            item.key.start = start;
+        }
+    }
+}
+
+/// Gives the last item another end, where there is one.
+fn end_at<K: Drop, V: Drop>(items: &mut Vec<Item<AnyRange<K>, V>>, end: Option<Bound<K>>)
+    ensures { items.new.items ≡ with_last_end end items.old.items }
+{
+    if let Some(end) = end {
+        if let Some(item) = items.last_mut() {
+            item.key.end = end;
+        }
+    }
+}
+
+/// Lets the items of a list stand for the whole run.
+fn replace_run_by<T: Drop, C: Storage<T>>(stored: &mut C, run: Cursor<C::Position>, items: Vec<T>)
+    requires good { ForSome run.at (C.is_good stored.old) }
+    requires in_range { place_before (C.rank stored.old) (length (C.items stored.old)) run.at + run.left ≤ length (C.items stored.old) }
+    requires space { length items.items ≤ run.left + C.room stored.old }
+    ensures { let place = place_before (C.rank stored.old) (length (C.items stored.old)) run.at in C.items stored.new ≡ take place (C.items stored.old) ++ items.items ++ drop (place + run.left) (C.items stored.old) }
+{
+    let mut cursor = run;
+    for item in items {
+        cursor = put::<T, C>(stored, cursor, item);
+    }
+    remove_rest::<T, C>(stored, cursor);
+}
+
+/// Binds the ranges of a list, where `left` and `right` say what becomes of the items beside them,
+/// and a run gives way to them.
+///
+/// A start that the run joins becomes that of the first item, and an end that of the last.
+pub(crate) fn change_to<K: Drop, V: Drop, C: Storage<Item<AnyRange<K>, V>>>(
+    stored: &mut C,
+    run: Cursor<C::Position>,
+    left: Edge<K, C::Position>,
+    right: Edge<K, C::Position>,
+    items: Vec<Item<AnyRange<K>, V>>,
+)
+    requires left { IsGoodEdge (C.is_good stored.old) left }
+    requires right { IsGoodEdge (C.is_good stored.old) right }
+    requires good { ForSome run.at (C.is_good stored.old) }
+    requires in_range { place_before (C.rank stored.old) (length (C.items stored.old)) run.at + run.left ≤ length (C.items stored.old) }
+    requires space { length items.items ≤ run.left + C.room stored.old }
+    ensures { (at end : ℕ) (before behind : Option (Item (AnyRange K) V)) (start finish : Option (Bound K)) → let from = place_before (C.rank stored.old) (length (C.items stored.old)) run.at in IsLeftShape (C.is_good stored.old) (C.rank stored.old) (C.items stored.old) left at from before start → IsRightShape (C.is_good stored.old) (C.rank stored.old) (C.items stored.old) right (from + run.left) end behind finish → joined_count left + joined_count right ≤ run.left → C.items stored.new ≡ take at (C.items stored.old) ++ option_items before ++ with_last_end finish (with_first_start start items.items) ++ option_items behind ++ drop end (C.items stored.old) }
+{
+    let start = open_left::<K, V, C>(stored, left);
+    let end = open_right::<K, V, C>(stored, right);
+    let mut items = items;
+    start_at(&mut items, start);
+    end_at(&mut items, end);
+    replace_run_by::<Item<AnyRange<K>, V>, C>(stored, run, items);
 }
 
 /// Removes a run, where `left` and `right` say what becomes of the items beside it.

@@ -48,6 +48,7 @@ impl<K: PartialEnum + Clone, V: Eq + Clone, C: Storage<Item<AnyRange<K>, V>>> Ra
         known_items::<K, V, C>(&stored);
         Ok(RangeMap {
             stored,
+            alloc: self.alloc,
             item: PhantomData,
         })
     }

@@ -2,39 +2,59 @@
 ghost use Rattle.std.specs.Prelude.{◌≡◌, OnOk, OnErr, MatchResult, IfOk, Option, Some};
 ghost use Rattle.std.specs.Option.{option_copied};
 ghost use Rattle.range_algebra.specs.Range.{ClonesAreEqual};
-ghost use Rattle.range_map.specs.Bindings.{Binds};
+ghost use Rattle.range_map.specs.Bindings.{Binds, IsBound};
 ghost use Rattle.range_map.specs.Runs.{IsStep, IsRun};
 ghost use Rattle.range_map.specs.History.{BindOver};
+ghost use Rattle.range_map.specs.Tagged.{MayAnswerTo, MayBeAskedAll};
+ghost use Rattle.range_map.specs.declared.command.Command.TheVariants.{Update};
 
-use crate::error::MapError;
+use crate::error::{MapError, NotInserted, UpdateError};
 use crate::map::RangeMap;
 use range_algebra::any::AnyRange;
-use range_keys::traits::Measure;
+use range_keys::traits::{Measure, PartialEnum};
 use range_store::storage::{Item, Storage};
 use std::alloc::{AllocError, Global};
 
 /// One call of a map.
+///
+/// An update has a tag, which tells the closure of all updates what this one is to do.
 #[derive(Drop)]
-pub enum Command<K, V> {
+pub enum Command<K, V, T> {
     /// Binds each key of the range to the value.
     Insert(AnyRange<K>, V),
+    /// Binds each key of the range to the value, unless the range meets or touches a stored one.
+    InsertDisconnected(AnyRange<K>, V),
     /// Binds no key of the range.
     Remove(AnyRange<K>),
+    /// Binds each piece of the range as the closure answers with the tag.
+    Update(AnyRange<K>, T),
     /// Asks for a clone of the value at a key.
     Get(K),
+    /// Asks whether a key is bound.
+    Contains(K),
+    /// Asks whether the range is nonempty and meets a stored one.
+    Intersects(AnyRange<K>),
     /// Asks how many ranges are stored.
     Count,
 }
 
 /// What a call answered.
-#[derive(Debug, Drop, PartialEq, Eq)]
-pub enum Reply<V> {
-    /// An insertion or a removal was done.
+#[derive(Debug, Drop)]
+#[derive_where(PartialEq, Eq; K: PartialEnum, V, E)]
+pub enum Reply<K, V, E> {
+    /// The change was done.
     Done,
     /// There was not enough memory, and nothing was changed.
     Memory,
+    /// The range that was to be inserted meets or touches a stored one, and nothing was changed. The
+    /// range and the value are handed back.
+    Connected(AnyRange<K>, V),
+    /// The closure answered this error for a piece, and nothing was changed.
+    Closure(E),
     /// What the key is bound to.
     Value(Option<V>),
+    /// Whether it is so.
+    Truth(bool),
     /// How many ranges are stored.
     Count(usize),
 }
@@ -45,7 +65,8 @@ fn get_cloned<K: Measure, V: Eq + Clone, C: Storage<Item<AnyRange<K>, V>>>(
     key: K,
 ) -> Result<Option<V>, AllocError>
     requires values { ClonesAreEqual V.is_clone V.eq }
-    ensures { IfOk result (λ b. Binds K.order V.eq (C.items map.now) key b) }
+    ensures value { IfOk result (λ b. Binds K.order V.eq (C.items map.now) key b) }
+    ensures refused { OnErr result (IsBound K.order (C.items map.now) key) }
 {
     match map.get(key) {
         Some(value) => Ok(Some(value.clone()?)),
@@ -53,28 +74,70 @@ fn get_cloned<K: Measure, V: Eq + Clone, C: Storage<Item<AnyRange<K>, V>>>(
     }
 }
 
-/// Answers one command, with no memory beyond what the call itself takes.
-pub fn answer<K: Measure + Clone, V: Eq + Clone, C: Storage<Item<AnyRange<K>, V>>>(
-    map: &mut RangeMap<K, V, C>,
-    command: Command<K, V>,
-) -> Reply<V>
+/// Does an update with a tag.
+fn update_tagged<
+    K: Measure + Clone,
+    V: Eq + Clone,
+    T: Drop,
+    E: Drop,
+    F: Fn(&T, Option<&V>) -> Result<Option<V>, E>,
+    C: Storage<Item<AnyRange<K>, V>>,
+>(map: &mut RangeMap<K, V, C>, range: AnyRange<K>, tag: T, f: &F) -> Reply<K, V, E>
     requires keys { ClonesAreEqual K.is_clone K.eq }
     requires values { ClonesAreEqual V.is_clone V.eq }
-    ensures { IsStep K.order V.eq (C.items map.old) command result (C.items map.new) }
+    requires callable { MayBeAskedAll F.Fn f.now }
+    ensures { IsStep K.order V.eq (MayAnswerTo F.Fn f.now) (C.items map.old) (Update range tag) result (C.items map.new) }
+{
+    let answer_one = |old: Option<&V>| -> Result<Option<V>, E>
+        requires { MayBeAskedAll F.Fn f.now }
+        ensures { MayAnswerTo F.Fn f.entry.now tag (option_copied old.entry) result }
+    { f(&tag, old) };
+    match map.update(range, answer_one) {
+        Ok(()) => Reply::Done,
+        Err(UpdateError::Memory) => Reply::Memory,
+        Err(UpdateError::Closure(error)) => Reply::Closure(error),
+    }
+}
+
+/// Answers one command, with no memory beyond what the call itself takes.
+///
+/// An update asks `f` with its tag: `f` is the closure of all updates, told apart by their tags.
+pub fn answer<
+    K: Measure + Clone,
+    V: Eq + Clone,
+    T: Drop,
+    E: Drop,
+    F: Fn(&T, Option<&V>) -> Result<Option<V>, E>,
+    C: Storage<Item<AnyRange<K>, V>>,
+>(map: &mut RangeMap<K, V, C>, command: Command<K, V, T>, f: &F) -> Reply<K, V, E>
+    requires keys { ClonesAreEqual K.is_clone K.eq }
+    requires values { ClonesAreEqual V.is_clone V.eq }
+    requires callable { MayBeAskedAll F.Fn f.now }
+    ensures { IsStep K.order V.eq (MayAnswerTo F.Fn f.now) (C.items map.old) command result (C.items map.new) }
 {
     match command {
         Command::Insert(range, value) => match map.insert(range, value) {
             Ok(()) => Reply::Done,
             Err(MapError::Memory) => Reply::Memory,
         },
+        Command::InsertDisconnected(range, value) => {
+            match map.insert_disconnected(range, value) {
+                Ok(()) => Reply::Done,
+                Err(NotInserted::Connected(range, value)) => Reply::Connected(range, value),
+                Err(NotInserted::Memory(_, _)) => Reply::Memory,
+            }
+        }
         Command::Remove(range) => match map.remove(range) {
             Ok(()) => Reply::Done,
             Err(MapError::Memory) => Reply::Memory,
         },
+        Command::Update(range, tag) => update_tagged(map, range, tag, f),
         Command::Get(key) => match get_cloned::<K, V, C>(map, key) {
             Ok(value) => Reply::Value(value),
             Err(_) => Reply::Memory,
         },
+        Command::Contains(key) => Reply::Truth(map.contains_key(key)),
+        Command::Intersects(range) => Reply::Truth(map.intersects(range)),
         Command::Count => Reply::Count(map.range_count()),
     }
 }
@@ -82,22 +145,32 @@ pub fn answer<K: Measure + Clone, V: Eq + Clone, C: Storage<Item<AnyRange<K>, V>
 /// Answers the commands in turn, one reply each.
 ///
 /// Makes room for all replies first: where there is none, nothing is done. A command that is refused
-/// later gets the reply `Memory`, changes nothing, and the others follow.
-pub fn run<K: Measure + Clone, V: Eq + Clone, C: Storage<Item<AnyRange<K>, V>>>(
+/// later gets the reply `Memory`, `Connected` or `Closure`, changes nothing, and the others follow.
+/// An update asks `f` with its tag.
+pub fn run<
+    K: Measure + Clone,
+    V: Eq + Clone,
+    T: Drop,
+    E: Drop,
+    F: Fn(&T, Option<&V>) -> Result<Option<V>, E>,
+    C: Storage<Item<AnyRange<K>, V>>,
+>(
     alloc: Global,
     map: &mut RangeMap<K, V, C>,
-    commands: Vec<Command<K, V>>,
-) -> Result<Vec<Reply<V>>, MapError>
+    commands: Vec<Command<K, V, T>>,
+    f: &F,
+) -> Result<Vec<Reply<K, V, E>>, MapError>
     requires keys { ClonesAreEqual K.is_clone K.eq }
     requires values { ClonesAreEqual V.is_clone V.eq }
-    ensures chain { IfOk result (λ replies. IsRun K.order V.eq (C.items map.old) commands.items replies.items (C.items map.new)) }
-    ensures history { IfOk result (λ replies. (k : K) → K.order.is_key k → (b : Option V) → Binds K.order V.eq (C.items map.new) k b → BindOver K.order V.eq k (λ u. Binds K.order V.eq (C.items map.old) k u) commands.items replies.items b) }
+    requires callable { MayBeAskedAll F.Fn f.now }
+    ensures chain { IfOk result (λ replies. IsRun K.order V.eq (MayAnswerTo F.Fn f.now) (C.items map.old) commands.items replies.items (C.items map.new)) }
+    ensures history { IfOk result (λ replies. (k : K) → K.order.is_key k → (b : Option V) → Binds K.order V.eq (C.items map.new) k b → BindOver K.order V.eq (MayAnswerTo F.Fn f.now) k (λ u. Binds K.order V.eq (C.items map.old) k u) commands.items replies.items b) }
     ensures refused { OnErr result (C.items map.new ≡ C.items map.old) }
 {
     let mut replies = Vec::new(alloc);
     replies.reserve(commands.len())?;
     for command in commands {
-        let reply = answer::<K, V, C>(map, command);
+        let reply = answer(map, command, f);
         match replies.push(reply) {
             Ok(()) => (),
             Err(_) => unreachable!(),

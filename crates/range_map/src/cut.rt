@@ -2,7 +2,6 @@
 ghost use Rattle.std.specs.Prelude.{◌≡◌, ◌↔◌, IfOk, IsTrue};
 ghost use Rattle.std.specs.Option.{option_map};
 ghost use Rattle.std.specs.Range.Bound.{bound_map};
-ghost use Rattle.range_keys.specs.Order.{IsLawful};
 ghost use Rattle.range_keys.specs.Position.{position_cmp};
 ghost use Rattle.range_algebra.specs.Clones.{IsBoundClone};
 ghost use Rattle.range_algebra.specs.Compared.{inverted};
@@ -13,13 +12,14 @@ ghost use Rattle.range_map.specs.Edits.{turned_bound};
 
 use range_algebra::any::AnyRange;
 use range_algebra::inner;
-use range_keys::inner::position::{compare_positions, position_of_end, position_of_start};
-use range_keys::traits::PartialEnum;
+use range_algebra::range::AsRange;
+use range_keys::bound::Directed;
+use range_keys::traits::{Measure, PartialEnum};
 use std::alloc::AllocError;
 use std::ops::{Bound, RangeBounds};
 
 /// The bound just past a bound, on its other side.
-fn invert<K>(bound: Bound<&K>) -> Option<Bound<&K>>
+pub(crate) fn invert<K>(bound: Bound<&K>) -> Option<Bound<&K>>
     ensures { option_map (bound_map (λ x. x.now)) result ≡ inverted (bound_map (λ x. x.now) bound.entry) }
 {
     match bound {
@@ -40,9 +40,16 @@ pub(crate) fn turned<K>(bound: Bound<K>) -> Bound<K>
     }
 }
 
-/// A clone of the bound on the other side of a bound.
+/// A clone of the bound on the other side of a bound: what it includes is excluded, and the other way round.
 pub(crate) fn turned_clone<K: Clone>(bound: &Bound<K>) -> Result<Bound<K>, AllocError>
     ensures { IfOk result (λ copy. IsBoundClone K.is_clone (turned_bound bound.now) copy) }
+{
+    turned_clone_of(bound.as_ref())
+}
+
+/// A clone of the bound on the other side of the one that is referred to.
+pub(crate) fn turned_clone_of<K: Clone>(bound: Bound<&K>) -> Result<Bound<K>, AllocError>
+    ensures { IfOk result (λ copy. IsBoundClone K.is_clone (turned_bound (bound_map (λ x. x.now) bound.entry)) copy) }
 {
     Ok(match bound {
         Bound::Included(key) => Bound::Excluded(key.clone()?),
@@ -62,28 +69,23 @@ pub(crate) fn known_bound<K: PartialEnum>(bound: &Bound<K>)
 }
 
 /// Whether the first range starts before the second.
-pub(crate) fn starts_before<K: PartialEnum>(first: &AnyRange<K>, second: &AnyRange<K>) -> bool
-    ensures { IsTrue result ↔ Lt (position_cmp K.order.cmp) (lower K.order first.now) (lower K.order second.now) }
+pub(crate) fn starts_before<K: Measure, R: AsRange<Item = K>>(
+    first: &AnyRange<K>,
+    second: &R,
+) -> bool
+    ensures { IsTrue result ↔ Lt (position_cmp K.order.cmp) (lower K.order first.now) (lower K.order (R.range second.now)) }
 {
-    compare_positions(
-        &position_of_start(first.start_bound()),
-        &position_of_start(second.start_bound()),
-    )
-    .is_lt()
+    Directed::Start(first.start_bound()) < Directed::Start(second.start())
 }
 
 /// Whether the first range ends after the second.
-pub(crate) fn ends_after<K: PartialEnum>(first: &AnyRange<K>, second: &AnyRange<K>) -> bool
-    ensures { IsTrue result ↔ Lt (position_cmp K.order.cmp) (upper K.order second.now) (upper K.order first.now) }
+pub(crate) fn ends_after<K: Measure, R: AsRange<Item = K>>(first: &AnyRange<K>, second: &R) -> bool
+    ensures { IsTrue result ↔ Lt (position_cmp K.order.cmp) (upper K.order (R.range second.now)) (upper K.order first.now) }
 {
     inner::known(first);
-    inner::known(second);
-    match invert(second.end_bound()) {
+    inner::known_range(second);
+    match invert(second.end()) {
         None => false,
-        Some(start) => !compare_positions(
-            &position_of_start(start),
-            &position_of_end(first.end_bound()),
-        )
-        .is_gt(),
+        Some(start) => Directed::Start(start) <= Directed::End(first.end_bound()),
     }
 }

@@ -1,11 +1,13 @@
 //! Binding a range that lies apart from all that is stored.
-ghost use Rattle.std.specs.Prelude.{◌≡◌, ◌↔◌, length, IsTrue, IsErrAnd, IfErr, OnOk, OnErr, IsOk};
+ghost use Rattle.std.specs.Prelude.{◌≡◌, ◌↔◌, ◌+◌, ◌≤◌, length, IsTrue, IsErrAnd, IfErr, OnOk, OnErr, IsOk};
 ghost use Rattle.std.specs.Option.{ForSome};
 ghost use Rattle.range_store.specs.Places.{place_before};
+ghost use Rattle.range_keys.specs.Order.{IsComplete};
 ghost use Rattle.range_algebra.specs.Range.{IsEmptyRange};
 ghost use Rattle.range_map.specs.Stored.{IsStored};
-ghost use Rattle.range_map.specs.Bindings.{IsBoundAfter};
-ghost use Rattle.range_map.specs.Lookups.{IsConnectedToSome, IsPutInto};
+ghost use Rattle.range_map.specs.Bindings.{IsBoundAfter, IsCoarse};
+ghost use Rattle.range_map.specs.Coarse.{IsOnlyCoarse};
+ghost use Rattle.range_map.specs.Lookups.{IsConnectedToSome, IsPutInto, MeetAlso};
 ghost use Rattle.range_map.specs.Gaps.{IsGap, IsAnswerAt, LiesApart, IsConnectedError, handed_back};
 
 use crate::error::NotInserted;
@@ -13,8 +15,9 @@ use crate::map::RangeMap;
 use crate::window::find;
 use range_algebra::any::AnyRange;
 use range_algebra::inner::{self, starts_at_end};
-use range_keys::inner::position::{compare_positions, position_of_end, position_of_start};
-use range_keys::traits::PartialEnum;
+use range_algebra::range::IntoRange;
+use range_keys::bound::Directed;
+use range_keys::traits::{Measure, PartialEnum};
 use range_store::storage::{Item, Storage};
 use std::ops::RangeBounds;
 
@@ -31,9 +34,8 @@ pub struct Gap<P: Copy> {
 fn lies_apart<K: PartialEnum>(first: &AnyRange<K>, second: &AnyRange<K>) -> bool
     ensures { IsTrue result ↔ LiesApart K.order first.now second.now }
 {
-    let start = position_of_start(second.start_bound());
-    let is_below = compare_positions(&position_of_end(first.end_bound()), &start).is_lt();
-    is_below && !starts_at_end(first.end_bound(), &start)
+    let (end, start) = (first.end_bound(), second.start_bound());
+    Directed::End(end) < Directed::Start(start) && !starts_at_end(end, start)
 }
 
 /// Whether the item before a range, where there is one, lies apart from it.
@@ -76,7 +78,7 @@ fn find_gap<K: PartialEnum, V: Eq + Drop, C: Storage<Item<AnyRange<K>, V>>>(
     ensures { IsGap K.order (C.is_good stored.now) (C.rank stored.now) (C.items stored.now) range.now result (place_before (C.rank stored.now) (length (C.items stored.now)) result.from) }
 {
     inner::known(range);
-    let start = position_of_start(range.start_bound());
+    let start = Directed::Start(range.start_bound());
     let (before, from) = find::<K, V, C>(stored, &start);
     let clear_before = is_clear_before::<K, V, C>(stored, before, range);
     let clear_behind = is_clear_behind::<K, V, C>(stored, from, range);
@@ -98,6 +100,7 @@ fn bind_apart<K: PartialEnum, V: Eq + Drop, C: Storage<Item<AnyRange<K>, V>>>(
     ensures given { IfErr result (λ e. handed_back e ≡ (range, value)) }
     ensures put { OnOk result (IsPutInto (C.items stored.old) (C.items stored.new) (record { key = range; value = value })) }
     ensures bound { OnOk result (IsBoundAfter K.order V.eq (C.items stored.old) (C.items stored.new) range value) }
+    ensures meets { OnOk result (MeetAlso K.order (C.items stored.old) (C.items stored.new) range) }
     ensures form { IsStored K.order V.eq (C.items stored.new) }
     ensures refused { OnErr result (C.items stored.new ≡ C.items stored.old) }
 {
@@ -115,28 +118,33 @@ fn bind_apart<K: PartialEnum, V: Eq + Drop, C: Storage<Item<AnyRange<K>, V>>>(
     }
 }
 
-impl<K: PartialEnum, V: Eq + Drop, C: Storage<Item<AnyRange<K>, V>>> RangeMap<K, V, C> {
+impl<K: Measure, V: Eq + Drop, C: Storage<Item<AnyRange<K>, V>>> RangeMap<K, V, C> {
     /// Binds each key of a range that neither meets nor touches a stored one, whatever its value.
     ///
     /// The range is stored as it is given, and no other changes. An empty range changes nothing and
     /// takes no memory. An error hands back the range and the value, and leaves the map as it was.
     /// Clones nothing; takes memory where the container has no room for one more range. Costs one
     /// search and two comparisons more.
-    pub fn insert_disconnected(
+    pub fn insert_disconnected<R: IntoRange<Item = K>>(
         &mut self,
-        range: AnyRange<K>,
+        range: R,
         value: V,
     ) -> Result<(), NotInserted<K, V>>
-        ensures connected { IsErrAnd result IsConnectedError ↔ (¬ IsEmptyRange K.order range) × IsConnectedToSome K.order (C.items self.old) range }
-        ensures given { IfErr result (λ e. handed_back e ≡ (range, value)) }
-        ensures put { OnOk result (¬ IsEmptyRange K.order range → IsPutInto (C.items self.old) (C.items self.new) (record { key = range; value = value })) }
-        ensures bound { OnOk result (IsBoundAfter K.order V.eq (C.items self.old) (C.items self.new) range value) }
+        ensures connected { IsErrAnd result IsConnectedError ↔ (¬ IsEmptyRange K.order (R.range range)) × IsConnectedToSome K.order (C.items self.old) (R.range range) }
+        ensures given { IfErr result (λ e. handed_back e ≡ (R.range range, value)) }
+        ensures put { OnOk result (¬ IsEmptyRange K.order (R.range range) → IsPutInto (C.items self.old) (C.items self.new) (record { key = R.range range; value = value })) }
+        ensures bound { OnOk result (IsBoundAfter K.order V.eq (C.items self.old) (C.items self.new) (R.range range) value) }
+        ensures meets { OnOk result (¬ IsEmptyRange K.order (R.range range) → MeetAlso K.order (C.items self.old) (C.items self.new) (R.range range)) }
         ensures form { IsStored K.order V.eq (C.items self.new) }
+        ensures coarse { IsComplete K.order → IsCoarse K.order V.eq (C.items self.new) }
+        ensures only { IsComplete K.order → IsOnlyCoarse K.order V.eq (C.items self.new) }
+        ensures few { length (C.items self.new) ≤ length (C.items self.old) + 1 }
         ensures refused { OnErr result (C.items self.new ≡ C.items self.old) }
-        ensures empty { IsEmptyRange K.order range → IsOk result }
-        ensures empty_unchanged { IsEmptyRange K.order range → C.items self.new ≡ C.items self.old }
+        ensures empty { IsEmptyRange K.order (R.range range) → IsOk result }
+        ensures empty_unchanged { IsEmptyRange K.order (R.range range) → C.items self.new ≡ C.items self.old }
     {
         self.in_form();
+        let range = range.into_range();
         inner::known(&range);
         if range.is_empty() {
             return Ok(());

@@ -9,15 +9,15 @@ ghost use Rattle.range_store.specs.Places.{place_before};
 ghost use Rattle.range_map.specs.Stored.{IsStored};
 ghost use Rattle.range_map.specs.Window.{IsWindow};
 ghost use Rattle.range_map.specs.Reach.{ReachesBefore, ReachesBehind};
-ghost use Rattle.range_map.specs.Edges.{joined_count, edge_at, TouchesBefore, TouchesNoneBefore, TouchesAfter, TouchesNoneAfter};
+ghost use Rattle.std.specs.Range.Bound.{bound_map};
+ghost use Rattle.range_map.specs.Edges.{joined_count, IsCutAt, TouchesBefore, TouchesNoneBefore, TouchesAfter, TouchesNoneAfter};
 ghost use Rattle.range_map.specs.Plans.{IsLeftPlan, IsRightPlan};
 
-use crate::cut::{known_bound, turned_clone};
+use crate::cut::{known_bound, turned_clone, turned_clone_of};
 use crate::window::Window;
 use range_algebra::any::AnyRange;
 use range_algebra::inner;
 use range_algebra::inner::starts_at_end;
-use range_keys::inner::position::position_of_start;
 use range_keys::traits::PartialEnum;
 use range_store::storage::{Item, Storage};
 use std::alloc::AllocError;
@@ -52,13 +52,22 @@ pub(crate) fn joined_items<K, P: Copy>(edge: &Edge<K, P>) -> usize
     }
 }
 
-/// What becomes of an item that a range cuts at the bound, where there is one.
-pub(crate) fn cut_edge<K: Drop, P: Copy>(item: Option<P>, bound: Bound<K>) -> Edge<K, P>
-    ensures { result ≡ edge_at item bound }
+/// What becomes of an item that is cut at the bound, where there is one. Clones the bound for it alone.
+pub(crate) fn cut_edge<K: PartialEnum + Clone, P: Copy>(
+    item: Option<P>,
+    bound: Bound<&K>,
+) -> Result<Edge<K, P>, AllocError>
+    requires { ClonesAreEqual K.is_clone K.eq }
+    ensures { IfOk result (IsCutAt K.order item (bound_map (λ x. x.now) bound.entry)) }
 {
+    inner::known_bound(bound);
     match item {
-        Some(p) => Edge::Cut(p, bound),
-        None => Edge::Plain,
+        Some(p) => {
+            let turned = turned_clone_of(bound)?;
+            known_bound(&turned);
+            Ok(Edge::Cut(p, turned))
+        }
+        None => Ok(Edge::Plain),
     }
 }
 
@@ -66,11 +75,11 @@ pub(crate) fn cut_edge<K: Drop, P: Copy>(item: Option<P>, bound: Bound<K>) -> Ed
 fn touches<K: PartialEnum>(first: &AnyRange<K>, second: &AnyRange<K>) -> bool
     ensures { result ≡ starts_at_end K.order first.now.end (start_position K.order second.now.start) }
 {
-    starts_at_end(first.end_bound(), &position_of_start(second.start_bound()))
+    starts_at_end(first.end_bound(), second.start_bound())
 }
 
 /// The item just before a window, if the range touches it and has an equal value.
-fn joined_before<K: PartialEnum, V: Eq + Drop, C: Storage<Item<AnyRange<K>, V>>>(
+pub(crate) fn joined_before<K: PartialEnum, V: Eq + Drop, C: Storage<Item<AnyRange<K>, V>>>(
     stored: &C,
     window: &Window<C::Position>,
     range: &AnyRange<K>,
@@ -94,7 +103,7 @@ fn joined_before<K: PartialEnum, V: Eq + Drop, C: Storage<Item<AnyRange<K>, V>>>
 }
 
 /// The item just behind a window, if the range touches it and has an equal value.
-fn joined_after<K: PartialEnum, V: Eq + Drop, C: Storage<Item<AnyRange<K>, V>>>(
+pub(crate) fn joined_after<K: PartialEnum, V: Eq + Drop, C: Storage<Item<AnyRange<K>, V>>>(
     stored: &C,
     window: &Window<C::Position>,
     range: &AnyRange<K>,

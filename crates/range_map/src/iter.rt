@@ -1,5 +1,5 @@
 //! The stored ranges with their values, from both ends.
-ghost use Rattle.std.specs.Prelude.{◌≡◌, ◌+◌, ◌≤◌, ◌<◌, length, take, drop, List};
+ghost use Rattle.std.specs.Prelude.{◌≡◌, ◌+◌, ◌≤◌, ◌<◌, length, take, drop, List, ⊤};
 ghost use Rattle.std.specs.Iterator.{YieldsFirstBy, YieldsLastBy, item_count};
 ghost use Rattle.range_algebra.specs.declared.any.AnyRange.{AnyRange};
 ghost use Rattle.range_store.specs.declared.storage.Item.{Item};
@@ -7,6 +7,7 @@ ghost use Rattle.range_map.specs.Iterating.{shown_item};
 
 use range_algebra::any::AnyRange;
 use range_store::storage::{Item, Storage};
+use std::alloc::AllocError;
 use std::marker::{Model, PhantomData};
 
 /// The stored ranges that are left, each with its value, in order. A contract sees their list.
@@ -45,6 +46,23 @@ impl<'a, K: 'a, V: 'a, C: Storage<Item<AnyRange<K>, V>> + 'a> Iter<'a, K, V, C> 
             left: stored.len(),
             item: PhantomData,
         }
+    }
+}
+
+/// A clone has the same items left. It takes no memory and never fails.
+impl<'a, K: 'a, V: 'a, C: Storage<Item<AnyRange<K>, V>> + 'a> Clone for Iter<'a, K, V, C> {
+    ghost is_clone = { λ walk copy. copy ≡ walk };
+
+    ghost is_infallible = { λ _. ⊤ };
+
+    fn clone(&self) -> Result<Self, AllocError> {
+        Ok(Iter {
+            stored: self.stored,
+            front: self.front,
+            back: self.back,
+            left: self.left,
+            item: PhantomData,
+        })
     }
 }
 

@@ -9,10 +9,10 @@ use crate::map::RangeMap;
 use crate::window::{find, starts_past};
 use range_algebra::any::AnyRange;
 use range_algebra::inner;
-use range_keys::inner::position::{position_of_end, position_of_start};
-use range_keys::traits::PartialEnum;
+use range_algebra::range::AsRange;
+use range_keys::bound::Directed;
+use range_keys::traits::{Measure, PartialEnum};
 use range_store::storage::{Item, Storage};
-use std::ops::RangeBounds;
 
 impl<K: PartialEnum, V: Eq + Drop, C: Storage<Item<AnyRange<K>, V>>> RangeMap<K, V, C> {
     /// Whether no range is stored. Takes no memory.
@@ -30,27 +30,29 @@ impl<K: PartialEnum, V: Eq + Drop, C: Storage<Item<AnyRange<K>, V>>> RangeMap<K,
     {
         self.get(key).is_some()
     }
+}
 
+impl<K: Measure, V: Eq + Drop, C: Storage<Item<AnyRange<K>, V>>> RangeMap<K, V, C> {
     /// Whether the range is nonempty and meets a stored one.
     ///
     /// It does wherever one of its keys is bound; over keys that leave no gap, nowhere else.
     /// Costs one search and one comparison more. Takes no memory.
-    pub fn intersects(&self, range: AnyRange<K>) -> bool
-        ensures meets { IsTrue result ↔ (¬ IsEmptyRange K.order range) × MeetsSome K.order (C.items self.now) range }
-        ensures bound { BindsKeyOf K.order (C.items self.now) range → IsTrue result }
-        ensures complete { IsComplete K.order → IsTrue result → BindsKeyOf K.order (C.items self.now) range }
+    pub fn intersects<R: AsRange<Item = K>>(&self, range: R) -> bool
+        ensures meets { IsTrue result ↔ (¬ IsEmptyRange K.order (R.range range)) × MeetsSome K.order (C.items self.now) (R.range range) }
+        ensures bound { BindsKeyOf K.order (C.items self.now) (R.range range) → IsTrue result }
+        ensures complete { IsComplete K.order → IsTrue result → BindsKeyOf K.order (C.items self.now) (R.range range) }
     {
         self.in_form();
-        inner::known(&range);
+        inner::known_range(&range);
         if range.is_empty() {
             return false;
         }
-        let start = position_of_start(range.start_bound());
+        let start = Directed::Start(range.start());
         let (_, from) = find::<K, V, C>(&self.stored, &start);
         match from {
             None => false,
             Some(p) => {
-                let end = position_of_end(range.end_bound());
+                let end = Directed::End(range.end());
                 !starts_past::<K, V>(self.stored.get(p), &end)
             }
         }

@@ -2,19 +2,27 @@
 ghost use Rattle.std.specs.Prelude.{◌≡◌, [], length};
 ghost use Rattle.std.specs.Option.{option_copied};
 ghost use Rattle.range_map.specs.Stored.{IsStored};
-ghost use Rattle.range_map.specs.Bindings.{Binds};
+ghost use Rattle.range_keys.specs.Order.{IsComplete};
+ghost use Rattle.range_map.specs.Bindings.{Binds, IsCoarse};
+ghost use Rattle.range_map.specs.Coarse.{IsOnlyCoarse, IsLeastCount};
 
 pub use crate::command::{Command, Reply, answer, run};
-pub use crate::error::{MapError, NotInserted};
+pub use crate::error::{MapError, NotInserted, UpdateError};
+pub use crate::gaps::Gaps;
+pub use crate::into_iter::IntoIter;
 pub use crate::iter::Iter;
+pub use crate::laws::{
+    coarse_lists_are_shortest, coarse_lists_are_unique, stored_lists_are_coarse,
+};
 pub use crate::search::binary_search;
 use crate::window::{find, starts_past};
 use range_algebra::any::AnyRange;
-use range_keys::inner::position::{KeyRef, Position, Side};
+use range_keys::bound::Directed;
 use range_keys::traits::PartialEnum;
 use range_store::storage::{Item, Storage};
 use std::alloc::Global;
 use std::marker::{Model, PhantomData};
+use std::ops::Bound;
 
 /// A map that binds the keys of ranges to values.
 ///
@@ -24,13 +32,14 @@ use std::marker::{Model, PhantomData};
 ///
 /// ```
 /// let mut map: RangeMap<u8, i64, VecStorage<_>> = RangeMap::new(rt.alloc());
-/// map.insert(AnyRange::new(Bound::Included(0), Bound::Included(5)), 1)?;
-/// map.insert(AnyRange::new(Bound::Included(4), Bound::Included(4)), 0)?;
+/// map.insert(0..=5, 1)?;
+/// map.insert(4u8, 0)?;
 /// assert_eq!(rt; map.range_count(), 3);
 /// ```
 #[derive(Drop)]
 pub struct RangeMap<K: PartialEnum, V: Eq, C: Storage<Item<AnyRange<K>, V>>> {
     pub(crate) stored: C,
+    pub(crate) alloc: Global,
     pub(crate) item: PhantomData<(K, V)>,
 }
 
@@ -51,6 +60,7 @@ impl<K: PartialEnum, V: Eq + Drop, C: Storage<Item<AnyRange<K>, V>>> RangeMap<K,
     {
         RangeMap {
             stored: C::new(alloc),
+            alloc,
             item: PhantomData,
         }
     }
@@ -63,9 +73,13 @@ impl<K: PartialEnum, V: Eq + Drop, C: Storage<Item<AnyRange<K>, V>>> RangeMap<K,
     }
 
     /// How many ranges are stored. Takes no memory.
+    ///
+    /// Over keys that tell their neighbours and ends no list of ranges that binds the same has fewer.
     pub fn range_count(&self) -> usize
-        ensures { result ≡ length (C.items self.now) }
+        ensures value { result ≡ length (C.items self.now) }
+        ensures least { IsComplete K.order → IsLeastCount K.order V.eq (C.items self.now) result }
     {
+        self.in_form();
         self.stored.len()
     }
 
@@ -76,13 +90,13 @@ impl<K: PartialEnum, V: Eq + Drop, C: Storage<Item<AnyRange<K>, V>>> RangeMap<K,
         ensures { Binds K.order V.eq (C.items self.now) key (option_copied result) }
     {
         key.known();
-        let position = Position::Beside(KeyRef::Given(&key), Side::At);
-        let (_, from) = find::<K, V, C>(&self.stored, &position);
+        let bound = Directed::Start(Bound::Included(&key));
+        let (_, from) = find::<K, V, C>(&self.stored, &bound);
         match from {
             None => None,
             Some(p) => {
                 let item = self.stored.get(p);
-                if starts_past::<K, V>(item, &position) {
+                if starts_past::<K, V>(item, &bound) {
                     None
                 } else {
                     Some(&item.value)
@@ -95,6 +109,8 @@ impl<K: PartialEnum, V: Eq + Drop, C: Storage<Item<AnyRange<K>, V>>> RangeMap<K,
     pub fn iter(&self) -> Iter<'_, K, V, C>
         ensures items { result ≡ C.items self.now }
         ensures form { IsStored K.order V.eq result }
+        ensures coarse { IsComplete K.order → IsCoarse K.order V.eq result }
+        ensures only { IsComplete K.order → IsOnlyCoarse K.order V.eq result }
     {
         self.in_form();
         Iter::new(&self.stored)

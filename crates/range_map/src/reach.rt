@@ -1,6 +1,5 @@
 //! Which of the items that a range meets reach out of it.
 ghost use Rattle.std.specs.Prelude.{◌≡◌, ◌+◌, ◌≤◌, length, Some, IsSome, MatchOption};
-ghost use Rattle.range_keys.specs.Order.{IsLawful};
 ghost use Rattle.std.specs.Option.{ForSome};
 ghost use Rattle.range_store.specs.Places.{place_before, IsAt};
 ghost use Rattle.range_map.specs.Window.{IsWindow, option_items};
@@ -9,17 +8,19 @@ ghost use Rattle.range_map.specs.Reach.{ReachesBefore, ReachesBehind};
 use crate::cut::{ends_after, starts_before};
 use crate::window::Window;
 use range_algebra::any::AnyRange;
-use range_keys::traits::PartialEnum;
+use range_algebra::range::AsRange;
+use range_keys::traits::{Measure, PartialEnum};
 use range_store::storage::{Item, Storage};
 
 /// The first item that the range meets, if it starts before the range.
-pub(crate) fn reaching_before<K: PartialEnum, V: Eq + Drop, C: Storage<Item<AnyRange<K>, V>>>(
-    stored: &C,
-    window: &Window<C::Position>,
-    range: &AnyRange<K>,
-) -> Option<C::Position>
-    requires window { IsWindow K.order (C.is_good stored.now) (C.rank stored.now) (C.items stored.now) range.now window.now (place_before (C.rank stored.now) (length (C.items stored.now)) window.now.from) }
-    ensures { ReachesBefore K.order (C.is_good stored.now) (C.rank stored.now) (C.items stored.now) range.now (place_before (C.rank stored.now) (length (C.items stored.now)) window.now.from) window.now.count result }
+pub(crate) fn reaching_before<
+    K: Measure,
+    V: Eq + Drop,
+    C: Storage<Item<AnyRange<K>, V>>,
+    R: AsRange<Item = K>,
+>(stored: &C, window: &Window<C::Position>, range: &R) -> Option<C::Position>
+    requires window { IsWindow K.order (C.is_good stored.now) (C.rank stored.now) (C.items stored.now) (R.range range.now) window.now (place_before (C.rank stored.now) (length (C.items stored.now)) window.now.from) }
+    ensures { ReachesBefore K.order (C.is_good stored.now) (C.rank stored.now) (C.items stored.now) (R.range range.now) (place_before (C.rank stored.now) (length (C.items stored.now)) window.now.from) window.now.count result }
 {
     if window.count == 0 {
         return None;
@@ -37,13 +38,14 @@ pub(crate) fn reaching_before<K: PartialEnum, V: Eq + Drop, C: Storage<Item<AnyR
 }
 
 /// The last item that the range meets, if it ends after the range.
-pub(crate) fn reaching_behind<K: PartialEnum, V: Eq + Drop, C: Storage<Item<AnyRange<K>, V>>>(
-    stored: &C,
-    window: &Window<C::Position>,
-    range: &AnyRange<K>,
-) -> Option<C::Position>
-    requires window { IsWindow K.order (C.is_good stored.now) (C.rank stored.now) (C.items stored.now) range.now window.now (place_before (C.rank stored.now) (length (C.items stored.now)) window.now.from) }
-    ensures { ReachesBehind K.order (C.is_good stored.now) (C.rank stored.now) (C.items stored.now) range.now (place_before (C.rank stored.now) (length (C.items stored.now)) window.now.from) window.now.count result }
+pub(crate) fn reaching_behind<
+    K: Measure,
+    V: Eq + Drop,
+    C: Storage<Item<AnyRange<K>, V>>,
+    R: AsRange<Item = K>,
+>(stored: &C, window: &Window<C::Position>, range: &R) -> Option<C::Position>
+    requires window { IsWindow K.order (C.is_good stored.now) (C.rank stored.now) (C.items stored.now) (R.range range.now) window.now (place_before (C.rank stored.now) (length (C.items stored.now)) window.now.from) }
+    ensures { ReachesBehind K.order (C.is_good stored.now) (C.rank stored.now) (C.items stored.now) (R.range range.now) (place_before (C.rank stored.now) (length (C.items stored.now)) window.now.from) window.now.count result }
 {
     match window.last {
         Some(last) => {

@@ -28,6 +28,11 @@ fn shows(map: &IntMap, rows: &[(i32, i32, i64)]) -> bool {
             && *value == row.2)
 }
 
+/// The closure of commands that ask none.
+fn unasked(_tag: &u8, _old: Option<&i64>) -> Result<Option<i64>, u8> {
+    Ok(None)
+}
+
 #[test]
 fn a_value_within_another_stands_between_two_parts(rt: HostRuntime) -> Result<(), Fail> {
     let mut map: IntMap = RangeMap::new(rt.alloc());
@@ -119,7 +124,7 @@ fn a_run_answers_each_command(rt: HostRuntime) -> Result<(), Fail> {
         Command::Get(4),
         Command::Get(1),
     ]?;
-    let replies = run(rt.alloc(), &mut map, commands)?;
+    let replies = run(rt.alloc(), &mut map, commands, &unasked)?;
     let expected = [
         Reply::Done,
         Reply::Done,
@@ -129,7 +134,7 @@ fn a_run_answers_each_command(rt: HostRuntime) -> Result<(), Fail> {
         Reply::Value(None),
     ];
     assert_eq!(rt; replies.as_slice(), expected.as_slice());
-    assert!(rt; answer(&mut map, Command::Get(5)) == Reply::Value(Some(1)));
+    assert!(rt; answer(&mut map, Command::Get(5), &unasked) == Reply::Value(Some(1)));
     Ok(())
 }
 

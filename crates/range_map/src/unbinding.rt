@@ -1,6 +1,6 @@
 //! Unbinding a nonempty range in a container.
 ghost use Rattle.std.specs.Prelude.{◌≡◌, ◌+◌, ◌≤◌, ◌<◌, length, OnOk, OnErr, IsOk};
-ghost use Rattle.range_algebra.specs.Range.{ClonesAreEqual, IsEmptyRange, IsKnownRange};
+ghost use Rattle.range_algebra.specs.Range.{ClonesAreEqual, IsEmptyRange};
 ghost use Rattle.range_store.specs.Places.{place_before};
 ghost use Rattle.range_map.specs.Stored.{IsStored};
 ghost use Rattle.range_map.specs.Window.{IsWindow, option_items};
@@ -10,120 +10,128 @@ ghost use Rattle.range_map.specs.Ranges.{Overlap};
 ghost use Rattle.range_map.specs.Changes.{IsRemoved};
 
 use crate::change::{clear, divide};
-use crate::cut::{known_bound, turned};
+use crate::cut::{known_bound, turned_clone_of};
 use crate::edges::cut_edge;
 use crate::reach::{item_count, reaching_before, reaching_behind, run_start, surrounding};
 use crate::window::{Window, find_window};
 use range_algebra::any::AnyRange;
 use range_algebra::inner;
-use range_keys::traits::PartialEnum;
+use range_algebra::range::AsRange;
+use range_keys::traits::Measure;
 use range_store::inner::cursor::Cursor;
 use range_store::storage::{Item, Storage};
 use std::alloc::AllocError;
 
 /// Unbinds a range that lies within one stored range, which becomes two.
-fn unbind_within<K: PartialEnum, V: Eq + Clone, C: Storage<Item<AnyRange<K>, V>>>(
-    stored: &mut C,
-    window: &Window<C::Position>,
-    p: C::Position,
-    range: AnyRange<K>,
-) -> Result<(), AllocError>
+pub(crate) fn unbind_within<
+    K: Measure + Clone,
+    V: Eq + Clone,
+    C: Storage<Item<AnyRange<K>, V>>,
+    R: AsRange<Item = K>,
+>(stored: &mut C, window: &Window<C::Position>, p: C::Position, range: &R) -> Result<(), AllocError>
+    requires keys { ClonesAreEqual K.is_clone K.eq }
     requires values { ClonesAreEqual V.is_clone V.eq }
     requires stored { IsStored K.order V.eq (C.items stored.old) }
-    requires nonempty { ¬ IsEmptyRange K.order range }
-    requires window { IsWindow K.order (C.is_good stored.old) (C.rank stored.old) (C.items stored.old) range window.now (place_before (C.rank stored.old) (length (C.items stored.old)) window.now.from) }
+    requires nonempty { ¬ IsEmptyRange K.order (R.range range.now) }
+    requires window { IsWindow K.order (C.is_good stored.old) (C.rank stored.old) (C.items stored.old) (R.range range.now) window.now (place_before (C.rank stored.old) (length (C.items stored.old)) window.now.from) }
     requires one { window.now.count ≡ 1 }
-    requires first { ReachesBefore K.order (C.is_good stored.old) (C.rank stored.old) (C.items stored.old) range (place_before (C.rank stored.old) (length (C.items stored.old)) window.now.from) window.now.count (Some p) }
-    requires last { ReachesBehind K.order (C.is_good stored.old) (C.rank stored.old) (C.items stored.old) range (place_before (C.rank stored.old) (length (C.items stored.old)) window.now.from) window.now.count (Some p) }
-    ensures ok { OnOk result (IsRemoved K.order V.eq (C.items stored.old) (C.items stored.new) range) }
+    requires first { ReachesBefore K.order (C.is_good stored.old) (C.rank stored.old) (C.items stored.old) (R.range range.now) (place_before (C.rank stored.old) (length (C.items stored.old)) window.now.from) window.now.count (Some p) }
+    requires last { ReachesBehind K.order (C.is_good stored.old) (C.rank stored.old) (C.items stored.old) (R.range range.now) (place_before (C.rank stored.old) (length (C.items stored.old)) window.now.from) window.now.count (Some p) }
+    ensures ok { OnOk result (IsRemoved K.order V.eq (C.items stored.old) (C.items stored.new) (R.range range.now)) }
     ensures refused { OnErr result (C.items stored.new ≡ C.items stored.old) }
 {
-    inner::known(&range);
+    inner::known_range(range);
     let item = stored.get(p);
     inner::known(&item.key);
     let copy = item.value.clone()?;
+    let end = turned_clone_of(range.start())?;
+    known_bound(&end);
+    let start = turned_clone_of(range.end())?;
+    known_bound(&start);
     stored.reserve(1)?;
-    let (start, end) = range.into_bounds();
-    let before = turned(start);
-    known_bound(&before);
-    let behind = turned(end);
-    known_bound(&behind);
-    divide::<K, V, C>(stored, p, before, None, behind, copy);
+    divide::<K, V, C>(stored, p, end, None, start, copy);
     Ok(())
 }
 
-/// Unbinds a range that meets a stored range and is surrounded by none: no memory, no clone.
-fn unbind_over<K: PartialEnum, V: Eq + Drop, C: Storage<Item<AnyRange<K>, V>>>(
+/// Unbinds a range that meets a stored range and is surrounded by none.
+fn unbind_over<
+    K: Measure + Clone,
+    V: Eq + Drop,
+    C: Storage<Item<AnyRange<K>, V>>,
+    R: AsRange<Item = K>,
+>(
     stored: &mut C,
     window: &Window<C::Position>,
     first: Option<C::Position>,
     last: Option<C::Position>,
-    range: AnyRange<K>,
-)
+    range: &R,
+) -> Result<(), AllocError>
+    requires keys { ClonesAreEqual K.is_clone K.eq }
     requires stored { IsStored K.order V.eq (C.items stored.old) }
-    requires nonempty { ¬ IsEmptyRange K.order range }
-    requires window { IsWindow K.order (C.is_good stored.old) (C.rank stored.old) (C.items stored.old) range window.now (place_before (C.rank stored.old) (length (C.items stored.old)) window.now.from) }
+    requires nonempty { ¬ IsEmptyRange K.order (R.range range.now) }
+    requires window { IsWindow K.order (C.is_good stored.old) (C.rank stored.old) (C.items stored.old) (R.range range.now) window.now (place_before (C.rank stored.old) (length (C.items stored.old)) window.now.from) }
     requires some { 0 < window.now.count }
-    requires first { ReachesBefore K.order (C.is_good stored.old) (C.rank stored.old) (C.items stored.old) range (place_before (C.rank stored.old) (length (C.items stored.old)) window.now.from) window.now.count first }
-    requires last { ReachesBehind K.order (C.is_good stored.old) (C.rank stored.old) (C.items stored.old) range (place_before (C.rank stored.old) (length (C.items stored.old)) window.now.from) window.now.count last }
+    requires first { ReachesBefore K.order (C.is_good stored.old) (C.rank stored.old) (C.items stored.old) (R.range range.now) (place_before (C.rank stored.old) (length (C.items stored.old)) window.now.from) window.now.count first }
+    requires last { ReachesBehind K.order (C.is_good stored.old) (C.rank stored.old) (C.items stored.old) (R.range range.now) (place_before (C.rank stored.old) (length (C.items stored.old)) window.now.from) window.now.count last }
     requires apart { length (option_items first) + length (option_items last) ≤ window.now.count }
-    ensures { IsRemoved K.order V.eq (C.items stored.old) (C.items stored.new) range }
+    ensures ok { OnOk result (IsRemoved K.order V.eq (C.items stored.old) (C.items stored.new) (R.range range.now)) }
+    ensures refused { OnErr result (C.items stored.new ≡ C.items stored.old) }
 {
-    inner::known(&range);
-    let (start, end) = range.into_bounds();
-    let before = turned(start);
-    known_bound(&before);
-    let behind = turned(end);
-    known_bound(&behind);
+    inner::known_range(range);
+    let before = cut_edge(first, range.start())?;
+    let behind = cut_edge(last, range.end())?;
     let run = Cursor {
         at: run_start::<K, V, C>(stored, window.from, first),
         left: window.count - (item_count(&first) + item_count(&last)),
     };
-    clear::<K, V, C>(stored, run, cut_edge(first, before), cut_edge(last, behind));
+    clear::<K, V, C>(stored, run, before, behind);
+    Ok(())
 }
 
 /// Unbinds a range that meets a stored range.
-fn unbind_met<K: PartialEnum, V: Eq + Clone, C: Storage<Item<AnyRange<K>, V>>>(
-    stored: &mut C,
-    window: &Window<C::Position>,
-    range: AnyRange<K>,
-) -> Result<(), AllocError>
+fn unbind_met<
+    K: Measure + Clone,
+    V: Eq + Clone,
+    C: Storage<Item<AnyRange<K>, V>>,
+    R: AsRange<Item = K>,
+>(stored: &mut C, window: &Window<C::Position>, range: &R) -> Result<(), AllocError>
+    requires keys { ClonesAreEqual K.is_clone K.eq }
     requires values { ClonesAreEqual V.is_clone V.eq }
     requires stored { IsStored K.order V.eq (C.items stored.old) }
-    requires nonempty { ¬ IsEmptyRange K.order range }
-    requires window { IsWindow K.order (C.is_good stored.old) (C.rank stored.old) (C.items stored.old) range window.now (place_before (C.rank stored.old) (length (C.items stored.old)) window.now.from) }
+    requires nonempty { ¬ IsEmptyRange K.order (R.range range.now) }
+    requires window { IsWindow K.order (C.is_good stored.old) (C.rank stored.old) (C.items stored.old) (R.range range.now) window.now (place_before (C.rank stored.old) (length (C.items stored.old)) window.now.from) }
     requires some { 0 < window.now.count }
-    ensures ok { OnOk result (IsRemoved K.order V.eq (C.items stored.old) (C.items stored.new) range) }
+    ensures ok { OnOk result (IsRemoved K.order V.eq (C.items stored.old) (C.items stored.new) (R.range range.now)) }
     ensures refused { OnErr result (C.items stored.new ≡ C.items stored.old) }
 {
-    let first = reaching_before::<K, V, C>(stored, window, &range);
-    let last = reaching_behind::<K, V, C>(stored, window, &range);
+    let first = reaching_before::<K, V, C, R>(stored, window, range);
+    let last = reaching_behind::<K, V, C, R>(stored, window, range);
     match surrounding(window.count, first, last) {
-        Some(p) => unbind_within::<K, V, C>(stored, window, p, range),
-        None => {
-            unbind_over::<K, V, C>(stored, window, first, last, range);
-            Ok(())
-        }
+        Some(p) => unbind_within::<K, V, C, R>(stored, window, p, range),
+        None => unbind_over::<K, V, C, R>(stored, window, first, last, range),
     }
 }
 
 /// Binds no key of a nonempty range.
-pub(crate) fn unbind<K: PartialEnum, V: Eq + Clone, C: Storage<Item<AnyRange<K>, V>>>(
-    stored: &mut C,
-    range: AnyRange<K>,
-) -> Result<(), AllocError>
+pub(crate) fn unbind<
+    K: Measure + Clone,
+    V: Eq + Clone,
+    C: Storage<Item<AnyRange<K>, V>>,
+    R: AsRange<Item = K>,
+>(stored: &mut C, range: &R) -> Result<(), AllocError>
+    requires keys { ClonesAreEqual K.is_clone K.eq }
     requires values { ClonesAreEqual V.is_clone V.eq }
     requires stored { IsStored K.order V.eq (C.items stored.old) }
-    requires nonempty { ¬ IsEmptyRange K.order range }
-    ensures ok { OnOk result (IsRemoved K.order V.eq (C.items stored.old) (C.items stored.new) range) }
+    requires nonempty { ¬ IsEmptyRange K.order (R.range range.now) }
+    ensures ok { OnOk result (IsRemoved K.order V.eq (C.items stored.old) (C.items stored.new) (R.range range.now)) }
     ensures refused { OnErr result (C.items stored.new ≡ C.items stored.old) }
-    ensures unmet { Every (λ i. ¬ Overlap K.order i.key range) (C.items stored.old) → IsOk result }
-    ensures unmet_unchanged { Every (λ i. ¬ Overlap K.order i.key range) (C.items stored.old) → C.items stored.new ≡ C.items stored.old }
+    ensures unmet { Every (λ i. ¬ Overlap K.order i.key (R.range range.now)) (C.items stored.old) → IsOk result }
+    ensures unmet_unchanged { Every (λ i. ¬ Overlap K.order i.key (R.range range.now)) (C.items stored.old) → C.items stored.new ≡ C.items stored.old }
 {
-    inner::known(&range);
-    let window = find_window::<K, V, C>(stored, &range);
+    inner::known_range(range);
+    let window = find_window::<K, V, C, R>(stored, range);
     if window.count == 0 {
         return Ok(());
     }
-    unbind_met::<K, V, C>(stored, &window, range)
+    unbind_met::<K, V, C, R>(stored, &window, range)
 }

@@ -3,7 +3,8 @@ use Rattle.range_algebra.specs.declared.any.AnyRange.{AnyRange}
 use Rattle.range_store.specs.declared.storage.Item.{Item}
 use Rattle.range_store.specs.Places.{place_before}
 use Rattle.range_map.specs.Edits.{turned_bound, with_end}
-use Rattle.range_map.proofs.CutParts.{same_turned}
+use Rattle.std.specs.Cmp.{Equal-is}
+use Rattle.range_algebra.specs.Clones.{bound_clone}
 use Rattle.range_map.proofs.Framing.{cut_way}
 use Rattle.range_map.proofs.Planning.{left_part, right_part}
 use Rattle.range_map.proofs.Edging.{removed, left_rest_cut, right_rest_cut}
@@ -18,7 +19,7 @@ returns-clause-ok g c =
     let storage = g.C.Storage in
     let stored = c.args.stored.now in
     let items = storage.items stored in
-    let r = c.args.range in
+    let r = g.R.AsRange.range c.args.range.now in
     let w = c.args.window.now in
     let place = place_before (storage.rank stored) (length items) w.from in
     let x = c.get-item.result.now in
@@ -30,16 +31,18 @@ returns-clause-ok g c =
     let here_end : x ≡ get_or items (place + w.count - 1) x = here ∙ ap (λ n. get_or items n x) at_end in
     let copy = c.in_ok-copy.copy in
     let copied : same copy x.value ≡ true = equal.symm copy x.value ∙ c.requires.values x.value copy c.in_ok-copy.ensures.cases in
-    let end = turned_bound r.start in
-    let start = turned_bound r.end in
-    let end_is : c.turned-before.result ≡ end = c.turned-before.ensures ∙ ap turned_bound c.into_bounds-start.ensures.start in
-    let start_is : c.turned-behind.result ≡ start = c.turned-behind.ensures ∙ ap turned_bound c.into_bounds-start.ensures.end in
+    let equal_keys = λ (a : g.row.K.Denot) (b : g.row.K.Denot) (h : g.K.Clone.is_clone a b).
+    sym (g.met.K.MaybeBounded.order_is_cmp a b) ∙ (Equal-is (g.K.Ord.cmp a b)).0 (sym (g.met.K.Ord.matches_eq a b) ∙ c.requires.keys a b h) in
+    let end = c.in_ok-end.end in
+    let start = c.in_ok-start.start in
+    let end_clone = bound_clone order lawful g.K.Clone.is_clone equal_keys (turned_bound r.start) end (rw (← c.start.ensures) c.in_ok-end.ensures) in
+    let start_clone = bound_clone order lawful g.K.Clone.is_clone equal_keys (turned_bound r.end) start (rw (← c.end.ensures) c.in_ok-start.ensures) in
     let behind : Item (AnyRange g.row.K.Denot) g.row.V.Denot = record { key = record { start = start; end = x.key.end }; value = copy } in
-    let left = left_rest_cut order lawful same equal (storage.is_good stored) (storage.rank stored) items r w place c.requires.stored c.known.ensures c.requires.nonempty c.requires.window x here first.2 (first.3 x here) end (rw end_is at c.known_bound.ensures) (same_turned order lawful r.start) in
-    let right = right_rest_cut order lawful same equal (storage.is_good stored) (storage.rank stored) items r w place c.requires.stored c.known.ensures c.requires.nonempty c.requires.window x here_end last.2 (last.3 x here_end) start (rw start_is at c.known_bound-2.ensures) (same_turned order lawful r.end) copy copied in
+    let left = left_rest_cut order lawful same equal (storage.is_good stored) (storage.rank stored) items r w place c.requires.stored c.known_range.ensures c.requires.nonempty c.requires.window x here first.2 (first.3 x here) end c.known_bound.ensures end_clone in
+    let right = right_rest_cut order lawful same equal (storage.is_good stored) (storage.rank stored) items r w place c.requires.stored c.known_range.ensures c.requires.nonempty c.requires.window x here_end last.2 (last.3 x here_end) start c.known_bound-2.ensures start_clone copy copied in
     let ready = c.reserve.new.self in
     let list = c.reserve.ensures.list in
     let rank_is : storage.rank ready c.args.p ≡ place = (c.reserve.ensures.positions c.args.p first.0).1 ∙ first.1 in
-    let made = rw (list, rank_is, sym here, sym one, end_is, start_is) at (c.divide.ensures x) in
-    let frame = cut_way order lawful same equal (storage.is_good stored) (storage.rank stored) items r w place c.requires.stored c.known.ensures c.requires.window (storage.items c.divide.new.stored) (Some (with_end x end)) (Some behind) first.2 (left_part order lawful same equal (storage.is_good stored) (storage.rank stored) items r w place c.requires.stored c.known.ensures c.requires.nonempty c.requires.window x here first.2 end (same_turned order lawful r.start), tt) (right_part order lawful same equal (storage.is_good stored) (storage.rank stored) items r w place c.requires.stored c.known.ensures c.requires.nonempty c.requires.window x here_end last.2 start copy (same_turned order lawful r.end) copied, tt) (omega arith) (omega arith) made in
-    removed order lawful same equal (storage.is_good stored) (storage.rank stored) items r w place c.requires.stored c.known.ensures c.requires.nonempty c.requires.window (storage.items c.divide.new.stored) place (place + w.count) (Some (with_end x end)) (Some behind) left right frame made
+    let made = rw (list, rank_is, sym here, sym one) at (c.divide.ensures x) in
+    let frame = cut_way order lawful same equal (storage.is_good stored) (storage.rank stored) items r w place c.requires.stored c.known_range.ensures c.requires.window (storage.items c.divide.new.stored) (Some (with_end x end)) (Some behind) first.2 (left_part order lawful same equal (storage.is_good stored) (storage.rank stored) items r w place c.requires.stored c.known_range.ensures c.requires.nonempty c.requires.window x here first.2 end end_clone, tt) (right_part order lawful same equal (storage.is_good stored) (storage.rank stored) items r w place c.requires.stored c.known_range.ensures c.requires.nonempty c.requires.window x here_end last.2 start copy start_clone copied, tt) (omega arith) (omega arith) made in
+    removed order lawful same equal (storage.is_good stored) (storage.rank stored) items r w place c.requires.stored c.known_range.ensures c.requires.nonempty c.requires.window (storage.items c.divide.new.stored) place (place + w.count) (Some (with_end x end)) (Some behind) left right frame made

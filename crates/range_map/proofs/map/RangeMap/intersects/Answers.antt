@@ -1,5 +1,6 @@
-use Rattle.std.proofs.Common.{◌<◌, length, ap, ◌∙◌}
-use Rattle.range_keys.specs.Position.{start_position, end_position, key_value, position_map}
+use Rattle.std.proofs.Common.{◌<◌, length, ap}
+use Rattle.std.specs.Range.Bound.{bound_map}
+use Rattle.range_keys.specs.Position.{start_position, end_position}
 use Rattle.range_algebra.specs.Range.{IsEmptyRange}
 use Rattle.range_map.specs.Lookups.{MeetsSome}
 use Rattle.range_map.proofs.Meeting.{binding_meets, meeting_binds, decides, none_decides}
@@ -10,8 +11,8 @@ returns-in-None-clause-meets g c =
     let order = g.K.MaybeBounded.order in
     let lawful = g.met.K.PartialEnum.lawful in
     let items = g.C.Storage.items c.self.inside.stored in
-    let start = c.position_of_start-start.ensures ∙ ap (start_position order) (c.start_bound.ensures tt) in
-    let none : MeetsSome order items c.args.range → ⊥ = none_decides order lawful items c.args.range (position_map key_value c.position_of_start-start.result) start (rw c.in-None.is at c.find-from.ensures.below) in
+    let start = ap (start_position order) c.start.ensures in
+    let none : MeetsSome order items (g.R.AsRange.range c.args.range) → ⊥ = none_decides order lawful items (g.R.AsRange.range c.args.range) (start_position order (bound_map (λ x. x.now) c.start.result)) start (rw c.in-None.is at c.find-from.ensures.below) in
     rw (← c.self.view_is) (λ h. absurd (cc), λ h. absurd (none h.1))
 
 pub returns-in-None-clause-bound : goal.returns-in-None-clause-bound
@@ -19,9 +20,9 @@ returns-in-None-clause-bound g c =
     let order = g.K.MaybeBounded.order in
     let lawful = g.met.K.PartialEnum.lawful in
     let items = g.C.Storage.items c.self.inside.stored in
-    let start = c.position_of_start-start.ensures ∙ ap (start_position order) (c.start_bound.ensures tt) in
-    let none : MeetsSome order items c.args.range → ⊥ = none_decides order lawful items c.args.range (position_map key_value c.position_of_start-start.result) start (rw c.in-None.is at c.find-from.ensures.below) in
-    rw (← c.self.view_is) (λ h. absurd (none (binding_meets order lawful items c.args.range h).1))
+    let start = ap (start_position order) c.start.ensures in
+    let none : MeetsSome order items (g.R.AsRange.range c.args.range) → ⊥ = none_decides order lawful items (g.R.AsRange.range c.args.range) (start_position order (bound_map (λ x. x.now) c.start.result)) start (rw c.in-None.is at c.find-from.ensures.below) in
+    rw (← c.self.view_is) (λ h. absurd (none (binding_meets order lawful items (g.R.AsRange.range c.args.range) h).1))
 
 pub returns-clause-meets : goal.returns-clause-meets
 returns-clause-meets g c =
@@ -30,24 +31,24 @@ returns-clause-meets g c =
     let storage = g.C.Storage in
     let stored = c.self.inside.stored in
     let items = storage.items stored in
-    let start = c.position_of_start-start.ensures ∙ ap (start_position order) (c.start_bound.ensures tt) in
-    let end = c.position_of_end-end.ensures ∙ ap (end_position order) (c.end_bound.ensures tt) in
+    let start = ap (start_position order) c.start.ensures in
+    let end = ap (end_position order) c.end.ensures in
     let position = rw c.in-Some.is at c.find-from.ensures.position in
     let place = storage.rank stored c.in-Some.p in
     let within : place < length items = g.met.C.Storage.good_is_in_range stored c.in-Some.p position.0 in
-    let full : IsEmptyRange order c.args.range → ⊥ = λ h. let e = c.is_empty.ensures.by_position.1 h in let f = c.if-is_empty.false in cc in
-    rw (← c.self.view_is) (decides order lawful g.V.PartialEq.eq g.met.V.Eq.laws items c.args.range (position_map key_value c.position_of_start-start.result) (position_map key_value c.position_of_end-end.result) place c.get.result.now c.starts_past.result start end c.self.invariant full within c.get.ensures (rw c.in-Some.is at c.find-from.ensures.below) (rw c.in-Some.is at c.find-from.ensures.above) c.starts_past.ensures)
+    let full : IsEmptyRange order (g.R.AsRange.range c.args.range) → ⊥ = λ h. let e = c.is_empty.ensures.by_position.1 h in let f = c.if-is_empty.false in cc in
+    rw (← c.self.view_is) (decides order lawful g.V.PartialEq.eq g.met.V.Eq.laws items (g.R.AsRange.range c.args.range) (start_position order (bound_map (λ x. x.now) c.start.result)) (end_position order (bound_map (λ x. x.now) c.end.result)) place c.get.result.now c.starts_past.result start end c.self.invariant full within c.get.ensures (rw c.in-Some.is at c.find-from.ensures.below) (rw c.in-Some.is at c.find-from.ensures.above) c.starts_past.ensures)
 
 pub returns-clause-bound : goal.returns-clause-bound
 returns-clause-bound g c =
     let order = g.K.MaybeBounded.order in
     let lawful = g.met.K.PartialEnum.lawful in
     let met = returns-clause-meets g c in
-    λ h. met.1 (binding_meets order lawful (g.C.Storage.items c.args.self.now) c.args.range h)
+    λ h. met.1 (binding_meets order lawful (g.C.Storage.items c.args.self.now) (g.R.AsRange.range c.args.range) h)
 
 pub returns-clause-complete : goal.returns-clause-complete
 returns-clause-complete g c =
     let order = g.K.MaybeBounded.order in
     let lawful = g.met.K.PartialEnum.lawful in
     let met = returns-clause-meets g c in
-    λ complete h. let found = met.0 h in meeting_binds order lawful g.V.PartialEq.eq (g.C.Storage.items c.args.self.now) c.args.range complete c.in_form.ensures c.known.ensures found.0 found.1
+    λ complete h. let found = met.0 h in meeting_binds order lawful g.V.PartialEq.eq (g.C.Storage.items c.args.self.now) (g.R.AsRange.range c.args.range) complete c.in_form.ensures c.known_range.ensures found.0 found.1

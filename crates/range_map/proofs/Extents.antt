@@ -1,0 +1,151 @@
+-- The ends of ranges and the places past them lie in the same order.
+use Rattle.std.proofs.Common.{◌≡◌, refl, sym, ap, ◌∙◌, Option, Some, None, Bool, true, false, ◌⊎◌, inl, inr, ◌↔◌}
+use Rattle.std.specs.declared.ops.Bound.{Bound}
+use Rattle.std.specs.declared.ops.Bound.TheVariants.{Included, Excluded, Unbounded}
+use Rattle.std.specs.declared.cmp.Ordering.{Ordering}
+use Rattle.std.specs.declared.cmp.Ordering.TheVariants.{Less, Equal, Greater}
+use Rattle.std.specs.Ordering.{ordering_then, is_gt}
+use Rattle.std.specs.Cmp.{tied_back}
+use Rattle.range_keys.specs.Order.{KeyOrder, IsLawful, Tells, SameAnswer}
+use Rattle.range_keys.specs.Position.{start_position, end_position, position_cmp, at_told}
+use Rattle.range_keys.specs.PositionOrder.{position_total}
+use Rattle.range_keys.specs.declared.inner.position.Position.{Position}
+use Rattle.range_keys.specs.declared.inner.position.Position.TheVariants.{MinusInfinity, Beside, PlusInfinity}
+use Rattle.range_keys.specs.declared.inner.position.Side.TheVariants.{Before, At, After}
+use Rattle.range_algebra.specs.Range.{IsKnownBound}
+use Rattle.range_algebra.specs.Compared.{inverted}
+use Rattle.range_algebra.specs.Intervals.{Le, Lt}
+use Rattle.range_algebra.specs.Orders.{eq_le, eq_ge, lt_le, le_trans, lt_not_le, not_le, not_lt, cases, both, le_lt_trans, lt_le_trans, lt_trans}
+use Rattle.range_algebra.specs.Cuts.{past}
+use Rattle.range_algebra.proofs.Places.{reaches, turned, turned_known, unbounded_end}
+
+greater_less : (o : Ordering) → ordering_then o Greater ≡ Less → o ≡ Less
+greater_less Less e = refl
+greater_less Equal e = cc
+greater_less Greater e = cc
+
+equal_less : (o : Ordering) → ordering_then o Equal ≡ Less → o ≡ Less
+equal_less Less e = refl
+equal_less Equal e = cc
+equal_less Greater e = cc
+
+less_less : (o : Ordering) → ordering_then o Less ≡ Less → is_gt o ≡ false
+less_less Less e = refl
+less_less Equal e = refl
+less_less Greater e = cc
+
+less_then : (o p : Ordering) → o ≡ Less → ordering_then o p ≡ Less
+less_then o p e = rw e refl
+
+then_less : (o : Ordering) → is_gt o ≡ false → ordering_then o Less ≡ Less
+then_less Less e = refl
+then_less Equal e = refl
+then_less Greater e = cc
+
+module _ {K : Type 0} (order : KeyOrder K) (lawful : IsLawful order) where
+  abbrev PLe : Position K → Position K → Type 0
+  PLe p q = Le (position_cmp order.cmp) p q
+
+  abbrev PLt : Position K → Position K → Type 0
+  PLt p q = Lt (position_cmp order.cmp) p q
+
+  -- an end that is at most another lies before it past its place too
+  past_turned : (e f i : Bound K) → inverted f ≡ Some i → IsKnownBound order e → IsKnownBound order f → PLe (end_position order e) (end_position order f) → PLe (past order (end_position order e)) (past order (end_position order f))
+  past_turned e f i turns known known' le =
+      let cmp = position_cmp order.cmp in
+      let total = position_total order.cmp lawful.total in
+      let at = turned order lawful f i turns in
+      let start = turned_known order lawful f i turns known' in
+      let pe = past order (end_position order e) in
+      let pf = past order (end_position order f) in
+      let s = start_position order i in
+      not_lt cmp total pe pf (λ l.
+      let under = le_lt_trans cmp total s pf pe (eq_ge cmp total pf s at) l in
+      let reached = (reaches order lawful i e start known).1 under in
+      let over = (reaches order lawful i f start known').0 (le_trans cmp total s (end_position order e) (end_position order f) reached le) in
+      lt_not_le cmp total s pf over (eq_le cmp total pf s at))
+
+  pub past_le : (e f : Bound K) → IsKnownBound order e → IsKnownBound order f → PLe (end_position order e) (end_position order f) → PLe (past order (end_position order e)) (past order (end_position order f))
+  past_le e (Included b) known known' le = past_turned e (Included b) (Excluded b) refl known known' le
+  past_le e (Excluded b) known known' le = past_turned e (Excluded b) (Included b) refl known known' le
+  past_le e Unbounded known known' le = unbounded_end order lawful e known
+
+  -- where an end can lie
+  unfoldable IsEnd : Position K → Type 0
+  IsEnd MinusInfinity = ⊥
+  IsEnd (Beside b Before) = order.is_key b × (order.pred b ≡ None)
+  IsEnd (Beside b At) = order.is_key b
+  IsEnd (Beside b After) = ⊥
+  IsEnd PlusInfinity = Unit {0}
+
+  end_excluded : (b : K) (o : Option K) → order.pred b ≡ o → order.is_key b → IsEnd (at_told o (Beside b Before))
+  unfolding IsEnd
+  end_excluded b None e key = (key, e)
+  end_excluded b (Some a) e key = (lawful.pred_key a b e).0
+
+  end_unbounded : (o : Option K) → order.greatest ≡ o → IsEnd (at_told o PlusInfinity)
+  unfolding IsEnd
+  end_unbounded None e = tt
+  end_unbounded (Some m) e = lawful.greatest_key m e
+
+  end_is : (b : Bound K) → IsKnownBound order b → IsEnd (end_position order b)
+  unfolding IsEnd
+  end_is (Included a) key = key
+  end_is (Excluded a) key = end_excluded a (order.pred a) refl key
+  end_is Unbounded key = end_unbounded order.greatest refl
+
+  -- the neighbour before a key that has none is nobody's neighbour
+  told_none : (o p : Option K) (a : K) → Tells order o a → SameAnswer order o p → p ≡ None → ⊥
+  told_none None p a t s n = t
+  told_none (Some x) None a t s n = s
+  told_none (Some x) (Some y) a t s n = cc
+
+  next_below : (a b d : K) → order.succ a ≡ Some d → order.is_key b → order.pred b ≡ None → order.cmp a b ≡ Less → order.cmp d b ≡ Less
+  next_below a b d next key first l =
+      let le = lawful.none_between a d b next key l in
+      not_le order.cmp lawful.total d b (λ over. told_none (order.pred d) (order.pred b) a (lawful.succ_pred a d next) (lawful.pred_congr d b (both order.cmp lawful.total d b le over)) first)
+
+  at_before : (a b : K) (o : Option K) → order.succ a ≡ o → order.is_key b → order.pred b ≡ None → order.cmp a b ≡ Less → PLt (at_told o (Beside a After)) (Beside b At)
+  at_before a b None next key first l = less_then (order.cmp a b) Greater l
+  at_before a b (Some d) next key first l = less_then (order.cmp d b) Equal (next_below a b d next key first l)
+
+  at_at : (a b : K) (o p : Option K) → order.succ a ≡ o → order.succ b ≡ p → order.is_key a → order.is_key b → order.cmp a b ≡ Less → PLt (at_told o (Beside a After)) (at_told p (Beside b After))
+  at_at a b None None next next' key key' l = less_then (order.cmp a b) Equal l
+  at_at a b None (Some e) next next' key key' l = less_then (order.cmp a e) Greater (lt_trans order.cmp lawful.total a b e l (lawful.succ_above b e next'))
+  at_at a b (Some d) None next next' key key' l = then_less (order.cmp d b) (lawful.none_between a d b next key' l)
+  at_at a b (Some d) (Some e) next next' key key' l = less_then (order.cmp d e) Equal (le_lt_trans order.cmp lawful.total d b e (lawful.none_between a d b next key' l) (lawful.succ_above b e next'))
+
+  before_at : (a b : K) (p : Option K) → order.succ b ≡ p → is_gt (order.cmp a b) ≡ false → PLt (Beside a At) (at_told p (Beside b After))
+  before_at a b None next le = then_less (order.cmp a b) le
+  before_at a b (Some e) next le = less_then (order.cmp a e) Equal (le_lt_trans order.cmp lawful.total a b e le (lawful.succ_above b e next))
+
+  at_infinity : (a : K) (o : Option K) → PLt (at_told o (Beside a After)) PlusInfinity
+  at_infinity a None = refl
+  at_infinity a (Some d) = refl
+
+  infinity_last : (f : Position K) → PLt PlusInfinity f → ⊥
+  infinity_last MinusInfinity l = cc
+  infinity_last (Beside a x) l = cc
+  infinity_last PlusInfinity l = cc
+
+  past_lt : (e f : Position K) → IsEnd e → IsEnd f → PLt e f → PLt (past order e) (past order f)
+  unfolding IsEnd
+  past_lt (Beside a Before) (Beside b Before) h k l = less_then (order.cmp a b) Equal (equal_less (order.cmp a b) l)
+  past_lt (Beside a Before) (Beside b At) h k l = before_at a b (order.succ b) refl (less_less (order.cmp a b) l)
+  past_lt (Beside a Before) PlusInfinity h k l = refl
+  past_lt (Beside a At) (Beside b Before) h k l = at_before a b (order.succ a) refl k.0 k.1 (greater_less (order.cmp a b) l)
+  past_lt (Beside a At) (Beside b At) h k l = at_at a b (order.succ a) (order.succ b) refl refl h k (equal_less (order.cmp a b) l)
+  past_lt (Beside a At) PlusInfinity h k l = at_infinity a (order.succ a)
+  past_lt PlusInfinity f h k l = absurd (infinity_last f l)
+  past_lt MinusInfinity f h k l = absurd h
+  past_lt (Beside a After) f h k l = absurd h
+  past_lt (Beside a Before) (Beside b After) h k l = absurd k
+  past_lt (Beside a Before) MinusInfinity h k l = absurd k
+  past_lt (Beside a At) (Beside b After) h k l = absurd k
+  past_lt (Beside a At) MinusInfinity h k l = absurd k
+
+  pub end_le : (e f : Bound K) → IsKnownBound order e → IsKnownBound order f → PLe (past order (end_position order e)) (past order (end_position order f)) → PLe (end_position order e) (end_position order f)
+  end_le e f known known' le =
+      let cmp = position_cmp order.cmp in
+      let total = position_total order.cmp lawful.total in
+      not_lt cmp total (end_position order e) (end_position order f) (λ l. lt_not_le cmp total (past order (end_position order f)) (past order (end_position order e)) (past_lt (end_position order f) (end_position order e) (end_is f known') (end_is e known) l) le)

@@ -1,0 +1,494 @@
+-- What stands free between the items of a stored list is all of its gaps.
+use Rattle.std.proofs.Common.{◌≡◌, refl, sym, subst, ◌∙◌, ◌↔◌, Option, Some, None, Bool, true, false, List, [], ◌∷◌, ◌++◌, ◌⊎◌, inl, inr, if◌then◌else◌}
+use Rattle.std.specs.declared.ops.Bound.{Bound}
+use Rattle.std.specs.declared.ops.Bound.TheVariants.{Included, Excluded, Unbounded}
+use Rattle.std.specs.declared.cmp.Ordering.{Ordering}
+use Rattle.std.specs.declared.cmp.Ordering.TheVariants.{Less, Equal, Greater}
+use Rattle.std.specs.Ordering.{is_gt, ordering_then}
+use Rattle.range_keys.specs.Order.{KeyOrder, IsLawful}
+use Rattle.range_keys.specs.Position.{start_position, end_position, position_cmp}
+use Rattle.range_keys.specs.PositionOrder.{position_total}
+use Rattle.range_keys.specs.declared.inner.position.Position.{Position}
+use Rattle.range_keys.specs.declared.inner.position.Position.TheVariants.{Beside}
+use Rattle.range_keys.specs.declared.inner.position.Side.TheVariants.{At}
+use Rattle.range_algebra.specs.declared.any.AnyRange.{AnyRange}
+use Rattle.range_algebra.specs.Chains.{any_left, any_right, every_append, every_left, every_right, every_weaker}
+use Rattle.range_algebra.specs.Compared.{inverted, starts_past_end}
+use Rattle.range_algebra.specs.Cuts.{past}
+use Rattle.range_algebra.specs.Intervals.{Le, Lt, Any, Every}
+use Rattle.range_algebra.specs.Orders.{eq_le, eq_ge, le_refl, lt_le, le_trans, lt_not_le, cases, lt_le_trans, le_lt_trans, lt_trans, both}
+use Rattle.range_algebra.specs.Range.{StartHolds, EndHolds, Holds, IsKnownBound, IsKnownRange}
+use Rattle.range_algebra.specs.RangeOrder.{range_cmp}
+use Rattle.range_algebra.specs.Relations.{LiesBefore}
+use Rattle.range_algebra.proofs.Holding.{start_holds, end_holds}
+use Rattle.range_algebra.proofs.Pieces.{start_decided, end_decided, inverted_end, inverted_start}
+use Rattle.range_algebra.proofs.Places.{turned, turned_back, turned_known, unbounded_start}
+use Rattle.range_store.specs.declared.storage.Item.{Item}
+use Rattle.range_map.specs.FreeRanges.{full_range, item_ranges, IsHeldOnce, AreGaps, between, free_from}
+use Rattle.range_map.specs.Neighbours.{BeforeFirst, EachNext}
+use Rattle.range_map.specs.Pieces.{LiesIn, IsFreePart, IsPiece}
+use Rattle.range_map.specs.Ranges.{Overlap}
+use Rattle.range_map.specs.Stored.{IsStored}
+use Rattle.range_map.proofs.Forms.{before_is}
+use Rattle.range_map.proofs.JustBefore.{ends_before, ends_full}
+use Rattle.range_map.proofs.Listed.{IsListed, listed, not_greater}
+
+not_past : (o : Ordering) → is_gt o ≡ false → o ≡ Greater → ⊥
+not_past Less h e = cc
+not_past Equal h e = cc
+not_past Greater h e = cc
+
+every_zip : {X : Type 0} (P Q R : X → Type 0) (xs : List X) → ((x : X) → P x → Q x → R x) → Every P xs → Every Q xs → Every R xs
+every_zip P Q R [] f h k = tt
+every_zip P Q R (x ∷ xs) f h k = (f x h.0 k.0, every_zip P Q R xs f h.1 k.1)
+
+-- what holds between each member and those behind it
+abbrev pub Pairs : {X : Type 0} → (X → X → Type 0) → List X → Type 0
+Pairs R [] = Unit {0}
+Pairs R (x ∷ xs) = Every (R x) xs × Pairs R xs
+
+pairs_append : {X : Type 0} (R : X → X → Type 0) (xs ys : List X) → Pairs R xs → Pairs R ys → Every (λ x. Every (R x) ys) xs → Pairs R (xs ++ ys)
+pairs_append R [] ys h k across = k
+pairs_append R (x ∷ xs) ys h k across = (every_append (R x) xs ys h.0 across.0, pairs_append R xs ys h.1 k across.1)
+
+pairs_weaker : {X : Type 0} (R S : X → X → Type 0) (xs : List X) → ((x y : X) → R x y → S x y) → Pairs R xs → Pairs S xs
+pairs_weaker R S [] f h = tt
+pairs_weaker R S (x ∷ xs) f h = (every_weaker (R x) (S x) xs (f x) h.0, pairs_weaker R S xs f h.1)
+
+before_first : {X : Type 0} (R : X → X → Type 0) (x : X) (xs : List X) → Every (R x) xs → BeforeFirst R x xs
+before_first R x [] h = tt
+before_first R x (y ∷ xs) h = h.0
+
+each_next : {X : Type 0} (R : X → X → Type 0) (xs : List X) → Pairs R xs → EachNext R xs
+each_next R [] h = tt
+each_next R (x ∷ xs) h = (before_first R x xs h.0, each_next R xs h.1)
+
+module _ {K : Type 0} (order : KeyOrder K) (lawful : IsLawful order) where
+  abbrev PLe : Position K → Position K → Type 0
+  PLe p q = Le (position_cmp order.cmp) p q
+
+  abbrev PLt : Position K → Position K → Type 0
+  PLt p q = Lt (position_cmp order.cmp) p q
+
+  abbrev Start : Bound K → Position K
+  Start b = start_position order b
+
+  abbrev End : Bound K → Position K
+  End b = end_position order b
+
+  -- the range starts at the bound or behind it
+  abbrev pub From : Option (Bound K) → AnyRange K → Type 0
+  From None r = ⊥
+  From (Some b) r = PLe (Start b) (Start r.start)
+
+  -- known and nonempty
+  abbrev pub IsFull : AnyRange K → Type 0
+  IsFull r = IsKnownRange order r × PLe (Start r.start) (End r.end)
+
+  abbrev KnownCut : Option (Bound K) → Type 0
+  KnownCut None = Unit {0}
+  KnownCut (Some b) = IsKnownBound order b
+
+  known_inverted : (b : Bound K) → IsKnownBound order b → KnownCut (inverted b)
+  known_inverted (Included a) h = h
+  known_inverted (Excluded a) h = h
+  known_inverted Unbounded h = tt
+
+  -- a range starts behind an end where it starts at the bound on the other side of it
+  behind_by : (e i : Bound K) (r : AnyRange K) → IsKnownBound order e → inverted e ≡ Some i → IsKnownBound order r.start → PLt (End e) (Start r.start) ↔ PLe (Start i) (Start r.start)
+  behind_by e i r known turns full =
+      let total = position_total order.cmp lawful.total in
+      let cmp = position_cmp order.cmp in
+      let at = turned order lawful e i turns in
+      let by = before_is order lawful e r.start known full in (
+        λ h. le_trans cmp total (Start i) (past order (End e)) (Start r.start) (eq_ge cmp total (past order (End e)) (Start i) at) (by.0 h),
+        λ h. by.1 (le_trans cmp total (past order (End e)) (Start i) (Start r.start) (eq_le cmp total (past order (End e)) (Start i) at) h),
+      )
+
+  beyond_all : (r : AnyRange K) → IsFull r → PLt (End Unbounded) (Start r.start) → ⊥
+  beyond_all r full h =
+      let total = position_total order.cmp lawful.total in
+      let cmp = position_cmp order.cmp in
+      lt_not_le cmp total (End Unbounded) (Start r.start) h (le_trans cmp total (Start r.start) (End r.end) (End Unbounded) full.1 (ends_full order lawful r.end full.0.1))
+
+  behind : (e : Bound K) (r : AnyRange K) → IsKnownBound order e → IsFull r → PLt (End e) (Start r.start) ↔ From (inverted e) r
+  behind (Included a) r known full = behind_by (Included a) (Excluded a) r known refl full.0.0
+  behind (Excluded a) r known full = behind_by (Excluded a) (Included a) r known refl full.0.0
+  behind Unbounded r known full = (λ h. beyond_all r full h, λ h. absurd h)
+
+  -- a range that ends just before a start lies before it
+  ends_just_before : (s i : Bound K) → IsKnownBound order s → inverted s ≡ Some i → PLt (End i) (Start s)
+  ends_just_before s i known turns =
+      let total = position_total order.cmp lawful.total in
+      let cmp = position_cmp order.cmp in
+      (before_is order lawful i s (turned_known order lawful s i turns known) known).1 (eq_le cmp total (past order (End i)) (Start s) (turned order lawful i s (turned_back order lawful s i turns)))
+
+  -- what holds of each range that may stand between two bounds holds of the one that does
+  between_by : (P : AnyRange K → Type 0) (a b : Bound K) (t : Bool) → starts_past_end order a b ≡ t → (PLe (Start a) (End b) → P (record { start = a; end = b })) → Every P (if t then [] else record { start = a; end = b } ∷ [])
+  between_by P a b true e f = tt
+  between_by P a b false e f = (f e, tt)
+
+  each_between : (P : AnyRange K → Type 0) (s e : Option (Bound K)) → ((a b : Bound K) → s ≡ Some a → e ≡ Some b → PLe (Start a) (End b) → P (record { start = a; end = b })) → Every P (between order s e)
+  each_between P None e f = tt
+  each_between P (Some a) None f = tt
+  each_between P (Some a) (Some b) f = between_by P a b (starts_past_end order a b) refl (f a b refl refl)
+
+  -- where the bounds are in order, their range is there
+  between_is : (P : List (AnyRange K) → Type 0) (a b : Bound K) → PLe (Start a) (End b) → P (record { start = a; end = b } ∷ []) → P (between order (Some a) (Some b))
+  between_is P a b le h = rw le h
+
+  from_is : (s : Option (Bound K)) (a : Bound K) (r : AnyRange K) → s ≡ Some a → From s r ↔ PLe (Start a) (Start r.start)
+  from_is s a r e = rw e (λ h. h, λ h. h)
+
+  same_some : (o : Option (Bound K)) (a b : Bound K) → o ≡ Some a → o ≡ Some b → a ≡ b
+  same_some o a b e f = let g : Some a ≡ Some b = sym e ∙ f in cc
+
+  lies_by : (r s : AnyRange K) → (¬ Overlap order r s) → LiesBefore order r s ⊎ LiesBefore order s r
+  lies_by r s apart =
+      let total = position_total order.cmp lawful.total in
+      let cmp = position_cmp order.cmp in
+      elim (cases cmp total (End r.end) (Start s.start)) [
+        | inl l ↦ inl l
+        | inr g ↦ elim (cases cmp total (End s.end) (Start r.start)) [
+          | inl l ↦ inr l
+          | inr h ↦ absurd (apart (λ l. lt_not_le cmp total (End r.end) (Start s.start) l g, λ l. lt_not_le cmp total (End s.end) (Start r.start) l h))
+        ]
+      ]
+
+  module _ (F : AnyRange K → Type 0) where
+    -- no such range reaches over the bound
+    abbrev Bars : Option (Bound K) → Type 0
+    Bars s = (b : Bound K) → s ≡ Some b → (r : AnyRange K) → F r → PLe (Start b) (End r.end) → PLe (Start b) (Start r.start)
+
+    abbrev IsWide : AnyRange K → Type 0
+    IsWide g = (r : AnyRange K) → F r → LiesIn order g r → LiesIn order r g
+
+  module _ (F : AnyRange K → Type 0) (full : (r : AnyRange K) → F r → IsFull r) where
+    wide_last : (s : Option (Bound K)) → Bars F s → Every (IsWide F) (between order s (Some Unbounded))
+    wide_last s bars = each_between (IsWide F) s (Some Unbounded) (λ a b e f le r such within.
+        let total = position_total order.cmp lawful.total in
+        let cmp = position_cmp order.cmp in
+        let unbounded : Unbounded ≡ b = same_some (Some Unbounded) Unbounded b refl f in
+        record {
+          starts = bars a e r such (le_trans cmp total (Start a) (End b) (End r.end) le within.ends);
+          ends = subst (λ x. PLe (End r.end) (End x)) unbounded (ends_full order lawful r.end (full r such).0.1);
+        })
+
+  then_equal : (o p : Ordering) → o ≡ Equal → p ≡ Equal → ordering_then o p ≡ Equal
+  then_equal o p e f = rw (e, f) refl
+
+  same_range : (r s : AnyRange K) → LiesIn order r s → LiesIn order s r → range_cmp order r s ≡ Equal
+  same_range r s h k =
+      let total = position_total order.cmp lawful.total in
+      let cmp = position_cmp order.cmp in
+      then_equal (cmp (Start r.start) (Start s.start)) (cmp (End r.end) (End s.end)) (both cmp total (Start r.start) (Start s.start) k.starts h.starts) (both cmp total (End r.end) (End s.end) h.ends k.ends)
+
+  module _ (F : AnyRange K → Type 0) (part : AnyRange K) (full : IsFull part) (wide : (g : AnyRange K) → F g → LiesIn order part g → LiesIn order g part) where
+    abbrev IsFound : List (AnyRange K) → Type 0
+    IsFound gaps = Every F gaps → Any (λ g. range_cmp order g part ≡ Equal) gaps
+
+    found_at : (a b : Bound K) → PLe (Start a) (Start part.start) → PLe (End part.end) (End b) → IsFound (between order (Some a) (Some b))
+    found_at a b starts ends =
+        let total = position_total order.cmp lawful.total in
+        let cmp = position_cmp order.cmp in
+        let g : AnyRange K = record { start = a; end = b } in
+        let le = le_trans cmp total (Start a) (Start part.start) (End b) starts (le_trans cmp total (Start part.start) (End part.end) (End b) full.1 ends) in
+        let within : LiesIn order part g = record { starts = starts; ends = ends } in
+        between_is IsFound a b le (λ such. inl (same_range g part (wide g such.0 within) within))
+
+    found_between : (s e : Option (Bound K)) (gaps : List (AnyRange K)) → From s part → ((b : Bound K) → e ≡ Some b → PLe (End part.end) (End b)) → (e ≡ None → ⊥) → Every F (between order s e ++ gaps) → Any (λ g. range_cmp order g part ≡ Equal) (between order s e ++ gaps)
+    found_between None e gaps from ends some such = absurd from
+    found_between (Some a) None gaps from ends some such = absurd (some refl)
+    found_between (Some a) (Some b) gaps from ends some such = any_left (λ g. range_cmp order g part ≡ Equal) (between order (Some a) (Some b)) gaps (found_at a b from (ends b refl) (every_left F (between order (Some a) (Some b)) gaps such))
+
+    bounded_start : (b : Bound K) → PLt (End part.end) (Start b) → inverted b ≡ None → ⊥
+    bounded_start (Included a) l e = cc
+    bounded_start (Excluded a) l e = cc
+    bounded_start Unbounded l e =
+        let total = position_total order.cmp lawful.total in
+        let cmp = position_cmp order.cmp in
+        lt_not_le cmp total (End part.end) (Start Unbounded) l (le_trans cmp total (Start Unbounded) (Start part.start) (End part.end) (unbounded_start order lawful part.start full.0.0) full.1)
+
+  -- a bound that holds the key
+  abbrev HoldsFrom : Option (Bound K) → K → Type 0
+  HoldsFrom None k = ⊥
+  HoldsFrom (Some b) k = StartHolds order b k
+
+  abbrev HeldBy : K → List (AnyRange K) → Type 0
+  HeldBy k ranges = Any (λ r. Holds order r k) ranges
+
+  held_reach : (a b : Bound K) (k : K) → order.is_key k → StartHolds order a k → EndHolds order b k → PLe (Start a) (End b)
+  held_reach a b k key h g = le_trans (position_cmp order.cmp) (position_total order.cmp lawful.total) (Start a) (Beside k At) (End b) ((start_holds order lawful a k key).0 h) ((end_holds order lawful b k key).0 g)
+
+  held_between : (s e : Option (Bound K)) (k : K) → order.is_key k → HoldsFrom s k → ((b : Bound K) → e ≡ Some b → EndHolds order b k) → (e ≡ None → ⊥) → HeldBy k (between order s e)
+  held_between None e k key h ends some = absurd h
+  held_between (Some a) None k key h ends some = absurd (some refl)
+  held_between (Some a) (Some b) k key h ends some = between_is (HeldBy k) a b (held_reach a b k key h (ends b refl)) (inl (h, ends b refl))
+
+  unheld_start : (b : Bound K) (k : K) → (StartHolds order b k → ⊥) → inverted b ≡ None → ⊥
+  unheld_start (Included a) k h e = cc
+  unheld_start (Excluded a) k h e = cc
+  unheld_start Unbounded k h e = h tt
+
+  holds_behind : (b : Bound K) (k : K) → (EndHolds order b k → ⊥) → HoldsFrom (inverted b) k
+  holds_behind (Included a) k h = (inverted_start order lawful (Included a) (Excluded a) k refl).1 h
+  holds_behind (Excluded a) k h = (inverted_start order lawful (Excluded a) (Included a) k refl).1 h
+  holds_behind Unbounded k h = absurd (h tt)
+
+  before_not_both : (r s : AnyRange K) (k : K) → order.is_key k → LiesBefore order r s → Holds order r k → Holds order s k → ⊥
+  before_not_both r s k key l h g =
+      lt_not_le (position_cmp order.cmp) (position_total order.cmp lawful.total) (End r.end) (Start s.start) l
+      (le_trans (position_cmp order.cmp) (position_total order.cmp lawful.total) (Start s.start) (Beside k At) (End r.end) ((start_holds order lawful s.start k key).0 g.0) ((end_holds order lawful r.end k key).0 h.1))
+
+  missed_not_both : (r s : AnyRange K) (k : K) → order.is_key k → (¬ Overlap order r s) → Holds order r k → Holds order s k → ⊥
+  missed_not_both r s k key apart h g = apart (λ l. before_not_both r s k key l h g, λ l. before_not_both s r k key l g h)
+
+  abbrev NotBoth : K → AnyRange K → AnyRange K → Type 0
+  NotBoth k r s = Holds order r k → Holds order s k → ⊥
+
+  once : (k : K) (ranges : List (AnyRange K)) → Pairs (NotBoth k) ranges → HeldBy k ranges → IsHeldOnce order ranges k
+  once k [] pairs h = absurd h
+  once k (r ∷ rest) pairs (inl h) = inl (h, every_weaker (NotBoth k r) (λ s. ¬ Holds order s k) rest (λ s f. f h) pairs.0)
+  once k (r ∷ rest) pairs (inr h) = inr (λ g. none rest pairs.0 g h, once k rest pairs.1 h)
+    where
+      none : (others : List (AnyRange K)) → Every (NotBoth k r) others → Holds order r k → HeldBy k others → ⊥
+      none [] all g h = h
+      none (s ∷ others) all g (inl h) = all.0 g h
+      none (s ∷ others) all g (inr h) = none others all.1 g h
+
+  module _ {V : Type 0} where
+    -- known, nonempty, each before all behind it
+    pub record IsRow (items : List (Item (AnyRange K) V)) : Type 0 where
+      pub full : Every (λ i. IsFull i.key) items
+      pub pairs : Pairs (λ i j. LiesBefore order i.key j.key) items
+
+    rest_row : (i : Item (AnyRange K) V) (rest : List (Item (AnyRange K) V)) → IsRow (i ∷ rest) → IsRow rest
+    rest_row i rest row = record { full = row.full.1; pairs = row.pairs.1 }
+
+    module _ (same : V → V → Bool) where
+      listed_full : (items : List (Item (AnyRange K) V)) → IsListed order lawful same items → Every (λ i. IsFull i.key) items
+      listed_full [] h = tt
+      listed_full (i ∷ []) h = ((h.0, not_greater (position_cmp order.cmp (Start i.key.start) (End i.key.end)) h.1), tt)
+      listed_full (i ∷ j ∷ rest) h = ((h.0, not_greater (position_cmp order.cmp (Start i.key.start) (End i.key.end)) h.1), listed_full (j ∷ rest) h.4)
+
+      listed_pairs : (items : List (Item (AnyRange K) V)) → IsListed order lawful same items → Pairs (λ i j. LiesBefore order i.key j.key) items
+      listed_pairs [] h = tt
+      listed_pairs (i ∷ []) h = (tt, tt)
+      listed_pairs (i ∷ j ∷ rest) h =
+          let total = position_total order.cmp lawful.total in
+          let cmp = position_cmp order.cmp in
+          let full = listed_full (j ∷ rest) h.4 in
+          let others = listed_pairs (j ∷ rest) h.4 in
+          let over = λ (k : Item (AnyRange K) V) (l : LiesBefore order j.key k.key). lt_trans cmp total (End i.key.end) (End j.key.end) (Start k.key.start) (lt_le_trans cmp total (End i.key.end) (Start j.key.start) (End j.key.end) h.2 full.0.1) l in
+          ((h.2, every_weaker (λ k. LiesBefore order j.key k.key) (λ k. LiesBefore order i.key k.key) rest over others.0), others)
+
+      pub stored_row : (items : List (Item (AnyRange K) V)) → IsStored order same items → IsRow items
+      stored_row items h = let l = listed order lawful same items h in record { full = listed_full items l; pairs = listed_pairs items l }
+
+    -- the items stand behind the bound
+    abbrev Ahead : Option (Bound K) → List (Item (AnyRange K) V) → Type 0
+    Ahead s items = Every (λ j. From s j.key) items
+
+    ahead_next : (i : Item (AnyRange K) V) (rest : List (Item (AnyRange K) V)) → IsRow (i ∷ rest) → Ahead (inverted i.key.end) rest
+    ahead_next i rest row = every_zip (λ j. IsFull j.key) (λ j. LiesBefore order i.key j.key) (λ j. From (inverted i.key.end) j.key) rest (λ j full l. (behind i.key.end j.key row.full.0.0.1 full).0 l) row.full.1 row.pairs.0
+
+    -- free ranges are known and nonempty
+    free_full : (s : Option (Bound K)) (items : List (Item (AnyRange K) V)) → KnownCut s → Every (λ i. IsFull i.key) items → Every IsFull (free_from order s items)
+    free_full s [] known full = each_between IsFull s (Some Unbounded) (λ a b e f le. ((subst KnownCut e known, subst KnownCut f tt), le))
+    free_full s (i ∷ rest) known full =
+        every_append IsFull (between order s (inverted i.key.start)) (free_from order (inverted i.key.end) rest)
+        (each_between IsFull s (inverted i.key.start) (λ a b e f le. ((subst KnownCut e known, subst KnownCut f (known_inverted i.key.start full.0.0.0)), le)))
+        (free_full (inverted i.key.end) rest (known_inverted i.key.end full.0.0.1) full.1)
+
+    -- what starts behind the end of an item starts behind what the item starts behind
+    behind_item : (s : Option (Bound K)) (i : Item (AnyRange K) V) (r : AnyRange K) → IsFull i.key → IsFull r → From s i.key → From (inverted i.key.end) r → From s r
+    behind_item None i r full full_r ahead h = ahead
+    behind_item (Some b) i r full full_r ahead h =
+        let total = position_total order.cmp lawful.total in
+        let cmp = position_cmp order.cmp in
+        let past = (behind i.key.end r full.0.1 full_r).1 h in
+        le_trans cmp total (Start b) (Start i.key.start) (Start r.start) ahead (lt_le cmp total (Start i.key.start) (Start r.start) (le_lt_trans cmp total (Start i.key.start) (End i.key.end) (Start r.start) full.1 past))
+
+    free_behind : (s : Option (Bound K)) (items : List (Item (AnyRange K) V)) → IsRow items → Ahead s items → Every (From s) (free_from order s items)
+    free_behind s [] row ahead = each_between (From s) s (Some Unbounded) (λ a b e f le. (from_is s a (record { start = a; end = b }) e).1 (le_refl (position_cmp order.cmp) (position_total order.cmp lawful.total) (Start a)))
+    free_behind s (i ∷ rest) row ahead =
+        let gaps = free_from order (inverted i.key.end) rest in
+        let full = free_full (inverted i.key.end) rest (known_inverted i.key.end row.full.0.0.1) row.full.1 in
+        let others = free_behind (inverted i.key.end) rest (rest_row i rest row) (ahead_next i rest row) in
+        every_append (From s) (between order s (inverted i.key.start)) gaps
+        (each_between (From s) s (inverted i.key.start) (λ a b e f le. (from_is s a (record { start = a; end = b }) e).1 (le_refl (position_cmp order.cmp) (position_total order.cmp lawful.total) (Start a))))
+        (every_zip IsFull (From (inverted i.key.end)) (From s) gaps (λ r full_r h. behind_item s i r row.full.0 full_r ahead.0 h) full others)
+
+    abbrev Misses : List (Item (AnyRange K) V) → AnyRange K → Type 0
+    Misses items r = Every (λ i. ¬ Overlap order i.key r) items
+
+    -- what ends before an item ends before those behind it
+    misses_before : (i : Item (AnyRange K) V) (rest : List (Item (AnyRange K) V)) (r : AnyRange K) → IsRow (i ∷ rest) → PLt (End r.end) (Start i.key.start) → Misses (i ∷ rest) r
+    misses_before i rest r row l =
+        let total = position_total order.cmp lawful.total in
+        let cmp = position_cmp order.cmp in
+        let over = λ (j : Item (AnyRange K) V) (before : LiesBefore order i.key j.key) (meets : Overlap order j.key r). meets.1 (lt_trans cmp total (End r.end) (End i.key.end) (Start j.key.start) (lt_le_trans cmp total (End r.end) (Start i.key.start) (End i.key.end) l row.full.0.1) before) in
+        (λ meets. meets.1 l, every_weaker (λ j. LiesBefore order i.key j.key) (λ j. ¬ Overlap order j.key r) rest over row.pairs.0)
+
+    free_misses : (s : Option (Bound K)) (items : List (Item (AnyRange K) V)) → IsRow items → Every (Misses items) (free_from order s items)
+    free_misses s [] row = each_between (Misses []) s (Some Unbounded) (λ a b e f le. tt)
+    free_misses s (i ∷ rest) row =
+        let gaps = free_from order (inverted i.key.end) rest in
+        let full = free_full (inverted i.key.end) rest (known_inverted i.key.end row.full.0.0.1) row.full.1 in
+        let after = free_behind (inverted i.key.end) rest (rest_row i rest row) (ahead_next i rest row) in
+        let past = every_zip IsFull (From (inverted i.key.end)) (λ r. LiesBefore order i.key r) gaps (λ r full_r h. (behind i.key.end r row.full.0.0.1 full_r).1 h) full after in
+        every_append (Misses (i ∷ rest)) (between order s (inverted i.key.start)) gaps
+        (each_between (Misses (i ∷ rest)) s (inverted i.key.start) (λ a b e f le. misses_before i rest (record { start = a; end = b }) row (ends_just_before i.key.start b row.full.0.0.0 f)))
+        (every_zip (λ r. LiesBefore order i.key r) (Misses rest) (Misses (i ∷ rest)) gaps (λ r l h. (λ meets. meets.0 l, h)) past (free_misses (inverted i.key.end) rest (rest_row i rest row)))
+
+    free_pairs : (s : Option (Bound K)) (items : List (Item (AnyRange K) V)) → IsRow items → Pairs (LiesBefore order) (free_from order s items)
+    free_pairs s [] row = alone s (Some Unbounded)
+      where
+        alone_by : (t : Bool) (r : AnyRange K) → Pairs (LiesBefore order) (if t then [] else r ∷ [])
+        alone_by true r = tt
+        alone_by false r = (tt, tt)
+
+        alone : (s e : Option (Bound K)) → Pairs (LiesBefore order) (between order s e)
+        alone None e = tt
+        alone (Some a) None = tt
+        alone (Some a) (Some b) = alone_by (starts_past_end order a b) (record { start = a; end = b })
+    free_pairs s (i ∷ rest) row =
+        let total = position_total order.cmp lawful.total in
+        let cmp = position_cmp order.cmp in
+        let gaps = free_from order (inverted i.key.end) rest in
+        let full = free_full (inverted i.key.end) rest (known_inverted i.key.end row.full.0.0.1) row.full.1 in
+        let after = free_behind (inverted i.key.end) rest (rest_row i rest row) (ahead_next i rest row) in
+        let past = every_zip IsFull (From (inverted i.key.end)) (λ r. LiesBefore order i.key r) gaps (λ r full_r h. (behind i.key.end r row.full.0.0.1 full_r).1 h) full after in
+        pairs_append (LiesBefore order) (between order s (inverted i.key.start)) gaps
+        (alone s (inverted i.key.start))
+        (free_pairs (inverted i.key.end) rest (rest_row i rest row))
+        (each_between (λ g. Every (LiesBefore order g) gaps) s (inverted i.key.start) (λ a b e f le.
+        let first = ends_just_before i.key.start b row.full.0.0.0 f in
+        every_weaker (λ r. LiesBefore order i.key r) (λ r. PLt (End b) (Start r.start)) gaps (λ r l. lt_trans cmp total (End b) (End i.key.end) (Start r.start) (lt_le_trans cmp total (End b) (Start i.key.start) (End i.key.end) first row.full.0.1) l) past))
+      where
+        alone_by : (t : Bool) (r : AnyRange K) → Pairs (LiesBefore order) (if t then [] else r ∷ [])
+        alone_by true r = tt
+        alone_by false r = (tt, tt)
+
+        alone : (s e : Option (Bound K)) → Pairs (LiesBefore order) (between order s e)
+        alone None e = tt
+        alone (Some a) None = tt
+        alone (Some a) (Some b) = alone_by (starts_past_end order a b) (record { start = a; end = b })
+
+    module _ (F : AnyRange K → Type 0) (full : (r : AnyRange K) → F r → IsFull r) where
+      bars_behind : (i : Item (AnyRange K) V) → IsFull i.key → ((r : AnyRange K) → F r → ¬ Overlap order i.key r) → Bars F (inverted i.key.end)
+      bars_behind i known apart b e r such reach =
+          let total = position_total order.cmp lawful.total in
+          let cmp = position_cmp order.cmp in
+          elim (lies_by i.key r (apart r such)) [
+            | inl l ↦ (from_is (inverted i.key.end) b r e).0 ((behind i.key.end r known.0.1 (full r such)).0 l)
+            | inr l ↦
+                let over = (behind_by i.key.end b (record { start = b; end = b }) known.0.1 e (subst KnownCut e (known_inverted i.key.end known.0.1))).1 (le_refl cmp total (Start b)) in
+                let below = lt_trans cmp total (End r.end) (End i.key.end) (Start b) (lt_le_trans cmp total (End r.end) (Start i.key.start) (End i.key.end) l known.1) over in
+                absurd (lt_not_le cmp total (End r.end) (Start b) below reach)
+          ]
+
+      wide_between : (s : Option (Bound K)) (i : Item (AnyRange K) V) → Bars F s → IsFull i.key → ((r : AnyRange K) → F r → ¬ Overlap order i.key r) → Every (IsWide F) (between order s (inverted i.key.start))
+      wide_between s i bars known apart = each_between (IsWide F) s (inverted i.key.start) (λ a b e f le r such within.
+          let total = position_total order.cmp lawful.total in
+          let cmp = position_cmp order.cmp in
+          let first = ends_just_before i.key.start b known.0.0 f in
+          let starts = bars a e r such (le_trans cmp total (Start a) (End b) (End r.end) le within.ends) in
+          let before : PLt (End r.end) (Start i.key.start) = elim (lies_by i.key r (apart r such)) [
+            | inl l ↦
+                let up = le_lt_trans cmp total (Start i.key.start) (End i.key.end) (Start r.start) known.1 l in
+                let down = le_lt_trans cmp total (Start r.start) (End b) (Start i.key.start) (le_trans cmp total (Start r.start) (Start a) (End b) within.starts le) first in
+                absurd (lt_not_le cmp total (Start i.key.start) (Start r.start) up (lt_le cmp total (Start r.start) (Start i.key.start) down))
+            | inr l ↦ l
+          ] in
+          record { starts = starts; ends = ends_before order lawful r.end i.key.start b (full r such).0.1 f before })
+
+      free_wide : (s : Option (Bound K)) (items : List (Item (AnyRange K) V)) → Every (λ i. IsFull i.key) items → ((r : AnyRange K) → F r → Misses items r) → Bars F s → Every (IsWide F) (free_from order s items)
+      free_wide s [] known apart bars = wide_last F full s bars
+      free_wide s (i ∷ rest) known apart bars =
+          every_append (IsWide F) (between order s (inverted i.key.start)) (free_from order (inverted i.key.end) rest)
+          (wide_between s i bars known.0 (λ r such. (apart r such).0))
+          (free_wide (inverted i.key.end) rest known.1 (λ r such. (apart r such).1) (bars_behind i known.0 (λ r such. (apart r such).0)))
+
+    module _ (F : AnyRange K → Type 0) (part : AnyRange K) (full : IsFull part) (wide : (g : AnyRange K) → F g → LiesIn order part g → LiesIn order g part) where
+      free_found : (s : Option (Bound K)) (items : List (Item (AnyRange K) V)) → Every (λ i. IsFull i.key) items → Misses items part → From s part → Every F (free_from order s items) → Any (λ g. range_cmp order g part ≡ Equal) (free_from order s items)
+      free_found None [] known apart from such = absurd from
+      free_found (Some a) [] known apart from such = found_at F part full wide a Unbounded from (ends_full order lawful part.end full.0.1) such
+      free_found s (i ∷ rest) known apart from such =
+          elim (lies_by i.key part apart.0) [
+            | inl l ↦ any_right (λ g. range_cmp order g part ≡ Equal) (between order s (inverted i.key.start)) (free_from order (inverted i.key.end) rest)
+                (free_found (inverted i.key.end) rest known.1 apart.1 ((behind i.key.end part known.0.0.1 full).0 l) (every_right F (between order s (inverted i.key.start)) (free_from order (inverted i.key.end) rest) such))
+            | inr l ↦ found_between F part full wide s (inverted i.key.start) (free_from order (inverted i.key.end) rest) from (λ b e. ends_before order lawful part.end i.key.start b full.0.1 e l) (bounded_start F part full wide i.key.start l) such
+          ]
+
+    module _ (items : List (Item (AnyRange K) V)) (row : IsRow items) where
+      abbrev IsFree : AnyRange K → Type 0
+      IsFree r = IsFreePart order items full_range r
+
+      is_full : (r : AnyRange K) → IsFree r → IsFull r
+      is_full r h = (h.known, not_greater (position_cmp order.cmp (Start r.start) (End r.end)) h.nonempty)
+
+      is_free : (r : AnyRange K) → IsFull r → Misses items r → IsFree r
+      is_free r full misses = record {
+        known = full.0;
+        nonempty = not_past (position_cmp order.cmp (Start r.start) (End r.end)) full.1;
+        within = record { starts = unbounded_start order lawful r.start full.0.0; ends = ends_full order lawful r.end full.0.1 };
+        free = misses;
+      }
+
+      gaps_free : Every IsFree (free_from order (Some Unbounded) items)
+      gaps_free = every_zip IsFull (Misses items) IsFree (free_from order (Some Unbounded) items) is_free (free_full (Some Unbounded) items tt row.full) (free_misses (Some Unbounded) items row)
+
+      from_first : (r : AnyRange K) → IsFull r → From (Some Unbounded) r
+      from_first r full = unbounded_start order lawful r.start full.0.0
+
+      bars_first : Bars IsFree (Some Unbounded)
+      bars_first b e r such reach = let same : Unbounded ≡ b = same_some (Some Unbounded) Unbounded b refl e in rw (← same) (from_first r (is_full r such))
+
+      -- all gaps of the list stand free between its items
+      pub gaps_are : AreGaps order items (free_from order (Some Unbounded) items)
+      gaps_are = record {
+        each = every_zip IsFree (IsWide IsFree) (λ g. IsPiece order items full_range g None) (free_from order (Some Unbounded) items) (λ g h k. (h, k)) gaps_free
+            (free_wide IsFree is_full (Some Unbounded) items row.full (λ r such. such.free) bars_first);
+        rising = each_next (LiesBefore order) (free_from order (Some Unbounded) items) (free_pairs (Some Unbounded) items row);
+        all = λ part known piece. free_found IsFree part (is_full part piece.0) piece.1 (Some Unbounded) items row.full piece.0.free (from_first part (is_full part piece.0)) gaps_free;
+      }
+
+    -- each key behind the bound is held by an item or stands free
+    covered : (s : Option (Bound K)) (items : List (Item (AnyRange K) V)) (k : K) → order.is_key k → HoldsFrom s k → HeldBy k (item_ranges items) ⊎ HeldBy k (free_from order s items)
+    covered s [] k key h = inr (held_between s (Some Unbounded) k key h (λ b e. let same : Unbounded ≡ b = same_some (Some Unbounded) Unbounded b refl e in rw (← same) tt) (λ e. cc))
+    covered s (i ∷ rest) k key h =
+        let first = between order s (inverted i.key.start) in
+        let gaps = free_from order (inverted i.key.end) rest in
+        elim (start_decided order lawful i.key.start k) [
+          | inl from ↦ elim (end_decided order lawful i.key.end k) [
+            | inl upto ↦ inl (inl (from, upto))
+            | inr over ↦ elim (covered (inverted i.key.end) rest k key (holds_behind i.key.end k over)) [ inl g ↦ inl (inr g) | inr g ↦ inr (any_right (λ r. Holds order r k) first gaps g) ]
+          ]
+          | inr under ↦ inr (any_left (λ r. Holds order r k) first gaps (held_between s (inverted i.key.start) k key h (λ b e. (inverted_end order lawful i.key.start b k e).1 under) (unheld_start i.key.start k under)))
+        ]
+
+    range_every : (P : AnyRange K → Type 0) (items : List (Item (AnyRange K) V)) → Every (λ i. P i.key) items → Every P (item_ranges items)
+    range_every P [] h = tt
+    range_every P (i ∷ rest) h = (h.0, range_every P rest h.1)
+
+    range_pairs : (R : AnyRange K → AnyRange K → Type 0) (items : List (Item (AnyRange K) V)) → Pairs (λ i j. R i.key j.key) items → Pairs R (item_ranges items)
+    range_pairs R [] h = tt
+    range_pairs R (i ∷ rest) h = (range_every (R i.key) rest h.0, range_pairs R rest h.1)
+
+    -- what each gap misses misses each gap
+    turned_round : (items : List (Item (AnyRange K) V)) (gaps : List (AnyRange K)) → Every (Misses items) gaps → Every (λ i. Every (λ g. ¬ Overlap order i.key g) gaps) items
+    turned_round [] gaps h = tt
+    turned_round (i ∷ rest) gaps h = (every_weaker (Misses (i ∷ rest)) (λ g. ¬ Overlap order i.key g) gaps (λ g m. m.0) h, turned_round rest gaps (every_weaker (Misses (i ∷ rest)) (Misses rest) gaps (λ g m. m.1) h))
+
+    -- the ranges and the gaps together hold each key exactly once
+    pub held_once : (items : List (Item (AnyRange K) V)) (k : K) → IsRow items → order.is_key k → IsHeldOnce order (item_ranges items ++ free_from order (Some Unbounded) items) k
+    held_once items k row key =
+        let gaps = free_from order (Some Unbounded) items in
+        let ranges = item_ranges items in
+        let own = range_pairs (NotBoth k) items (pairs_weaker (λ i j. LiesBefore order i.key j.key) (λ i j. NotBoth k i.key j.key) items (λ i j l. before_not_both i.key j.key k key l) row.pairs) in
+        let others = pairs_weaker (LiesBefore order) (NotBoth k) gaps (λ r s l. before_not_both r s k key l) (free_pairs (Some Unbounded) items row) in
+        let missed = turned_round items gaps (free_misses (Some Unbounded) items row) in
+        let across = range_every (λ r. Every (NotBoth k r) gaps) items (every_weaker (λ i. Every (λ g. ¬ Overlap order i.key g) gaps) (λ i. Every (NotBoth k i.key) gaps) items (λ i m. every_weaker (λ g. ¬ Overlap order i.key g) (NotBoth k i.key) gaps (λ g apart. missed_not_both i.key g k key apart) m) missed) in
+        once k (ranges ++ gaps) (pairs_append (NotBoth k) ranges gaps own others across)
+        (elim (covered (Some Unbounded) items k key tt) [ inl h ↦ any_left (λ r. Holds order r k) ranges gaps h | inr h ↦ any_right (λ r. Holds order r k) ranges gaps h ])

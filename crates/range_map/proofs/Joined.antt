@@ -1,0 +1,249 @@
+-- Over complete keys two nonempty ranges, the one before the other, touch exactly where no key lies between.
+use Rattle.std.proofs.Common.{◌≡◌, refl, sym, ap, subst, ◌∙◌, Bool, true, false, not, ◌||◌, if◌then◌else◌, IsTrue}
+use Rattle.std.specs.declared.ops.Bound.{Bound}
+use Rattle.std.specs.declared.ops.Bound.TheVariants.{Included, Excluded, Unbounded}
+use Rattle.std.specs.declared.cmp.Ordering.{Ordering}
+use Rattle.std.specs.declared.cmp.Ordering.TheVariants.{Less, Equal, Greater}
+use Rattle.std.specs.Ordering.{is_gt, is_lt, is_eq, ordering_reverse, ordering_then}
+use Rattle.std.specs.Cmp.{upto, tied_back, Equal-is}
+use Rattle.range_keys.specs.Order.{KeyOrder, IsLawful, IsComplete, Below, NotAbove}
+use Rattle.range_keys.specs.Position.{start_position, end_position, position_cmp}
+use Rattle.range_keys.specs.PositionOrder.{position_total}
+use Rattle.range_keys.specs.declared.inner.position.Position.{Position}
+use Rattle.range_keys.specs.declared.inner.position.Position.TheVariants.{Beside}
+use Rattle.range_keys.specs.declared.inner.position.Side.TheVariants.{At}
+use Rattle.range_algebra.specs.Range.{StartHolds, EndHolds, Holds, IsKnownBound, IsKnownRange, IsEmptyRange}
+use Rattle.range_algebra.specs.declared.any.AnyRange.{AnyRange}
+use Rattle.range_algebra.specs.declared.ordering.RangeOrdering.TheVariants.{Before, Intersecting, After}
+use Rattle.range_algebra.specs.Compared.{range_ordering, is_before, inverted, start_is_at, starts_at_end}
+use Rattle.range_algebra.proofs.Holding.{start_holds, holds_by_position, empty_is_keyless}
+use Rattle.range_algebra.proofs.Completeness.{nonempty_holds}
+use Rattle.range_algebra.proofs.Canonical.{same_is_equal}
+use Rattle.range_algebra.proofs.Meeting.{not_greater}
+use Rattle.range_algebra.specs.Relations.{AreBelow, LiesBetween, AreJoined}
+use Rattle.range_map.proofs.Coarse.{itself, irreflexive, start_up, end_down, stable_less}
+
+read_flag : (t s : Bool) → (not t || not s) ≡ true → s ≡ true → t ≡ true → ⊥
+read_flag true true e f g = cc
+read_flag true false e f g = cc
+read_flag false s e f g = cc
+
+read_before : (A B C T U x y z w s : Bool) → is_before (if A then (if B then Before T else Intersecting x y) else (if C then After U else Intersecting z w)) s ≡ true → (B ≡ true) × (s ≡ true → T ≡ true → ⊥)
+read_before true true C T U x y z w s e = (refl, read_flag T s e)
+read_before true false C T U x y z w s e = cc
+read_before false B true T U x y z w s e = cc
+read_before false B false T U x y z w s e = cc
+
+lt_less : (o : Ordering) → is_lt o ≡ true → o ≡ Less
+lt_less Less e = refl
+lt_less Equal e = cc
+lt_less Greater e = cc
+
+reversed : (o : Ordering) → is_gt o ≡ true → ordering_reverse o ≡ Less
+reversed Less e = cc
+reversed Equal e = cc
+reversed Greater e = refl
+
+turned : (o p : Ordering) → p ≡ ordering_reverse o → o ≡ Less → is_gt p ≡ true
+turned o p e f = rw (e, f) refl
+
+both_level : (o p : Ordering) → ordering_then o p ≡ Equal → (o ≡ Equal) × (p ≡ Equal)
+both_level Less p h = cc
+both_level Equal p h = (refl, h)
+both_level Greater p h = cc
+
+stable_not : (b : Bool) → ((b ≡ false → ⊥) → ⊥) → b ≡ false
+stable_not true h = absurd (h (λ e. cc))
+stable_not false h = refl
+
+module _ {K : Type 0} (order : KeyOrder K) (lawful : IsLawful order) where
+  abbrev pub EndsBefore : AnyRange K → AnyRange K → Type 0
+  EndsBefore r s = position_cmp order.cmp (end_position order r.end) (start_position order s.start) ≡ Less
+
+  abbrev pub AreTouching : AnyRange K → AnyRange K → Type 0
+  AreTouching r s = IsTrue (starts_at_end order r.end (start_position order s.start))
+
+  pub before_is : (r s : AnyRange K) (same : Bool) → IsTrue (is_before (range_ordering order r s) same) → EndsBefore r s × (IsTrue same → AreTouching r s → ⊥)
+  before_is r s same e =
+      let read = read_before _ _ _ _ _ _ _ _ _ same e in
+      (lt_less (position_cmp order.cmp (end_position order r.end) (start_position order s.start)) read.0, read.1)
+
+  -- p <= q < r <= s
+  apart : (p q r s : Position K) → is_gt (position_cmp order.cmp p q) ≡ false → position_cmp order.cmp q r ≡ Less → is_gt (position_cmp order.cmp r s) ≡ false → is_gt (position_cmp order.cmp s p) ≡ false → ⊥
+  apart p q r s e f g h =
+      let total = position_total order.cmp lawful.total in
+      let back : is_gt (position_cmp order.cmp r q) ≡ false = upto total r s q g (upto total s p q h e) in
+      let over : is_gt (position_cmp order.cmp r q) ≡ true = turned (position_cmp order.cmp q r) (position_cmp order.cmp r q) (total.antisymm r q) f in
+      let clash : true ≡ false = sym over ∙ back in
+      cc
+
+  -- what is not reached by the other lies below it
+  below_by : (a b : K) (o : Ordering) → order.cmp a b ≡ o → (NotAbove order b a → ⊥) → Below order a b
+  below_by a b Less e h = e
+  below_by a b Equal e h = absurd (h (ap is_gt (tied_back lawful.total a b e)))
+  below_by a b Greater e h = absurd (h (ap is_gt (lawful.total.antisymm b a ∙ ap ordering_reverse e)))
+
+  pub not_above_below : (a b : K) → (NotAbove order b a → ⊥) → Below order a b
+  not_above_below a b h = below_by a b (order.cmp a b) refl h
+
+  at_places : (o : Ordering) → is_gt o ≡ false → is_gt (ordering_then o Equal) ≡ false
+  at_places Less h = refl
+  at_places Equal h = refl
+  at_places Greater h = cc
+
+  -- a range that ends before another starts lies below it
+  pub ends_below : (r s : AnyRange K) → EndsBefore r s → AreBelow order r s
+  ends_below r s e a b key key' h g =
+      not_above_below a b (λ over. apart (Beside a At) (end_position order r.end) (start_position order s.start) (Beside b At) ((holds_by_position order lawful r a key).0 h).1 e ((holds_by_position order lawful s b key').0 g).0 (at_places (order.cmp b a) over))
+
+  stable_start : (b : Bound K) (k : K) → ((StartHolds order b k → ⊥) → ⊥) → StartHolds order b k
+  stable_start (Included a) k h = stable_not (is_gt (order.cmp a k)) h
+  stable_start (Excluded a) k h = stable_less (order.cmp a k) h
+  stable_start Unbounded k h = tt
+
+  module _ (complete : IsComplete order) (r s : AnyRange K) (known : IsKnownRange order r) (others : IsKnownRange order s) (full : ¬ IsEmptyRange order r) (full' : ¬ IsEmptyRange order s) (joined : AreJoined order r s) where
+    Member : AnyRange K → Type 0
+    Member t = (k : K) × order.is_key k × Holds order t k
+
+    first_member : Member r
+    unfolding Member
+    first_member = nonempty_holds order lawful complete r known (not_greater (position_cmp order.cmp (start_position order r.start) (end_position order r.end)) full)
+
+    second_member : Member s
+    unfolding Member
+    second_member = nonempty_holds order lawful complete s others (not_greater (position_cmp order.cmp (start_position order s.start) (end_position order s.end)) full')
+
+    -- the end of the first holds no key of the second
+    past_end : (k : K) → order.is_key k → Holds order s k → EndHolds order r.end k → ⊥
+    unfolding Member
+    past_end k key h g =
+        let low : Below order first_member.0 k = joined.0 first_member.0 k first_member.1 key first_member.2 h in
+        let held : Holds order r k = (start_up order lawful r.start first_member.0 k first_member.2.0 (ap is_gt low), g) in
+        irreflexive order lawful k k (joined.0 k k key key held h) (itself order lawful k)
+
+    -- a bound that starts just past the end of the first starts where the second does
+    starts_there : (f : Bound K) → IsKnownBound order f → ((k : K) → (EndHolds order r.end k → ⊥) → StartHolds order f k) → ((k : K) → StartHolds order f k → EndHolds order r.end k → ⊥)
+        → position_cmp order.cmp (start_position order f) (start_position order s.start) ≡ Equal
+    unfolding Member
+    starts_there f key past never =
+        let t : AnyRange K = record { start = f; end = s.end } in
+        let into : (k : K) → order.is_key k → Holds order t k → Holds order s k = λ k in_type h. (
+          stable_start s.start k
+              (λ no. joined.1 k in_type (
+                λ a key' g. not_above_below a k (λ over. never k h.0 (end_down order lawful r.end k a over g.1)),
+                λ b key' g. not_above_below k b (λ over. no (start_up order lawful s.start b k g.0 over)),
+              )),
+          h.1,
+        ) in
+        let back : (k : K) → order.is_key k → Holds order s k → Holds order t k = λ k in_type h. (past k (past_end k in_type h), h.1) in
+        let nonempty : ¬ IsEmptyRange order t = λ empty. empty_is_keyless order lawful t empty second_member.0 second_member.1 (back second_member.0 second_member.1 second_member.2) in
+        let level = same_is_equal order lawful complete t s (key, others.1) others nonempty full' (λ k in_type. (into k in_type, back k in_type)) in
+        (both_level (position_cmp order.cmp (start_position order t.start) (start_position order s.start)) (position_cmp order.cmp (end_position order t.end) (end_position order s.end)) level).0
+
+    touching_by : (e : Bound K) → r.end ≡ e → IsTrue (start_is_at order (inverted e) (start_position order s.start))
+    unfolding Member
+    touching_by (Included a) at =
+        ap is_eq (starts_there (Excluded a) (subst (IsKnownBound order) at known.1)
+        (λ k h. not_above_below a k (λ over. h (subst (λ x. EndHolds order x k) (sym at) over)))
+        (λ k h g. irreflexive order lawful a k h (subst (λ x. EndHolds order x k) at g)))
+    touching_by (Excluded a) at =
+        ap is_eq (starts_there (Included a) (subst (IsKnownBound order) at known.1)
+        (λ k h. stable_not (is_gt (order.cmp a k)) (λ no. h (subst (λ x. EndHolds order x k) (sym at) (not_above_below k a no))))
+        (λ k h g. irreflexive order lawful k a (subst (λ x. EndHolds order x k) at g) h))
+    touching_by Unbounded at =
+        absurd (past_end second_member.0 second_member.1 second_member.2 (subst (λ x. EndHolds order x second_member.0) (sym at) tt))
+
+    pub joined_touch : AreTouching r s
+    joined_touch = touching_by r.end refl
+
+module _ {K : Type 0} (order : KeyOrder K) (lawful : IsLawful order) (r s : AnyRange K) (y z : K) (key : order.is_key y) (key' : order.is_key z) (here : Holds order r y) (there : Holds order s z) (before : EndsBefore order lawful r s) where
+  -- a start at the place of the second's holds what the second's holds
+  carried_start : (f : Bound K) → position_cmp order.cmp (start_position order f) (start_position order s.start) ≡ Equal → (k : K) → order.is_key k → StartHolds order f k → StartHolds order s.start k
+  carried_start f e k known h =
+      (start_holds order lawful s.start k known).1
+      (sym (ap is_gt ((position_total order.cmp lawful.total).congr (start_position order f) (start_position order s.start) (Beside k At) e)) ∙ (start_holds order lawful f k known).0 h)
+
+  none_between : (f : Bound K) → position_cmp order.cmp (start_position order f) (start_position order s.start) ≡ Equal → ((k : K) → (EndHolds order r.end k → ⊥) → StartHolds order f k) → (k : K) → order.is_key k → ¬ LiesBetween order r s k
+  none_between f e past k known between =
+      let over : Below order y k = between.0 y key here in
+      let under : Below order k z = between.1 z key' there in
+      let outside : EndHolds order r.end k → ⊥ = λ g. irreflexive order lawful k k (between.0 k known (start_up order lawful r.start y k here.0 (ap is_gt over), g)) (itself order lawful k) in
+      let held : Holds order s k = (carried_start f e k known (past k outside), end_down order lawful s.end k z (ap is_gt under) there.1) in
+      irreflexive order lawful k k (between.1 k known held) (itself order lawful k)
+
+  gap_by : (e : Bound K) → r.end ≡ e → IsTrue (start_is_at order (inverted e) (start_position order s.start)) → (k : K) → order.is_key k → ¬ LiesBetween order r s k
+  gap_by (Included a) at t =
+      none_between (Excluded a) ((Equal-is (position_cmp order.cmp (start_position order (Excluded a)) (start_position order s.start))).0 t)
+      (λ k h. not_above_below order lawful a k (λ over. h (subst (λ x. EndHolds order x k) (sym at) over)))
+  gap_by (Excluded a) at t =
+      none_between (Included a) ((Equal-is (position_cmp order.cmp (start_position order (Included a)) (start_position order s.start))).0 t)
+      (λ k h. stable_not (is_gt (order.cmp a k)) (λ no. h (subst (λ x. EndHolds order x k) (sym at) (not_above_below order lawful k a no))))
+  gap_by Unbounded at t = cc
+
+  -- ranges that hold keys and touch are joined, over lawful keys
+  pub touch_joined : AreTouching order lawful r s → AreJoined order r s
+  touch_joined t = (ends_below order lawful r s before, gap_by r.end refl t)
+
+module _ {K : Type 0} (order : KeyOrder K) (lawful : IsLawful order) (complete : IsComplete order) (r s : AnyRange K) (known : IsKnownRange order r) (others : IsKnownRange order s) (y z : K) (key : order.is_key y) (key' : order.is_key z) (here : Holds order r y) (there : Holds order s z) (below : AreBelow order r s) where
+  -- a key of both, from a key that the start of the second and the end of the first hold
+  meeting : (k : K) → order.is_key k → StartHolds order s.start k → EndHolds order r.end k → (o : Ordering) → order.cmp y k ≡ o → ⊥
+  meeting k known' start end Greater e =
+      let under : Below order k y = lawful.total.antisymm k y ∙ ap ordering_reverse e in
+      let reach : Below order y z = below y z key key' here there in
+      let held : Holds order s y = (start_up order lawful s.start k y start (ap is_gt under), end_down order lawful s.end y z (ap is_gt reach) there.1) in
+      irreflexive order lawful y y (below y y key key here held) (itself order lawful y)
+  meeting k known' start end Less e = met k known' start end (ap is_gt e)
+    where
+      met : (k : K) → order.is_key k → StartHolds order s.start k → EndHolds order r.end k → NotAbove order y k → ⊥
+      met k known' start end over =
+          let held : Holds order r k = (start_up order lawful r.start y k here.0 over, end) in
+          let under : Below order k z = below k z known' key' held there in
+          irreflexive order lawful k k (below k k known' known' held (start, end_down order lawful s.end k z (ap is_gt under) there.1)) (itself order lawful k)
+  meeting k known' start end Equal e = met k known' start end (ap is_gt e)
+    where
+      met : (k : K) → order.is_key k → StartHolds order s.start k → EndHolds order r.end k → NotAbove order y k → ⊥
+      met k known' start end over =
+          let held : Holds order r k = (start_up order lawful r.start y k here.0 over, end) in
+          let under : Below order k z = below k z known' key' held there in
+          irreflexive order lawful k k (below k k known' known' held (start, end_down order lawful s.end k z (ap is_gt under) there.1)) (itself order lawful k)
+
+  overlap : is_gt (position_cmp order.cmp (start_position order s.start) (end_position order r.end)) ≡ false → ⊥
+  overlap e =
+      let t : AnyRange K = record { start = s.start; end = r.end } in
+      let found = nonempty_holds order lawful complete t (others.0, known.1) e in
+      meeting found.0 found.1 found.2.0 found.2.1 (order.cmp y found.0) refl
+
+  is_less : (p q : Position K) → (is_gt (position_cmp order.cmp q p) ≡ false → ⊥) → position_cmp order.cmp p q ≡ Less
+  is_less p q h = flip (position_cmp order.cmp q p) (position_cmp order.cmp p q) ((position_total order.cmp lawful.total).antisymm p q) h
+    where
+      flip : (o u : Ordering) → u ≡ ordering_reverse o → (is_gt o ≡ false → ⊥) → u ≡ Less
+      flip Less u e h = absurd (h refl)
+      flip Equal u e h = absurd (h refl)
+      flip Greater u e h = e
+
+  -- over complete keys a range that lies below another ends before it starts
+  pub below_ends : EndsBefore order lawful r s
+  below_ends = is_less (end_position order r.end) (start_position order s.start) overlap
+
+  starts_less : position_cmp order.cmp (start_position order r.start) (start_position order s.start) ≡ Less
+  starts_less =
+      is_less (start_position order r.start) (start_position order s.start)
+      (λ back.
+      overlap (upto (position_total order.cmp lawful.total) (start_position order s.start) (start_position order r.start) (end_position order r.end) back
+      (upto (position_total order.cmp lawful.total) (start_position order r.start) (Beside y At) (end_position order r.end) ((holds_by_position order lawful r y key).0 here).0 ((holds_by_position order lawful r y key).0 here).1)))
+
+  write_flag : (t u : Bool) → (u ≡ true → t ≡ true → ⊥) → (not t || not u) ≡ true
+  write_flag true true h = absurd (h refl refl)
+  write_flag true false h = refl
+  write_flag false u h = refl
+
+  write_before : (A B C T U x y z w u : Bool) → A ≡ true → B ≡ true → (u ≡ true → T ≡ true → ⊥) → is_before (if A then (if B then Before T else Intersecting x y) else (if C then After U else Intersecting z w)) u ≡ true
+  write_before true true C T U x y z w u e f h = write_flag T u h
+  write_before true false C T U x y z w u e f h = cc
+  write_before false B C T U x y z w u e f h = cc
+
+  -- and stands before it, apart where their values are equal and the ranges are not joined
+  pub is_before_of : (same : Bool) → (AreJoined order r s → IsTrue same → ⊥) → IsTrue (is_before (range_ordering order r s) same)
+  is_before_of same parted =
+      write_before _ _ _ _ _ _ _ _ _ same (ap is_lt starts_less) (ap is_lt below_ends)
+      (λ e touching. parted (touch_joined order lawful r s y z key key' here there below_ends touching) e)

@@ -1,0 +1,185 @@
+-- A clone of a range in the place of the range.
+use Rattle.std.proofs.Common.{◌≡◌, refl, sym, ◌∙◌, Option, Some, None, Bool, true, false, IsTrue, List, [], ◌∷◌, ◌⊎◌, inl, inr, ◌↔◌, Result, Ok, Err, map}
+use Rattle.std.specs.Fn.{Shared}
+use denote.Ref.{Bor}
+use Rattle.std.specs.declared.ops.Bound.{Bound}
+use Rattle.std.specs.declared.ops.Bound.TheVariants.{Included, Excluded, Unbounded}
+use Rattle.std.specs.declared.cmp.Ordering.{Ordering}
+use Rattle.std.specs.declared.cmp.Ordering.TheVariants.{Less, Equal, Greater}
+use Rattle.std.specs.Ordering.{is_gt, is_eq}
+use Rattle.std.specs.Cmp.{tied_back}
+use Rattle.range_keys.specs.Order.{KeyOrder, IsLawful}
+use Rattle.range_keys.specs.Position.{start_position, end_position, position_cmp}
+use Rattle.range_keys.specs.PositionOrder.{position_total}
+use Rattle.range_keys.specs.declared.inner.position.Position.{Position}
+use Rattle.range_keys.specs.declared.inner.position.Position.TheVariants.{Beside}
+use Rattle.range_keys.specs.declared.inner.position.Side.TheVariants.{At}
+use Rattle.range_algebra.specs.declared.any.AnyRange.{AnyRange}
+use Rattle.range_algebra.specs.Clones.{SameBound, same_start, same_end}
+use Rattle.range_algebra.specs.Compared.{inverted, start_is_at, starts_at_end}
+use Rattle.range_algebra.specs.Range.{Holds, IsEmptyRange}
+use Rattle.range_algebra.specs.Relations.{LiesBefore, Touches}
+use Rattle.range_algebra.specs.Intervals.{Any, Every}
+use Rattle.range_algebra.specs.Orders.{eq_le, eq_ge, le_trans, lt_le_trans, le_lt_trans, both, not_le, lt_not_le}
+use Rattle.range_algebra.specs.Chains.{every_weaker}
+use Rattle.range_algebra.proofs.Holding.{holds_by_position}
+use Rattle.range_store.specs.declared.storage.Item.{Item}
+use Rattle.range_map.specs.Answers.{Answered, piece_of, AreAnswersTo, GaveWayToAnswers, FailsAt, IsUpdated}
+use Rattle.range_map.specs.Lookups.{IsConnectedTo}
+use Rattle.range_map.specs.Pieces.{later, earlier, IsCommonPart, LiesIn, IsFreePart, IsPiece, ArePieces}
+use Rattle.range_map.specs.Ranges.{Overlap}
+use Rattle.range_map.proofs.Cutting.{PLe, PLt, any_over, later_over, earlier_under, pick}
+
+equal_of : (o : Ordering) → IsTrue (is_eq o) → o ≡ Equal
+equal_of Less h = cc
+equal_of Equal h = refl
+equal_of Greater h = cc
+
+is_equal : (o : Ordering) → o ≡ Equal → IsTrue (is_eq o)
+is_equal o e = rw e refl
+
+not_both : (o : Ordering) → is_gt o ≡ false → o ≡ Greater → ⊥
+not_both Less h e = cc
+not_both Equal h e = cc
+not_both Greater h e = cc
+
+greater : (o : Ordering) → (is_gt o ≡ false → ⊥) → o ≡ Greater
+greater Less h = absurd (h refl)
+greater Equal h = absurd (h refl)
+greater Greater h = refl
+
+module _ {K : Type 0} (order : KeyOrder K) (lawful : IsLawful order) where
+  tied : (p q s : Position K) → position_cmp order.cmp p q ≡ Equal → position_cmp order.cmp q s ≡ Equal → position_cmp order.cmp p s ≡ Equal
+  tied p q s h k = (position_total order.cmp lawful.total).congr p q s h ∙ k
+
+  back : (p q : Position K) → position_cmp order.cmp p q ≡ Equal → position_cmp order.cmp q p ≡ Equal
+  back p q h = tied_back (position_total order.cmp lawful.total) p q h
+
+  later_under : (p q u : Position K) → PLe order lawful q p → PLe order lawful (later order q u) (later order p u)
+  later_under p q u le =
+      let over = later_over order lawful p u in
+      pick order lawful (λ y. PLe order lawful y (later order p u)) (is_gt (position_cmp order.cmp q u)) q u (le_trans (position_cmp order.cmp) (position_total order.cmp lawful.total) q p (later order p u) le over.0) over.1
+
+  earlier_over : (p q u : Position K) → PLe order lawful p q → PLe order lawful (earlier order p u) (earlier order q u)
+  earlier_over p q u le =
+      let under = earlier_under order lawful p u in
+      pick order lawful (λ y. PLe order lawful (earlier order p u) y) (is_gt (position_cmp order.cmp q u)) u q under.1 (le_trans (position_cmp order.cmp) (position_total order.cmp lawful.total) (earlier order p u) p q under.0 le)
+
+  module _ (r s : AnyRange K) (starts : position_cmp order.cmp (start_position order r.start) (start_position order s.start) ≡ Equal) (ends : position_cmp order.cmp (end_position order r.end) (end_position order s.end) ≡ Equal) where
+    pub holds_too : (k : K) → order.is_key k → Holds order r k → Holds order s k
+    holds_too k key h =
+        let cmp = position_cmp order.cmp in
+        let total = position_total order.cmp lawful.total in
+        let at = (holds_by_position order lawful r k key).0 h in
+        (holds_by_position order lawful s k key).1 (le_trans cmp total (start_position order s.start) (start_position order r.start) (Beside k At) (eq_ge cmp total (start_position order r.start) (start_position order s.start) starts) at.0, le_trans cmp total (Beside k At) (end_position order r.end) (end_position order s.end) at.1 (eq_le cmp total (end_position order r.end) (end_position order s.end) ends))
+
+    common_too : (i part : AnyRange K) → IsCommonPart order r i part → IsCommonPart order s i part
+    common_too i part h =
+        let cmp = position_cmp order.cmp in
+        let total = position_total order.cmp lawful.total in
+        let p = start_position order r.start in
+        let q = start_position order s.start in
+        let u = start_position order i.start in
+        let a = end_position order r.end in
+        let b = end_position order s.end in
+        let v = end_position order i.end in
+        record {
+          starts = tied (start_position order part.start) (later order p u) (later order q u) h.starts (both cmp total (later order p u) (later order q u) (later_under q p u (eq_le cmp total p q starts)) (later_under p q u (eq_ge cmp total p q starts)));
+          ends = tied (end_position order part.end) (earlier order a v) (earlier order b v) h.ends (both cmp total (earlier order a v) (earlier order b v) (earlier_over a b v (eq_le cmp total a b ends)) (earlier_over b a v (eq_ge cmp total a b ends)));
+        }
+
+    lies_too : (part : AnyRange K) → LiesIn order part r → LiesIn order part s
+    lies_too part h =
+        let cmp = position_cmp order.cmp in
+        let total = position_total order.cmp lawful.total in
+        record {
+          starts = le_trans cmp total (start_position order s.start) (start_position order r.start) (start_position order part.start) (eq_ge cmp total (start_position order r.start) (start_position order s.start) starts) h.starts;
+          ends = le_trans cmp total (end_position order part.end) (end_position order r.end) (end_position order s.end) h.ends (eq_le cmp total (end_position order r.end) (end_position order s.end) ends);
+        }
+
+    free_too : {V : Type 0} (items : List (Item (AnyRange K) V)) (part : AnyRange K) → IsFreePart order items r part → IsFreePart order items s part
+    free_too items part h = record { known = h.known; nonempty = h.nonempty; within = lies_too part h.within; free = h.free }
+
+    overlap_too : (i : AnyRange K) → Overlap order i r → Overlap order i s
+    overlap_too i h =
+        let cmp = position_cmp order.cmp in
+        let total = position_total order.cmp lawful.total in (
+          λ l. h.0 (lt_le_trans cmp total (end_position order i.end) (start_position order s.start) (start_position order r.start) l (eq_ge cmp total (start_position order r.start) (start_position order s.start) starts)),
+          λ l. h.1 (le_lt_trans cmp total (end_position order r.end) (end_position order s.end) (start_position order i.start) (eq_le cmp total (end_position order r.end) (end_position order s.end) ends) l),
+        )
+
+  -- equal ranges have the same pieces
+  pub piece_too : {V : Type 0} (items : List (Item (AnyRange K) V)) (r s : AnyRange K) → position_cmp order.cmp (start_position order r.start) (start_position order s.start) ≡ Equal → position_cmp order.cmp (end_position order r.end) (end_position order s.end) ≡ Equal → (part : AnyRange K) (value : Option V) → IsPiece order items r part value → IsPiece order items s part value
+  piece_too items r s starts ends part None h =
+      let start_back = back (start_position order r.start) (start_position order s.start) starts in
+      let end_back = back (end_position order r.end) (end_position order s.end) ends in
+      (free_too r s starts ends items part h.0, λ other free wide. h.1 other (free_too s r start_back end_back items other free) wide)
+  piece_too items r s starts ends part (Some v) h = (h.0, any_over (λ i. IsCommonPart order r i.key part × (i.value ≡ v)) (λ i. IsCommonPart order s i.key part × (i.value ≡ v)) items (λ i t. (common_too r s starts ends i.key part t.0, t.1)) h.1)
+
+  touches_start : (e : Bound K) (r s : AnyRange K) → position_cmp order.cmp (start_position order r.start) (start_position order s.start) ≡ Equal → IsTrue (starts_at_end order e (start_position order r.start)) → IsTrue (starts_at_end order e (start_position order s.start))
+  touches_start (Included a) r s starts h =
+      is_equal (position_cmp order.cmp (start_position order (Excluded a)) (start_position order s.start)) (tied (start_position order (Excluded a)) (start_position order r.start) (start_position order s.start) (equal_of (position_cmp order.cmp (start_position order (Excluded a)) (start_position order r.start)) h) starts)
+  touches_start (Excluded a) r s starts h =
+      is_equal (position_cmp order.cmp (start_position order (Included a)) (start_position order s.start)) (tied (start_position order (Included a)) (start_position order r.start) (start_position order s.start) (equal_of (position_cmp order.cmp (start_position order (Included a)) (start_position order r.start)) h) starts)
+  touches_start Unbounded r s starts h = absurd (cc)
+
+  touches_end : (e f : Bound K) (p : Position K) → SameBound order f e → IsTrue (starts_at_end order e p) → IsTrue (starts_at_end order f p)
+  touches_end (Included a) (Included b) p alike h =
+      is_equal (position_cmp order.cmp (start_position order (Excluded b)) p) (tied (start_position order (Excluded b)) (start_position order (Excluded a)) p (same_start order lawful (Excluded b) (Excluded a) alike) (equal_of (position_cmp order.cmp (start_position order (Excluded a)) p) h))
+  touches_end (Excluded a) (Excluded b) p alike h =
+      is_equal (position_cmp order.cmp (start_position order (Included b)) p) (tied (start_position order (Included b)) (start_position order (Included a)) p (same_start order lawful (Included b) (Included a) alike) (equal_of (position_cmp order.cmp (start_position order (Included a)) p) h))
+  touches_end Unbounded f p alike h = absurd (cc)
+  touches_end (Included a) (Excluded b) p alike h = absurd alike
+  touches_end (Included a) Unbounded p alike h = absurd alike
+  touches_end (Excluded a) (Included b) p alike h = absurd alike
+  touches_end (Excluded a) Unbounded p alike h = absurd alike
+
+  -- what is true of an update of a clone is true of one of the range
+  module _ (r s : AnyRange K) (start : SameBound order r.start s.start) (end : SameBound order r.end s.end) where
+    starts_alike : position_cmp order.cmp (start_position order s.start) (start_position order r.start) ≡ Equal
+    starts_alike = back (start_position order r.start) (start_position order s.start) (same_start order lawful r.start s.start start)
+
+    ends_alike : position_cmp order.cmp (end_position order s.end) (end_position order r.end) ≡ Equal
+    ends_alike = back (end_position order r.end) (end_position order s.end) (same_end order lawful r.end s.end end)
+
+    pub clone_empty : IsEmptyRange order s → IsEmptyRange order r
+    clone_empty h =
+        let cmp = position_cmp order.cmp in
+        let total = position_total order.cmp lawful.total in
+        let p = start_position order r.start in
+        let q = end_position order r.end in
+        let p' = start_position order s.start in
+        let q' = end_position order s.end in
+        greater (cmp p q) (λ le. not_both (cmp p' q') (le_trans cmp total p' p q' (eq_le cmp total p' p starts_alike) (le_trans cmp total p q q' le (eq_ge cmp total q' q ends_alike))) h)
+
+    connected_too : (i : AnyRange K) → IsConnectedTo order i s → IsConnectedTo order i r
+    connected_too i (inl meets) = inl (overlap_too s r starts_alike ends_alike i meets)
+    connected_too i (inr (inl touches)) = inr (inl (touches_start i.end s r starts_alike touches))
+    connected_too i (inr (inr touches)) = inr (inr (touches_end s.end r.end (start_position order i.start) end touches))
+
+    module _ {V : Type 0} (same : V → V → Bool) {F E : Type 0} (calls : Shared F (Option (Bor V) × Unit {0}) (Result (Option V) E)) (f : F) (items : List (Item (AnyRange K) V)) where
+      pub fails_too : (e : E) → FailsAt order same calls f items s e → FailsAt order same calls f items r e
+      fails_too e h = record { piece = h.piece; value = h.value; is_piece = piece_too items s r starts_alike ends_alike h.piece h.value h.is_piece; says = h.says }
+
+      pub updated_too : (new : List (Item (AnyRange K) V)) → IsUpdated order same calls f items new s → IsUpdated order same calls f items new r
+      updated_too new h = record {
+        answers = h.answers;
+        pieces = record {
+          each = every_weaker (λ p. IsPiece order items s p.key p.value) (λ p. IsPiece order items r p.key p.value) (map piece_of h.answers) (λ p t. piece_too items s r starts_alike ends_alike p.key p.value t) h.pieces.each;
+          rising = h.pieces.rising;
+          all = λ part binding known piece. h.pieces.all part binding known (piece_too items r s (same_start order lawful r.start s.start start) (same_end order lawful r.end s.end end) part binding piece);
+        };
+        given = h.given;
+        held = λ k key in_r. h.held k key (holds_too r s (same_start order lawful r.start s.start start) (same_end order lawful r.end s.end end) k key in_r);
+        others = λ k key out. h.others k key (λ in_s. out (holds_too s r starts_alike ends_alike k key in_s));
+        frame = record {
+          front = h.frame.front;
+          run = h.frame.run;
+          others = h.frame.others;
+          behind = h.frame.behind;
+          before = h.frame.before;
+          after = h.frame.after;
+          concerned = every_weaker (λ i. IsConnectedTo order i.key s) (λ i. IsConnectedTo order i.key r) h.frame.run (λ i t. connected_too i.key t) h.frame.concerned;
+          valued = h.frame.valued;
+        };
+      }

@@ -1,0 +1,106 @@
+-- The list in which a middle stands for what a range held.
+use Rattle.std.proofs.Common.{◌≡◌, refl, ℕ, ◌+◌, ◌-◌, ◌≤◌, List, ◌++◌, length, take, drop, ap, ◌∙◌, arith, subst, Option, Some, None, Bool, ◌⊎◌, inl, inr, length-append, append_assoc}
+use Rattle.std.specs.Cmp.{IsEquivalence}
+use Rattle.std.specs.Prelude.{slice_get}
+use Rattle.std.specs.Option.{option_or}
+use Rattle.std.specs.declared.ops.Bound.{Bound}
+use Rattle.range_keys.specs.Order.{KeyOrder, IsLawful}
+use Rattle.range_keys.specs.declared.inner.position.Position.TheVariants.{Beside}
+use Rattle.range_keys.specs.declared.inner.position.Side.TheVariants.{At}
+use Rattle.range_algebra.specs.Chains.{any_left, any_right, every_weaker, every_append}
+use Rattle.range_algebra.specs.Clones.{SameBound}
+use Rattle.range_algebra.specs.Intervals.{Every}
+use Rattle.range_algebra.specs.Range.{IsKnownBound, IsKnownRange, IsEmptyRange}
+use Rattle.range_algebra.specs.declared.any.AnyRange.{AnyRange}
+use Rattle.range_algebra.proofs.Lists.{parts}
+use Rattle.range_algebra.proofs.Places.{held_between}
+use Rattle.range_store.specs.Places.{IsAt}
+use Rattle.range_store.specs.declared.storage.Item.{Item}
+use Rattle.range_map.specs.declared.edges.Edge.{Edge}
+use Rattle.range_map.specs.Edits.{turned_bound}
+use Rattle.range_map.specs.Frames.{HasValue}
+use Rattle.range_map.specs.Ranges.{Overlap}
+use Rattle.range_map.specs.Replaced.{AreWithin, IsReplaced}
+use Rattle.range_map.specs.Seams.{seam_edge, with_first_start, with_last_end, IsLeftSeam, IsRightSeam}
+use Rattle.range_map.specs.Stored.{IsStored}
+use Rattle.range_map.specs.Window.{option_items}
+use Rattle.range_map.proofs.CutParts.{known_turned, same_turned}
+use Rattle.range_map.proofs.Endings.{length_started, length_ended, every_started, every_ended, own_values}
+use Rattle.range_map.proofs.Forms.{nonempty_good, stored_known, chain_stored, same_binds, outside}
+use Rattle.range_map.proofs.Framing.{parts_of, reassociate, reassociate_pieces}
+use Rattle.range_map.proofs.Openings.{upto_end}
+use Rattle.range_map.proofs.Seaming.{seam_count, IsLeftFill, IsRightFill, left_fill, right_fill}
+
+at_most_one : {X : Type 0} (o : Option X) → length (option_items o) ≤ 1
+at_most_one None = omega arith
+at_most_one (Some x) = omega arith
+
+module _ {K : Type 0} (order : KeyOrder K) (lawful : IsLawful order) {V : Type 0} (same : V → V → Bool) (equal : IsEquivalence same) {P : Type 0} (is_good : P → Type 0) (rank : P → ℕ) (items : List (Item (AnyRange K) V)) (r : AnyRange K) (place count : ℕ) where
+  value_left : (run more middle made : List (Item (AnyRange K) V)) → Every (λ j. HasValue order same run j.value ⊎ HasValue order same middle j.value) made → Every (λ j. HasValue order same (run ++ more) j.value ⊎ HasValue order same middle j.value) made
+  value_left run more middle made all = every_weaker _ _ made (λ j h. elim h [ inl k ↦ inl (any_left _ run more k) | inr k ↦ inr k ]) all
+
+  value_right : (more run middle made : List (Item (AnyRange K) V)) → Every (λ j. HasValue order same run j.value ⊎ HasValue order same middle j.value) made → Every (λ j. HasValue order same (more ++ run) j.value ⊎ HasValue order same middle j.value) made
+  value_right more run middle made all = every_weaker _ _ made (λ j h. elim h [ inl k ↦ inl (any_right _ more run k) | inr k ↦ inr k ]) all
+
+  pub replaced : (new middle : List (Item (AnyRange K) V)) (first last : Option P) (edge behind : Edge K P) (from : Option P) → IsStored order same items → IsStored order same middle → IsKnownRange order r → Every (λ i. Overlap order i.key r) (take count (drop place items)) →
+      (left : IsLeftFill order lawful same equal is_good rank items r place count middle first edge from) → (right : IsRightFill order lawful same equal is_good rank items r place count middle (take left.at items ++ option_items left.rest) left.start last behind) →
+      new ≡ take left.at items ++ option_items left.rest ++ with_last_end right.finish (with_first_start left.start middle) ++ option_items right.rest ++ drop right.end items →
+      IsReplaced order same items new middle r
+  replaced new middle first last edge behind from stored others known meets left right changed =
+      let met = take count (drop place items) in
+      let front = take left.at items in
+      let body = with_last_end right.finish (with_first_start left.start middle) in
+      let rest = option_items left.rest in
+      let beyond = option_items right.rest in
+      let tail = drop right.end items in
+      let run = left.extra ++ met ++ right.extra in
+      let whole = (front ++ rest ++ body) ++ (beyond ++ tail) in
+      let list : new ≡ whole = changed ∙ append_assoc (front ++ rest ++ body) beyond tail in
+      let all = stored_known order lawful same equal items stored in
+      let known_middle = stored_known order lawful same equal middle others in
+      let regroup : run ≡ left.extra ++ (met ++ right.extra) = append_assoc left.extra met right.extra in
+      let own = every_ended (λ v. HasValue order same run v ⊎ HasValue order same middle v) right.finish (with_first_start left.start middle) (every_started (λ v. HasValue order same run v ⊎ HasValue order same middle v) left.start middle (every_weaker _ _ middle (λ j h. inr h) (own_values order same equal middle))) in
+      let on_left = value_left (left.extra ++ met) right.extra middle rest left.valued in
+      let on_right : Every (λ j. HasValue order same run j.value ⊎ HasValue order same middle j.value) beyond = rw regroup (value_right left.extra (met ++ right.extra) middle beyond right.valued) in
+      let size : length body ≡ length middle = length_ended right.finish (with_first_start left.start middle) ∙ length_started left.start middle in
+      record {
+        stored = rw list (chain_stored order lawful same equal whole right.known right.spliced.chain);
+        held = λ k key h b. let within = (held_between order lawful r k known key).0 h in rw list (same_binds order lawful same equal middle whole k known_middle right.known key (λ W alike. right.spliced.inside (Beside k At) W alike within.0 within.1) b);
+        others = λ k key h b. rw list (same_binds order lawful same equal items whole k all right.known key (λ W alike. right.spliced.outside (Beside k At) W alike (outside order lawful same equal r k known key h)) b);
+        frame = record {
+          front = front;
+          run = run;
+          others = rest ++ body ++ beyond;
+          behind = tail;
+          before = parts items place ∙ (ap (λ ys. ys ++ drop place items) left.split ∙ (ap (λ ys. (front ++ left.extra) ++ ys) (parts_of items place count ∙ ap (λ ys. met ++ ys) right.split) ∙ reassociate front left.extra met right.extra tail));
+          after = changed ∙ reassociate_pieces front rest body beyond tail;
+          concerned = every_append _ (left.extra ++ met) right.extra (every_append _ left.extra met left.touched (every_weaker _ _ met (λ i h. inl h) meets)) right.touched;
+          valued = every_append _ (rest ++ body) beyond (every_append _ rest body on_left own) on_right;
+          few = omega (arith, size, at_most_one left.rest, at_most_one right.rest, length-append (rest ++ body) beyond, length-append rest body);
+        };
+      }
+
+  -- both sides of what is planned, and the run between them
+  pub record IsReplacement (middle : List (Item (AnyRange K) V)) (first last joined other from : Option P) : Type 0 where
+    pub left : IsLeftFill order lawful same equal is_good rank items r place count middle first (seam_edge joined first (turned_bound r.start)) (option_or joined from)
+    pub right : IsRightFill order lawful same equal is_good rank items r place count middle (take left.at items ++ option_items left.rest) left.start last (seam_edge other last (turned_bound r.end))
+    pub upto : left.begin + (length (option_items joined) + (count - (length (option_items first) + length (option_items last))) + length (option_items other)) ≡ right.upto
+    pub within : right.upto ≤ length items
+
+  pub planned : (middle : List (Item (AnyRange K) V)) (first last joined other from : Option P) (next previous : Option (Item (AnyRange K) V)) → IsStored order same items → IsStored order same middle → AreWithin order middle r → IsKnownRange order r → (IsEmptyRange order r → ⊥) → place + count ≤ length items → length (option_items first) + length (option_items last) ≤ count →
+      next ≡ slice_get middle 0 → previous ≡ slice_get middle (length middle - 1) → IsAt is_good rank (length items) from (place + length (option_items first)) →
+      ((b : Bound K) (behind : Option P) → IsKnownBound order b → SameBound order (turned_bound r.start) b → IsAt is_good rank (length items) behind (place + length (option_items first)) → IsLeftSeam order same lawful equal is_good rank items r place count next first (seam_edge joined first b) (option_or joined behind)) →
+      ((b : Bound K) → IsKnownBound order b → SameBound order (turned_bound r.end) b → IsRightSeam order same lawful equal is_good rank items r place count previous last (seam_edge other last b)) →
+      IsReplacement middle first last joined other from
+  planned middle first last joined other from next previous stored others within known full in_range apart is_first is_last begins on_left on_right =
+      let before = turned_bound r.start in
+      let behind = turned_bound r.end in
+      let left = left_fill order lawful same equal is_good rank items r place count middle first (seam_edge joined first before) (option_or joined from) stored others (subst (λ o. IsLeftSeam order same lawful equal is_good rank items r place count o first (seam_edge joined first before) (option_or joined from)) is_first (on_left before from (known_turned order lawful r.start known.0) (same_turned order lawful r.start) begins)) in
+      let right = right_fill order lawful same equal is_good rank items r place count middle (take left.at items ++ option_items left.rest) left.start last (seam_edge other last behind) stored others within ((nonempty_good order lawful r known).0 full) in_range left.filled left.known (subst (λ o. IsRightSeam order same lawful equal is_good rank items r place count o last (seam_edge other last behind)) is_last (on_right behind (known_turned order lawful r.end known.1) (same_turned order lawful r.end))) in
+      let least = upto_end is_good is_good rank rank items items (λ p h. (h, refl)) refl (seam_edge other last behind) right.upto right.end right.rest right.finish right.shape in
+      record {
+        left = left;
+        right = right;
+        upto = omega (arith, left.begins, right.ends, apart, seam_count joined first before, seam_count other last behind);
+        within = omega (arith, least, right.in_range);
+      }

@@ -1,0 +1,23 @@
+use Rattle.std.proofs.Common.{rules, subst}
+use Rattle.range_map.specs.Tagged.{MayAnswerTo}
+use Rattle.range_map.proofs.Asked.{answered_as, fails_as}
+use Rattle.range_map.proofs.command.update_tagged.Goals as goal
+
+pub returns-in-Ok : goal.returns-in-Ok
+returns-in-Ok g c =
+    let done = c.in-Ok.ensures in
+    record {
+      answered = λ nonempty. answered_as g.K.MaybeBounded.order g.V.PartialEq.eq (MayAnswerTo g.F.Fn c.args.f.now c.args.tag) (g.C.Storage.items c.args.map.now) (g.C.Storage.items c.update.new.self) c.args.range (done.updated nonempty)
+          (λ value a m. subst (λ v. MayAnswerTo g.F.Fn c.args.f.now c.args.tag v a) m.shows m.says.1);
+      form = done.form;
+      empty = done.empty_unchanged;
+    }
+
+pub returns : goal.returns
+returns g c =
+    let refused = c.in-Err-Closure.ensures in (
+      fails_as g.K.MaybeBounded.order g.V.PartialEq.eq (MayAnswerTo g.F.Fn c.args.f.now c.args.tag) (g.C.Storage.items c.args.map.now) c.args.range c.in-Err-Closure.error (refused.closure c.in-Err-Closure.error (search rules))
+          (λ value a m. subst (λ v. MayAnswerTo g.F.Fn c.args.f.now c.args.tag v a) m.shows m.says.1),
+      λ empty. let ok = refused.empty empty in cc,
+      refused.refused,
+    )

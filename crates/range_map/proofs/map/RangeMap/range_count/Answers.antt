@@ -1,0 +1,10 @@
+use Rattle.range_map.proofs.StoredLists.{stored_least}
+use Rattle.std.proofs.Common.{rules}
+use Rattle.range_map.proofs.map.RangeMap.range_count.Goals as goal
+
+pub returns-clause-value : goal.returns-clause-value
+returns-clause-value g c = search rules
+
+pub returns-clause-least : goal.returns-clause-least
+returns-clause-least g c = λ complete.
+    rw (returns-clause-value g c) (stored_least g.K.MaybeBounded.order g.met.K.PartialEnum.lawful g.V.PartialEq.eq g.met.V.Eq.laws complete (g.C.Storage.items c.args.self.now) c.in_form.ensures)

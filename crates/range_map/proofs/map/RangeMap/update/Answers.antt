@@ -1,0 +1,86 @@
+use Rattle.std.proofs.Common.{◌≡◌, sym, ◌∙◌, rules}
+use Rattle.std.specs.Cmp.{Equal-is}
+use Rattle.range_algebra.specs.Clones.{bound_clone}
+use Rattle.range_algebra.specs.Range.{IsEmptyRange}
+use Rattle.range_algebra.specs.declared.any.AnyRange.{AnyRange}
+use Rattle.range_map.specs.Answers.{IsUpdated}
+use Rattle.range_map.proofs.Covering.{on_ok}
+use Rattle.range_map.proofs.Likeness.{clone_empty, updated_too, fails_too}
+use Rattle.range_map.proofs.StoredLists.{stored_coarse, stored_only}
+use Rattle.range_map.proofs.map.RangeMap.update.Goals as goal
+
+pub update_pieces-requires-clause-nonempty : goal.update_pieces-requires-clause-nonempty
+update_pieces-requires-clause-nonempty g c =
+    let order = g.K.MaybeBounded.order in
+    let lawful = g.met.K.PartialEnum.lawful in
+    let equal_keys = λ (a : g.row.K.Denot) (b : g.row.K.Denot) (h : g.K.Clone.is_clone a b).
+    sym (g.met.K.MaybeBounded.order_is_cmp a b) ∙ (Equal-is (g.K.Ord.cmp a b)).0 (sym (g.met.K.Ord.matches_eq a b) ∙ c.requires.keys a b h) in
+    let r = g.R.AsRange.range c.args.range in
+    let s : AnyRange g.row.K.Denot = record { start = c.in_ok-start.start; end = c.in_ok-end.end } in
+    let start = bound_clone order lawful g.K.Clone.is_clone equal_keys r.start s.start (rw c.start.ensures at c.in_ok-start.ensures) in
+    let end = bound_clone order lawful g.K.Clone.is_clone equal_keys r.end s.end (rw c.end.ensures at c.in_ok-end.ensures) in
+    λ empty.
+    let told = c.is_empty.ensures.by_position.1 (clone_empty order lawful r s start end empty) in
+    let not = c.if-is_empty.false in
+    cc
+
+pub update_pieces-requires-clause-bound : goal.update_pieces-requires-clause-bound
+update_pieces-requires-clause-bound g c =
+    rw c.self.view_is c.requires.bound
+
+pub returns-clause-updated : goal.returns-clause-updated
+returns-clause-updated g c =
+    let order = g.K.MaybeBounded.order in
+    let lawful = g.met.K.PartialEnum.lawful in
+    let equal_keys = λ (a : g.row.K.Denot) (b : g.row.K.Denot) (h : g.K.Clone.is_clone a b).
+    sym (g.met.K.MaybeBounded.order_is_cmp a b) ∙ (Equal-is (g.K.Ord.cmp a b)).0 (sym (g.met.K.Ord.matches_eq a b) ∙ c.requires.keys a b h) in
+    let r = g.R.AsRange.range c.args.range in
+    let s : AnyRange g.row.K.Denot = record { start = c.in_ok-start.start; end = c.in_ok-end.end } in
+    let start = bound_clone order lawful g.K.Clone.is_clone equal_keys r.start s.start (rw c.start.ensures at c.in_ok-start.ensures) in
+    let end = bound_clone order lawful g.K.Clone.is_clone equal_keys r.end s.end (rw c.end.ensures at c.in_ok-end.ensures) in
+    let items = g.C.Storage.items c.self.inside.stored in
+    let new = g.C.Storage.items c.update_pieces.new.stored in
+    let same = g.V.PartialEq.eq in
+    rw (← c.self.view_is) (on_ok (IsUpdated order same g.F.Fn c.args.f items new s) ((IsEmptyRange order r → ⊥) → IsUpdated order same g.F.Fn c.args.f items new r) c.update_pieces.result (λ h full. updated_too order lawful r s start end same g.F.Fn c.args.f items new h) c.update_pieces.ensures.ok)
+
+pub returns-clause-closure : goal.returns-clause-closure
+returns-clause-closure g c =
+    let order = g.K.MaybeBounded.order in
+    let lawful = g.met.K.PartialEnum.lawful in
+    let equal_keys = λ (a : g.row.K.Denot) (b : g.row.K.Denot) (h : g.K.Clone.is_clone a b).
+    sym (g.met.K.MaybeBounded.order_is_cmp a b) ∙ (Equal-is (g.K.Ord.cmp a b)).0 (sym (g.met.K.Ord.matches_eq a b) ∙ c.requires.keys a b h) in
+    let r = g.R.AsRange.range c.args.range in
+    let s : AnyRange g.row.K.Denot = record { start = c.in_ok-start.start; end = c.in_ok-end.end } in
+    let start = bound_clone order lawful g.K.Clone.is_clone equal_keys r.start s.start (rw c.start.ensures at c.in_ok-start.ensures) in
+    let end = bound_clone order lawful g.K.Clone.is_clone equal_keys r.end s.end (rw c.end.ensures at c.in_ok-end.ensures) in
+    let items = g.C.Storage.items c.self.inside.stored in
+    let new = g.C.Storage.items c.update_pieces.new.stored in
+    let same = g.V.PartialEq.eq in
+    λ e failed. rw (← c.self.view_is) (fails_too order lawful r s start end same g.F.Fn c.args.f items e (c.update_pieces.ensures.closure e failed))
+
+pub returns-then-is_empty-clause-coarse : goal.returns-then-is_empty-clause-coarse
+returns-then-is_empty-clause-coarse g c = λ complete. stored_coarse g.K.MaybeBounded.order g.met.K.PartialEnum.lawful g.V.PartialEq.eq g.met.V.Eq.laws complete (g.C.Storage.items c.args.self.now) c.in_form.ensures
+
+pub returns-then-is_empty-clause-only : goal.returns-then-is_empty-clause-only
+returns-then-is_empty-clause-only g c = λ complete. stored_only g.K.MaybeBounded.order g.met.K.PartialEnum.lawful g.V.PartialEq.eq g.met.V.Eq.laws complete (g.C.Storage.items c.args.self.now) c.in_form.ensures
+
+pub returns-in_err-start-clause-coarse : goal.returns-in_err-start-clause-coarse
+returns-in_err-start-clause-coarse g c = λ complete. stored_coarse g.K.MaybeBounded.order g.met.K.PartialEnum.lawful g.V.PartialEq.eq g.met.V.Eq.laws complete (g.C.Storage.items c.args.self.now) c.in_form.ensures
+
+pub returns-in_err-start-clause-only : goal.returns-in_err-start-clause-only
+returns-in_err-start-clause-only g c = λ complete. stored_only g.K.MaybeBounded.order g.met.K.PartialEnum.lawful g.V.PartialEq.eq g.met.V.Eq.laws complete (g.C.Storage.items c.args.self.now) c.in_form.ensures
+
+pub returns-in_err-end-clause-coarse : goal.returns-in_err-end-clause-coarse
+returns-in_err-end-clause-coarse g c = λ complete. stored_coarse g.K.MaybeBounded.order g.met.K.PartialEnum.lawful g.V.PartialEq.eq g.met.V.Eq.laws complete (g.C.Storage.items c.args.self.now) c.in_form.ensures
+
+pub returns-in_err-end-clause-only : goal.returns-in_err-end-clause-only
+returns-in_err-end-clause-only g c = λ complete. stored_only g.K.MaybeBounded.order g.met.K.PartialEnum.lawful g.V.PartialEq.eq g.met.V.Eq.laws complete (g.C.Storage.items c.args.self.now) c.in_form.ensures
+
+pub returns-clause-form : goal.returns-clause-form
+returns-clause-form g c = search rules
+
+pub returns-clause-coarse : goal.returns-clause-coarse
+returns-clause-coarse g c = λ complete. stored_coarse g.K.MaybeBounded.order g.met.K.PartialEnum.lawful g.V.PartialEq.eq g.met.V.Eq.laws complete (g.C.Storage.items c.update_pieces.new.stored) (returns-clause-form g c)
+
+pub returns-clause-only : goal.returns-clause-only
+returns-clause-only g c = λ complete. stored_only g.K.MaybeBounded.order g.met.K.PartialEnum.lawful g.V.PartialEq.eq g.met.V.Eq.laws complete (g.C.Storage.items c.update_pieces.new.stored) (returns-clause-form g c)

@@ -1,0 +1,45 @@
+-- The gaps of a list: what its ranges leave free of all keys.
+use Rattle.std.specs.Prelude.{◌≡◌, List, [], ◌∷◌, ◌++◌, ◌⊎◌, Option, Some, None, if◌then◌else◌}
+use Rattle.std.specs.declared.cmp.Ordering.TheVariants.{Equal}
+use Rattle.std.specs.declared.ops.Bound.{Bound}
+use Rattle.std.specs.declared.ops.Bound.TheVariants.{Unbounded}
+use Rattle.range_keys.specs.Order.{KeyOrder}
+use Rattle.range_algebra.specs.Compared.{inverted, starts_past_end}
+use Rattle.range_algebra.specs.Intervals.{Any, Every}
+use Rattle.range_algebra.specs.Range.{Holds, IsKnownRange}
+use Rattle.range_algebra.specs.RangeOrder.{range_cmp}
+use Rattle.range_algebra.specs.Relations.{LiesBefore}
+use Rattle.range_algebra.specs.declared.any.AnyRange.{AnyRange}
+use Rattle.range_store.specs.declared.storage.Item.{Item}
+use Rattle.range_map.specs.Neighbours.{EachNext}
+use Rattle.range_map.specs.Pieces.{IsPiece}
+
+abbrev pub full_range : {K : Type 0} → AnyRange K
+full_range = record { start = Unbounded; end = Unbounded }
+
+abbrev pub item_ranges : {K V : Type 0} → List (Item (AnyRange K) V) → List (AnyRange K)
+item_ranges [] = []
+item_ranges (i ∷ rest) = i.key ∷ item_ranges rest
+
+module _ {K : Type 0} (order : KeyOrder K) where
+  -- exactly one range of the list holds the key
+  abbrev pub IsHeldOnce : List (AnyRange K) → K → Type 0
+  IsHeldOnce [] k = ⊥
+  IsHeldOnce (r ∷ rest) k = (Holds order r k × Every (λ s. ¬ Holds order s k) rest) ⊎ ((¬ Holds order r k) × IsHeldOnce rest k)
+
+  -- all free pieces of the full range, each before the next
+  pub record AreGaps {V : Type 0} (items : List (Item (AnyRange K) V)) (gaps : List (AnyRange K)) : Type 0 where
+    pub each : Every (λ g. IsPiece order items full_range g None) gaps
+    pub rising : EachNext (LiesBefore order) gaps
+    pub all : (part : AnyRange K) → IsKnownRange order part → IsPiece order items full_range part None → Any (λ g. range_cmp order g part ≡ Equal) gaps
+
+  -- the range between two bounds, unless it is empty or one of them is missing
+  abbrev pub between : Option (Bound K) → Option (Bound K) → List (AnyRange K)
+  between None end = []
+  between (Some start) None = []
+  between (Some start) (Some end) = if starts_past_end order start end then [] else record { start = start; end = end } ∷ []
+
+  -- what is free from a start on, where the items stand behind it
+  abbrev pub free_from : {V : Type 0} → Option (Bound K) → List (Item (AnyRange K) V) → List (AnyRange K)
+  free_from start [] = between start (Some Unbounded)
+  free_from start (i ∷ rest) = between start (inverted i.key.start) ++ free_from (inverted i.key.end) rest

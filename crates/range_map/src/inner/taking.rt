@@ -1,0 +1,20 @@
+//! A map taken apart from its front.
+ghost use Rattle.std.specs.Prelude.{◌≡◌, [], ◌∷◌, MatchOption};
+ghost use Rattle.range_map.specs.Iterating.{pair_item};
+
+use crate::map::RangeMap;
+use range_algebra::any::AnyRange;
+use range_keys::traits::PartialEnum;
+use range_store::storage::{Item, Storage};
+
+/// The first range with its value, moved out of the map. Takes no memory.
+pub fn take_first<K: PartialEnum, V: Eq + Drop, C: Storage<Item<AnyRange<K>, V>>>(
+    map: &mut RangeMap<K, V, C>,
+) -> Option<(AnyRange<K>, V)>
+    ensures { MatchOption result ((C.items map.old ≡ []) × (C.items map.new ≡ [])) (λ pair. C.items map.old ≡ pair_item pair ∷ C.items map.new) }
+{
+    match map.stored.pop_first() {
+        Some(item) => Some(item.into_pair()),
+        None => None,
+    }
+}
