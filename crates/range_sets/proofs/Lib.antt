@@ -1,0 +1,9 @@
+pub mod Complementing
+pub mod ComplementTwice
+pub mod Enclosing
+pub mod Filling
+pub mod Likeness
+pub mod Matching
+pub mod Membership
+pub mod Ranges
+pub mod Showing

@@ -1,0 +1,5 @@
+pub mod Complements
+pub mod Extending
+pub mod KeySets
+pub mod SetOrder
+pub mod SetTexts

@@ -1,0 +1,58 @@
+//! Adding the keys of a range, and taking them away.
+ghost use Rattle.std.specs.Prelude.{◌≡◌, ◌+◌, ◌≤◌, true, length, IsOk, OnOk, OnErr};
+ghost use Rattle.range_algebra.specs.Range.{ClonesAreEqual, IsEmptyRange};
+ghost use Rattle.range_algebra.specs.Intervals.{Every};
+ghost use Rattle.range_map.specs.Frames.{GaveWayTo, WasCutOut};
+ghost use Rattle.range_map.specs.Ranges.{Overlap};
+ghost use Rattle.range_sets.specs.KeySets.{HoldsAlso, HoldsWithout, IsStoredSet};
+
+use crate::set::RangeSet;
+use range_algebra::any::AnyRange;
+use range_algebra::range::{AsRange, IntoRange};
+use range_keys::traits::Measure;
+use range_map::map::MapError;
+use range_store::storage::{Item, Storage};
+
+impl<T: Measure + Clone, C: Storage<Item<AnyRange<T>, ()>>> RangeSet<T, C> {
+    /// Adds each key of the range. An empty range changes nothing.
+    ///
+    /// Takes memory where one range more is stored and the container has no room for it. After an
+    /// error the set is as it was. Costs one search, and a step for each stored range that the range
+    /// meets or touches.
+    pub fn insert<R: IntoRange<Item = T>>(&mut self, range: R) -> Result<(), MapError>
+        requires { ClonesAreEqual T.is_clone T.eq }
+        ensures added { OnOk result (HoldsAlso T.order (C.items self.old) (C.items self.new) (R.range range)) }
+        ensures form { IsStoredSet T.order (C.items self.new) }
+        ensures frame { OnOk result (¬ IsEmptyRange T.order (R.range range) → GaveWayTo T.order (λ _ _. true) (C.items self.old) (C.items self.new) (R.range range) tt) }
+        ensures few { length (C.items self.new) ≤ length (C.items self.old) + 2 }
+
+        ensures refused { OnErr result (C.items self.new ≡ C.items self.old) }
+        ensures empty { IsEmptyRange T.order (R.range range) → IsOk result }
+        ensures empty_unchanged { IsEmptyRange T.order (R.range range) → C.items self.new ≡ C.items self.old }
+    {
+        self.map.insert(range, ())
+    }
+
+    /// Takes each key of the range away. An empty range, and one that meets no stored range, change
+    /// nothing.
+    ///
+    /// Takes memory for a clone of each bound at which it cuts a stored range, and for the container's
+    /// room where one stored range becomes two. After an error the set is as it was. Costs one search,
+    /// and a step for each stored range that the range meets.
+    pub fn remove<R: AsRange<Item = T>>(&mut self, range: R) -> Result<(), MapError>
+        requires { ClonesAreEqual T.is_clone T.eq }
+        ensures removed { OnOk result (HoldsWithout T.order (C.items self.old) (C.items self.new) (R.range range)) }
+        ensures form { IsStoredSet T.order (C.items self.new) }
+        ensures apart { OnOk result (¬ IsEmptyRange T.order (R.range range) → Every (λ i. ¬ Overlap T.order i.key (R.range range)) (C.items self.new)) }
+        ensures frame { OnOk result (¬ IsEmptyRange T.order (R.range range) → WasCutOut T.order (λ _ _. true) (C.items self.old) (C.items self.new) (R.range range)) }
+        ensures few { length (C.items self.new) ≤ length (C.items self.old) + 1 }
+
+        ensures refused { OnErr result (C.items self.new ≡ C.items self.old) }
+        ensures empty { IsEmptyRange T.order (R.range range) → IsOk result }
+        ensures empty_unchanged { IsEmptyRange T.order (R.range range) → C.items self.new ≡ C.items self.old }
+        ensures unmet { Every (λ i. ¬ Overlap T.order i.key (R.range range)) (C.items self.old) → IsOk result }
+        ensures unmet_unchanged { Every (λ i. ¬ Overlap T.order i.key (R.range range)) (C.items self.old) → C.items self.new ≡ C.items self.old }
+    {
+        self.map.remove(range)
+    }
+}

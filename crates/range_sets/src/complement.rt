@@ -1,0 +1,50 @@
+//! The keys that a set does not hold.
+ghost use Rattle.std.specs.Prelude.{IfOk};
+ghost use Rattle.range_algebra.specs.Range.{ClonesAreEqual};
+ghost use Rattle.range_sets.specs.Complements.{EqualGapsOf};
+ghost use Rattle.range_sets.specs.KeySets.{HoldsTheOthers, IsStoredSet};
+
+use crate::set::RangeSet;
+use range_algebra::any::AnyRange;
+use range_algebra::inner;
+use range_keys::traits::Measure;
+use range_map::inner::append::{append, reserve};
+use range_map::map::{MapError, RangeMap};
+use range_store::storage::{Item, Storage};
+
+impl<T: Measure + Clone, C: Storage<Item<AnyRange<T>, ()>>> RangeSet<T, C> {
+    /// A set of just the keys that this one does not hold: its ranges are the gaps of this one.
+    ///
+    /// Takes memory for its ranges, all at once, and for a clone of each bound; fails where that is
+    /// refused. Costs a step for each stored range, and no search.
+    ///
+    /// ```
+    /// let mut set: RangeSet<u8, VecStorage<_>> = RangeSet::new(rt.alloc());
+    /// set.insert(10..)?;
+    /// assert_eq!(rt; set.complement()?.len(), 10);
+    /// ```
+    pub fn complement(&self) -> Result<Self, MapError>
+        requires { ClonesAreEqual T.is_clone T.eq }
+        ensures held { IfOk result (λ others. HoldsTheOthers T.order (C.items self.now) (C.items others)) }
+        ensures gaps { IfOk result (λ others. EqualGapsOf T.order (C.items self.now) (C.items others)) }
+        ensures form { IfOk result (λ others. IsStoredSet T.order (C.items others)) }
+    {
+        self.in_form();
+        let mut others = RangeMap::new(self.alloc);
+        let most = match self.range_count().checked_add(1) {
+            Some(most) => most,
+            None => return Err(MapError::Memory),
+        };
+        reserve(&mut others, most)?;
+        let mut gaps = self.gaps();
+        while let Some(gap) = gaps.next() {
+            let range = gap.cloned()?;
+            inner::known(&range);
+            append(&mut others, range, ());
+        }
+        Ok(RangeSet {
+            map: others,
+            alloc: self.alloc,
+        })
+    }
+}

@@ -1,0 +1,125 @@
+//! A set of keys, kept as disjoint ranges.
+ghost use Rattle.std.specs.Prelude.{◌≡◌, ◌↔◌, ◌+◌, ◌≤◌, ◌++◌, [], length, IsTrue};
+ghost use Rattle.range_keys.specs.Order.{IsComplete};
+ghost use Rattle.range_algebra.specs.Range.{IsEmptyRange};
+ghost use Rattle.range_map.specs.FreeRanges.{AreGaps, IsHeldOnce, item_ranges};
+ghost use Rattle.range_map.specs.Lookups.{MeetsSome, BindsKeyOf};
+ghost use Rattle.range_sets.specs.KeySets.{HoldsKey, IsLeastCount, IsStoredSet};
+
+pub use crate::into_iter::IntoIter;
+pub use crate::iter::Iter;
+pub use crate::laws::complementing_twice_restores;
+use range_algebra::any::AnyRange;
+use range_algebra::range::AsRange;
+use range_keys::traits::{Measure, PartialEnum};
+use range_map::map::{self, RangeMap};
+use range_store::storage::{Item, Storage};
+use std::alloc::Global;
+use std::marker::Model;
+
+/// The gaps of a set that are left, in order: ranges over references to the keys that bound them.
+pub type Gaps<'a, T, C> = map::Gaps<'a, T, (), C>;
+
+/// A set of keys, kept as ranges: nonempty ones in order, each of which ends before the next one
+/// starts, with a place between.
+///
+/// A contract sees the container, and the stored ranges as `C.items`.
+#[derive(Drop)]
+pub struct RangeSet<T: PartialEnum, C: Storage<Item<AnyRange<T>, ()>>> {
+    pub(crate) map: RangeMap<T, (), C>,
+    pub(crate) alloc: Global,
+}
+
+impl<T: PartialEnum, C: Storage<Item<AnyRange<T>, ()>>> Model for RangeSet<T, C> {
+    ghost Value = { C };
+
+    ghost view = { λ s. s.map };
+}
+
+impl<T: PartialEnum, C: Storage<Item<AnyRange<T>, ()>>> RangeSet<T, C> {
+    /// A set without a key. Takes no memory.
+    pub fn new(alloc: Global) -> Self
+        ensures { C.items result ≡ [] }
+    {
+        RangeSet {
+            map: RangeMap::new(alloc),
+            alloc,
+        }
+    }
+
+    /// A set without a key. Takes no memory.
+    pub fn default(alloc: Global) -> Self
+        ensures { C.items result ≡ [] }
+    {
+        RangeSet::new(alloc)
+    }
+
+    /// Does nothing, and promises the form of what is stored.
+    pub(crate) fn in_form(&self)
+        ensures { IsStoredSet T.order (C.items self.now) }
+    {
+        let _items = self.map.iter();
+    }
+
+    /// How many ranges are stored. Takes no memory.
+    ///
+    /// Over keys that tell their neighbours and ends no list of ranges that holds the same keys has
+    /// fewer.
+    pub fn range_count(&self) -> usize
+        ensures value { result ≡ length (C.items self.now) }
+        ensures least { IsComplete T.order → IsLeastCount T.order (C.items self.now) result }
+    {
+        self.map.range_count()
+    }
+
+    /// Whether no range is stored. Takes no memory.
+    pub fn is_empty(&self) -> bool
+        ensures { IsTrue result ↔ C.items self.now ≡ [] }
+    {
+        self.map.is_empty()
+    }
+
+    /// Whether the key is in the set.
+    ///
+    /// Costs one search and one comparison more. Takes no memory.
+    pub fn contains(&self, key: T) -> bool
+        ensures { IsTrue result ↔ HoldsKey T.order (C.items self.now) key }
+    {
+        self.map.contains_key(key)
+    }
+
+    /// The stored ranges, in rising order. Takes no memory.
+    pub fn iter(&self) -> Iter<'_, T, C>
+        ensures ranges { result ≡ item_ranges (C.items self.now) }
+        ensures form { IsStoredSet T.order (C.items self.now) }
+    {
+        self.in_form();
+        Iter::new(self.map.iter())
+    }
+
+    /// The ranges that hold no key of the set, in rising order, each as wide as it goes and none
+    /// empty.
+    ///
+    /// Takes no memory. A walk over all gaps takes one step for each stored range.
+    pub fn gaps(&self) -> Gaps<'_, T, C>
+        ensures gaps { AreGaps T.order (C.items self.now) result }
+        ensures once { (k : T) → T.order.is_key k → IsHeldOnce T.order (item_ranges (C.items self.now) ++ result) k }
+        ensures few { length result ≤ length (C.items self.now) + 1 }
+    {
+        self.map.gaps()
+    }
+}
+
+impl<T: Measure, C: Storage<Item<AnyRange<T>, ()>>> RangeSet<T, C> {
+    /// Whether the range is nonempty and meets a stored one.
+    ///
+    /// It does wherever one of its keys is in the set; over keys that leave no gap, nowhere else.
+    /// Costs one search and one comparison more. Takes no memory.
+    pub fn intersects<R: AsRange<Item = T>>(&self, range: R) -> bool
+        ensures meets { IsTrue result ↔ (¬ IsEmptyRange T.order (R.range range)) × MeetsSome T.order (C.items self.now) (R.range range) }
+        ensures bound { BindsKeyOf T.order (C.items self.now) (R.range range) → IsTrue result }
+        ensures complete { IsComplete T.order → IsTrue result → BindsKeyOf T.order (C.items self.now) (R.range range) }
+    {
+        self.map.intersects(range)
+    }
+}
