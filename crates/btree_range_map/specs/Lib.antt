@@ -9,6 +9,7 @@ pub use Rattle.range_algebra.specs.Clones
 pub use Rattle.range_algebra.specs.Combined
 pub use Rattle.range_algebra.specs.Compared
 pub use Rattle.range_algebra.specs.Extremes
+pub use Rattle.range_algebra.specs.Intervals
 pub use Rattle.range_algebra.specs.Measures
 pub use Rattle.range_algebra.specs.Numbers
 pub use Rattle.range_algebra.specs.PartClones
@@ -21,12 +22,18 @@ pub use Rattle.range_store.specs.Holding
 pub use Rattle.range_store.specs.Places
 pub use Rattle.range_map.specs.Bindings
 pub use Rattle.range_map.specs.Frames
+pub use Rattle.range_map.specs.FreeRanges
 pub use Rattle.range_map.specs.History
 pub use Rattle.range_map.specs.Iterating
 pub use Rattle.range_map.specs.Lookups
+pub use Rattle.range_map.specs.Pieces
 pub use Rattle.range_map.specs.Ranges
 pub use Rattle.range_map.specs.Runs
 pub use Rattle.range_map.specs.Stored
+pub use Rattle.range_map.specs.Tagged
+pub use Rattle.range_sets.specs.Complements
+pub use Rattle.range_sets.specs.Extending
+pub use Rattle.range_sets.specs.KeySets
 -- The types that contracts name.
 pub use Rattle.range_algebra.specs.declared.any.AnyRange
 pub use Rattle.range_store.specs.declared.storage.Item

@@ -1,13 +1,16 @@
 //! Maps whose keys are gathered into ranges.
 //!
 //! A [`RangeMap`] binds each key of a range to one value. Ranges that touch and have equal values are
-//! kept as one, so a map stores no more ranges than its bindings need.
+//! kept as one, so a map stores no more ranges than its bindings need. A [`RangeSet`] is a set of keys,
+//! kept in the same way.
 #![tactic(auto)]
 
 pub mod btree;
 pub mod generic;
 pub mod range;
 pub mod storage;
+#[cfg(test)]
+mod tests;
 
 use btree::BoxStorage;
 pub use range::any::AnyRange;
@@ -23,5 +26,11 @@ use storage::Item;
 /// The container of a map that names none: a B-tree.
 pub type DefaultMapContainer<T> = BoxStorage<T>;
 
+/// The container of a set that names none: a B-tree.
+pub type DefaultSetContainer<T> = BoxStorage<T>;
+
 /// A map from ranges of keys to values, in the default container.
 pub type RangeMap<K, V> = generic::map::RangeMap<K, V, DefaultMapContainer<Item<AnyRange<K>, V>>>;
+
+/// A set of keys, in the default container.
+pub type RangeSet<K> = generic::set::RangeSet<K, DefaultSetContainer<Item<AnyRange<K>, ()>>>;

@@ -1,15 +1,15 @@
 -- How far a loop that writes answers has come.
 use Rattle.std.proofs.Common.{rules, arith, ◌≡◌, ◌≢◌, ℕ, ℤ, ◌+◌, ◌-◌, ◌<◌, ◌≤◌, length, drop, List, [], ◌∷◌, ◌++◌, ap, refl, sym, subst, ◌∙◌, append_assoc, true, false, Bool}
-use Rattle.std.specs.Prelude.{Option, None, Some, IfSome, IfNone, nat_eq, codes}
+use Rattle.std.specs.Prelude.{Option, None, Some, IfSome, IfNone, Result, Ok, Err, OnOk}
 use Rattle.std.specs.Io.KnownBytes.{Appends, Keeps}
 use Rattle.std.specs.Io.BufRead.{first_line, drop_through, take_through}
-use Rattle.std.specs.Ordering.{int_eq}
+use Rattle.std.specs.Str.{IsUtf8}
 use Rattle.btree_range_map.specs.AnyRange.{AnyRange}
 use Rattle.btree_range_map.specs.Item.{Item}
 use Rattle.btree_range_map.specs.Order.{KeyOrder}
 use Rattle.rangerun.specs.declared.command_line.CommandLine.{CommandLine}
 use Rattle.rangerun.specs.Grammar.{SpellsLine}
-use Rattle.rangerun.specs.Replies.{part_text, HasEnds, SpellsParts, SpellsAll, Writes}
+use Rattle.rangerun.specs.Replies.{SpellsEach, SpellsLines, Writes}
 use Rattle.rangerun.specs.Text.{line_content}
 use Rattle.rangerun.specs.Conversation.{Conversation, IsRead, Answers}
 use Rattle.rangerun.specs.Conversation.Conversation.{Ended, Answered}
@@ -37,43 +37,50 @@ appends_keeps (Some xs) (Some ys) (Some zs) x p q = q ∙ p
 pub writes_keeps : (a b c : Option (List ℕ)) (Fits : List ℕ → Type 0) → Writes a b Fits → Keeps b c → Writes a c Fits
 writes_keeps a b c Fits (text, fits, appended) kept = (text, fits, appends_keeps a b c text appended kept)
 
-module _ {K : Type 0} (order : KeyOrder K) (as_number : K → ℤ) where
-  -- the lines of the stored ranges before those that are left are written
-  pub record HasShown (all left : List (Item (AnyRange K) ℤ)) (before now : Option (List ℕ)) : Type 0 where
+pub on_ok_as : {A E : Type 0} (r : Result A E) (P Q : Type 0) → (P → Q) → OnOk r P → OnOk r Q
+on_ok_as (Ok x) P Q follows p = follows p
+on_ok_as (Err e) P Q follows p = tt
+
+module _ {X : Type 0} (SpellsOne : X → List ℕ → Type 0) where
+  -- the lines of those before the ones that are left are written
+  pub record HasShown (all left : List X) (before now : Option (List ℕ)) : Type 0 where
     pub written : List ℕ
     pub appended : Appends before now written
-    pub goes_on : (rest : List ℕ) → SpellsParts order as_number left rest → SpellsParts order as_number all (written ++ rest)
+    pub goes_on : (lines : List ℕ) → SpellsEach SpellsOne left lines → SpellsEach SpellsOne all (written ++ lines)
 
-  pub shown_none : (all : List (Item (AnyRange K) ℤ)) (known : Option (List ℕ)) → HasShown all all known known
-  shown_none all known = record { written = []; appended = appends_none known; goes_on = λ rest spelled. spelled }
+  pub shown_none : (all : List X) (known : Option (List ℕ)) → HasShown all all known known
+  shown_none all known = record { written = []; appended = appends_none known; goes_on = λ lines spelled. spelled }
 
-  pub shown_more : (all left : List (Item (AnyRange K) ℤ)) (item : Item (AnyRange K) ℤ) (before now next : Option (List ℕ)) (first last : ℤ) → HasShown all (item ∷ left) before now
-      → HasEnds order as_number item.key first last → Appends now next (part_text first last item.value) → HasShown all left before next
-  shown_more all left item before now next first last shown ends more = record {
-    written = shown.written ++ part_text first last item.value;
-    appended = appends_then before now next shown.written (part_text first last item.value) shown.appended more;
-    goes_on = λ rest spelled. subst (SpellsParts order as_number all) (sym (append_assoc shown.written (part_text first last item.value) rest))
-        (shown.goes_on (part_text first last item.value ++ rest) (first, last, rest, ends, spelled, refl));
+  pub shown_more : (all left : List X) (x : X) (before now next : Option (List ℕ)) → HasShown all (x ∷ left) before now → Writes now next (SpellsOne x) → HasShown all left before next
+  shown_more all left x before now next shown (line, spelled, more) = record {
+    written = shown.written ++ line;
+    appended = appends_then before now next shown.written line shown.appended more;
+    goes_on = λ lines rest. subst (SpellsEach SpellsOne all) (sym (append_assoc shown.written line lines)) (shown.goes_on (line ++ lines) (line, lines, spelled, rest, refl));
   }
 
-  pub shown_all : (all : List (Item (AnyRange K) ℤ)) (before now : Option (List ℕ)) → HasShown all [] before now → Writes before now (SpellsParts order as_number all)
-  shown_all all before now shown = (shown.written, subst (SpellsParts order as_number all) (append_nil shown.written) (shown.goes_on [] refl), shown.appended)
+  pub shown_all : (all : List X) (before now : Option (List ℕ)) → HasShown all [] before now → Writes before now (SpellsEach SpellsOne all)
+  shown_all all before now shown = (shown.written, subst (SpellsEach SpellsOne all) (append_nil shown.written) (shown.goes_on [] refl), shown.appended)
 
-  pub parts_are_all : (all : List (Item (AnyRange K) ℤ)) (text : List ℕ) → length all ≢ 0 → SpellsParts order as_number all text → SpellsAll order as_number all text
-  parts_are_all [] text some spelled = absurd (some refl)
-  parts_are_all (item ∷ items) text some spelled = spelled
+  -- the first line and then the others
+  pub shown_first : (x : X) (others : List X) (before now next : Option (List ℕ)) → Writes before now (SpellsOne x) → Writes now next (SpellsEach SpellsOne others) → Writes before next (SpellsEach SpellsOne (x ∷ others))
+  shown_first x others before now next (line, spelled, first) (lines, rest, more) = (line ++ lines, (line, lines, spelled, rest, refl), appends_then before now next line lines first more)
 
-  pub empty_is_all : (all : List (Item (AnyRange K) ℤ)) (text : List ℕ) → length all ≡ 0 → text ≡ codes "empty\n" → SpellsAll order as_number all text
-  empty_is_all [] text none e = e
-  empty_is_all (item ∷ items) text none e = absurd (omega (arith, none))
+  pub each_are_lines : (none : List ℕ) (all : List X) (text : List ℕ) → length all ≢ 0 → SpellsEach SpellsOne all text → SpellsLines SpellsOne none all text
+  each_are_lines none [] text some spelled = absurd (some refl)
+  each_are_lines none (x ∷ rest) text some spelled = spelled
 
+  pub none_are_lines : (none : List ℕ) (all : List X) (text : List ℕ) → length all ≡ 0 → text ≡ none → SpellsLines SpellsOne none all text
+  none_are_lines none [] text empty e = e
+  none_are_lines none (x ∷ rest) text empty e = absurd (omega (arith, empty))
+
+module _ {K : Type 0} (order : KeyOrder K) (as_number : K → ℤ) where
   -- the lines of the input before those that are left are answered
   pub record HasAnswered (input : List ℕ) (left before now : Option (List ℕ)) (items : List (Item (AnyRange K) ℤ)) : Type 0 where
     pub remaining : List ℕ
     pub left_is : left ≡ Some remaining
     pub written : List ℕ
     pub appended : Appends before now written
-    pub goes_on : (rest : List ℕ) → Conversation order as_number items remaining rest → Conversation order as_number [] input (written ++ rest)
+    pub goes_on : (more rest : List ℕ) → Conversation order as_number items remaining more rest → Conversation order as_number [] input (written ++ more) rest
 
   pub answered_none : (input known : Option (List ℕ)) (items : List (Item (AnyRange K) ℤ)) → items ≡ [] → IfSome input (λ bytes. HasAnswered bytes input known known items)
   answered_none None known items empty = tt
@@ -82,7 +89,7 @@ module _ {K : Type 0} (order : KeyOrder K) (as_number : K → ℤ) where
     left_is = refl;
     written = [];
     appended = appends_none known;
-    goes_on = λ rest held. subst (λ list. Conversation order as_number list bytes rest) empty held;
+    goes_on = λ more rest held. subst (λ list. Conversation order as_number list bytes more rest) empty held;
   }
 
   pub is_read : (line : List ℕ) (command : Option (CommandLine K)) → IfSome command (SpellsLine order.is_key as_number line) → IfNone command ((known : CommandLine K) → SpellsLine order.is_key as_number line known → ⊥) → IsRead order as_number line command
@@ -91,19 +98,29 @@ module _ {K : Type 0} (order : KeyOrder K) (as_number : K → ℤ) where
 
   pub answered_more : (input : List ℕ) (left later before now next : Option (List ℕ)) (items changed : List (Item (AnyRange K) ℤ)) (line : List ℕ) (command : Option (CommandLine K))
       → (answered : HasAnswered input left before now items) → answered.remaining ≢ [] → later ≡ Some (drop_through 10 answered.remaining) → line ≡ first_line answered.remaining
-      → IsRead order as_number line command → Writes now next (λ text. Answers order as_number items command text changed) → HasAnswered input later before next changed
-  answered_more input left later before now next items changed line command answered some later_is line_is read (text, answer, more) = record {
+      → IsUtf8 line → IsRead order as_number line command → Writes now next (λ text. Answers order as_number items command text changed) → HasAnswered input later before next changed
+  answered_more input left later before now next items changed line command answered some later_is line_is is_text read (text, answer, more) = record {
     remaining = drop_through 10 answered.remaining;
     left_is = later_is;
     written = answered.written ++ text;
     appended = appends_then before now next answered.written text answered.appended more;
-    goes_on = λ rest held. subst (Conversation order as_number [] input) (sym (append_assoc answered.written text rest))
-        (answered.goes_on (text ++ rest) (Answered items changed answered.remaining (text ++ rest) text rest command some (subst (λ l. IsRead order as_number l command) line_is read) answer held refl));
+    goes_on = λ others rest held. subst (λ all. Conversation order as_number [] input all rest) (sym (append_assoc answered.written text others))
+        (answered.goes_on (text ++ others) rest (Answered items changed answered.remaining (text ++ others) text others rest command some (subst IsUtf8 line_is is_text) (subst (λ l. IsRead order as_number l command) line_is read) answer held refl));
   }
 
-  pub answered_all : (input : List ℕ) (left before now : Option (List ℕ)) (items : List (Item (AnyRange K) ℤ)) → (answered : HasAnswered input left before now items) → answered.remaining ≡ [] → Writes before now (Conversation order as_number [] input)
-  answered_all input left before now items answered ended =
-      (answered.written, subst (Conversation order as_number [] input) (append_nil answered.written) (answered.goes_on [] (subst (λ bytes. Conversation order as_number items bytes []) (sym ended) (Ended items))), answered.appended)
+  -- what is written answers the lines before those that are left
+  pub answered_so_far : (input : List ℕ) (left before now : Option (List ℕ)) (items : List (Item (AnyRange K) ℤ)) → (answered : HasAnswered input left before now items) → Writes before now (λ text. Conversation order as_number [] input text answered.remaining)
+  answered_so_far input left before now items answered =
+      (answered.written, subst (λ text. Conversation order as_number [] input text answered.remaining) (append_nil answered.written) (answered.goes_on [] answered.remaining (Ended items answered.remaining)), answered.appended)
+
+  pub answered_all : (input : List ℕ) (left before now : Option (List ℕ)) (items : List (Item (AnyRange K) ℤ)) → (answered : HasAnswered input left before now items) → answered.remaining ≡ [] → Writes before now (λ text. Conversation order as_number [] input text [])
+  answered_all input left before now items answered ended = subst (λ rest. Writes before now (λ text. Conversation order as_number [] input text rest)) ended (answered_so_far input left before now items answered)
+
+module _ {K : Type 0} (order : KeyOrder K) (as_number : K → ℤ) where
+  pub stopped_at : (input left before now : Option (List ℕ)) (items : List (Item (AnyRange K) ℤ)) → IfSome input (λ bytes. HasAnswered order as_number bytes left before now items)
+      → IfSome input (λ bytes. (rest : List ℕ) × Writes before now (λ text. Conversation order as_number [] bytes text rest))
+  stopped_at None left before now items answered = tt
+  stopped_at (Some bytes) left before now items answered = (answered.remaining, answered_so_far order as_number bytes left before now items answered)
 
 pub if_some_as : {A : Type 0} (o : Option A) (P Q : A → Type 0) → ((x : A) → o ≡ Some x → P x → Q x) → IfSome o P → IfSome o Q
 if_some_as None P Q follows held = tt

@@ -1,6 +1,7 @@
 -- What a map answers to lines of text, from the first to the last.
 use Rattle.std.specs.Prelude.{◌≡◌, ◌≢◌, ℕ, ℤ, Option, None, Some, List, [], ◌++◌, codes}
 use Rattle.std.specs.Io.BufRead.{first_line, drop_through}
+use Rattle.std.specs.Str.{IsUtf8}
 use Rattle.std.specs.Ordering.{int_eq}
 use Rattle.btree_range_map.specs.AnyRange.{AnyRange}
 use Rattle.btree_range_map.specs.Item.{Item}
@@ -8,9 +9,10 @@ use Rattle.btree_range_map.specs.Order.{KeyOrder}
 use Rattle.btree_range_map.specs.Reply.{Reply}
 use Rattle.btree_range_map.specs.Runs.{IsStep}
 use Rattle.rangerun.specs.declared.command_line.CommandLine.{CommandLine}
-use Rattle.rangerun.specs.declared.command_line.CommandLine.TheVariants.{Run, Show}
+use Rattle.rangerun.specs.declared.command_line.CommandLine.TheVariants.{Run, Show, Gaps, Len}
 use Rattle.rangerun.specs.Grammar.{SpellsLine}
-use Rattle.rangerun.specs.Replies.{reply_text, SpellsAll}
+use Rattle.rangerun.specs.Replies.{SpellsReply, SpellsAll, SpellsGaps, SpellsLen}
+use Rattle.rangerun.specs.Tags.{IsAnswerOf}
 
 -- of keys, each with its number
 module _ {K : Type 0} (order : KeyOrder K) (as_number : K → ℤ) where
@@ -23,11 +25,13 @@ module _ {K : Type 0} (order : KeyOrder K) (as_number : K → ℤ) where
   abbrev pub Answers : List (Item (AnyRange K) ℤ) → Option (CommandLine K) → List ℕ → List (Item (AnyRange K) ℤ) → Type 0
   Answers items None text next = (text ≡ codes "bad line\n") × (next ≡ items)
   Answers items (Some Show) text next = SpellsAll order as_number items text × (next ≡ items)
-  Answers items (Some (Run command)) text next = (reply : Reply ℤ) × IsStep order int_eq items command reply next × (text ≡ reply_text reply)
+  Answers items (Some Gaps) text next = SpellsGaps order as_number items text × (next ≡ items)
+  Answers items (Some Len) text next = SpellsLen order as_number items text × (next ≡ items)
+  Answers items (Some (Run command)) text next = (reply : Reply K ℤ ℤ) × IsStep order int_eq IsAnswerOf items command reply next × SpellsReply order as_number reply text
 
-  -- the text that may answer the lines of the input over the stored list: one answer for each line, in order
-  pub data Conversation : List (Item (AnyRange K) ℤ) → List ℕ → List ℕ → Type 0 where
-    Ended : (items : List (Item (AnyRange K) ℤ)) → Conversation items [] []
-    Answered : (items next : List (Item (AnyRange K) ℤ)) (input text answer rest : List ℕ) (command : Option (CommandLine K))
-        → input ≢ [] → IsRead (first_line input) command → Answers items command answer next → Conversation next (drop_through 10 input) rest → text ≡ answer ++ rest
-        → Conversation items input text
+  -- the text that may answer the lines of the input before the rest of it, over the stored list: one answer for each line, in order; each line is text
+  pub data Conversation : List (Item (AnyRange K) ℤ) → List ℕ → List ℕ → List ℕ → Type 0 where
+    Ended : (items : List (Item (AnyRange K) ℤ)) (input : List ℕ) → Conversation items input [] input
+    Answered : (items next : List (Item (AnyRange K) ℤ)) (input text answer more rest : List ℕ) (command : Option (CommandLine K))
+        → input ≢ [] → IsUtf8 (first_line input) → IsRead (first_line input) command → Answers items command answer next → Conversation next (drop_through 10 input) more rest → text ≡ answer ++ more
+        → Conversation items input text rest

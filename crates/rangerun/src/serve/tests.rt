@@ -14,7 +14,27 @@ fn served(rt: &HostRuntime, word: &str, script: &[u8]) -> Result<(u8, Vec<u8>, V
 
 #[test]
 fn answers_every_line(rt: HostRuntime) -> Result<(), Fail> {
-    let rows: [(&str, &[u8], &[u8]); 11] = [
+    let rows: [(&str, &[u8], &[u8]); 18] = [
+        (
+            "u8",
+            b"insert 10..20 1\ngaps\nlen\ninsert ... 1\ngaps\nlen\ngap\nlen \n",
+            b"ok\n0..=9\n20..=255\n10\nok\nfull\n256\nbad line\nbad line\n",
+        ),
+        (
+            "i32",
+            b"len\ngaps\ninsert ...0 1\ninsert 0... 2\ninsert 0..=0 3\nlen\ngaps\nremove 7..9\ngaps\n",
+            b"0\n-2147483648..=2147483647\nok\nok\nok\n4294967296\nfull\nok\n7..=8\n",
+        ),
+        (
+            "i32",
+            b"insert 0..20 1\ntry 20..25 9\ntry 30..=31 -4\ntry 5..5 2\ntry ...\nmeets 20..30\nmeets 19..20\nmeets 5..5\nhas 19\nhas 20\nhas\n",
+            b"ok\nconnected 20..=24 9\nok\nok\nbad line\nfalse\ntrue\nfalse\ntrue\nfalse\nbad line\n",
+        ),
+        (
+            "u8",
+            b"insert 0..255 1\ntry 254... 2\ntry  1..2 2\nshow\ntries\nmeet 1..2\n",
+            b"ok\nconnected 255..=255 2\nbad line\n0..=254 1\nbad line\nbad line\n",
+        ),
         (
             "i32",
             b"insert 3... 1\ninsert 2...4 1\ninsert 0...=2 1\ncount\nshow\nremove 8..3\nremove 5..5\ncount\n",
@@ -53,6 +73,21 @@ fn answers_every_line(rt: HostRuntime) -> Result<(), Fail> {
             "i32",
             b"levels\ncount 1\n count\nCount\ninsert 0..5\ninsert 0..5 9223372036854775808\n",
             b"bad line\nbad line\nbad line\nbad line\nbad line\nbad line\n",
+        ),
+        (
+            "i32",
+            b"insert 0..5 1\ninsert 10..15 2\nupdate 0..20 fail 1 7\ncount\nupdate 0..20 fill 9\nshow\ntry 20..25 9\nmeets 20..30\nhas 19\nupdate 0..20 clear\nshow\n",
+            b"ok\nok\nfault 7\n2\nok\n0..=4 1\n5..=9 9\n10..=14 2\n15..=19 9\nconnected 20..=24 9\nfalse\ntrue\nok\nempty\n",
+        ),
+        (
+            "u8",
+            b"update 0..5 set 3\nupdate 5..3 set 4\nupdate ...2 set -8\nshow\nupdate ... fail 4 7\nupdate 2... fail -8 7\nupdate ... fail 3 -7\nshow\n",
+            b"ok\nok\nok\n0..=1 -8\n2..=4 3\nok\nok\nfault -7\n0..=1 -8\n2..=4 3\n",
+        ),
+        (
+            "u8",
+            b"update\nupdate 0..5\nupdate 0..5 set\nupdate 0..5 clear \nupdate 0..5 fail 1\nupdate 0..5 fail 1 2 3\nupdate 0..5 fill +1\nupdate clear\nupdate 0..5 put 1\n",
+            b"bad line\nbad line\nbad line\nbad line\nbad line\nbad line\nbad line\nbad line\nbad line\n",
         ),
     ];
     for (word, script, replies) in rows {
@@ -171,12 +206,17 @@ fn stops_where_a_stream_fails(rt: HostRuntime) -> Result<(), Fail> {
 /// Where an allocation is refused, the reply says so, the map is as before, and serving goes on.
 #[test]
 fn goes_on_after_a_refusal(rt: HostRuntime) -> Result<(), Fail> {
-    let script = b"insert 0..9 1\ninsert 3..5 2\ncount\n";
-    let (status, out, _err) = served(&rt, "u8", script)?;
+    let scripts: [&[u8]; 2] = [
+        b"insert 0..9 1\ninsert 3..5 2\ncount\n",
+        b"insert 0..9 1\nupdate 3..5 set 2\ncount\n",
+    ];
     let expected: [&[u8]; 3] = [b"ok\nok\n3\n", b"memory\nok\n1\n", b"ok\nmemory\n1\n"];
-    assert!(rt;
-        status == 1 || expected.iter().any(|replies| *replies == out.as_slice()),
-        "{out:?}"
-    );
+    for script in scripts {
+        let (status, out, _err) = served(&rt, "u8", script)?;
+        assert!(rt;
+            status == 1 || expected.iter().any(|replies| *replies == out.as_slice()),
+            "{out:?}"
+        );
+    }
     Ok(())
 }

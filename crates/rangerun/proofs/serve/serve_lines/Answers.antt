@@ -1,11 +1,12 @@
 use Rattle.std.proofs.Common.{◌≡◌, ◌≢◌, ◌∷◌, ◌++◌, ℕ, subst, ℤ, List, [], rules, arith, ◌∙◌, sym, ap, length}
 use Rattle.std.specs.Prelude.{Some, IfSome}
+use Rattle.std.specs.Str.{IsUtf8}
 use Rattle.std.specs.Io.BufRead.{first_line, drop_through, take_through}
 use Rattle.rangerun.specs.Text.{line_content}
 use Rattle.std.specs.Io.KnownBytes.{IsAtEnd}
 use Rattle.rangerun.specs.Replies.{Writes}
 use Rattle.rangerun.specs.Conversation.{Conversation, Answers}
-use Rattle.rangerun.proofs.Progress.{HasAnswered, answered_more, answered_all, is_read, if_some_as, line_of, none_of_none, first_line_of}
+use Rattle.rangerun.proofs.Progress.{HasAnswered, answered_more, answered_all, is_read, if_some_as, stopped_at, line_of, none_of_none, first_line_of}
 use Rattle.rangerun.proofs.serve.serve_lines.Goals as goal
 
 pub returns-then-count-eq0-clause-answered : goal.returns-then-count-eq0-clause-answered
@@ -16,7 +17,7 @@ returns-then-count-eq0-clause-answered g c =
     let before = g.W.Write.contents c.args.out.now in
     let now = g.W.Write.contents c.loop.out in
     let items = g.C.Storage.items c.loop.map in
-    if_some_as (g.R.Read.remaining c.args.input.now) (λ bytes. HasAnswered order as_number bytes left before now items) (λ bytes. Writes before now (Conversation order as_number [] bytes))
+    if_some_as (g.R.Read.remaining c.args.input.now) (λ bytes. HasAnswered order as_number bytes left before now items) (λ bytes. Writes before now (λ text. Conversation order as_number [] bytes text []))
     (λ bytes known answered. answered_all order as_number bytes left before now items answered (subst IsAtEnd answered.left_is (c.in-Ok.ensures.end c.if-count-eq0.true)))
     c.loop.invariant
 
@@ -42,6 +43,15 @@ loop-preserved g c =
     c.if-count-eq0.false (omega (arith, none, counted, c.read_until.new.buf.ok)) in
     let line_is : c.in-Ok-from_utf8.text.now ≡ first_line answered.remaining =
     first_line_of c.in-Ok-from_utf8.text.now c.as_slice.result.now answered.remaining (c.in-Ok-from_utf8.ensures.cases.0 ∙ c.without_line_end.ensures) (c.as_slice.ensures.value ∙ read) in
-    answered_more order as_number bytes left later before now next items changed c.in-Ok-from_utf8.text.now c.parse-command.result answered some rest_read line_is
+    answered_more order as_number bytes left later before now next items changed c.in-Ok-from_utf8.text.now c.parse-command.result answered some rest_read line_is (subst IsUtf8 (sym c.in-Ok-from_utf8.ensures.cases.0) c.in-Ok-from_utf8.ensures.cases.1)
     (is_read order as_number c.in-Ok-from_utf8.text.now c.parse-command.result c.parse-command.ensures.found c.parse-command.ensures.none) c.in-Ok-answer_line.ensures)
     c.loop.invariant
+
+pub returns-in_default-clause-unread : goal.returns-in_default-clause-unread
+returns-in_default-clause-unread g c = λ e. stopped_at g.K.MaybeBounded.order g.K.SpelledKey.as_number (g.R.Read.remaining c.args.input.now) (g.R.Read.remaining c.loop.input) (g.W.Write.contents c.args.out.now) (g.W.Write.contents c.loop.out) (g.C.Storage.items c.loop.map) c.loop.invariant
+
+pub returns-in_default-from_utf8-clause-unread : goal.returns-in_default-from_utf8-clause-unread
+returns-in_default-from_utf8-clause-unread g c = λ e. stopped_at g.K.MaybeBounded.order g.K.SpelledKey.as_number (g.R.Read.remaining c.args.input.now) (g.R.Read.remaining c.loop.input) (g.W.Write.contents c.args.out.now) (g.W.Write.contents c.loop.out) (g.C.Storage.items c.loop.map) c.loop.invariant
+
+pub returns-clause-unread : goal.returns-clause-unread
+returns-clause-unread g c = λ e. stopped_at g.K.MaybeBounded.order g.K.SpelledKey.as_number (g.R.Read.remaining c.args.input.now) (g.R.Read.remaining c.loop.input) (g.W.Write.contents c.args.out.now) (g.W.Write.contents c.loop.out) (g.C.Storage.items c.loop.map) c.loop.invariant

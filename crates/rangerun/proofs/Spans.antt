@@ -1,0 +1,35 @@
+-- Gaps, and ranges of cloned keys.
+use Rattle.std.proofs.Common.{◌≡◌, List, [], ◌∷◌, ap}
+use Rattle.std.specs.Prelude.{None}
+use Rattle.std.specs.declared.ops.Bound.{Bound}
+use Rattle.std.specs.declared.ops.Bound.TheVariants.{Included, Excluded, Unbounded}
+use Rattle.btree_range_map.specs.AnyRange.{AnyRange}
+use Rattle.btree_range_map.specs.Item.{Item}
+use Rattle.btree_range_map.specs.Clones.{IsBoundClone, IsRangeClone}
+use Rattle.btree_range_map.specs.FreeRanges.{full_range}
+use Rattle.btree_range_map.specs.Intervals.{Every}
+use Rattle.btree_range_map.specs.Order.{KeyOrder}
+use Rattle.btree_range_map.specs.Pieces.{IsPiece}
+use Rattle.btree_range_map.specs.Range.{IsEmptyRange}
+
+module _ {K : Type 0} (is_clone : K → K → Type 0) (same : (x y : K) → is_clone x y → x ≡ y) where
+  bound_same : (b c : Bound K) → IsBoundClone is_clone b c → b ≡ c
+  bound_same (Included a) (Included b) h = ap (λ k. Included k) (same a b h)
+  bound_same (Excluded a) (Excluded b) h = ap (λ k. Excluded k) (same a b h)
+  bound_same Unbounded Unbounded h = λ i. Unbounded
+  bound_same (Included a) (Excluded b) h = absurd h
+  bound_same (Included a) Unbounded h = absurd h
+  bound_same (Excluded a) (Included b) h = absurd h
+  bound_same (Excluded a) Unbounded h = absurd h
+  bound_same Unbounded (Included b) h = absurd h
+  bound_same Unbounded (Excluded b) h = absurd h
+
+  pub clone_same : (r s : AnyRange K) → IsRangeClone is_clone r s → r ≡ s
+  clone_same r s h =
+      let starts = bound_same r.start s.start h.0 in
+      let ends = bound_same r.end s.end h.1 in
+      λ i. record { start = starts i; end = ends i }
+
+pub gaps_nonempty : {K V : Type 0} (order : KeyOrder K) (items : List (Item (AnyRange K) V)) (gaps : List (AnyRange K)) → Every (λ g. IsPiece order items full_range g None) gaps → Every (λ g. ¬ IsEmptyRange order g) gaps
+gaps_nonempty order items [] pieces = tt
+gaps_nonempty order items (g ∷ gaps) pieces = (pieces.0.0.nonempty, gaps_nonempty order items gaps pieces.1)
