@@ -32,6 +32,7 @@ pub mod Scans
 pub mod Seaming
 pub mod Searching
 pub mod Separating
+pub mod SetClones
 pub mod Splicing
 pub mod StoredLists
 pub mod Updating
