@@ -8,7 +8,7 @@ use Rattle.range_map.specs.Runs.{IsStep, IsRun, HasNoUpdate}
 use Rattle.range_map.specs.declared.command.Command.{Command}
 use Rattle.range_map.specs.declared.command.Command.TheVariants.{Insert, InsertDisconnected, Remove, Update, Get, Contains, Intersects, Count}
 use Rattle.range_map.specs.declared.command.Reply.{Reply}
-use Rattle.range_map.specs.declared.command.Reply.TheVariants.{Done, Memory, Connected, Closure, Value, Truth, Count as Counted}
+use Rattle.range_map.specs.declared.command.Reply.TheVariants.{Done, Memory, Connected, Value, Truth, Count as Counted}
 
 module _ {K : Type 0} (order : KeyOrder K) {V : Type 0} (same : V → V → Bool) {T E : Type 0} (may : T → Option V → Result (Option V) E → Type 0) where
   -- a list that stays has no more ranges
