@@ -10,6 +10,7 @@ pub mod Edging
 pub mod Endings
 pub mod Extents
 pub mod FewGaps
+pub mod FewRanges
 pub mod Filling
 pub mod Forms
 pub mod Found

@@ -1,9 +1,9 @@
 //! Lists of commands.
-ghost use Rattle.std.specs.Prelude.{◌≡◌, OnOk, OnErr, MatchResult, IfOk, Option, Some};
+ghost use Rattle.std.specs.Prelude.{◌≡◌, ◌+◌, ◌*◌, ◌≤◌, length, OnOk, OnErr, MatchResult, IfOk, Option, Some};
 ghost use Rattle.std.specs.Option.{option_copied};
 ghost use Rattle.range_algebra.specs.Range.{ClonesAreEqual};
 ghost use Rattle.range_map.specs.Bindings.{Binds, IsBound};
-ghost use Rattle.range_map.specs.Runs.{IsStep, IsRun};
+ghost use Rattle.range_map.specs.Runs.{IsStep, IsRun, HasNoUpdate};
 ghost use Rattle.range_map.specs.History.{BindOver};
 ghost use Rattle.range_map.specs.Tagged.{MayAnswerTo, MayBeAskedAll};
 ghost use Rattle.range_map.specs.declared.command.Command.TheVariants.{Update};
@@ -165,6 +165,7 @@ pub fn run<
     requires callable { MayBeAskedAll F.Fn f.now }
     ensures chain { IfOk result (λ replies. IsRun K.order V.eq (MayAnswerTo F.Fn f.now) (C.items map.old) commands.items replies.items (C.items map.new)) }
     ensures history { IfOk result (λ replies. (k : K) → K.order.is_key k → (b : Option V) → Binds K.order V.eq (C.items map.new) k b → BindOver K.order V.eq (MayAnswerTo F.Fn f.now) k (λ u. Binds K.order V.eq (C.items map.old) k u) commands.items replies.items b) }
+    ensures few { HasNoUpdate commands.items → length (C.items map.new) ≤ length (C.items map.old) + 2 * length commands.items }
     ensures refused { OnErr result (C.items map.new ≡ C.items map.old) }
 {
     let mut replies = Vec::new(alloc);

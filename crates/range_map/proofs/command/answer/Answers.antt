@@ -10,6 +10,7 @@ returns-in-Ok-remove g c =
     rw c.in-Remove.is record {
       unbound = done.unbound;
       form = done.form;
+      few = done.few;
       empty = done.empty_unchanged;
       unmet = λ unmet. done.unmet_unchanged (meets_none g.K.MaybeBounded.order items c.in-Remove.range unmet);
     }
@@ -32,6 +33,7 @@ returns-in-Ok-insert_disconnected g c =
       record {
         bound = done.bound;
         form = done.form;
+        few = done.few;
         empty = done.empty_unchanged;
       },
     )

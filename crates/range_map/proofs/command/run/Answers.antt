@@ -3,6 +3,7 @@ use Rattle.range_map.specs.Bindings.{Binds}
 use Rattle.range_map.specs.Tagged.{MayAnswerTo}
 use Rattle.range_map.proofs.Replies.{one_more}
 use Rattle.range_map.proofs.Histories.{run_binds, ended}
+use Rattle.range_map.proofs.FewRanges.{few_more}
 use Rattle.range_map.proofs.command.run.Goals as goal
 
 pub loop-command-preserved : goal.loop-command-preserved
@@ -27,3 +28,11 @@ returns-clause-history g c = λ k key b h.
     let none : length rest.items ≡ 0 = omega (arith, rest.ok.0, c.in-None.ensures.steps.0) in
     let all = ended c.loop-command.yielded rest.items c.args.commands.items c.loop-command.invariant.left none in
     rw (← all) (run_binds order g.met.K.PartialEnum.lawful g.V.PartialEq.eq g.met.V.Eq.laws (MayAnswerTo g.F.Fn c.args.f.now) k key items (g.C.Storage.items c.loop-command.map) (λ u. Binds order g.V.PartialEq.eq items k u) c.loop-command.yielded c.loop-command.replies.items b (λ u t. t) c.loop-command.invariant.chain h)
+
+pub returns-clause-few : goal.returns-clause-few
+returns-clause-few g c = λ none_updates.
+    let order = g.K.MaybeBounded.order in
+    let rest = c.loop-command.command-iterator.rest in
+    let none : length rest.items ≡ 0 = omega (arith, rest.ok.0, c.in-None.ensures.steps.0) in
+    let all = ended c.loop-command.yielded rest.items c.args.commands.items c.loop-command.invariant.left none in
+    few_more order g.V.PartialEq.eq (MayAnswerTo g.F.Fn c.args.f.now) (g.C.Storage.items c.args.map.now) (g.C.Storage.items c.loop-command.map) c.args.commands.items c.loop-command.replies.items (rw (← all) c.loop-command.invariant.chain) none_updates
