@@ -1,28 +1,20 @@
 -- Which keys the parts of ranges hold that are cut by one another.
-use Rattle.std.proofs.Common.{◌≡◌, refl, sym, ap, ◌∙◌, ◌↔◌, true, false, Bool, Option, Some, None, ◌⊎◌, inl, inr, if◌then◌else◌}
-use Rattle.std.specs.Option.{option_map, option_or}
+use Rattle.std.proofs.Common.{◌≡◌, refl, ◌↔◌, true, false, Bool, Option, Some, None, ◌⊎◌, inl, inr, if◌then◌else◌}
 use Rattle.std.specs.declared.ops.Bound.{Bound}
 use Rattle.std.specs.declared.ops.Bound.TheVariants.{Included, Excluded, Unbounded}
 use Rattle.std.specs.declared.cmp.Ordering.{Ordering}
 use Rattle.std.specs.declared.cmp.Ordering.TheVariants.{Less, Equal, Greater}
-use Rattle.std.specs.Ordering.{is_lt, is_gt}
+use Rattle.std.specs.Ordering.{is_gt}
 use Rattle.range_keys.specs.Order.{KeyOrder, IsLawful, Below, NotAbove}
-use Rattle.range_keys.specs.Position.{start_position, end_position, position_cmp}
-use Rattle.range_keys.specs.PositionOrder.{position_total}
-use Rattle.range_keys.specs.declared.inner.position.Position.{Position}
-use Rattle.range_keys.specs.declared.inner.position.Position.TheVariants.{Beside}
-use Rattle.range_keys.specs.declared.inner.position.Side.TheVariants.{At}
+use Rattle.range_keys.specs.Position.{start_position, end_position}
 use Rattle.range_algebra.specs.declared.any.AnyRange.{AnyRange}
-use Rattle.range_algebra.specs.declared.range.parts.Difference.{Difference}
-use Rattle.range_algebra.specs.declared.range.parts.Difference.TheVariants.{Before, After, Split, Empty}
-use Rattle.range_algebra.specs.Intervals.{Le, Lt}
-use Rattle.range_algebra.specs.Orders.{le_refl, lt_le, eq_le, eq_ge, le_trans, lt_not_le, cases, not_le, not_lt, lt_le_trans, le_lt_trans, lt_trans}
-use Rattle.range_algebra.specs.Range.{StartHolds, EndHolds, Holds, IsEmptyRange, IsKnownBound, IsKnownRange, IsKeyless}
+use Rattle.range_algebra.specs.declared.range.parts.Difference.TheVariants.{Before, Empty}
+use Rattle.range_algebra.specs.Orders.{le_trans, lt_not_le, cases, not_le, not_lt, lt_le_trans, le_lt_trans}
+use Rattle.range_algebra.specs.Range.{StartHolds, EndHolds, Holds, IsEmptyRange}
 use Rattle.range_algebra.specs.Compared.{inverted, range_ordering, matches}
-use Rattle.range_algebra.specs.Combined.{later_start, earlier_end, common}
-use Rattle.range_algebra.specs.Relations.{AreBelow}
+use Rattle.range_algebra.specs.Combined.{later_start, earlier_end}
 use Rattle.range_algebra.specs.Parts.{is_empty_range, unless_empty, part_to, part_from, part_before, part_after, pieces, difference, DifferenceHolds, LieRound, RangeHolds}
-use Rattle.range_algebra.proofs.Holding.{start_holds, end_holds, empty_is_keyless}
+use Rattle.range_algebra.proofs.Holding.{empty_is_keyless}
 use Rattle.range_algebra.proofs.Commons.{places, start_both, end_both}
 
 pub gt_is : (o : Ordering) → is_gt o ≡ true → o ≡ Greater

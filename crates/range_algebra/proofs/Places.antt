@@ -1,11 +1,11 @@
 -- What lies below what, by the laws of the keys.
-use Rattle.std.proofs.Common.{◌≡◌, refl, sym, ap, ◌∙◌, ◌↔◌, Option, Some, None, Bool, true, false, ◌⊎◌, inl, inr}
+use Rattle.std.proofs.Common.{◌≡◌, refl, ap, ◌↔◌, Option, Some, None, false}
 use Rattle.std.specs.declared.ops.Bound.{Bound}
 use Rattle.std.specs.declared.ops.Bound.TheVariants.{Included, Excluded, Unbounded}
 use Rattle.std.specs.declared.cmp.Ordering.{Ordering}
 use Rattle.std.specs.declared.cmp.Ordering.TheVariants.{Less, Equal, Greater}
-use Rattle.std.specs.Ordering.{ordering_then, ordering_reverse, is_gt, is_eq, is_lt}
-use Rattle.std.specs.Cmp.{alike_right, tied_back, tied_itself, upto}
+use Rattle.std.specs.Ordering.{ordering_then, is_gt}
+use Rattle.std.specs.Cmp.{tied_itself}
 use Rattle.range_keys.specs.Order.{KeyOrder, IsLawful, Below, NotAbove, Tells, SameAnswer}
 use Rattle.range_keys.specs.Position.{start_position, end_position, position_cmp, at_told}
 use Rattle.range_keys.specs.PositionOrder.{position_total}
@@ -13,11 +13,11 @@ use Rattle.range_keys.specs.declared.inner.position.Position.{Position}
 use Rattle.range_keys.specs.declared.inner.position.Position.TheVariants.{MinusInfinity, Beside, PlusInfinity}
 use Rattle.range_keys.specs.declared.inner.position.Side.TheVariants.{Before, At, After}
 use Rattle.range_algebra.specs.declared.any.AnyRange.{AnyRange}
-use Rattle.range_algebra.specs.Range.{Holds, IsKnownBound, IsKnownRange, IsEmptyRange}
-use Rattle.range_algebra.specs.Compared.{inverted, start_is_at, starts_at_end}
+use Rattle.range_algebra.specs.Range.{Holds, IsKnownBound, IsKnownRange}
+use Rattle.range_algebra.specs.Compared.{inverted}
 use Rattle.range_algebra.proofs.Holding.{holds_by_position}
 use Rattle.range_algebra.specs.Intervals.{Le, Lt}
-use Rattle.range_algebra.specs.Orders.{le_refl, lt_le, eq_le, eq_ge, le_trans, lt_not_le, cases, not_le, not_lt, lt_le_trans, le_lt_trans, lt_trans, both}
+use Rattle.range_algebra.specs.Orders.{lt_not_le, not_le, not_lt, le_lt_trans, both}
 use Rattle.range_algebra.specs.Cuts.{past, lower, upper}
 
 then_greater : (o : Ordering) → is_gt (ordering_then o Greater) ≡ false ↔ o ≡ Less

@@ -1,32 +1,30 @@
 -- The parts of two ranges: together the keys of both, in order.
-use Rattle.std.proofs.Common.{◌≡◌, refl, sym, ap, ◌∙◌, ◌↔◌, true, false, Bool, Option, Some, None, ◌⊎◌, inl, inr, if◌then◌else◌}
+use Rattle.std.proofs.Common.{◌≡◌, refl, ◌↔◌, true, false, Bool, Option, Some, None, ◌⊎◌, inl, inr, if◌then◌else◌}
 use Rattle.std.specs.Option.{option_map, option_or}
 use Rattle.std.specs.declared.ops.Bound.{Bound}
-use Rattle.std.specs.declared.ops.Bound.TheVariants.{Included, Excluded, Unbounded}
 use Rattle.std.specs.declared.cmp.Ordering.{Ordering}
 use Rattle.std.specs.declared.cmp.Ordering.TheVariants.{Less, Equal, Greater}
-use Rattle.std.specs.Ordering.{is_lt, is_gt, ordering_then}
-use Rattle.range_keys.specs.Order.{KeyOrder, IsLawful, Below, NotAbove}
+use Rattle.std.specs.Ordering.{is_gt, ordering_then}
+use Rattle.range_keys.specs.Order.{KeyOrder, IsLawful, Below}
 use Rattle.range_keys.specs.Position.{start_position, end_position, position_cmp}
 use Rattle.range_keys.specs.PositionOrder.{position_total}
 use Rattle.range_keys.specs.declared.inner.position.Position.{Position}
 use Rattle.range_keys.specs.declared.inner.position.Position.TheVariants.{Beside}
 use Rattle.range_keys.specs.declared.inner.position.Side.TheVariants.{At}
 use Rattle.range_algebra.specs.declared.any.AnyRange.{AnyRange}
-use Rattle.range_algebra.specs.declared.range.parts.Product.{Product}
 use Rattle.range_algebra.specs.declared.range.parts.ProductArg.{ProductArg}
 use Rattle.range_algebra.specs.declared.range.parts.ProductArg.TheVariants.{Subject, Object}
 use Rattle.range_algebra.specs.Intervals.{Le, Lt}
-use Rattle.range_algebra.specs.Orders.{le_refl, lt_le, eq_le, eq_ge, le_trans, lt_not_le, cases, not_le, not_lt, lt_le_trans, le_lt_trans, lt_trans}
-use Rattle.range_algebra.specs.Range.{StartHolds, EndHolds, Holds, IsEmptyRange, IsKnownBound, IsKnownRange, IsKeyless}
+use Rattle.range_algebra.specs.Orders.{eq_le, le_trans, lt_not_le, not_le, lt_le_trans, le_lt_trans, lt_trans}
+use Rattle.range_algebra.specs.Range.{StartHolds, EndHolds, Holds, IsKnownBound, IsKnownRange, IsKeyless}
 use Rattle.range_algebra.specs.Compared.{inverted}
 use Rattle.range_algebra.specs.Combined.{later_start, earlier_end, common}
 use Rattle.range_algebra.specs.Cuts.{past}
-use Rattle.range_algebra.specs.Parts.{is_empty_range, unless_empty, part_to, part_from, part_before, part_after, product, full_product, RangeHolds, PartHolds, IsOfSubject, IsOfObject, AreRising, IsProduct}
+use Rattle.range_algebra.specs.Parts.{is_empty_range, unless_empty, part_to, part_from, part_before, part_after, product, full_product, RangeHolds, PartHolds, IsOfSubject, IsOfObject, IsProduct}
 use Rattle.range_algebra.proofs.Holding.{start_holds, end_holds, empty_is_keyless}
 use Rattle.range_algebra.proofs.Places.{reaches, turned, turned_back, turned_known}
-use Rattle.range_algebra.proofs.Commons.{places, later_over, earlier_under, common_holds}
-use Rattle.range_algebra.proofs.Pieces.{gt_is, start_decided, end_decided, start_splits, end_splits, before_holds, after_holds, unless_holds, before_below, after_above}
+use Rattle.range_algebra.proofs.Commons.{later_over, earlier_under, common_holds}
+use Rattle.range_algebra.proofs.Pieces.{gt_is, start_decided, end_decided, before_holds, after_holds, unless_holds, before_below, after_above}
 
 then_equal : (o : Ordering) → ordering_then o Equal ≡ Less → o ≡ Less
 then_equal Less h = refl

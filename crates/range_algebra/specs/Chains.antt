@@ -1,11 +1,10 @@
 -- Items over intervals of places, each before the next, and touching only beside another value.
-use Rattle.std.proofs.Common.{◌≡◌, refl, sym, ap, ◌∙◌, Bool, false, true, List, [], ◌∷◌, ◌++◌, ◌⊎◌, inl, inr}
+use Rattle.std.proofs.Common.{◌≡◌, ◌∙◌, Bool, true, List, [], ◌∷◌, ◌++◌, ◌⊎◌, inl, inr}
 use Rattle.std.specs.declared.cmp.Ordering.{Ordering}
-use Rattle.std.specs.declared.cmp.Ordering.TheVariants.{Less, Equal, Greater}
-use Rattle.std.specs.Ordering.{is_gt}
+use Rattle.std.specs.declared.cmp.Ordering.TheVariants.{Equal}
 use Rattle.std.specs.Cmp.{IsTotalOrder, IsEquivalence}
 use Rattle.range_algebra.specs.Intervals.{Le, Lt, Any, Every}
-use Rattle.range_algebra.specs.Orders.{le_refl, lt_le, eq_le, eq_ge, le_trans, lt_not_le, cases, not_le, not_lt, lt_le_trans, le_lt_trans, lt_trans}
+use Rattle.range_algebra.specs.Orders.{le_refl, lt_le, eq_le, le_trans, lt_not_le, lt_le_trans, le_lt_trans}
 
 pub any_left : {X : Type 0} (P : X → Type 0) (xs ys : List X) → Any P xs → Any P (xs ++ ys)
 any_left P [] ys h = absurd h

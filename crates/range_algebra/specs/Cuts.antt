@@ -1,6 +1,6 @@
 -- A range as the places from a lower one up to and without an upper one.
 use Rattle.range_keys.specs.Order.{KeyOrder}
-use Rattle.range_keys.specs.Position.{start_position, end_position, position_cmp, at_told}
+use Rattle.range_keys.specs.Position.{start_position, end_position, at_told}
 use Rattle.range_keys.specs.declared.inner.position.Position.{Position}
 use Rattle.range_keys.specs.declared.inner.position.Position.TheVariants.{MinusInfinity, Beside, PlusInfinity}
 use Rattle.range_keys.specs.declared.inner.position.Side.TheVariants.{Before, At, After}

@@ -1,12 +1,11 @@
 -- What a new item joins, and the chain with it.
-use Rattle.std.proofs.Common.{◌≡◌, refl, sym, ap, ◌∙◌, Bool, false, true, List, [], ◌∷◌, ◌++◌, ◌⊎◌, inl, inr, ◌↔◌}
+use Rattle.std.proofs.Common.{◌≡◌, sym, ◌∙◌, Bool, true, List, [], ◌∷◌, ◌++◌, ◌⊎◌, inl, inr, ◌↔◌}
 use Rattle.std.specs.declared.cmp.Ordering.{Ordering}
-use Rattle.std.specs.declared.cmp.Ordering.TheVariants.{Less, Equal, Greater}
-use Rattle.std.specs.Ordering.{is_gt}
-use Rattle.std.specs.Cmp.{IsTotalOrder, IsEquivalence, tied_back}
-use Rattle.range_algebra.specs.Intervals.{Le, Lt, Any, Every}
-use Rattle.range_algebra.specs.Orders.{le_refl, lt_le, eq_le, eq_ge, le_trans, lt_not_le, cases, not_le, not_lt, lt_le_trans, le_lt_trans, lt_trans}
-use Rattle.range_algebra.specs.Chains.{any_left, any_right, any_split, any_none, every_weaker, every_append, every_left, every_right, Good, Leads, Trails, Follows, IsChain, Held, Has, Respects, back, chain_left, chain_right, chain_tail, follows_above, chain_above, strictly_leads, strictly_trails, chain_before, join, join_apart, follows_like}
+use Rattle.std.specs.declared.cmp.Ordering.TheVariants.{Equal}
+use Rattle.std.specs.Cmp.{IsTotalOrder, IsEquivalence}
+use Rattle.range_algebra.specs.Intervals.{Le, Lt, Every}
+use Rattle.range_algebra.specs.Orders.{le_refl, lt_le, eq_le, eq_ge, le_trans, lt_not_le, lt_le_trans, le_lt_trans, lt_trans}
+use Rattle.range_algebra.specs.Chains.{any_left, any_right, any_split, every_weaker, every_append, every_right, Leads, Trails, Follows, back, chain_left, chain_right, chain_tail, follows_above, strictly_leads, strictly_trails, chain_before, join, join_apart}
 use Rattle.range_algebra.specs.Sides.{Chain, Holding, Alike, Leading, Trailing, IsLeft, IsRight, none_below, none_above, only_first, only_second}
 
 module _ {L V X : Type 0} (cmp : L → L → Ordering) (total : IsTotalOrder cmp) (same : V → V → Bool) (equal : IsEquivalence same) (lo hi : X → L) (value : X → V) where

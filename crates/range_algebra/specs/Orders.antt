@@ -3,7 +3,7 @@ use Rattle.std.proofs.Common.{◌≡◌, refl, sym, ap, ◌∙◌, false, true, 
 use Rattle.std.specs.declared.cmp.Ordering.{Ordering}
 use Rattle.std.specs.declared.cmp.Ordering.TheVariants.{Less, Equal, Greater}
 use Rattle.std.specs.Ordering.{is_gt, is_lt, ordering_reverse}
-use Rattle.std.specs.Cmp.{IsTotalOrder, upto, alike_right, tied_back, tied_itself}
+use Rattle.std.specs.Cmp.{IsTotalOrder, upto, tied_back, tied_itself}
 use Rattle.range_algebra.specs.Intervals.{Le, Lt}
 
 reverse_not_greater : (o : Ordering) → is_gt o ≡ false → ordering_reverse o ≡ Less → ⊥

@@ -1,5 +1,5 @@
 -- What the keys of a piece are bound to, and what they come to be bound to by an answer to it.
-use Rattle.std.proofs.Common.{◌≡◌, refl, sym, Bool, true, false, List, [], ◌∷◌, map, Option, Some, None, ◌⊎◌, ◌↔◌, inl, inr}
+use Rattle.std.proofs.Common.{◌≡◌, refl, Bool, true, false, List, [], ◌∷◌, map, Option, Some, None, ◌↔◌, inl, inr}
 use Rattle.std.specs.Prelude.{Result, Ok, Err, if◌then◌else◌}
 use denote.Ref.{Bor}
 use Rattle.std.specs.Fn.{Shared}
@@ -11,7 +11,7 @@ use Rattle.range_keys.specs.PositionOrder.{position_total}
 use Rattle.range_keys.specs.declared.inner.position.Position.{Position}
 use Rattle.range_keys.specs.declared.inner.position.Position.TheVariants.{Beside}
 use Rattle.range_keys.specs.declared.inner.position.Side.TheVariants.{At}
-use Rattle.range_algebra.specs.Intervals.{Le, Lt, Any, Every}
+use Rattle.range_algebra.specs.Intervals.{Le, Any, Every}
 use Rattle.range_algebra.specs.Orders.{eq_le, eq_ge, le_refl, le_trans, lt_not_le, not_lt}
 use Rattle.range_algebra.specs.Range.{Holds}
 use Rattle.range_algebra.specs.declared.any.AnyRange.{AnyRange}

@@ -1,6 +1,5 @@
 -- The pieces of a range, cut from its start on.
-use Rattle.std.proofs.Common.{◌≡◌, refl, sym, ap, ◌∙◌, Option, Some, None, Bool, true, false, IsTrue, List, [], ◌∷◌, ◌++◌, ◌⊎◌, inl, inr, ◌↔◌, map, if◌then◌else◌}
-use Rattle.std.specs.declared.ops.Bound.{Bound}
+use Rattle.std.proofs.Common.{◌≡◌, refl, sym, ap, ◌∙◌, Option, Some, None, Bool, true, false, List, [], ◌∷◌, ◌++◌, ◌⊎◌, inl, inr, map, if◌then◌else◌}
 use Rattle.std.specs.declared.cmp.Ordering.{Ordering}
 use Rattle.std.specs.declared.cmp.Ordering.TheVariants.{Less, Equal, Greater}
 use Rattle.std.specs.Ordering.{is_gt, ordering_then}
@@ -10,20 +9,20 @@ use Rattle.range_keys.specs.Position.{start_position, end_position, position_cmp
 use Rattle.range_keys.specs.PositionOrder.{position_total}
 use Rattle.range_keys.specs.declared.inner.position.Position.{Position}
 use Rattle.range_algebra.specs.declared.any.AnyRange.{AnyRange}
-use Rattle.range_algebra.specs.Range.{IsKnownBound, IsKnownRange, IsEmptyRange}
+use Rattle.range_algebra.specs.Range.{IsKnownRange}
 use Rattle.range_algebra.specs.RangeOrder.{range_cmp}
 use Rattle.range_algebra.specs.Intervals.{Le, Lt, Any, Every}
-use Rattle.range_algebra.specs.Orders.{le_refl, lt_le, eq_le, eq_ge, le_trans, lt_not_le, cases, not_le, not_lt, both, le_lt_trans, lt_le_trans}
+use Rattle.range_algebra.specs.Orders.{le_refl, lt_le, eq_le, eq_ge, le_trans, lt_not_le, cases, both, le_lt_trans, lt_le_trans}
 use Rattle.range_algebra.specs.Chains.{any_left, every_weaker, every_append, follows_above, chain_tail}
-use Rattle.range_algebra.specs.Combined.{common, later_start, earlier_end}
+use Rattle.range_algebra.specs.Combined.{common}
 use Rattle.range_algebra.proofs.Commons.{gt_le, later_is, earlier_is, later_over as starts_over, earlier_under as ends_under}
-use Rattle.range_algebra.specs.Cuts.{past, lower, upper}
+use Rattle.range_algebra.specs.Cuts.{lower, upper}
 use Rattle.range_algebra.specs.Relations.{LiesBefore}
 use Rattle.range_store.specs.declared.storage.Item.{Item}
 use Rattle.range_map.specs.Answers.{Answered, piece_of, AreAnswersTo}
 use Rattle.range_map.specs.ItemCuts.{item_lower, item_upper}
-use Rattle.range_map.specs.Neighbours.{BeforeFirst, EachNext}
-use Rattle.range_map.specs.Pieces.{later, earlier, IsCommonPart, LiesIn, IsFreePart, IsPiece, ArePieces}
+use Rattle.range_map.specs.Neighbours.{EachNext}
+use Rattle.range_map.specs.Pieces.{later, earlier, IsCommonPart, LiesIn, IsFreePart, IsPiece}
 use Rattle.range_map.specs.Ranges.{Overlap}
 use Rattle.range_map.proofs.Extents.{past_le, end_le}
 use Rattle.range_map.proofs.Forms.{Chained, before_is, nonempty_good}

@@ -1,5 +1,5 @@
 -- There is at most one gap more than there are items.
-use Rattle.std.proofs.Common.{◌≡◌, ℕ, ◌+◌, ◌≤◌, arith, true, false, Bool, List, [], ◌∷◌, ◌++◌, length, length-append, Option, Some, None, if◌then◌else◌}
+use Rattle.std.proofs.Common.{◌+◌, ◌≤◌, arith, true, false, Bool, List, [], ◌∷◌, length, length-append, Option, Some, None, if◌then◌else◌}
 use Rattle.std.specs.declared.ops.Bound.{Bound}
 use Rattle.std.specs.declared.ops.Bound.TheVariants.{Unbounded}
 use Rattle.range_keys.specs.Order.{KeyOrder}

@@ -1,8 +1,8 @@
 -- Answers put one behind the other, those that touch with equal values as one.
-use Rattle.std.proofs.Common.{◌≡◌, refl, sym, ap, ◌∙◌, ℕ, zero, suc, ◌+◌, ◌-◌, ◌<◌, Option, Some, None, Bool, true, false, IsTrue, List, [], ◌∷◌, ◌++◌, ◌⊎◌, inl, inr, ◌↔◌, length, get_or, arith}
+use Rattle.std.proofs.Common.{◌≡◌, refl, sym, ap, ◌∙◌, ℕ, zero, suc, ◌+◌, ◌-◌, ◌<◌, Option, Some, None, Bool, true, List, [], ◌∷◌, ◌++◌, inl, inr, ◌↔◌, length, get_or, arith}
 use Rattle.std.specs.Prelude.{slice_set}
 use Rattle.std.specs.declared.ops.Bound.{Bound}
-use Rattle.std.specs.declared.cmp.Ordering.TheVariants.{Less, Equal, Greater}
+use Rattle.std.specs.declared.cmp.Ordering.TheVariants.{Equal}
 use Rattle.std.specs.Cmp.{IsEquivalence, tied_back}
 use Rattle.range_keys.specs.Order.{KeyOrder, IsLawful}
 use Rattle.range_keys.specs.Position.{start_position, end_position, position_cmp}
@@ -13,12 +13,12 @@ use Rattle.range_algebra.specs.Cuts.{past}
 use Rattle.range_algebra.specs.Clones.{IsBoundClone, SameBound, same_start}
 use Rattle.range_algebra.specs.Range.{IsKnownRange}
 use Rattle.range_algebra.specs.Intervals.{Any, Every}
-use Rattle.range_algebra.specs.Orders.{le_refl, lt_le, eq_le, eq_ge, le_trans, lt_not_le, cases, le_lt_trans, lt_le_trans}
+use Rattle.range_algebra.specs.Orders.{lt_le, eq_le, eq_ge, le_trans, cases, le_lt_trans, lt_le_trans}
 use Rattle.range_algebra.specs.Chains.{any_left, any_right, any_split, every_weaker, every_append, every_left, every_right, Leads, Respects, strictly_leads, chain_left, chain_right, chain_before, join, back}
 use Rattle.range_algebra.specs.Relations.{Touches}
 use Rattle.range_store.specs.declared.storage.Item.{Item}
 use Rattle.range_map.specs.Answers.{Answered}
-use Rattle.range_map.specs.Asking.{JoinsLast, JoinsNoLast, IsAppended, IsExtended, IsPut}
+use Rattle.range_map.specs.Asking.{JoinsNoLast, IsPut}
 use Rattle.range_map.specs.Edits.{with_end}
 use Rattle.range_map.specs.ItemCuts.{item_lower, item_upper}
 use Rattle.range_map.proofs.CutParts.{same_past}

@@ -1,5 +1,5 @@
 -- Which items give way to a range, and what stands in their place.
-use Rattle.std.proofs.Common.{◌≡◌, ℕ, zero, suc, ◌+◌, ◌-◌, ◌<◌, ◌≤◌, List, [], ◌∷◌, ◌++◌, length, take, drop, get_or, refl, ap, sym, ◌∙◌, arith, subst, Option, Some, Bool, true, IsTrue, ◌⊎◌, inl, inr, length-append, length-drop, append_assoc}
+use Rattle.std.proofs.Common.{◌≡◌, ℕ, zero, suc, ◌+◌, ◌-◌, ◌<◌, ◌≤◌, List, [], ◌∷◌, ◌++◌, length, take, drop, get_or, refl, ap, sym, ◌∙◌, arith, subst, Option, Some, None, Bool, true, IsTrue, ◌⊎◌, inl, inr, length-append, length-drop, append_assoc}
 use Rattle.std.proofs.lemmas.List.{append-nil, get_or-drop, get_or-take, drop-take, drop-drop, take_more, length-take-le}
 use Rattle.std.specs.Cmp.{IsEquivalence}
 use Rattle.std.specs.Option.{unwrap_or}
@@ -115,6 +115,18 @@ module _ {K : Type 0} (order : KeyOrder K) (lawful : IsLawful order) {V : Type 0
 
   made_later : (more run made : List (Item (AnyRange K) V)) (r : AnyRange K) (v : V) → Every (IsNewItem order same run r v) made → Every (IsNewItem order same (more ++ run) r v) made
   made_later more run made r v all = every_weaker _ _ made (λ j h. record { start = start_later more run r j.key.start h.start; end = end_later more run r j.key.end h.end; value = value_later more run v j.value h.value }) all
+
+  -- a value that a run has equals v where all values of the run do
+  has_equal : (run : List Stored) (u v : V) → IsTrue (same u v) ⊎ HasValue order same run u → Every (λ i. IsTrue (same i.value v)) run → IsTrue (same u v)
+  has_equal run u v (inl h) all = h
+  has_equal [] u v (inr h) all = absurd h
+  has_equal (x ∷ xs) u v (inr (inl h)) all = equal.congr u x.value v h ∙ all.0
+  has_equal (x ∷ xs) u v (inr (inr h)) all = has_equal xs u v (inr h) all.1
+
+  -- so such a run leaves no rest with another value
+  no_rest : (run : List Stored) (r : AnyRange K) (v : V) (rest : Option Stored) → Every (λ i. IsTrue (same i.value v)) run → Every (IsNewItem order same run r v) (option_items rest) → Every (λ i. ¬ IsTrue (same i.value v)) (option_items rest) → length (option_items rest) ≡ 0
+  no_rest run r v None all made apart = refl
+  no_rest run r v (Some y) all made apart = absurd (apart.0 (has_equal run y.value v made.0.value all))
 
   goods : (xs ys : List (Item (AnyRange K) V)) → Chained order lawful same equal (xs ++ ys) → Every (λ i. Lt (places order lawful) (item_lower order i) (item_upper order i)) xs
   goods [] ys h = tt
@@ -250,5 +262,9 @@ module _ {K : Type 0} (order : KeyOrder K) (lawful : IsLawful order) {V : Type 0
           concerned = every_append _ (on_left.extra ++ met) on_right.extra (every_append _ on_left.extra met (every_weaker _ _ on_left.extra (λ i h. inr (inl h.0, h.1)) on_left.touched) (every_weaker _ _ met (λ i h. inl h) meets)) (every_weaker _ _ on_right.extra (λ i h. inr (inr h.0, h.1)) on_right.touched);
           few = omega (arith, few, size, length-append (on_left.extra ++ met) on_right.extra, length-append on_left.extra met, length-append (option_items left ++ option_items (Some m)) (option_items right), length-append (option_items left) (option_items (Some m)));
           whole = λ e. let l = on_left.whole (none_left (on_left.extra ++ met) on_right.extra e) in let k = on_right.whole (none_right on_left.extra (met ++ on_right.extra) (sym regroup ∙ e)) in let none : w.count ≡ 0 = sym size ∙ ap length (none_right on_left.extra met (none_left (on_left.extra ++ met) on_right.extra e)) in let item = item_is m r v (starts ∙ ap (λ o. unwrap_or o r.start) l.1) (ends ∙ ap (λ o. unwrap_or o r.end) k.1) (own_value none) in rw (l.0, k.0) (ap (λ y. y ∷ []) item);
+          one = λ all.
+              let on_left_none = no_rest (on_left.extra ++ met) r v left (every_left (λ i. IsTrue (same i.value v)) (on_left.extra ++ met) on_right.extra all) on_left.made on_left.apart in
+              let on_right_none = no_rest (met ++ on_right.extra) r v right (every_right (λ i. IsTrue (same i.value v)) on_left.extra (met ++ on_right.extra) (rw regroup at all)) on_right.made on_right.apart in
+              omega (arith, on_left_none, on_right_none, length-append (option_items left ++ option_items (Some m)) (option_items right), length-append (option_items left) (option_items (Some m)));
           made = every_append _ (option_items left ++ option_items (Some m)) (option_items right) (every_append _ (option_items left) (option_items (Some m)) made_left (own, tt)) made_right;
         }

@@ -1,5 +1,5 @@
 -- Where the gaps between ranges begin and end.
-use Rattle.std.proofs.Common.{◌≡◌, refl, sym, ◌∙◌, Option, Some, None, Bool, true, false}
+use Rattle.std.proofs.Common.{◌≡◌, refl, sym, Option, Some, None, Bool, true, false}
 use Rattle.std.specs.Option.{ForSome}
 use Rattle.std.specs.declared.ops.Bound.{Bound}
 use Rattle.std.specs.declared.ops.Bound.TheVariants.{Included, Excluded, Unbounded}
@@ -11,8 +11,8 @@ use Rattle.range_keys.specs.PositionOrder.{position_total}
 use Rattle.range_algebra.specs.declared.any.AnyRange.{AnyRange}
 use Rattle.range_algebra.specs.Range.{IsKnownBound, IsKnownRange, IsEmptyRange}
 use Rattle.range_algebra.specs.Compared.{inverted, starts_past_end}
-use Rattle.range_algebra.specs.Intervals.{Le, Lt}
-use Rattle.range_algebra.specs.Orders.{lt_le, eq_le, eq_ge, le_trans, lt_not_le, not_lt}
+use Rattle.range_algebra.specs.Intervals.{Le}
+use Rattle.range_algebra.specs.Orders.{lt_le, eq_le, eq_ge, le_trans, not_lt}
 use Rattle.range_algebra.specs.Cuts.{past, lower, upper}
 use Rattle.range_algebra.proofs.Places.{reaches, turned, turned_back, turned_known, unbounded_start, unbounded_end}
 use Rattle.range_map.specs.Asking.{gap_lower, gap_upper, IsGapStart, IsGapEnd, IsGapBetween}

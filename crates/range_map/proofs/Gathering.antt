@@ -1,11 +1,11 @@
 -- The answers to the pieces of a range, one stored range after the other.
-use Rattle.std.proofs.Common.{ℕ, ◌+◌, ◌<◌, ◌≤◌, length, get_or, arith, take, drop, subst, ◌≡◌, refl, sym, ap, ◌∙◌, Option, Some, None, Bool, true, false, IsTrue, List, [], ◌∷◌, ◌++◌, ◌⊎◌, inl, inr, ◌↔◌, Result, Ok, Err}
+use Rattle.std.proofs.Common.{ℕ, ◌+◌, ◌<◌, ◌≤◌, length, get_or, arith, take, drop, subst, ◌≡◌, refl, sym, ap, ◌∙◌, Option, Some, None, Bool, true, List, [], ◌∷◌, ◌++◌, ◌⊎◌, inl, inr, ◌↔◌, Result, Ok, Err}
 use Rattle.std.proofs.lemmas.List.{get_or-take, get_or-drop, take_more}
 use Rattle.std.specs.Fn.{Shared}
 use Rattle.std.specs.Option.{ForSome}
 use denote.Ref.{Bor}
 use Rattle.std.specs.declared.ops.Bound.{Bound}
-use Rattle.std.specs.declared.cmp.Ordering.TheVariants.{Less, Equal, Greater}
+use Rattle.std.specs.declared.cmp.Ordering.TheVariants.{Equal}
 use Rattle.std.specs.Cmp.{IsEquivalence}
 use Rattle.range_keys.specs.Order.{KeyOrder, IsLawful}
 use Rattle.range_keys.specs.Position.{start_position, end_position, position_cmp}
@@ -19,18 +19,18 @@ use Rattle.range_algebra.specs.Combined.{common}
 use Rattle.range_algebra.specs.Cuts.{past}
 use Rattle.range_algebra.specs.Range.{Holds, IsKnownBound, IsKnownRange, IsEmptyRange}
 use Rattle.range_algebra.specs.Intervals.{Any, Every}
-use Rattle.range_algebra.specs.Orders.{le_refl, lt_le, eq_le, eq_ge, le_trans, lt_not_le, cases, not_le, le_lt_trans, lt_le_trans}
+use Rattle.range_algebra.specs.Orders.{le_refl, lt_le, eq_le, eq_ge, le_trans, lt_not_le, cases, not_le, lt_le_trans}
 use Rattle.range_algebra.specs.Chains.{Leads, any_left, any_right, every_weaker, every_append, every_right, chain_before, chain_right, follows_above}
 use Rattle.range_algebra.proofs.Commons.{later_is, earlier_is}
 use Rattle.range_algebra.proofs.Lists.{every_at, parts_at}
 use Rattle.range_algebra.proofs.Places.{held_between}
 use Rattle.range_store.specs.declared.storage.Item.{Item}
 use Rattle.range_map.specs.Answers.{MayAnswer, Answered, IsAsAnswered, FailsAt, IsGathered}
-use Rattle.range_map.specs.Asking.{gap_lower, gap_upper, IsGapBetween, IsPut, IsGapAsked, IsItemAsked, FailsAtGap, IsKeyAt}
+use Rattle.range_map.specs.Asking.{gap_lower, IsPut, IsGapAsked, IsItemAsked, FailsAtGap, IsKeyAt}
 use Rattle.range_map.specs.Bindings.{Binds}
 use Rattle.range_map.specs.ItemCuts.{item_lower, item_upper}
 use Rattle.range_map.specs.Neighbours.{EachNext}
-use Rattle.range_map.specs.Pieces.{IsCommonPart, IsPiece, LiesIn}
+use Rattle.range_map.specs.Pieces.{IsCommonPart, LiesIn}
 use Rattle.range_map.specs.Ranges.{Overlap}
 use Rattle.range_map.specs.Window.{IsLastOf}
 use Rattle.range_map.proofs.Cutting.{PLe, PLt, Lo, Hi, IsFull, IsOpenPart, IsRight, IsInside, IsCutUpTo, cut_none, cut_more, cut_all, a_piece, common_is, common_within, lies_in, any_end, any_with, any_use, every_with}

@@ -1,5 +1,5 @@
 -- A clone of a range in the place of the range.
-use Rattle.std.proofs.Common.{◌≡◌, refl, sym, ◌∙◌, Option, Some, None, Bool, true, false, IsTrue, List, [], ◌∷◌, ◌⊎◌, inl, inr, ◌↔◌, Result, Ok, Err, map}
+use Rattle.std.proofs.Common.{◌≡◌, refl, ◌∙◌, Option, Some, None, Bool, false, IsTrue, List, inl, inr, Result, map}
 use Rattle.std.specs.Fn.{Shared}
 use denote.Ref.{Bor}
 use Rattle.std.specs.declared.ops.Bound.{Bound}
@@ -16,19 +16,17 @@ use Rattle.range_keys.specs.declared.inner.position.Position.TheVariants.{Beside
 use Rattle.range_keys.specs.declared.inner.position.Side.TheVariants.{At}
 use Rattle.range_algebra.specs.declared.any.AnyRange.{AnyRange}
 use Rattle.range_algebra.specs.Clones.{SameBound, same_start, same_end}
-use Rattle.range_algebra.specs.Compared.{inverted, start_is_at, starts_at_end}
+use Rattle.range_algebra.specs.Compared.{starts_at_end}
 use Rattle.range_algebra.specs.Range.{Holds, IsEmptyRange}
-use Rattle.range_algebra.specs.Relations.{LiesBefore, Touches}
-use Rattle.range_algebra.specs.Intervals.{Any, Every}
-use Rattle.range_algebra.specs.Orders.{eq_le, eq_ge, le_trans, lt_le_trans, le_lt_trans, both, not_le, lt_not_le}
+use Rattle.range_algebra.specs.Orders.{eq_le, eq_ge, le_trans, lt_le_trans, le_lt_trans, both}
 use Rattle.range_algebra.specs.Chains.{every_weaker}
 use Rattle.range_algebra.proofs.Holding.{holds_by_position}
 use Rattle.range_store.specs.declared.storage.Item.{Item}
-use Rattle.range_map.specs.Answers.{Answered, piece_of, AreAnswersTo, GaveWayToAnswers, FailsAt, IsUpdated}
+use Rattle.range_map.specs.Answers.{piece_of, FailsAt, IsUpdated}
 use Rattle.range_map.specs.Lookups.{IsConnectedTo}
-use Rattle.range_map.specs.Pieces.{later, earlier, IsCommonPart, LiesIn, IsFreePart, IsPiece, ArePieces}
+use Rattle.range_map.specs.Pieces.{later, earlier, IsCommonPart, LiesIn, IsFreePart, IsPiece}
 use Rattle.range_map.specs.Ranges.{Overlap}
-use Rattle.range_map.proofs.Cutting.{PLe, PLt, any_over, later_over, earlier_under, pick}
+use Rattle.range_map.proofs.Cutting.{PLe, any_over, later_over, earlier_under, pick}
 
 equal_of : (o : Ordering) → IsTrue (is_eq o) → o ≡ Equal
 equal_of Less h = cc

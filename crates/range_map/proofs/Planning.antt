@@ -42,11 +42,12 @@ module _ {K : Type 0} (order : KeyOrder K) (lawful : IsLawful order) {V : Type 0
     touched = tt;
     start_of = inr (inl (any_of_run (λ i. x.key.start ≡ i.key.start) items place w.count 0 x window.in_range some (first_read x here) refl));
     made = tt;
+    apart = tt;
     whole = λ e. absurd (run_some items place w.count window.in_range some e);
   }
 
-  pub left_frame_cut : (x : Item (AnyRange K) V) → x ≡ get_or items place x → 0 < w.count → (b : Bound K) → SameBound order (turned_bound r.start) b → IsLeftFrame order same items r v place w.count place (Some (with_end x b)) None
-  left_frame_cut x here some b same_b = record {
+  pub left_frame_cut : (x : Item (AnyRange K) V) → x ≡ get_or items place x → 0 < w.count → (b : Bound K) → SameBound order (turned_bound r.start) b → same x.value v ≡ false → IsLeftFrame order same items r v place w.count place (Some (with_end x b)) None
+  left_frame_cut x here some b same_b differs = record {
     extra = [];
     split = sym (append-nil (take place items));
     touched = tt;
@@ -59,6 +60,7 @@ module _ {K : Type 0} (order : KeyOrder K) (lawful : IsLawful order) {V : Type 0
       },
       tt,
     );
+    apart = (λ equal_values. cc, tt);
     whole = λ e. absurd (run_some items place w.count window.in_range some e);
   }
 
@@ -69,11 +71,12 @@ module _ {K : Type 0} (order : KeyOrder K) (lawful : IsLawful order) {V : Type 0
     touched = tt;
     end_of = inr (inl (any_left (λ i. x.key.end ≡ i.key.end) (take w.count (drop place items)) [] (any_of_run (λ i. x.key.end ≡ i.key.end) items place w.count (w.count - 1) x window.in_range (omega (arith, some)) (last_read x some here) refl)));
     made = tt;
+    apart = tt;
     whole = λ e. absurd (run_some items place w.count window.in_range some (sym (append-nil (take w.count (drop place items))) ∙ e));
   }
 
-  pub right_frame_cut : (x : Item (AnyRange K) V) → x ≡ get_or items (place + w.count - 1) x → 0 < w.count → (b : Bound K) (u : V) → SameBound order (turned_bound r.end) b → same u x.value ≡ true → IsRightFrame order same items r v place w.count (place + w.count) (Some (record { key = record { start = b; end = x.key.end }; value = u })) None
-  right_frame_cut x here some b u same_b values = record {
+  pub right_frame_cut : (x : Item (AnyRange K) V) → x ≡ get_or items (place + w.count - 1) x → 0 < w.count → (b : Bound K) (u : V) → SameBound order (turned_bound r.end) b → same u x.value ≡ true → same u v ≡ false → IsRightFrame order same items r v place w.count (place + w.count) (Some (record { key = record { start = b; end = x.key.end }; value = u })) None
+  right_frame_cut x here some b u same_b values differs = record {
     extra = [];
     split = refl;
     touched = tt;
@@ -86,6 +89,7 @@ module _ {K : Type 0} (order : KeyOrder K) (lawful : IsLawful order) {V : Type 0
       },
       tt,
     );
+    apart = (λ equal_values. cc, tt);
     whole = λ e. absurd (run_some items place w.count window.in_range some (sym (append-nil (take w.count (drop place items))) ∙ e));
   }
 
@@ -126,7 +130,7 @@ module _ {K : Type 0} (order : KeyOrder K) (lawful : IsLawful order) {V : Type 0
         shape = (reach.0, reach.1, refl, refl, (x, here, refl));
         side = left_edge_rest order lawful same equal is_good rank items r w place stored known full window v (with_end x b) (left_rest_cut order lawful same equal is_good rank items r w place stored known full window x here reach.2 (reach.3 x here) b known_b same_b) values;
         run = subst (λ (n : ℕ). IsAt is_good rank (length items) from (n + 1)) reach.1 next;
-        frame = left_frame_cut x here reach.2 b same_b;
+        frame = left_frame_cut x here reach.2 b same_b values;
         few = omega arith;
         begins = omega arith;
       }
@@ -146,6 +150,7 @@ module _ {K : Type 0} (order : KeyOrder K) (lawful : IsLawful order) {V : Type 0
       touched = (touched_before (rank q) x at read touching, tt);
       start_of = inr (inl (inl refl));
       made = tt;
+      apart = tt;
       whole = λ e. absurd (cc);
     };
     few = omega arith;
@@ -171,6 +176,7 @@ module _ {K : Type 0} (order : KeyOrder K) (lawful : IsLawful order) {V : Type 0
       touched = tt;
       start_of = inl refl;
       made = tt;
+      apart = tt;
       whole = λ e. (refl, refl);
     };
     few = omega arith;
@@ -208,7 +214,7 @@ module _ {K : Type 0} (order : KeyOrder K) (lawful : IsLawful order) {V : Type 0
         finish = None;
         shape = (reach.0, omega (arith, reach.1), omega (arith, reach.2), refl, (x, here, refl));
         side = right_edge_rest order lawful same equal is_good rank items r w place stored known full window (place + w.count) v (with_start x b) window.in_range (right_rest_cut order lawful same equal is_good rank items r w place stored known full window x here reach.2 (reach.3 x here) b known_b same_b x.value (equal.refl x.value)) values;
-        frame = right_frame_cut x here reach.2 b x.value same_b (equal.refl x.value);
+        frame = right_frame_cut x here reach.2 b x.value same_b (equal.refl x.value) values;
         few = omega arith;
         ends = omega (arith, reach.2);
       }
@@ -229,6 +235,7 @@ module _ {K : Type 0} (order : KeyOrder K) (lawful : IsLawful order) {V : Type 0
           touched = (touched_after x here touching, tt);
           end_of = inr (inl (any_right (λ i. x.key.end ≡ i.key.end) (take w.count (drop place items)) (x ∷ []) (inl refl)));
           made = tt;
+          apart = tt;
           whole = λ e. absurd (none_last (take w.count (drop place items)) x e);
         };
         few = omega arith;
@@ -249,6 +256,7 @@ module _ {K : Type 0} (order : KeyOrder K) (lawful : IsLawful order) {V : Type 0
       touched = tt;
       end_of = inl refl;
       made = tt;
+      apart = tt;
       whole = λ e. (refl, refl);
     };
     few = omega arith;

@@ -1,31 +1,29 @@
 -- A list that was changed as a closure answers, by what was put in the place of a range.
-use Rattle.std.proofs.Common.{◌≡◌, refl, sym, ap, subst, ◌∙◌, Option, Some, None, Bool, true, false, IsTrue, List, [], ◌∷◌, ◌++◌, ◌⊎◌, inl, inr, ◌↔◌, Result, Ok, Err, if◌then◌else◌}
+use Rattle.std.proofs.Common.{◌≡◌, refl, sym, subst, ◌∙◌, Option, Some, None, Bool, true, IsTrue, List, [], ◌∷◌, ◌++◌, ◌⊎◌, inl, inr, ◌↔◌, Result, Ok}
 use Rattle.std.specs.Fn.{Shared}
 use denote.Ref.{Bor}
-use Rattle.std.specs.declared.cmp.Ordering.TheVariants.{Less, Equal, Greater}
 use Rattle.std.specs.Ordering.{is_gt}
 use Rattle.std.specs.Cmp.{IsEquivalence}
 use Rattle.range_keys.specs.Order.{KeyOrder, IsLawful}
 use Rattle.range_keys.specs.Position.{start_position, end_position, position_cmp}
 use Rattle.range_keys.specs.PositionOrder.{position_total}
-use Rattle.range_keys.specs.declared.inner.position.Position.{Position}
 use Rattle.range_algebra.specs.declared.any.AnyRange.{AnyRange}
-use Rattle.range_algebra.specs.Range.{Holds, IsKnownRange, IsEmptyRange}
+use Rattle.range_algebra.specs.Range.{Holds, IsKnownRange}
 use Rattle.range_algebra.specs.Intervals.{Any, Every}
 use Rattle.range_algebra.specs.Orders.{le_refl, lt_le, both}
 use Rattle.range_algebra.specs.Chains.{any_right, every_weaker}
 use Rattle.range_store.specs.declared.storage.Item.{Item}
-use Rattle.range_map.specs.Answers.{MayAnswer, Answered, IsAsAnswered, IsGivenBy, GaveWayToAnswers, FailsAt, IsGathered, IsUpdated, AreAnswersTo}
+use Rattle.range_map.specs.Answers.{MayAnswer, Answered, IsAsAnswered, IsGivenBy, GaveWayToAnswers, IsGathered, IsUpdated, AreAnswersTo}
 use Rattle.range_map.specs.Bindings.{Binds, IsSomeOf}
 use Rattle.range_map.specs.Changes.{IsInserted, IsRemoved}
 use Rattle.range_map.specs.Frames.{HasValue, JoinsOrMeets, IsNewItem, IsPart, GaveWayTo, WasCutOut}
 use Rattle.range_map.specs.Lookups.{IsConnectedTo}
 use Rattle.range_map.specs.Pieces.{later, earlier, IsCommonPart, IsPiece}
 use Rattle.range_map.specs.Ranges.{Overlap}
-use Rattle.range_map.specs.Replaced.{GaveWayToAll, IsReplaced}
+use Rattle.range_map.specs.Replaced.{IsReplaced}
 use Rattle.range_map.proofs.Cutting.{PLe, PLt, Lo, Hi, IsFull, IsInside, IsRight, any_use, any_over, later_over, earlier_under, pick, cut_none, cut_more, cut_all, a_piece}
 use Rattle.range_map.proofs.Extents.{end_le}
-use Rattle.range_map.proofs.Forms.{Chained, nonempty_good}
+use Rattle.range_map.proofs.Forms.{Chained}
 
 module _ {K : Type 0} (order : KeyOrder K) {V : Type 0} (same : V → V → Bool) (equal : IsEquivalence same) {F E : Type 0} (calls : Shared F (Option (Bor V) × Unit {0}) (Result (Option V) E)) (f : F) (items new : List (Item (AnyRange K) V)) (r : AnyRange K) where
   turned : (a b : V) → IsTrue (same a b) → IsTrue (same b a)

@@ -1,5 +1,5 @@
 -- What the closure of an update may be asked and may answer, and what its answers make of a list.
-use Rattle.std.specs.Prelude.{◌≡◌, ◌+◌, ◌≤◌, ◌↔◌, ◌⊎◌, Bool, IsTrue, List, ◌++◌, Option, Some, None, Result, Ok, Err, map, length}
+use Rattle.std.specs.Prelude.{◌≡◌, ◌↔◌, ◌⊎◌, Bool, IsTrue, List, ◌++◌, Option, Some, None, Result, Ok, Err, map}
 use Rattle.std.specs.Fn.{Shared}
 use Rattle.std.specs.Option.{option_copied}
 use denote.Ref.{Bor}
@@ -8,7 +8,7 @@ use Rattle.range_algebra.specs.Intervals.{Any, Every}
 use Rattle.range_algebra.specs.Range.{Holds}
 use Rattle.range_algebra.specs.declared.any.AnyRange.{AnyRange}
 use Rattle.range_store.specs.declared.storage.Item.{Item}
-use Rattle.range_map.specs.Bindings.{Binds, IsSomeOf}
+use Rattle.range_map.specs.Bindings.{Binds}
 use Rattle.range_map.specs.Frames.{HasValue}
 use Rattle.range_map.specs.Lookups.{IsConnectedTo}
 use Rattle.range_map.specs.Pieces.{IsPiece, ArePieces, LiesIn}

@@ -34,7 +34,8 @@ module _ {K : Type 0} (order : KeyOrder K) {V : Type 0} where
       pub end : IsEndOf run r j.key.end
       pub value : IsTrue (same_value j.value v) ⊎ HasValue run j.value
 
-    -- a run of items, each of which meets the range or touches it with an equal value, gave way to others, and all else stands as before
+    -- a run of items, each of which meets the range or touches it with an equal value, gave way to others, to one where the run's values all equal v, and all else
+    -- stands as before
     pub record GaveWayTo (items new : List (Item (AnyRange K) V)) (r : AnyRange K) (v : V) : Type 0 where
       pub front : List (Item (AnyRange K) V)
       pub run : List (Item (AnyRange K) V)
@@ -45,6 +46,7 @@ module _ {K : Type 0} (order : KeyOrder K) {V : Type 0} where
       pub concerned : Every (JoinsOrMeets r v) run
       pub few : length others ≤ length run + 2
       pub whole : run ≡ [] → others ≡ record { key = r; value = v } ∷ []
+      pub one : Every (λ i. IsTrue (same_value i.value v)) run → length others ≤ 1
       pub made : Every (IsNewItem run r v) others
 
     -- the bounds and the value of what is left of an item that the range cuts

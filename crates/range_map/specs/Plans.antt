@@ -22,6 +22,7 @@ module _ {K : Type 0} (order : KeyOrder K) {V : Type 0} (same : V → V → Bool
     pub touched : Every (λ i. Touches order i.key r × IsTrue (same i.value v)) extra
     pub start_of : IsStartOf order (extra ++ take count (drop place items)) r (unwrap_or start r.start)
     pub made : Every (IsNewItem order same (extra ++ take count (drop place items)) r v) (option_items rest)
+    pub apart : Every (λ i. ¬ IsTrue (same i.value v)) (option_items rest)
     pub whole : extra ++ take count (drop place items) ≡ [] → (rest ≡ None) × (start ≡ None)
 
   -- which items behind it do
@@ -31,6 +32,7 @@ module _ {K : Type 0} (order : KeyOrder K) {V : Type 0} (same : V → V → Bool
     pub touched : Every (λ i. Touches order r i.key × IsTrue (same i.value v)) extra
     pub end_of : IsEndOf order (take count (drop place items) ++ extra) r (unwrap_or finish r.end)
     pub made : Every (IsNewItem order same (take count (drop place items) ++ extra) r v) (option_items rest)
+    pub apart : Every (λ i. ¬ IsTrue (same i.value v)) (option_items rest)
     pub whole : take count (drop place items) ++ extra ≡ [] → (rest ≡ None) × (finish ≡ None)
 
 module _ {K : Type 0} (order : KeyOrder K) {V : Type 0} (same : V → V → Bool) (lawful : IsLawful order) (equal : IsEquivalence same) {P : Type 0} (is_good : P → Type 0) (rank : P → ℕ) (items : List (Item (AnyRange K) V)) (r : AnyRange K) (v : V) where

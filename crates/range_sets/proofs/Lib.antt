@@ -1,5 +1,6 @@
 pub mod Complementing
 pub mod ComplementTwice
+pub mod Counting
 pub mod Enclosing
 pub mod Filling
 pub mod Likeness

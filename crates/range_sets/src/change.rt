@@ -24,7 +24,7 @@ impl<T: Measure + Clone, C: Storage<Item<AnyRange<T>, ()>>> RangeSet<T, C> {
         ensures added { OnOk result (HoldsAlso T.order (C.items self.old) (C.items self.new) (R.range range)) }
         ensures form { IsStoredSet T.order (C.items self.new) }
         ensures frame { OnOk result (¬ IsEmptyRange T.order (R.range range) → GaveWayTo T.order (λ _ _. true) (C.items self.old) (C.items self.new) (R.range range) tt) }
-        ensures few { length (C.items self.new) ≤ length (C.items self.old) + 2 }
+        ensures few { length (C.items self.new) ≤ length (C.items self.old) + 1 }
 
         ensures refused { OnErr result (C.items self.new ≡ C.items self.old) }
         ensures empty { IsEmptyRange T.order (R.range range) → IsOk result }

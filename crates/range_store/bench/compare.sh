@@ -1,12 +1,13 @@
 #!/bin/sh
 # Times searches, insertions and removals at scattered keys, and a walk, of a map over the B-tree and over the
-# vector, and of std's BTreeMap, at 1,000 to 1,000,000 items. Needs `rt`; proves what is not proved yet.
+# vector, and of std's BTreeMap, at 1,000 to 1,000,000 items, and measures the memory of each at its fullest. Needs
+# `rt` and `/usr/bin/time`; proves what is not proved yet.
 set -eu
 top=$(cd "$(dirname "$0")/../../.." && pwd)
 work=$(mktemp -d)
 trap 'rm -rf "$work"' EXIT
 mkdir -p "$work/crates/containers/src"
-for crate in range_keys range_algebra range_store range_map btree_range_map; do
+for crate in range_keys range_algebra range_store range_map range_sets btree_range_map; do
     cp -r "$top/crates/$crate" "$work/crates/"
 done
 cp "$top/HANDLES" "$work/"
@@ -14,3 +15,12 @@ cp "$top/HANDLES" "$work/"
 cp "$(dirname "$0")/containers.txt" "$work/crates/containers/src/main.rt"
 cd "$work/crates/containers"
 rt run
+
+# The most memory that such a map of n items has taken while it was filled, over that of a program with an empty one.
+for container in tree vector std; do
+    empty=$(/usr/bin/time -f %M out/containers "$container" 0 2>&1 >"$work/said")
+    for n in 100000 1000000; do
+        full=$(/usr/bin/time -f %M out/containers "$container" "$n" 2>&1 >"$work/said")
+        echo "$container $n: $(((full - empty) * 1024 / n)) bytes an item"
+    done
+done

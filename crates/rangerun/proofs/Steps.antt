@@ -1,5 +1,5 @@
 -- A step where the closure may answer in some ways is one where it may answer in more.
-use Rattle.std.proofs.Common.{◌≡◌, Bool, List, [], ◌∷◌}
+use Rattle.std.proofs.Common.{Bool, List, [], ◌∷◌}
 use Rattle.std.specs.Prelude.{Option, Result, Ok, Err}
 use Rattle.btree_range_map.specs.AnyRange.{AnyRange}
 use Rattle.btree_range_map.specs.Item.{Item}

@@ -74,5 +74,5 @@ returns-clause-ok g c =
     let list = c.reserve.ensures.list in
     let rank_is : storage.rank ready c.args.p ≡ place = (c.reserve.ensures.positions c.args.p first.0).1 ∙ first.1 in
     let made = rw (list, rank_is, sym here, sym one) at (c.divide.ensures x) in
-    let frame = gave_way order lawful same equal (storage.is_good stored) (storage.rank stored) items r w place c.requires.stored c.known.ensures c.requires.window (storage.items c.divide.new.stored) c.args.value item place (place + w.count) (Some (with_end x end)) (Some behind) None None (all_meet order lawful same equal (storage.is_good stored) (storage.rank stored) items r w place c.requires.stored c.known.ensures c.requires.window) (left_frame_cut order lawful same equal (storage.is_good stored) (storage.rank stored) items r w place c.requires.stored c.known.ensures c.requires.nonempty c.requires.window c.args.value x here first.2 end end_clone) (right_frame_cut order lawful same equal (storage.is_good stored) (storage.rank stored) items r w place c.requires.stored c.known.ensures c.requires.nonempty c.requires.window c.args.value x here_end last.2 start copy start_clone copied) (omega (arith, c.requires.one)) refl refl (equal.refl c.args.value) (λ e. refl) made in
+    let frame = gave_way order lawful same equal (storage.is_good stored) (storage.rank stored) items r w place c.requires.stored c.known.ensures c.requires.window (storage.items c.divide.new.stored) c.args.value item place (place + w.count) (Some (with_end x end)) (Some behind) None None (all_meet order lawful same equal (storage.is_good stored) (storage.rank stored) items r w place c.requires.stored c.known.ensures c.requires.window) (left_frame_cut order lawful same equal (storage.is_good stored) (storage.rank stored) items r w place c.requires.stored c.known.ensures c.requires.nonempty c.requires.window c.args.value x here first.2 end end_clone values) (right_frame_cut order lawful same equal (storage.is_good stored) (storage.rank stored) items r w place c.requires.stored c.known.ensures c.requires.nonempty c.requires.window c.args.value x here_end last.2 start copy start_clone copied other) (omega (arith, c.requires.one)) refl refl (equal.refl c.args.value) (λ e. refl) made in
     inserted order lawful same equal (storage.is_good stored) (storage.rank stored) items r w place c.requires.stored c.known.ensures c.requires.nonempty c.requires.window (storage.items c.divide.new.stored) c.args.value item place (place + w.count) (Some (with_end x end)) (Some behind) None None left right refl refl (equal.refl c.args.value) frame made

@@ -1,5 +1,3 @@
-use Rattle.std.proofs.Common.{rules}
-use Rattle.range_algebra.specs.Range.{IsEmptyRange}
 use Rattle.range_map.proofs.Replies.{meets_some, meets_none}
 use Rattle.range_map.proofs.command.answer.Goals as goal
 

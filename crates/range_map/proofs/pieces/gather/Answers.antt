@@ -1,9 +1,8 @@
 use Rattle.std.proofs.lemmas.Grind.{common_steps}
-use Rattle.std.proofs.Common.{rules, ◌≡◌, ◌+◌, ◌<◌, length, get_or, take, drop, arith, sym, ap, ◌∙◌, refl, Some, None}
+use Rattle.std.proofs.Common.{rules, ◌≡◌, ◌+◌, ◌<◌, length, get_or, take, drop, arith, sym, ap, ◌∙◌, refl, Some}
 use Rattle.std.specs.Cmp.{Equal-is}
 use Rattle.std.specs.Option.{option_copied}
 use Rattle.range_algebra.specs.Clones.{bound_clone}
-use Rattle.range_algebra.specs.Intervals.{Every}
 use Rattle.range_algebra.proofs.Lists.{parts}
 use Rattle.range_algebra.specs.declared.any.AnyRange.{AnyRange}
 use Rattle.range_store.specs.declared.storage.Item.{Item}

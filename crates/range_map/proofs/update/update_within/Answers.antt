@@ -1,5 +1,4 @@
-use Rattle.std.proofs.Common.{rules, ◌≡◌, ◌+◌, ◌-◌, ◌<◌, length, get_or, take, drop, arith, sym, ap, ◌∙◌, refl, Some, None, Ok, Err}
-use Rattle.std.proofs.lemmas.Grind.{common_steps}
+use Rattle.std.proofs.Common.{rules, ◌≡◌, ◌+◌, ◌-◌, ◌<◌, length, get_or, take, drop, arith, ap, ◌∙◌, Some, None, Ok, Err}
 use Rattle.range_store.specs.Places.{place_before}
 use Rattle.range_map.specs.Answers.{MayAnswer}
 use Rattle.range_map.proofs.Cutting.{IsFull}

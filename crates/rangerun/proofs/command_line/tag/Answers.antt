@@ -1,4 +1,4 @@
-use Rattle.std.proofs.Common.{rules, ◌≡◌, ◌≢◌, sym, subst, w64}
+use Rattle.std.proofs.Common.{rules, ◌≢◌, sym, subst, w64}
 use Rattle.std.specs.Prelude.{codes}
 use Rattle.std.proofs.Math.Facts.{to_z-of_z}
 use mir.Val.{to_z, of_z}

@@ -1,6 +1,6 @@
 use Rattle.std.proofs.Common.{◌≢◌}
 use Rattle.rangerun.proofs.Spelled.{if_none}
-use Rattle.rangerun.proofs.LineWords.{Word, text_of, none_of, none_named}
+use Rattle.rangerun.proofs.LineWords.{text_of, none_of, none_named}
 use Rattle.rangerun.proofs.LineWords.Word.{InsertWord, TryWord, RemoveWord, UpdateWord, GetWord, HasWord, MeetsWord}
 use Rattle.rangerun.proofs.command_line.with_fields.Goals as goal
 

@@ -1,5 +1,4 @@
-use Rattle.std.proofs.Common.{◌≡◌, refl, sym, subst}
-use Rattle.btree_range_map.specs.AnyRange.{AnyRange}
+use Rattle.std.proofs.Common.{refl, sym, subst}
 use Rattle.btree_range_map.specs.Range.{IsEmptyRange}
 use Rattle.btree_range_map.specs.References.{range_of}
 use Rattle.rangerun.specs.Replies.{HasEnds, span_text}

@@ -1,4 +1,4 @@
-use Rattle.std.proofs.Common.{◌≡◌, ◌∷◌, subst, ℤ, List, [], refl, sym}
+use Rattle.std.proofs.Common.{◌≡◌, ◌∷◌, subst, ℤ, [], refl, sym}
 use Rattle.std.specs.List.{AllByRecursion}
 use Rattle.btree_range_map.specs.AnyRange.{AnyRange}
 use Rattle.btree_range_map.specs.Item.{Item}

@@ -1,11 +1,9 @@
-use Rattle.std.proofs.Common.{◌≡◌, ◌≢◌, ◌∷◌, ◌++◌, ℕ, subst, ℤ, List, [], rules, arith, ◌∙◌, sym, ap, length}
-use Rattle.std.specs.Prelude.{Some, IfSome}
+use Rattle.std.proofs.Common.{◌≡◌, ◌≢◌, subst, [], arith, ◌∙◌, sym}
 use Rattle.std.specs.Str.{IsUtf8}
-use Rattle.std.specs.Io.BufRead.{first_line, drop_through, take_through}
-use Rattle.rangerun.specs.Text.{line_content}
+use Rattle.std.specs.Io.BufRead.{first_line, take_through}
 use Rattle.std.specs.Io.KnownBytes.{IsAtEnd}
 use Rattle.rangerun.specs.Replies.{Writes}
-use Rattle.rangerun.specs.Conversation.{Conversation, Answers}
+use Rattle.rangerun.specs.Conversation.{Conversation}
 use Rattle.rangerun.proofs.Progress.{HasAnswered, answered_more, answered_all, is_read, if_some_as, stopped_at, line_of, none_of_none, first_line_of}
 use Rattle.rangerun.proofs.serve.serve_lines.Goals as goal
 

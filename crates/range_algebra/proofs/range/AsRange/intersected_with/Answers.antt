@@ -1,5 +1,4 @@
 use Rattle.std.proofs.Common.{◌∙◌, sym, subst}
-use Rattle.range_algebra.specs.declared.any.AnyRange.{AnyRange}
 use Rattle.range_algebra.specs.Range.{Holds}
 use Rattle.range_algebra.specs.Combined.{common}
 use Rattle.range_algebra.proofs.Commons.{common_holds}

@@ -1,4 +1,4 @@
-use Rattle.std.proofs.Common.{rules, ◌≡◌, ◌∙◌, sym, false, true, IsTrue}
+use Rattle.std.proofs.Common.{rules, ◌≡◌, ◌∙◌, sym, false}
 use Rattle.range_algebra.specs.Compared.{range_ordering, matches}
 use Rattle.range_keys.specs.Position.{start_position, end_position, position_cmp}
 use Rattle.range_algebra.proofs.Meeting.{intersects_is, not_greater}

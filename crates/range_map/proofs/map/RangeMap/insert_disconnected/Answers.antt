@@ -1,4 +1,4 @@
-use Rattle.std.proofs.Common.{OnOk, OnErr, Ok, Err, Result, List, ◌≡◌, ◌+◌, ◌≤◌, length, ap, arith, rules, subst}
+use Rattle.std.proofs.Common.{OnOk, OnErr, Ok, Err, Result, List, ◌≡◌, ◌+◌, ◌≤◌, length, ap, arith, subst}
 use Rattle.std.proofs.lemmas.List.Edits.{length-insert}
 use Rattle.range_algebra.specs.Range.{IsEmptyRange}
 use Rattle.range_map.specs.Lookups.{IsPutInto, MeetAlso}

@@ -1,4 +1,4 @@
-use Rattle.std.proofs.Common.{◌≡◌, sym, ◌∙◌, rules}
+use Rattle.std.proofs.Common.{sym, ◌∙◌, rules}
 use Rattle.std.specs.Cmp.{Equal-is}
 use Rattle.range_algebra.specs.Clones.{bound_clone}
 use Rattle.range_algebra.specs.Range.{IsEmptyRange}
