@@ -98,6 +98,3 @@ fn measured<T: Measure>(start: &Bound<KeyRef<'_, T>>, end: &Bound<KeyRef<'_, T>>
         (_, _) => None,
     }
 }
-
-#[cfg(test)]
-mod tests;

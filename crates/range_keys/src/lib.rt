@@ -5,7 +5,5 @@ pub mod bound;
 mod characters;
 pub mod inner;
 mod signed;
-#[cfg(test)]
-mod tests;
 pub mod traits;
 mod unsigned;

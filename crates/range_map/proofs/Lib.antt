@@ -33,7 +33,6 @@ pub mod Scans
 pub mod Seaming
 pub mod Searching
 pub mod Separating
-pub mod SetClones
 pub mod Splicing
 pub mod StoredLists
 pub mod Updating

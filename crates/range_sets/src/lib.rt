@@ -4,8 +4,6 @@
 mod change;
 mod cloning;
 mod comparing;
-#[cfg(test)]
-mod comparing_tests;
 mod complement;
 mod extension;
 mod into_iter;
@@ -13,8 +11,4 @@ mod iter;
 mod laws;
 mod measuring;
 pub mod set;
-#[cfg(test)]
-mod tests;
 mod text;
-#[cfg(test)]
-mod text_tests;

@@ -1,0 +1,5 @@
+//! Keys and bounds.
+
+mod bounds;
+mod port;
+mod values;

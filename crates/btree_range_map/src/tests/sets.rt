@@ -1,0 +1,5 @@
+//! Sets, over either container.
+
+mod calls;
+mod comparing;
+mod text;

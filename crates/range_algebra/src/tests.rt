@@ -1,4 +1,0 @@
-mod comparison;
-mod measure;
-mod parts;
-mod reading;
