@@ -1,8 +1,8 @@
 //! Maps whose keys are gathered into ranges.
 //!
-//! A [`RangeMap`] binds each key of a range to one value. Ranges that touch and have equal values are
-//! kept as one, so a map stores no more ranges than its bindings need. A [`RangeSet`] is a set of keys,
-//! kept in the same way.
+//! A [`RangeMap`] binds each key of a range to one value. Ranges that touch and have equal values
+//! are kept as one, so a map stores no more ranges than its bindings need. A [`RangeSet`] is a set
+//! of keys, kept in the same way.
 #![tactic(auto)]
 
 pub mod btree;

@@ -28,10 +28,11 @@ use std::ops::{Bound, RangeBounds};
 
 /// A range with any start and any end.
 ///
-/// A range holds the keys that both its bounds hold. One whose start lies past its end, as from 8 to 3, is empty, and so is the one from excluded 255
-/// on over `u8`. Ranges are compared by the positions of their bounds: where the key type tells a neighbour or an end, it takes the place of an
-/// excluded or an unbounded bound, so that over `u8` the full range equals that from 0 to 255, both included. The order is by the start, then
-/// by the end.
+/// A range holds the keys that both its bounds hold. One whose start lies past its end, as from 8
+/// to 3, is empty, and so is the one from excluded 255 on over `u8`. Ranges are compared by the
+/// positions of their bounds: where the key type tells a neighbour or an end, it takes the place of
+/// an excluded or an unbounded bound, so that over `u8` the full range equals that from 0 to 255,
+/// both included. The order is by the start, then by the end.
 ///
 /// ```text
 /// let range: AnyRange<i32> = (0..10).into();
@@ -104,7 +105,8 @@ impl<T: Drop> RangeBounds<T> for AnyRange<T> {
 impl<T: PartialEnum> AnyRange<T> {
     /// Whether the start lies past the end, so that no key is held.
     ///
-    /// Over complete keys, as integers and characters, a range that holds no key is empty. Over other keys it need not be.
+    /// Over complete keys, as integers and characters, a range that holds no key is empty. Over
+    /// other keys it need not be.
     pub fn is_empty(&self) -> bool
         ensures by_position { IsTrue result ↔ IsEmptyRange T.order self.now }
         ensures keyless { IsTrue result → IsKeyless T.order self.now }
@@ -152,7 +154,8 @@ impl<T: PartialEnum + Bounded + Clone> AnyRange<T> {
 }
 
 impl<T: PartialEnum + Bounded + Clone> AnyRange<T> {
-    /// A key of the range: the least, or else the greatest, or `None` where the range is empty or its bounds name no key.
+    /// A key of the range: the least, or else the greatest, or `None` where the range is empty or
+    /// its bounds name no key.
     pub fn pick(&self) -> Result<Option<T>, AllocError>
         requires clones { ClonesAreEqual T.is_clone T.eq }
         ensures empty { IsEmptyRange T.order self.now → IfOk result (λ key. key ≡ None) }

@@ -16,13 +16,14 @@ use range_keys::traits::{Bounded, MaybeBounded, Measure, PartialEnum};
 use std::ops::{Bound, RangeBounds};
 
 impl<T: Measure + Bounded> AnyRange<T> {
-    /// How much the range measures: over the shipped keys, each of which has length 1, the number of
-    /// keys that it holds.
+    /// How much the range measures: over the shipped keys, each of which has length 1, the number
+    /// of keys that it holds.
     ///
     /// Over keys of other lengths it is the distance from the start's key to the end's, in the unit
     /// of `Measure::len`, less the length of an excluded start, plus that of an included end. An
     /// unbounded bound stands for the least or the greatest key of the type, included. An empty
-    /// range, as `8..3`, measures 0. The call takes no memory, and the same few steps for any range.
+    /// range, as `8..3`, measures 0. The call takes no memory, and the same few steps for any
+    /// range.
     ///
     /// ```
     /// assert_eq!(AnyRange::new(Bound::Included(10u8), Bound::Unbounded).len(), 246);
@@ -40,8 +41,8 @@ impl<T: Measure> AnyRange<T> {
     /// How much the range measures, as `len` says, or `None` where it is unbounded towards an end
     /// that the key type does not tell.
     ///
-    /// An empty range is not unbounded towards such an end, so it measures `Some(0)`. The call takes
-    /// no memory.
+    /// An empty range is not unbounded towards such an end, so it measures `Some(0)`. The call
+    /// takes no memory.
     ///
     /// ```
     /// assert_eq!(AnyRange::new(Bound::Excluded(2u64), Bound::Included(5)).bounded_len(), Some(3));

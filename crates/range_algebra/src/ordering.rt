@@ -10,8 +10,8 @@ use range_keys::traits::Measure;
 
 /// Where a range lies to another.
 ///
-/// The flag of `Before` and `After` says whether the two touch, with no key between them. The flags of `Intersecting` say whether the starts and
-/// whether the ends are equal.
+/// The flag of `Before` and `After` says whether the two touch, with no key between them. The flags
+/// of `Intersecting` say whether the starts and whether the ends are equal.
 #[derive(Clone, Copy, PartialEq, Eq, Debug)]
 pub enum RangeOrdering {
     Before(bool),
@@ -56,7 +56,8 @@ impl RangeOrdering {
 
 /// What can be compared with ranges of keys `T`.
 ///
-/// Ranges are compared by the positions of their bounds, so `0..10` and `0..=9` over integers have equal starts and equal ends.
+/// Ranges are compared by the positions of their bounds, so `0..10` and `0..=9` over integers have
+/// equal starts and equal ends.
 ///
 /// ```text
 /// (0..10).range_partial_cmp(&(10..20))    Some(RangeOrdering::Before(true))

@@ -21,7 +21,8 @@ use std::cmp::Ordering;
 use std::hash::{Hash, Hasher};
 use std::ops::Bound;
 
-/// A value that is a bound of a range: a `Bound` over a reference, or a byte, which is an included bound.
+/// A value that is a bound of a range: a `Bound` over a reference, or a byte, which is an included
+/// bound.
 pub trait AsBound {
     /// The type of the keys.
     type Item;
@@ -57,8 +58,8 @@ impl<'a, T> AsBound for Bound<&'a T> {
 /// A bound as the start or as the end of a range.
 ///
 /// `Directed<Bound<&T>>` is compared and hashed by where the bound lies in the order of the keys,
-/// starts and ends together: over `u32` the start `Excluded(0)`, the start `Included(1)` and the end
-/// `Included(1)` are equal, and `Start(Unbounded)` is `Start(Included(0))`.
+/// starts and ends together: over `u32` the start `Excluded(0)`, the start `Included(1)` and the
+/// end `Included(1)` are equal, and `Start(Unbounded)` is `Start(Included(0))`.
 #[derive(Clone, Copy, Drop, Debug)]
 pub enum Directed<T> {
     /// The bound where a range begins.
@@ -90,7 +91,8 @@ impl<T> Directed<T> {
 }
 
 impl<T> Directed<Bound<T>> {
-    /// The same bound over a reference to its key. It can be compared, where keys tell their neighbours.
+    /// The same bound over a reference to its key. It can be compared, where keys tell their
+    /// neighbours.
     pub fn as_ref(&self) -> Directed<Bound<&T>>
         ensures { directed_map (bound_map (λ x. x.now)) result ≡ self.now }
     {
@@ -104,8 +106,8 @@ impl<T> Directed<Bound<T>> {
 /// How a bound lies to another.
 ///
 /// The inner side of a start is what is greater than it, that of an end what is less. So over `u32`
-/// `Start(Included(0))` lies to `Start(Excluded(0))` as `Excluded(true)`, and the other way round as
-/// `Included(false)`; to `Start(Included(2))` it lies as `Excluded(false)`.
+/// `Start(Included(0))` lies to `Start(Excluded(0))` as `Excluded(true)`, and the other way round
+/// as `Included(false)`; to `Start(Included(2))` it lies as `Excluded(false)`.
 #[derive(Clone, Copy, PartialEq, Eq, Debug)]
 pub enum BoundOrdering {
     /// On the other's inner side, or at it, which the flag tells.

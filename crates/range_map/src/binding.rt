@@ -26,7 +26,8 @@ fn growth(count: usize) -> usize
     if count == 0 { 1 } else { 0 }
 }
 
-/// Binds a range that lies within one stored range: with an equal value nothing changes, with another it stands between two parts.
+/// Binds a range that lies within one stored range: with an equal value nothing changes, with
+/// another it stands between two parts.
 pub(crate) fn bind_within<K: PartialEnum + Clone, V: Eq + Clone, C: Storage<Item<AnyRange<K>, V>>>(
     stored: &mut C,
     window: &Window<C::Position>,

@@ -1,4 +1,5 @@
-//! The one change to a container: nothing here takes memory beyond the container's room, and nothing fails.
+//! The one change to a container: nothing here takes memory beyond the container's room, and
+//! nothing fails.
 ghost use Rattle.std.specs.Prelude.{◌≡◌, ◌+◌, ◌≤◌, ◌∷◌, ◌++◌, [], length, take, drop, slice_set, slice_index_or, Some, Option, List, ℕ};
 ghost use Rattle.std.specs.Option.{ForSome, unwrap_or};
 ghost use Rattle.std.specs.declared.ops.Bound.{Bound};
@@ -101,7 +102,8 @@ fn joined<K: Drop>(other: Option<Bound<K>>, own: Bound<K>) -> Bound<K>
     }
 }
 
-/// Binds a range where `left` and `right` say what becomes of the items beside it, and a run gives way to it.
+/// Binds a range where `left` and `right` say what becomes of the items beside it, and a run gives
+/// way to it.
 pub(crate) fn change<K: Drop, V: Drop, C: Storage<Item<AnyRange<K>, V>>>(
     stored: &mut C,
     run: Cursor<C::Position>,
@@ -207,7 +209,8 @@ pub(crate) fn clear<K: Drop, V: Drop, C: Storage<Item<AnyRange<K>, V>>>(
     remove_rest::<Item<AnyRange<K>, V>, C>(stored, run);
 }
 
-/// Shortens an item to `end`, and puts `middle` and what it was behind `start`, with a clone of its value, after it.
+/// Shortens an item to `end`, and puts `middle` and what it was behind `start`, with a clone of its
+/// value, after it.
 pub(crate) fn divide<K: Drop, V: Drop, C: Storage<Item<AnyRange<K>, V>>>(
     stored: &mut C,
     p: C::Position,

@@ -46,8 +46,8 @@ pub enum Reply<K, V, E> {
     Done,
     /// There was not enough memory, and nothing was changed.
     Memory,
-    /// The range that was to be inserted meets or touches a stored one, and nothing was changed. The
-    /// range and the value are handed back.
+    /// The range that was to be inserted meets or touches a stored one, and nothing was changed.
+    /// The range and the value are handed back.
     Connected(AnyRange<K>, V),
     /// The closure answered this error for a piece, and nothing was changed.
     Closure(E),
@@ -144,9 +144,9 @@ pub fn answer<
 
 /// Answers the commands in turn, one reply each.
 ///
-/// Makes room for all replies first: where there is none, nothing is done. A command that is refused
-/// later gets the reply `Memory`, `Connected` or `Closure`, changes nothing, and the others follow.
-/// An update asks `f` with its tag.
+/// Makes room for all replies first: where there is none, nothing is done. A command that is
+/// refused later gets the reply `Memory`, `Connected` or `Closure`, changes nothing, and the others
+/// follow. An update asks `f` with its tag.
 pub fn run<
     K: Measure + Clone,
     V: Eq + Clone,

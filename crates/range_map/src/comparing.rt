@@ -123,8 +123,9 @@ where
 impl<K: PartialEnum, V: Eq + Drop, C: Storage<Item<AnyRange<K>, V>>> RangeMap<K, V, C> {
     /// Whether a map over any container stores equal ranges with equal values.
     ///
-    /// Then the two bind every key alike; over keys that tell their neighbours and ends, as integers and
-    /// characters, it does exactly where they do. Takes no memory. Costs one step for each stored range.
+    /// Then the two bind every key alike; over keys that tell their neighbours and ends, as
+    /// integers and characters, it does exactly where they do. Takes no memory. Costs one step for
+    /// each stored range.
     pub fn eq_across<D: Storage<Item<AnyRange<K>, V>>>(&self, other: &RangeMap<K, V, D>) -> bool
         ensures value { result ≡ same_list K.order V.eq (C.items self.now) (D.items other.now) }
         ensures bound { IsTrue result → BindAlike K.order V.eq (C.items self.now) (D.items other.now) }
@@ -140,9 +141,9 @@ impl<K: PartialEnum, V: Ord + Drop, C: Storage<Item<AnyRange<K>, V>>> RangeMap<K
     /// How a map over any container compares, by the stored ranges with their values in dictionary
     /// order, each range before its value.
     ///
-    /// Over keys that tell their neighbours and ends, as integers and characters, maps that bind every
-    /// key alike, and no others, are `Equal`, and compare alike with every map. Takes no memory. Costs
-    /// one step for each stored range.
+    /// Over keys that tell their neighbours and ends, as integers and characters, maps that bind
+    /// every key alike, and no others, are `Equal`, and compare alike with every map. Takes no
+    /// memory. Costs one step for each stored range.
     pub fn cmp_across<D: Storage<Item<AnyRange<K>, V>>>(
         &self,
         other: &RangeMap<K, V, D>,

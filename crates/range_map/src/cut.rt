@@ -40,7 +40,8 @@ pub(crate) fn turned<K>(bound: Bound<K>) -> Bound<K>
     }
 }
 
-/// A clone of the bound on the other side of a bound: what it includes is excluded, and the other way round.
+/// A clone of the bound on the other side of a bound: what it includes is excluded, and the other
+/// way round.
 pub(crate) fn turned_clone<K: Clone>(bound: &Bound<K>) -> Result<Bound<K>, AllocError>
     ensures { IfOk result (λ copy. IsBoundClone K.is_clone (turned_bound bound.now) copy) }
 {

@@ -52,7 +52,8 @@ pub(crate) fn joined_items<K, P: Copy>(edge: &Edge<K, P>) -> usize
     }
 }
 
-/// What becomes of an item that is cut at the bound, where there is one. Clones the bound for it alone.
+/// What becomes of an item that is cut at the bound, where there is one. Clones the bound for it
+/// alone.
 pub(crate) fn cut_edge<K: PartialEnum + Clone, P: Copy>(
     item: Option<P>,
     bound: Bound<&K>,

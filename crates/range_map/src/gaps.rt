@@ -98,9 +98,9 @@ impl<'a, K: PartialEnum + 'a, V: 'a, C: Storage<Item<AnyRange<K>, V>> + 'a> Iter
 impl<K: PartialEnum, V: Eq + Drop, C: Storage<Item<AnyRange<K>, V>>> RangeMap<K, V, C> {
     /// The ranges that hold no bound key, in rising order, each as wide as it goes and none empty.
     ///
-    /// A map that binds no key has one gap, the full range, and one that binds every key has none. A
-    /// gap refers to the bounds of the ranges beside it: `AnyRange::cloned` makes one of its own of
-    /// it. A walk over all gaps takes one step for each stored range. Takes no memory.
+    /// A map that binds no key has one gap, the full range, and one that binds every key has none.
+    /// A gap refers to the bounds of the ranges beside it: `AnyRange::cloned` makes one of its own
+    /// of it. A walk over all gaps takes one step for each stored range. Takes no memory.
     ///
     /// ```
     /// let mut gaps = map.gaps(); // of a map over bytes that binds `..10` and `20..`

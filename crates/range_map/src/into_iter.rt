@@ -14,8 +14,8 @@ use range_keys::traits::PartialEnum;
 use range_store::storage::{Item, Storage};
 use std::marker::{Model, PhantomData};
 
-/// The ranges that are left of a map that was taken apart, each with its value, in order. A contract
-/// sees their list.
+/// The ranges that are left of a map that was taken apart, each with its value, in order. A
+/// contract sees their list.
 #[derive(Drop)]
 pub struct IntoIter<K, V, C: Storage<Item<AnyRange<K>, V>>> {
     stored: C,

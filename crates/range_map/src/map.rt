@@ -26,8 +26,8 @@ use std::ops::Bound;
 
 /// A map that binds the keys of ranges to values.
 ///
-/// It stores nonempty ranges in order, none of which meets another, and which touch only where their
-/// values differ; over keys that tell their neighbours no shorter list binds the same keys. A
+/// It stores nonempty ranges in order, none of which meets another, and which touch only where
+/// their values differ; over keys that tell their neighbours no shorter list binds the same keys. A
 /// contract sees the container, and its items as `C.items`.
 ///
 /// ```
@@ -74,7 +74,8 @@ impl<K: PartialEnum, V: Eq + Drop, C: Storage<Item<AnyRange<K>, V>>> RangeMap<K,
 
     /// How many ranges are stored. Takes no memory.
     ///
-    /// Over keys that tell their neighbours and ends no list of ranges that binds the same has fewer.
+    /// Over keys that tell their neighbours and ends no list of ranges that binds the same has
+    /// fewer.
     pub fn range_count(&self) -> usize
         ensures value { result ≡ length (C.items self.now) }
         ensures least { IsComplete K.order → IsLeastCount K.order V.eq (C.items self.now) result }

@@ -28,8 +28,8 @@ fn measure<K: Measure, V, C: Storage<Item<AnyRange<K>, V>>>(
 }
 
 impl<K: Measure + Bounded, V: Eq + Drop, C: Storage<Item<AnyRange<K>, V>>> RangeMap<K, V, C> {
-    /// What the stored ranges measure together: over the shipped keys, each of which has length 1, the
-    /// number of bound keys.
+    /// What the stored ranges measure together: over the shipped keys, each of which has length 1,
+    /// the number of bound keys.
     ///
     /// An unbounded bound stands for the least or the greatest key, included. Costs a step and a
     /// distance for each stored range. Takes no memory.

@@ -102,14 +102,16 @@ fn update_pieces<
 impl<K: Measure + Clone, V: Eq + Clone, C: Storage<Item<AnyRange<K>, V>>> RangeMap<K, V, C> {
     /// Binds each piece of the range as the closure answers to what its keys are bound to.
     ///
-    /// The closure is asked once for each part that the range has in common with a stored range, with
-    /// its value, and once for each gap inside, with `None`; it answers the new value, `None` to unbind
-    /// the keys, or an error, which ends the call. Only when all answers are there is anything changed;
-    /// after an error the map is as it was. An empty range asks nothing and changes nothing.
+    /// The closure is asked once for each part that the range has in common with a stored range,
+    /// with its value, and once for each gap inside, with `None`; it answers the new value, `None`
+    /// to unbind the keys, or an error, which ends the call. Only when all answers are there is
+    /// anything changed; after an error the map is as it was. An empty range asks nothing and
+    /// changes nothing.
     ///
-    /// Takes memory for a list of what the closure gives, for clones of the bounds of its pieces and of
-    /// the stored ranges that are cut, and where more ranges are stored than the container has room
-    /// for. Costs one search, and a step for each stored range that the range meets or touches.
+    /// Takes memory for a list of what the closure gives, for clones of the bounds of its pieces
+    /// and of the stored ranges that are cut, and where more ranges are stored than the container
+    /// has room for. Costs one search, and a step for each stored range that the range meets or
+    /// touches.
     ///
     /// ```
     /// // Counts one more for each key of the range.

@@ -17,8 +17,8 @@ impl<T: Measure + Clone, C: Storage<Item<AnyRange<T>, ()>>> RangeSet<T, C> {
     /// Adds each key of the range. An empty range changes nothing.
     ///
     /// Takes memory where one range more is stored and the container has no room for it. After an
-    /// error the set is as it was. Costs one search, and a step for each stored range that the range
-    /// meets or touches.
+    /// error the set is as it was. Costs one search, and a step for each stored range that the
+    /// range meets or touches.
     pub fn insert<R: IntoRange<Item = T>>(&mut self, range: R) -> Result<(), MapError>
         requires { ClonesAreEqual T.is_clone T.eq }
         ensures added { OnOk result (HoldsAlso T.order (C.items self.old) (C.items self.new) (R.range range)) }
@@ -36,9 +36,9 @@ impl<T: Measure + Clone, C: Storage<Item<AnyRange<T>, ()>>> RangeSet<T, C> {
     /// Takes each key of the range away. An empty range, and one that meets no stored range, change
     /// nothing.
     ///
-    /// Takes memory for a clone of each bound at which it cuts a stored range, and for the container's
-    /// room where one stored range becomes two. After an error the set is as it was. Costs one search,
-    /// and a step for each stored range that the range meets.
+    /// Takes memory for a clone of each bound at which it cuts a stored range, and for the
+    /// container's room where one stored range becomes two. After an error the set is as it was.
+    /// Costs one search, and a step for each stored range that the range meets.
     pub fn remove<R: AsRange<Item = T>>(&mut self, range: R) -> Result<(), MapError>
         requires { ClonesAreEqual T.is_clone T.eq }
         ensures removed { OnOk result (HoldsWithout T.order (C.items self.old) (C.items self.new) (R.range range)) }

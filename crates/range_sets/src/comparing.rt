@@ -35,8 +35,8 @@ impl<T: PartialEnum, C: Storage<Item<AnyRange<T>, ()>>> RangeSet<T, C> {
     /// How a set over any container compares, by the stored ranges in dictionary order.
     ///
     /// Over keys that tell their neighbours and ends, as integers and characters, sets that hold
-    /// the same keys, and no others, are `Equal`, and compare alike with every set. Takes no memory.
-    /// Costs one step for each stored range.
+    /// the same keys, and no others, are `Equal`, and compare alike with every set. Takes no
+    /// memory. Costs one step for each stored range.
     pub fn cmp_across<D: Storage<Item<AnyRange<T>, ()>>>(&self, other: &RangeSet<T, D>) -> Ordering
         ensures value { result ≡ ranges_cmp T.order (C.items self.now) (D.items other.now) }
         ensures same { IsComplete T.order → result ≡ Equal ↔ HoldAlike T.order (C.items self.now) (D.items other.now) }

@@ -16,8 +16,8 @@ use std::alloc::Global;
 impl<T: Measure + Clone, C: Storage<Item<AnyRange<T>, ()>>> RangeSet<T, C> {
     /// Adds each key of each range that the iterator gives.
     ///
-    /// Where memory is refused for a range, the keys of all ranges before it stay added, and no other key.
-    /// Costs an insertion for each range.
+    /// Where memory is refused for a range, the keys of all ranges before it stay added, and no
+    /// other key. Costs an insertion for each range.
     pub fn extend<R: IntoRange<Item = T>, I: IntoIterator<Item = R>>(
         &mut self,
         ranges: I,

@@ -13,8 +13,8 @@ use range_keys::traits::{Bounded, Measure};
 use range_store::storage::{Item, Storage};
 
 impl<T: Measure + Bounded, C: Storage<Item<AnyRange<T>, ()>>> RangeSet<T, C> {
-    /// What the stored ranges measure together: over the shipped keys, each of which has length 1, the
-    /// number of keys in the set.
+    /// What the stored ranges measure together: over the shipped keys, each of which has length 1,
+    /// the number of keys in the set.
     ///
     /// Costs a step and a distance for each stored range. Takes no memory.
     pub fn len(&self) -> u128

@@ -44,8 +44,9 @@ impl<T: PartialEnum + Clone> AnyRange<T> {
 
     /// Widens the range to the hull of it and the other: the earlier start and the later end.
     ///
-    /// A hole between the two is included: `0..3` becomes `0..10` by `add(&(8..10))`. The bounds of the other are cloned where they are taken. A
-    /// call that is refused for want of memory leaves the range as it was.
+    /// A hole between the two is included: `0..3` becomes `0..10` by `add(&(8..10))`. The bounds of
+    /// the other are cloned where they are taken. A call that is refused for want of memory leaves
+    /// the range as it was.
     pub fn add<S: RangeBounds<T>>(&mut self, other: &S) -> Result<(), AllocError>
         requires clones { ClonesAreEqual T.is_clone T.eq }
         ensures start { S.has_bounds other.now → OnOk result (SameBound T.order (earlier_start T.order self.old.start (S.start_bound other.now)) self.new.start) }

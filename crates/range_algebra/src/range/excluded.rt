@@ -110,7 +110,8 @@ impl<T: Measure> IntoRange for RangeFromExcludedTo<T> {
     }
 }
 
-/// The keys above a start, up to an end: those of `RangeFromExcludedToIncluded::new(3, 6)` are 4, 5 and 6.
+/// The keys above a start, up to an end: those of `RangeFromExcludedToIncluded::new(3, 6)` are 4, 5
+/// and 6.
 #[derive(Drop)]
 pub struct RangeFromExcludedToIncluded<T> {
     pub start: T,

@@ -24,7 +24,8 @@ where
     }
 }
 
-/// Whether no bound of the type can lie between the first position and the second, which is greater.
+/// Whether no bound of the type can lie between the first position and the second, which is
+/// greater.
 pub(crate) fn touches<T: PartialEnum>(
     low: &Position<KeyRef<'_, T>>,
     high: &Position<KeyRef<'_, T>>,
@@ -46,8 +47,8 @@ pub(crate) fn touches<T: PartialEnum>(
     }
 }
 
-/// Does nothing, and promises what the flag of a comparison tells: it is true exactly where no bound over keys
-/// has its position between the two.
+/// Does nothing, and promises what the flag of a comparison tells: it is true exactly where no
+/// bound over keys has its position between the two.
 pub fn flags_tell_gaps<K: PartialEnum>()
     ensures { FlagsTellGaps K.order }
 {}

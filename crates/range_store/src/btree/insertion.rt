@@ -39,8 +39,8 @@ pub struct Inserted {
     pub spot: Spot,
 }
 
-// Where the item at a place of a leaf is to be looked for after the leaf was cut. It is a hint alone:
-// who follows it sees whether the item still stands there.
+// Where the item at a place of a leaf is to be looked for after the leaf was cut. It is a hint
+// alone: who follows it sees whether the item still stands there.
 pub fn spot_after(leaf: usize, index: usize, split: Option<Split>) -> Spot {
     if let Some(Split { right, .. }) = split {
         if index > HALF {
@@ -97,7 +97,8 @@ pub struct Placed {
     pub spot: Spot,
 }
 
-// Puts an item before the one of this rank, or last, and tells the root of the tree that then stands.
+// Puts an item before the one of this rank, or last, and tells the root of the tree that then
+// stands.
 pub fn insert_into(
     nodes: &mut Slab<Node>,
     levels: usize,

@@ -198,8 +198,8 @@ pub fn swap_item(nodes: &mut Slab<Node>, number: usize, index: usize, item: usiz
     old
 }
 
-// Counts one item more below a node, where one went below `child` at `index`. If that was split, the
-// border of its halves and the new half come into the node.
+// Counts one item more below a node, where one went below `child` at `index`. If that was split,
+// the border of its halves and the new half come into the node.
 pub fn attach(
     nodes: &mut Slab<Node>,
     number: usize,
@@ -239,7 +239,8 @@ pub fn attach(
     }
 }
 
-// Takes the second half of an overfull node out of it, but for the item between the halves, which goes.
+// Takes the second half of an overfull node out of it, but for the item between the halves, which
+// goes.
 pub fn take_half(nodes: &mut Slab<Node>, number: usize, half: usize, moved: usize) -> Node
     requires present { ContainsKey nodes.old number }
     requires within { half < length (items_of (get nodes.old number)) }
@@ -328,8 +329,8 @@ pub fn set_border(nodes: &mut Slab<Node>, number: usize, index: usize, left: usi
     node.sizes.as_mut_slice()[index + 1] = right_size;
 }
 
-// Takes the item at `index` out of a node, and the child behind it. The size of `left`, which stands
-// before the item, is taken anew.
+// Takes the item at `index` out of a node, and the child behind it. The size of `left`, which
+// stands before the item, is taken anew.
 pub fn detach(nodes: &mut Slab<Node>, number: usize, index: usize, left: usize)
     requires present { ContainsKey nodes.old number }
     requires item { index < length (items_of (get nodes.old number)) }

@@ -33,7 +33,8 @@ pub fn level(nodes: &mut Slab<Node>, low: usize, number: usize, index: usize)
     set_border(nodes, number, index, left, split);
 }
 
-// Where the pair begins with which a short child is levelled: a neighbour with an item to spare is taken first.
+// Where the pair begins with which a short child is levelled: a neighbour with an item to spare is
+// taken first.
 pub fn pair_start(nodes: &Slab<Node>, number: usize, index: usize) -> usize
     requires present { ContainsKey nodes.now number }
     requires children { All (ContainsKey nodes.now) (children_of (get nodes.now number)) }
@@ -59,7 +60,8 @@ pub fn pair_start(nodes: &Slab<Node>, number: usize, index: usize) -> usize
     index - 1
 }
 
-// Gives the child at `index` an item if it is short: from a neighbour that has one to spare, else by joining the two.
+// Gives the child at `index` an item if it is short: from a neighbour that has one to spare, else
+// by joining the two.
 pub fn mend(nodes: &mut Slab<Node>, low: usize, number: usize, index: usize)
     requires { IsMendable nodes.old low number index }
     ensures shrinks { Shrinks nodes.old nodes.new (suc low) number (numbers nodes.old (suc (suc low)) number) }
@@ -118,7 +120,8 @@ pub fn remove_below(nodes: &mut Slab<Node>, below: usize, number: usize, rank: u
     }
 }
 
-// The root of a tree after a removal: a root with no item goes, and its only child takes its place, if it has one.
+// The root of a tree after a removal: a root with no item goes, and its only child takes its place,
+// if it has one.
 pub fn settle(nodes: &mut Slab<Node>, levels: usize, root: usize) -> Root
     requires { IsLooseTree nodes.old levels root }
     ensures tree { IsTree nodes.new result.levels result.number }

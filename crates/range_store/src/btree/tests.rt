@@ -185,7 +185,8 @@ fn put_between<C: Storage<u64>>(
     ])
 }
 
-// Takes the item of a rank out, and tells what stands round the position of the one that followed it.
+// Takes the item of a rank out, and tells what stands round the position of the one that followed
+// it.
 fn cut_between<C: Storage<u64>>(storage: &mut C, rank: usize) -> Option<[Option<u64>; 3]> {
     let p = nth(storage, rank)?;
     let (_, following) = storage.remove_at(p);

@@ -89,7 +89,8 @@ impl NumberTree {
         find_below(&self.nodes, self.levels - 1, self.root, rank)
     }
 
-    /// What stands behind a number, if that still stands at this place of a leaf and is not the last one there. One node is read.
+    /// What stands behind a number, if that still stands at this place of a leaf and is not the
+    /// last one there. One node is read.
     pub fn behind(&self, spot: Spot, number: usize) -> Option<Found>
         requires { (k : ℕ) → occurrences k self.now.numbers ≤ 1 }
         ensures { IfSome result (λ f. (r : ℕ) → r < length self.now.numbers → slice_index self.now.numbers r ≡ number → (r + 1 < length self.now.numbers) × (slice_index self.now.numbers (r + 1) ≡ f.number)) }
@@ -104,7 +105,8 @@ impl NumberTree {
         None
     }
 
-    /// What stands before a number, if that still stands at this place of a leaf and is not the first one there. One node is read.
+    /// What stands before a number, if that still stands at this place of a leaf and is not the
+    /// first one there. One node is read.
     pub fn before(&self, spot: Spot, number: usize) -> Option<Found>
         requires { (k : ℕ) → occurrences k self.now.numbers ≤ 1 }
         ensures { IfSome result (λ f. (r : ℕ) → r < length self.now.numbers → slice_index self.now.numbers r ≡ number → (0 < r) × (slice_index self.now.numbers (r - 1) ≡ f.number)) }

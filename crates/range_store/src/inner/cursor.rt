@@ -1,4 +1,5 @@
-//! A run of items that gives way to others where it stands, so that only the difference in number is inserted or removed.
+//! A run of items that gives way to others where it stands, so that only the difference in number
+//! is inserted or removed.
 ghost use Rattle.std.specs.Prelude.{◌≡◌, ◌+◌, ◌-◌, ◌≤◌, ◌∷◌, ◌++◌, length, take, drop};
 ghost use Rattle.std.specs.Option.{ForSome};
 ghost use Rattle.range_store.specs.Places.{place_before, IsAt};
@@ -14,7 +15,8 @@ pub struct Cursor<P: Copy> {
     pub left: usize,
 }
 
-/// Puts an item in the place of the next one that gives way, or, where none is left, before the cursor.
+/// Puts an item in the place of the next one that gives way, or, where none is left, before the
+/// cursor.
 ///
 /// Takes no memory beyond the container's room, and none of that while items are left.
 pub fn put<T: Drop, C: Storage<T>>(

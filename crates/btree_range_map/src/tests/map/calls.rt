@@ -21,7 +21,8 @@ fn half_open(first: i32, end: i32) -> Range {
     AnyRange::new(Bound::Included(first), Bound::Excluded(end))
 }
 
-/// Whether the map stores just these ranges, each from its first key to its last, with these values.
+/// Whether the map stores just these ranges, each from its first key to its last, with these
+/// values.
 fn shows(map: &IntMap, rows: &[(i32, i32, i64)]) -> bool {
     map.range_count() == rows.len()
         && map.iter().zip(rows.iter()).all(|((range, value), row)| *range == closed(row.0, row.1)

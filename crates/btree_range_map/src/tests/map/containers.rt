@@ -16,7 +16,8 @@ enum Call {
     Remove(Bound<i32>, Bound<i32>),
 }
 
-/// Makes the calls on a new map, and looks at the number of its ranges and at what keys are bound to.
+/// Makes the calls on a new map, and looks at the number of its ranges and at what keys are bound
+/// to.
 fn check<C: Storage<Item<AnyRange<i32>, i64>>, R: Abort>(
     rt: &R,
     alloc: Global,

@@ -23,7 +23,8 @@ fn two_ranges(alloc: Global) -> Result<IntMap, Fail> {
     Ok(map)
 }
 
-/// Whether the map stores just these ranges, each from its first key to its last, with these values.
+/// Whether the map stores just these ranges, each from its first key to its last, with these
+/// values.
 fn shows<C: Storage<Item<Range, i64>>>(
     map: &RangeMap<i32, i64, C>,
     rows: &[(i32, i32, i64)],

@@ -149,7 +149,8 @@ fn holds_first<C: Storage<Item<AnyRange<i32>, ()>>>(set: &RangeSet<i32, C>, coun
     })
 }
 
-/// The keys of a refused extension are those of some first ranges, and of all where it is not refused.
+/// The keys of a refused extension are those of some first ranges, and of all where it is not
+/// refused.
 fn extensions<C: Storage<Item<AnyRange<i32>, ()>>, R: Abort>(rt: &R, alloc: Global) {
     let mut set: RangeSet<i32, C> = RangeSet::new(alloc);
     match set.extend(RANGES.iter().map(|range| range.0..range.1)) {
