@@ -16,7 +16,7 @@ module _ {K : Type 0} (order : KeyOrder K) {V : Type 0} (same : V → V → Bool
   stays items next e = omega (arith, ap length e)
 
   -- one command that is no update leaves at most two ranges more
-  two_more : (items next : List (Item (AnyRange K) V)) (command : Command K V T) (commands : List (Command K V T)) (reply : Reply K V E) → IsStep order same may items command reply next → HasNoUpdate (command ∷ commands) → (length next ≤ length items + 2) × HasNoUpdate commands
+  pub two_more : (items next : List (Item (AnyRange K) V)) (command : Command K V T) (commands : List (Command K V T)) (reply : Reply K V E) → IsStep order same may items command reply next → HasNoUpdate (command ∷ commands) → (length next ≤ length items + 2) × HasNoUpdate commands
   two_more items next (Insert r v) commands Done step rest = (step.few, rest)
   two_more items next (Insert r v) commands Memory step rest = (stays items next step.1, rest)
   two_more items next (InsertDisconnected r v) commands Done step rest = (omega (arith, step.1.few), rest)

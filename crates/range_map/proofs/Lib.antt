@@ -2,6 +2,7 @@ pub mod Adding
 pub mod Asked
 pub mod Coarse
 pub mod Copying
+pub mod CountedRuns
 pub mod Covering
 pub mod CutOut
 pub mod CutParts
@@ -21,6 +22,7 @@ pub mod Gathering
 pub mod Histories
 pub mod Joined
 pub mod JustBefore
+pub mod Lengths
 pub mod Likeness
 pub mod Listed
 pub mod Meeting

@@ -4,6 +4,8 @@ pub mod Bindings
 pub mod Changes
 pub mod Coarse
 pub mod Copies
+pub mod Costs
+pub mod CountedRuns
 pub mod Edges
 pub mod Edits
 pub mod Frames

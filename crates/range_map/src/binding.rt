@@ -1,10 +1,12 @@
 //! Binding a nonempty range in a container.
-ghost use Rattle.std.specs.Prelude.{◌≡◌, ◌+◌, ◌-◌, ◌≤◌, length, OnOk, OnErr};
+ghost use Rattle.std.specs.Prelude.{◌≡◌, ◌+◌, ◌-◌, ◌*◌, ◌≤◌, length, OnOk, OnErr};
 ghost use Rattle.range_algebra.specs.Range.{ClonesAreEqual, IsEmptyRange};
+ghost use Rattle.range_store.specs.Counting.{AddsSteps};
 ghost use Rattle.range_store.specs.Places.{place_before};
 ghost use Rattle.range_map.specs.Stored.{IsStored};
 ghost use Rattle.range_map.specs.Window.{IsWindow, option_items};
 ghost use Rattle.range_map.specs.Reach.{ReachesBefore, ReachesBehind};
+ghost use Rattle.range_map.specs.Costs.{TakesAtLeast, TakesAsChange};
 ghost use Rattle.range_map.specs.Changes.{IsInserted};
 
 use crate::change::{change, divide};
@@ -16,7 +18,7 @@ use range_algebra::any::AnyRange;
 use range_algebra::inner;
 use range_keys::traits::{Measure, PartialEnum};
 use range_store::inner::cursor::Cursor;
-use range_store::storage::{Item, Storage};
+use range_store::storage::{Item, Steps, Storage};
 use std::alloc::AllocError;
 
 /// How much room one item in the place of a run needs.
@@ -44,6 +46,7 @@ pub(crate) fn bind_within<K: PartialEnum + Clone, V: Eq + Clone, C: Storage<Item
     requires first { ReachesBefore K.order (C.is_good stored.old) (C.rank stored.old) (C.items stored.old) range (place_before (C.rank stored.old) (length (C.items stored.old)) window.now.from) window.now.count (Some p) }
     requires last { ReachesBehind K.order (C.is_good stored.old) (C.rank stored.old) (C.items stored.old) range (place_before (C.rank stored.old) (length (C.items stored.old)) window.now.from) window.now.count (Some p) }
     ensures ok { OnOk result (IsInserted K.order V.eq (C.items stored.old) (C.items stored.new) range value) }
+    ensures few { OnOk result (length (C.items stored.new) ≤ length (C.items stored.old) + 2) }
     ensures refused { OnErr result (C.items stored.new ≡ C.items stored.old) }
 {
     inner::known(&range);
@@ -72,6 +75,7 @@ fn bind_over<K: PartialEnum + Clone, V: Eq + Clone, C: Storage<Item<AnyRange<K>,
     last: Option<C::Position>,
     range: AnyRange<K>,
     value: V,
+    steps: &mut Steps,
 ) -> Result<(), AllocError>
     requires keys { ClonesAreEqual K.is_clone K.eq }
     requires stored { IsStored K.order V.eq (C.items stored.old) }
@@ -81,11 +85,13 @@ fn bind_over<K: PartialEnum + Clone, V: Eq + Clone, C: Storage<Item<AnyRange<K>,
     requires last { ReachesBehind K.order (C.is_good stored.old) (C.rank stored.old) (C.items stored.old) range (place_before (C.rank stored.old) (length (C.items stored.old)) window.now.from) window.now.count last }
     requires apart { length (option_items first) + length (option_items last) ≤ window.now.count }
     ensures ok { OnOk result (IsInserted K.order V.eq (C.items stored.old) (C.items stored.new) range value) }
+    ensures few { OnOk result (2 * length (C.items stored.new) + window.now.count ≤ 2 * length (C.items stored.old) + 4) }
+    ensures counted { AddsSteps steps.old steps.new 0 2 }
     ensures refused { OnErr result (C.items stored.new ≡ C.items stored.old) }
 {
     inner::known(&range);
-    let left = left_side::<K, V, C>(stored, window, first, &range, &value)?;
-    let right = right_side::<K, V, C>(stored, window, last, &range, &value)?;
+    let left = left_side::<K, V, C>(stored, window, first, &range, &value, steps)?;
+    let right = right_side::<K, V, C>(stored, window, last, &range, &value, steps)?;
     let inner = window.count - (item_count(&first) + item_count(&last));
     let count = joined_items(&left.edge) + inner + joined_items(&right);
     stored.reserve(growth(count))?;
@@ -102,19 +108,22 @@ pub(crate) fn bind<K: Measure + Clone, V: Eq + Clone, C: Storage<Item<AnyRange<K
     stored: &mut C,
     range: AnyRange<K>,
     value: V,
+    steps: &mut Steps,
 ) -> Result<(), AllocError>
     requires keys { ClonesAreEqual K.is_clone K.eq }
     requires values { ClonesAreEqual V.is_clone V.eq }
     requires stored { IsStored K.order V.eq (C.items stored.old) }
     requires nonempty { ¬ IsEmptyRange K.order range }
     ensures ok { OnOk result (IsInserted K.order V.eq (C.items stored.old) (C.items stored.new) range value) }
+    ensures most { OnOk result (TakesAsChange steps.old steps.new (C.most_asks stored.old) (length (C.items stored.old)) (length (C.items stored.new))) }
+    ensures least { TakesAtLeast steps.old steps.new (C.least_asks stored.old) }
     ensures refused { OnErr result (C.items stored.new ≡ C.items stored.old) }
 {
-    let window = find_window::<K, V, C, AnyRange<K>>(stored, &range);
-    let first = reaching_before::<K, V, C, AnyRange<K>>(stored, &window, &range);
-    let last = reaching_behind::<K, V, C, AnyRange<K>>(stored, &window, &range);
+    let window = find_window::<K, V, C, AnyRange<K>>(stored, &range, steps);
+    let first = reaching_before::<K, V, C, AnyRange<K>>(stored, &window, &range, steps);
+    let last = reaching_behind::<K, V, C, AnyRange<K>>(stored, &window, &range, steps);
     match surrounding(window.count, first, last) {
         Some(p) => bind_within::<K, V, C>(stored, &window, p, range, value),
-        None => bind_over::<K, V, C>(stored, &window, first, last, range, value),
+        None => bind_over::<K, V, C>(stored, &window, first, last, range, value, steps),
     }
 }

@@ -1,8 +1,11 @@
 //! Lists of commands.
-ghost use Rattle.std.specs.Prelude.{◌≡◌, ◌+◌, ◌*◌, ◌≤◌, length, OnOk, OnErr, MatchResult, IfOk, Option, Some};
+ghost use Rattle.std.specs.Prelude.{◌≡◌, ℕ, ◌+◌, ◌*◌, ◌≤◌, length, OnOk, OnErr, MatchResult, IfOk, Option, Some};
 ghost use Rattle.std.specs.Option.{option_copied};
 ghost use Rattle.range_algebra.specs.Range.{ClonesAreEqual};
 ghost use Rattle.range_map.specs.Bindings.{Binds, IsBound};
+ghost use Rattle.range_store.specs.Holding.{box_items};
+ghost use Rattle.range_map.specs.Costs.{TakesAtLeast};
+ghost use Rattle.range_map.specs.CountedRuns.{LookupTakes, TakesFor, IsCountedRun, IsRunOfDue, IsGreatestLevel, HasNoMemory};
 ghost use Rattle.range_map.specs.Runs.{IsStep, IsRun, HasNoUpdate};
 ghost use Rattle.range_map.specs.History.{BindOver};
 ghost use Rattle.range_map.specs.Tagged.{MayAnswerTo, MayBeAskedAll};
@@ -12,7 +15,8 @@ use crate::error::{MapError, NotInserted, UpdateError};
 use crate::map::RangeMap;
 use range_algebra::any::AnyRange;
 use range_keys::traits::{Measure, PartialEnum};
-use range_store::storage::{Item, Storage};
+use range_store::btree::BoxStorage;
+use range_store::storage::{Item, Steps, Storage};
 use std::alloc::{AllocError, Global};
 
 /// One call of a map.
@@ -63,12 +67,14 @@ pub enum Reply<K, V, E> {
 fn get_cloned<K: Measure, V: Eq + Clone, C: Storage<Item<AnyRange<K>, V>>>(
     map: &RangeMap<K, V, C>,
     key: K,
+    steps: &mut Steps,
 ) -> Result<Option<V>, AllocError>
     requires values { ClonesAreEqual V.is_clone V.eq }
     ensures value { IfOk result (λ b. Binds K.order V.eq (C.items map.now) key b) }
     ensures refused { OnErr result (IsBound K.order (C.items map.now) key) }
+    ensures takes { LookupTakes K.order (C.least_asks map.now) (C.most_asks map.now) (C.items map.now) ⊥ steps.old steps.new }
 {
-    match map.get(key) {
+    match map.get_counted(key, steps) {
         Some(value) => Ok(Some(value.clone()?)),
         None => Ok(None),
     }
@@ -99,6 +105,53 @@ fn update_tagged<
     }
 }
 
+/// Answers one command by the counted calls, where there is one.
+fn answer_counted<
+    K: Measure + Clone,
+    V: Eq + Clone,
+    T: Drop,
+    E: Drop,
+    F: Fn(&T, Option<&V>) -> Result<Option<V>, E>,
+    C: Storage<Item<AnyRange<K>, V>>,
+>(
+    map: &mut RangeMap<K, V, C>,
+    command: Command<K, V, T>,
+    f: &F,
+    steps: &mut Steps,
+) -> Reply<K, V, E>
+    requires keys { ClonesAreEqual K.is_clone K.eq }
+    requires values { ClonesAreEqual V.is_clone V.eq }
+    requires callable { MayBeAskedAll F.Fn f.now }
+    ensures step { IsStep K.order V.eq (MayAnswerTo F.Fn f.now) (C.items map.old) command result (C.items map.new) }
+    ensures takes { TakesFor K.order (C.least_asks map.old) (C.most_asks map.old) (C.items map.old) command result (C.items map.new) steps.old steps.new }
+{
+    match command {
+        Command::Insert(range, value) => match map.insert_counted(range, value, steps) {
+            Ok(()) => Reply::Done,
+            Err(MapError::Memory) => Reply::Memory,
+        },
+        Command::InsertDisconnected(range, value) => {
+            match map.insert_disconnected(range, value) {
+                Ok(()) => Reply::Done,
+                Err(NotInserted::Connected(range, value)) => Reply::Connected(range, value),
+                Err(NotInserted::Memory(_, _)) => Reply::Memory,
+            }
+        }
+        Command::Remove(range) => match map.remove_counted(range, steps) {
+            Ok(()) => Reply::Done,
+            Err(MapError::Memory) => Reply::Memory,
+        },
+        Command::Update(range, tag) => update_tagged(map, range, tag, f),
+        Command::Get(key) => match get_cloned::<K, V, C>(map, key, steps) {
+            Ok(value) => Reply::Value(value),
+            Err(_) => Reply::Memory,
+        },
+        Command::Contains(key) => Reply::Truth(map.contains_key_counted(key, steps)),
+        Command::Intersects(range) => Reply::Truth(map.intersects_counted(range, steps)),
+        Command::Count => Reply::Count(map.range_count()),
+    }
+}
+
 /// Answers one command, with no memory beyond what the call itself takes.
 ///
 /// An update asks `f` with its tag: `f` is the closure of all updates, told apart by their tags.
@@ -115,31 +168,42 @@ pub fn answer<
     requires callable { MayBeAskedAll F.Fn f.now }
     ensures { IsStep K.order V.eq (MayAnswerTo F.Fn f.now) (C.items map.old) command result (C.items map.new) }
 {
-    match command {
-        Command::Insert(range, value) => match map.insert(range, value) {
-            Ok(()) => Reply::Done,
-            Err(MapError::Memory) => Reply::Memory,
-        },
-        Command::InsertDisconnected(range, value) => {
-            match map.insert_disconnected(range, value) {
-                Ok(()) => Reply::Done,
-                Err(NotInserted::Connected(range, value)) => Reply::Connected(range, value),
-                Err(NotInserted::Memory(_, _)) => Reply::Memory,
-            }
+    let mut steps = Steps::new();
+    answer_counted(map, command, f, &mut steps)
+}
+
+/// Answers the commands in turn by the counted calls, one reply each.
+fn run_steps<
+    K: Measure + Clone,
+    V: Eq + Clone,
+    T: Drop,
+    E: Drop,
+    F: Fn(&T, Option<&V>) -> Result<Option<V>, E>,
+    C: Storage<Item<AnyRange<K>, V>>,
+>(
+    alloc: Global,
+    map: &mut RangeMap<K, V, C>,
+    commands: Vec<Command<K, V, T>>,
+    f: &F,
+    steps: &mut Steps,
+) -> Result<Vec<Reply<K, V, E>>, MapError>
+    requires keys { ClonesAreEqual K.is_clone K.eq }
+    requires values { ClonesAreEqual V.is_clone V.eq }
+    requires callable { MayBeAskedAll F.Fn f.now }
+    ensures run { IfOk result (λ replies. IsCountedRun K.order V.eq (MayAnswerTo F.Fn f.now) (λ s. C.items s) (λ s. C.least_asks s) (λ s. C.most_asks s) map.old commands.items replies.items map.new steps.old steps.new) }
+    ensures refused { OnErr result (C.items map.new ≡ C.items map.old) }
+    ensures refused_steps { OnErr result (steps.new ≡ steps.old) }
+{
+    let mut replies = Vec::new(alloc);
+    replies.reserve(commands.len())?;
+    for command in commands {
+        let reply = answer_counted(map, command, f, steps);
+        match replies.push(reply) {
+            Ok(()) => (),
+            Err(_) => unreachable!(),
         }
-        Command::Remove(range) => match map.remove(range) {
-            Ok(()) => Reply::Done,
-            Err(MapError::Memory) => Reply::Memory,
-        },
-        Command::Update(range, tag) => update_tagged(map, range, tag, f),
-        Command::Get(key) => match get_cloned::<K, V, C>(map, key) {
-            Ok(value) => Reply::Value(value),
-            Err(_) => Reply::Memory,
-        },
-        Command::Contains(key) => Reply::Truth(map.contains_key(key)),
-        Command::Intersects(range) => Reply::Truth(map.intersects(range)),
-        Command::Count => Reply::Count(map.range_count()),
     }
+    Ok(replies)
 }
 
 /// Answers the commands in turn, one reply each.
@@ -168,14 +232,37 @@ pub fn run<
     ensures few { HasNoUpdate commands.items → length (C.items map.new) ≤ length (C.items map.old) + 2 * length commands.items }
     ensures refused { OnErr result (C.items map.new ≡ C.items map.old) }
 {
-    let mut replies = Vec::new(alloc);
-    replies.reserve(commands.len())?;
-    for command in commands {
-        let reply = answer(map, command, f);
-        match replies.push(reply) {
-            Ok(()) => (),
-            Err(_) => unreachable!(),
-        }
-    }
-    Ok(replies)
+    let mut steps = Steps::new();
+    run_steps(alloc, map, commands, f, &mut steps)
+}
+
+/// Answers the commands in turn as `run` does; adds the steps that they take.
+///
+/// An insertion, a removal and a look-up take the steps of their counted calls, and no other command
+/// takes any.
+pub fn run_counted<
+    K: Measure + Clone,
+    V: Eq + Clone,
+    T: Drop,
+    E: Drop,
+    F: Fn(&T, Option<&V>) -> Result<Option<V>, E>,
+>(
+    alloc: Global,
+    map: &mut RangeMap<K, V, BoxStorage<Item<AnyRange<K>, V>>>,
+    commands: Vec<Command<K, V, T>>,
+    f: &F,
+    steps: &mut Steps,
+) -> Result<Vec<Reply<K, V, E>>, MapError>
+    requires keys { ClonesAreEqual K.is_clone K.eq }
+    requires values { ClonesAreEqual V.is_clone V.eq }
+    requires callable { MayBeAskedAll F.Fn f.now }
+    ensures chain { IfOk result (λ replies. IsRun K.order V.eq (MayAnswerTo F.Fn f.now) (box_items map.old) commands.items replies.items (box_items map.new)) }
+    ensures history { IfOk result (λ replies. (k : K) → K.order.is_key k → (b : Option V) → Binds K.order V.eq (box_items map.new) k b → BindOver K.order V.eq (MayAnswerTo F.Fn f.now) k (λ u. Binds K.order V.eq (box_items map.old) k u) commands.items replies.items b) }
+    ensures few { HasNoUpdate commands.items → length (box_items map.new) ≤ length (box_items map.old) + 2 * length commands.items }
+    ensures refused { OnErr result (box_items map.new ≡ box_items map.old) }
+    ensures most { IfOk result (λ replies. (level : ℕ) → IsGreatestLevel (length (box_items map.old) + 2 * length commands.items + 1) level → HasNoUpdate commands.items → HasNoMemory replies.items → steps.new ≤ steps.old + length commands.items * (6 * level + 10) + 2 * length (box_items map.old)) }
+    ensures least { IfOk result (λ replies. (due : ℕ) × IsRunOfDue K.order V.eq (MayAnswerTo F.Fn f.now) (box_items map.old) commands.items replies.items (box_items map.new) due × TakesAtLeast steps.old steps.new due) }
+    ensures refused_steps { OnErr result (steps.new ≡ steps.old) }
+{
+    run_steps(alloc, map, commands, f, steps)
 }

@@ -18,7 +18,7 @@ use range_algebra::inner::{self, starts_at_end};
 use range_algebra::range::IntoRange;
 use range_keys::bound::Directed;
 use range_keys::traits::{Measure, PartialEnum};
-use range_store::storage::{Item, Storage};
+use range_store::storage::{Item, Steps, Storage};
 use std::ops::RangeBounds;
 
 /// Where a range belongs among the stored ones.
@@ -79,7 +79,8 @@ fn find_gap<K: PartialEnum, V: Eq + Drop, C: Storage<Item<AnyRange<K>, V>>>(
 {
     inner::known(range);
     let start = Directed::Start(range.start_bound());
-    let (before, from) = find::<K, V, C>(stored, &start);
+    let mut steps = Steps::new();
+    let (before, from) = find::<K, V, C>(stored, &start, &mut steps);
     let clear_before = is_clear_before::<K, V, C>(stored, before, range);
     let clear_behind = is_clear_behind::<K, V, C>(stored, from, range);
     Gap {

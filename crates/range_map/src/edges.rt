@@ -5,6 +5,7 @@ ghost use Rattle.range_keys.specs.Order.{IsLawful};
 ghost use Rattle.range_keys.specs.Position.{start_position};
 ghost use Rattle.range_algebra.specs.Compared.{starts_at_end};
 ghost use Rattle.range_algebra.specs.Range.{ClonesAreEqual, IsEmptyRange};
+ghost use Rattle.range_store.specs.Counting.{AddsSteps};
 ghost use Rattle.range_store.specs.Places.{place_before};
 ghost use Rattle.range_map.specs.Stored.{IsStored};
 ghost use Rattle.range_map.specs.Window.{IsWindow};
@@ -19,7 +20,7 @@ use range_algebra::any::AnyRange;
 use range_algebra::inner;
 use range_algebra::inner::starts_at_end;
 use range_keys::traits::PartialEnum;
-use range_store::storage::{Item, Storage};
+use range_store::storage::{Item, Steps, Storage};
 use std::alloc::AllocError;
 use std::ops::{Bound, RangeBounds};
 
@@ -72,10 +73,12 @@ pub(crate) fn cut_edge<K: PartialEnum + Clone, P: Copy>(
     }
 }
 
-/// Whether the first range touches the second.
-fn touches<K: PartialEnum>(first: &AnyRange<K>, second: &AnyRange<K>) -> bool
-    ensures { result ≡ starts_at_end K.order first.now.end (start_position K.order second.now.start) }
+/// Whether the first range touches the second. A step.
+fn touches<K: PartialEnum>(first: &AnyRange<K>, second: &AnyRange<K>, steps: &mut Steps) -> bool
+    ensures touching { result ≡ starts_at_end K.order first.now.end (start_position K.order second.now.start) }
+    ensures counted { AddsSteps steps.old steps.new 1 1 }
 {
+    steps.tick();
     starts_at_end(first.end_bound(), second.start_bound())
 }
 
@@ -85,15 +88,17 @@ pub(crate) fn joined_before<K: PartialEnum, V: Eq + Drop, C: Storage<Item<AnyRan
     window: &Window<C::Position>,
     range: &AnyRange<K>,
     value: &V,
+    steps: &mut Steps,
 ) -> Option<C::Position>
     requires window { IsWindow K.order (C.is_good stored.now) (C.rank stored.now) (C.items stored.now) range.now window.now (place_before (C.rank stored.now) (length (C.items stored.now)) window.now.from) }
-    ensures { let place = place_before (C.rank stored.now) (length (C.items stored.now)) window.now.from in MatchOption result (TouchesNoneBefore K.order V.eq (C.items stored.now) place range.now value.now) (λ q. C.is_good stored.now q × (C.rank stored.now q + 1 ≡ place) × TouchesBefore K.order V.eq (C.items stored.now) place range.now value.now) }
+    ensures joined { let place = place_before (C.rank stored.now) (length (C.items stored.now)) window.now.from in MatchOption result (TouchesNoneBefore K.order V.eq (C.items stored.now) place range.now value.now) (λ q. C.is_good stored.now q × (C.rank stored.now q + 1 ≡ place) × TouchesBefore K.order V.eq (C.items stored.now) place range.now value.now) }
+    ensures counted { AddsSteps steps.old steps.new 0 1 }
 {
     match window.before {
         None => None,
         Some(before) => {
             let item = stored.get(before);
-            let touching = touches(&item.key, range);
+            let touching = touches(&item.key, range, steps);
             if touching && item.value == *value {
                 Some(before)
             } else {
@@ -109,15 +114,17 @@ pub(crate) fn joined_after<K: PartialEnum, V: Eq + Drop, C: Storage<Item<AnyRang
     window: &Window<C::Position>,
     range: &AnyRange<K>,
     value: &V,
+    steps: &mut Steps,
 ) -> Option<C::Position>
     requires window { IsWindow K.order (C.is_good stored.now) (C.rank stored.now) (C.items stored.now) range.now window.now (place_before (C.rank stored.now) (length (C.items stored.now)) window.now.from) }
-    ensures { let end = place_before (C.rank stored.now) (length (C.items stored.now)) window.now.from + window.now.count in MatchOption result (TouchesNoneAfter K.order V.eq (C.items stored.now) end range.now value.now) (λ q. C.is_good stored.now q × (C.rank stored.now q ≡ end) × TouchesAfter K.order V.eq (C.items stored.now) end range.now value.now) }
+    ensures joined { let end = place_before (C.rank stored.now) (length (C.items stored.now)) window.now.from + window.now.count in MatchOption result (TouchesNoneAfter K.order V.eq (C.items stored.now) end range.now value.now) (λ q. C.is_good stored.now q × (C.rank stored.now q ≡ end) × TouchesAfter K.order V.eq (C.items stored.now) end range.now value.now) }
+    ensures counted { AddsSteps steps.old steps.new 0 1 }
 {
     match window.after {
         None => None,
         Some(after) => {
             let item = stored.get(after);
-            let touching = touches(range, &item.key);
+            let touching = touches(range, &item.key, steps);
             if touching && *value == item.value {
                 Some(after)
             } else {
@@ -134,13 +141,15 @@ pub(crate) fn left_side<K: PartialEnum + Clone, V: Eq + Drop, C: Storage<Item<An
     first: Option<C::Position>,
     range: &AnyRange<K>,
     value: &V,
+    steps: &mut Steps,
 ) -> Result<LeftSide<K, C::Position>, AllocError>
     requires keys { ClonesAreEqual K.is_clone K.eq }
     requires stored { IsStored K.order V.eq (C.items stored.now) }
     requires nonempty { ¬ IsEmptyRange K.order range.now }
     requires window { IsWindow K.order (C.is_good stored.now) (C.rank stored.now) (C.items stored.now) range.now window.now (place_before (C.rank stored.now) (length (C.items stored.now)) window.now.from) }
     requires first { ReachesBefore K.order (C.is_good stored.now) (C.rank stored.now) (C.items stored.now) range.now (place_before (C.rank stored.now) (length (C.items stored.now)) window.now.from) window.now.count first }
-    ensures { IfOk result (λ side. (lawful : IsLawful K.order) → (equal : IsEquivalence V.eq) → IsLeftPlan K.order V.eq lawful equal (C.is_good stored.now) (C.rank stored.now) (C.items stored.now) range.now value.now (place_before (C.rank stored.now) (length (C.items stored.now)) window.now.from) window.now.count first side.edge side.from) }
+    ensures planned { IfOk result (λ side. (lawful : IsLawful K.order) → (equal : IsEquivalence V.eq) → IsLeftPlan K.order V.eq lawful equal (C.is_good stored.now) (C.rank stored.now) (C.items stored.now) range.now value.now (place_before (C.rank stored.now) (length (C.items stored.now)) window.now.from) window.now.count first side.edge side.from) }
+    ensures counted { AddsSteps steps.old steps.new 0 1 }
 {
     inner::known(range);
     match first {
@@ -161,7 +170,7 @@ pub(crate) fn left_side<K: PartialEnum + Clone, V: Eq + Drop, C: Storage<Item<An
                 from: stored.next(first),
             })
         }
-        None => match joined_before::<K, V, C>(stored, window, range, value) {
+        None => match joined_before::<K, V, C>(stored, window, range, value, steps) {
             Some(before) => Ok(LeftSide {
                 edge: Edge::Joined(before),
                 from: Some(before),
@@ -181,13 +190,15 @@ pub(crate) fn right_side<K: PartialEnum + Clone, V: Eq + Drop, C: Storage<Item<A
     last: Option<C::Position>,
     range: &AnyRange<K>,
     value: &V,
+    steps: &mut Steps,
 ) -> Result<Edge<K, C::Position>, AllocError>
     requires keys { ClonesAreEqual K.is_clone K.eq }
     requires stored { IsStored K.order V.eq (C.items stored.now) }
     requires nonempty { ¬ IsEmptyRange K.order range.now }
     requires window { IsWindow K.order (C.is_good stored.now) (C.rank stored.now) (C.items stored.now) range.now window.now (place_before (C.rank stored.now) (length (C.items stored.now)) window.now.from) }
     requires last { ReachesBehind K.order (C.is_good stored.now) (C.rank stored.now) (C.items stored.now) range.now (place_before (C.rank stored.now) (length (C.items stored.now)) window.now.from) window.now.count last }
-    ensures { IfOk result (λ edge. (lawful : IsLawful K.order) → (equal : IsEquivalence V.eq) → IsRightPlan K.order V.eq lawful equal (C.is_good stored.now) (C.rank stored.now) (C.items stored.now) range.now value.now (place_before (C.rank stored.now) (length (C.items stored.now)) window.now.from) window.now.count last edge) }
+    ensures planned { IfOk result (λ edge. (lawful : IsLawful K.order) → (equal : IsEquivalence V.eq) → IsRightPlan K.order V.eq lawful equal (C.is_good stored.now) (C.rank stored.now) (C.items stored.now) range.now value.now (place_before (C.rank stored.now) (length (C.items stored.now)) window.now.from) window.now.count last edge) }
+    ensures counted { AddsSteps steps.old steps.new 0 1 }
 {
     inner::known(range);
     match last {
@@ -202,7 +213,7 @@ pub(crate) fn right_side<K: PartialEnum + Clone, V: Eq + Drop, C: Storage<Item<A
             known_bound(&start);
             Ok(Edge::Cut(last, start))
         }
-        None => match joined_after::<K, V, C>(stored, window, range, value) {
+        None => match joined_after::<K, V, C>(stored, window, range, value, steps) {
             Some(after) => {
                 inner::known(&stored.get(after).key);
                 Ok(Edge::Joined(after))

@@ -1,6 +1,6 @@
 //! The levels of a map's tree.
 ghost use Rattle.std.specs.Prelude.{◌≡◌, ◌+◌, ◌-◌, ◌*◌, ◌^◌, ◌<◌, ◌≤◌, length};
-ghost use Rattle.range_store.specs.Holding.{box_items};
+ghost use Rattle.range_store.specs.Holding.{box_items, level_count};
 ghost use Rattle.range_store.specs.declared.btree.node.TheConstants.{LEAST, MOST};
 
 use crate::map::RangeMap;
@@ -14,6 +14,7 @@ impl<K: PartialEnum, V: Eq + Drop> RangeMap<K, V, BoxStorage<Item<AnyRange<K>, V
     ///
     /// A look-up reads one node on each level. Takes no memory.
     pub fn levels(&self) -> usize
+        ensures value { result ≡ level_count self.now }
         ensures empty { length (box_items self.now) ≡ 0 → result ≡ 0 }
         ensures least { 0 < length (box_items self.now) → 2 * (LEAST + 1) ^ (result - 1) ≤ length (box_items self.now) + 1 }
         ensures most { 0 < length (box_items self.now) → length (box_items self.now) + 1 ≤ (MOST + 1) ^ result }

@@ -1,12 +1,13 @@
 //! A map from ranges of keys to values, with the commands that can be given to it.
-ghost use Rattle.std.specs.Prelude.{◌≡◌, [], length};
+ghost use Rattle.std.specs.Prelude.{◌≡◌, ◌+◌, [], length};
 ghost use Rattle.std.specs.Option.{option_copied};
 ghost use Rattle.range_map.specs.Stored.{IsStored};
 ghost use Rattle.range_keys.specs.Order.{IsComplete};
+ghost use Rattle.range_store.specs.Counting.{AddsSteps};
 ghost use Rattle.range_map.specs.Bindings.{Binds, IsCoarse};
 ghost use Rattle.range_map.specs.Coarse.{IsOnlyCoarse, IsLeastCount};
 
-pub use crate::command::{Command, Reply, answer, run};
+pub use crate::command::{Command, Reply, answer, run, run_counted};
 pub use crate::error::{MapError, NotInserted, UpdateError};
 pub use crate::gaps::Gaps;
 pub use crate::into_iter::IntoIter;
@@ -19,7 +20,7 @@ use crate::window::{find, starts_past};
 use range_algebra::any::AnyRange;
 use range_keys::bound::Directed;
 use range_keys::traits::PartialEnum;
-use range_store::storage::{Item, Storage};
+use range_store::storage::{Item, Steps, Storage};
 use std::alloc::Global;
 use std::marker::{Model, PhantomData};
 use std::ops::Bound;
@@ -90,14 +91,27 @@ impl<K: PartialEnum, V: Eq + Drop, C: Storage<Item<AnyRange<K>, V>>> RangeMap<K,
     pub fn get(&self, key: K) -> Option<&V>
         ensures { Binds K.order V.eq (C.items self.now) key (option_copied result) }
     {
+        let mut steps = Steps::new();
+        self.get_counted(key, &mut steps)
+    }
+
+    /// The value to which the key is bound, or none, as `get` answers; adds the steps that it takes.
+    ///
+    /// A step is one range that the search asks, or one comparison of the key with a stored range.
+    /// The empty map takes none.
+    pub fn get_counted(&self, key: K, steps: &mut Steps) -> Option<&V>
+        ensures value { Binds K.order V.eq (C.items self.now) key (option_copied result) }
+        ensures counted { AddsSteps steps.old steps.new (C.least_asks self.now) (C.most_asks self.now + 1) }
+        ensures none { C.items self.now ≡ [] → AddsSteps steps.old steps.new 0 0 }
+    {
         key.known();
         let bound = Directed::Start(Bound::Included(&key));
-        let (_, from) = find::<K, V, C>(&self.stored, &bound);
+        let (_, from) = find::<K, V, C>(&self.stored, &bound, steps);
         match from {
             None => None,
             Some(p) => {
                 let item = self.stored.get(p);
-                if starts_past::<K, V>(item, &bound) {
+                if starts_past::<K, V>(item, &bound, steps) {
                     None
                 } else {
                     Some(&item.value)

@@ -1,6 +1,7 @@
 //! Which of the items that a range meets reach out of it.
 ghost use Rattle.std.specs.Prelude.{◌≡◌, ◌+◌, ◌≤◌, length, Some, IsSome, MatchOption};
 ghost use Rattle.std.specs.Option.{ForSome};
+ghost use Rattle.range_store.specs.Counting.{AddsSteps};
 ghost use Rattle.range_store.specs.Places.{place_before, IsAt};
 ghost use Rattle.range_map.specs.Window.{IsWindow, option_items};
 ghost use Rattle.range_map.specs.Reach.{ReachesBefore, ReachesBehind};
@@ -10,23 +11,25 @@ use crate::window::Window;
 use range_algebra::any::AnyRange;
 use range_algebra::range::AsRange;
 use range_keys::traits::{Measure, PartialEnum};
-use range_store::storage::{Item, Storage};
+use range_store::storage::{Item, Steps, Storage};
 
-/// The first item that the range meets, if it starts before the range.
+/// The first item that the range meets, if it starts before the range. A step, if there is one.
 pub(crate) fn reaching_before<
     K: Measure,
     V: Eq + Drop,
     C: Storage<Item<AnyRange<K>, V>>,
     R: AsRange<Item = K>,
->(stored: &C, window: &Window<C::Position>, range: &R) -> Option<C::Position>
+>(stored: &C, window: &Window<C::Position>, range: &R, steps: &mut Steps) -> Option<C::Position>
     requires window { IsWindow K.order (C.is_good stored.now) (C.rank stored.now) (C.items stored.now) (R.range range.now) window.now (place_before (C.rank stored.now) (length (C.items stored.now)) window.now.from) }
-    ensures { ReachesBefore K.order (C.is_good stored.now) (C.rank stored.now) (C.items stored.now) (R.range range.now) (place_before (C.rank stored.now) (length (C.items stored.now)) window.now.from) window.now.count result }
+    ensures reaching { ReachesBefore K.order (C.is_good stored.now) (C.rank stored.now) (C.items stored.now) (R.range range.now) (place_before (C.rank stored.now) (length (C.items stored.now)) window.now.from) window.now.count result }
+    ensures counted { AddsSteps steps.old steps.new 0 1 }
 {
     if window.count == 0 {
         return None;
     }
     match window.from {
         Some(first) => {
+            steps.tick();
             if starts_before(&stored.get(first).key, range) {
                 Some(first)
             } else {
@@ -37,18 +40,20 @@ pub(crate) fn reaching_before<
     }
 }
 
-/// The last item that the range meets, if it ends after the range.
+/// The last item that the range meets, if it ends after the range. A step, if there is one.
 pub(crate) fn reaching_behind<
     K: Measure,
     V: Eq + Drop,
     C: Storage<Item<AnyRange<K>, V>>,
     R: AsRange<Item = K>,
->(stored: &C, window: &Window<C::Position>, range: &R) -> Option<C::Position>
+>(stored: &C, window: &Window<C::Position>, range: &R, steps: &mut Steps) -> Option<C::Position>
     requires window { IsWindow K.order (C.is_good stored.now) (C.rank stored.now) (C.items stored.now) (R.range range.now) window.now (place_before (C.rank stored.now) (length (C.items stored.now)) window.now.from) }
-    ensures { ReachesBehind K.order (C.is_good stored.now) (C.rank stored.now) (C.items stored.now) (R.range range.now) (place_before (C.rank stored.now) (length (C.items stored.now)) window.now.from) window.now.count result }
+    ensures reaching { ReachesBehind K.order (C.is_good stored.now) (C.rank stored.now) (C.items stored.now) (R.range range.now) (place_before (C.rank stored.now) (length (C.items stored.now)) window.now.from) window.now.count result }
+    ensures counted { AddsSteps steps.old steps.new 0 1 }
 {
     match window.last {
         Some(last) => {
+            steps.tick();
             if ends_after(&stored.get(last).key, range) {
                 Some(last)
             } else {

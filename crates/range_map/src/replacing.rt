@@ -24,7 +24,7 @@ use range_algebra::any::AnyRange;
 use range_algebra::inner;
 use range_keys::traits::Measure;
 use range_store::inner::cursor::Cursor;
-use range_store::storage::{Item, Storage};
+use range_store::storage::{Item, Steps, Storage};
 use std::alloc::AllocError;
 use std::ops::Bound;
 
@@ -60,7 +60,10 @@ fn joined_left<K: Measure, V: Eq + Drop, C: Storage<Item<AnyRange<K>, V>>>(
                 None
             }
         }
-        None => joined_before::<K, V, C>(stored, window, range, &item.value),
+        None => {
+            let mut steps = Steps::new();
+            joined_before::<K, V, C>(stored, window, range, &item.value, &mut steps)
+        }
     }
 }
 
@@ -97,7 +100,10 @@ fn joined_right<K: Measure, V: Eq + Drop, C: Storage<Item<AnyRange<K>, V>>>(
                 None
             }
         }
-        None => joined_after::<K, V, C>(stored, window, range, &item.value),
+        None => {
+            let mut steps = Steps::new();
+            joined_after::<K, V, C>(stored, window, range, &item.value, &mut steps)
+        }
     }
 }
 

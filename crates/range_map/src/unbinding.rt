@@ -1,12 +1,14 @@
 //! Unbinding a nonempty range in a container.
-ghost use Rattle.std.specs.Prelude.{◌≡◌, ◌+◌, ◌≤◌, ◌<◌, length, OnOk, OnErr, IsOk};
+ghost use Rattle.std.specs.Prelude.{◌≡◌, ◌+◌, ◌*◌, ◌≤◌, ◌<◌, length, OnOk, OnErr, IsOk};
 ghost use Rattle.range_algebra.specs.Range.{ClonesAreEqual, IsEmptyRange};
+ghost use Rattle.range_store.specs.Counting.{AddsSteps};
 ghost use Rattle.range_store.specs.Places.{place_before};
 ghost use Rattle.range_map.specs.Stored.{IsStored};
 ghost use Rattle.range_map.specs.Window.{IsWindow, option_items};
 ghost use Rattle.range_map.specs.Reach.{ReachesBefore, ReachesBehind};
 ghost use Rattle.range_algebra.specs.Intervals.{Every};
 ghost use Rattle.range_map.specs.Ranges.{Overlap};
+ghost use Rattle.range_map.specs.Costs.{TakesAtLeast, TakesAsChange};
 ghost use Rattle.range_map.specs.Changes.{IsRemoved};
 
 use crate::change::{clear, divide};
@@ -19,7 +21,7 @@ use range_algebra::inner;
 use range_algebra::range::AsRange;
 use range_keys::traits::Measure;
 use range_store::inner::cursor::Cursor;
-use range_store::storage::{Item, Storage};
+use range_store::storage::{Item, Steps, Storage};
 use std::alloc::AllocError;
 
 /// Unbinds a range that lies within one stored range, which becomes two.
@@ -38,6 +40,7 @@ pub(crate) fn unbind_within<
     requires first { ReachesBefore K.order (C.is_good stored.old) (C.rank stored.old) (C.items stored.old) (R.range range.now) (place_before (C.rank stored.old) (length (C.items stored.old)) window.now.from) window.now.count (Some p) }
     requires last { ReachesBehind K.order (C.is_good stored.old) (C.rank stored.old) (C.items stored.old) (R.range range.now) (place_before (C.rank stored.old) (length (C.items stored.old)) window.now.from) window.now.count (Some p) }
     ensures ok { OnOk result (IsRemoved K.order V.eq (C.items stored.old) (C.items stored.new) (R.range range.now)) }
+    ensures few { OnOk result (length (C.items stored.new) ≤ length (C.items stored.old) + 1) }
     ensures refused { OnErr result (C.items stored.new ≡ C.items stored.old) }
 {
     inner::known_range(range);
@@ -75,6 +78,7 @@ fn unbind_over<
     requires last { ReachesBehind K.order (C.is_good stored.old) (C.rank stored.old) (C.items stored.old) (R.range range.now) (place_before (C.rank stored.old) (length (C.items stored.old)) window.now.from) window.now.count last }
     requires apart { length (option_items first) + length (option_items last) ≤ window.now.count }
     ensures ok { OnOk result (IsRemoved K.order V.eq (C.items stored.old) (C.items stored.new) (R.range range.now)) }
+    ensures few { OnOk result (2 * length (C.items stored.new) + window.now.count ≤ 2 * length (C.items stored.old) + 3) }
     ensures refused { OnErr result (C.items stored.new ≡ C.items stored.old) }
 {
     inner::known_range(range);
@@ -94,7 +98,12 @@ fn unbind_met<
     V: Eq + Clone,
     C: Storage<Item<AnyRange<K>, V>>,
     R: AsRange<Item = K>,
->(stored: &mut C, window: &Window<C::Position>, range: &R) -> Result<(), AllocError>
+>(
+    stored: &mut C,
+    window: &Window<C::Position>,
+    range: &R,
+    steps: &mut Steps,
+) -> Result<(), AllocError>
     requires keys { ClonesAreEqual K.is_clone K.eq }
     requires values { ClonesAreEqual V.is_clone V.eq }
     requires stored { IsStored K.order V.eq (C.items stored.old) }
@@ -102,10 +111,12 @@ fn unbind_met<
     requires window { IsWindow K.order (C.is_good stored.old) (C.rank stored.old) (C.items stored.old) (R.range range.now) window.now (place_before (C.rank stored.old) (length (C.items stored.old)) window.now.from) }
     requires some { 0 < window.now.count }
     ensures ok { OnOk result (IsRemoved K.order V.eq (C.items stored.old) (C.items stored.new) (R.range range.now)) }
+    ensures few { OnOk result (2 * length (C.items stored.new) + window.now.count ≤ 2 * length (C.items stored.old) + 3) }
+    ensures counted { AddsSteps steps.old steps.new 0 2 }
     ensures refused { OnErr result (C.items stored.new ≡ C.items stored.old) }
 {
-    let first = reaching_before::<K, V, C, R>(stored, window, range);
-    let last = reaching_behind::<K, V, C, R>(stored, window, range);
+    let first = reaching_before::<K, V, C, R>(stored, window, range, steps);
+    let last = reaching_behind::<K, V, C, R>(stored, window, range, steps);
     match surrounding(window.count, first, last) {
         Some(p) => unbind_within::<K, V, C, R>(stored, window, p, range),
         None => unbind_over::<K, V, C, R>(stored, window, first, last, range),
@@ -118,20 +129,22 @@ pub(crate) fn unbind<
     V: Eq + Clone,
     C: Storage<Item<AnyRange<K>, V>>,
     R: AsRange<Item = K>,
->(stored: &mut C, range: &R) -> Result<(), AllocError>
+>(stored: &mut C, range: &R, steps: &mut Steps) -> Result<(), AllocError>
     requires keys { ClonesAreEqual K.is_clone K.eq }
     requires values { ClonesAreEqual V.is_clone V.eq }
     requires stored { IsStored K.order V.eq (C.items stored.old) }
     requires nonempty { ¬ IsEmptyRange K.order (R.range range.now) }
     ensures ok { OnOk result (IsRemoved K.order V.eq (C.items stored.old) (C.items stored.new) (R.range range.now)) }
+    ensures most { OnOk result (TakesAsChange steps.old steps.new (C.most_asks stored.old) (length (C.items stored.old)) (length (C.items stored.new))) }
+    ensures least { TakesAtLeast steps.old steps.new (C.least_asks stored.old) }
     ensures refused { OnErr result (C.items stored.new ≡ C.items stored.old) }
     ensures unmet { Every (λ i. ¬ Overlap K.order i.key (R.range range.now)) (C.items stored.old) → IsOk result }
     ensures unmet_unchanged { Every (λ i. ¬ Overlap K.order i.key (R.range range.now)) (C.items stored.old) → C.items stored.new ≡ C.items stored.old }
 {
     inner::known_range(range);
-    let window = find_window::<K, V, C, R>(stored, range);
+    let window = find_window::<K, V, C, R>(stored, range, steps);
     if window.count == 0 {
         return Ok(());
     }
-    unbind_met::<K, V, C, R>(stored, &window, range)
+    unbind_met::<K, V, C, R>(stored, &window, range, steps)
 }

@@ -24,7 +24,7 @@ use range_algebra::any::AnyRange;
 use range_algebra::inner::{self, clone_of};
 use range_algebra::range::AsRange;
 use range_keys::traits::Measure;
-use range_store::storage::{Item, Storage};
+use range_store::storage::{Item, Steps, Storage};
 use std::alloc::Global;
 
 /// Asks the closure for a range that one stored range surrounds, and does as it answers.
@@ -88,9 +88,10 @@ fn update_pieces<
     ensures closure { (e : E) → result ≡ Err (ClosureError e) → FailsAt K.order V.eq F.Fn f.now (C.items stored.old) range e }
     ensures refused { OnErr result (C.items stored.new ≡ C.items stored.old) }
 {
-    let window = find_window::<K, V, C, AnyRange<K>>(stored, &range);
-    let first = reaching_before::<K, V, C, AnyRange<K>>(stored, &window, &range);
-    let last = reaching_behind::<K, V, C, AnyRange<K>>(stored, &window, &range);
+    let mut steps = Steps::new();
+    let window = find_window::<K, V, C, AnyRange<K>>(stored, &range, &mut steps);
+    let first = reaching_before::<K, V, C, AnyRange<K>>(stored, &window, &range, &mut steps);
+    let last = reaching_behind::<K, V, C, AnyRange<K>>(stored, &window, &range, &mut steps);
     if let Some(p) = surrounding(window.count, first, last) {
         return update_within(stored, &window, p, range, f);
     }

@@ -8,6 +8,7 @@ use Rattle.std.proofs.lemmas.List.Elements.{All-head, All-tail}
 use Rattle.slab.specs.Slab.{Slab, get}
 use Rattle.range_store.specs.declared.btree.node.Node.{Node}
 use Rattle.range_store.specs.declared.btree.node.TheConstants.{MOST, LEAST}
+use Rattle.range_store.specs.Depth.{HasLevels}
 use Rattle.range_store.specs.Nodes.{children_of, numbers, Shaped, ShapedBut, IsTree}
 use Rattle.range_store.proofs.Replace.{Shaped-but}
 use Rattle.range_store.proofs.Room.{sizes, numbers_size}
@@ -85,3 +86,6 @@ levels_least s (suc d) root tree some = let level : suc d - 1 ≡ d = omega arit
 pub levels_most : (s : Slab Node) (levels root : ℕ) → IsTree s levels root → 0 < length (numbers s levels root) → length (numbers s levels root) + 1 ≤ (MOST + 1) ^ levels
 levels_most s zero root tree some = absurd (omega (arith, ap length (numbers_none s root)))
 levels_most s (suc d) root tree some = tree_upper s d root tree
+
+pub has_levels : (s : Slab Node) (levels root : ℕ) → IsTree s levels root → HasLevels (length (numbers s levels root)) levels
+has_levels s levels root tree = record { empty = empty_levels s levels root tree; least = levels_least s levels root tree; most = levels_most s levels root tree }

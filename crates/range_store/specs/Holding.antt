@@ -1,9 +1,11 @@
 -- What a `BoxStorage` holds, and what it is once an item was written.
-use Rattle.std.specs.Prelude.{◌≡◌, ℕ, ◌-◌, ◌<◌, ◌^◌, List, length, slice_index, slice_set, min}
-use Rattle.std.proofs.Common.{ap, arith}
+use Rattle.std.specs.Prelude.{◌≡◌, ℕ, ◌-◌, ◌*◌, ◌<◌, ◌^◌, List, length, slice_index, slice_set, min}
+use Rattle.std.proofs.Common.{refl, ap, arith}
 use Rattle.slab.specs.Slab.{slab_len, with_value}
+use Rattle.range_store.specs.Depth.{HasLevels}
 use Rattle.range_store.specs.Listed.{listed, number_or_none, with_storage, listed-with, still_len, storage_stored, length-listed}
 use Rattle.range_store.specs.declared.btree.BoxStorage.{BoxStorage}
+use Rattle.range_store.specs.declared.btree.searching.TheConstants.{HALVINGS}
 
 module _ {T : Type 0} where
   -- the items in order
@@ -33,3 +35,14 @@ module _ {T : Type 0} where
 
   pub items_fit : (s : BoxStorage T) → length (box_items s) < 2 ^ 64
   items_fit s = omega (arith, box_length s, s.whole.fits)
+
+  -- how many levels of nodes the tree has
+  abbrev pub level_count : BoxStorage T → ℕ
+  level_count s = s.tree.levels
+
+  -- they go with the number of items
+  pub box_levels : (s : BoxStorage T) → HasLevels (length (box_items s)) (level_count s)
+  box_levels s = rw (box_length s) s.levelled
+
+  pub none_asked_of_empty : (s : BoxStorage T) → length (box_items s) ≡ 0 → HALVINGS * s.tree.levels ≡ 0
+  none_asked_of_empty s none = let levels : s.tree.levels ≡ 0 = (box_levels s).empty none in rw levels refl

@@ -1,4 +1,5 @@
 pub mod Counting
+pub mod Depth
 pub mod Falling
 pub mod Holding
 pub mod Lending

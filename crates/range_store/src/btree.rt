@@ -4,6 +4,7 @@ ghost use Rattle.std.specs.List.{AllZip};
 ghost use Rattle.std.specs.Option.{ForSome};
 ghost use Rattle.std.proofs.Common.{refl};
 ghost use Rattle.slab.specs.Slab.{slab_len};
+ghost use Rattle.range_store.specs.Depth.{HasLevels};
 ghost use Rattle.range_store.specs.Listed.{listed, IsStorage};
 ghost use Rattle.range_store.specs.Places.{place_before};
 
@@ -42,13 +43,15 @@ pub struct BoxStorage<T> {
     tree: NumberTree,
     alloc: Global,
     ghost whole: { IsStorage items tree },
+    ghost levelled: { HasLevels (length tree.numbers) tree.levels },
 }
 
 impl<T> BoxStorage<T> {
-    ghost use Rattle.range_store.specs.Holding.{box_items, IsGood};
+    ghost use Rattle.range_store.specs.Holding.{box_items, level_count, IsGood};
 
     /// How many levels of nodes the tree has: 0 if it is empty.
     pub fn levels(&self) -> usize
+        ensures value { result ≡ level_count self.now }
         ensures empty { length (box_items self.now) ≡ 0 → result ≡ 0 }
         ensures least { 0 < length (box_items self.now) → 2 * (LEAST + 1) ^ (result - 1) ≤ length (box_items self.now) + 1 }
         ensures most { 0 < length (box_items self.now) → length (box_items self.now) + 1 ≤ (MOST + 1) ^ result }
@@ -110,7 +113,7 @@ fn found_position(rank: usize, found: Option<Found>) -> Option<BoxPosition>
 
 impl<T: Drop> Storage<T> for BoxStorage<T> {
     ghost use Rattle.range_store.specs.declared.btree.searching.TheConstants.{HALVINGS};
-    ghost use Rattle.range_store.specs.Holding.{box_items, IsGood, with_stored, items_with_stored, room_with_stored, good_in_range, items_fit};
+    ghost use Rattle.range_store.specs.Holding.{box_items, IsGood, with_stored, items_with_stored, room_with_stored, good_in_range, items_fit, none_asked_of_empty};
 
     type Position = BoxPosition;
 
@@ -262,4 +265,6 @@ impl<T: Drop> Storage<T> for BoxStorage<T> {
     ghost rank_with = { λ s p x q. refl };
 
     ghost length_fits = { λ s. items_fit s };
+
+    ghost none_asked = { λ s. none_asked_of_empty s };
 }

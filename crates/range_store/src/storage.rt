@@ -204,4 +204,7 @@ pub trait Storage<T>: Drop {
 
     /// The length is a `usize`.
     ghost length_fits: { (s : Self) → length (items s) < 2 ^ 64 };
+
+    /// A search of the empty list asks nothing.
+    ghost none_asked: { (s : Self) → length (items s) ≡ 0 → most_asks s ≡ 0 };
 }

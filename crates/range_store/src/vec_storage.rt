@@ -172,4 +172,6 @@ impl<T: Drop> Storage<T> for VecStorage<T> {
     ghost rank_with = { λ s p x q. refl };
 
     ghost length_fits = { λ s. Prim.omega (arith, s.stored.ok.0, s.stored.ok.1, s.stored.small) };
+
+    ghost none_asked = { λ s none. none };
 }

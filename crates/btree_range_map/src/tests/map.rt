@@ -4,6 +4,7 @@ mod calls;
 mod commands;
 mod comparing;
 mod containers;
+mod counted;
 mod keys;
 mod lookups;
 mod set_values;

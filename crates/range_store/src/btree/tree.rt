@@ -2,6 +2,7 @@
 ghost use Rattle.std.specs.Prelude.{◌≡◌, ℕ, ◌+◌, ◌-◌, ◌*◌, ◌<◌, ◌≤◌, ◌^◌, [], length, slice_index, insert, remove, OnOk, IfOk, IfSome, count_by};
 ghost use Rattle.range_store.specs.Occurrences.{occurrences};
 ghost use Rattle.range_store.specs.Counting.{AddsSteps};
+ghost use Rattle.range_store.specs.Depth.{HasLevels};
 ghost use Rattle.range_store.specs.Falling.{Falls, passes};
 ghost use Rattle.range_store.specs.Listed.{Stored};
 ghost use Rattle.range_store.specs.Nodes.{IsLast, IsNumberAt};
@@ -59,6 +60,7 @@ impl NumberTree {
     /// A copy, with the memory that its own numbers need.
     pub fn clone(&self) -> Result<Self, AllocError>
         ensures numbers { IfOk result (λ copy. copy.numbers ≡ self.now.numbers) }
+        ensures levels { IfOk result (λ copy. copy.levels ≡ self.now.levels) }
     {
         let mut nodes = self.nodes.clone()?;
         let wanted = self.len() / LEAST + 1;
@@ -152,6 +154,7 @@ impl NumberTree {
         requires small { length self.old.numbers + 1 < 2 ^ 64 }
         ensures numbers { self.new.numbers ≡ insert self.old.numbers rank number }
         ensures room { self.new.room + 1 ≡ self.old.room }
+        ensures levels { HasLevels (length self.new.numbers) self.new.levels }
     {
         let Placed { root, spot } = insert_into(
             &mut self.nodes,
@@ -172,6 +175,7 @@ impl NumberTree {
         ensures following { IsNumberAt self.new.numbers rank result.following }
         ensures numbers { self.new.numbers ≡ remove self.old.numbers rank }
         ensures room { self.new.room ≡ self.old.room + 1 }
+        ensures levels { HasLevels (length self.new.numbers) self.new.levels }
     {
         let removed = remove_below(&mut self.nodes, self.levels - 1, self.root, rank);
         let Root {

@@ -9,8 +9,8 @@ use Rattle.range_store.specs.Places.{place_before}
 use Rattle.range_map.specs.ItemCuts.{item_upper}
 use Rattle.range_map.proofs.reach.reaching_behind.Goals as goal
 
-pub returns-else-ends_after : goal.returns-else-ends_after
-returns-else-ends_after g c = λ x some read.
+pub returns-else-ends_after-clause-reaching : goal.returns-else-ends_after-clause-reaching
+returns-else-ends_after-clause-reaching g c = λ x some read.
     let order = g.K.MaybeBounded.order in
     let storage = g.C.Storage in
     let stored = c.args.stored.now in

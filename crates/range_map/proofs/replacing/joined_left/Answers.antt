@@ -89,4 +89,4 @@ returns-in-None g c = λ lawful equal b behind known_b same_b next.
     let within = rw c.in-Some.is at c.requires.within in
     let at : cmp (item_lower order m) (lower order r) ≡ Equal = both cmp total (item_lower order m) (lower order r) (not_lt cmp total (item_lower order m) (lower order r) (λ l. let later = c.if-starts_before.ensures.1 l in cc)) within.starts in
     let is = c.in-None.is in
-    inl (m, ap option_copied c.in-Some.is, at, rw is (left_touched order lawful g.V.PartialEq.eq equal (storage.is_good stored) (storage.rank stored) items r w place c.requires.stored c.known.ensures c.requires.nonempty c.requires.window m.value c.joined_before.result b behind (g.met.C.Storage.good_is_in_range stored) (rw is at c.requires.first) c.joined_before.ensures (rw is at next)))
+    inl (m, ap option_copied c.in-Some.is, at, rw is (left_touched order lawful g.V.PartialEq.eq equal (storage.is_good stored) (storage.rank stored) items r w place c.requires.stored c.known.ensures c.requires.nonempty c.requires.window m.value c.joined_before.result b behind (g.met.C.Storage.good_is_in_range stored) (rw is at c.requires.first) c.joined_before.ensures.joined (rw is at next)))

@@ -87,4 +87,4 @@ returns-in-None g c = λ lawful equal b known_b same_b.
     let within = rw c.in-Some.is at c.requires.within in
     let at : cmp (item_upper order m) (upper order r) ≡ Equal = both cmp total (item_upper order m) (upper order r) (within_end order lawful m.key r c.known-2.ensures c.known.ensures within) (not_lt cmp total (upper order r) (item_upper order m) (λ l. let earlier = c.if-ends_after.ensures.1 l in cc)) in
     let is = c.in-None.is in
-    inl (m, ap option_copied c.in-Some.is, at, rw is (right_touched order lawful g.V.PartialEq.eq equal (storage.is_good stored) (storage.rank stored) items r w place c.requires.stored c.known.ensures c.requires.nonempty c.requires.window m.value c.joined_after.result b (g.met.C.Storage.good_is_in_range stored) (rw is at c.requires.last) c.joined_after.ensures))
+    inl (m, ap option_copied c.in-Some.is, at, rw is (right_touched order lawful g.V.PartialEq.eq equal (storage.is_good stored) (storage.rank stored) items r w place c.requires.stored c.known.ensures c.requires.nonempty c.requires.window m.value c.joined_after.result b (g.met.C.Storage.good_is_in_range stored) (rw is at c.requires.last) c.joined_after.ensures.joined))

@@ -1,16 +1,17 @@
-use Rattle.std.proofs.Common.{◌≡◌, ◌+◌, ◌-◌, length, ap, sym, ◌∙◌, arith, None, subst}
+use Rattle.std.proofs.Common.{◌≡◌, [], ◌+◌, ◌-◌, length, ap, sym, ◌∙◌, arith, None, subst}
 use Rattle.range_store.specs.Places.{place_before}
 use Rattle.range_store.proofs.PlacesLemmas.{place_at}
 use Rattle.range_map.specs.Edges.{IsLeftShape, IsRightShape, joined_count, edge_at}
 use Rattle.range_map.specs.Window.{option_items}
 use Rattle.range_map.proofs.Framing.{cut_way}
+use Rattle.range_map.proofs.Lengths.{one_item, changed_length}
 use Rattle.range_map.proofs.Edging.{removed}
 use Rattle.range_map.proofs.Openings.{cut_joins_none}
 use Rattle.range_map.proofs.Planning.{left_cut_plan, right_cut_plan}
 use Rattle.range_map.proofs.unbinding.unbind_over.Goals as goal
 
-pub returns-clause-ok : goal.returns-clause-ok
-returns-clause-ok g c =
+pub returns : goal.returns
+returns g c =
     let order = g.K.MaybeBounded.order in
     let lawful = g.met.K.PartialEnum.lawful in
     let equal = g.met.V.Eq.laws in
@@ -44,4 +45,9 @@ returns-clause-ok g c =
     let none_behind : joined_count c.in_ok-behind.behind ≡ 0 = ap joined_count edge_behind ∙ cut_joins_none last start in
     let done = c.clear.ensures place (place + w.count) left.rest right.rest None None on_left on_right (omega (arith, none, none_behind)) in
     let frame = cut_way order lawful same equal (storage.is_good stored) (storage.rank stored) items r w place c.requires.stored c.known_range.ensures c.requires.window (storage.items c.clear.new.stored) left.rest right.rest c.requires.some left.made right.made left.few right.few done in
-    removed order lawful same equal (storage.is_good stored) (storage.rank stored) items r w place c.requires.stored c.known_range.ensures c.requires.nonempty c.requires.window (storage.items c.clear.new.stored) place (place + w.count) left.rest right.rest left.side right.side frame done
+    let size = changed_length items (storage.items c.clear.new.stored) (option_items left.rest) [] (option_items right.rest) place (place + w.count) (omega (arith, c.requires.window.in_range)) c.requires.window.in_range done in
+    record {
+      ok = removed order lawful same equal (storage.is_good stored) (storage.rank stored) items r w place c.requires.stored c.known_range.ensures c.requires.nonempty c.requires.window (storage.items c.clear.new.stored) place (place + w.count) left.rest right.rest left.side right.side frame done;
+      few = omega (arith, size, one_item left.rest, one_item right.rest, c.requires.some);
+      refused = tt;
+    }

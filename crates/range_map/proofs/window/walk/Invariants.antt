@@ -3,6 +3,7 @@ use Rattle.range_keys.specs.Directed.{reference_position}
 use Rattle.range_keys.specs.Position.{start_position, position_cmp}
 use Rattle.range_algebra.specs.declared.any.AnyRange.{AnyRange}
 use Rattle.range_store.specs.declared.storage.Item.{Item}
+use Rattle.range_store.specs.Counting.{AddsSteps}
 use Rattle.range_store.specs.Places.{place_before, IsAt}
 use Rattle.range_algebra.specs.Intervals.{Le}
 use Rattle.range_map.specs.Window.{IsLastOf}
@@ -18,6 +19,7 @@ invariant-loop-at g l =
       in_range : place + l.count ≤ length items;
       last_is : IsLastOf (storage.is_good l.stored) (storage.rank l.stored) l.last place l.count;
       meets : (d : Item (AnyRange g.row.K.Denot) g.row.V.Denot) → 0 < l.count → Le (position_cmp g.K.MaybeBounded.order.cmp) (start_position g.K.MaybeBounded.order (get_or items (place + l.count - 1) d).key.start) (reference_position g.K.MaybeBounded.order l.end);
+      counted : AddsSteps l.fn.steps l.steps 0 l.count;
     }
 
 abbrev pub decreases-loop-at : goal.decreases-loop-at

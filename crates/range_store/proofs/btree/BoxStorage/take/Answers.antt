@@ -11,6 +11,7 @@ remove-item-requires g c =
 pub invariant_of-self : goal.invariant_of-self
 invariant_of-self g c = record {
   whole = removed_storage c.args.self.now.items c.remove-item.new.self c.remove-number.result.item c.args.rank c.remove-item.result c.args.self.now.tree c.remove-number.new.self c.args.self.now.whole c.remove-item.ensures.value c.remove-number.ensures.value c.remove-item.ensures.updates c.remove-item.ensures.len c.requires c.remove-number.ensures.numbers;
+  levelled = c.remove-number.ensures.levels;
 }
 
 pub returns-clause-removed : goal.returns-clause-removed

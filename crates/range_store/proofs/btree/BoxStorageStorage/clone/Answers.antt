@@ -6,6 +6,7 @@ use Rattle.range_store.proofs.btree.BoxStorageStorage.clone.Goals as goal
 pub invariant_of-result : goal.invariant_of-result
 invariant_of-result g c = record {
   whole = copied_storage g.T.Clone.is_clone c.args.self.now.items c.in_ok-items.items c.in_ok-items.ensures.cases c.args.self.now.tree c.in_ok-tree.tree c.in_ok-tree.ensures.numbers c.args.self.now.whole;
+  levelled = rw (c.in_ok-tree.ensures.numbers, c.in_ok-tree.ensures.levels) c.args.self.now.levelled;
 }
 
 pub returns : goal.returns

@@ -9,6 +9,6 @@ index_mut-requires g c =
 
 pub returns : goal.returns
 returns g c = (
-  (refl, λ w. same_storage c.args.self.now c.args.p.rank c.args.p.number w (good_number c.args.self.now c.args.p.rank c.args.p.number c.requires) _),
+  (refl, λ w. same_storage c.args.self.now c.args.p.rank c.args.p.number w (good_number c.args.self.now c.args.p.rank c.args.p.number c.requires) _ _),
   record { writes_back = tt; value = good_item c.args.self.now c.args.p.rank c.args.p.number c.index_mut.result.now c.index_mut.result.now c.requires c.index_mut.ensures.value },
 )

@@ -11,6 +11,7 @@ insert-spot-requires-clause-small g c = omega (arith, c.args.self.now.whole.len,
 pub invariant_of-self : goal.invariant_of-self
 invariant_of-self g c = record {
   whole = inserted_storage c.args.self.now.items c.insert_reserved-number.new.self c.insert_reserved-number.result c.rank_before-rank.result c.args.item c.args.self.now.tree c.insert-spot.new.self c.args.self.now.whole c.insert_reserved-number.ensures.was_vacant c.insert_reserved-number.ensures.updates c.insert_reserved-number.ensures.len c.rank_before-rank.ensures.within c.insert-spot.ensures.numbers (omega (arith, c.len-many.ensures, c.len-many.type_inv));
+  levelled = c.insert-spot.ensures.levels;
 }
 
 pub returns-clause-list : goal.returns-clause-list

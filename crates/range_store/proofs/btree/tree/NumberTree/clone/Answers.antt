@@ -33,4 +33,5 @@ invariant_of-result c =
 pub returns : goal.returns
 returns c = record {
   numbers = numbers_kept c.self.inside.nodes c.reserve.new.self (same c) (same_len c) c.self.inside.levels c.self.inside.root ∙ ap (λ v. v.numbers) c.self.view_is;
+  levels = ap (λ v. v.levels) c.self.view_is;
 }

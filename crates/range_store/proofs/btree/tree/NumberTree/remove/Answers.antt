@@ -3,6 +3,7 @@ use Rattle.std.specs.List.{remove}
 use Rattle.std.proofs.lemmas.List.Edits.{length-remove}
 use Rattle.range_store.specs.Nodes.{numbers}
 use Rattle.range_store.proofs.Following.{at_when_removed}
+use Rattle.range_store.proofs.Levels.{has_levels}
 use Rattle.range_store.proofs.Rank.{levels_some, root_shaped}
 use Rattle.range_store.proofs.Settling.{loosened, loosened_numbers, tree_owned}
 use Rattle.range_store.proofs.btree.tree.NumberTree.remove.Goals as goal
@@ -73,3 +74,6 @@ invariant_of-self c =
 pub returns-clause-room : goal.returns-clause-room
 returns-clause-room c =
     omega (arith, fewer (goal.at.returns-clause-room c).After-settle-root, c.self.invariant.fits, c.settle-root.ensures.capacity, c.remove_below-removed.ensures.shrinks.woven.capacity, ap (λ v. v.room) c.self.view_is)
+
+pub returns-clause-levels : goal.returns-clause-levels
+returns-clause-levels c = has_levels c.settle-root.new.nodes c.settle-root.result.levels c.settle-root.result.number c.settle-root.ensures.tree

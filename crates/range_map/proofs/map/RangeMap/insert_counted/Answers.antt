@@ -1,7 +1,7 @@
 use Rattle.std.proofs.Common.{subst, rules}
 use Rattle.range_map.specs.Lookups.{MeetAlso}
 use Rattle.range_map.proofs.StoredLists.{stored_coarse, stored_only}
-use Rattle.range_map.proofs.map.RangeMap.insert.Goals as goal
+use Rattle.range_map.proofs.map.RangeMap.insert_counted.Goals as goal
 
 pub returns-clause-meets : goal.returns-clause-meets
 returns-clause-meets g c = λ full.
