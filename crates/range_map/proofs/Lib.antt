@@ -6,6 +6,7 @@ pub mod CountedRuns
 pub mod Covering
 pub mod CutOut
 pub mod CutParts
+pub mod Depths
 pub mod Cutting
 pub mod Edging
 pub mod Endings

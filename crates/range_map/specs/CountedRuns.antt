@@ -1,11 +1,10 @@
 -- How many steps a list of commands adds, one command after the other.
-use Rattle.std.specs.Prelude.{◌≡◌, ◌+◌, ◌-◌, ◌*◌, ◌^◌, ◌<◌, ◌≤◌, ◌⊎◌, ℕ, ⊤, Bool, List, [], ◌∷◌, length, Option, Result}
+use Rattle.std.specs.Prelude.{◌≡◌, ◌+◌, ◌<◌, ◌⊎◌, ℕ, ⊤, Bool, List, [], ◌∷◌, length, Option, Result}
 use Rattle.range_keys.specs.Order.{KeyOrder}
 use Rattle.range_algebra.specs.declared.any.AnyRange.{AnyRange}
 use Rattle.range_algebra.specs.Range.{IsEmptyRange}
 use Rattle.range_store.specs.Counting.{AddsSteps}
 use Rattle.range_store.specs.declared.storage.Item.{Item}
-use Rattle.range_store.specs.declared.btree.node.TheConstants.{LEAST}
 use Rattle.range_map.specs.Costs.{TakesAtLeast, TakesAsChange}
 use Rattle.range_map.specs.Runs.{IsStep}
 use Rattle.range_map.specs.declared.command.Command.{Command}
@@ -22,11 +21,6 @@ HasNoMemory (reply ∷ replies) = HasNoMemory replies
 abbrev pub IsDone : {K V E : Type 0} → Reply K V E → Type 0
 IsDone Done = ⊤
 IsDone reply = ⊥
-
--- the greatest number of levels that a tree of less than so many items may have, or 0 where none may have one
-pub record IsGreatestLevel (many level : ℕ) : Type 0 where
-  pub reached : (level ≡ 0) ⊎ ((1 ≤ level) × (2 * (LEAST + 1) ^ (level - 1) ≤ many))
-  pub greatest : (other : ℕ) → 1 ≤ other → 2 * (LEAST + 1) ^ (other - 1) ≤ many → other ≤ level
 
 -- one more where a fact holds
 abbrev pub CountsOne : Type 0 → ℕ → ℕ → Type 0
@@ -55,7 +49,8 @@ module _ {K : Type 0} (order : KeyOrder K) {V : Type 0} where
     TakesFor least most items (Intersects r) reply next before after = LookupTakes least most items (IsEmptyRange order r) before after
     TakesFor least most items command reply next before after = after ≡ before
 
-    -- a step is due: for a change that was not refused and for a look-up, where the range is nonempty and a range is stored
+    -- a step is due: for a change that was not refused and for a look-up, where the range is
+    -- nonempty and a range is stored
     abbrev pub IsDue : List (Item (AnyRange K) V) → Command K V T → Reply K V E → Type 0
     IsDue items (Insert r v) reply = IsDone reply × (¬ IsEmptyRange order r) × (0 < length items)
     IsDue items (Remove r) reply = IsDone reply × (¬ IsEmptyRange order r) × (0 < length items)

@@ -6,6 +6,7 @@ pub mod Coarse
 pub mod Copies
 pub mod Costs
 pub mod CountedRuns
+pub mod Depths
 pub mod Edges
 pub mod Edits
 pub mod Frames

@@ -5,7 +5,8 @@ ghost use Rattle.range_algebra.specs.Range.{ClonesAreEqual};
 ghost use Rattle.range_map.specs.Bindings.{Binds, IsBound};
 ghost use Rattle.range_store.specs.Holding.{box_items};
 ghost use Rattle.range_map.specs.Costs.{TakesAtLeast};
-ghost use Rattle.range_map.specs.CountedRuns.{LookupTakes, TakesFor, IsCountedRun, IsRunOfDue, IsGreatestLevel, HasNoMemory};
+ghost use Rattle.range_map.specs.CountedRuns.{LookupTakes, TakesFor, IsCountedRun, IsRunOfDue, HasNoMemory};
+ghost use Rattle.range_map.specs.Depths.{greatest_level};
 ghost use Rattle.range_map.specs.Runs.{IsStep, IsRun, HasNoUpdate};
 ghost use Rattle.range_map.specs.History.{BindOver};
 ghost use Rattle.range_map.specs.Tagged.{MayAnswerTo, MayBeAskedAll};
@@ -260,7 +261,7 @@ pub fn run_counted<
     ensures history { IfOk result (λ replies. (k : K) → K.order.is_key k → (b : Option V) → Binds K.order V.eq (box_items map.new) k b → BindOver K.order V.eq (MayAnswerTo F.Fn f.now) k (λ u. Binds K.order V.eq (box_items map.old) k u) commands.items replies.items b) }
     ensures few { HasNoUpdate commands.items → length (box_items map.new) ≤ length (box_items map.old) + 2 * length commands.items }
     ensures refused { OnErr result (box_items map.new ≡ box_items map.old) }
-    ensures most { IfOk result (λ replies. (level : ℕ) → IsGreatestLevel (length (box_items map.old) + 2 * length commands.items + 1) level → HasNoUpdate commands.items → HasNoMemory replies.items → steps.new ≤ steps.old + length commands.items * (6 * level + 10) + 2 * length (box_items map.old)) }
+    ensures most { IfOk result (λ replies. HasNoUpdate commands.items → HasNoMemory replies.items → steps.new ≤ steps.old + length commands.items * (6 * greatest_level (length (box_items map.old) + 2 * length commands.items + 1) + 10) + 2 * length (box_items map.old)) }
     ensures least { IfOk result (λ replies. (due : ℕ) × IsRunOfDue K.order V.eq (MayAnswerTo F.Fn f.now) (box_items map.old) commands.items replies.items (box_items map.new) due × TakesAtLeast steps.old steps.new due) }
     ensures refused_steps { OnErr result (steps.new ≡ steps.old) }
 {

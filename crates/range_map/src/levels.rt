@@ -1,6 +1,7 @@
 //! The levels of a map's tree.
-ghost use Rattle.std.specs.Prelude.{◌≡◌, ◌+◌, ◌-◌, ◌*◌, ◌^◌, ◌<◌, ◌≤◌, length};
+ghost use Rattle.std.specs.Prelude.{ℕ, ◌≡◌, ◌+◌, ◌-◌, ◌*◌, ◌^◌, ◌<◌, ◌≤◌, length};
 ghost use Rattle.range_store.specs.Holding.{box_items, level_count};
+ghost use Rattle.range_map.specs.Depths.{IsGreatestLevel, greatest_level};
 ghost use Rattle.range_store.specs.declared.btree.node.TheConstants.{LEAST, MOST};
 
 use crate::map::RangeMap;
@@ -22,3 +23,10 @@ impl<K: PartialEnum, V: Eq + Drop> RangeMap<K, V, BoxStorage<Item<AnyRange<K>, V
         self.stored.levels()
     }
 }
+
+/// There is one greatest number of levels that a tree of fewer than so many items may have, or 0,
+/// and `greatest_level` tells it. A law: the body does nothing.
+pub fn one_level_is_greatest()
+    ensures greatest { (many : ℕ) → IsGreatestLevel many (greatest_level many) }
+    ensures only { (many level : ℕ) → IsGreatestLevel many level → level ≡ greatest_level many }
+{}

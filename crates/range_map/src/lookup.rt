@@ -67,7 +67,7 @@ impl<K: Measure, V: Eq + Drop, C: Storage<Item<AnyRange<K>, V>>> RangeMap<K, V, 
         ensures complete { IsComplete K.order → IsTrue result → BindsKeyOf K.order (C.items self.now) (R.range range) }
         ensures counted { ¬ IsEmptyRange K.order (R.range range) → AddsSteps steps.old steps.new (C.least_asks self.now) (C.most_asks self.now + 1) }
         ensures none { C.items self.now ≡ [] → AddsSteps steps.old steps.new 0 0 }
-        ensures empty { IsEmptyRange K.order (R.range range) → steps.new ≡ steps.old }
+        ensures empty_uncounted { IsEmptyRange K.order (R.range range) → steps.new ≡ steps.old }
     {
         self.in_form();
         inner::known_range(&range);

@@ -15,6 +15,7 @@ pub use crate::iter::Iter;
 pub use crate::laws::{
     coarse_lists_are_shortest, coarse_lists_are_unique, stored_lists_are_coarse,
 };
+pub use crate::levels::one_level_is_greatest;
 pub use crate::search::binary_search;
 use crate::window::{find, starts_past};
 use range_algebra::any::AnyRange;

@@ -48,9 +48,9 @@ returns-in-InsertDisconnected-clause-step g c =
 pub returns-in-Ok-clause-takes : goal.returns-in-Ok-clause-takes
 returns-in-Ok-clause-takes g c =
     let done = c.in-Ok.ensures in
-    rw c.in-Insert.is (record { at_most = λ unrefused. done.most; at_least = done.least; none = done.none })
+    rw c.in-Insert.is (record { at_most = λ unrefused. done.most; at_least = done.least; none = done.empty_uncounted })
 
 pub returns-in-Ok-remove_counted-clause-takes : goal.returns-in-Ok-remove_counted-clause-takes
 returns-in-Ok-remove_counted-clause-takes g c =
     let done = c.in-Ok-remove_counted.ensures in
-    rw c.in-Remove.is (record { at_most = λ unrefused. done.most; at_least = done.least; none = done.none })
+    rw c.in-Remove.is (record { at_most = λ unrefused. done.most; at_least = done.least; none = done.empty_uncounted })

@@ -1,8 +1,10 @@
 use Rattle.std.proofs.Common.{◌+◌, ◌*◌, length, arith}
 use Rattle.range_store.specs.Holding.{box_items}
 use Rattle.range_map.specs.Bindings.{Binds}
+use Rattle.range_map.specs.Depths.{greatest_level}
 use Rattle.range_map.specs.Tagged.{MayAnswerTo}
 use Rattle.range_map.proofs.CountedRuns.{if_ok_then, uncounted, few_after, run_most, run_least, few_asks, some_asks}
+use Rattle.range_map.proofs.Depths.{greatest_level_is}
 use Rattle.range_map.proofs.Histories.{run_binds}
 use Rattle.range_map.proofs.command.run_counted.Goals as goal
 
@@ -23,8 +25,10 @@ returns-clause-few g c = λ none.
 
 pub returns-clause-most : goal.returns-clause-most
 returns-clause-most g c =
-    if_ok_then c.run_steps.result c.run_steps.ensures.run (λ replies run level greatest none memory.
-    let all = run_most g.K.MaybeBounded.order g.V.PartialEq.eq (MayAnswerTo g.F.Fn c.args.f.now) _ _ _ level (length (box_items c.args.map.now) + 2 * length c.args.commands.items) (few_asks _ level greatest) c.args.map.now c.run_steps.new.map c.args.commands.items replies.items c.args.steps.now c.run_steps.new.steps (omega arith) none memory run in
+    if_ok_then c.run_steps.result c.run_steps.ensures.run (λ replies run none memory.
+    let many = length (box_items c.args.map.now) + 2 * length c.args.commands.items in
+    let level = greatest_level (many + 1) in
+    let all = run_most g.K.MaybeBounded.order g.V.PartialEq.eq (MayAnswerTo g.F.Fn c.args.f.now) _ _ _ level many (few_asks many level (greatest_level_is (many + 1))) c.args.map.now c.run_steps.new.map c.args.commands.items replies.items c.args.steps.now c.run_steps.new.steps (omega arith) none memory run in
     omega (arith, all))
 
 pub returns-clause-least : goal.returns-clause-least
