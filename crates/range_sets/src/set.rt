@@ -3,6 +3,7 @@ ghost use Rattle.std.specs.Prelude.{◌≡◌, ◌↔◌, ◌+◌, ◌≤◌, �
 ghost use Rattle.range_keys.specs.Order.{IsComplete};
 ghost use Rattle.range_algebra.specs.Range.{IsEmptyRange};
 ghost use Rattle.range_map.specs.FreeRanges.{AreGaps, IsHeldOnce, item_ranges};
+ghost use Rattle.range_store.specs.Counting.{AddsSteps};
 ghost use Rattle.range_map.specs.Lookups.{MeetsSome, BindsKeyOf};
 ghost use Rattle.range_sets.specs.KeySets.{HoldsKey, IsLeastCount, IsStoredSet};
 
@@ -13,7 +14,7 @@ use range_algebra::any::AnyRange;
 use range_algebra::range::AsRange;
 use range_keys::traits::{Measure, PartialEnum};
 use range_map::map::{self, RangeMap};
-use range_store::storage::{Item, Storage};
+use range_store::storage::{Item, Steps, Storage};
 use std::alloc::Global;
 use std::marker::Model;
 
@@ -85,7 +86,20 @@ impl<T: PartialEnum, C: Storage<Item<AnyRange<T>, ()>>> RangeSet<T, C> {
     pub fn contains(&self, key: T) -> bool
         ensures { IsTrue result ↔ HoldsKey T.order (C.items self.now) key }
     {
-        self.map.contains_key(key)
+        let mut steps = Steps::new();
+        self.contains_counted(key, &mut steps)
+    }
+
+    /// Whether the key is in the set, as `contains` answers; adds the steps that it takes.
+    ///
+    /// A step is one range that the search asks, or one comparison of the key with a stored range.
+    /// The empty set takes none.
+    pub fn contains_counted(&self, key: T, steps: &mut Steps) -> bool
+        ensures value { IsTrue result ↔ HoldsKey T.order (C.items self.now) key }
+        ensures counted { AddsSteps steps.old steps.new (C.least_asks self.now) (C.most_asks self.now + 1) }
+        ensures none { C.items self.now ≡ [] → AddsSteps steps.old steps.new 0 0 }
+    {
+        self.map.contains_key_counted(key, steps)
     }
 
     /// The stored ranges, in rising order. Takes no memory.
