@@ -1,0 +1,136 @@
+//! Maps over either container, and tables of calls on them.
+
+use range_algebra::any::AnyRange;
+use range_map::map::{MapError, RangeMap};
+use range_store::btree::BoxStorage;
+use range_store::storage::{Item, Storage};
+use range_store::vec_storage::VecStorage;
+use std::alloc::Global;
+use std::ops::Bound;
+use std::process::Abort;
+use std::test::Fail;
+
+pub type Range = AnyRange<i32>;
+
+pub type NumberItem = Item<Range, i64>;
+
+pub type InVector = VecStorage<NumberItem>;
+
+pub type InTree = BoxStorage<NumberItem>;
+
+/// A stored range from its first key to its last, and its value.
+pub type Row = (i32, i32, i64);
+
+pub fn between(start: Bound<i32>, end: Bound<i32>) -> Range {
+    AnyRange::new(start, end)
+}
+
+pub fn closed(first: i32, last: i32) -> Range {
+    AnyRange::new(Bound::Included(first), Bound::Included(last))
+}
+
+pub fn half_open(first: i32, end: i32) -> Range {
+    AnyRange::new(Bound::Included(first), Bound::Excluded(end))
+}
+
+pub fn new_map<C: Storage<NumberItem>>(alloc: Global) -> RangeMap<i32, i64, C> {
+    RangeMap::new(alloc)
+}
+
+pub fn insert<C: Storage<NumberItem>>(
+    map: &mut RangeMap<i32, i64, C>,
+    range: Range,
+    value: i64,
+) -> Result<(), MapError> {
+    map.insert(range, value)
+}
+
+pub fn remove<C: Storage<NumberItem>>(
+    map: &mut RangeMap<i32, i64, C>,
+    range: Range,
+) -> Result<(), MapError> {
+    map.remove(range)
+}
+
+pub fn value_at<C: Storage<NumberItem>>(map: &RangeMap<i32, i64, C>, key: i32) -> Option<i64> {
+    map.get(key).copied()
+}
+
+pub fn range_count<C: Storage<NumberItem>>(map: &RangeMap<i32, i64, C>) -> usize {
+    map.range_count()
+}
+
+/// Whether the map stores just these rows.
+pub fn stores<C: Storage<NumberItem>>(map: &RangeMap<i32, i64, C>, rows: &[Row]) -> bool {
+    let mut left = rows;
+    let mut stored = map.iter();
+    while let Some((range, value)) = stored.next() {
+        let Some((row, rest)) = left.split_first() else {
+            return false;
+        };
+        if *range != closed(row.0, row.1) || *value != row.2 {
+            return false;
+        }
+        left = rest;
+    }
+    left.is_empty()
+}
+
+/// A call on a map, or what has to hold of the map then.
+#[derive(Clone, Copy)]
+pub enum Step<'a> {
+    Insert(Range, i64),
+    Remove(Range),
+    /// How many ranges are stored.
+    Count(usize),
+    /// What a key is bound to.
+    Get(i32, Option<i64>),
+    /// Each stored range.
+    Stores(&'a [Row]),
+}
+
+/// Makes the call, or tells whether it is so.
+pub fn holds<C: Storage<NumberItem>>(
+    map: &mut RangeMap<i32, i64, C>,
+    step: Step<'_>,
+) -> Result<bool, MapError> {
+    match step {
+        Step::Insert(range, value) => insert(map, range, value)?,
+        Step::Remove(range) => remove(map, range)?,
+        Step::Count(count) => return Ok(range_count(map) == count),
+        Step::Get(key, value) => return Ok(value_at(map, key) == value),
+        Step::Stores(rows) => return Ok(stores(map, rows)),
+    }
+    Ok(true)
+}
+
+/// Takes the steps in turn. Answers the place of the first that does not hold.
+pub fn first_wrong<C: Storage<NumberItem>>(
+    map: &mut RangeMap<i32, i64, C>,
+    steps: &[Step<'_>],
+) -> Result<Option<usize>, MapError> {
+    for (place, step) in steps.iter().enumerate() {
+        if !holds(map, *step)? {
+            return Ok(Some(place));
+        }
+    }
+    Ok(None)
+}
+
+/// Takes the steps in turn on a new map.
+fn first_wrong_when_new<C: Storage<NumberItem>>(
+    alloc: Global,
+    steps: &[Step<'_>],
+) -> Result<Option<usize>, MapError> {
+    let mut map: RangeMap<i32, i64, C> = new_map(alloc);
+    first_wrong(&mut map, steps)
+}
+
+/// Takes the steps in turn on a new map over each container. Each has to hold.
+pub fn play<R: Abort>(rt: &R, alloc: Global, steps: &[Step<'_>]) -> Result<(), Fail> {
+    let wrong = first_wrong_when_new::<InVector>(alloc, steps)?;
+    assert_eq!(rt; wrong, None, "the place of a step, over a vector");
+    let wrong = first_wrong_when_new::<InTree>(alloc, steps)?;
+    assert_eq!(rt; wrong, None, "the place of a step, over a tree");
+    Ok(())
+}
