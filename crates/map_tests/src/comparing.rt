@@ -1,0 +1,134 @@
+use crate::support::{
+    InTree, InVector, NumberItem, Range, between, closed, half_open, insert, new_map, remove,
+};
+use range_map::map::{MapError, RangeMap};
+use range_store::storage::Storage;
+use std::alloc::Global;
+use std::cmp::Ordering;
+use std::hash::{DefaultHasher, Hash, Hasher};
+use std::ops::Bound::Excluded;
+use std::test::Fail;
+
+/// A range that is bound to the value, or unbound where there is none.
+type Call = (Range, Option<i64>);
+
+/// The map that the calls make of a new one.
+fn map_of<C: Storage<NumberItem>>(
+    alloc: Global,
+    calls: &[Call],
+) -> Result<RangeMap<i32, i64, C>, MapError> {
+    let mut map = new_map::<C>(alloc);
+    for (range, value) in calls {
+        match value {
+            Some(value) => insert(&mut map, *range, *value)?,
+            None => remove(&mut map, *range)?,
+        }
+    }
+    Ok(map)
+}
+
+fn hash_of<C: Storage<NumberItem>>(map: &RangeMap<i32, i64, C>) -> u64 {
+    let mut state = DefaultHasher::new();
+    map.hash(&mut state);
+    state.finish()
+}
+
+/// Whether two maps over one container compare so in each way.
+fn compare_as<C: Storage<NumberItem>>(
+    left: &RangeMap<i32, i64, C>,
+    right: &RangeMap<i32, i64, C>,
+    order: Ordering,
+) -> bool {
+    let same = order == Ordering::Equal;
+    (*left == *right) == same && left.cmp(right) == order && left.partial_cmp(right) == Some(order)
+}
+
+/// Whether two maps over any two containers compare so in each way.
+fn compare_across_as<C: Storage<NumberItem>, D: Storage<NumberItem>>(
+    left: &RangeMap<i32, i64, C>,
+    right: &RangeMap<i32, i64, D>,
+    order: Ordering,
+) -> bool {
+    let same = order == Ordering::Equal;
+    left.eq_across(right) == same
+        && left.cmp_across(right) == order
+        && right.cmp_across(left) == order.reverse()
+        && (!same || (left.range_count() == right.range_count() && hash_of(left) == hash_of(right)))
+}
+
+/// Whether the maps that the calls make compare so.
+fn are_ordered<C: Storage<NumberItem>, D: Storage<NumberItem>>(
+    alloc: Global,
+    calls: &[Call],
+    others: &[Call],
+    order: Ordering,
+) -> Result<bool, MapError> {
+    let left = map_of::<C>(alloc, calls)?;
+    let right = map_of::<D>(alloc, others)?;
+    Ok(compare_across_as(&left, &right, order))
+}
+
+/// The same over one container.
+fn are_ordered_within<C: Storage<NumberItem>>(
+    alloc: Global,
+    calls: &[Call],
+    others: &[Call],
+    order: Ordering,
+) -> Result<bool, MapError> {
+    let left = map_of::<C>(alloc, calls)?;
+    let right = map_of::<C>(alloc, others)?;
+    Ok(compare_as(&left, &right, order) && compare_across_as(&left, &right, order))
+}
+
+/// The rank of a map, and the calls that make it.
+type Ranked<'a> = (u8, &'a [Call]);
+
+/// Whether the maps compare by their ranks, over each two containers.
+fn compare_by_rank(alloc: Global, left: Ranked<'_>, right: Ranked<'_>) -> Result<bool, MapError> {
+    let order = left.0.cmp(&right.0);
+    Ok(
+        are_ordered_within::<InVector>(alloc, left.1, right.1, order)?
+            && are_ordered_within::<InTree>(alloc, left.1, right.1, order)?
+            && are_ordered::<InVector, InTree>(alloc, left.1, right.1, order)?,
+    )
+}
+
+/// The first two maps that do not compare by their ranks.
+fn first_wrong(alloc: Global, maps: &[Ranked<'_>]) -> Result<Option<(usize, usize)>, MapError> {
+    for (first, left) in maps.iter().enumerate() {
+        for (second, right) in maps.iter().enumerate() {
+            if !compare_by_rank(alloc, *left, *right)? {
+                return Ok(Some((first, second)));
+            }
+        }
+    }
+    Ok(None)
+}
+
+/// Maps are in dictionary order, and those of one rank bind alike.
+#[test]
+fn maps_compare_by_what_they_bind(rt: HostRuntime) -> Result<(), Fail> {
+    let holed = [(half_open(0, 10), Some(1)), (half_open(3, 5), None)];
+    let mended = [
+        (half_open(0, 10), Some(1)),
+        (half_open(3, 5), None),
+        (half_open(3, 5), Some(1)),
+    ];
+    let parted = [(half_open(0, 10), Some(1)), (half_open(5, 6), Some(2))];
+    let two = [(half_open(0, 10), Some(1)), (half_open(20, 30), Some(0))];
+    let maps: [Ranked<'_>; 11] = [
+        (0, &[]),
+        (1, &holed),
+        (2, &parted),
+        (3, &[(half_open(0, 5), Some(2))]),
+        (4, &[(half_open(0, 10), Some(1))]),
+        (4, &[(closed(0, 9), Some(1))]),
+        (4, &[(between(Excluded(-1), Excluded(10)), Some(1))]),
+        (4, &mended),
+        (5, &two),
+        (6, &[(half_open(0, 10), Some(2))]),
+        (7, &[(half_open(1, 2), Some(0))]),
+    ];
+    assert_eq!(rt; first_wrong(rt.alloc(), &maps)?, None, "two of the maps");
+    Ok(())
+}

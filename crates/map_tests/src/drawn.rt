@@ -1,0 +1,223 @@
+//! Maps after many drawn calls, held against a scan of what they store.
+
+use range_algebra::any::AnyRange;
+use range_map::inner::scan::find;
+use range_map::map::{MapError, RangeMap};
+use range_store::btree::BoxStorage;
+use range_store::storage::{Item, Storage};
+use range_store::vec_storage::VecStorage;
+use std::alloc::{AllocError, Global};
+use std::cmp::Ordering;
+use std::hash::{DefaultHasher, Hash, Hasher};
+use std::ops::Bound::{Excluded, Included, Unbounded};
+use std::test::Fail;
+
+type ByteItem = Item<AnyRange<u8>, i64>;
+
+fn new_map<C: Storage<ByteItem>>(alloc: Global) -> RangeMap<u8, i64, C> {
+    RangeMap::new(alloc)
+}
+
+/// Binds the range to the value, or unbinds it where there is none.
+fn change<C: Storage<ByteItem>>(
+    map: &mut RangeMap<u8, i64, C>,
+    range: AnyRange<u8>,
+    value: Option<i64>,
+) -> Result<(), MapError> {
+    match value {
+        Some(value) => map.insert(range, value),
+        None => map.remove(range),
+    }
+}
+
+/// A copy of what the map stores.
+fn stored_items<C: Storage<ByteItem>>(
+    alloc: Global,
+    map: &RangeMap<u8, i64, C>,
+) -> Result<Vec<ByteItem>, AllocError> {
+    let mut items = Vec::new(alloc);
+    let mut stored = map.iter();
+    while let Some((range, value)) = stored.next() {
+        items.push(Item::new(*range, *value))?;
+    }
+    Ok(items)
+}
+
+/// What the first eight keys are bound to.
+type Bound = [Option<i64>; 8];
+
+/// Whether the map and a scan of its items find what is bound.
+fn binds<C: Storage<ByteItem>>(
+    map: &RangeMap<u8, i64, C>,
+    items: &[ByteItem],
+    bound: &Bound,
+) -> bool {
+    for key in 0..8u8 {
+        let here = bound[key as usize];
+        if map.get(key).copied() != here || find(items, &key).copied() != here {
+            return false;
+        }
+    }
+    true
+}
+
+/// Makes the call of a step. Answers whether the map and a scan find what the last calls say.
+fn take<C: Storage<ByteItem>>(
+    alloc: Global,
+    map: &mut RangeMap<u8, i64, C>,
+    bound: &mut Bound,
+    step: u8,
+) -> Result<bool, MapError> {
+    let first = step.wrapping_mul(5).wrapping_add(step / 7) % 8;
+    let last = step.wrapping_mul(11).wrapping_add(step / 3) % 8;
+    let value = if step % 3 == 0 {
+        None
+    } else {
+        Some((step % 2) as i64)
+    };
+    change(map, AnyRange::new(Included(first), Included(last)), value)?;
+    for key in 0..8u8 {
+        if first <= key && key <= last {
+            bound[key as usize] = value;
+        }
+    }
+    let items = stored_items(alloc, map)?;
+    Ok(binds(map, &items, bound))
+}
+
+/// The first step after which the map or a scan does not find what the last calls say.
+fn first_wrong<C: Storage<ByteItem>>(alloc: Global) -> Result<Option<u8>, MapError> {
+    let mut map = new_map::<C>(alloc);
+    let mut bound = [None; 8];
+    for step in 0..200u8 {
+        if !take(alloc, &mut map, &mut bound, step)? {
+            return Ok(Some(step));
+        }
+    }
+    Ok(None)
+}
+
+#[test]
+fn many_calls_bind_what_the_last_one_says(rt: HostRuntime) -> Result<(), Fail> {
+    assert_eq!(rt; first_wrong::<VecStorage<ByteItem>>(rt.alloc())?, None);
+    Ok(())
+}
+
+/// The keys from the first to the last, spelled in one of four ways.
+fn spelled(first: u8, last: u8, spelling: u32) -> AnyRange<u8> {
+    let start = match first.checked_sub(1) {
+        Some(before) if spelling % 2 == 1 => Excluded(before),
+        None if spelling % 2 == 1 => Unbounded,
+        _ => Included(first),
+    };
+    let end = match last.checked_add(1) {
+        Some(behind) if spelling / 2 == 1 => Excluded(behind),
+        _ => Included(last),
+    };
+    AnyRange::new(start, end)
+}
+
+/// Inserts or removes a range of the first four keys, all of it taken from one number.
+fn change_as_drawn<C: Storage<ByteItem>>(
+    map: &mut RangeMap<u8, i64, C>,
+    drawn: u32,
+) -> Result<(), MapError> {
+    let first = (drawn / 256 % 4) as u8;
+    let last = (drawn / 1024 % 4) as u8;
+    let value = match drawn / 16384 % 3 {
+        0 => None,
+        1 => Some(1),
+        _ => Some(2),
+    };
+    change(map, spelled(first, last, drawn / 4096 % 4), value)
+}
+
+fn next_number(number: u32) -> u32 {
+    number.wrapping_mul(1664525).wrapping_add(1013904223)
+}
+
+fn scan_finds_the_same(items: &[ByteItem], others: &[ByteItem]) -> bool {
+    for key in 0..=255u8 {
+        if find(items, &key) != find(others, &key) {
+            return false;
+        }
+    }
+    true
+}
+
+/// Whether a scan of what the maps store finds the same.
+fn bind_alike<C: Storage<ByteItem>, D: Storage<ByteItem>>(
+    alloc: Global,
+    left: &RangeMap<u8, i64, C>,
+    right: &RangeMap<u8, i64, D>,
+) -> Result<bool, AllocError> {
+    let items = stored_items(alloc, left)?;
+    let others = stored_items(alloc, right)?;
+    Ok(scan_finds_the_same(&items, &others))
+}
+
+fn hash_of<C: Storage<ByteItem>>(map: &RangeMap<u8, i64, C>) -> u64 {
+    let mut state = DefaultHasher::new();
+    map.hash(&mut state);
+    state.finish()
+}
+
+/// Whether the maps are equal where they bind alike, and nowhere else.
+fn compare<C: Storage<ByteItem>, D: Storage<ByteItem>>(
+    left: &RangeMap<u8, i64, C>,
+    right: &RangeMap<u8, i64, D>,
+    alike: bool,
+) -> bool {
+    left.eq_across(right) == alike
+        && (left.cmp_across(right) == Ordering::Equal) == alike
+        && (!alike
+            || (left.range_count() == right.range_count() && hash_of(left) == hash_of(right)))
+}
+
+/// Changes both maps. Answers whether they bind alike, or none where they do not compare so.
+fn change_both<C: Storage<ByteItem>, D: Storage<ByteItem>>(
+    alloc: Global,
+    left: &mut RangeMap<u8, i64, C>,
+    right: &mut RangeMap<u8, i64, D>,
+    number: u32,
+) -> Result<Option<bool>, MapError> {
+    change_as_drawn(left, number)?;
+    change_as_drawn(right, next_number(number))?;
+    let alike = bind_alike(alloc, left, right)?;
+    Ok(if compare(left, right, alike) {
+        Some(alike)
+    } else {
+        None
+    })
+}
+
+/// After how many of 300 steps the maps bind alike, or the first step after which they do not
+/// compare so.
+fn count_alike<C: Storage<ByteItem>, D: Storage<ByteItem>>(
+    alloc: Global,
+    left: &mut RangeMap<u8, i64, C>,
+    right: &mut RangeMap<u8, i64, D>,
+) -> Result<Result<u32, u32>, MapError> {
+    let mut number = next_number(7);
+    let mut equal = 0u32;
+    for step in 0..300u32 {
+        match change_both(alloc, left, right, number)? {
+            None => return Ok(Err(step)),
+            Some(true) => equal = equal.saturating_add(1),
+            Some(false) => (),
+        }
+        number = next_number(next_number(number));
+    }
+    Ok(Ok(equal))
+}
+
+#[test]
+fn many_maps_are_equal_where_a_scan_finds_the_same(rt: HostRuntime) -> Result<(), Fail> {
+    let mut left = new_map::<VecStorage<ByteItem>>(rt.alloc());
+    let mut right = new_map::<BoxStorage<ByteItem>>(rt.alloc());
+    match count_alike(rt.alloc(), &mut left, &mut right)? {
+        Ok(equal) => assert!(rt; 5 < equal && equal < 295, "{equal} of 300 were equal"),
+        Err(step) => panic!(rt; "after step {step}"),
+    }
+    Ok(())
+}
