@@ -63,7 +63,6 @@ change-requires-clause-good g c =
     let items = storage.items stored in
     let left = c.in_ok-left.ensures.planned g.met.K.PartialEnum.lawful g.met.V.Eq.laws in
     let ready = c.reserve.new.self in
-    let same = c.reserve.ensures.list in
     let kept = c.reserve.ensures.positions in
     let run = kept_at (storage.is_good stored) (storage.is_good ready) (storage.rank stored) (storage.rank ready) (length items) c.in_ok-left.left.from left.begin kept left.run in
     good_at (storage.is_good ready) (storage.rank ready) (length items) c.in_ok-left.left.from left.begin run
@@ -104,7 +103,6 @@ returns g c =
     let order = g.K.MaybeBounded.order in
     let w = c.args.window.now in
     let place = place_before (storage.rank stored) (length items) w.from in
-    let from = place_before (storage.rank ready) (length (storage.items ready)) c.in_ok-left.left.from in
     let on_left = subst (λ n. IsLeftShape (storage.is_good ready) (storage.rank ready) (storage.items ready) c.in_ok-left.left.edge left.at n left.rest left.start) (sym here) (left_kept (storage.is_good stored) (storage.is_good ready) (storage.rank stored) (storage.rank ready) items (storage.items ready) kept same c.in_ok-left.left.edge left.at left.begin left.rest left.start left.shape) in
     let on_right = subst (λ n. IsRightShape (storage.is_good ready) (storage.rank ready) (storage.items ready) c.in_ok-right.right n right.end right.rest right.finish) (sym (ap (λ n. n + count) here ∙ upto)) (right_kept (storage.is_good stored) (storage.is_good ready) (storage.rank stored) (storage.rank ready) items (storage.items ready) kept same c.in_ok-right.right right.upto right.end right.rest right.finish right.shape) in
     let done = c.change.ensures left.at right.end left.rest right.rest left.start right.finish on_left on_right (omega (arith, c.joined_items.ensures, c.joined_items-2.ensures)) in

@@ -13,7 +13,6 @@ replace_run-requires-clause-in_range g c =
     let storage = g.C.Storage in
     let stored = c.args.stored.now in
     let items = storage.items stored in
-    let first = c.open_left-start.new.stored in
     let second = c.open_right-end.new.stored in
     let left = c.open_left-start.ensures in
     let right = c.open_right-end.ensures in

@@ -68,7 +68,6 @@ returns-in-Ok-clause-meets g c =
     let new = c.insert_at-position.new.self in
     let from = c.find_gap-gap.result.from in
     let gap = c.find_gap-gap.ensures in
-    let free : IsTrue c.find_gap-gap.result.is_free = search rules in
     let place = place_before (storage.rank stored) (length items) from in
     let item : Item (AnyRange g.row.K.Denot) g.row.V.Denot = record { key = c.args.range; value = c.args.value } in
     let done : storage.items new ≡ insert items place item = put_at (storage.is_good stored) (storage.is_good ready) (storage.rank stored) (storage.rank ready) items (storage.items ready) (storage.items new) from item gap.position c.reserve.ensures.list c.reserve.ensures.positions c.insert_at-position.ensures.list in

@@ -24,13 +24,7 @@ loop-met-init g c =
     let r = c.args.range.now in
     let place = place_before (storage.rank stored) (length items) w.from in
     let order = g.K.MaybeBounded.order in
-    let lawful = g.met.K.PartialEnum.lawful in
     let same = g.V.PartialEq.eq in
-    let equal = g.met.V.Eq.laws in
-    let known = stored_known order lawful same equal items c.requires.stored in
-    let chain = stored_chain order lawful same equal items c.requires.stored in
-    let full = all_full order lawful same equal r items known chain in
-    let within_list = c.requires.window.in_range in
     let none : place + 0 ≡ place = omega arith in
     record {
       position = rw none c.requires.window.position;
@@ -40,19 +34,6 @@ loop-met-init g c =
 
 pub unreachable-requires : goal.unreachable-requires
 unreachable-requires g c =
-    let storage = g.C.Storage in
-    let stored = c.args.stored.now in
-    let items = storage.items stored in
-    let w = c.args.window.now in
-    let r = c.args.range.now in
-    let place = place_before (storage.rank stored) (length items) w.from in
-    let order = g.K.MaybeBounded.order in
-    let lawful = g.met.K.PartialEnum.lawful in
-    let same = g.V.PartialEq.eq in
-    let equal = g.met.V.Eq.laws in
-    let known = stored_known order lawful same equal items c.requires.stored in
-    let chain = stored_chain order lawful same equal items c.requires.stored in
-    let full = all_full order lawful same equal r items known chain in
     let within_list = c.requires.window.in_range in
     let here = rw c.in-None.is at c.loop-met.invariant.position in
     omega (arith, here, c.loop-met-test.true, within_list)
@@ -63,36 +44,11 @@ key_at-before-requires g c =
     let stored = c.args.stored.now in
     let items = storage.items stored in
     let w = c.args.window.now in
-    let r = c.args.range.now in
     let place = place_before (storage.rank stored) (length items) w.from in
-    let order = g.K.MaybeBounded.order in
-    let lawful = g.met.K.PartialEnum.lawful in
-    let same = g.V.PartialEq.eq in
-    let equal = g.met.V.Eq.laws in
-    let known = stored_known order lawful same equal items c.requires.stored in
-    let chain = stored_chain order lawful same equal items c.requires.stored in
-    let full = all_full order lawful same equal r items known chain in
-    let within_list = c.requires.window.in_range in
     last_good (storage.is_good stored) (storage.rank stored) c.loop-met.last place c.loop-met._met c.loop-met.invariant.last_is
 
 pub get-requires : goal.get-requires
 get-requires g c =
-    let storage = g.C.Storage in
-    let stored = c.args.stored.now in
-    let items = storage.items stored in
-    let w = c.args.window.now in
-    let r = c.args.range.now in
-    let place = place_before (storage.rank stored) (length items) w.from in
-    let order = g.K.MaybeBounded.order in
-    let lawful = g.met.K.PartialEnum.lawful in
-    let same = g.V.PartialEq.eq in
-    let equal = g.met.V.Eq.laws in
-    let known = stored_known order lawful same equal items c.requires.stored in
-    let chain = stored_chain order lawful same equal items c.requires.stored in
-    let full = all_full order lawful same equal r items known chain in
-    let within_list = c.requires.window.in_range in
-    let met = c.loop-met._met in
-    let more = c.loop-met-test.true in
     let here = rw c.in-Some.is at c.loop-met.invariant.position in
     here.0
 
@@ -114,7 +70,6 @@ ask_item-requires-clause-before g c =
     let within_list = c.requires.window.in_range in
     let met = c.loop-met._met in
     let more = c.loop-met-test.true in
-    let here = rw c.in-Some.is at c.loop-met.invariant.position in
     key_full order lawful same equal r (storage.is_good stored) (storage.rank stored) items c.loop-met.last place met (option_copied c.key_at-before.result) full c.loop-met.invariant.last_is (omega (arith, more, within_list)) c.key_at-before.ensures
 
 pub ask_item-requires-clause-item : goal.ask_item-requires-clause-item
@@ -148,15 +103,7 @@ ask_item-requires-clause-bound g c =
     let stored = c.args.stored.now in
     let items = storage.items stored in
     let w = c.args.window.now in
-    let r = c.args.range.now in
     let place = place_before (storage.rank stored) (length items) w.from in
-    let order = g.K.MaybeBounded.order in
-    let lawful = g.met.K.PartialEnum.lawful in
-    let same = g.V.PartialEq.eq in
-    let equal = g.met.V.Eq.laws in
-    let known = stored_known order lawful same equal items c.requires.stored in
-    let chain = stored_chain order lawful same equal items c.requires.stored in
-    let full = all_full order lawful same equal r items known chain in
     let within_list = c.requires.window.in_range in
     let met = c.loop-met._met in
     let more = c.loop-met-test.true in
@@ -197,22 +144,6 @@ returns-in_err-ask_item-clause-closure g c =
 
 pub next-at-requires : goal.next-at-requires
 next-at-requires g c =
-    let storage = g.C.Storage in
-    let stored = c.args.stored.now in
-    let items = storage.items stored in
-    let w = c.args.window.now in
-    let r = c.args.range.now in
-    let place = place_before (storage.rank stored) (length items) w.from in
-    let order = g.K.MaybeBounded.order in
-    let lawful = g.met.K.PartialEnum.lawful in
-    let same = g.V.PartialEq.eq in
-    let equal = g.met.V.Eq.laws in
-    let known = stored_known order lawful same equal items c.requires.stored in
-    let chain = stored_chain order lawful same equal items c.requires.stored in
-    let full = all_full order lawful same equal r items known chain in
-    let within_list = c.requires.window.in_range in
-    let met = c.loop-met._met in
-    let more = c.loop-met-test.true in
     let here = rw c.in-Some.is at c.loop-met.invariant.position in
     here.0
 
@@ -229,8 +160,6 @@ loop-met-preserved g c =
     let same = g.V.PartialEq.eq in
     let equal = g.met.V.Eq.laws in
     let known = stored_known order lawful same equal items c.requires.stored in
-    let chain = stored_chain order lawful same equal items c.requires.stored in
-    let full = all_full order lawful same equal r items known chain in
     let within_list = c.requires.window.in_range in
     let met = c.loop-met._met in
     let more = c.loop-met-test.true in
@@ -240,12 +169,9 @@ loop-met-preserved g c =
     let read : x ≡ get_or items (place + met) x = c.get.ensures ∙ ap (λ n. get_or items n x) here.1 in
     let equal_keys = λ (a : g.row.K.Denot) (b : g.row.K.Denot) (h : g.K.Clone.is_clone a b).
     sym (g.met.K.MaybeBounded.order_is_cmp a b) ∙ (Equal-is (g.K.Ord.cmp a b)).0 (sym (g.met.K.Ord.matches_eq a b) ∙ c.requires.keys a b h) in
-    let clones = bound_clone order lawful g.K.Clone.is_clone equal_keys in
-    let some = (nonempty_good order lawful r c.known.ensures).0 c.requires.nonempty in
     let meets = run_at (λ i. Overlap order i.key r) items place w.count met x (all_meet order lawful same equal (storage.is_good stored) (storage.rank stored) items r w place c.requires.stored c.known.ensures c.requires.window) more within_list read in
     let list = listed_at items (place + met) x within read in
     let before = option_copied c.key_at-before.result in
-    let was = c.loop-met.invariant.underway lawful equal before c.key_at-before.ensures in
     let next : storage.rank stored c.in-Some.p + 1 ≡ place + (met + 1) = omega (arith, here.1) in
     record {
       position = rw next at c.next-at.ensures;
@@ -262,16 +188,7 @@ key_at-requires g c =
     let stored = c.args.stored.now in
     let items = storage.items stored in
     let w = c.args.window.now in
-    let r = c.args.range.now in
     let place = place_before (storage.rank stored) (length items) w.from in
-    let order = g.K.MaybeBounded.order in
-    let lawful = g.met.K.PartialEnum.lawful in
-    let same = g.V.PartialEq.eq in
-    let equal = g.met.V.Eq.laws in
-    let known = stored_known order lawful same equal items c.requires.stored in
-    let chain = stored_chain order lawful same equal items c.requires.stored in
-    let full = all_full order lawful same equal r items known chain in
-    let within_list = c.requires.window.in_range in
     last_good (storage.is_good stored) (storage.rank stored) c.loop-met.last place c.loop-met._met c.loop-met.invariant.last_is
 
 pub ask_gap-requires-clause-before : goal.ask_gap-requires-clause-before
@@ -308,7 +225,6 @@ returns-in_err-ask_gap-clause-closure g c =
     let known = stored_known order lawful same equal items c.requires.stored in
     let chain = stored_chain order lawful same equal items c.requires.stored in
     let full = all_full order lawful same equal r items known chain in
-    let within_list = c.requires.window.in_range in
     let all : place + c.loop-met._met ≡ place + w.count = omega (arith, c.loop-met-test.false, c.loop-met.auto._met-end) in
     let some = (nonempty_good order lawful r c.known.ensures).0 c.requires.nonempty in
     let before = option_copied c.key_at.result in
@@ -330,7 +246,6 @@ returns-clause-ok g c =
     let known = stored_known order lawful same equal items c.requires.stored in
     let chain = stored_chain order lawful same equal items c.requires.stored in
     let full = all_full order lawful same equal r items known chain in
-    let within_list = c.requires.window.in_range in
     let all : place + c.loop-met._met ≡ place + w.count = omega (arith, c.loop-met-test.false, c.loop-met.auto._met-end) in
     let equal_keys = λ (a : g.row.K.Denot) (b : g.row.K.Denot) (h : g.K.Clone.is_clone a b).
     sym (g.met.K.MaybeBounded.order_is_cmp a b) ∙ (Equal-is (g.K.Ord.cmp a b)).0 (sym (g.met.K.Ord.matches_eq a b) ∙ c.requires.keys a b h) in

@@ -33,8 +33,6 @@ overflow_add-count g c =
     let is_first = c.first.ensures.value ∙ ap (λ xs. slice_get xs 0) c.deref.ensures.value in
     let is_last = c.last.ensures.value ∙ ap (λ xs. slice_get xs (length xs - 1)) c.deref-2.ensures.value in
     let plan = planned order lawful equal_values equal (storage.is_good stored) (storage.rank stored) items r place w.count middle first last joined other from (option_copied c.first.result) (option_copied c.last.result) c.requires.stored c.requires.middle c.requires.within c.known.ensures c.requires.nonempty c.requires.window.in_range c.requires.apart is_first is_last c.run_start-from.ensures (c.joined_left-before.ensures lawful equal) (c.joined_right-behind.ensures lawful equal) in
-    let left = plan.left in
-    let right = plan.right in
     omega (arith, plan.upto, plan.within, g.met.C.Storage.length_fits stored, c.item_count.ensures, c.item_count-2.ensures, c.item_count-3.ensures)
 
 pub overflow_add-count-2 : goal.overflow_add-count-2
@@ -58,8 +56,6 @@ overflow_add-count-2 g c =
     let is_first = c.first.ensures.value ∙ ap (λ xs. slice_get xs 0) c.deref.ensures.value in
     let is_last = c.last.ensures.value ∙ ap (λ xs. slice_get xs (length xs - 1)) c.deref-2.ensures.value in
     let plan = planned order lawful equal_values equal (storage.is_good stored) (storage.rank stored) items r place w.count middle first last joined other from (option_copied c.first.result) (option_copied c.last.result) c.requires.stored c.requires.middle c.requires.within c.known.ensures c.requires.nonempty c.requires.window.in_range c.requires.apart is_first is_last c.run_start-from.ensures (c.joined_left-before.ensures lawful equal) (c.joined_right-behind.ensures lawful equal) in
-    let left = plan.left in
-    let right = plan.right in
     omega (arith, plan.upto, plan.within, g.met.C.Storage.length_fits stored, c.item_count.ensures, c.item_count-2.ensures, c.item_count-3.ensures, c.item_count-4.ensures)
 
 pub change_to-requires-clause-left : goal.change_to-requires-clause-left
@@ -84,14 +80,11 @@ change_to-requires-clause-left g c =
     let is_last = c.last.ensures.value ∙ ap (λ xs. slice_get xs (length xs - 1)) c.deref-2.ensures.value in
     let plan = planned order lawful equal_values equal (storage.is_good stored) (storage.rank stored) items r place w.count middle first last joined other from (option_copied c.first.result) (option_copied c.last.result) c.requires.stored c.requires.middle c.requires.within c.known.ensures c.requires.nonempty c.requires.window.in_range c.requires.apart is_first is_last c.run_start-from.ensures (c.joined_left-before.ensures lawful equal) (c.joined_right-behind.ensures lawful equal) in
     let left = plan.left in
-    let right = plan.right in
     let ready = c.reserve.new.self in
     let same = c.reserve.ensures.list in
     let kept = c.reserve.ensures.positions in
     let edge = seam_edge joined first (turned_bound r.start) in
-    let edge_behind = seam_edge other last (turned_bound r.end) in
     let edge_is : c.seam-left.result ≡ edge = c.seam-left.ensures ∙ ap (seam_edge joined first) (c.turned-left.ensures ∙ ap turned_bound c.into_bounds-start.ensures.start) in
-    let behind_is : c.seam-right.result ≡ edge_behind = c.seam-right.ensures ∙ ap (seam_edge other last) (c.turned-right.ensures ∙ ap turned_bound c.into_bounds-start.ensures.end) in
     rw edge_is (left_good (storage.is_good stored) (storage.is_good ready) (storage.rank stored) (storage.rank ready) items (storage.items ready) kept same edge left.at left.begin left.rest left.start left.shape)
 
 pub change_to-requires-clause-right : goal.change_to-requires-clause-right
@@ -115,14 +108,11 @@ change_to-requires-clause-right g c =
     let is_first = c.first.ensures.value ∙ ap (λ xs. slice_get xs 0) c.deref.ensures.value in
     let is_last = c.last.ensures.value ∙ ap (λ xs. slice_get xs (length xs - 1)) c.deref-2.ensures.value in
     let plan = planned order lawful equal_values equal (storage.is_good stored) (storage.rank stored) items r place w.count middle first last joined other from (option_copied c.first.result) (option_copied c.last.result) c.requires.stored c.requires.middle c.requires.within c.known.ensures c.requires.nonempty c.requires.window.in_range c.requires.apart is_first is_last c.run_start-from.ensures (c.joined_left-before.ensures lawful equal) (c.joined_right-behind.ensures lawful equal) in
-    let left = plan.left in
     let right = plan.right in
     let ready = c.reserve.new.self in
     let same = c.reserve.ensures.list in
     let kept = c.reserve.ensures.positions in
-    let edge = seam_edge joined first (turned_bound r.start) in
     let edge_behind = seam_edge other last (turned_bound r.end) in
-    let edge_is : c.seam-left.result ≡ edge = c.seam-left.ensures ∙ ap (seam_edge joined first) (c.turned-left.ensures ∙ ap turned_bound c.into_bounds-start.ensures.start) in
     let behind_is : c.seam-right.result ≡ edge_behind = c.seam-right.ensures ∙ ap (seam_edge other last) (c.turned-right.ensures ∙ ap turned_bound c.into_bounds-start.ensures.end) in
     rw behind_is (right_good (storage.is_good stored) (storage.is_good ready) (storage.rank stored) (storage.rank ready) items (storage.items ready) kept same edge_behind right.upto right.end right.rest right.finish right.shape)
 
@@ -148,9 +138,7 @@ change_to-requires-clause-good g c =
     let is_last = c.last.ensures.value ∙ ap (λ xs. slice_get xs (length xs - 1)) c.deref-2.ensures.value in
     let plan = planned order lawful equal_values equal (storage.is_good stored) (storage.rank stored) items r place w.count middle first last joined other from (option_copied c.first.result) (option_copied c.last.result) c.requires.stored c.requires.middle c.requires.within c.known.ensures c.requires.nonempty c.requires.window.in_range c.requires.apart is_first is_last c.run_start-from.ensures (c.joined_left-before.ensures lawful equal) (c.joined_right-behind.ensures lawful equal) in
     let left = plan.left in
-    let right = plan.right in
     let ready = c.reserve.new.self in
-    let same = c.reserve.ensures.list in
     let kept = c.reserve.ensures.positions in
     let run = kept_at (storage.is_good stored) (storage.is_good ready) (storage.rank stored) (storage.rank ready) (length items) (option_or joined from) left.begin kept left.run in
     rw c.or.ensures (good_at (storage.is_good ready) (storage.rank ready) (length items) (option_or joined from) left.begin run)

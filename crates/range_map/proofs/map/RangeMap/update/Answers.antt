@@ -11,17 +11,9 @@ use Rattle.range_map.proofs.map.RangeMap.update.Goals as goal
 
 pub update_pieces-requires-clause-nonempty : goal.update_pieces-requires-clause-nonempty
 update_pieces-requires-clause-nonempty g c =
-    let order = g.K.MaybeBounded.order in
-    let lawful = g.met.K.PartialEnum.lawful in
     let equal_keys = λ (a : g.row.K.Denot) (b : g.row.K.Denot) (h : g.K.Clone.is_clone a b).
     sym (g.met.K.MaybeBounded.order_is_cmp a b) ∙ (Equal-is (g.K.Ord.cmp a b)).0 (sym (g.met.K.Ord.matches_eq a b) ∙ c.requires.keys a b h) in
-    let r = g.R.AsRange.range c.args.range in
-    let s : AnyRange g.row.K.Denot = record { start = c.in_ok-start.start; end = c.in_ok-end.end } in
-    let start = bound_clone order lawful g.K.Clone.is_clone equal_keys r.start s.start (rw c.start.ensures at c.in_ok-start.ensures) in
-    let end = bound_clone order lawful g.K.Clone.is_clone equal_keys r.end s.end (rw c.end.ensures at c.in_ok-end.ensures) in
     λ empty.
-    let told = c.is_empty.ensures.by_position.1 (clone_empty order lawful r s start end empty) in
-    let not = c.if-is_empty.false in
     cc
 
 pub update_pieces-requires-clause-bound : goal.update_pieces-requires-clause-bound
@@ -54,7 +46,6 @@ returns-clause-closure g c =
     let start = bound_clone order lawful g.K.Clone.is_clone equal_keys r.start s.start (rw c.start.ensures at c.in_ok-start.ensures) in
     let end = bound_clone order lawful g.K.Clone.is_clone equal_keys r.end s.end (rw c.end.ensures at c.in_ok-end.ensures) in
     let items = g.C.Storage.items c.self.inside.stored in
-    let new = g.C.Storage.items c.update_pieces.new.stored in
     let same = g.V.PartialEq.eq in
     λ e failed. rw (← c.self.view_is) (fails_too order lawful r s start end same g.F.Fn c.args.f items e (c.update_pieces.ensures.closure e failed))
 
