@@ -3,5 +3,3 @@
 mod algebra;
 mod keys;
 mod map;
-mod sets;
-mod surface;

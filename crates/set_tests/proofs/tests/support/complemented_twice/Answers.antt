@@ -1,4 +1,4 @@
-use Rattle.btree_range_map.proofs.tests.sets.calls.complemented_twice.Goals as goal
+use Rattle.set_tests.proofs.tests.support.complemented_twice.Goals as goal
 
 pub returns : goal.returns
 returns g c =

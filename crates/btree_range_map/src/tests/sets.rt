@@ -1,5 +1,0 @@
-//! Sets, over either container.
-
-mod calls;
-mod comparing;
-mod text;

@@ -1,0 +1,4 @@
+mod calls;
+mod comparing;
+mod support;
+mod surface;

@@ -1,0 +1,186 @@
+//! Calls on sets over either container.
+
+use crate::tests::support::Keys::{
+    self, Above, All, Alone, Below, Closed, HalfOpen, Starting, UpTo,
+};
+use crate::tests::support::{Step, Tree, Vector, extend, play_both};
+use btree_range_map::AnyRange;
+use btree_range_map::generic::map::MapError;
+use btree_range_map::generic::set::RangeSet;
+use btree_range_map::storage::{Item, Storage};
+use std::alloc::Global;
+use std::test::Fail;
+
+/// The full set, its complement, and the complement of that; the last byte; a gap in the middle.
+#[test]
+fn bytes(rt: HostRuntime) -> Result<(), Fail> {
+    let steps = [
+        Step::Insert(All),
+        Step::Size(1, 256),
+        Step::Complement,
+        Step::Size(0, 0),
+        Step::Complement,
+        Step::Size(1, 256),
+        Step::Remove(All),
+        Step::Insert(Starting(255)),
+        Step::Size(1, 1),
+        Step::Remove(All),
+        Step::Insert(Below(10)),
+        Step::Insert(Starting(20)),
+        Step::Gap(HalfOpen(10, 20), 10),
+        Step::Remove(All),
+        Step::Insert(HalfOpen(10, 20)),
+        Step::ComplementTwice,
+        Step::Size(1, 10),
+        Step::First(HalfOpen(10, 20)),
+    ];
+    assert_eq!(rt;
+        play_both::<u8>(rt.alloc(), &steps)?,
+        (steps.len(), steps.len())
+    );
+    Ok(())
+}
+
+#[test]
+fn all_numbers_of_64_bits(rt: HostRuntime) -> Result<(), Fail> {
+    let steps = [Step::Insert(All), Step::Size(1, 18446744073709551616)];
+    assert_eq!(rt;
+        play_both::<u64>(rt.alloc(), &steps)?,
+        (steps.len(), steps.len())
+    );
+    Ok(())
+}
+
+#[test]
+fn the_gap_beside_the_least_number(rt: HostRuntime) -> Result<(), Fail> {
+    let steps = [
+        Step::Insert(Alone(0)),
+        Step::Gap(Starting(1), 4294967295),
+        Step::Gap(Above(0), 4294967295),
+    ];
+    assert_eq!(rt;
+        play_both::<u32>(rt.alloc(), &steps)?,
+        (steps.len(), steps.len())
+    );
+    Ok(())
+}
+
+#[test]
+fn characters(rt: HostRuntime) -> Result<(), Fail> {
+    let steps = [
+        Step::Insert(Closed('\u{D7FF}', '\u{D7FF}')),
+        Step::Insert(Closed('\u{E000}', '\u{E000}')),
+        Step::Size(1, 2),
+        Step::Insert(All),
+        Step::Size(1, 1112064),
+    ];
+    assert_eq!(rt;
+        play_both::<char>(rt.alloc(), &steps)?,
+        (steps.len(), steps.len())
+    );
+    Ok(())
+}
+
+/// Insertions that join, removals, look-ups and copies.
+#[test]
+fn numbers(rt: HostRuntime) -> Result<(), Fail> {
+    let steps = [
+        Step::Insert(Below(1)),
+        Step::Insert(UpTo(1)),
+        Step::Insert(Alone(2)),
+        Step::Insert(HalfOpen(3, 5)),
+        Step::Insert(Closed(5, 7)),
+        Step::Insert(Starting(7)),
+        Step::NoGap,
+        Step::Size(1, 4294967296),
+        Step::Remove(HalfOpen(10, 20)),
+        Step::Holds(9, true),
+        Step::Holds(20, true),
+        Step::Holds(10, false),
+        Step::Holds(19, false),
+        Step::Meets(HalfOpen(19, 21), true),
+        Step::Meets(HalfOpen(10, 20), false),
+        Step::Copy,
+        Step::Size(2, 4294967286),
+        Step::First(Below(10)),
+        Step::Remove(All),
+        Step::GatherThree([(0, 2), (4, 6), (2, 4)]),
+        Step::Size(1, 6),
+    ];
+    assert_eq!(rt;
+        play_both::<i32>(rt.alloc(), &steps)?,
+        (steps.len(), steps.len())
+    );
+    Ok(())
+}
+
+#[test]
+fn a_set_is_shown(rt: HostRuntime) -> Result<(), Fail> {
+    let steps = [
+        Step::Shows("{}"),
+        Step::Insert(Below(5)),
+        Step::Shows("{...5}"),
+        Step::Insert(Closed(10, 12)),
+        Step::Shows("{...510..=12}"),
+        Step::Remove(Below(4)),
+        Step::Shows("{4..510..=12}"),
+    ];
+    assert_eq!(rt;
+        play_both::<i32>(rt.alloc(), &steps)?,
+        (steps.len(), steps.len())
+    );
+    Ok(())
+}
+
+const RANGES: [(i32, i32); 5] = [(0, 2), (40, 46), (20, 24), (8, 3), (2, 20)];
+
+/// Whether the key is in one of the first so many ranges.
+fn is_in_first(key: i32, count: usize) -> bool {
+    for (place, (first, end)) in RANGES.iter().enumerate() {
+        if place < count && *first <= key && key < *end {
+            return true;
+        }
+    }
+    false
+}
+
+/// Whether the set holds just the keys of the first so many ranges.
+fn holds_first<C: Storage<Item<AnyRange<i32>, ()>>>(set: &RangeSet<i32, C>, count: usize) -> bool {
+    for key in -1..60 {
+        if set.contains(key) != is_in_first(key, count) {
+            return false;
+        }
+    }
+    true
+}
+
+/// Whether the set holds just the keys of some first ranges, but not of all.
+fn holds_some_first<C: Storage<Item<AnyRange<i32>, ()>>>(set: &RangeSet<i32, C>) -> bool {
+    for count in 0..RANGES.len() {
+        if holds_first(set, count) {
+            return true;
+        }
+    }
+    false
+}
+
+fn extended<C: Storage<Item<AnyRange<i32>, ()>>>(set: &mut RangeSet<i32, C>) -> bool {
+    let rows = RANGES.map(|(first, end)| HalfOpen(first, end));
+    match extend(set, &rows) {
+        Ok(_) => holds_first(set, RANGES.len()),
+        Err(MapError::Memory) => holds_some_first(set),
+    }
+}
+
+/// The keys of a refused extension are those of some first ranges, and of all where it is not
+/// refused.
+fn extension<C: Storage<Item<AnyRange<i32>, ()>>>(alloc: Global) -> bool {
+    let mut set: RangeSet<i32, C> = RangeSet::new(alloc);
+    extended(&mut set)
+}
+
+#[test]
+fn a_refused_extension_keeps_whole_ranges(rt: HostRuntime) {
+    assert!(rt; extension::<Vector<i32>>(rt.alloc()));
+    assert!(rt; extension::<Tree<i32>>(rt.alloc()));
+}

@@ -1,0 +1,168 @@
+//! How sets compare.
+
+use crate::tests::support::Keys::{self, Alone, Below, Between, Closed, HalfOpen, Starting};
+use crate::tests::support::{Step, Tree, Vector, compared, goes, play_both};
+use btree_range_map::AnyRange;
+use btree_range_map::generic::map::MapError;
+use btree_range_map::generic::set::RangeSet;
+use btree_range_map::storage::{Item, Storage};
+use std::alloc::Global;
+use std::cmp::Ordering;
+use std::test::Fail;
+
+/// The keys 0 to 5, put together by removals and an insertion.
+#[test]
+fn a_mended_set_equals_a_plain_one(rt: HostRuntime) -> Result<(), Fail> {
+    let steps = [
+        Step::Extend(&[HalfOpen(-3, 9)]),
+        Step::Remove(Below(0)),
+        Step::Remove(Starting(6)),
+        Step::Remove(Alone(3)),
+        Step::Compares(&[HalfOpen(0, 6)], Ordering::Less),
+        Step::Insert(Alone(3)),
+        Step::Compares(&[HalfOpen(0, 6)], Ordering::Equal),
+        Step::Gather(HalfOpen(0, 6)),
+        Step::Compares(&[Closed(0, 5)], Ordering::Equal),
+        Step::Gather(Closed(0, 5)),
+        Step::Compares(&[Between(-1, 6)], Ordering::Equal),
+        Step::Gather(Between(-1, 6)),
+        Step::Compares(&[HalfOpen(0, 6)], Ordering::Equal),
+    ];
+    assert_eq!(rt;
+        play_both::<i32>(rt.alloc(), &steps)?,
+        (steps.len(), steps.len())
+    );
+    Ok(())
+}
+
+/// Ranks, and the ranges of sets: those of one rank hold the same keys, and the others are in
+/// dictionary order.
+const RISING: [(u8, &[Keys<i32>]); 11] = [
+    (0, &[HalfOpen(0, 0), HalfOpen(0, 0)]),
+    (1, &[HalfOpen(4, 6), HalfOpen(0, 3)]),
+    (2, &[HalfOpen(0, 5), HalfOpen(0, 0)]),
+    (3, &[HalfOpen(0, 5), HalfOpen(20, 30)]),
+    (4, &[HalfOpen(0, 6)]),
+    (4, &[HalfOpen(0, 2), HalfOpen(4, 6), HalfOpen(2, 4)]),
+    (4, &[Closed(0, 5)]),
+    (4, &[Between(-1, 6)]),
+    (5, &[HalfOpen(0, 6), HalfOpen(10, 12)]),
+    (6, &[HalfOpen(0, 10), HalfOpen(0, 0)]),
+    (7, &[HalfOpen(1, 2), HalfOpen(0, 0)]),
+];
+
+#[test]
+fn sets_are_in_dictionary_order(rt: HostRuntime) -> Result<(), Fail> {
+    for (rank, left) in &RISING {
+        for (other, right) in &RISING {
+            let steps = [Step::Extend(*left), Step::Compares(*right, rank.cmp(other))];
+            assert_eq!(rt;
+                play_both::<i32>(rt.alloc(), &steps)?,
+                (2, 2),
+                "{rank}, {other}"
+            );
+        }
+    }
+    Ok(())
+}
+
+#[test]
+fn the_complement_of_the_complement_is_the_set(rt: HostRuntime) -> Result<(), Fail> {
+    let steps = [
+        Step::Extend(&[HalfOpen(10, 20)]),
+        Step::Compares(&[HalfOpen(0, 10), Starting(20)], Ordering::Greater),
+        Step::Complement,
+        Step::Compares(&[HalfOpen(0, 10)], Ordering::Greater),
+        Step::Compares(&[HalfOpen(0, 10), Starting(20)], Ordering::Equal),
+        Step::Complement,
+        Step::Compares(&[HalfOpen(10, 20)], Ordering::Equal),
+        Step::Remove(HalfOpen(10, 20)),
+        Step::Extend(&[HalfOpen(0, 10)]),
+        Step::Insert(Starting(20)),
+        Step::Complement,
+        Step::Compares(&[HalfOpen(10, 20)], Ordering::Equal),
+    ];
+    assert_eq!(rt;
+        play_both::<u8>(rt.alloc(), &steps)?,
+        (steps.len(), steps.len())
+    );
+    Ok(())
+}
+
+/// Adds or takes away some of the first four keys, all of it taken from one number.
+fn drawn_step(drawn: u32) -> Step<'static, u8> {
+    let first = (drawn / 256 % 4) as u8;
+    let last = (drawn / 1024 % 4) as u8;
+    match drawn / 4096 % 3 {
+        0 => Step::Remove(Closed(first, last)),
+        1 => Step::Insert(Closed(first, last)),
+        _ => Step::Insert(Between(first, last)),
+    }
+}
+
+fn next_number(number: u32) -> u32 {
+    number.wrapping_mul(1664525).wrapping_add(1013904223)
+}
+
+/// Whether two sets hold the same keys, where their comparisons say the same.
+fn alike<C: Storage<Item<AnyRange<u8>, ()>>, D: Storage<Item<AnyRange<u8>, ()>>>(
+    left: &RangeSet<u8, C>,
+    right: &RangeSet<u8, D>,
+) -> Option<bool> {
+    let equal = compared(left, right)? == Ordering::Equal;
+    for key in 0..=255 {
+        if left.contains(key) != right.contains(key) {
+            return if equal { None } else { Some(false) };
+        }
+    }
+    if equal { Some(true) } else { None }
+}
+
+/// Changes both sets, and tells what `alike` says then.
+fn changed_alike<C: Storage<Item<AnyRange<u8>, ()>>, D: Storage<Item<AnyRange<u8>, ()>>>(
+    alloc: Global,
+    left: &mut RangeSet<u8, C>,
+    right: &mut RangeSet<u8, D>,
+    drawn: (u32, u32),
+) -> Result<Option<bool>, MapError> {
+    goes::<u8, C, D>(alloc, left, &drawn_step(drawn.0))?;
+    goes::<u8, D, C>(alloc, right, &drawn_step(drawn.1))?;
+    Ok(alike(left, right))
+}
+
+/// How often two sets that are changed 300 times hold the same keys, or the first change after which
+/// their comparisons say otherwise.
+fn count_alike<C: Storage<Item<AnyRange<u8>, ()>>, D: Storage<Item<AnyRange<u8>, ()>>>(
+    alloc: Global,
+    left: &mut RangeSet<u8, C>,
+    right: &mut RangeSet<u8, D>,
+) -> Result<Result<u32, u32>, MapError> {
+    let mut number = 7;
+    let mut count = 0u32;
+    for step in 0..300 {
+        let first = next_number(number);
+        number = next_number(first);
+        match changed_alike(alloc, left, right, (first, number))? {
+            Some(true) => count = count.saturating_add(1),
+            Some(false) => {},
+            None => return Ok(Err(step)),
+        }
+    }
+    Ok(Ok(count))
+}
+
+/// The same over a vector and a tree.
+fn count_alike_over_both(alloc: Global) -> Result<Result<u32, u32>, MapError> {
+    let mut left: RangeSet<u8, Vector<u8>> = RangeSet::new(alloc);
+    let mut right: RangeSet<u8, Tree<u8>> = RangeSet::new(alloc);
+    count_alike(alloc, &mut left, &mut right)
+}
+
+#[test]
+fn many_sets_are_equal_where_they_hold_the_same_keys(rt: HostRuntime) -> Result<(), Fail> {
+    match count_alike_over_both(rt.alloc())? {
+        Ok(equal) => assert!(rt; 5 < equal && equal < 295, "{equal} of 300 were equal"),
+        Err(step) => panic!(rt; "after step {step}"),
+    }
+    Ok(())
+}

@@ -1,0 +1,441 @@
+//! Sets as tables: rows that call a set and look at it, and the player that reads them.
+ghost use Rattle.std.specs.Prelude.{IfOk, IsTrue};
+ghost use Rattle.btree_range_map.specs.Range.{ClonesAreEqual};
+ghost use Rattle.range_sets.specs.SetOrder.{same_ranges};
+
+use btree_range_map::btree::BoxStorage;
+use btree_range_map::generic::map::MapError;
+use btree_range_map::generic::set::{RangeSet, complementing_twice_restores};
+use btree_range_map::range::traits::Bounded;
+use btree_range_map::storage::{Item, Storage, VecStorage};
+use btree_range_map::{
+    AnyRange, IntoRange, Measure, RangeFromExcluded, RangeFromExcludedTo,
+    RangeFromExcludedToIncluded,
+};
+use std::alloc::{AllocError, Global};
+use std::cmp::Ordering;
+use std::fmt::Debug;
+use std::hash::{DefaultHasher, Hash, Hasher};
+use std::ops::Bound;
+
+pub type Vector<T> = VecStorage<Item<AnyRange<T>, ()>>;
+
+pub type Tree<T> = BoxStorage<Item<AnyRange<T>, ()>>;
+
+/// A range, as it is spelled.
+pub enum Keys<T> {
+    All,
+    Any(Bound<T>, Bound<T>),
+    Alone(T),
+    HalfOpen(T, T),
+    Closed(T, T),
+    Starting(T),
+    Below(T),
+    UpTo(T),
+    Above(T),
+    Between(T, T),
+    AboveUpTo(T, T),
+}
+
+impl<T: Copy> Copy for Keys<T> {}
+
+impl<T: Copy> Clone for Keys<T> {
+    fn clone(&self) -> Result<Keys<T>, AllocError> {
+        Ok(*self)
+    }
+}
+
+/// A call on a set, or what has to hold of the set then.
+#[derive(Drop)]
+pub enum Step<'a, T> {
+    Insert(Keys<T>),
+    Remove(Keys<T>),
+    Extend(&'a [Keys<T>]),
+    /// Goes on with a new set of the keys of one range.
+    Gather(Keys<T>),
+    /// Goes on with a new set of the keys of three ranges, each up to below a key.
+    GatherThree([(T, T); 3]),
+    Complement,
+    ComplementTwice,
+    /// Goes on with a copy, once the set itself was emptied.
+    Copy,
+    /// How many ranges are stored, and how many keys they hold.
+    Size(usize, u128),
+    Holds(T, bool),
+    Meets(Keys<T>, bool),
+    /// The first stored range.
+    First(Keys<T>),
+    /// The only gap, and how many keys it holds.
+    Gap(Keys<T>, u128),
+    NoGap,
+    Shows(&'a str),
+    /// How the set compares with the one of these ranges, over either container.
+    Compares(&'a [Keys<T>], Ordering),
+}
+
+/// The same range, by its bounds.
+pub fn range_of<T: Copy>(keys: Keys<T>) -> AnyRange<T> {
+    let (start, end) = match keys {
+        Keys::All => (Bound::Unbounded, Bound::Unbounded),
+        Keys::Any(start, end) => (start, end),
+        Keys::Alone(key) => (Bound::Included(key), Bound::Included(key)),
+        Keys::HalfOpen(first, end) => (Bound::Included(first), Bound::Excluded(end)),
+        Keys::Closed(first, last) => (Bound::Included(first), Bound::Included(last)),
+        Keys::Starting(first) => (Bound::Included(first), Bound::Unbounded),
+        Keys::Below(end) => (Bound::Unbounded, Bound::Excluded(end)),
+        Keys::UpTo(last) => (Bound::Unbounded, Bound::Included(last)),
+        Keys::Above(start) => (Bound::Excluded(start), Bound::Unbounded),
+        Keys::Between(start, end) => (Bound::Excluded(start), Bound::Excluded(end)),
+        Keys::AboveUpTo(start, last) => (Bound::Excluded(start), Bound::Included(last)),
+    };
+    AnyRange::new(start, end)
+}
+
+/// What a set is asked with a range.
+#[derive(Clone, Copy)]
+enum Call {
+    Insert,
+    Remove,
+    Meets(bool),
+    Gather,
+}
+
+/// `true` where the call was not refused.
+pub fn went(outcome: Result<(), MapError>) -> Result<bool, MapError> {
+    outcome?;
+    Ok(true)
+}
+
+fn gather_one<T, C, R>(alloc: Global, set: &mut RangeSet<T, C>, range: R) -> Result<bool, MapError>
+where
+    T: Measure + Copy,
+    C: Storage<Item<AnyRange<T>, ()>>,
+    R: IntoRange<Item = T>,
+    requires { ClonesAreEqual T.is_clone T.eq }
+{
+    *set = RangeSet::from_iter(alloc, [range])?;
+    Ok(true)
+}
+
+fn call_with<T, C, R>(
+    alloc: Global,
+    set: &mut RangeSet<T, C>,
+    range: R,
+    call: Call,
+) -> Result<bool, MapError>
+where
+    T: Measure + Copy,
+    C: Storage<Item<AnyRange<T>, ()>>,
+    R: IntoRange<Item = T>,
+    requires { ClonesAreEqual T.is_clone T.eq }
+{
+    match call {
+        Call::Insert => went(set.insert(range)),
+        Call::Remove => went(set.remove(range)),
+        Call::Meets(met) => Ok(set.intersects(range) == met),
+        Call::Gather => gather_one(alloc, set, range),
+    }
+}
+
+/// Makes the call with the range as it is spelled.
+fn call_spelled<T, C>(
+    alloc: Global,
+    set: &mut RangeSet<T, C>,
+    keys: Keys<T>,
+    what: Call,
+) -> Result<bool, MapError>
+where
+    T: Measure + Copy + IntoRange<Item = T>,
+    C: Storage<Item<AnyRange<T>, ()>>,
+    requires { ClonesAreEqual T.is_clone T.eq }
+{
+    match keys {
+        Keys::Alone(key) => call_with(alloc, set, key, what),
+        Keys::HalfOpen(first, end) => call_with(alloc, set, first..end, what),
+        Keys::Closed(first, last) => call_with(alloc, set, first..=last, what),
+        Keys::Starting(first) => call_with(alloc, set, first.., what),
+        Keys::Below(end) => call_with(alloc, set, ..end, what),
+        Keys::UpTo(last) => call_with(alloc, set, ..=last, what),
+        Keys::Above(start) => call_with(alloc, set, RangeFromExcluded::new(start), what),
+        Keys::Between(start, end) => call_with(
+            alloc,
+            set,
+            RangeFromExcludedTo::new(start, end),
+            what,
+        ),
+        Keys::AboveUpTo(start, last) => call_with(
+            alloc,
+            set,
+            RangeFromExcludedToIncluded::new(start, last),
+            what,
+        ),
+        Keys::All | Keys::Any(_, _) => call_with(alloc, set, range_of(keys), what),
+    }
+}
+
+pub fn extend<T, C>(set: &mut RangeSet<T, C>, rows: &[Keys<T>]) -> Result<bool, MapError>
+where
+    T: Measure + Copy,
+    C: Storage<Item<AnyRange<T>, ()>>,
+    requires { ClonesAreEqual T.is_clone T.eq }
+{
+    went(set.extend(rows.iter().map(|keys| range_of(*keys))))
+}
+
+fn gather_three<T, C>(
+    alloc: Global,
+    set: &mut RangeSet<T, C>,
+    pairs: [(T, T); 3],
+) -> Result<bool, MapError>
+where
+    T: Measure + Copy,
+    C: Storage<Item<AnyRange<T>, ()>>,
+    requires { ClonesAreEqual T.is_clone T.eq }
+{
+    let [one, two, three] = pairs;
+    *set = RangeSet::from_iter(alloc, [one.0..one.1, two.0..two.1, three.0..three.1])?;
+    Ok(true)
+}
+
+fn become_complement<T, C>(set: &mut RangeSet<T, C>) -> Result<bool, MapError>
+where
+    T: Measure + Copy,
+    C: Storage<Item<AnyRange<T>, ()>>,
+    requires { ClonesAreEqual T.is_clone T.eq }
+{
+    *set = set.complement()?;
+    Ok(true)
+}
+
+/// The complement of the complement of a set, which the law says equals it.
+fn complemented_twice<T: Measure + Clone, C: Storage<Item<AnyRange<T>, ()>>>(
+    set: &RangeSet<T, C>,
+) -> Result<RangeSet<T, C>, MapError>
+    requires { ClonesAreEqual T.is_clone T.eq }
+    ensures { IfOk result (λ again. IsTrue (same_ranges T.order (C.items again) (C.items set.now))) }
+{
+    let _ranges = set.iter();
+    complementing_twice_restores::<T>();
+    let others = set.complement()?;
+    let again = others.complement()?;
+    Ok(again)
+}
+
+fn become_complement_twice<T, C>(set: &mut RangeSet<T, C>) -> Result<bool, MapError>
+where
+    T: Measure + Copy,
+    C: Storage<Item<AnyRange<T>, ()>>,
+    requires { ClonesAreEqual T.is_clone T.eq }
+{
+    *set = complemented_twice(set)?;
+    Ok(true)
+}
+
+/// Whether the set is empty once every key is removed. It becomes a copy of what it was.
+fn become_copy<T, C>(set: &mut RangeSet<T, C>) -> Result<bool, MapError>
+where
+    T: Measure + Copy,
+    C: Storage<Item<AnyRange<T>, ()>>,
+    requires { ClonesAreEqual T.is_clone T.eq }
+{
+    let copy = set.clone()?;
+    set.remove(range_of(Keys::All))?;
+    let emptied = set.is_empty();
+    *set = copy;
+    Ok(emptied)
+}
+
+fn has_size<T, C>(set: &RangeSet<T, C>, count: usize, len: u128) -> bool
+where
+    T: Measure + Bounded,
+    C: Storage<Item<AnyRange<T>, ()>>,
+{
+    set.range_count() == count
+        && set.is_empty() == (count == 0)
+        && set.len() == len
+        && set.bounded_len() == Some(len)
+}
+
+fn has_no_gap<T, C>(set: &RangeSet<T, C>) -> bool
+where
+    T: Measure,
+    C: Storage<Item<AnyRange<T>, ()>>,
+{
+    set.gaps().next().is_none()
+}
+
+fn starts_with<T, C>(set: &RangeSet<T, C>, first: AnyRange<T>) -> bool
+where
+    T: Measure,
+    C: Storage<Item<AnyRange<T>, ()>>,
+{
+    set.iter().next() == Some(&first)
+}
+
+/// Whether the range, of so many keys, is the only gap of the set.
+fn has_one_gap<T, C>(set: &RangeSet<T, C>, range: AnyRange<T>, len: u128) -> Result<bool, MapError>
+where
+    T: Measure + Bounded + Copy,
+    C: Storage<Item<AnyRange<T>, ()>>,
+    requires { ClonesAreEqual T.is_clone T.eq }
+{
+    let mut gaps = set.gaps();
+    let Some(gap) = gaps.next() else {
+        return Ok(false);
+    };
+    let gap = gap.cloned()?;
+    Ok(gap == range && gap.len() == len && gaps.next().is_none())
+}
+
+fn shows<T, C>(alloc: Global, set: &RangeSet<T, C>, text: &str) -> Result<bool, MapError>
+where
+    T: Measure + Debug,
+    C: Storage<Item<AnyRange<T>, ()>>,
+{
+    let shown = format!(in alloc; "{set:?}")?;
+    Ok(shown.as_str() == text)
+}
+
+/// A set of the keys of these ranges.
+fn gathered<T, C>(alloc: Global, rows: &[Keys<T>]) -> Result<RangeSet<T, C>, MapError>
+where
+    T: Measure + Copy,
+    C: Storage<Item<AnyRange<T>, ()>>,
+    requires { ClonesAreEqual T.is_clone T.eq }
+{
+    RangeSet::from_iter(alloc, rows.iter().map(|keys| range_of(*keys)))
+}
+
+fn hash_of<T, C>(set: &RangeSet<T, C>) -> u64
+where
+    T: Measure + Hash,
+    C: Storage<Item<AnyRange<T>, ()>>,
+{
+    let mut state = DefaultHasher::new();
+    set.hash(&mut state);
+    state.finish()
+}
+
+/// How two sets compare, where all comparisons across containers and the hashes say the same.
+pub fn compared<T, C, D>(left: &RangeSet<T, C>, right: &RangeSet<T, D>) -> Option<Ordering>
+where
+    T: Measure + Hash,
+    C: Storage<Item<AnyRange<T>, ()>>,
+    D: Storage<Item<AnyRange<T>, ()>>,
+{
+    let ordering = left.cmp_across(right);
+    let equal = ordering == Ordering::Equal;
+    let agree = right.cmp_across(left) == ordering.reverse()
+        && left.eq_across(right) == equal
+        && right.eq_across(left) == equal
+        && (hash_of(left) == hash_of(right)) == equal
+        && (left.range_count() == right.range_count() || !equal);
+    if agree { Some(ordering) } else { None }
+}
+
+/// How two sets over one container compare, where all comparisons and the hashes say the same.
+fn compared_alike<T, C>(left: &RangeSet<T, C>, right: &RangeSet<T, C>) -> Option<Ordering>
+where
+    T: Measure + Hash,
+    C: Storage<Item<AnyRange<T>, ()>>,
+{
+    let ordering = left.cmp(right);
+    let equal = ordering == Ordering::Equal;
+    let agree = left.partial_cmp(right) == Some(ordering)
+        && (*left == *right) == equal
+        && (*left != *right) == !equal
+        && compared(left, right) == Some(ordering);
+    if agree { Some(ordering) } else { None }
+}
+
+/// Whether the set compares so with the one of these ranges, over its own container and another.
+fn compares<T, C, D>(
+    alloc: Global,
+    set: &RangeSet<T, C>,
+    rows: &[Keys<T>],
+    ordering: Ordering,
+) -> Result<bool, MapError>
+where
+    T: Measure + Copy + Hash,
+    C: Storage<Item<AnyRange<T>, ()>>,
+    D: Storage<Item<AnyRange<T>, ()>>,
+    requires { ClonesAreEqual T.is_clone T.eq }
+{
+    let alike: RangeSet<T, C> = gathered(alloc, rows)?;
+    let across: RangeSet<T, D> = gathered(alloc, rows)?;
+    Ok(compared_alike(set, &alike) == Some(ordering) && compared(set, &across) == Some(ordering))
+}
+
+/// Makes the call, or tells whether what has to hold does.
+pub fn goes<T, C, D>(
+    alloc: Global,
+    set: &mut RangeSet<T, C>,
+    step: &Step<'_, T>,
+) -> Result<bool, MapError>
+where
+    T: Measure + Bounded + Copy + IntoRange<Item = T> + Debug + Hash,
+    C: Storage<Item<AnyRange<T>, ()>>,
+    D: Storage<Item<AnyRange<T>, ()>>,
+    requires { ClonesAreEqual T.is_clone T.eq }
+{
+    match step {
+        Step::Insert(keys) => call_spelled(alloc, set, *keys, Call::Insert),
+        Step::Remove(keys) => call_spelled(alloc, set, *keys, Call::Remove),
+        Step::Meets(keys, met) => call_spelled(alloc, set, *keys, Call::Meets(*met)),
+        Step::Extend(rows) => extend(set, rows),
+        Step::Gather(keys) => call_spelled(alloc, set, *keys, Call::Gather),
+        Step::GatherThree(pairs) => gather_three(alloc, set, *pairs),
+        Step::Complement => become_complement(set),
+        Step::ComplementTwice => become_complement_twice(set),
+        Step::Copy => become_copy(set),
+        Step::Size(count, len) => Ok(has_size(set, *count, *len)),
+        Step::Holds(key, held) => Ok(set.contains(*key) == *held),
+        Step::First(keys) => Ok(starts_with(set, range_of(*keys))),
+        Step::Gap(keys, len) => has_one_gap(set, range_of(*keys), *len),
+        Step::NoGap => Ok(has_no_gap(set)),
+        Step::Shows(text) => shows(alloc, set, text),
+        Step::Compares(rows, ordering) => compares::<T, C, D>(alloc, set, rows, *ordering),
+    }
+}
+
+fn run<T, C, D>(
+    alloc: Global,
+    set: &mut RangeSet<T, C>,
+    steps: &[Step<'_, T>],
+) -> Result<usize, MapError>
+where
+    T: Measure + Bounded + Copy + IntoRange<Item = T> + Debug + Hash,
+    C: Storage<Item<AnyRange<T>, ()>>,
+    D: Storage<Item<AnyRange<T>, ()>>,
+    requires { ClonesAreEqual T.is_clone T.eq }
+{
+    for (place, step) in steps.iter().enumerate() {
+        if !goes::<T, C, D>(alloc, set, step)? {
+            return Ok(place);
+        }
+    }
+    Ok(steps.len())
+}
+
+fn play<T, C, D>(alloc: Global, steps: &[Step<'_, T>]) -> Result<usize, MapError>
+where
+    T: Measure + Bounded + Copy + IntoRange<Item = T> + Debug + Hash,
+    C: Storage<Item<AnyRange<T>, ()>>,
+    D: Storage<Item<AnyRange<T>, ()>>,
+    requires { ClonesAreEqual T.is_clone T.eq }
+{
+    let mut set: RangeSet<T, C> = RangeSet::default(alloc);
+    run::<T, C, D>(alloc, &mut set, steps)
+}
+
+/// The place of the first step that does not hold, or the number of steps: of a set over a vector,
+/// and of one over a tree.
+pub fn play_both<T>(alloc: Global, steps: &[Step<'_, T>]) -> Result<(usize, usize), MapError>
+where
+    T: Measure + Bounded + Copy + IntoRange<Item = T> + Debug + Hash,
+    requires { ClonesAreEqual T.is_clone T.eq }
+{
+    let over_vector = play::<T, Vector<T>, Tree<T>>(alloc, steps)?;
+    let over_tree = play::<T, Tree<T>, Vector<T>>(alloc, steps)?;
+    Ok((over_vector, over_tree))
+}

@@ -1,0 +1,274 @@
+//! The names of the root: maps and sets in the default container.
+
+use crate::tests::support::Keys::{
+    self, Above, AboveUpTo, All, Alone, Any, Below, Between, Closed, HalfOpen, Starting, UpTo,
+};
+use crate::tests::support::went;
+use btree_range_map::generic::map::MapError;
+use btree_range_map::{
+    AnyRange, IntoRange, RangeFromExcluded, RangeFromExcludedTo, RangeFromExcludedToIncluded,
+    RangeMap, RangeSet,
+};
+use std::alloc::Global;
+use std::ops::Bound;
+use std::test::Fail;
+
+type IntMap = RangeMap<i32, i64>;
+
+type ByteSet = RangeSet<u8>;
+
+/// A call with a range, or what has to come of it.
+#[derive(Clone, Copy)]
+enum Call {
+    Insert(i64),
+    Remove,
+    Meets(bool),
+    /// An insertion that binds what lies apart, and whether it did.
+    Apart(i64, bool),
+}
+
+/// A call on a map, or what has to hold of it then.
+#[derive(Clone, Copy)]
+enum Step<'a> {
+    With(Keys<i32>, Call),
+    Count(usize),
+    Get(i32, Option<i64>),
+    /// The values of the keys from -1 on, where 0 stands for none.
+    Shows(&'a [i64]),
+}
+
+fn call_with<R: IntoRange<Item = i32>>(
+    map: &mut IntMap,
+    range: R,
+    call: Call,
+) -> Result<bool, MapError> {
+    match call {
+        Call::Insert(value) => went(map.insert(range, value)),
+        Call::Remove => went(map.remove(range)),
+        Call::Meets(met) => Ok(map.intersects(range) == met),
+        Call::Apart(value, apart) => Ok(map.insert_disconnected(range, value).is_ok() == apart),
+    }
+}
+
+/// Makes the call with the range as it is spelled.
+fn call_spelled(map: &mut IntMap, keys: Keys<i32>, what: Call) -> Result<bool, MapError> {
+    match keys {
+        All => call_with(map, AnyRange::new(Bound::Unbounded, Bound::Unbounded), what),
+        Any(start, end) => call_with(map, AnyRange::new(start, end), what),
+        Alone(key) => call_with(map, key, what),
+        HalfOpen(first, end) => call_with(map, first..end, what),
+        Closed(first, last) => call_with(map, first..=last, what),
+        Starting(first) => call_with(map, first.., what),
+        Below(end) => call_with(map, ..end, what),
+        UpTo(last) => call_with(map, ..=last, what),
+        Above(start) => call_with(map, RangeFromExcluded::new(start), what),
+        Between(start, end) => call_with(map, RangeFromExcludedTo::new(start, end), what),
+        AboveUpTo(start, last) => call_with(
+            map,
+            RangeFromExcludedToIncluded::new(start, last),
+            what,
+        ),
+    }
+}
+
+fn value_at(map: &IntMap, key: i32) -> Option<i64> {
+    map.get(key).copied()
+}
+
+fn shows(map: &IntMap, values: &[i64]) -> bool {
+    for (key, value) in (-1..).zip(values.iter()) {
+        if value_at(map, key).unwrap_or(0) != *value {
+            return false;
+        }
+    }
+    true
+}
+
+/// Makes the call, or tells whether what has to hold does.
+fn goes(map: &mut IntMap, step: Step<'_>) -> Result<bool, MapError> {
+    match step {
+        Step::With(keys, what) => call_spelled(map, keys, what),
+        Step::Count(count) => Ok(map.range_count() == count),
+        Step::Get(key, value) => Ok(value_at(map, key) == value),
+        Step::Shows(values) => Ok(shows(map, values)),
+    }
+}
+
+fn run(map: &mut IntMap, steps: &[Step<'_>]) -> Result<usize, MapError> {
+    for (place, step) in steps.iter().enumerate() {
+        if !goes(map, *step)? {
+            return Ok(place);
+        }
+    }
+    Ok(steps.len())
+}
+
+/// The place of the first step that does not hold, or the number of steps.
+fn play(alloc: Global, steps: &[Step<'_>]) -> Result<usize, MapError> {
+    let mut map: IntMap = RangeMap::new(alloc);
+    run(&mut map, steps)
+}
+
+#[test]
+fn a_tour(rt: HostRuntime) -> Result<(), Fail> {
+    let steps = [
+        Step::With(Closed(0, 5), Call::Insert(1)),
+        Step::With(Alone(4), Call::Insert(0)),
+        Step::Count(3),
+        Step::Get(4, Some(0)),
+        Step::With(Below(1), Call::Insert(1)),
+        Step::With(Above(3), Call::Insert(1)),
+        Step::Count(1),
+        Step::With(HalfOpen(1, 9), Call::Remove),
+        Step::With(Starting(9), Call::Meets(true)),
+        Step::With(HalfOpen(1, 9), Call::Meets(false)),
+    ];
+    assert_eq!(rt; play(rt.alloc(), &steps)?, steps.len());
+    Ok(())
+}
+
+#[test]
+fn insertions_in_every_spelling(rt: HostRuntime) -> Result<(), Fail> {
+    let steps = [
+        Step::With(UpTo(0), Call::Insert(1)),
+        Step::With(Starting(28), Call::Insert(2)),
+        Step::With(Below(-1), Call::Insert(3)),
+        Step::With(Alone(2), Call::Insert(4)),
+        Step::With(HalfOpen(4, 6), Call::Insert(5)),
+        Step::With(Closed(7, 8), Call::Insert(6)),
+        Step::With(Above(28), Call::Insert(7)),
+        Step::With(Between(10, 13), Call::Insert(8)),
+        Step::With(AboveUpTo(14, 16), Call::Insert(9)),
+        Step::With(
+            Any(Bound::Included(18), Bound::Excluded(20)),
+            Call::Insert(10),
+        ),
+        Step::Shows(&[
+            1, 1, 0, 4, 0, 5, 5, 0, 6, 6, 0, 0, 8, 8, 0, 0, 9, 9, 0, 10, 10, 0, 0, 0, 0, 0, 0, 0,
+            0, 2, 7, 7,
+        ]),
+        Step::Get(-2, Some(3)),
+    ];
+    assert_eq!(rt; play(rt.alloc(), &steps)?, steps.len());
+    Ok(())
+}
+
+#[test]
+fn removals_in_every_spelling(rt: HostRuntime) -> Result<(), Fail> {
+    let steps = [
+        Step::With(All, Call::Insert(1)),
+        Step::With(UpTo(-1), Call::Remove),
+        Step::With(Starting(29), Call::Remove),
+        Step::With(Below(0), Call::Remove),
+        Step::With(Alone(2), Call::Remove),
+        Step::With(HalfOpen(4, 6), Call::Remove),
+        Step::With(Closed(7, 8), Call::Remove),
+        Step::With(Above(27), Call::Remove),
+        Step::With(Between(10, 13), Call::Remove),
+        Step::With(AboveUpTo(14, 16), Call::Remove),
+        Step::With(Any(Bound::Included(18), Bound::Excluded(20)), Call::Remove),
+        Step::Shows(&[
+            0, 1, 1, 0, 1, 0, 0, 1, 0, 0, 1, 1, 0, 0, 1, 1, 0, 0, 1, 0, 0, 1, 1, 1, 1, 1, 1, 1, 1,
+            0, 0, 0,
+        ]),
+    ];
+    assert_eq!(rt; play(rt.alloc(), &steps)?, steps.len());
+    Ok(())
+}
+
+#[test]
+fn ranges_apart_in_every_spelling(rt: HostRuntime) -> Result<(), Fail> {
+    let steps = [
+        Step::With(Below(-8), Call::Apart(1, true)),
+        Step::With(Above(28), Call::Apart(2, true)),
+        Step::With(Alone(2), Call::Apart(3, true)),
+        Step::With(HalfOpen(4, 6), Call::Apart(4, true)),
+        Step::With(Closed(8, 9), Call::Apart(5, true)),
+        Step::With(Between(10, 13), Call::Apart(6, true)),
+        Step::With(AboveUpTo(14, 16), Call::Apart(7, true)),
+        Step::With(Alone(13), Call::Apart(8, false)),
+        Step::With(UpTo(-8), Call::Apart(8, false)),
+        Step::With(Starting(28), Call::Apart(8, false)),
+        Step::Count(7),
+    ];
+    assert_eq!(rt; play(rt.alloc(), &steps)?, steps.len());
+    Ok(())
+}
+
+#[test]
+fn meetings_in_every_spelling(rt: HostRuntime) -> Result<(), Fail> {
+    let steps = [
+        Step::With(HalfOpen(4, 6), Call::Insert(1)),
+        Step::With(Alone(4), Call::Meets(true)),
+        Step::With(Alone(6), Call::Meets(false)),
+        Step::With(HalfOpen(5, 9), Call::Meets(true)),
+        Step::With(HalfOpen(6, 9), Call::Meets(false)),
+        Step::With(Closed(5, 9), Call::Meets(true)),
+        Step::With(Closed(6, 9), Call::Meets(false)),
+        Step::With(Starting(5), Call::Meets(true)),
+        Step::With(Starting(6), Call::Meets(false)),
+        Step::With(Below(5), Call::Meets(true)),
+        Step::With(Below(4), Call::Meets(false)),
+        Step::With(UpTo(4), Call::Meets(true)),
+        Step::With(UpTo(3), Call::Meets(false)),
+        Step::With(Above(4), Call::Meets(true)),
+        Step::With(Above(5), Call::Meets(false)),
+        Step::With(Between(3, 5), Call::Meets(true)),
+        Step::With(Between(3, 4), Call::Meets(false)),
+        Step::With(AboveUpTo(3, 4), Call::Meets(true)),
+        Step::With(AboveUpTo(5, 9), Call::Meets(false)),
+        Step::With(All, Call::Meets(true)),
+    ];
+    assert_eq!(rt; play(rt.alloc(), &steps)?, steps.len());
+    Ok(())
+}
+
+fn extended(alloc: Global) -> Result<ByteSet, MapError> {
+    let mut set: ByteSet = RangeSet::new(alloc);
+    set.extend([0..10, 20..30, 10..15])?;
+    Ok(set)
+}
+
+/// Whether the gaps of the set go from these first keys to these last ones.
+fn has_gaps(set: &ByteSet, rows: &[(u8, u8)]) -> Result<bool, MapError> {
+    let mut left = rows;
+    let mut gaps = set.gaps();
+    while let Some(gap) = gaps.next() {
+        let Some((row, rest)) = left.split_first() else {
+            return Ok(false);
+        };
+        let gap = gap.cloned()?;
+        if gap.first()? != Some(row.0) || gap.last()? != Some(row.1) {
+            return Ok(false);
+        }
+        left = rest;
+    }
+    Ok(left.is_empty())
+}
+
+/// Whether no range of the one set meets the other.
+fn lie_apart(set: &ByteSet, others: &ByteSet) -> bool {
+    for range in others {
+        if set.intersects(*range) {
+            return false;
+        }
+    }
+    true
+}
+
+fn has_complement(set: &ByteSet) -> Result<bool, MapError> {
+    let others = set.complement()?;
+    Ok(others.len() == 232 && others.contains(3) && !others.contains(20) && lie_apart(set, &others))
+}
+
+#[test]
+fn a_tour_of_sets(rt: HostRuntime) -> Result<(), Fail> {
+    let mut set = extended(rt.alloc())?;
+    assert_eq!(rt; set.range_count(), 2);
+    assert!(rt; set.contains(14) && !set.contains(15));
+    set.remove(3u8)?;
+    assert!(rt; set.len() == 24);
+    assert!(rt; has_gaps(&set, &[(3, 3), (15, 19), (30, 255)])?);
+    assert!(rt; has_complement(&set)?);
+    Ok(())
+}
