@@ -3,11 +3,10 @@
 use crate::tests::support::Keys::{
     self, Above, All, Alone, Below, Closed, HalfOpen, Starting, UpTo,
 };
-use crate::tests::support::{Step, Tree, Vector, extend, play_both};
-use btree_range_map::AnyRange;
+use crate::tests::support::{Entry, Step, Tree, Vector, extend, play_both};
 use btree_range_map::generic::map::MapError;
 use btree_range_map::generic::set::RangeSet;
-use btree_range_map::storage::{Item, Storage};
+use btree_range_map::storage::Storage;
 use std::alloc::Global;
 use std::test::Fail;
 
@@ -145,7 +144,7 @@ fn is_in_first(key: i32, count: usize) -> bool {
 }
 
 /// Whether the set holds just the keys of the first so many ranges.
-fn holds_first<C: Storage<Item<AnyRange<i32>, ()>>>(set: &RangeSet<i32, C>, count: usize) -> bool {
+fn holds_first<C: Storage<Entry<i32>>>(set: &RangeSet<i32, C>, count: usize) -> bool {
     for key in -1..60 {
         if set.contains(key) != is_in_first(key, count) {
             return false;
@@ -155,7 +154,7 @@ fn holds_first<C: Storage<Item<AnyRange<i32>, ()>>>(set: &RangeSet<i32, C>, coun
 }
 
 /// Whether the set holds just the keys of some first ranges, but not of all.
-fn holds_some_first<C: Storage<Item<AnyRange<i32>, ()>>>(set: &RangeSet<i32, C>) -> bool {
+fn holds_some_first<C: Storage<Entry<i32>>>(set: &RangeSet<i32, C>) -> bool {
     for count in 0..RANGES.len() {
         if holds_first(set, count) {
             return true;
@@ -164,7 +163,7 @@ fn holds_some_first<C: Storage<Item<AnyRange<i32>, ()>>>(set: &RangeSet<i32, C>)
     false
 }
 
-fn extended<C: Storage<Item<AnyRange<i32>, ()>>>(set: &mut RangeSet<i32, C>) -> bool {
+fn extended<C: Storage<Entry<i32>>>(set: &mut RangeSet<i32, C>) -> bool {
     let rows = RANGES.map(|(first, end)| HalfOpen(first, end));
     match extend(set, &rows) {
         Ok(_) => holds_first(set, RANGES.len()),
@@ -174,7 +173,7 @@ fn extended<C: Storage<Item<AnyRange<i32>, ()>>>(set: &mut RangeSet<i32, C>) -> 
 
 /// The keys of a refused extension are those of some first ranges, and of all where it is not
 /// refused.
-fn extension<C: Storage<Item<AnyRange<i32>, ()>>>(alloc: Global) -> bool {
+fn extension<C: Storage<Entry<i32>>>(alloc: Global) -> bool {
     let mut set: RangeSet<i32, C> = RangeSet::new(alloc);
     extended(&mut set)
 }

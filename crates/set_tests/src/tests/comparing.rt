@@ -1,11 +1,10 @@
 //! How sets compare.
 
 use crate::tests::support::Keys::{self, Alone, Below, Between, Closed, HalfOpen, Starting};
-use crate::tests::support::{Step, Tree, Vector, compared, goes, play_both};
-use btree_range_map::AnyRange;
+use crate::tests::support::{Entry, Step, Tree, Vector, compared, goes, play_both};
 use btree_range_map::generic::map::MapError;
 use btree_range_map::generic::set::RangeSet;
-use btree_range_map::storage::{Item, Storage};
+use btree_range_map::storage::Storage;
 use std::alloc::Global;
 use std::cmp::Ordering;
 use std::test::Fail;
@@ -105,7 +104,7 @@ fn next_number(number: u32) -> u32 {
 }
 
 /// Whether two sets hold the same keys, where their comparisons say the same.
-fn alike<C: Storage<Item<AnyRange<u8>, ()>>, D: Storage<Item<AnyRange<u8>, ()>>>(
+fn alike<C: Storage<Entry<u8>>, D: Storage<Entry<u8>>>(
     left: &RangeSet<u8, C>,
     right: &RangeSet<u8, D>,
 ) -> Option<bool> {
@@ -119,7 +118,7 @@ fn alike<C: Storage<Item<AnyRange<u8>, ()>>, D: Storage<Item<AnyRange<u8>, ()>>>
 }
 
 /// Changes both sets, and tells what `alike` says then.
-fn changed_alike<C: Storage<Item<AnyRange<u8>, ()>>, D: Storage<Item<AnyRange<u8>, ()>>>(
+fn changed_alike<C: Storage<Entry<u8>>, D: Storage<Entry<u8>>>(
     alloc: Global,
     left: &mut RangeSet<u8, C>,
     right: &mut RangeSet<u8, D>,
@@ -132,7 +131,7 @@ fn changed_alike<C: Storage<Item<AnyRange<u8>, ()>>, D: Storage<Item<AnyRange<u8
 
 /// How often two sets that are changed 300 times hold the same keys, or the first change after which
 /// their comparisons say otherwise.
-fn count_alike<C: Storage<Item<AnyRange<u8>, ()>>, D: Storage<Item<AnyRange<u8>, ()>>>(
+fn count_alike<C: Storage<Entry<u8>>, D: Storage<Entry<u8>>>(
     alloc: Global,
     left: &mut RangeSet<u8, C>,
     right: &mut RangeSet<u8, D>,

@@ -5,7 +5,7 @@ ghost use Rattle.range_sets.specs.SetOrder.{same_ranges};
 
 use btree_range_map::btree::BoxStorage;
 use btree_range_map::generic::map::MapError;
-use btree_range_map::generic::set::{RangeSet, complementing_twice_restores};
+use btree_range_map::generic::set::{Gaps, RangeSet, complementing_twice_restores};
 use btree_range_map::range::traits::Bounded;
 use btree_range_map::storage::{Item, Storage, VecStorage};
 use btree_range_map::{
@@ -18,9 +18,25 @@ use std::fmt::Debug;
 use std::hash::{DefaultHasher, Hash, Hasher};
 use std::ops::Bound;
 
-pub type Vector<T> = VecStorage<Item<AnyRange<T>, ()>>;
+/// What a set stores: a range with no value.
+pub type Entry<T> = Item<AnyRange<T>, ()>;
 
-pub type Tree<T> = BoxStorage<Item<AnyRange<T>, ()>>;
+pub type Vector<T> = VecStorage<Entry<T>>;
+
+pub type Tree<T> = BoxStorage<Entry<T>>;
+
+/// What the tables ask of a type of keys.
+pub trait Key: Measure + Bounded + Copy + IntoRange<Item = Self> + Debug + Hash {}
+
+impl Key for u8 {}
+
+impl Key for u32 {}
+
+impl Key for u64 {}
+
+impl Key for i32 {}
+
+impl Key for char {}
 
 /// A range, as it is spelled.
 pub enum Keys<T> {
@@ -106,27 +122,23 @@ pub fn went(outcome: Result<(), MapError>) -> Result<bool, MapError> {
     Ok(true)
 }
 
-fn gather_one<T, C, R>(alloc: Global, set: &mut RangeSet<T, C>, range: R) -> Result<bool, MapError>
-where
-    T: Measure + Copy,
-    C: Storage<Item<AnyRange<T>, ()>>,
-    R: IntoRange<Item = T>,
+fn gather_one<T: Key, C: Storage<Entry<T>>, R: IntoRange<Item = T>>(
+    alloc: Global,
+    set: &mut RangeSet<T, C>,
+    range: R,
+) -> Result<bool, MapError>
     requires { ClonesAreEqual T.is_clone T.eq }
 {
     *set = RangeSet::from_iter(alloc, [range])?;
     Ok(true)
 }
 
-fn call_with<T, C, R>(
+fn call_with<T: Key, C: Storage<Entry<T>>, R: IntoRange<Item = T>>(
     alloc: Global,
     set: &mut RangeSet<T, C>,
     range: R,
     call: Call,
 ) -> Result<bool, MapError>
-where
-    T: Measure + Copy,
-    C: Storage<Item<AnyRange<T>, ()>>,
-    R: IntoRange<Item = T>,
     requires { ClonesAreEqual T.is_clone T.eq }
 {
     match call {
@@ -138,15 +150,12 @@ where
 }
 
 /// Makes the call with the range as it is spelled.
-fn call_spelled<T, C>(
+fn call_spelled<T: Key, C: Storage<Entry<T>>>(
     alloc: Global,
     set: &mut RangeSet<T, C>,
     keys: Keys<T>,
     what: Call,
 ) -> Result<bool, MapError>
-where
-    T: Measure + Copy + IntoRange<Item = T>,
-    C: Storage<Item<AnyRange<T>, ()>>,
     requires { ClonesAreEqual T.is_clone T.eq }
 {
     match keys {
@@ -173,23 +182,20 @@ where
     }
 }
 
-pub fn extend<T, C>(set: &mut RangeSet<T, C>, rows: &[Keys<T>]) -> Result<bool, MapError>
-where
-    T: Measure + Copy,
-    C: Storage<Item<AnyRange<T>, ()>>,
+pub fn extend<T: Key, C: Storage<Entry<T>>>(
+    set: &mut RangeSet<T, C>,
+    rows: &[Keys<T>],
+) -> Result<bool, MapError>
     requires { ClonesAreEqual T.is_clone T.eq }
 {
     went(set.extend(rows.iter().map(|keys| range_of(*keys))))
 }
 
-fn gather_three<T, C>(
+fn gather_three<T: Key, C: Storage<Entry<T>>>(
     alloc: Global,
     set: &mut RangeSet<T, C>,
     pairs: [(T, T); 3],
 ) -> Result<bool, MapError>
-where
-    T: Measure + Copy,
-    C: Storage<Item<AnyRange<T>, ()>>,
     requires { ClonesAreEqual T.is_clone T.eq }
 {
     let [one, two, three] = pairs;
@@ -197,10 +203,9 @@ where
     Ok(true)
 }
 
-fn become_complement<T, C>(set: &mut RangeSet<T, C>) -> Result<bool, MapError>
-where
-    T: Measure + Copy,
-    C: Storage<Item<AnyRange<T>, ()>>,
+fn become_complement<T: Key, C: Storage<Entry<T>>>(
+    set: &mut RangeSet<T, C>,
+) -> Result<bool, MapError>
     requires { ClonesAreEqual T.is_clone T.eq }
 {
     *set = set.complement()?;
@@ -208,7 +213,7 @@ where
 }
 
 /// The complement of the complement of a set, which the law says equals it.
-fn complemented_twice<T: Measure + Clone, C: Storage<Item<AnyRange<T>, ()>>>(
+fn complemented_twice<T: Key, C: Storage<Entry<T>>>(
     set: &RangeSet<T, C>,
 ) -> Result<RangeSet<T, C>, MapError>
     requires { ClonesAreEqual T.is_clone T.eq }
@@ -221,108 +226,116 @@ fn complemented_twice<T: Measure + Clone, C: Storage<Item<AnyRange<T>, ()>>>(
     Ok(again)
 }
 
-fn become_complement_twice<T, C>(set: &mut RangeSet<T, C>) -> Result<bool, MapError>
-where
-    T: Measure + Copy,
-    C: Storage<Item<AnyRange<T>, ()>>,
+fn become_complement_twice<T: Key, C: Storage<Entry<T>>>(
+    set: &mut RangeSet<T, C>,
+) -> Result<bool, MapError>
     requires { ClonesAreEqual T.is_clone T.eq }
 {
     *set = complemented_twice(set)?;
     Ok(true)
 }
 
-/// Whether the set is empty once every key is removed. It becomes a copy of what it was.
-fn become_copy<T, C>(set: &mut RangeSet<T, C>) -> Result<bool, MapError>
-where
-    T: Measure + Copy,
-    C: Storage<Item<AnyRange<T>, ()>>,
+/// Whether the set is empty once every key is removed.
+fn emptied<T: Key, C: Storage<Entry<T>>>(
+    alloc: Global,
+    set: &mut RangeSet<T, C>,
+) -> Result<bool, MapError>
+    requires { ClonesAreEqual T.is_clone T.eq }
+{
+    call_with(alloc, set, range_of(Keys::All), Call::Remove)?;
+    Ok(set.is_empty())
+}
+
+fn become_copy<T: Key, C: Storage<Entry<T>>>(
+    alloc: Global,
+    set: &mut RangeSet<T, C>,
+) -> Result<bool, MapError>
     requires { ClonesAreEqual T.is_clone T.eq }
 {
     let copy = set.clone()?;
-    set.remove(range_of(Keys::All))?;
-    let emptied = set.is_empty();
+    let emptied = emptied(alloc, set);
     *set = copy;
-    Ok(emptied)
+    emptied
 }
 
-fn has_size<T, C>(set: &RangeSet<T, C>, count: usize, len: u128) -> bool
-where
-    T: Measure + Bounded,
-    C: Storage<Item<AnyRange<T>, ()>>,
-{
+fn has_size<T: Key, C: Storage<Entry<T>>>(set: &RangeSet<T, C>, count: usize, len: u128) -> bool {
     set.range_count() == count
         && set.is_empty() == (count == 0)
         && set.len() == len
         && set.bounded_len() == Some(len)
 }
 
-fn has_no_gap<T, C>(set: &RangeSet<T, C>) -> bool
-where
-    T: Measure,
-    C: Storage<Item<AnyRange<T>, ()>>,
-{
+fn has_no_gap<T: Key, C: Storage<Entry<T>>>(set: &RangeSet<T, C>) -> bool {
     set.gaps().next().is_none()
 }
 
-fn starts_with<T, C>(set: &RangeSet<T, C>, first: AnyRange<T>) -> bool
-where
-    T: Measure,
-    C: Storage<Item<AnyRange<T>, ()>>,
-{
+fn starts_with<T: Key, C: Storage<Entry<T>>>(set: &RangeSet<T, C>, first: AnyRange<T>) -> bool {
     set.iter().next() == Some(&first)
 }
 
+/// The next gap, over keys of its own.
+fn next_gap<T: Key, C: Storage<Entry<T>>>(
+    gaps: &mut Gaps<'_, T, C>,
+) -> Result<Option<AnyRange<T>>, MapError>
+    requires { ClonesAreEqual T.is_clone T.eq }
+{
+    match gaps.next() {
+        Some(gap) => Ok(Some(gap.cloned()?)),
+        None => Ok(None),
+    }
+}
+
+/// Whether what was found is the range, of so many keys.
+fn is_range<T: Key>(found: Option<AnyRange<T>>, range: AnyRange<T>, len: u128) -> bool {
+    match found {
+        Some(found) => found == range && found.len() == len,
+        None => false,
+    }
+}
+
 /// Whether the range, of so many keys, is the only gap of the set.
-fn has_one_gap<T, C>(set: &RangeSet<T, C>, range: AnyRange<T>, len: u128) -> Result<bool, MapError>
-where
-    T: Measure + Bounded + Copy,
-    C: Storage<Item<AnyRange<T>, ()>>,
+fn has_one_gap<T: Key, C: Storage<Entry<T>>>(
+    set: &RangeSet<T, C>,
+    range: AnyRange<T>,
+    len: u128,
+) -> Result<bool, MapError>
     requires { ClonesAreEqual T.is_clone T.eq }
 {
     let mut gaps = set.gaps();
-    let Some(gap) = gaps.next() else {
-        return Ok(false);
-    };
-    let gap = gap.cloned()?;
-    Ok(gap == range && gap.len() == len && gaps.next().is_none())
+    let first = next_gap(&mut gaps)?;
+    Ok(is_range(first, range, len) && gaps.next().is_none())
 }
 
-fn shows<T, C>(alloc: Global, set: &RangeSet<T, C>, text: &str) -> Result<bool, MapError>
-where
-    T: Measure + Debug,
-    C: Storage<Item<AnyRange<T>, ()>>,
-{
+fn shows<T: Key, C: Storage<Entry<T>>>(
+    alloc: Global,
+    set: &RangeSet<T, C>,
+    text: &str,
+) -> Result<bool, MapError> {
     let shown = format!(in alloc; "{set:?}")?;
     Ok(shown.as_str() == text)
 }
 
 /// A set of the keys of these ranges.
-fn gathered<T, C>(alloc: Global, rows: &[Keys<T>]) -> Result<RangeSet<T, C>, MapError>
-where
-    T: Measure + Copy,
-    C: Storage<Item<AnyRange<T>, ()>>,
+fn gathered<T: Key, C: Storage<Entry<T>>>(
+    alloc: Global,
+    rows: &[Keys<T>],
+) -> Result<RangeSet<T, C>, MapError>
     requires { ClonesAreEqual T.is_clone T.eq }
 {
     RangeSet::from_iter(alloc, rows.iter().map(|keys| range_of(*keys)))
 }
 
-fn hash_of<T, C>(set: &RangeSet<T, C>) -> u64
-where
-    T: Measure + Hash,
-    C: Storage<Item<AnyRange<T>, ()>>,
-{
+fn hash_of<T: Key, C: Storage<Entry<T>>>(set: &RangeSet<T, C>) -> u64 {
     let mut state = DefaultHasher::new();
     set.hash(&mut state);
     state.finish()
 }
 
 /// How two sets compare, where all comparisons across containers and the hashes say the same.
-pub fn compared<T, C, D>(left: &RangeSet<T, C>, right: &RangeSet<T, D>) -> Option<Ordering>
-where
-    T: Measure + Hash,
-    C: Storage<Item<AnyRange<T>, ()>>,
-    D: Storage<Item<AnyRange<T>, ()>>,
-{
+pub fn compared<T: Key, C: Storage<Entry<T>>, D: Storage<Entry<T>>>(
+    left: &RangeSet<T, C>,
+    right: &RangeSet<T, D>,
+) -> Option<Ordering> {
     let ordering = left.cmp_across(right);
     let equal = ordering == Ordering::Equal;
     let agree = right.cmp_across(left) == ordering.reverse()
@@ -334,11 +347,10 @@ where
 }
 
 /// How two sets over one container compare, where all comparisons and the hashes say the same.
-fn compared_alike<T, C>(left: &RangeSet<T, C>, right: &RangeSet<T, C>) -> Option<Ordering>
-where
-    T: Measure + Hash,
-    C: Storage<Item<AnyRange<T>, ()>>,
-{
+fn compared_alike<T: Key, C: Storage<Entry<T>>>(
+    left: &RangeSet<T, C>,
+    right: &RangeSet<T, C>,
+) -> Option<Ordering> {
     let ordering = left.cmp(right);
     let equal = ordering == Ordering::Equal;
     let agree = left.partial_cmp(right) == Some(ordering)
@@ -348,34 +360,38 @@ where
     if agree { Some(ordering) } else { None }
 }
 
-/// Whether the set compares so with the one of these ranges, over its own container and another.
-fn compares<T, C, D>(
+/// Whether the set compares so with the one of these ranges over its own container.
+fn compares_alike<T: Key, C: Storage<Entry<T>>>(
     alloc: Global,
     set: &RangeSet<T, C>,
     rows: &[Keys<T>],
     ordering: Ordering,
 ) -> Result<bool, MapError>
-where
-    T: Measure + Copy + Hash,
-    C: Storage<Item<AnyRange<T>, ()>>,
-    D: Storage<Item<AnyRange<T>, ()>>,
     requires { ClonesAreEqual T.is_clone T.eq }
 {
-    let alike: RangeSet<T, C> = gathered(alloc, rows)?;
-    let across: RangeSet<T, D> = gathered(alloc, rows)?;
-    Ok(compared_alike(set, &alike) == Some(ordering) && compared(set, &across) == Some(ordering))
+    let other: RangeSet<T, C> = gathered(alloc, rows)?;
+    Ok(compared_alike(set, &other) == Some(ordering))
+}
+
+/// Whether the set compares so with the one of these ranges over another container.
+fn compares_across<T: Key, C: Storage<Entry<T>>, D: Storage<Entry<T>>>(
+    alloc: Global,
+    set: &RangeSet<T, C>,
+    rows: &[Keys<T>],
+    ordering: Ordering,
+) -> Result<bool, MapError>
+    requires { ClonesAreEqual T.is_clone T.eq }
+{
+    let other: RangeSet<T, D> = gathered(alloc, rows)?;
+    Ok(compared(set, &other) == Some(ordering))
 }
 
 /// Makes the call, or tells whether what has to hold does.
-pub fn goes<T, C, D>(
+pub fn goes<T: Key, C: Storage<Entry<T>>, D: Storage<Entry<T>>>(
     alloc: Global,
     set: &mut RangeSet<T, C>,
     step: &Step<'_, T>,
 ) -> Result<bool, MapError>
-where
-    T: Measure + Bounded + Copy + IntoRange<Item = T> + Debug + Hash,
-    C: Storage<Item<AnyRange<T>, ()>>,
-    D: Storage<Item<AnyRange<T>, ()>>,
     requires { ClonesAreEqual T.is_clone T.eq }
 {
     match step {
@@ -387,26 +403,25 @@ where
         Step::GatherThree(pairs) => gather_three(alloc, set, *pairs),
         Step::Complement => become_complement(set),
         Step::ComplementTwice => become_complement_twice(set),
-        Step::Copy => become_copy(set),
+        Step::Copy => become_copy(alloc, set),
         Step::Size(count, len) => Ok(has_size(set, *count, *len)),
         Step::Holds(key, held) => Ok(set.contains(*key) == *held),
         Step::First(keys) => Ok(starts_with(set, range_of(*keys))),
         Step::Gap(keys, len) => has_one_gap(set, range_of(*keys), *len),
         Step::NoGap => Ok(has_no_gap(set)),
         Step::Shows(text) => shows(alloc, set, text),
-        Step::Compares(rows, ordering) => compares::<T, C, D>(alloc, set, rows, *ordering),
+        Step::Compares(rows, ordering) => Ok(
+            compares_alike(alloc, set, rows, *ordering)?
+                && compares_across::<T, C, D>(alloc, set, rows, *ordering)?,
+        ),
     }
 }
 
-fn run<T, C, D>(
+fn run<T: Key, C: Storage<Entry<T>>, D: Storage<Entry<T>>>(
     alloc: Global,
     set: &mut RangeSet<T, C>,
     steps: &[Step<'_, T>],
 ) -> Result<usize, MapError>
-where
-    T: Measure + Bounded + Copy + IntoRange<Item = T> + Debug + Hash,
-    C: Storage<Item<AnyRange<T>, ()>>,
-    D: Storage<Item<AnyRange<T>, ()>>,
     requires { ClonesAreEqual T.is_clone T.eq }
 {
     for (place, step) in steps.iter().enumerate() {
@@ -417,11 +432,10 @@ where
     Ok(steps.len())
 }
 
-fn play<T, C, D>(alloc: Global, steps: &[Step<'_, T>]) -> Result<usize, MapError>
-where
-    T: Measure + Bounded + Copy + IntoRange<Item = T> + Debug + Hash,
-    C: Storage<Item<AnyRange<T>, ()>>,
-    D: Storage<Item<AnyRange<T>, ()>>,
+fn play<T: Key, C: Storage<Entry<T>>, D: Storage<Entry<T>>>(
+    alloc: Global,
+    steps: &[Step<'_, T>],
+) -> Result<usize, MapError>
     requires { ClonesAreEqual T.is_clone T.eq }
 {
     let mut set: RangeSet<T, C> = RangeSet::default(alloc);
@@ -430,9 +444,7 @@ where
 
 /// The place of the first step that does not hold, or the number of steps: of a set over a vector,
 /// and of one over a tree.
-pub fn play_both<T>(alloc: Global, steps: &[Step<'_, T>]) -> Result<(usize, usize), MapError>
-where
-    T: Measure + Bounded + Copy + IntoRange<Item = T> + Debug + Hash,
+pub fn play_both<T: Key>(alloc: Global, steps: &[Step<'_, T>]) -> Result<(usize, usize), MapError>
     requires { ClonesAreEqual T.is_clone T.eq }
 {
     let over_vector = play::<T, Vector<T>, Tree<T>>(alloc, steps)?;
