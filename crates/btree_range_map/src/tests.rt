@@ -1,5 +1,3 @@
 //! What no clause says: worked values of every crate below, and keys of one's own.
 
-mod algebra;
-mod keys;
 mod map;

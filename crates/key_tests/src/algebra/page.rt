@@ -6,7 +6,7 @@ ghost use Rattle.std.specs.Cmp.{nat_cmp_total, on_total, ranked};
 ghost use Rattle.std.proofs.Common.{arith, sym, lit<};
 ghost use Rattle.std.proofs.lemmas.Bool.Decides.{nat_tests};
 ghost use Rattle.std.specs.declared.cmp.Ordering.TheVariants.{Equal, Less};
-ghost use Rattle.btree_range_map.specs.declared.tests.algebra.page.Page.{Page};
+ghost use Rattle.key_tests.specs.declared.algebra.page.Page.{Page};
 
 use range_keys::traits::{MaybeBounded, Measure, PartialEnum};
 

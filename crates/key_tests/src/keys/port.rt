@@ -4,7 +4,7 @@ ghost use Rattle.std.specs.Prelude.{ℕ, ◌-◌, refl};
 ghost use Rattle.std.proofs.Common.{lit<};
 ghost use Rattle.range_keys.specs.Counted.{counted_lawful, counted_complete, counted_measure};
 ghost use Rattle.range_keys.specs.Indexed.{indexed_order, indexed_counted};
-ghost use Rattle.btree_range_map.specs.declared.tests.keys.port.Port.{Port};
+ghost use Rattle.key_tests.specs.declared.keys.port.Port.{Port};
 
 use range_keys::traits::{Complete, MaybeBounded, Measure, PartialEnum};
 

@@ -1,0 +1,154 @@
+use range_algebra::any::AnyRange;
+use range_algebra::range::{AsRange, Difference, Product, ProductArg};
+use std::alloc::AllocError;
+use std::ops::{Bound, Range};
+use std::test::Fail;
+
+type Ends = (i32, i32);
+
+fn range(ends: Ends) -> AnyRange<i32> {
+    AnyRange::new(Bound::Included(ends.0), Bound::Excluded(ends.1))
+}
+
+/// What is left of a range, as a row tells it.
+#[derive(Clone, Copy)]
+enum Left {
+    Before(Ends, bool),
+    After(Ends, bool),
+    Split(Ends, Ends),
+    Empty,
+}
+
+fn is_range(part: AnyRange<&i32>, ends: Ends) -> Result<bool, AllocError> {
+    Ok(part.cloned()? == range(ends))
+}
+
+fn is_left(difference: &Difference<&i32>, left: Left) -> Result<bool, AllocError> {
+    match (difference, left) {
+        (Difference::Before(part, flag), Left::Before(ends, met)) => {
+            Ok(*flag == met && is_range(*part, ends)?)
+        }
+        (Difference::After(part, flag), Left::After(ends, met)) => {
+            Ok(*flag == met && is_range(*part, ends)?)
+        }
+        (Difference::Split(before, after), Left::Split(first, second)) => {
+            Ok(is_range(*before, first)? && is_range(*after, second)?)
+        }
+        (Difference::Empty, Left::Empty) => Ok(true),
+        _ => Ok(false),
+    }
+}
+
+fn leaves(own: Range<i32>, other: Range<i32>, left: Left) -> Result<bool, AllocError> {
+    is_left(&own.without(&other), left)
+}
+
+const LEFT: [(Ends, Ends, Left); 7] = [
+    ((0, 5), (10, 20), Left::Before((0, 5), false)),
+    ((0, 15), (10, 20), Left::Before((0, 10), true)),
+    ((0, 10), (8, 3), Left::Before((0, 10), false)),
+    ((8, 3), (0, 2), Left::Empty),
+    ((3, 5), (0, 9), Left::Empty),
+    ((0, 20), (5, 10), Left::Split((0, 5), (10, 20))),
+    ((5, 20), (0, 10), Left::After((10, 20), true)),
+];
+
+#[test]
+fn leaves_parts(rt: HostRuntime) -> Result<(), Fail> {
+    for (own, other, left) in LEFT {
+        let goes = leaves(own.0..own.1, other.0..other.1, left)?;
+        assert!(rt; goes, "{own:?} without {other:?}");
+    }
+    Ok(())
+}
+
+/// A part of a product, as a row tells it.
+#[derive(Clone, Copy)]
+enum Part {
+    Subject(Ends),
+    Object(Ends),
+}
+
+/// The parts of a product, as a row tells them.
+type Parts = (Option<Part>, Option<Ends>, Option<Part>);
+
+fn is_part(part: &Option<ProductArg<i32>>, wanted: Option<Part>) -> bool {
+    match (part, wanted) {
+        (Some(ProductArg::Subject(own)), Some(Part::Subject(ends))) => *own == range(ends),
+        (Some(ProductArg::Object(other)), Some(Part::Object(ends))) => *other == range(ends),
+        (None, None) => true,
+        _ => false,
+    }
+}
+
+fn is_shared(shared: &Option<AnyRange<i32>>, wanted: Option<Ends>) -> bool {
+    match (shared, wanted) {
+        (Some(shared), Some(ends)) => *shared == range(ends),
+        (None, None) => true,
+        _ => false,
+    }
+}
+
+fn is_product(product: &Product<i32>, wanted: &Parts) -> bool {
+    is_part(&product.before, wanted.0)
+        && is_shared(&product.intersection, wanted.1)
+        && is_part(&product.after, wanted.2)
+}
+
+fn makes(own: Ends, other: Ends, wanted: &Parts) -> Result<bool, AllocError> {
+    let product = range(own).product(&range(other)).cloned()?;
+    Ok(is_product(&product, wanted))
+}
+
+const PRODUCTS: [(Ends, Ends, Parts); 5] = [
+    (
+        (0, 10),
+        (5, 15),
+        (
+            Some(Part::Subject((0, 5))),
+            Some((5, 10)),
+            Some(Part::Object((10, 15))),
+        ),
+    ),
+    (
+        (0, 20),
+        (5, 10),
+        (
+            Some(Part::Subject((0, 5))),
+            Some((5, 10)),
+            Some(Part::Subject((10, 20))),
+        ),
+    ),
+    (
+        (10, 20),
+        (0, 5),
+        (
+            Some(Part::Object((0, 5))),
+            None,
+            Some(Part::Subject((10, 20))),
+        ),
+    ),
+    ((8, 3), (0, 5), (None, None, Some(Part::Object((0, 5))))),
+    ((8, 3), (5, 5), (None, None, None)),
+];
+
+#[test]
+fn makes_products(rt: HostRuntime) -> Result<(), Fail> {
+    for (own, other, parts) in PRODUCTS {
+        let goes = makes(own, other, &parts)?;
+        assert!(rt; goes, "{own:?} with {other:?}");
+    }
+    Ok(())
+}
+
+fn shared(own: Range<i32>, other: Range<i32>) -> Result<bool, AllocError> {
+    let shared = own.intersected_with(&other);
+    Ok(!shared.ref_is_empty() && is_range(shared, (5, 10))?)
+}
+
+#[test]
+fn refers_to_what_is_shared(rt: HostRuntime) -> Result<(), Fail> {
+    assert!(rt; shared(0..10, 5..15)?);
+    assert!(rt; (0i32..10).intersected_with(&(20..30)).ref_is_empty());
+    Ok(())
+}

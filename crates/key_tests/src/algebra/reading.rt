@@ -1,0 +1,95 @@
+use crate::expecting::{expect_answer, expect_range};
+use range_algebra::any::AnyRange;
+use range_algebra::range::{
+    AsRange, IntoRange, RangeFromExcluded, RangeFromExcludedTo, RangeFromExcludedToIncluded,
+};
+use range_keys::traits::Measure;
+use std::alloc::AllocError;
+use std::ops::{Bound, RangeBounds};
+use std::test::Fail;
+
+fn between(first: i32, end: i32) -> AnyRange<i32> {
+    AnyRange::new(Bound::Included(first), Bound::Excluded(end))
+}
+
+fn through(first: i32, last: i32) -> AnyRange<i32> {
+    AnyRange::new(Bound::Included(first), Bound::Included(last))
+}
+
+fn from(first: i32) -> AnyRange<i32> {
+    AnyRange::new(Bound::Included(first), Bound::Unbounded)
+}
+
+fn to(end: Bound<i32>) -> AnyRange<i32> {
+    AnyRange::new(Bound::Unbounded, end)
+}
+
+#[test]
+fn reads_ranges(rt: HostRuntime) {
+    expect_range(&rt, "3..5", (3i32..5).into_range(), between(3, 5));
+    expect_range(&rt, "3..=5", (3i32..=5).into_range(), through(3, 5));
+    expect_range(&rt, "3..", (3i32..).into_range(), from(3));
+    expect_range(&rt, "..5", (..5i32).into_range(), to(Bound::Excluded(5)));
+    expect_range(&rt, "..=5", (..=5i32).into_range(), to(Bound::Included(5)));
+}
+
+#[test]
+fn reads_excluded_starts(rt: HostRuntime) {
+    let (above, below) = (RangeFromExcluded::new(3), RangeFromExcludedTo::new(3, 6));
+    let closed = RangeFromExcludedToIncluded::new(3, 6);
+    expect_answer(&rt, "3 in 3...6", below.contains(&3), false);
+    expect_answer(&rt, "4 in 3...", above.contains(&4), true);
+    expect_answer(&rt, "6 in 3...=6", closed.contains(&6), true);
+    expect_range(&rt, "3...", above.into_range(), (4i32..).into_range());
+    expect_range(&rt, "3...6", below.into_range(), (4i32..=5).into_range());
+    expect_range(&rt, "3...=6", closed.into_range(), (4i32..=6).into_range());
+}
+
+/// Whether a key is read as the range from it to itself.
+fn is_alone<T: IntoRange<Item = T> + Measure + Copy>(key: T) -> bool {
+    key.into_range() == (key..=key).into_range()
+}
+
+#[test]
+fn reads_keys(rt: HostRuntime) {
+    expect_answer(&rt, "u8", is_alone(4u8), true);
+    expect_answer(&rt, "u16", is_alone(4u16), true);
+    expect_answer(&rt, "u32", is_alone(4u32), true);
+    expect_answer(&rt, "u64", is_alone(4u64), true);
+    expect_answer(&rt, "usize", is_alone(4usize), true);
+    expect_answer(&rt, "i8", is_alone(-4i8), true);
+    expect_answer(&rt, "i16", is_alone(-4i16), true);
+    expect_answer(&rt, "i32", is_alone(-4i32), true);
+    expect_answer(&rt, "i64", is_alone(-4i64), true);
+    expect_answer(&rt, "char", is_alone('x'), true);
+    expect_answer(&rt, "4 in 0..5", 4u8.intersects(&(0..5)), true);
+}
+
+/// Whether these are the bounds of a range, as they were given.
+fn has_bounds(range: AnyRange<i32>, first: Bound<i32>, end: Bound<i32>) -> bool {
+    range.into_bounds() == (first, end)
+}
+
+#[test]
+fn converts_ranges(rt: HostRuntime) {
+    let full = AnyRange::new(Bound::Unbounded, Bound::Unbounded);
+    expect_range(&rt, "..", (..).into(), full);
+    expect_range(&rt, "3..5", (3..5).into(), (3..5).into_range());
+    expect_range(&rt, "3..=5", (3..=5).into(), (3..=5).into_range());
+    expect_range(&rt, "3..", (3..).into(), (3..).into_range());
+    expect_range(&rt, "..5", (..5).into(), (..5).into_range());
+    expect_range(&rt, "..=5", (..=5).into(), (..=5).into_range());
+    assert!(rt; has_bounds((3..5).into(), Bound::Included(3), Bound::Excluded(5)));
+}
+
+fn copied() -> Result<AnyRange<i32>, AllocError> {
+    AnyRange::<i32>::from(3..5)
+}
+
+#[test]
+fn copies_ranges(rt: HostRuntime) -> Result<(), Fail> {
+    expect_range(&rt, "a copy of bounds", copied()?, (3..5).into());
+    let given: AnyRange<i32> = (3..5).into();
+    expect_range(&rt, "a clone", given.clone()?, given);
+    Ok(())
+}

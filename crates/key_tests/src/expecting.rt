@@ -1,0 +1,26 @@
+//! What fails a test, with the place of the row.
+
+use range_algebra::any::AnyRange;
+use std::process::Abort;
+
+/// An answer is the one that was told.
+pub fn expect_answer(rt: &impl Abort, place: &str, answer: bool, told: bool) {
+    assert!(rt; answer == told, "{place}");
+}
+
+/// A length is the one that was told.
+pub fn expect_length(rt: &impl Abort, place: &str, length: u128, told: u128) {
+    assert!(rt; length == told, "{place} has {length}");
+}
+
+/// A range is the one that was told.
+pub fn expect_range(rt: &impl Abort, place: &str, range: AnyRange<i32>, told: AnyRange<i32>) {
+    assert!(rt; range == told, "{place} is {range:?}");
+}
+
+/// No call was named as a wrong one.
+pub fn expect_none(rt: &impl Abort, place: &str, wrong: Option<&str>) {
+    if let Some(call) = wrong {
+        assert!(rt; false, "{call} of {place}");
+    }
+}
