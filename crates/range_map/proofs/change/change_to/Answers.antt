@@ -1,3 +1,4 @@
+use Rattle.std.proofs.lemmas.Grind.{common_steps}
 use Rattle.std.proofs.Common.{◌≡◌, ◌+◌, ◌++◌, length, take, drop, ap, sym, ◌∙◌, arith, append_assoc}
 use Rattle.range_store.specs.Places.{place_before}
 use Rattle.range_map.specs.Edges.{joined_count}
@@ -34,3 +35,21 @@ returns g c = λ at end before behind start finish left_shape right_shape le.
     let put_is : put ≡ own = c.end_at.ensures ∙ (ap (λ o. with_last_end o c.start_at.new.items.items) both.same_end ∙ ap (with_last_end finish) (c.start_at.ensures ∙ ap (λ o. with_first_start o c.args.items.items) opened.same_start)) in
     let done = rw here at c.replace_run_by.ensures in
     done ∙ (ap (λ ys. ys ++ put ++ drop upto (storage.items second)) front ∙ (ap (λ ys. (take at items ++ option_items before) ++ ys ++ drop upto (storage.items second)) put_is ∙ (ap (λ ys. (take at items ++ option_items before ++ own) ++ ys) both.behind ∙ sym (append_assoc (take at items ++ option_items before ++ own) (option_items behind) (drop end items)))))
+
+pub end_at-requires : goal.end_at-requires
+end_at-requires g c = grind (arith, common_steps)
+
+pub open_left-start-requires : goal.open_left-start-requires
+open_left-start-requires g c = grind (arith, common_steps)
+
+pub open_right-end-requires : goal.open_right-end-requires
+open_right-end-requires g c = grind (arith, common_steps)
+
+pub replace_run_by-requires-clause-good : goal.replace_run_by-requires-clause-good
+replace_run_by-requires-clause-good g c = grind (arith, common_steps)
+
+pub replace_run_by-requires-clause-in_range : goal.replace_run_by-requires-clause-in_range
+replace_run_by-requires-clause-in_range g c = grind (arith, common_steps)
+
+pub start_at-requires : goal.start_at-requires
+start_at-requires g c = grind (arith, common_steps)

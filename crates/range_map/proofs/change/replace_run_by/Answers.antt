@@ -1,3 +1,4 @@
+use Rattle.std.proofs.lemmas.Grind.{common_steps}
 use Rattle.std.proofs.Common.{◌≡◌, ◌+◌, ◌-◌, ◌∷◌, ◌++◌, [], length, take, ap, sym, ◌∙◌, arith, length-append, append_assoc}
 use Rattle.std.proofs.lemmas.List.{append-nil}
 use Rattle.range_algebra.proofs.Lists.{parts}
@@ -56,3 +57,21 @@ returns g c =
     let none : length rest.items ≡ 0 = omega (arith, rest.ok.0, c.in-None.ensures.steps.0) in
     let all = ended done rest.items c.args.items.items was.parted none in
     rw (← all) (put_all before (storage.items now) (storage.items c.remove_rest.new.stored) done place c.args.run.left c.loop-item.cursor.left was.changed was.fewer c.requires.in_range (rw here at c.remove_rest.ensures.list))
+
+pub loop-item-smaller : goal.loop-item-smaller
+loop-item-smaller g c = grind (arith, common_steps)
+
+pub put-cursor-requires-clause-good : goal.put-cursor-requires-clause-good
+put-cursor-requires-clause-good g c = grind (arith, common_steps)
+
+pub put-cursor-requires-clause-in_range : goal.put-cursor-requires-clause-in_range
+put-cursor-requires-clause-in_range g c = grind (arith, common_steps)
+
+pub put-cursor-requires-clause-space : goal.put-cursor-requires-clause-space
+put-cursor-requires-clause-space g c = grind (arith, common_steps)
+
+pub remove_rest-requires-clause-good : goal.remove_rest-requires-clause-good
+remove_rest-requires-clause-good g c = grind (arith, common_steps)
+
+pub remove_rest-requires-clause-in_range : goal.remove_rest-requires-clause-in_range
+remove_rest-requires-clause-in_range g c = grind (arith, common_steps)

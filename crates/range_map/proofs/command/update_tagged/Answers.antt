@@ -1,4 +1,5 @@
-use Rattle.std.proofs.Common.{rules, subst}
+use Rattle.std.proofs.lemmas.Grind.{common_steps}
+use Rattle.std.proofs.Common.{rules, subst, arith}
 use Rattle.range_map.specs.Tagged.{MayAnswerTo}
 use Rattle.range_map.proofs.Asked.{answered_as, fails_as}
 use Rattle.range_map.proofs.command.update_tagged.Goals as goal
@@ -21,3 +22,15 @@ returns g c =
       λ empty. let ok = refused.empty empty in cc,
       refused.refused,
     )
+
+pub returns-in-Err-Memory : goal.returns-in-Err-Memory
+returns-in-Err-Memory g c = grind (arith, common_steps)
+
+pub update-requires-clause-free : goal.update-requires-clause-free
+update-requires-clause-free g c = grind (arith, common_steps)
+
+pub update-requires-clause-keys : goal.update-requires-clause-keys
+update-requires-clause-keys g c = grind (arith, common_steps)
+
+pub update-requires-clause-values : goal.update-requires-clause-values
+update-requires-clause-values g c = grind (arith, common_steps)

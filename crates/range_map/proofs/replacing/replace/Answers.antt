@@ -1,3 +1,4 @@
+use Rattle.std.proofs.lemmas.Grind.{common_steps}
 use Rattle.std.proofs.Common.{◌≡◌, ◌+◌, ◌-◌, length, ap, sym, ◌∙◌, arith, subst}
 use Rattle.std.specs.Option.{option_or}
 use Rattle.std.specs.Prelude.{slice_get, option_copied}
@@ -8,12 +9,15 @@ use Rattle.range_map.specs.Edits.{turned_bound}
 use Rattle.range_map.specs.Seams.{seam_edge}
 use Rattle.range_map.proofs.Framing.{all_meet}
 use Rattle.range_map.proofs.Openings.{left_kept, right_kept, left_good, right_good}
-use Rattle.range_map.proofs.Replaced.{planned, replaced}
+use Rattle.range_map.proofs.Replaced.{IsReplacement, planned, replaced}
 use Rattle.range_map.proofs.Seaming.{seam_count}
+use Rattle.range_map.proofs.replacing.replace.Given.{Over}
+use Rattle.range_map.proofs.replacing.replace.Goals.{After-item_count-3}
 use Rattle.range_map.proofs.replacing.replace.Goals as goal
 
-pub overflow_add-count : goal.overflow_add-count
-overflow_add-count g c =
+-- how the run is divided between the items that join and those that are cut
+plan : (g : Over) (c : After-item_count-3 g) → IsReplacement g.K.MaybeBounded.order g.met.K.PartialEnum.lawful g.V.PartialEq.eq g.met.V.Eq.laws (g.C.Storage.is_good c.args.stored.now) (g.C.Storage.rank c.args.stored.now) (g.C.Storage.items c.args.stored.now) c.args.range (place_before (g.C.Storage.rank c.args.stored.now) (length (g.C.Storage.items c.args.stored.now)) c.args.window.now.from) c.args.window.now.count c.args.middle.items c.args.first c.args.last c.joined_left-before.result c.joined_right-behind.result c.run_start-from.result
+plan g c =
     let order = g.K.MaybeBounded.order in
     let lawful = g.met.K.PartialEnum.lawful in
     let equal_values = g.V.PartialEq.eq in
@@ -32,53 +36,29 @@ overflow_add-count g c =
     let from = c.run_start-from.result in
     let is_first = c.first.ensures.value ∙ ap (λ xs. slice_get xs 0) c.deref.ensures.value in
     let is_last = c.last.ensures.value ∙ ap (λ xs. slice_get xs (length xs - 1)) c.deref-2.ensures.value in
-    let plan = planned order lawful equal_values equal (storage.is_good stored) (storage.rank stored) items r place w.count middle first last joined other from (option_copied c.first.result) (option_copied c.last.result) c.requires.stored c.requires.middle c.requires.within c.known.ensures c.requires.nonempty c.requires.window.in_range c.requires.apart is_first is_last c.run_start-from.ensures (c.joined_left-before.ensures lawful equal) (c.joined_right-behind.ensures lawful equal) in
+    planned order lawful equal_values equal (storage.is_good stored) (storage.rank stored) items r place w.count middle first last joined other from (option_copied c.first.result) (option_copied c.last.result) c.requires.stored c.requires.middle c.requires.within c.known.ensures c.requires.nonempty c.requires.window.in_range c.requires.apart is_first is_last c.run_start-from.ensures (c.joined_left-before.ensures lawful equal) (c.joined_right-behind.ensures lawful equal)
+
+pub overflow_add-count : goal.overflow_add-count
+overflow_add-count g c =
+    let stored = c.args.stored.now in
+    let plan = plan g (goal.at.overflow_add-count g c).After-item_count-3 in
     omega (arith, plan.upto, plan.within, g.met.C.Storage.length_fits stored, c.item_count.ensures, c.item_count-2.ensures, c.item_count-3.ensures)
 
 pub overflow_add-count-2 : goal.overflow_add-count-2
 overflow_add-count-2 g c =
-    let order = g.K.MaybeBounded.order in
-    let lawful = g.met.K.PartialEnum.lawful in
-    let equal_values = g.V.PartialEq.eq in
-    let equal = g.met.V.Eq.laws in
-    let storage = g.C.Storage in
     let stored = c.args.stored.now in
-    let items = storage.items stored in
-    let r = c.args.range in
-    let w = c.args.window.now in
-    let place = place_before (storage.rank stored) (length items) w.from in
-    let middle = c.args.middle.items in
-    let first = c.args.first in
-    let last = c.args.last in
-    let joined = c.joined_left-before.result in
-    let other = c.joined_right-behind.result in
-    let from = c.run_start-from.result in
-    let is_first = c.first.ensures.value ∙ ap (λ xs. slice_get xs 0) c.deref.ensures.value in
-    let is_last = c.last.ensures.value ∙ ap (λ xs. slice_get xs (length xs - 1)) c.deref-2.ensures.value in
-    let plan = planned order lawful equal_values equal (storage.is_good stored) (storage.rank stored) items r place w.count middle first last joined other from (option_copied c.first.result) (option_copied c.last.result) c.requires.stored c.requires.middle c.requires.within c.known.ensures c.requires.nonempty c.requires.window.in_range c.requires.apart is_first is_last c.run_start-from.ensures (c.joined_left-before.ensures lawful equal) (c.joined_right-behind.ensures lawful equal) in
+    let plan = plan g (goal.at.overflow_add-count-2 g c).After-item_count-3 in
     omega (arith, plan.upto, plan.within, g.met.C.Storage.length_fits stored, c.item_count.ensures, c.item_count-2.ensures, c.item_count-3.ensures, c.item_count-4.ensures)
 
 pub change_to-requires-clause-left : goal.change_to-requires-clause-left
 change_to-requires-clause-left g c =
-    let order = g.K.MaybeBounded.order in
-    let lawful = g.met.K.PartialEnum.lawful in
-    let equal_values = g.V.PartialEq.eq in
-    let equal = g.met.V.Eq.laws in
     let storage = g.C.Storage in
     let stored = c.args.stored.now in
     let items = storage.items stored in
     let r = c.args.range in
-    let w = c.args.window.now in
-    let place = place_before (storage.rank stored) (length items) w.from in
-    let middle = c.args.middle.items in
     let first = c.args.first in
-    let last = c.args.last in
     let joined = c.joined_left-before.result in
-    let other = c.joined_right-behind.result in
-    let from = c.run_start-from.result in
-    let is_first = c.first.ensures.value ∙ ap (λ xs. slice_get xs 0) c.deref.ensures.value in
-    let is_last = c.last.ensures.value ∙ ap (λ xs. slice_get xs (length xs - 1)) c.deref-2.ensures.value in
-    let plan = planned order lawful equal_values equal (storage.is_good stored) (storage.rank stored) items r place w.count middle first last joined other from (option_copied c.first.result) (option_copied c.last.result) c.requires.stored c.requires.middle c.requires.within c.known.ensures c.requires.nonempty c.requires.window.in_range c.requires.apart is_first is_last c.run_start-from.ensures (c.joined_left-before.ensures lawful equal) (c.joined_right-behind.ensures lawful equal) in
+    let plan = plan g (goal.at.change_to-requires-clause-left g c).After-item_count-3 in
     let left = plan.left in
     let ready = c.reserve.new.self in
     let same = c.reserve.ensures.list in
@@ -89,25 +69,13 @@ change_to-requires-clause-left g c =
 
 pub change_to-requires-clause-right : goal.change_to-requires-clause-right
 change_to-requires-clause-right g c =
-    let order = g.K.MaybeBounded.order in
-    let lawful = g.met.K.PartialEnum.lawful in
-    let equal_values = g.V.PartialEq.eq in
-    let equal = g.met.V.Eq.laws in
     let storage = g.C.Storage in
     let stored = c.args.stored.now in
     let items = storage.items stored in
     let r = c.args.range in
-    let w = c.args.window.now in
-    let place = place_before (storage.rank stored) (length items) w.from in
-    let middle = c.args.middle.items in
-    let first = c.args.first in
     let last = c.args.last in
-    let joined = c.joined_left-before.result in
     let other = c.joined_right-behind.result in
-    let from = c.run_start-from.result in
-    let is_first = c.first.ensures.value ∙ ap (λ xs. slice_get xs 0) c.deref.ensures.value in
-    let is_last = c.last.ensures.value ∙ ap (λ xs. slice_get xs (length xs - 1)) c.deref-2.ensures.value in
-    let plan = planned order lawful equal_values equal (storage.is_good stored) (storage.rank stored) items r place w.count middle first last joined other from (option_copied c.first.result) (option_copied c.last.result) c.requires.stored c.requires.middle c.requires.within c.known.ensures c.requires.nonempty c.requires.window.in_range c.requires.apart is_first is_last c.run_start-from.ensures (c.joined_left-before.ensures lawful equal) (c.joined_right-behind.ensures lawful equal) in
+    let plan = plan g (goal.at.change_to-requires-clause-right g c).After-item_count-3 in
     let right = plan.right in
     let ready = c.reserve.new.self in
     let same = c.reserve.ensures.list in
@@ -118,25 +86,12 @@ change_to-requires-clause-right g c =
 
 pub change_to-requires-clause-good : goal.change_to-requires-clause-good
 change_to-requires-clause-good g c =
-    let order = g.K.MaybeBounded.order in
-    let lawful = g.met.K.PartialEnum.lawful in
-    let equal_values = g.V.PartialEq.eq in
-    let equal = g.met.V.Eq.laws in
     let storage = g.C.Storage in
     let stored = c.args.stored.now in
     let items = storage.items stored in
-    let r = c.args.range in
-    let w = c.args.window.now in
-    let place = place_before (storage.rank stored) (length items) w.from in
-    let middle = c.args.middle.items in
-    let first = c.args.first in
-    let last = c.args.last in
     let joined = c.joined_left-before.result in
-    let other = c.joined_right-behind.result in
     let from = c.run_start-from.result in
-    let is_first = c.first.ensures.value ∙ ap (λ xs. slice_get xs 0) c.deref.ensures.value in
-    let is_last = c.last.ensures.value ∙ ap (λ xs. slice_get xs (length xs - 1)) c.deref-2.ensures.value in
-    let plan = planned order lawful equal_values equal (storage.is_good stored) (storage.rank stored) items r place w.count middle first last joined other from (option_copied c.first.result) (option_copied c.last.result) c.requires.stored c.requires.middle c.requires.within c.known.ensures c.requires.nonempty c.requires.window.in_range c.requires.apart is_first is_last c.run_start-from.ensures (c.joined_left-before.ensures lawful equal) (c.joined_right-behind.ensures lawful equal) in
+    let plan = plan g (goal.at.change_to-requires-clause-good g c).After-item_count-3 in
     let left = plan.left in
     let ready = c.reserve.new.self in
     let kept = c.reserve.ensures.positions in
@@ -145,25 +100,13 @@ change_to-requires-clause-good g c =
 
 pub change_to-requires-clause-in_range : goal.change_to-requires-clause-in_range
 change_to-requires-clause-in_range g c =
-    let order = g.K.MaybeBounded.order in
-    let lawful = g.met.K.PartialEnum.lawful in
-    let equal_values = g.V.PartialEq.eq in
-    let equal = g.met.V.Eq.laws in
     let storage = g.C.Storage in
     let stored = c.args.stored.now in
     let items = storage.items stored in
-    let r = c.args.range in
     let w = c.args.window.now in
-    let place = place_before (storage.rank stored) (length items) w.from in
-    let middle = c.args.middle.items in
-    let first = c.args.first in
-    let last = c.args.last in
     let joined = c.joined_left-before.result in
-    let other = c.joined_right-behind.result in
     let from = c.run_start-from.result in
-    let is_first = c.first.ensures.value ∙ ap (λ xs. slice_get xs 0) c.deref.ensures.value in
-    let is_last = c.last.ensures.value ∙ ap (λ xs. slice_get xs (length xs - 1)) c.deref-2.ensures.value in
-    let plan = planned order lawful equal_values equal (storage.is_good stored) (storage.rank stored) items r place w.count middle first last joined other from (option_copied c.first.result) (option_copied c.last.result) c.requires.stored c.requires.middle c.requires.within c.known.ensures c.requires.nonempty c.requires.window.in_range c.requires.apart is_first is_last c.run_start-from.ensures (c.joined_left-before.ensures lawful equal) (c.joined_right-behind.ensures lawful equal) in
+    let plan = plan g (goal.at.change_to-requires-clause-in_range g c).After-item_count-3 in
     let left = plan.left in
     let right = plan.right in
     let ready = c.reserve.new.self in
@@ -194,9 +137,7 @@ returns-clause-ok g c =
     let joined = c.joined_left-before.result in
     let other = c.joined_right-behind.result in
     let from = c.run_start-from.result in
-    let is_first = c.first.ensures.value ∙ ap (λ xs. slice_get xs 0) c.deref.ensures.value in
-    let is_last = c.last.ensures.value ∙ ap (λ xs. slice_get xs (length xs - 1)) c.deref-2.ensures.value in
-    let plan = planned order lawful equal_values equal (storage.is_good stored) (storage.rank stored) items r place w.count middle first last joined other from (option_copied c.first.result) (option_copied c.last.result) c.requires.stored c.requires.middle c.requires.within c.known.ensures c.requires.nonempty c.requires.window.in_range c.requires.apart is_first is_last c.run_start-from.ensures (c.joined_left-before.ensures lawful equal) (c.joined_right-behind.ensures lawful equal) in
+    let plan = plan g (goal.at.returns-clause-ok g c).After-item_count-3 in
     let left = plan.left in
     let right = plan.right in
     let ready = c.reserve.new.self in
@@ -219,3 +160,24 @@ returns-clause-ok g c =
     let done = c.change_to.ensures left.at right.end left.rest right.rest left.start right.finish on_left on_right (omega (arith, joins, joins_behind, c.item_count-3.ensures, c.item_count-4.ensures)) in
     let met = all_meet order lawful equal_values equal (storage.is_good stored) (storage.rank stored) items r w place c.requires.stored c.known.ensures c.requires.window in
     replaced order lawful equal_values equal (storage.is_good stored) (storage.rank stored) items r place w.count (storage.items c.change_to.new.stored) middle first last edge edge_behind (option_or joined from) c.requires.stored c.requires.middle c.known.ensures met left right (rw same at done)
+
+pub change_to-requires-clause-space : goal.change_to-requires-clause-space
+change_to-requires-clause-space g c = grind (arith, common_steps)
+
+pub joined_left-before-requires-clause-within : goal.joined_left-before-requires-clause-within
+joined_left-before-requires-clause-within g c = grind (arith, common_steps)
+
+pub joined_right-behind-requires-clause-within : goal.joined_right-behind-requires-clause-within
+joined_right-behind-requires-clause-within g c = grind (arith, common_steps)
+
+pub overflow_add-inner : goal.overflow_add-inner
+overflow_add-inner g c = grind (arith, common_steps)
+
+pub overflow_sub-inner : goal.overflow_sub-inner
+overflow_sub-inner g c = grind (arith, common_steps)
+
+pub returns-clause-refused : goal.returns-clause-refused
+returns-clause-refused g c = grind (arith, common_steps)
+
+pub run_start-from-requires-clause-from : goal.run_start-from-requires-clause-from
+run_start-from-requires-clause-from g c = grind (arith, common_steps)

@@ -1,3 +1,4 @@
+use Rattle.std.proofs.lemmas.Grind.{common_steps}
 use Rattle.std.proofs.Common.{rules, ◌≡◌, ◌+◌, ◌-◌, ◌<◌, length, get_or, take, drop, arith, ap, ◌∙◌, Some, None, Ok, Err}
 use Rattle.range_store.specs.Places.{place_before}
 use Rattle.range_map.specs.Answers.{MayAnswer}
@@ -89,3 +90,54 @@ returns-in-Err-clause-closure g c =
     λ e failed.
     let says : MayAnswer g.F.Fn c.args.f.now (Some x.value) (Err e) = search rules in
     record { piece = r; value = Some x.value; is_piece = whole_piece order lawful same equal items r c.known.ensures full chain some (take place items) (drop (place + 1) items) x list known_x (first.3 x here) (last.3 x here_end); says = says }
+
+pub returns-in-Err-clause-form : goal.returns-in-Err-clause-form
+returns-in-Err-clause-form g c = grind (arith, common_steps)
+
+pub returns-in-Err-clause-ok : goal.returns-in-Err-clause-ok
+returns-in-Err-clause-ok g c = grind (arith, common_steps)
+
+pub returns-in-Err-clause-refused : goal.returns-in-Err-clause-refused
+returns-in-Err-clause-refused g c = grind (arith, common_steps)
+
+pub returns-in_err-bind_within-in-Ok-Some-clause-closure : goal.returns-in_err-bind_within-in-Ok-Some-clause-closure
+returns-in_err-bind_within-in-Ok-Some-clause-closure g c = grind (arith, common_steps)
+
+pub returns-in_err-bind_within-in-Ok-Some-clause-form : goal.returns-in_err-bind_within-in-Ok-Some-clause-form
+returns-in_err-bind_within-in-Ok-Some-clause-form g c = grind (arith, common_steps)
+
+pub returns-in_err-bind_within-in-Ok-Some-clause-ok : goal.returns-in_err-bind_within-in-Ok-Some-clause-ok
+returns-in_err-bind_within-in-Ok-Some-clause-ok g c = grind (arith, common_steps)
+
+pub returns-in_err-bind_within-in-Ok-Some-clause-refused : goal.returns-in_err-bind_within-in-Ok-Some-clause-refused
+returns-in_err-bind_within-in-Ok-Some-clause-refused g c = grind (arith, common_steps)
+
+pub returns-in_err-unbind_within-in-Ok-None-clause-closure : goal.returns-in_err-unbind_within-in-Ok-None-clause-closure
+returns-in_err-unbind_within-in-Ok-None-clause-closure g c = grind (arith, common_steps)
+
+pub returns-in_err-unbind_within-in-Ok-None-clause-form : goal.returns-in_err-unbind_within-in-Ok-None-clause-form
+returns-in_err-unbind_within-in-Ok-None-clause-form g c = grind (arith, common_steps)
+
+pub returns-in_err-unbind_within-in-Ok-None-clause-ok : goal.returns-in_err-unbind_within-in-Ok-None-clause-ok
+returns-in_err-unbind_within-in-Ok-None-clause-ok g c = grind (arith, common_steps)
+
+pub returns-in_err-unbind_within-in-Ok-None-clause-refused : goal.returns-in_err-unbind_within-in-Ok-None-clause-refused
+returns-in_err-unbind_within-in-Ok-None-clause-refused g c = grind (arith, common_steps)
+
+pub returns-in_ok-bind_within-in-Ok-Some-clause-closure : goal.returns-in_ok-bind_within-in-Ok-Some-clause-closure
+returns-in_ok-bind_within-in-Ok-Some-clause-closure g c = grind (arith, common_steps)
+
+pub returns-in_ok-bind_within-in-Ok-Some-clause-form : goal.returns-in_ok-bind_within-in-Ok-Some-clause-form
+returns-in_ok-bind_within-in-Ok-Some-clause-form g c = grind (arith, common_steps)
+
+pub returns-in_ok-bind_within-in-Ok-Some-clause-refused : goal.returns-in_ok-bind_within-in-Ok-Some-clause-refused
+returns-in_ok-bind_within-in-Ok-Some-clause-refused g c = grind (arith, common_steps)
+
+pub returns-in_ok-unbind_within-in-Ok-None-clause-closure : goal.returns-in_ok-unbind_within-in-Ok-None-clause-closure
+returns-in_ok-unbind_within-in-Ok-None-clause-closure g c = grind (arith, common_steps)
+
+pub returns-in_ok-unbind_within-in-Ok-None-clause-form : goal.returns-in_ok-unbind_within-in-Ok-None-clause-form
+returns-in_ok-unbind_within-in-Ok-None-clause-form g c = grind (arith, common_steps)
+
+pub returns-in_ok-unbind_within-in-Ok-None-clause-refused : goal.returns-in_ok-unbind_within-in-Ok-None-clause-refused
+returns-in_ok-unbind_within-in-Ok-None-clause-refused g c = grind (arith, common_steps)

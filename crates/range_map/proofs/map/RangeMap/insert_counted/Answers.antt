@@ -1,4 +1,5 @@
-use Rattle.std.proofs.Common.{subst, rules}
+use Rattle.std.proofs.lemmas.Grind.{common_steps}
+use Rattle.std.proofs.Common.{subst, rules, arith}
 use Rattle.range_map.specs.Lookups.{MeetAlso}
 use Rattle.range_map.proofs.StoredLists.{stored_coarse, stored_only}
 use Rattle.range_map.proofs.map.RangeMap.insert_counted.Goals as goal
@@ -32,3 +33,66 @@ returns-clause-coarse g c = λ complete. stored_coarse g.K.MaybeBounded.order g.
 
 pub returns-clause-only : goal.returns-clause-only
 returns-clause-only g c = λ complete. stored_only g.K.MaybeBounded.order g.met.K.PartialEnum.lawful g.V.PartialEq.eq g.met.V.Eq.laws complete (g.C.Storage.items c.bind.new.stored) (returns-clause-form g c)
+
+pub returns-clause-bound : goal.returns-clause-bound
+returns-clause-bound g c = grind (arith, common_steps)
+
+pub returns-clause-empty : goal.returns-clause-empty
+returns-clause-empty g c = grind (arith, common_steps)
+
+pub returns-clause-empty_unchanged : goal.returns-clause-empty_unchanged
+returns-clause-empty_unchanged g c = grind (arith, common_steps)
+
+pub returns-clause-few : goal.returns-clause-few
+returns-clause-few g c = grind (arith, common_steps)
+
+pub returns-clause-frame : goal.returns-clause-frame
+returns-clause-frame g c = grind (arith, common_steps)
+
+pub returns-clause-refused : goal.returns-clause-refused
+returns-clause-refused g c = grind (arith, common_steps)
+
+pub returns-in_err-bind-clause-bound : goal.returns-in_err-bind-clause-bound
+returns-in_err-bind-clause-bound g c = grind (arith, common_steps)
+
+pub returns-in_err-bind-clause-empty : goal.returns-in_err-bind-clause-empty
+returns-in_err-bind-clause-empty g c = grind (arith, common_steps)
+
+pub returns-in_err-bind-clause-empty_unchanged : goal.returns-in_err-bind-clause-empty_unchanged
+returns-in_err-bind-clause-empty_unchanged g c = grind (arith, common_steps)
+
+pub returns-in_err-bind-clause-few : goal.returns-in_err-bind-clause-few
+returns-in_err-bind-clause-few g c = grind (arith, common_steps)
+
+pub returns-in_err-bind-clause-frame : goal.returns-in_err-bind-clause-frame
+returns-in_err-bind-clause-frame g c = grind (arith, common_steps)
+
+pub returns-in_err-bind-clause-meets : goal.returns-in_err-bind-clause-meets
+returns-in_err-bind-clause-meets g c = grind (arith, common_steps)
+
+pub returns-in_err-bind-clause-refused : goal.returns-in_err-bind-clause-refused
+returns-in_err-bind-clause-refused g c = grind (arith, common_steps)
+
+pub returns-then-is_empty-clause-bound : goal.returns-then-is_empty-clause-bound
+returns-then-is_empty-clause-bound g c = grind (arith, common_steps)
+
+pub returns-then-is_empty-clause-empty : goal.returns-then-is_empty-clause-empty
+returns-then-is_empty-clause-empty g c = grind (arith, common_steps)
+
+pub returns-then-is_empty-clause-empty_unchanged : goal.returns-then-is_empty-clause-empty_unchanged
+returns-then-is_empty-clause-empty_unchanged g c = grind (arith, common_steps)
+
+pub returns-then-is_empty-clause-few : goal.returns-then-is_empty-clause-few
+returns-then-is_empty-clause-few g c = grind (arith, common_steps)
+
+pub returns-then-is_empty-clause-form : goal.returns-then-is_empty-clause-form
+returns-then-is_empty-clause-form g c = grind (arith, common_steps)
+
+pub returns-then-is_empty-clause-frame : goal.returns-then-is_empty-clause-frame
+returns-then-is_empty-clause-frame g c = grind (arith, common_steps)
+
+pub returns-then-is_empty-clause-meets : goal.returns-then-is_empty-clause-meets
+returns-then-is_empty-clause-meets g c = grind (arith, common_steps)
+
+pub returns-then-is_empty-clause-refused : goal.returns-then-is_empty-clause-refused
+returns-then-is_empty-clause-refused g c = grind (arith, common_steps)

@@ -1,3 +1,4 @@
+use Rattle.std.proofs.lemmas.Grind.{common_steps}
 use Rattle.std.proofs.Common.{OnOk, OnErr, Ok, Err, Result, List, ◌≡◌, ◌+◌, ◌≤◌, length, ap, arith, subst}
 use Rattle.std.proofs.lemmas.List.Edits.{length-insert}
 use Rattle.range_algebra.specs.Range.{IsEmptyRange}
@@ -36,3 +37,63 @@ pub returns-clause-few : goal.returns-clause-few
 returns-clause-few g c =
     rw (← c.self.view_is)
     (put_few c.bind_apart.result (g.C.Storage.items c.self.inside.stored) (g.C.Storage.items c.bind_apart.new.stored) _ c.bind_apart.ensures.put c.bind_apart.ensures.refused)
+
+pub bind_apart-requires-clause-nonempty : goal.bind_apart-requires-clause-nonempty
+bind_apart-requires-clause-nonempty g c = grind (arith, common_steps)
+
+pub bind_apart-requires-clause-stored : goal.bind_apart-requires-clause-stored
+bind_apart-requires-clause-stored g c = grind (arith, common_steps)
+
+pub returns-clause-bound : goal.returns-clause-bound
+returns-clause-bound g c = grind (arith, common_steps)
+
+pub returns-clause-connected : goal.returns-clause-connected
+returns-clause-connected g c = grind (arith, common_steps)
+
+pub returns-clause-empty : goal.returns-clause-empty
+returns-clause-empty g c = grind (arith, common_steps)
+
+pub returns-clause-empty_unchanged : goal.returns-clause-empty_unchanged
+returns-clause-empty_unchanged g c = grind (arith, common_steps)
+
+pub returns-clause-form : goal.returns-clause-form
+returns-clause-form g c = grind (arith, common_steps)
+
+pub returns-clause-given : goal.returns-clause-given
+returns-clause-given g c = grind (arith, common_steps)
+
+pub returns-clause-put : goal.returns-clause-put
+returns-clause-put g c = grind (arith, common_steps)
+
+pub returns-clause-refused : goal.returns-clause-refused
+returns-clause-refused g c = grind (arith, common_steps)
+
+pub returns-then-is_empty-clause-bound : goal.returns-then-is_empty-clause-bound
+returns-then-is_empty-clause-bound g c = grind (arith, common_steps)
+
+pub returns-then-is_empty-clause-connected : goal.returns-then-is_empty-clause-connected
+returns-then-is_empty-clause-connected g c = grind (arith, common_steps)
+
+pub returns-then-is_empty-clause-empty : goal.returns-then-is_empty-clause-empty
+returns-then-is_empty-clause-empty g c = grind (arith, common_steps)
+
+pub returns-then-is_empty-clause-empty_unchanged : goal.returns-then-is_empty-clause-empty_unchanged
+returns-then-is_empty-clause-empty_unchanged g c = grind (arith, common_steps)
+
+pub returns-then-is_empty-clause-few : goal.returns-then-is_empty-clause-few
+returns-then-is_empty-clause-few g c = grind (arith, common_steps)
+
+pub returns-then-is_empty-clause-form : goal.returns-then-is_empty-clause-form
+returns-then-is_empty-clause-form g c = grind (arith, common_steps)
+
+pub returns-then-is_empty-clause-given : goal.returns-then-is_empty-clause-given
+returns-then-is_empty-clause-given g c = grind (arith, common_steps)
+
+pub returns-then-is_empty-clause-meets : goal.returns-then-is_empty-clause-meets
+returns-then-is_empty-clause-meets g c = grind (arith, common_steps)
+
+pub returns-then-is_empty-clause-put : goal.returns-then-is_empty-clause-put
+returns-then-is_empty-clause-put g c = grind (arith, common_steps)
+
+pub returns-then-is_empty-clause-refused : goal.returns-then-is_empty-clause-refused
+returns-then-is_empty-clause-refused g c = grind (arith, common_steps)

@@ -1,4 +1,5 @@
-use Rattle.std.proofs.Common.{sym, ◌∙◌, rules}
+use Rattle.std.proofs.lemmas.Grind.{common_steps}
+use Rattle.std.proofs.Common.{sym, ◌∙◌, rules, arith}
 use Rattle.std.specs.Cmp.{Equal-is}
 use Rattle.range_algebra.specs.Clones.{bound_clone}
 use Rattle.range_algebra.specs.Range.{IsEmptyRange}
@@ -11,9 +12,17 @@ use Rattle.range_map.proofs.map.RangeMap.update.Goals as goal
 
 pub update_pieces-requires-clause-nonempty : goal.update_pieces-requires-clause-nonempty
 update_pieces-requires-clause-nonempty g c =
+    let order = g.K.MaybeBounded.order in
+    let lawful = g.met.K.PartialEnum.lawful in
     let equal_keys = λ (a : g.row.K.Denot) (b : g.row.K.Denot) (h : g.K.Clone.is_clone a b).
     sym (g.met.K.MaybeBounded.order_is_cmp a b) ∙ (Equal-is (g.K.Ord.cmp a b)).0 (sym (g.met.K.Ord.matches_eq a b) ∙ c.requires.keys a b h) in
+    let r = g.R.AsRange.range c.args.range in
+    let s : AnyRange g.row.K.Denot = record { start = c.in_ok-start.start; end = c.in_ok-end.end } in
+    let start = bound_clone order lawful g.K.Clone.is_clone equal_keys r.start s.start (rw c.start.ensures at c.in_ok-start.ensures) in
+    let end = bound_clone order lawful g.K.Clone.is_clone equal_keys r.end s.end (rw c.end.ensures at c.in_ok-end.ensures) in
     λ empty.
+    let told = c.is_empty.ensures.by_position.1 (clone_empty order lawful r s start end empty) in
+    let not = c.if-is_empty.false in
     cc
 
 pub update_pieces-requires-clause-bound : goal.update_pieces-requires-clause-bound
@@ -46,6 +55,7 @@ returns-clause-closure g c =
     let start = bound_clone order lawful g.K.Clone.is_clone equal_keys r.start s.start (rw c.start.ensures at c.in_ok-start.ensures) in
     let end = bound_clone order lawful g.K.Clone.is_clone equal_keys r.end s.end (rw c.end.ensures at c.in_ok-end.ensures) in
     let items = g.C.Storage.items c.self.inside.stored in
+    let new = g.C.Storage.items c.update_pieces.new.stored in
     let same = g.V.PartialEq.eq in
     λ e failed. rw (← c.self.view_is) (fails_too order lawful r s start end same g.F.Fn c.args.f items e (c.update_pieces.ensures.closure e failed))
 
@@ -75,3 +85,66 @@ returns-clause-coarse g c = λ complete. stored_coarse g.K.MaybeBounded.order g.
 
 pub returns-clause-only : goal.returns-clause-only
 returns-clause-only g c = λ complete. stored_only g.K.MaybeBounded.order g.met.K.PartialEnum.lawful g.V.PartialEq.eq g.met.V.Eq.laws complete (g.C.Storage.items c.update_pieces.new.stored) (returns-clause-form g c)
+
+pub returns-clause-empty : goal.returns-clause-empty
+returns-clause-empty g c = grind (arith, common_steps)
+
+pub returns-clause-empty_unchanged : goal.returns-clause-empty_unchanged
+returns-clause-empty_unchanged g c = grind (arith, common_steps)
+
+pub returns-clause-refused : goal.returns-clause-refused
+returns-clause-refused g c = grind (arith, common_steps)
+
+pub returns-in_err-end-clause-closure : goal.returns-in_err-end-clause-closure
+returns-in_err-end-clause-closure g c = grind (arith, common_steps)
+
+pub returns-in_err-end-clause-empty : goal.returns-in_err-end-clause-empty
+returns-in_err-end-clause-empty g c = grind (arith, common_steps)
+
+pub returns-in_err-end-clause-empty_unchanged : goal.returns-in_err-end-clause-empty_unchanged
+returns-in_err-end-clause-empty_unchanged g c = grind (arith, common_steps)
+
+pub returns-in_err-end-clause-form : goal.returns-in_err-end-clause-form
+returns-in_err-end-clause-form g c = grind (arith, common_steps)
+
+pub returns-in_err-end-clause-refused : goal.returns-in_err-end-clause-refused
+returns-in_err-end-clause-refused g c = grind (arith, common_steps)
+
+pub returns-in_err-end-clause-updated : goal.returns-in_err-end-clause-updated
+returns-in_err-end-clause-updated g c = grind (arith, common_steps)
+
+pub returns-in_err-start-clause-closure : goal.returns-in_err-start-clause-closure
+returns-in_err-start-clause-closure g c = grind (arith, common_steps)
+
+pub returns-in_err-start-clause-empty : goal.returns-in_err-start-clause-empty
+returns-in_err-start-clause-empty g c = grind (arith, common_steps)
+
+pub returns-in_err-start-clause-empty_unchanged : goal.returns-in_err-start-clause-empty_unchanged
+returns-in_err-start-clause-empty_unchanged g c = grind (arith, common_steps)
+
+pub returns-in_err-start-clause-form : goal.returns-in_err-start-clause-form
+returns-in_err-start-clause-form g c = grind (arith, common_steps)
+
+pub returns-in_err-start-clause-refused : goal.returns-in_err-start-clause-refused
+returns-in_err-start-clause-refused g c = grind (arith, common_steps)
+
+pub returns-in_err-start-clause-updated : goal.returns-in_err-start-clause-updated
+returns-in_err-start-clause-updated g c = grind (arith, common_steps)
+
+pub returns-then-is_empty-clause-closure : goal.returns-then-is_empty-clause-closure
+returns-then-is_empty-clause-closure g c = grind (arith, common_steps)
+
+pub returns-then-is_empty-clause-empty : goal.returns-then-is_empty-clause-empty
+returns-then-is_empty-clause-empty g c = grind (arith, common_steps)
+
+pub returns-then-is_empty-clause-empty_unchanged : goal.returns-then-is_empty-clause-empty_unchanged
+returns-then-is_empty-clause-empty_unchanged g c = grind (arith, common_steps)
+
+pub returns-then-is_empty-clause-form : goal.returns-then-is_empty-clause-form
+returns-then-is_empty-clause-form g c = grind (arith, common_steps)
+
+pub returns-then-is_empty-clause-refused : goal.returns-then-is_empty-clause-refused
+returns-then-is_empty-clause-refused g c = grind (arith, common_steps)
+
+pub returns-then-is_empty-clause-updated : goal.returns-then-is_empty-clause-updated
+returns-then-is_empty-clause-updated g c = grind (arith, common_steps)
