@@ -1,3 +1,5 @@
+-- Keys of the tests.
+pub mod Untold
 -- What the contracts of the crates below say.
 pub use Rattle.range_keys.specs.Counted
 pub use Rattle.range_keys.specs.Directed
@@ -18,9 +20,13 @@ pub use Rattle.range_algebra.specs.Range
 pub use Rattle.range_algebra.specs.References
 pub use Rattle.range_algebra.specs.Relations
 pub use Rattle.range_store.specs.Counting
+pub use Rattle.range_store.specs.Depth
 pub use Rattle.range_store.specs.Holding
 pub use Rattle.range_store.specs.Places
 pub use Rattle.range_map.specs.Bindings
+pub use Rattle.range_map.specs.Costs
+pub use Rattle.range_map.specs.CountedRuns
+pub use Rattle.range_map.specs.Depths
 pub use Rattle.range_map.specs.Frames
 pub use Rattle.range_map.specs.FreeRanges
 pub use Rattle.range_map.specs.History

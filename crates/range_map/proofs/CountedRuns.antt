@@ -153,7 +153,8 @@ module _ {K : Type 0} (order : KeyOrder K) {V : Type 0} where
       uncounted s last (c ∷ commands) [] before after run = absurd run
       uncounted s last (c ∷ commands) (r ∷ replies) before after run = (items run.0, run.2, uncounted run.0 last commands replies run.1 after run.4)
 
-      -- at most so many steps: what each adds beside what it leaves fewer is bounded by the greatest search
+      -- at most so many steps: what each adds, beside what it leaves fewer, is bounded by the
+      -- greatest search
       pub run_most : (level many : ℕ) → ((s : S) → length (items s) ≤ many → most s ≤ 3 * level) → (s last : S) (commands : List (Command K V T)) (replies : List (Reply K V E)) (before after : ℕ) → length (items s) + 2 * length commands ≤ many → HasNoUpdate commands → HasNoMemory replies → IsCountedRun order same may items least most s commands replies last before after → after + 2 * length (items last) ≤ before + length commands * (6 * level + 10) + 2 * length (items s)
       run_most level many few s last [] [] before after within none memory run = omega (arith, ap (λ t. length (items t)) run.0, run.1)
       run_most level many few s last [] (r ∷ replies) before after within none memory run = absurd run

@@ -239,8 +239,8 @@ pub fn run<
 
 /// Answers the commands in turn as `run` does; adds the steps that they take.
 ///
-/// An insertion, a removal and a look-up take the steps of their counted calls, and no other command
-/// takes any.
+/// An insertion, a removal and a look-up take the steps of their counted calls, and no other
+/// command takes any.
 pub fn run_counted<
     K: Measure + Clone,
     V: Eq + Clone,

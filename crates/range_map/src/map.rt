@@ -96,7 +96,7 @@ impl<K: PartialEnum, V: Eq + Drop, C: Storage<Item<AnyRange<K>, V>>> RangeMap<K,
         self.get_counted(key, &mut steps)
     }
 
-    /// The value to which the key is bound, or none, as `get` answers; adds the steps that it takes.
+    /// The value to which the key is bound, or none, as `get` answers; adds the steps it takes.
     ///
     /// A step is one range that the search asks, or one comparison of the key with a stored range.
     /// The empty map takes none.

@@ -9,9 +9,9 @@ use Rattle.btree_range_map.specs.Order.{KeyOrder}
 use Rattle.btree_range_map.specs.Reply.{Reply}
 use Rattle.btree_range_map.specs.Runs.{IsStep}
 use Rattle.rangerun.specs.declared.command_line.CommandLine.{CommandLine}
-use Rattle.rangerun.specs.declared.command_line.CommandLine.TheVariants.{Run, Show, Gaps, Len}
+use Rattle.rangerun.specs.declared.command_line.CommandLine.TheVariants.{Run, Show, Gaps, Len, Levels}
 use Rattle.rangerun.specs.Grammar.{SpellsLine}
-use Rattle.rangerun.specs.Replies.{SpellsReply, SpellsAll, SpellsGaps, SpellsLen}
+use Rattle.rangerun.specs.Replies.{SpellsReply, SpellsAll, SpellsGaps, SpellsLen, SpellsLevels}
 use Rattle.rangerun.specs.Tags.{IsAnswerOf}
 
 -- of keys, each with its number
@@ -27,6 +27,7 @@ module _ {K : Type 0} (order : KeyOrder K) (as_number : K → ℤ) where
   Answers items (Some Show) text next = SpellsAll order as_number items text × (next ≡ items)
   Answers items (Some Gaps) text next = SpellsGaps order as_number items text × (next ≡ items)
   Answers items (Some Len) text next = SpellsLen order as_number items text × (next ≡ items)
+  Answers items (Some Levels) text next = SpellsLevels items text × (next ≡ items)
   Answers items (Some (Run command)) text next = (reply : Reply K ℤ ℤ) × IsStep order int_eq IsAnswerOf items command reply next × SpellsReply order as_number reply text
 
   -- the text that may answer the lines of the input before the rest of it, over the stored list: one answer for each line, in order; each line is text

@@ -14,7 +14,7 @@ fn served(rt: &HostRuntime, word: &str, script: &[u8]) -> Result<(u8, Vec<u8>, V
 
 #[test]
 fn answers_every_line(rt: HostRuntime) -> Result<(), Fail> {
-    let rows: [(&str, &[u8], &[u8]); 18] = [
+    let rows: [(&str, &[u8], &[u8]); 19] = [
         (
             "u8",
             b"insert 10..20 1\ngaps\nlen\ninsert ... 1\ngaps\nlen\ngap\nlen \n",
@@ -72,7 +72,12 @@ fn answers_every_line(rt: HostRuntime) -> Result<(), Fail> {
         (
             "i32",
             b"levels\ncount 1\n count\nCount\ninsert 0..5\ninsert 0..5 9223372036854775808\n",
-            b"bad line\nbad line\nbad line\nbad line\nbad line\nbad line\n",
+            b"0\nbad line\nbad line\nbad line\nbad line\nbad line\n",
+        ),
+        (
+            "u8",
+            b"insert ... 1\nlevels\nremove 1..2\nremove 3..4\nremove 5..6\nremove 7..8\nremove 9..10\nremove 11..12\nlevels\nremove 13..14\ncount\nlevels\nremove ...\nlevels\nlevels 1\nlevel\n",
+            b"ok\n1\nok\nok\nok\nok\nok\nok\n1\nok\n8\n2\nok\n0\nbad line\nbad line\n",
         ),
         (
             "i32",

@@ -1,11 +1,28 @@
-use Rattle.std.proofs.Common.{◌≡◌, ◌≢◌, subst, [], arith, ◌∙◌, sym}
+use Rattle.std.proofs.Common.{◌≡◌, ◌≢◌, subst, [], arith, ◌∙◌, sym, ap, Some}
 use Rattle.std.specs.Str.{IsUtf8}
-use Rattle.std.specs.Io.BufRead.{first_line, take_through}
+use Rattle.std.specs.Io.BufRead.{first_line, take_through, drop_through}
 use Rattle.std.specs.Io.KnownBytes.{IsAtEnd}
+use Rattle.btree_range_map.specs.Holding.{box_items}
 use Rattle.rangerun.specs.Replies.{Writes}
 use Rattle.rangerun.specs.Conversation.{Conversation}
 use Rattle.rangerun.proofs.Progress.{HasAnswered, answered_more, answered_all, is_read, if_some_as, stopped_at, line_of, none_of_none, first_line_of}
 use Rattle.rangerun.proofs.serve.serve_lines.Goals as goal
+
+pub returns-then-count-eq0-clause-ended : goal.returns-then-count-eq0-clause-ended
+returns-then-count-eq0-clause-ended g c =
+    let order = g.K.MaybeBounded.order in
+    let as_number = g.K.SpelledKey.as_number in
+    let left = g.R.Read.remaining c.loop.input in
+    let later = g.R.Read.remaining c.read_until.new.self in
+    let before = g.W.Write.contents c.args.out.now in
+    let now = g.W.Write.contents c.loop.out in
+    let items = box_items c.loop.map in
+    if_some_as (g.R.Read.remaining c.args.input.now) (λ bytes. HasAnswered order as_number bytes left before now items) (λ bytes. later ≡ Some [])
+    (λ bytes known answered.
+    let rest_read = rw answered.left_is at (c.in-Ok.ensures.rest) in
+    let none : answered.remaining ≡ [] = subst IsAtEnd answered.left_is (c.in-Ok.ensures.end c.if-count-eq0.true) in
+    rest_read ∙ ap (λ rest. Some (drop_through 10 rest)) none)
+    c.loop.invariant
 
 pub returns-then-count-eq0-clause-answered : goal.returns-then-count-eq0-clause-answered
 returns-then-count-eq0-clause-answered g c =
@@ -14,7 +31,7 @@ returns-then-count-eq0-clause-answered g c =
     let left = g.R.Read.remaining c.loop.input in
     let before = g.W.Write.contents c.args.out.now in
     let now = g.W.Write.contents c.loop.out in
-    let items = g.C.Storage.items c.loop.map in
+    let items = box_items c.loop.map in
     if_some_as (g.R.Read.remaining c.args.input.now) (λ bytes. HasAnswered order as_number bytes left before now items) (λ bytes. Writes before now (λ text. Conversation order as_number [] bytes text []))
     (λ bytes known answered. answered_all order as_number bytes left before now items answered (subst IsAtEnd answered.left_is (c.in-Ok.ensures.end c.if-count-eq0.true)))
     c.loop.invariant
@@ -28,8 +45,8 @@ loop-preserved g c =
     let before = g.W.Write.contents c.args.out.now in
     let now = g.W.Write.contents c.loop.out in
     let next = g.W.Write.contents c.answer_line.new.out in
-    let items = g.C.Storage.items c.loop.map in
-    let changed = g.C.Storage.items c.answer_line.new.map in
+    let items = box_items c.loop.map in
+    let changed = box_items c.answer_line.new.map in
     if_some_as (g.R.Read.remaining c.args.input.now) (λ bytes. HasAnswered order as_number bytes left before now items) (λ bytes. HasAnswered order as_number bytes later before next changed)
     (λ bytes known answered.
     let bytes_read = rw answered.left_is at (c.in-Ok.ensures.bytes) in
@@ -46,10 +63,10 @@ loop-preserved g c =
     c.loop.invariant
 
 pub returns-in_default-clause-unread : goal.returns-in_default-clause-unread
-returns-in_default-clause-unread g c = λ e. stopped_at g.K.MaybeBounded.order g.K.SpelledKey.as_number (g.R.Read.remaining c.args.input.now) (g.R.Read.remaining c.loop.input) (g.W.Write.contents c.args.out.now) (g.W.Write.contents c.loop.out) (g.C.Storage.items c.loop.map) c.loop.invariant
+returns-in_default-clause-unread g c = λ e. stopped_at g.K.MaybeBounded.order g.K.SpelledKey.as_number (g.R.Read.remaining c.args.input.now) (g.R.Read.remaining c.loop.input) (g.W.Write.contents c.args.out.now) (g.W.Write.contents c.loop.out) (box_items c.loop.map) c.loop.invariant
 
 pub returns-in_default-from_utf8-clause-unread : goal.returns-in_default-from_utf8-clause-unread
-returns-in_default-from_utf8-clause-unread g c = λ e. stopped_at g.K.MaybeBounded.order g.K.SpelledKey.as_number (g.R.Read.remaining c.args.input.now) (g.R.Read.remaining c.loop.input) (g.W.Write.contents c.args.out.now) (g.W.Write.contents c.loop.out) (g.C.Storage.items c.loop.map) c.loop.invariant
+returns-in_default-from_utf8-clause-unread g c = λ e. stopped_at g.K.MaybeBounded.order g.K.SpelledKey.as_number (g.R.Read.remaining c.args.input.now) (g.R.Read.remaining c.loop.input) (g.W.Write.contents c.args.out.now) (g.W.Write.contents c.loop.out) (box_items c.loop.map) c.loop.invariant
 
 pub returns-clause-unread : goal.returns-clause-unread
-returns-clause-unread g c = λ e. stopped_at g.K.MaybeBounded.order g.K.SpelledKey.as_number (g.R.Read.remaining c.args.input.now) (g.R.Read.remaining c.loop.input) (g.W.Write.contents c.args.out.now) (g.W.Write.contents c.loop.out) (g.C.Storage.items c.loop.map) c.loop.invariant
+returns-clause-unread g c = λ e. stopped_at g.K.MaybeBounded.order g.K.SpelledKey.as_number (g.R.Read.remaining c.args.input.now) (g.R.Read.remaining c.loop.input) (g.W.Write.contents c.args.out.now) (g.W.Write.contents c.loop.out) (box_items c.loop.map) c.loop.invariant
