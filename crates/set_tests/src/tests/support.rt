@@ -194,7 +194,7 @@ pub fn extend<T: Key, C: Storage<Entry<T>>>(
 fn gather_three<T: Key, C: Storage<Entry<T>>>(
     alloc: Global,
     set: &mut RangeSet<T, C>,
-    pairs: [(T, T); 3],
+    pairs: &[(T, T); 3],
 ) -> Result<bool, MapError>
     requires { ClonesAreEqual T.is_clone T.eq }
 {
@@ -400,7 +400,7 @@ pub fn goes<T: Key, C: Storage<Entry<T>>, D: Storage<Entry<T>>>(
         Step::Meets(keys, met) => call_spelled(alloc, set, *keys, Call::Meets(*met)),
         Step::Extend(rows) => extend(set, rows),
         Step::Gather(keys) => call_spelled(alloc, set, *keys, Call::Gather),
-        Step::GatherThree(pairs) => gather_three(alloc, set, *pairs),
+        Step::GatherThree(pairs) => gather_three(alloc, set, pairs),
         Step::Complement => become_complement(set),
         Step::ComplementTwice => become_complement_twice(set),
         Step::Copy => become_copy(alloc, set),
