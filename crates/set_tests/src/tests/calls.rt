@@ -11,122 +11,131 @@ use std::alloc::Global;
 use std::test::Fail;
 
 /// The full set, its complement, and the complement of that; the last byte; a gap in the middle.
+static BYTES: &[Step<'static, u8>] = &[
+    Step::Insert(All),
+    Step::Size(1, 256),
+    Step::Complement,
+    Step::Size(0, 0),
+    Step::Complement,
+    Step::Size(1, 256),
+    Step::Remove(All),
+    Step::Insert(Starting(255)),
+    Step::Size(1, 1),
+    Step::Remove(All),
+    Step::Insert(Below(10)),
+    Step::Insert(Starting(20)),
+    Step::Gap(HalfOpen(10, 20), 10),
+    Step::Remove(All),
+    Step::Insert(HalfOpen(10, 20)),
+    Step::ComplementTwice,
+    Step::Size(1, 10),
+    Step::First(HalfOpen(10, 20)),
+];
+
 #[test]
 fn bytes(rt: HostRuntime) -> Result<(), Fail> {
-    let steps = [
-        Step::Insert(All),
-        Step::Size(1, 256),
-        Step::Complement,
-        Step::Size(0, 0),
-        Step::Complement,
-        Step::Size(1, 256),
-        Step::Remove(All),
-        Step::Insert(Starting(255)),
-        Step::Size(1, 1),
-        Step::Remove(All),
-        Step::Insert(Below(10)),
-        Step::Insert(Starting(20)),
-        Step::Gap(HalfOpen(10, 20), 10),
-        Step::Remove(All),
-        Step::Insert(HalfOpen(10, 20)),
-        Step::ComplementTwice,
-        Step::Size(1, 10),
-        Step::First(HalfOpen(10, 20)),
-    ];
-    assert_eq!(rt;
-        play_both::<u8>(rt.alloc(), &steps)?,
-        (steps.len(), steps.len())
-    );
+    assert_eq!(rt; play_both(rt.alloc(), BYTES)?, (BYTES.len(), BYTES.len()));
     Ok(())
 }
+
+static ALL_NUMBERS_OF_64_BITS: &[Step<'static, u64>] = &[
+    Step::Insert(All),
+    Step::Size(1, 18446744073709551616),
+];
 
 #[test]
 fn all_numbers_of_64_bits(rt: HostRuntime) -> Result<(), Fail> {
-    let steps = [Step::Insert(All), Step::Size(1, 18446744073709551616)];
     assert_eq!(rt;
-        play_both::<u64>(rt.alloc(), &steps)?,
-        (steps.len(), steps.len())
+        play_both(rt.alloc(), ALL_NUMBERS_OF_64_BITS)?,
+        (ALL_NUMBERS_OF_64_BITS.len(), ALL_NUMBERS_OF_64_BITS.len())
     );
     Ok(())
 }
+
+static THE_GAP_BESIDE_THE_LEAST_NUMBER: &[Step<'static, u32>] = &[
+    Step::Insert(Alone(0)),
+    Step::Gap(Starting(1), 4294967295),
+    Step::Gap(Above(0), 4294967295),
+];
 
 #[test]
 fn the_gap_beside_the_least_number(rt: HostRuntime) -> Result<(), Fail> {
-    let steps = [
-        Step::Insert(Alone(0)),
-        Step::Gap(Starting(1), 4294967295),
-        Step::Gap(Above(0), 4294967295),
-    ];
     assert_eq!(rt;
-        play_both::<u32>(rt.alloc(), &steps)?,
-        (steps.len(), steps.len())
+        play_both(rt.alloc(), THE_GAP_BESIDE_THE_LEAST_NUMBER)?,
+        (
+            THE_GAP_BESIDE_THE_LEAST_NUMBER.len(),
+            THE_GAP_BESIDE_THE_LEAST_NUMBER.len()
+        )
     );
     Ok(())
 }
 
+static CHARACTERS: &[Step<'static, char>] = &[
+    Step::Insert(Closed('\u{D7FF}', '\u{D7FF}')),
+    Step::Insert(Closed('\u{E000}', '\u{E000}')),
+    Step::Size(1, 2),
+    Step::Insert(All),
+    Step::Size(1, 1112064),
+];
+
 #[test]
 fn characters(rt: HostRuntime) -> Result<(), Fail> {
-    let steps = [
-        Step::Insert(Closed('\u{D7FF}', '\u{D7FF}')),
-        Step::Insert(Closed('\u{E000}', '\u{E000}')),
-        Step::Size(1, 2),
-        Step::Insert(All),
-        Step::Size(1, 1112064),
-    ];
     assert_eq!(rt;
-        play_both::<char>(rt.alloc(), &steps)?,
-        (steps.len(), steps.len())
+        play_both(rt.alloc(), CHARACTERS)?,
+        (CHARACTERS.len(), CHARACTERS.len())
     );
     Ok(())
 }
 
 /// Insertions that join, removals, look-ups and copies.
+static NUMBERS: &[Step<'static, i32>] = &[
+    Step::Insert(Below(1)),
+    Step::Insert(UpTo(1)),
+    Step::Insert(Alone(2)),
+    Step::Insert(HalfOpen(3, 5)),
+    Step::Insert(Closed(5, 7)),
+    Step::Insert(Starting(7)),
+    Step::NoGap,
+    Step::Size(1, 4294967296),
+    Step::Remove(HalfOpen(10, 20)),
+    Step::Holds(9, true),
+    Step::Holds(20, true),
+    Step::Holds(10, false),
+    Step::Holds(19, false),
+    Step::Meets(HalfOpen(19, 21), true),
+    Step::Meets(HalfOpen(10, 20), false),
+    Step::Copy,
+    Step::Size(2, 4294967286),
+    Step::First(Below(10)),
+    Step::Remove(All),
+    Step::GatherThree([(0, 2), (4, 6), (2, 4)]),
+    Step::Size(1, 6),
+];
+
 #[test]
 fn numbers(rt: HostRuntime) -> Result<(), Fail> {
-    let steps = [
-        Step::Insert(Below(1)),
-        Step::Insert(UpTo(1)),
-        Step::Insert(Alone(2)),
-        Step::Insert(HalfOpen(3, 5)),
-        Step::Insert(Closed(5, 7)),
-        Step::Insert(Starting(7)),
-        Step::NoGap,
-        Step::Size(1, 4294967296),
-        Step::Remove(HalfOpen(10, 20)),
-        Step::Holds(9, true),
-        Step::Holds(20, true),
-        Step::Holds(10, false),
-        Step::Holds(19, false),
-        Step::Meets(HalfOpen(19, 21), true),
-        Step::Meets(HalfOpen(10, 20), false),
-        Step::Copy,
-        Step::Size(2, 4294967286),
-        Step::First(Below(10)),
-        Step::Remove(All),
-        Step::GatherThree([(0, 2), (4, 6), (2, 4)]),
-        Step::Size(1, 6),
-    ];
     assert_eq!(rt;
-        play_both::<i32>(rt.alloc(), &steps)?,
-        (steps.len(), steps.len())
+        play_both(rt.alloc(), NUMBERS)?,
+        (NUMBERS.len(), NUMBERS.len())
     );
     Ok(())
 }
 
+static A_SET_IS_SHOWN: &[Step<'static, i32>] = &[
+    Step::Shows("{}"),
+    Step::Insert(Below(5)),
+    Step::Shows("{...5}"),
+    Step::Insert(Closed(10, 12)),
+    Step::Shows("{...510..=12}"),
+    Step::Remove(Below(4)),
+    Step::Shows("{4..510..=12}"),
+];
+
 #[test]
 fn a_set_is_shown(rt: HostRuntime) -> Result<(), Fail> {
-    let steps = [
-        Step::Shows("{}"),
-        Step::Insert(Below(5)),
-        Step::Shows("{...5}"),
-        Step::Insert(Closed(10, 12)),
-        Step::Shows("{...510..=12}"),
-        Step::Remove(Below(4)),
-        Step::Shows("{4..510..=12}"),
-    ];
     assert_eq!(rt;
-        play_both::<i32>(rt.alloc(), &steps)?,
-        (steps.len(), steps.len())
+        play_both(rt.alloc(), A_SET_IS_SHOWN)?,
+        (A_SET_IS_SHOWN.len(), A_SET_IS_SHOWN.len())
     );
     Ok(())
 }

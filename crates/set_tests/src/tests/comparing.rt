@@ -10,26 +10,30 @@ use std::cmp::Ordering;
 use std::test::Fail;
 
 /// The keys 0 to 5, put together by removals and an insertion.
+static A_MENDED_SET_EQUALS_A_PLAIN_ONE: &[Step<'static, i32>] = &[
+    Step::Extend(&[HalfOpen(-3, 9)]),
+    Step::Remove(Below(0)),
+    Step::Remove(Starting(6)),
+    Step::Remove(Alone(3)),
+    Step::Compares(&[HalfOpen(0, 6)], Ordering::Less),
+    Step::Insert(Alone(3)),
+    Step::Compares(&[HalfOpen(0, 6)], Ordering::Equal),
+    Step::Gather(HalfOpen(0, 6)),
+    Step::Compares(&[Closed(0, 5)], Ordering::Equal),
+    Step::Gather(Closed(0, 5)),
+    Step::Compares(&[Between(-1, 6)], Ordering::Equal),
+    Step::Gather(Between(-1, 6)),
+    Step::Compares(&[HalfOpen(0, 6)], Ordering::Equal),
+];
+
 #[test]
 fn a_mended_set_equals_a_plain_one(rt: HostRuntime) -> Result<(), Fail> {
-    let steps = [
-        Step::Extend(&[HalfOpen(-3, 9)]),
-        Step::Remove(Below(0)),
-        Step::Remove(Starting(6)),
-        Step::Remove(Alone(3)),
-        Step::Compares(&[HalfOpen(0, 6)], Ordering::Less),
-        Step::Insert(Alone(3)),
-        Step::Compares(&[HalfOpen(0, 6)], Ordering::Equal),
-        Step::Gather(HalfOpen(0, 6)),
-        Step::Compares(&[Closed(0, 5)], Ordering::Equal),
-        Step::Gather(Closed(0, 5)),
-        Step::Compares(&[Between(-1, 6)], Ordering::Equal),
-        Step::Gather(Between(-1, 6)),
-        Step::Compares(&[HalfOpen(0, 6)], Ordering::Equal),
-    ];
     assert_eq!(rt;
-        play_both::<i32>(rt.alloc(), &steps)?,
-        (steps.len(), steps.len())
+        play_both(rt.alloc(), A_MENDED_SET_EQUALS_A_PLAIN_ONE)?,
+        (
+            A_MENDED_SET_EQUALS_A_PLAIN_ONE.len(),
+            A_MENDED_SET_EQUALS_A_PLAIN_ONE.len()
+        )
     );
     Ok(())
 }
@@ -50,40 +54,51 @@ const RISING: [(u8, &[Keys<i32>]); 11] = [
     (7, &[HalfOpen(1, 2), HalfOpen(0, 0)]),
 ];
 
+/// Whether the sets of these ranges compare so, over both containers.
+fn compare(
+    alloc: Global,
+    left: &[Keys<i32>],
+    right: &[Keys<i32>],
+    ordering: Ordering,
+) -> Result<bool, MapError> {
+    let steps = [Step::Extend(left), Step::Compares(right, ordering)];
+    Ok(play_both::<i32>(alloc, &steps)? == (2, 2))
+}
+
 #[test]
 fn sets_are_in_dictionary_order(rt: HostRuntime) -> Result<(), Fail> {
-    for (rank, left) in &RISING {
-        for (other, right) in &RISING {
-            let steps = [Step::Extend(*left), Step::Compares(*right, rank.cmp(other))];
-            assert_eq!(rt;
-                play_both::<i32>(rt.alloc(), &steps)?,
-                (2, 2),
-                "{rank}, {other}"
-            );
+    for (place, (rank, left)) in RISING.iter().enumerate() {
+        for (other_place, (other, right)) in RISING.iter().enumerate() {
+            let holds = compare(rt.alloc(), *left, *right, rank.cmp(other))?;
+            assert!(rt; holds, "{place}, {other_place}");
         }
     }
     Ok(())
 }
 
+static THE_COMPLEMENT_OF_THE_COMPLEMENT_IS_THE_SET: &[Step<'static, u8>] = &[
+    Step::Extend(&[HalfOpen(10, 20)]),
+    Step::Compares(&[HalfOpen(0, 10), Starting(20)], Ordering::Greater),
+    Step::Complement,
+    Step::Compares(&[HalfOpen(0, 10)], Ordering::Greater),
+    Step::Compares(&[HalfOpen(0, 10), Starting(20)], Ordering::Equal),
+    Step::Complement,
+    Step::Compares(&[HalfOpen(10, 20)], Ordering::Equal),
+    Step::Remove(HalfOpen(10, 20)),
+    Step::Extend(&[HalfOpen(0, 10)]),
+    Step::Insert(Starting(20)),
+    Step::Complement,
+    Step::Compares(&[HalfOpen(10, 20)], Ordering::Equal),
+];
+
 #[test]
 fn the_complement_of_the_complement_is_the_set(rt: HostRuntime) -> Result<(), Fail> {
-    let steps = [
-        Step::Extend(&[HalfOpen(10, 20)]),
-        Step::Compares(&[HalfOpen(0, 10), Starting(20)], Ordering::Greater),
-        Step::Complement,
-        Step::Compares(&[HalfOpen(0, 10)], Ordering::Greater),
-        Step::Compares(&[HalfOpen(0, 10), Starting(20)], Ordering::Equal),
-        Step::Complement,
-        Step::Compares(&[HalfOpen(10, 20)], Ordering::Equal),
-        Step::Remove(HalfOpen(10, 20)),
-        Step::Extend(&[HalfOpen(0, 10)]),
-        Step::Insert(Starting(20)),
-        Step::Complement,
-        Step::Compares(&[HalfOpen(10, 20)], Ordering::Equal),
-    ];
     assert_eq!(rt;
-        play_both::<u8>(rt.alloc(), &steps)?,
-        (steps.len(), steps.len())
+        play_both(rt.alloc(), THE_COMPLEMENT_OF_THE_COMPLEMENT_IS_THE_SET)?,
+        (
+            THE_COMPLEMENT_OF_THE_COMPLEMENT_IS_THE_SET.len(),
+            THE_COMPLEMENT_OF_THE_COMPLEMENT_IS_THE_SET.len()
+        )
     );
     Ok(())
 }

@@ -109,117 +109,134 @@ fn play(alloc: Global, steps: &[Step<'_>]) -> Result<usize, MapError> {
     run(&mut map, steps)
 }
 
+static A_TOUR: &[Step<'static>] = &[
+    Step::With(Closed(0, 5), Call::Insert(1)),
+    Step::With(Alone(4), Call::Insert(0)),
+    Step::Count(3),
+    Step::Get(4, Some(0)),
+    Step::With(Below(1), Call::Insert(1)),
+    Step::With(Above(3), Call::Insert(1)),
+    Step::Count(1),
+    Step::With(HalfOpen(1, 9), Call::Remove),
+    Step::With(Starting(9), Call::Meets(true)),
+    Step::With(HalfOpen(1, 9), Call::Meets(false)),
+];
+
 #[test]
 fn a_tour(rt: HostRuntime) -> Result<(), Fail> {
-    let steps = [
-        Step::With(Closed(0, 5), Call::Insert(1)),
-        Step::With(Alone(4), Call::Insert(0)),
-        Step::Count(3),
-        Step::Get(4, Some(0)),
-        Step::With(Below(1), Call::Insert(1)),
-        Step::With(Above(3), Call::Insert(1)),
-        Step::Count(1),
-        Step::With(HalfOpen(1, 9), Call::Remove),
-        Step::With(Starting(9), Call::Meets(true)),
-        Step::With(HalfOpen(1, 9), Call::Meets(false)),
-    ];
-    assert_eq!(rt; play(rt.alloc(), &steps)?, steps.len());
+    assert_eq!(rt; play(rt.alloc(), A_TOUR)?, A_TOUR.len());
     Ok(())
 }
+
+static INSERTIONS_IN_EVERY_SPELLING: &[Step<'static>] = &[
+    Step::With(UpTo(0), Call::Insert(1)),
+    Step::With(Starting(28), Call::Insert(2)),
+    Step::With(Below(-1), Call::Insert(3)),
+    Step::With(Alone(2), Call::Insert(4)),
+    Step::With(HalfOpen(4, 6), Call::Insert(5)),
+    Step::With(Closed(7, 8), Call::Insert(6)),
+    Step::With(Above(28), Call::Insert(7)),
+    Step::With(Between(10, 13), Call::Insert(8)),
+    Step::With(AboveUpTo(14, 16), Call::Insert(9)),
+    Step::With(
+        Any(Bound::Included(18), Bound::Excluded(20)),
+        Call::Insert(10),
+    ),
+    Step::Shows(&[
+        1, 1, 0, 4, 0, 5, 5, 0, 6, 6, 0, 0, 8, 8, 0, 0, 9, 9, 0, 10, 10, 0, 0, 0, 0, 0, 0, 0, 0, 2,
+        7, 7,
+    ]),
+    Step::Get(-2, Some(3)),
+];
 
 #[test]
 fn insertions_in_every_spelling(rt: HostRuntime) -> Result<(), Fail> {
-    let steps = [
-        Step::With(UpTo(0), Call::Insert(1)),
-        Step::With(Starting(28), Call::Insert(2)),
-        Step::With(Below(-1), Call::Insert(3)),
-        Step::With(Alone(2), Call::Insert(4)),
-        Step::With(HalfOpen(4, 6), Call::Insert(5)),
-        Step::With(Closed(7, 8), Call::Insert(6)),
-        Step::With(Above(28), Call::Insert(7)),
-        Step::With(Between(10, 13), Call::Insert(8)),
-        Step::With(AboveUpTo(14, 16), Call::Insert(9)),
-        Step::With(
-            Any(Bound::Included(18), Bound::Excluded(20)),
-            Call::Insert(10),
-        ),
-        Step::Shows(&[
-            1, 1, 0, 4, 0, 5, 5, 0, 6, 6, 0, 0, 8, 8, 0, 0, 9, 9, 0, 10, 10, 0, 0, 0, 0, 0, 0, 0,
-            0, 2, 7, 7,
-        ]),
-        Step::Get(-2, Some(3)),
-    ];
-    assert_eq!(rt; play(rt.alloc(), &steps)?, steps.len());
+    assert_eq!(rt;
+        play(rt.alloc(), INSERTIONS_IN_EVERY_SPELLING)?,
+        INSERTIONS_IN_EVERY_SPELLING.len()
+    );
     Ok(())
 }
+
+static REMOVALS_IN_EVERY_SPELLING: &[Step<'static>] = &[
+    Step::With(All, Call::Insert(1)),
+    Step::With(UpTo(-1), Call::Remove),
+    Step::With(Starting(29), Call::Remove),
+    Step::With(Below(0), Call::Remove),
+    Step::With(Alone(2), Call::Remove),
+    Step::With(HalfOpen(4, 6), Call::Remove),
+    Step::With(Closed(7, 8), Call::Remove),
+    Step::With(Above(27), Call::Remove),
+    Step::With(Between(10, 13), Call::Remove),
+    Step::With(AboveUpTo(14, 16), Call::Remove),
+    Step::With(Any(Bound::Included(18), Bound::Excluded(20)), Call::Remove),
+    Step::Shows(&[
+        0, 1, 1, 0, 1, 0, 0, 1, 0, 0, 1, 1, 0, 0, 1, 1, 0, 0, 1, 0, 0, 1, 1, 1, 1, 1, 1, 1, 1, 0,
+        0, 0,
+    ]),
+];
 
 #[test]
 fn removals_in_every_spelling(rt: HostRuntime) -> Result<(), Fail> {
-    let steps = [
-        Step::With(All, Call::Insert(1)),
-        Step::With(UpTo(-1), Call::Remove),
-        Step::With(Starting(29), Call::Remove),
-        Step::With(Below(0), Call::Remove),
-        Step::With(Alone(2), Call::Remove),
-        Step::With(HalfOpen(4, 6), Call::Remove),
-        Step::With(Closed(7, 8), Call::Remove),
-        Step::With(Above(27), Call::Remove),
-        Step::With(Between(10, 13), Call::Remove),
-        Step::With(AboveUpTo(14, 16), Call::Remove),
-        Step::With(Any(Bound::Included(18), Bound::Excluded(20)), Call::Remove),
-        Step::Shows(&[
-            0, 1, 1, 0, 1, 0, 0, 1, 0, 0, 1, 1, 0, 0, 1, 1, 0, 0, 1, 0, 0, 1, 1, 1, 1, 1, 1, 1, 1,
-            0, 0, 0,
-        ]),
-    ];
-    assert_eq!(rt; play(rt.alloc(), &steps)?, steps.len());
+    assert_eq!(rt;
+        play(rt.alloc(), REMOVALS_IN_EVERY_SPELLING)?,
+        REMOVALS_IN_EVERY_SPELLING.len()
+    );
     Ok(())
 }
+
+static RANGES_APART_IN_EVERY_SPELLING: &[Step<'static>] = &[
+    Step::With(Below(-8), Call::Apart(1, true)),
+    Step::With(Above(28), Call::Apart(2, true)),
+    Step::With(Alone(2), Call::Apart(3, true)),
+    Step::With(HalfOpen(4, 6), Call::Apart(4, true)),
+    Step::With(Closed(8, 9), Call::Apart(5, true)),
+    Step::With(Between(10, 13), Call::Apart(6, true)),
+    Step::With(AboveUpTo(14, 16), Call::Apart(7, true)),
+    Step::With(Alone(13), Call::Apart(8, false)),
+    Step::With(UpTo(-8), Call::Apart(8, false)),
+    Step::With(Starting(28), Call::Apart(8, false)),
+    Step::Count(7),
+];
 
 #[test]
 fn ranges_apart_in_every_spelling(rt: HostRuntime) -> Result<(), Fail> {
-    let steps = [
-        Step::With(Below(-8), Call::Apart(1, true)),
-        Step::With(Above(28), Call::Apart(2, true)),
-        Step::With(Alone(2), Call::Apart(3, true)),
-        Step::With(HalfOpen(4, 6), Call::Apart(4, true)),
-        Step::With(Closed(8, 9), Call::Apart(5, true)),
-        Step::With(Between(10, 13), Call::Apart(6, true)),
-        Step::With(AboveUpTo(14, 16), Call::Apart(7, true)),
-        Step::With(Alone(13), Call::Apart(8, false)),
-        Step::With(UpTo(-8), Call::Apart(8, false)),
-        Step::With(Starting(28), Call::Apart(8, false)),
-        Step::Count(7),
-    ];
-    assert_eq!(rt; play(rt.alloc(), &steps)?, steps.len());
+    assert_eq!(rt;
+        play(rt.alloc(), RANGES_APART_IN_EVERY_SPELLING)?,
+        RANGES_APART_IN_EVERY_SPELLING.len()
+    );
     Ok(())
 }
 
+static MEETINGS_IN_EVERY_SPELLING: &[Step<'static>] = &[
+    Step::With(HalfOpen(4, 6), Call::Insert(1)),
+    Step::With(Alone(4), Call::Meets(true)),
+    Step::With(Alone(6), Call::Meets(false)),
+    Step::With(HalfOpen(5, 9), Call::Meets(true)),
+    Step::With(HalfOpen(6, 9), Call::Meets(false)),
+    Step::With(Closed(5, 9), Call::Meets(true)),
+    Step::With(Closed(6, 9), Call::Meets(false)),
+    Step::With(Starting(5), Call::Meets(true)),
+    Step::With(Starting(6), Call::Meets(false)),
+    Step::With(Below(5), Call::Meets(true)),
+    Step::With(Below(4), Call::Meets(false)),
+    Step::With(UpTo(4), Call::Meets(true)),
+    Step::With(UpTo(3), Call::Meets(false)),
+    Step::With(Above(4), Call::Meets(true)),
+    Step::With(Above(5), Call::Meets(false)),
+    Step::With(Between(3, 5), Call::Meets(true)),
+    Step::With(Between(3, 4), Call::Meets(false)),
+    Step::With(AboveUpTo(3, 4), Call::Meets(true)),
+    Step::With(AboveUpTo(5, 9), Call::Meets(false)),
+    Step::With(All, Call::Meets(true)),
+];
+
 #[test]
 fn meetings_in_every_spelling(rt: HostRuntime) -> Result<(), Fail> {
-    let steps = [
-        Step::With(HalfOpen(4, 6), Call::Insert(1)),
-        Step::With(Alone(4), Call::Meets(true)),
-        Step::With(Alone(6), Call::Meets(false)),
-        Step::With(HalfOpen(5, 9), Call::Meets(true)),
-        Step::With(HalfOpen(6, 9), Call::Meets(false)),
-        Step::With(Closed(5, 9), Call::Meets(true)),
-        Step::With(Closed(6, 9), Call::Meets(false)),
-        Step::With(Starting(5), Call::Meets(true)),
-        Step::With(Starting(6), Call::Meets(false)),
-        Step::With(Below(5), Call::Meets(true)),
-        Step::With(Below(4), Call::Meets(false)),
-        Step::With(UpTo(4), Call::Meets(true)),
-        Step::With(UpTo(3), Call::Meets(false)),
-        Step::With(Above(4), Call::Meets(true)),
-        Step::With(Above(5), Call::Meets(false)),
-        Step::With(Between(3, 5), Call::Meets(true)),
-        Step::With(Between(3, 4), Call::Meets(false)),
-        Step::With(AboveUpTo(3, 4), Call::Meets(true)),
-        Step::With(AboveUpTo(5, 9), Call::Meets(false)),
-        Step::With(All, Call::Meets(true)),
-    ];
-    assert_eq!(rt; play(rt.alloc(), &steps)?, steps.len());
+    assert_eq!(rt;
+        play(rt.alloc(), MEETINGS_IN_EVERY_SPELLING)?,
+        MEETINGS_IN_EVERY_SPELLING.len()
+    );
     Ok(())
 }
 
