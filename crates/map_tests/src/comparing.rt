@@ -1,8 +1,10 @@
 use crate::support::{
     InTree, InVector, NumberItem, Range, between, closed, half_open, insert, new_map, remove,
 };
+use range_algebra::any::AnyRange;
+use range_keys::traits::PartialEnum;
 use range_map::map::{MapError, RangeMap};
-use range_store::storage::Storage;
+use range_store::storage::{Item, Storage};
 use std::alloc::Global;
 use std::cmp::Ordering;
 use std::hash::{DefaultHasher, Hash, Hasher};
@@ -27,13 +29,34 @@ fn map_of<C: Storage<NumberItem>>(
     Ok(map)
 }
 
-fn hash_of<C: Storage<NumberItem>>(map: &RangeMap<i32, i64, C>) -> u64 {
+fn hash_of<K: PartialEnum + Hash, C: Storage<Item<AnyRange<K>, i64>>>(
+    map: &RangeMap<K, i64, C>,
+) -> u64 {
     let mut state = DefaultHasher::new();
     map.hash(&mut state);
     state.finish()
 }
 
-/// Whether two maps over one container compare so in each way.
+/// How two maps compare, or none where the ways of comparing them do not agree.
+pub fn order_of<K, C, D>(
+    left: &RangeMap<K, i64, C>,
+    right: &RangeMap<K, i64, D>,
+) -> Option<Ordering>
+where
+    K: PartialEnum + Hash,
+    C: Storage<Item<AnyRange<K>, i64>>,
+    D: Storage<Item<AnyRange<K>, i64>>,
+{
+    let order = left.cmp_across(right);
+    let same = order == Ordering::Equal;
+    let agree = left.eq_across(right) == same
+        && right.cmp_across(left) == order.reverse()
+        && (!same
+            || (left.range_count() == right.range_count() && hash_of(left) == hash_of(right)));
+    if agree { Some(order) } else { None }
+}
+
+/// Whether two maps over one container compare so by `==` and by `cmp`.
 fn compare_as<C: Storage<NumberItem>>(
     left: &RangeMap<i32, i64, C>,
     right: &RangeMap<i32, i64, C>,
@@ -41,19 +64,6 @@ fn compare_as<C: Storage<NumberItem>>(
 ) -> bool {
     let same = order == Ordering::Equal;
     (*left == *right) == same && left.cmp(right) == order && left.partial_cmp(right) == Some(order)
-}
-
-/// Whether two maps over any two containers compare so in each way.
-fn compare_across_as<C: Storage<NumberItem>, D: Storage<NumberItem>>(
-    left: &RangeMap<i32, i64, C>,
-    right: &RangeMap<i32, i64, D>,
-    order: Ordering,
-) -> bool {
-    let same = order == Ordering::Equal;
-    left.eq_across(right) == same
-        && left.cmp_across(right) == order
-        && right.cmp_across(left) == order.reverse()
-        && (!same || (left.range_count() == right.range_count() && hash_of(left) == hash_of(right)))
 }
 
 /// Whether the maps that the calls make compare so.
@@ -65,7 +75,7 @@ fn are_ordered<C: Storage<NumberItem>, D: Storage<NumberItem>>(
 ) -> Result<bool, MapError> {
     let left = map_of::<C>(alloc, calls)?;
     let right = map_of::<D>(alloc, others)?;
-    Ok(compare_across_as(&left, &right, order))
+    Ok(order_of(&left, &right) == Some(order))
 }
 
 /// The same over one container.
@@ -77,7 +87,7 @@ fn are_ordered_within<C: Storage<NumberItem>>(
 ) -> Result<bool, MapError> {
     let left = map_of::<C>(alloc, calls)?;
     let right = map_of::<C>(alloc, others)?;
-    Ok(compare_as(&left, &right, order) && compare_across_as(&left, &right, order))
+    Ok(compare_as(&left, &right, order) && order_of(&left, &right) == Some(order))
 }
 
 /// The rank of a map, and the calls that make it.

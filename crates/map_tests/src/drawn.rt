@@ -1,5 +1,6 @@
 //! Maps after many drawn calls, held against a scan of what they store.
 
+use crate::comparing::order_of;
 use range_algebra::any::AnyRange;
 use range_map::inner::scan::find;
 use range_map::map::{MapError, RangeMap};
@@ -8,7 +9,6 @@ use range_store::storage::{Item, Storage};
 use range_store::vec_storage::VecStorage;
 use std::alloc::{AllocError, Global};
 use std::cmp::Ordering;
-use std::hash::{DefaultHasher, Hash, Hasher};
 use std::ops::Bound::{Excluded, Included, Unbounded};
 use std::test::Fail;
 
@@ -156,24 +156,6 @@ fn bind_alike<C: Storage<ByteItem>, D: Storage<ByteItem>>(
     Ok(scan_finds_the_same(&items, &others))
 }
 
-fn hash_of<C: Storage<ByteItem>>(map: &RangeMap<u8, i64, C>) -> u64 {
-    let mut state = DefaultHasher::new();
-    map.hash(&mut state);
-    state.finish()
-}
-
-/// Whether the maps are equal where they bind alike, and nowhere else.
-fn compare<C: Storage<ByteItem>, D: Storage<ByteItem>>(
-    left: &RangeMap<u8, i64, C>,
-    right: &RangeMap<u8, i64, D>,
-    alike: bool,
-) -> bool {
-    left.eq_across(right) == alike
-        && (left.cmp_across(right) == Ordering::Equal) == alike
-        && (!alike
-            || (left.range_count() == right.range_count() && hash_of(left) == hash_of(right)))
-}
-
 /// Changes both maps. Answers whether they bind alike, or none where they do not compare so.
 fn change_both<C: Storage<ByteItem>, D: Storage<ByteItem>>(
     alloc: Global,
@@ -184,10 +166,9 @@ fn change_both<C: Storage<ByteItem>, D: Storage<ByteItem>>(
     change_as_drawn(left, number)?;
     change_as_drawn(right, next_number(number))?;
     let alike = bind_alike(alloc, left, right)?;
-    Ok(if compare(left, right, alike) {
-        Some(alike)
-    } else {
-        None
+    Ok(match order_of(left, right) {
+        Some(order) if (order == Ordering::Equal) == alike => Some(alike),
+        _ => None,
     })
 }
 
@@ -211,13 +192,20 @@ fn count_alike<C: Storage<ByteItem>, D: Storage<ByteItem>>(
     Ok(Ok(equal))
 }
 
+fn count_alike_from_new<C: Storage<ByteItem>, D: Storage<ByteItem>>(
+    alloc: Global,
+) -> Result<Result<u32, u32>, MapError> {
+    let mut left = new_map::<C>(alloc);
+    let mut right = new_map::<D>(alloc);
+    count_alike(alloc, &mut left, &mut right)
+}
+
 #[test]
 fn many_maps_are_equal_where_a_scan_finds_the_same(rt: HostRuntime) -> Result<(), Fail> {
-    let mut left = new_map::<VecStorage<ByteItem>>(rt.alloc());
-    let mut right = new_map::<BoxStorage<ByteItem>>(rt.alloc());
-    match count_alike(rt.alloc(), &mut left, &mut right)? {
-        Ok(equal) => assert!(rt; 5 < equal && equal < 295, "{equal} of 300 were equal"),
-        Err(step) => panic!(rt; "after step {step}"),
-    }
+    let found = count_alike_from_new::<VecStorage<ByteItem>, BoxStorage<ByteItem>>(rt.alloc())?;
+    assert!(rt;
+        matches!(found, Ok(6..=294)),
+        "of 300 were equal: {found:?}"
+    );
     Ok(())
 }

@@ -4,12 +4,24 @@
 #[cfg(test)]
 mod calls;
 #[cfg(test)]
+mod characters;
+#[cfg(test)]
 mod commands;
 #[cfg(test)]
 mod comparing;
 #[cfg(test)]
 mod drawn;
 #[cfg(test)]
+mod keys;
+#[cfg(test)]
+mod lookups;
+#[cfg(test)]
+mod set_values;
+#[cfg(test)]
 mod support;
 #[cfg(test)]
 mod text;
+#[cfg(test)]
+mod updates;
+#[cfg(test)]
+mod walks;

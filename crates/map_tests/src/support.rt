@@ -1,11 +1,12 @@
 //! Maps over either container, and tables of calls on them.
 
 use range_algebra::any::AnyRange;
-use range_map::map::{MapError, RangeMap};
+use range_map::map::{MapError, NotInserted, RangeMap, UpdateError};
 use range_store::btree::BoxStorage;
 use range_store::storage::{Item, Storage};
 use range_store::vec_storage::VecStorage;
 use std::alloc::Global;
+use std::cell::Cell;
 use std::ops::Bound;
 use std::process::Abort;
 use std::test::Fail;
@@ -52,6 +53,66 @@ pub fn remove<C: Storage<NumberItem>>(
     map.remove(range)
 }
 
+/// Answers the range and the value where they are handed back.
+pub fn insert_disconnected<C: Storage<NumberItem>>(
+    map: &mut RangeMap<i32, i64, C>,
+    range: Range,
+    value: i64,
+) -> Option<(Range, i64)> {
+    match map.insert_disconnected(range, value) {
+        Ok(()) => None,
+        Err(NotInserted::Connected(range, value)) | Err(NotInserted::Memory(range, value)) => {
+            Some((range, value))
+        }
+    }
+}
+
+/// What the closure of an update answers to each value that it is shown. To one that is not
+/// listed it answers that value.
+pub type Answers<'a> = &'a [(Option<i64>, Result<Option<i64>, i64>)];
+
+/// How often a closure is asked of bound keys, and how often of free ones.
+pub type Asked = (u64, u64);
+
+pub fn answer(
+    answers: Answers<'_>,
+    asked: &Cell<Asked>,
+    shown: Option<i64>,
+) -> Result<Option<i64>, i64> {
+    let (bound, free) = asked.get();
+    asked.set(match shown {
+        Some(_) => (bound.wrapping_add(1), free),
+        None => (bound, free.wrapping_add(1)),
+    });
+    for (value, answer) in answers {
+        if *value == shown {
+            return *answer;
+        }
+    }
+    Ok(shown)
+}
+
+pub fn update<C: Storage<NumberItem>>(
+    map: &mut RangeMap<i32, i64, C>,
+    range: Range,
+    answers: Answers<'_>,
+    asked: &Cell<Asked>,
+) -> Result<(), UpdateError<i64>> {
+    map.update(range, |shown| answer(answers, asked, shown.copied()))
+}
+
+pub fn intersects<C: Storage<NumberItem>>(map: &RangeMap<i32, i64, C>, range: Range) -> bool {
+    map.intersects(range)
+}
+
+pub fn is_empty<C: Storage<NumberItem>>(map: &RangeMap<i32, i64, C>) -> bool {
+    map.is_empty()
+}
+
+pub fn contains_key<C: Storage<NumberItem>>(map: &RangeMap<i32, i64, C>, key: i32) -> bool {
+    map.contains_key(key)
+}
+
 pub fn value_at<C: Storage<NumberItem>>(map: &RangeMap<i32, i64, C>, key: i32) -> Option<i64> {
     map.get(key).copied()
 }
@@ -81,6 +142,12 @@ pub fn stores<C: Storage<NumberItem>>(map: &RangeMap<i32, i64, C>, rows: &[Row])
 pub enum Step<'a> {
     Insert(Range, i64),
     Remove(Range),
+    /// An insertion that joins nothing, and whether the range and the value are handed back.
+    InsertDisconnected(Range, i64, bool),
+    /// An update by a closure with its answers, the error that it ends with, and how often the
+    /// closure is asked.
+    Update(Range, Answers<'a>, Option<i64>, Asked),
+    Intersects(Range, bool),
     /// How many ranges are stored.
     Count(usize),
     /// What a key is bound to.
@@ -97,8 +164,25 @@ pub fn holds<C: Storage<NumberItem>>(
     match step {
         Step::Insert(range, value) => insert(map, range, value)?,
         Step::Remove(range) => remove(map, range)?,
-        Step::Count(count) => return Ok(range_count(map) == count),
-        Step::Get(key, value) => return Ok(value_at(map, key) == value),
+        Step::InsertDisconnected(range, value, refused) => {
+            let given = insert_disconnected(map, range, value);
+            return Ok(given == if refused { Some((range, value)) } else { None });
+        }
+        Step::Update(range, answers, error, times) => {
+            let asked = Cell::new((0, 0));
+            let outcome = match error {
+                Some(error) => Err(UpdateError::Closure(error)),
+                None => Ok(()),
+            };
+            return Ok(update(map, range, answers, &asked) == outcome && asked.get() == times);
+        }
+        Step::Intersects(range, meets) => return Ok(intersects(map, range) == meets),
+        Step::Count(count) => {
+            return Ok(range_count(map) == count && is_empty(map) == (count == 0));
+        }
+        Step::Get(key, value) => {
+            return Ok(value_at(map, key) == value && contains_key(map, key) == value.is_some());
+        }
         Step::Stores(rows) => return Ok(stores(map, rows)),
     }
     Ok(true)

@@ -1,16 +1,20 @@
-use crate::support::{InTree, Range, Step, between, closed, first_wrong, half_open, new_map};
-use std::alloc::Global;
+use crate::support::{InTree, Step, between, closed, first_wrong, half_open, new_map};
+use range_map::map::MapError;
+use std::alloc::{AllocError, Global};
+use std::fmt::Debug;
+use std::ops::Bound;
 use std::ops::Bound::{Excluded, Included, Unbounded};
-use std::process::Abort;
 use std::test::Fail;
 
-/// Takes the steps on a new map, and compares how it is shown.
-fn check<R: Abort>(rt: &R, alloc: Global, steps: &[Step<'_>], text: &str) -> Result<(), Fail> {
+fn is_shown<T: Debug>(alloc: Global, shown: &T, text: &str) -> Result<bool, AllocError> {
+    Ok(format!(in alloc; "{shown:?}")?.as_str() == text)
+}
+
+/// Takes the steps on a new map. Answers whether each holds and how the map is shown then.
+fn is_shown_after(alloc: Global, steps: &[Step<'_>], text: &str) -> Result<bool, MapError> {
     let mut map = new_map::<InTree>(alloc);
-    assert_eq!(rt; first_wrong(&mut map, steps)?, None);
-    let shown = format!(in alloc; "{map:?}")?;
-    assert_eq!(rt; shown.as_str(), text);
-    Ok(())
+    let wrong = first_wrong(&mut map, steps)?;
+    Ok(wrong.is_none() && is_shown(alloc, &map, text)?)
 }
 
 #[test]
@@ -20,19 +24,23 @@ fn a_map_is_shown(rt: HostRuntime) -> Result<(), Fail> {
         Step::Insert(closed(10, 12), 2),
         Step::Remove(half_open(-1, 4)),
     ];
-    let rows = [
-        (0, "{}"),
-        (2, "{0..5=>110..=12=>2}"),
-        (3, "{4..5=>110..=12=>2}"),
-    ];
-    for (count, text) in rows {
-        check(&rt, rt.alloc(), &steps[..count], text)?;
-    }
+    assert!(rt; is_shown_after(rt.alloc(), &[], "{}")?);
+    assert!(rt; is_shown_after(rt.alloc(), &steps[..2], "{0..5=>110..=12=>2}")?);
+    assert!(rt; is_shown_after(rt.alloc(), &steps, "{4..5=>110..=12=>2}")?);
     Ok(())
 }
 
-fn is_shown(alloc: Global, range: Range, text: &str) -> Result<bool, Fail> {
-    Ok(format!(in alloc; "{range:?}")?.as_str() == text)
+/// Bounds, and how the range from the one to the other is shown.
+type Row = (Bound<i32>, Bound<i32>, &'static str);
+
+/// The first text that is not how its range is shown.
+fn first_other(alloc: Global, rows: &[Row]) -> Result<Option<&'static str>, AllocError> {
+    for (start, end, text) in rows {
+        if !is_shown(alloc, &between(*start, *end), text)? {
+            return Ok(Some(*text));
+        }
+    }
+    Ok(None)
 }
 
 #[test]
@@ -48,8 +56,6 @@ fn a_range_is_shown(rt: HostRuntime) -> Result<(), Fail> {
         (Unbounded, Included(5), "...=5"),
         (Unbounded, Unbounded, "..."),
     ];
-    for (start, end, text) in rows {
-        assert!(rt; is_shown(rt.alloc(), between(start, end), text)?, "{text}");
-    }
+    assert_eq!(rt; first_other(rt.alloc(), &rows)?, None);
     Ok(())
 }

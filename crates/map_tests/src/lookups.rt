@@ -1,0 +1,127 @@
+use crate::support::{
+    InVector, NumberItem, Range, Step, closed, first_wrong, half_open, insert_disconnected,
+    is_empty, new_map, play, range_count,
+};
+use range_algebra::any::AnyRange;
+use range_map::map::{MapError, RangeMap, binary_search};
+use range_store::storage::{Item, Storage};
+use std::alloc::Global;
+use std::ops::Bound::Included;
+use std::test::Fail;
+
+#[test]
+fn a_range_that_touches_is_refused(rt: HostRuntime) -> Result<(), Fail> {
+    let steps = [
+        Step::Count(0),
+        Step::Insert(half_open(0, 10), 1),
+        Step::InsertDisconnected(half_open(10, 20), 2, true),
+        Step::InsertDisconnected(half_open(-5, 0), 1, true),
+        Step::InsertDisconnected(half_open(5, 5), 3, false),
+        Step::Count(1),
+        Step::InsertDisconnected(half_open(11, 20), 2, false),
+        Step::Count(2),
+        Step::Get(9, Some(1)),
+        Step::Get(10, None),
+        Step::Get(11, Some(2)),
+        Step::Get(19, Some(2)),
+        Step::Get(20, None),
+    ];
+    play(&rt, rt.alloc(), &steps)
+}
+
+/// Whether a range is bound in a new map or, where memory is refused, handed back.
+fn is_bound_or_handed_back<C: Storage<NumberItem>>(alloc: Global) -> bool {
+    let mut map: RangeMap<i32, i64, C> = new_map(alloc);
+    match insert_disconnected(&mut map, half_open(30, 40), 2) {
+        None => range_count(&map) == 1,
+        given => given == Some((half_open(30, 40), 2)) && is_empty(&map),
+    }
+}
+
+#[test]
+fn a_refusal_for_memory_hands_back(rt: HostRuntime) {
+    assert!(rt; is_bound_or_handed_back::<InVector>(rt.alloc()));
+}
+
+#[test]
+fn a_range_intersects_what_it_shares_a_key_with(rt: HostRuntime) -> Result<(), Fail> {
+    let steps = [
+        Step::Insert(half_open(0, 10), 1),
+        Step::Insert(half_open(20, 30), 2),
+        Step::Intersects(half_open(8, 3), false),
+        Step::Intersects(half_open(5, 5), false),
+        Step::Intersects(half_open(10, 20), false),
+        Step::Intersects(half_open(30, 40), false),
+        Step::Intersects(half_open(-5, 0), false),
+        Step::Intersects(half_open(9, 20), true),
+        Step::Intersects(half_open(10, 21), true),
+        Step::Intersects(half_open(3, 8), true),
+        Step::Intersects(half_open(-5, 40), true),
+    ];
+    play(&rt, rt.alloc(), &steps)
+}
+
+/// Takes steps on a new map, then others on a clone of it, and then others on the map. Answers the
+/// places of the first that do not hold.
+fn first_wrong_beside_a_clone<C: Storage<NumberItem>>(
+    alloc: Global,
+    [before, on_the_clone, after]: [&[Step<'_>]; 3],
+) -> Result<[Option<usize>; 3], MapError> {
+    let mut map: RangeMap<i32, i64, C> = new_map(alloc);
+    let before = first_wrong(&mut map, before)?;
+    let on_the_clone = first_wrong_in_clone(&map, on_the_clone)?;
+    Ok([before, on_the_clone, first_wrong(&mut map, after)?])
+}
+
+fn first_wrong_in_clone<C: Storage<NumberItem>>(
+    map: &RangeMap<i32, i64, C>,
+    steps: &[Step<'_>],
+) -> Result<Option<usize>, MapError> {
+    let mut copy = map.clone()?;
+    first_wrong(&mut copy, steps)
+}
+
+#[test]
+fn a_clone_is_equal_and_independent(rt: HostRuntime) -> Result<(), Fail> {
+    let before = [
+        Step::Insert(half_open(0, 10), 1),
+        Step::Insert(half_open(20, 30), 2),
+    ];
+    let on_the_clone = [
+        Step::Count(2),
+        Step::Get(0, Some(1)),
+        Step::Get(9, Some(1)),
+        Step::Get(10, None),
+        Step::Get(20, Some(2)),
+        Step::Get(30, None),
+        Step::Remove(half_open(0, 30)),
+        Step::Count(0),
+    ];
+    let steps: [&[Step<'_>]; 3] = [&before, &on_the_clone, &[Step::Count(2)]];
+    let wrong = first_wrong_beside_a_clone::<InVector>(rt.alloc(), steps)?;
+    assert!(rt; wrong == [None; 3], "{wrong:?}");
+    Ok(())
+}
+
+/// An item of one key.
+macro_rules! one_key {
+    ($key:expr, $value:expr) => {
+        Item {
+            key: AnyRange {
+                start: Included($key),
+                end: Included($key),
+            },
+            value: $value,
+        }
+    };
+}
+
+#[test]
+fn a_search_finds_the_last_that_is_reached(rt: HostRuntime) {
+    let items = [one_key!(0, 'a'), one_key!(3, 'b'), one_key!(6, 'c')];
+    let others = [one_key!(2, 'a'), one_key!(4, 'b'), one_key!(8, 'c')];
+    let two: Range = closed(2, 2);
+    assert!(rt; binary_search(&items, &two, true) == Some(1));
+    assert!(rt; binary_search(&items, &two, false) == Some(0));
+    assert!(rt; binary_search(&others, &closed(0, 0), true) == None);
+}
