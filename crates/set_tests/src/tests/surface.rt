@@ -11,6 +11,7 @@ use btree_range_map::{
 };
 use std::alloc::Global;
 use std::ops::Bound;
+use std::process::Abort;
 use std::test::Fail;
 
 type IntMap = RangeMap<i32, i64>;
@@ -278,14 +279,19 @@ fn has_complement(set: &ByteSet) -> Result<bool, MapError> {
     Ok(others.len() == 232 && others.contains(3) && !others.contains(20) && lie_apart(set, &others))
 }
 
-#[test]
-fn a_tour_of_sets(rt: HostRuntime) -> Result<(), Fail> {
-    let mut set = extended(rt.alloc())?;
+fn tour<R: Abort>(rt: &R, set: &mut ByteSet) -> Result<(), MapError> {
     assert_eq!(rt; set.range_count(), 2);
     assert!(rt; set.contains(14) && !set.contains(15));
     set.remove(3u8)?;
     assert!(rt; set.len() == 24);
-    assert!(rt; has_gaps(&set, &[(3, 3), (15, 19), (30, 255)])?);
-    assert!(rt; has_complement(&set)?);
+    assert!(rt; has_gaps(set, &[(3, 3), (15, 19), (30, 255)])?);
+    assert!(rt; has_complement(set)?);
+    Ok(())
+}
+
+#[test]
+fn a_tour_of_sets(rt: HostRuntime) -> Result<(), Fail> {
+    let mut set = extended(rt.alloc())?;
+    tour(&rt, &mut set)?;
     Ok(())
 }
