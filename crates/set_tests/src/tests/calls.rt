@@ -109,7 +109,7 @@ static NUMBERS: &[Step<'static, i32>] = &[
     Step::Size(2, 4294967286),
     Step::First(Below(10)),
     Step::Remove(All),
-    Step::GatherThree([(0, 2), (4, 6), (2, 4)]),
+    Step::Gather(&[HalfOpen(0, 2), HalfOpen(4, 6), HalfOpen(2, 4)]),
     Step::Size(1, 6),
 ];
 
@@ -192,4 +192,17 @@ fn extension<C: Storage<Entry<i32>>>(alloc: Global) -> bool {
 fn a_refused_extension_keeps_whole_ranges(rt: HostRuntime) {
     assert!(rt; extension::<Vector<i32>>(rt.alloc()));
     assert!(rt; extension::<Tree<i32>>(rt.alloc()));
+}
+
+/// A set of the ranges of an array, in any order.
+fn from_array<C: Storage<Entry<i32>>>(alloc: Global) -> Result<bool, MapError> {
+    let set: RangeSet<i32, C> = RangeSet::from_iter(alloc, [0..2, 4..6, 2..4])?;
+    Ok(set.range_count() == 1 && set.len() == 6)
+}
+
+#[test]
+fn a_set_of_an_array(rt: HostRuntime) -> Result<(), Fail> {
+    assert!(rt; from_array::<Vector<i32>>(rt.alloc())?);
+    assert!(rt; from_array::<Tree<i32>>(rt.alloc())?);
+    Ok(())
 }

@@ -18,11 +18,11 @@ static A_MENDED_SET_EQUALS_A_PLAIN_ONE: &[Step<'static, i32>] = &[
     Step::Compares(&[HalfOpen(0, 6)], Ordering::Less),
     Step::Insert(Alone(3)),
     Step::Compares(&[HalfOpen(0, 6)], Ordering::Equal),
-    Step::Gather(HalfOpen(0, 6)),
+    Step::Gather(&[HalfOpen(0, 6)]),
     Step::Compares(&[Closed(0, 5)], Ordering::Equal),
-    Step::Gather(Closed(0, 5)),
+    Step::Gather(&[Closed(0, 5)]),
     Step::Compares(&[Between(-1, 6)], Ordering::Equal),
-    Step::Gather(Between(-1, 6)),
+    Step::Gather(&[Between(-1, 6)]),
     Step::Compares(&[HalfOpen(0, 6)], Ordering::Equal),
 ];
 

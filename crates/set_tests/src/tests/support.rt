@@ -67,10 +67,8 @@ pub enum Step<'a, T> {
     Insert(Keys<T>),
     Remove(Keys<T>),
     Extend(&'a [Keys<T>]),
-    /// Goes on with a new set of the keys of one range.
-    Gather(Keys<T>),
-    /// Goes on with a new set of the keys of three ranges, each up to below a key.
-    GatherThree([(T, T); 3]),
+    /// Goes on with a new set of the keys of these ranges.
+    Gather(&'a [Keys<T>]),
     Complement,
     ComplementTwice,
     /// Goes on with a copy, once the set itself was emptied.
@@ -113,7 +111,6 @@ enum Call {
     Insert,
     Remove,
     Meets(bool),
-    Gather,
 }
 
 /// `true` where the call was not refused.
@@ -122,19 +119,7 @@ pub fn went(outcome: Result<(), MapError>) -> Result<bool, MapError> {
     Ok(true)
 }
 
-fn gather_one<T: Key, C: Storage<Entry<T>>, R: IntoRange<Item = T>>(
-    alloc: Global,
-    set: &mut RangeSet<T, C>,
-    range: R,
-) -> Result<bool, MapError>
-    requires { ClonesAreEqual T.is_clone T.eq }
-{
-    *set = RangeSet::from_iter(alloc, [range])?;
-    Ok(true)
-}
-
 fn call_with<T: Key, C: Storage<Entry<T>>, R: IntoRange<Item = T>>(
-    alloc: Global,
     set: &mut RangeSet<T, C>,
     range: R,
     call: Call,
@@ -145,13 +130,11 @@ fn call_with<T: Key, C: Storage<Entry<T>>, R: IntoRange<Item = T>>(
         Call::Insert => went(set.insert(range)),
         Call::Remove => went(set.remove(range)),
         Call::Meets(met) => Ok(set.intersects(range) == met),
-        Call::Gather => gather_one(alloc, set, range),
     }
 }
 
 /// Makes the call with the range as it is spelled.
 fn call_spelled<T: Key, C: Storage<Entry<T>>>(
-    alloc: Global,
     set: &mut RangeSet<T, C>,
     keys: Keys<T>,
     what: Call,
@@ -159,26 +142,20 @@ fn call_spelled<T: Key, C: Storage<Entry<T>>>(
     requires { ClonesAreEqual T.is_clone T.eq }
 {
     match keys {
-        Keys::Alone(key) => call_with(alloc, set, key, what),
-        Keys::HalfOpen(first, end) => call_with(alloc, set, first..end, what),
-        Keys::Closed(first, last) => call_with(alloc, set, first..=last, what),
-        Keys::Starting(first) => call_with(alloc, set, first.., what),
-        Keys::Below(end) => call_with(alloc, set, ..end, what),
-        Keys::UpTo(last) => call_with(alloc, set, ..=last, what),
-        Keys::Above(start) => call_with(alloc, set, RangeFromExcluded::new(start), what),
-        Keys::Between(start, end) => call_with(
-            alloc,
-            set,
-            RangeFromExcludedTo::new(start, end),
-            what,
-        ),
+        Keys::Alone(key) => call_with(set, key, what),
+        Keys::HalfOpen(first, end) => call_with(set, first..end, what),
+        Keys::Closed(first, last) => call_with(set, first..=last, what),
+        Keys::Starting(first) => call_with(set, first.., what),
+        Keys::Below(end) => call_with(set, ..end, what),
+        Keys::UpTo(last) => call_with(set, ..=last, what),
+        Keys::Above(start) => call_with(set, RangeFromExcluded::new(start), what),
+        Keys::Between(start, end) => call_with(set, RangeFromExcludedTo::new(start, end), what),
         Keys::AboveUpTo(start, last) => call_with(
-            alloc,
             set,
             RangeFromExcludedToIncluded::new(start, last),
             what,
         ),
-        Keys::All | Keys::Any(_, _) => call_with(alloc, set, range_of(keys), what),
+        Keys::All | Keys::Any(_, _) => call_with(set, range_of(keys), what),
     }
 }
 
@@ -189,18 +166,6 @@ pub fn extend<T: Key, C: Storage<Entry<T>>>(
     requires { ClonesAreEqual T.is_clone T.eq }
 {
     went(set.extend(rows.iter().map(|keys| range_of(*keys))))
-}
-
-fn gather_three<T: Key, C: Storage<Entry<T>>>(
-    alloc: Global,
-    set: &mut RangeSet<T, C>,
-    pairs: &[(T, T); 3],
-) -> Result<bool, MapError>
-    requires { ClonesAreEqual T.is_clone T.eq }
-{
-    let [one, two, three] = pairs;
-    *set = RangeSet::from_iter(alloc, [one.0..one.1, two.0..two.1, three.0..three.1])?;
-    Ok(true)
 }
 
 fn become_complement<T: Key, C: Storage<Entry<T>>>(
@@ -236,24 +201,18 @@ fn become_complement_twice<T: Key, C: Storage<Entry<T>>>(
 }
 
 /// Whether the set is empty once every key is removed.
-fn emptied<T: Key, C: Storage<Entry<T>>>(
-    alloc: Global,
-    set: &mut RangeSet<T, C>,
-) -> Result<bool, MapError>
+fn emptied<T: Key, C: Storage<Entry<T>>>(set: &mut RangeSet<T, C>) -> Result<bool, MapError>
     requires { ClonesAreEqual T.is_clone T.eq }
 {
-    call_with(alloc, set, range_of(Keys::All), Call::Remove)?;
+    call_with(set, range_of(Keys::All), Call::Remove)?;
     Ok(set.is_empty())
 }
 
-fn become_copy<T: Key, C: Storage<Entry<T>>>(
-    alloc: Global,
-    set: &mut RangeSet<T, C>,
-) -> Result<bool, MapError>
+fn become_copy<T: Key, C: Storage<Entry<T>>>(set: &mut RangeSet<T, C>) -> Result<bool, MapError>
     requires { ClonesAreEqual T.is_clone T.eq }
 {
     let copy = set.clone()?;
-    let emptied = emptied(alloc, set);
+    let emptied = emptied(set);
     *set = copy;
     emptied
 }
@@ -323,6 +282,17 @@ fn gathered<T: Key, C: Storage<Entry<T>>>(
     requires { ClonesAreEqual T.is_clone T.eq }
 {
     RangeSet::from_iter(alloc, rows.iter().map(|keys| range_of(*keys)))
+}
+
+fn gather<T: Key, C: Storage<Entry<T>>>(
+    alloc: Global,
+    set: &mut RangeSet<T, C>,
+    rows: &[Keys<T>],
+) -> Result<bool, MapError>
+    requires { ClonesAreEqual T.is_clone T.eq }
+{
+    *set = gathered(alloc, rows)?;
+    Ok(true)
 }
 
 fn hash_of<T: Key, C: Storage<Entry<T>>>(set: &RangeSet<T, C>) -> u64 {
@@ -395,15 +365,14 @@ pub fn goes<T: Key, C: Storage<Entry<T>>, D: Storage<Entry<T>>>(
     requires { ClonesAreEqual T.is_clone T.eq }
 {
     match step {
-        Step::Insert(keys) => call_spelled(alloc, set, *keys, Call::Insert),
-        Step::Remove(keys) => call_spelled(alloc, set, *keys, Call::Remove),
-        Step::Meets(keys, met) => call_spelled(alloc, set, *keys, Call::Meets(*met)),
+        Step::Insert(keys) => call_spelled(set, *keys, Call::Insert),
+        Step::Remove(keys) => call_spelled(set, *keys, Call::Remove),
+        Step::Meets(keys, met) => call_spelled(set, *keys, Call::Meets(*met)),
         Step::Extend(rows) => extend(set, rows),
-        Step::Gather(keys) => call_spelled(alloc, set, *keys, Call::Gather),
-        Step::GatherThree(pairs) => gather_three(alloc, set, pairs),
+        Step::Gather(rows) => gather(alloc, set, rows),
         Step::Complement => become_complement(set),
         Step::ComplementTwice => become_complement_twice(set),
-        Step::Copy => become_copy(alloc, set),
+        Step::Copy => become_copy(set),
         Step::Size(count, len) => Ok(has_size(set, *count, *len)),
         Step::Holds(key, held) => Ok(set.contains(*key) == *held),
         Step::First(keys) => Ok(starts_with(set, range_of(*keys))),
