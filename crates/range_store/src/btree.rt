@@ -13,8 +13,6 @@ mod node;
 mod place;
 mod removal;
 mod searching;
-#[cfg(test)]
-mod tests;
 mod tree;
 
 pub use crate::btree::node::{LEAST, MOST};

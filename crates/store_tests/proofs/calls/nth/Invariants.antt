@@ -1,4 +1,4 @@
-use Rattle.range_store.proofs.btree.tests.nth.Given as goal
+use Rattle.store_tests.proofs.calls.nth.Given as goal
 
 abbrev pub invariant-loop : goal.invariant-loop
 invariant-loop g l = g.C.Storage.is_good l.storage l.p

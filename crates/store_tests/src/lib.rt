@@ -1,0 +1,11 @@
+//! Tests of the containers: the B-tree does as the sorted vector does.
+#![tactic(auto)]
+
+#[cfg(test)]
+mod both;
+#[cfg(test)]
+mod calls;
+#[cfg(test)]
+mod containers;
+#[cfg(test)]
+mod searching;
