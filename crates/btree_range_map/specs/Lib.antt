@@ -1,5 +1,3 @@
--- Keys of the tests.
-pub mod Untold
 -- What the contracts of the crates below say.
 pub use Rattle.range_keys.specs.Counted
 pub use Rattle.range_keys.specs.Directed

@@ -9,8 +9,6 @@ pub mod btree;
 pub mod generic;
 pub mod range;
 pub mod storage;
-#[cfg(test)]
-mod tests;
 
 use btree::BoxStorage;
 pub use range::any::AnyRange;

@@ -10,6 +10,8 @@ mod commands;
 #[cfg(test)]
 mod comparing;
 #[cfg(test)]
+mod counted;
+#[cfg(test)]
 mod drawn;
 #[cfg(test)]
 mod keys;
@@ -19,6 +21,8 @@ mod lookups;
 mod set_values;
 #[cfg(test)]
 mod support;
+#[cfg(test)]
+mod tallied;
 #[cfg(test)]
 mod text;
 #[cfg(test)]

@@ -1,4 +1,5 @@
 mod calls;
 mod comparing;
+mod counted;
 mod support;
 mod surface;

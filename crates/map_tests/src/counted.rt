@@ -1,42 +1,10 @@
 //! How many steps counted calls take.
 
-ghost use Rattle.std.specs.Prelude.{◌≡◌, refl};
-ghost use Rattle.std.specs.Ordering.{int_cmp, on, eq_by_cmp, as_partial_cmp};
-ghost use Rattle.std.specs.Cmp.{int_cmp_total, on_total, eq_by_cmp_equiv, partial_equiv_from_equiv, partial_order_from_total};
-ghost use Rattle.btree_range_map.specs.Untold.{untold_order, untold_lawful, untold_measured};
-ghost use Rattle.btree_range_map.specs.declared.tests.map.counted.Tallied.{Tallied};
-
-use range_algebra::any::AnyRange;
-use range_keys::traits::{MaybeBounded, Measure, PartialEnum};
+use crate::support::{InTree, InVector, NumberItem, Range, closed, half_open};
 use range_map::map::{Command, MapError, RangeMap, Reply, run_counted};
-use range_sets::set::RangeSet;
-use range_store::btree::BoxStorage;
-use range_store::storage::{Item, Steps, Storage};
-use range_store::vec_storage::VecStorage;
+use range_store::storage::{Steps, Storage};
 use std::alloc::{AllocError, Global};
-use std::cell::Cell;
-use std::cmp::Ordering;
-use std::ops::Bound;
-use std::rc::Rc;
 use std::test::Fail;
-
-type Range = AnyRange<i32>;
-
-type NumberItem = Item<Range, i64>;
-
-type InTree = BoxStorage<NumberItem>;
-
-type InVector = VecStorage<NumberItem>;
-
-type NumberSet = RangeSet<i32, BoxStorage<Item<Range, ()>>>;
-
-fn closed(first: i32, last: i32) -> Range {
-    AnyRange::new(Bound::Included(first), Bound::Included(last))
-}
-
-fn half_open(first: i32, end: i32) -> Range {
-    AnyRange::new(Bound::Included(first), Bound::Excluded(end))
-}
 
 /// A key alone, apart from those of the numbers beside it.
 fn single(number: u8) -> Range {
@@ -227,7 +195,7 @@ fn look_ups_take_few_steps(rt: HostRuntime) -> Result<(), Fail> {
         Step::Levels(0),
         Step::LookUps(0, 0),
     ];
-    assert!(rt; first_wrong_in_tree(rt.alloc(), &steps)? == None);
+    assert_eq!(rt; first_wrong_in_tree(rt.alloc(), &steps)?, None);
     Ok(())
 }
 
@@ -247,7 +215,7 @@ fn changes_take_few_steps(rt: HostRuntime) -> Result<(), Fail> {
         Step::Insert(closed(-9, 999), 1, 18),
         Step::Count(1),
     ];
-    assert!(rt; first_wrong_in_tree(rt.alloc(), &steps)? == None);
+    assert_eq!(rt; first_wrong_in_tree(rt.alloc(), &steps)?, None);
     Ok(())
 }
 
@@ -267,7 +235,7 @@ fn counted_calls_answer_over_a_vector(rt: HostRuntime) -> Result<(), Fail> {
         Step::Remove(half_open(8, 3), 0),
         Step::Count(2),
     ];
-    assert!(rt; first_wrong_in_vector(rt.alloc(), &steps)? == None);
+    assert_eq!(rt; first_wrong_in_vector(rt.alloc(), &steps)?, None);
     Ok(())
 }
 
@@ -313,181 +281,5 @@ fn a_list_of_commands_takes_few_steps(rt: HostRuntime) -> Result<(), Fail> {
     assert!(rt; does_all(rt.alloc(), &mut map, &mut steps, 65)?);
     assert_eq!(rt; map.range_count(), 1);
     assert!(rt; is_within(&steps, 64, 2210));
-    Ok(())
-}
-
-/// Whether a set's counted calls answer, and take at most so many steps in all.
-fn counts_in_set(set: &mut NumberSet, most: u64) -> Result<bool, MapError> {
-    let mut steps = Steps::new();
-    set.insert_counted(closed(0, 9), &mut steps)?;
-    set.remove_counted(closed(3, 4), &mut steps)?;
-    Ok(
-        set.contains_counted(2, &mut steps)
-            && !set.contains_counted(3, &mut steps)
-            && set.range_count() == 2
-            && is_within(&steps, 3, most),
-    )
-}
-
-#[test]
-fn sets_count_too(rt: HostRuntime) -> Result<(), Fail> {
-    let mut set: NumberSet = RangeSet::new(rt.alloc());
-    assert!(rt; counts_in_set(&mut set, 30)?);
-    Ok(())
-}
-
-/// A number that tells no neighbour and no end, and counts each comparison in a cell that such
-/// numbers share.
-#[derive(Drop)]
-struct Tallied {
-    number: i32,
-    comparisons: Rc<Cell<u64>>,
-}
-
-impl Clone for Tallied {
-    ghost is_clone = { λ x y. x.number ≡ y.number };
-
-    fn clone(&self) -> Result<Tallied, AllocError> {
-        Ok(Tallied {
-            number: self.number,
-            comparisons: self.comparisons.clone()?,
-        })
-    }
-}
-
-impl PartialEq for Tallied {
-    ghost eq = { eq_by_cmp (on (λ (x : Tallied). x.number) int_cmp) };
-
-    ghost laws = { partial_equiv_from_equiv (eq_by_cmp_equiv (on_total (λ (x : Tallied). x.number) int_cmp_total)) };
-
-    fn eq(&self, other: &Tallied) -> bool {
-        self.cmp(other) == Ordering::Equal
-    }
-}
-
-impl Eq for Tallied {
-    ghost laws = { eq_by_cmp_equiv (on_total (λ (x : Tallied). x.number) int_cmp_total) };
-}
-
-impl PartialOrd for Tallied {
-    ghost partial_cmp = { as_partial_cmp (on (λ (x : Tallied). x.number) int_cmp) };
-
-    ghost laws = { partial_order_from_total (on_total (λ (x : Tallied). x.number) int_cmp_total) };
-
-    fn partial_cmp(&self, other: &Tallied) -> Option<Ordering> {
-        Some(self.cmp(other))
-    }
-}
-
-impl Ord for Tallied {
-    ghost cmp = { on (λ (x : Tallied). x.number) int_cmp };
-
-    ghost total = { on_total (λ (x : Tallied). x.number) int_cmp_total };
-
-    ghost matches_partial_cmp = { λ a b. refl };
-
-    ghost matches_eq = { λ a b. refl };
-
-    fn cmp(&self, other: &Tallied) -> Ordering {
-        self.comparisons
-            .set(self.comparisons.get().saturating_add(1));
-        self.number.cmp(&other.number)
-    }
-}
-
-impl MaybeBounded for Tallied {
-    ghost order = { untold_order (on (λ (x : Tallied). x.number) int_cmp) };
-
-    fn min() -> Option<Tallied> {
-        None
-    }
-
-    fn max() -> Option<Tallied> {
-        None
-    }
-
-    fn known(&self) {}
-
-    ghost order_is_cmp = { λ a b. refl };
-}
-
-impl PartialEnum for Tallied {
-    fn succ(&self) -> Option<Tallied> {
-        None
-    }
-
-    fn pred(&self) -> Option<Tallied> {
-        None
-    }
-
-    ghost lawful = { untold_lawful (on (λ (x : Tallied). x.number) int_cmp) (on_total (λ (x : Tallied). x.number) int_cmp_total) };
-}
-
-impl Measure for Tallied {
-    ghost len = { λ _. 0 };
-
-    ghost distance = { λ _ _. 0 };
-
-    fn len(&self) -> u128 {
-        0
-    }
-
-    fn distance(&self, other: &Tallied) -> u128 {
-        0
-    }
-
-    ghost measured = { untold_measured (on (λ (x : Tallied). x.number) int_cmp) (on_total (λ (x : Tallied). x.number) int_cmp_total) };
-}
-
-type TalliedMap = RangeMap<Tallied, i64, BoxStorage<Item<AnyRange<Tallied>, i64>>>;
-
-fn key(number: i32, comparisons: &Rc<Cell<u64>>) -> Result<Tallied, AllocError> {
-    Ok(Tallied {
-        number,
-        comparisons: comparisons.clone()?,
-    })
-}
-
-/// The range of one key.
-fn alone(number: i32, comparisons: &Rc<Cell<u64>>) -> Result<AnyRange<Tallied>, AllocError> {
-    let first = key(number, comparisons)?;
-    let last = key(number, comparisons)?;
-    Ok(AnyRange::new(Bound::Included(first), Bound::Included(last)))
-}
-
-fn insert_even(map: &mut TalliedMap, comparisons: &Rc<Cell<u64>>) -> Result<(), MapError> {
-    for number in 0..4000u16 {
-        map.insert(alone(2 * i32::from(number), comparisons)?, 0)?;
-    }
-    Ok(())
-}
-
-/// Whether some comparison was made since the last call, and fewer than there are ranges.
-fn few(comparisons: &Rc<Cell<u64>>) -> bool {
-    let count = comparisons.replace(0);
-    0 < count && count < 4000
-}
-
-/// Whether each counted call at a key that is not bound compares few keys.
-fn compares_few(map: &mut TalliedMap, comparisons: &Rc<Cell<u64>>) -> Result<bool, MapError> {
-    let mut steps = Steps::new();
-    let free = map
-        .get_counted(key(3999, comparisons)?, &mut steps)
-        .is_none();
-    let get = few(comparisons);
-    map.insert_counted(alone(3999, comparisons)?, 1, &mut steps)?;
-    let insert = few(comparisons);
-    map.remove_counted(alone(3999, comparisons)?, &mut steps)?;
-    Ok(free && get && insert && few(comparisons))
-}
-
-#[test]
-fn counted_calls_compare_few_keys(rt: HostRuntime) -> Result<(), Fail> {
-    let comparisons = Rc::new(rt.alloc(), Cell::new(0))?;
-    let mut map: TalliedMap = RangeMap::new(rt.alloc());
-    insert_even(&mut map, &comparisons)?;
-    comparisons.set(0);
-    assert!(rt; compares_few(&mut map, &comparisons)?);
-    assert_eq!(rt; map.range_count(), 4000);
     Ok(())
 }

@@ -1,3 +1,0 @@
-//! What no clause says: worked values of every crate below, and keys of one's own.
-
-mod map;

@@ -1,3 +1,0 @@
-//! Maps, over either container.
-
-mod counted;

@@ -1,0 +1,2 @@
+-- Keys of the tests.
+pub mod Untold
