@@ -72,97 +72,97 @@ fn expect_served(
     Ok(())
 }
 
-const CONVERSATIONS: [(&str, &[u8], &[u8]); 19] = [
+const CONVERSATIONS: &[(&str, &str, &str)] = &[
     (
         "u8",
-        b"insert 10..20 1\ngaps\nlen\ninsert ... 1\ngaps\nlen\ngap\nlen \n",
-        b"ok\n0..=9\n20..=255\n10\nok\nfull\n256\nbad line\nbad line\n",
+        "insert 10..20 1\ngaps\nlen\ninsert ... 1\ngaps\nlen\ngap\nlen \n",
+        "ok\n0..=9\n20..=255\n10\nok\nfull\n256\nbad line\nbad line\n",
     ),
     (
         "i32",
-        b"len\ngaps\ninsert ...0 1\ninsert 0... 2\ninsert 0..=0 3\nlen\ngaps\nremove 7..9\ngaps\n",
-        b"0\n-2147483648..=2147483647\nok\nok\nok\n4294967296\nfull\nok\n7..=8\n",
+        "len\ngaps\ninsert ...0 1\ninsert 0... 2\ninsert 0..=0 3\nlen\ngaps\nremove 7..9\ngaps\n",
+        "0\n-2147483648..=2147483647\nok\nok\nok\n4294967296\nfull\nok\n7..=8\n",
     ),
     (
         "i32",
-        b"insert 0..20 1\ntry 20..25 9\ntry 30..=31 -4\ntry 5..5 2\ntry ...\nmeets 20..30\nmeets 19..20\nmeets 5..5\nhas 19\nhas 20\nhas\n",
-        b"ok\nconnected 20..=24 9\nok\nok\nbad line\nfalse\ntrue\nfalse\ntrue\nfalse\nbad line\n",
-    ),
-    (
-        "u8",
-        b"insert 0..255 1\ntry 254... 2\ntry  1..2 2\nshow\ntries\nmeet 1..2\n",
-        b"ok\nconnected 255..=255 2\nbad line\n0..=254 1\nbad line\nbad line\n",
-    ),
-    (
-        "i32",
-        b"insert 3... 1\ninsert 2...4 1\ninsert 0...=2 1\ncount\nshow\nremove 8..3\nremove 5..5\ncount\n",
-        b"ok\nok\nok\n1\n1..=2147483647 1\nok\nok\n1\n",
-    ),
-    ("i32", b"", b""),
-    ("i32", b"\n", b"bad line\n"),
-    ("i32", b"count\r\nshow", b"0\nempty\n"),
-    ("i32", b"count\r", b"bad line\n"),
-    (
-        "u8",
-        b"insert .... 1\nget 256\nget -0\n",
-        b"bad line\nbad line\nnone\n",
+        "insert 0..20 1\ntry 20..25 9\ntry 30..=31 -4\ntry 5..5 2\ntry ...\nmeets 20..30\nmeets 19..20\nmeets 5..5\nhas 19\nhas 20\nhas\n",
+        "ok\nconnected 20..=24 9\nok\nok\nbad line\nfalse\ntrue\nfalse\ntrue\nfalse\nbad line\n",
     ),
     (
         "u8",
-        b"insert ... -9223372036854775808\nshow\n",
-        b"ok\n0..=255 -9223372036854775808\n",
+        "insert 0..255 1\ntry 254... 2\ntry  1..2 2\nshow\ntries\nmeet 1..2\n",
+        "ok\nconnected 255..=255 2\nbad line\n0..=254 1\nbad line\nbad line\n",
     ),
     (
         "i32",
-        b"get  1\nget +1\nget 0000000000000000000000000000001\n",
-        b"bad line\nbad line\nnone\n",
+        "insert 3... 1\ninsert 2...4 1\ninsert 0...=2 1\ncount\nshow\nremove 8..3\nremove 5..5\ncount\n",
+        "ok\nok\nok\n1\n1..=2147483647 1\nok\nok\n1\n",
     ),
+    ("i32", "", ""),
+    ("i32", "\n", "bad line\n"),
+    ("i32", "count\r\nshow", "0\nempty\n"),
+    ("i32", "count\r", "bad line\n"),
     (
-        "i32",
-        b"insert ..5 1\ninsert 1..2..3 1\ninsert 1..=+2 1\nremove ...\n",
-        b"bad line\nbad line\nbad line\nok\n",
-    ),
-    (
-        "i32",
-        b"insert -3...=2 7\nget -3\nget -2\nremove 0..1\nshow\n",
-        b"ok\nnone\n7\nok\n-2..=-1 7\n1..=2 7\n",
-    ),
-    (
-        "i32",
-        b"levels\ncount 1\n count\nCount\ninsert 0..5\ninsert 0..5 9223372036854775808\n",
-        b"0\nbad line\nbad line\nbad line\nbad line\nbad line\n",
+        "u8",
+        "insert .... 1\nget 256\nget -0\n",
+        "bad line\nbad line\nnone\n",
     ),
     (
         "u8",
-        b"insert ... 1\nlevels\nremove 1..2\nremove 3..4\nremove 5..6\nremove 7..8\nremove 9..10\nremove 11..12\nlevels\nremove 13..14\ncount\nlevels\nremove ...\nlevels\nlevels 1\nlevel\n",
-        b"ok\n1\nok\nok\nok\nok\nok\nok\n1\nok\n8\n2\nok\n0\nbad line\nbad line\n",
+        "insert ... -9223372036854775808\nshow\n",
+        "ok\n0..=255 -9223372036854775808\n",
     ),
     (
         "i32",
-        b"insert 0..5 1\ninsert 10..15 2\nupdate 0..20 fail 1 7\ncount\nupdate 0..20 fill 9\nshow\ntry 20..25 9\nmeets 20..30\nhas 19\nupdate 0..20 clear\nshow\n",
-        b"ok\nok\nfault 7\n2\nok\n0..=4 1\n5..=9 9\n10..=14 2\n15..=19 9\nconnected 20..=24 9\nfalse\ntrue\nok\nempty\n",
+        "get  1\nget +1\nget 0000000000000000000000000000001\n",
+        "bad line\nbad line\nnone\n",
+    ),
+    (
+        "i32",
+        "insert ..5 1\ninsert 1..2..3 1\ninsert 1..=+2 1\nremove ...\n",
+        "bad line\nbad line\nbad line\nok\n",
+    ),
+    (
+        "i32",
+        "insert -3...=2 7\nget -3\nget -2\nremove 0..1\nshow\n",
+        "ok\nnone\n7\nok\n-2..=-1 7\n1..=2 7\n",
+    ),
+    (
+        "i32",
+        "levels\ncount 1\n count\nCount\ninsert 0..5\ninsert 0..5 9223372036854775808\n",
+        "0\nbad line\nbad line\nbad line\nbad line\nbad line\n",
     ),
     (
         "u8",
-        b"update 0..5 set 3\nupdate 5..3 set 4\nupdate ...2 set -8\nshow\nupdate ... fail 4 7\nupdate 2... fail -8 7\nupdate ... fail 3 -7\nshow\n",
-        b"ok\nok\nok\n0..=1 -8\n2..=4 3\nok\nok\nfault -7\n0..=1 -8\n2..=4 3\n",
+        "insert ... 1\nlevels\nremove 1..2\nremove 3..4\nremove 5..6\nremove 7..8\nremove 9..10\nremove 11..12\nlevels\nremove 13..14\ncount\nlevels\nremove ...\nlevels\nlevels 1\nlevel\n",
+        "ok\n1\nok\nok\nok\nok\nok\nok\n1\nok\n8\n2\nok\n0\nbad line\nbad line\n",
+    ),
+    (
+        "i32",
+        "insert 0..5 1\ninsert 10..15 2\nupdate 0..20 fail 1 7\ncount\nupdate 0..20 fill 9\nshow\ntry 20..25 9\nmeets 20..30\nhas 19\nupdate 0..20 clear\nshow\n",
+        "ok\nok\nfault 7\n2\nok\n0..=4 1\n5..=9 9\n10..=14 2\n15..=19 9\nconnected 20..=24 9\nfalse\ntrue\nok\nempty\n",
     ),
     (
         "u8",
-        b"update\nupdate 0..5\nupdate 0..5 set\nupdate 0..5 clear \nupdate 0..5 fail 1\nupdate 0..5 fail 1 2 3\nupdate 0..5 fill +1\nupdate clear\nupdate 0..5 put 1\n",
-        b"bad line\nbad line\nbad line\nbad line\nbad line\nbad line\nbad line\nbad line\nbad line\n",
+        "update 0..5 set 3\nupdate 5..3 set 4\nupdate ...2 set -8\nshow\nupdate ... fail 4 7\nupdate 2... fail -8 7\nupdate ... fail 3 -7\nshow\n",
+        "ok\nok\nok\n0..=1 -8\n2..=4 3\nok\nok\nfault -7\n0..=1 -8\n2..=4 3\n",
+    ),
+    (
+        "u8",
+        "update\nupdate 0..5\nupdate 0..5 set\nupdate 0..5 clear \nupdate 0..5 fail 1\nupdate 0..5 fail 1 2 3\nupdate 0..5 fill +1\nupdate clear\nupdate 0..5 put 1\n",
+        "bad line\nbad line\nbad line\nbad line\nbad line\nbad line\nbad line\nbad line\nbad line\n",
     ),
 ];
 
 #[test]
 fn answers_every_line(rt: HostRuntime) -> Result<(), AllocError> {
-    for (word, script, out) in CONVERSATIONS {
+    for row in CONVERSATIONS {
         let told = Told {
             status: 0,
-            out,
+            out: row.2.as_bytes(),
             err: b"",
         };
-        expect_served(&rt, rt.alloc(), word, script, told)?;
+        expect_served(&rt, rt.alloc(), row.0, row.1.as_bytes(), told)?;
     }
     Ok(())
 }
