@@ -1,5 +1,5 @@
 use crate::support::{InTree, Step, between, closed, first_wrong, half_open, new_map};
-use range_map::map::MapError;
+use range_map::map::{MapError, RangeMap};
 use std::alloc::{AllocError, Global};
 use std::fmt::Debug;
 use std::ops::Bound;
@@ -10,11 +10,20 @@ fn is_shown<T: Debug>(alloc: Global, shown: &T, text: &str) -> Result<bool, Allo
     Ok(format!(in alloc; "{shown:?}")?.as_str() == text)
 }
 
-/// Takes the steps on a new map. Answers whether each holds and how the map is shown then.
-fn is_shown_after(alloc: Global, steps: &[Step<'_>], text: &str) -> Result<bool, MapError> {
+/// Takes the steps. Answers whether each holds and how the map is shown then.
+fn is_shown_after(
+    alloc: Global,
+    map: &mut RangeMap<i32, i64, InTree>,
+    steps: &[Step<'_>],
+    text: &str,
+) -> Result<bool, MapError> {
+    Ok(first_wrong(map, steps)?.is_none() && is_shown(alloc, map, text)?)
+}
+
+/// Takes the steps on a new map.
+fn new_is_shown_after(alloc: Global, steps: &[Step<'_>], text: &str) -> Result<bool, MapError> {
     let mut map = new_map::<InTree>(alloc);
-    let wrong = first_wrong(&mut map, steps)?;
-    Ok(wrong.is_none() && is_shown(alloc, &map, text)?)
+    is_shown_after(alloc, &mut map, steps, text)
 }
 
 #[test]
@@ -24,9 +33,9 @@ fn a_map_is_shown(rt: HostRuntime) -> Result<(), Fail> {
         Step::Insert(closed(10, 12), 2),
         Step::Remove(half_open(-1, 4)),
     ];
-    assert!(rt; is_shown_after(rt.alloc(), &[], "{}")?);
-    assert!(rt; is_shown_after(rt.alloc(), &steps[..2], "{0..5=>110..=12=>2}")?);
-    assert!(rt; is_shown_after(rt.alloc(), &steps, "{4..5=>110..=12=>2}")?);
+    assert!(rt; new_is_shown_after(rt.alloc(), &[], "{}")?);
+    assert!(rt; new_is_shown_after(rt.alloc(), &steps[..2], "{0..5=>110..=12=>2}")?);
+    assert!(rt; new_is_shown_after(rt.alloc(), &steps, "{4..5=>110..=12=>2}")?);
     Ok(())
 }
 
