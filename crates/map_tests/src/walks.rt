@@ -36,17 +36,25 @@ enum Side {
     Back,
 }
 
+/// Whether the walk gives the row at this end.
+fn gives<C: Storage<NumberItem>>(
+    walk: &mut Iter<'_, i32, i64, C>,
+    side: Side,
+    row: Option<Row>,
+) -> bool {
+    match side {
+        Side::Front => is_row(walk.next(), row),
+        Side::Back => is_row(walk.next_back(), row),
+    }
+}
+
 /// Asks the walk in turn. Answers the place of the first row that it does not give.
 fn first_other<C: Storage<NumberItem>>(
     walk: &mut Iter<'_, i32, i64, C>,
     rows: &[(Side, Option<Row>)],
 ) -> Option<usize> {
     for (place, (side, row)) in rows.iter().enumerate() {
-        let given = match side {
-            Side::Front => walk.next(),
-            Side::Back => walk.next_back(),
-        };
-        if !is_row(given, *row) {
+        if !gives(walk, *side, *row) {
             return Some(place);
         }
     }
