@@ -101,7 +101,7 @@ fn loops_forward<C: Storage<NumberItem>>(map: &RangeMap<i32, i64, C>, rows: &[Ro
     left.next().is_none()
 }
 
-fn loops_back<C: Storage<NumberItem>>(map: &RangeMap<i32, i64, C>, rows: &[Row]) -> bool {
+fn loops_back(map: &RangeMap<i32, i64, InTree>, rows: &[Row]) -> bool {
     let mut left = rows.iter();
     for (range, value) in map.iter().rev() {
         if !is_row(Some((range, value)), left.next_back().copied()) {
@@ -124,17 +124,23 @@ fn gap_count<C: Storage<NumberItem>>(map: &RangeMap<i32, i64, C>) -> Option<u64>
     Some(count)
 }
 
-fn loops_both_ways<C: Storage<NumberItem>, R: Abort>(rt: &R, map: &RangeMap<i32, i64, C>) {
+fn loops<C: Storage<NumberItem>, R: Abort>(rt: &R, map: &RangeMap<i32, i64, C>) {
     let rows = [(0, 3, 1), (4, 4, 0), (5, 5, 1)];
     assert!(rt; loops_forward(map, &rows));
-    assert!(rt; loops_back(map, &rows));
     assert!(rt; gap_count(map) == Some(2));
 }
 
 fn ranges<C: Storage<NumberItem>, R: Abort>(rt: &R, alloc: Global) -> Result<(), MapError> {
     let map: RangeMap<i32, i64, C> = nested(alloc)?;
-    loops_both_ways(rt, &map);
+    loops(rt, &map);
     walks_from_both_ends(rt, &map)?;
+    Ok(())
+}
+
+fn ranges_from_the_back<R: Abort>(rt: &R, alloc: Global) -> Result<(), MapError> {
+    let map: RangeMap<i32, i64, InTree> = nested(alloc)?;
+    let rows = [(0, 3, 1), (4, 4, 0), (5, 5, 1)];
+    assert!(rt; loops_back(&map, &rows));
     Ok(())
 }
 
@@ -308,6 +314,7 @@ fn walks_over_a_vector(rt: HostRuntime) -> Result<(), MapError> {
 #[test]
 fn walks_over_a_tree(rt: HostRuntime) -> Result<(), MapError> {
     ranges::<InTree, HostRuntime>(&rt, rt.alloc())?;
+    ranges_from_the_back(&rt, rt.alloc())?;
     all_free::<InTree, HostRuntime>(&rt, rt.alloc())?;
     one_gap::<BoxStorage<Item<AnyRange<u32>, ()>>, HostRuntime>(&rt, rt.alloc())?;
     bytes::<BoxStorage<ByteItem>, HostRuntime>(&rt, rt.alloc())?;
