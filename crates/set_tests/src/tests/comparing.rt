@@ -118,18 +118,30 @@ fn next_number(number: u32) -> u32 {
     number.wrapping_mul(1664525).wrapping_add(1013904223)
 }
 
+/// Whether two sets hold the same keys.
+fn hold_alike<C: Storage<Entry<u8>>, D: Storage<Entry<u8>>>(
+    left: &RangeSet<u8, C>,
+    right: &RangeSet<u8, D>,
+) -> bool {
+    for key in 0..=255 {
+        if left.contains(key) != right.contains(key) {
+            return false;
+        }
+    }
+    true
+}
+
 /// Whether two sets hold the same keys, where their comparisons say the same.
 fn alike<C: Storage<Entry<u8>>, D: Storage<Entry<u8>>>(
     left: &RangeSet<u8, C>,
     right: &RangeSet<u8, D>,
 ) -> Option<bool> {
     let equal = compared(left, right)? == Ordering::Equal;
-    for key in 0..=255 {
-        if left.contains(key) != right.contains(key) {
-            return if equal { None } else { Some(false) };
-        }
+    if hold_alike(left, right) == equal {
+        Some(equal)
+    } else {
+        None
     }
-    if equal { Some(true) } else { None }
 }
 
 /// Changes both sets, and tells what `alike` says then.
@@ -165,11 +177,18 @@ fn count_alike<C: Storage<Entry<u8>>, D: Storage<Entry<u8>>>(
     Ok(Ok(count))
 }
 
+/// The same, of sets that start empty.
+fn count_alike_over<C: Storage<Entry<u8>>, D: Storage<Entry<u8>>>(
+    alloc: Global,
+) -> Result<Result<u32, u32>, MapError> {
+    let mut left: RangeSet<u8, C> = RangeSet::new(alloc);
+    let mut right: RangeSet<u8, D> = RangeSet::new(alloc);
+    count_alike(alloc, &mut left, &mut right)
+}
+
 /// The same over a vector and a tree.
 fn count_alike_over_both(alloc: Global) -> Result<Result<u32, u32>, MapError> {
-    let mut left: RangeSet<u8, Vector<u8>> = RangeSet::new(alloc);
-    let mut right: RangeSet<u8, Tree<u8>> = RangeSet::new(alloc);
-    count_alike(alloc, &mut left, &mut right)
+    count_alike_over::<Vector<u8>, Tree<u8>>(alloc)
 }
 
 #[test]

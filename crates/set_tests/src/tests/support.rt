@@ -232,24 +232,12 @@ fn starts_with<T: Key, C: Storage<Entry<T>>>(set: &RangeSet<T, C>, first: AnyRan
     set.iter().next() == Some(&first)
 }
 
-/// The next gap, over keys of its own.
-fn next_gap<T: Key, C: Storage<Entry<T>>>(
-    gaps: &mut Gaps<'_, T, C>,
-) -> Result<Option<AnyRange<T>>, MapError>
+/// Whether the gap is the range, of so many keys.
+fn is_range<T: Key>(gap: AnyRange<&T>, range: AnyRange<T>, len: u128) -> Result<bool, MapError>
     requires { ClonesAreEqual T.is_clone T.eq }
 {
-    match gaps.next() {
-        Some(gap) => Ok(Some(gap.cloned()?)),
-        None => Ok(None),
-    }
-}
-
-/// Whether what was found is the range, of so many keys.
-fn is_range<T: Key>(found: Option<AnyRange<T>>, range: AnyRange<T>, len: u128) -> bool {
-    match found {
-        Some(found) => found == range && found.len() == len,
-        None => false,
-    }
+    let gap = gap.cloned()?;
+    Ok(gap == range && gap.len() == len)
 }
 
 /// Whether the range, of so many keys, is the only gap of the set.
@@ -261,8 +249,10 @@ fn has_one_gap<T: Key, C: Storage<Entry<T>>>(
     requires { ClonesAreEqual T.is_clone T.eq }
 {
     let mut gaps = set.gaps();
-    let first = next_gap(&mut gaps)?;
-    Ok(is_range(first, range, len) && gaps.next().is_none())
+    let Some(gap) = gaps.next() else {
+        return Ok(false);
+    };
+    Ok(gaps.next().is_none() && is_range(gap, range, len)?)
 }
 
 fn shows<T: Key, C: Storage<Entry<T>>>(

@@ -5,11 +5,12 @@ use crate::tests::support::Keys::{
 };
 use crate::tests::support::went;
 use btree_range_map::generic::map::MapError;
+use btree_range_map::storage::{Item, Storage};
 use btree_range_map::{
     AnyRange, IntoRange, RangeFromExcluded, RangeFromExcludedTo, RangeFromExcludedToIncluded,
-    RangeMap, RangeSet,
+    RangeMap, RangeSet, generic,
 };
-use std::alloc::Global;
+use std::alloc::{AllocError, Global};
 use std::ops::Bound;
 use std::process::Abort;
 use std::test::Fail;
@@ -17,6 +18,8 @@ use std::test::Fail;
 type IntMap = RangeMap<i32, i64>;
 
 type ByteSet = RangeSet<u8>;
+
+type ByteItem = Item<AnyRange<u8>, ()>;
 
 /// A call with a range, or what has to come of it.
 #[derive(Clone, Copy)]
@@ -241,22 +244,32 @@ fn meetings_in_every_spelling(rt: HostRuntime) -> Result<(), Fail> {
     Ok(())
 }
 
-fn extended(alloc: Global) -> Result<ByteSet, MapError> {
-    let mut set: ByteSet = RangeSet::new(alloc);
+fn extended<C: Storage<ByteItem>>(
+    alloc: Global,
+) -> Result<generic::set::RangeSet<u8, C>, MapError> {
+    let mut set: generic::set::RangeSet<u8, C> = generic::set::RangeSet::new(alloc);
     set.extend([0..10, 20..30, 10..15])?;
     Ok(set)
 }
 
+/// The first and the last key of a gap.
+fn ends_of(gap: AnyRange<&u8>) -> Result<(Option<u8>, Option<u8>), AllocError> {
+    let gap = gap.cloned()?;
+    Ok((gap.first()?, gap.last()?))
+}
+
 /// Whether the gaps of the set go from these first keys to these last ones.
-fn has_gaps(set: &ByteSet, rows: &[(u8, u8)]) -> Result<bool, MapError> {
+fn has_gaps<C: Storage<ByteItem>>(
+    set: &generic::set::RangeSet<u8, C>,
+    rows: &[(u8, u8)],
+) -> Result<bool, MapError> {
     let mut left = rows;
     let mut gaps = set.gaps();
     while let Some(gap) = gaps.next() {
         let Some((row, rest)) = left.split_first() else {
             return Ok(false);
         };
-        let gap = gap.cloned()?;
-        if gap.first()? != Some(row.0) || gap.last()? != Some(row.1) {
+        if ends_of(gap)? != (Some(row.0), Some(row.1)) {
             return Ok(false);
         }
         left = rest;
@@ -265,7 +278,10 @@ fn has_gaps(set: &ByteSet, rows: &[(u8, u8)]) -> Result<bool, MapError> {
 }
 
 /// Whether no range of the one set meets the other.
-fn lie_apart(set: &ByteSet, others: &ByteSet) -> bool {
+fn lie_apart<C: Storage<ByteItem>>(
+    set: &generic::set::RangeSet<u8, C>,
+    others: &generic::set::RangeSet<u8, C>,
+) -> bool {
     for range in others {
         if set.intersects(*range) {
             return false;
@@ -274,12 +290,22 @@ fn lie_apart(set: &ByteSet, others: &ByteSet) -> bool {
     true
 }
 
-fn has_complement(set: &ByteSet) -> Result<bool, MapError> {
-    let others = set.complement()?;
-    Ok(others.len() == 232 && others.contains(3) && !others.contains(20) && lie_apart(set, &others))
+/// Whether the other set holds so many keys, among them 3 and not 20.
+fn holds_the_others<C: Storage<ByteItem>>(others: &generic::set::RangeSet<u8, C>) -> bool {
+    others.len() == 232 && others.contains(3) && !others.contains(20)
 }
 
-fn tour<R: Abort>(rt: &R, set: &mut ByteSet) -> Result<(), MapError> {
+fn has_complement<C: Storage<ByteItem>>(
+    set: &generic::set::RangeSet<u8, C>,
+) -> Result<bool, MapError> {
+    let others = set.complement()?;
+    Ok(holds_the_others(&others) && lie_apart(set, &others))
+}
+
+fn tour<C: Storage<ByteItem>, R: Abort>(
+    rt: &R,
+    set: &mut generic::set::RangeSet<u8, C>,
+) -> Result<(), MapError> {
     assert_eq!(rt; set.range_count(), 2);
     assert!(rt; set.contains(14) && !set.contains(15));
     set.remove(3u8)?;
@@ -291,7 +317,7 @@ fn tour<R: Abort>(rt: &R, set: &mut ByteSet) -> Result<(), MapError> {
 
 #[test]
 fn a_tour_of_sets(rt: HostRuntime) -> Result<(), Fail> {
-    let mut set = extended(rt.alloc())?;
+    let mut set: ByteSet = extended(rt.alloc())?;
     tour(&rt, &mut set)?;
     Ok(())
 }
