@@ -19,7 +19,14 @@ type IntMap = RangeMap<i32, i64>;
 
 type ByteSet = RangeSet<u8>;
 
+type IntItem = Item<AnyRange<i32>, i64>;
+
 type ByteItem = Item<AnyRange<u8>, ()>;
+
+/// The same maps and sets over any container, as the calls are made on them.
+type Ints<C> = generic::map::RangeMap<i32, i64, C>;
+
+type Bytes<C> = generic::set::RangeSet<u8, C>;
 
 /// A call with a range, or what has to come of it.
 #[derive(Clone, Copy)]
@@ -41,8 +48,8 @@ enum Step<'a> {
     Shows(&'a [i64]),
 }
 
-fn call_with<R: IntoRange<Item = i32>>(
-    map: &mut IntMap,
+fn call_with<R: IntoRange<Item = i32>, C: Storage<IntItem>>(
+    map: &mut Ints<C>,
     range: R,
     call: Call,
 ) -> Result<bool, MapError> {
@@ -55,7 +62,11 @@ fn call_with<R: IntoRange<Item = i32>>(
 }
 
 /// Makes the call with the range as it is spelled.
-fn call_spelled(map: &mut IntMap, keys: Keys<i32>, what: Call) -> Result<bool, MapError> {
+fn call_spelled<C: Storage<IntItem>>(
+    map: &mut Ints<C>,
+    keys: Keys<i32>,
+    what: Call,
+) -> Result<bool, MapError> {
     match keys {
         All => call_with(map, AnyRange::new(Bound::Unbounded, Bound::Unbounded), what),
         Any(start, end) => call_with(map, AnyRange::new(start, end), what),
@@ -75,11 +86,11 @@ fn call_spelled(map: &mut IntMap, keys: Keys<i32>, what: Call) -> Result<bool, M
     }
 }
 
-fn value_at(map: &IntMap, key: i32) -> Option<i64> {
+fn value_at<C: Storage<IntItem>>(map: &Ints<C>, key: i32) -> Option<i64> {
     map.get(key).copied()
 }
 
-fn shows(map: &IntMap, values: &[i64]) -> bool {
+fn shows<C: Storage<IntItem>>(map: &Ints<C>, values: &[i64]) -> bool {
     for (key, value) in (-1..).zip(values.iter()) {
         if value_at(map, key).unwrap_or(0) != *value {
             return false;
@@ -89,7 +100,7 @@ fn shows(map: &IntMap, values: &[i64]) -> bool {
 }
 
 /// Makes the call, or tells whether what has to hold does.
-fn goes(map: &mut IntMap, step: Step<'_>) -> Result<bool, MapError> {
+fn goes<C: Storage<IntItem>>(map: &mut Ints<C>, step: Step<'_>) -> Result<bool, MapError> {
     match step {
         Step::With(keys, what) => call_spelled(map, keys, what),
         Step::Count(count) => Ok(map.range_count() == count),
@@ -98,7 +109,7 @@ fn goes(map: &mut IntMap, step: Step<'_>) -> Result<bool, MapError> {
     }
 }
 
-fn run(map: &mut IntMap, steps: &[Step<'_>]) -> Result<usize, MapError> {
+fn run<C: Storage<IntItem>>(map: &mut Ints<C>, steps: &[Step<'_>]) -> Result<usize, MapError> {
     for (place, step) in steps.iter().enumerate() {
         if !goes(map, *step)? {
             return Ok(place);
@@ -244,12 +255,8 @@ fn meetings_in_every_spelling(rt: HostRuntime) -> Result<(), Fail> {
     Ok(())
 }
 
-fn extended<C: Storage<ByteItem>>(
-    alloc: Global,
-) -> Result<generic::set::RangeSet<u8, C>, MapError> {
-    let mut set: generic::set::RangeSet<u8, C> = generic::set::RangeSet::new(alloc);
-    set.extend([0..10, 20..30, 10..15])?;
-    Ok(set)
+fn fill<C: Storage<ByteItem>>(set: &mut Bytes<C>) -> Result<(), MapError> {
+    set.extend([0..10, 20..30, 10..15])
 }
 
 /// The first and the last key of a gap.
@@ -259,10 +266,7 @@ fn ends_of(gap: AnyRange<&u8>) -> Result<(Option<u8>, Option<u8>), AllocError> {
 }
 
 /// Whether the gaps of the set go from these first keys to these last ones.
-fn has_gaps<C: Storage<ByteItem>>(
-    set: &generic::set::RangeSet<u8, C>,
-    rows: &[(u8, u8)],
-) -> Result<bool, MapError> {
+fn has_gaps<C: Storage<ByteItem>>(set: &Bytes<C>, rows: &[(u8, u8)]) -> Result<bool, MapError> {
     let mut left = rows;
     let mut gaps = set.gaps();
     while let Some(gap) = gaps.next() {
@@ -278,10 +282,7 @@ fn has_gaps<C: Storage<ByteItem>>(
 }
 
 /// Whether no range of the one set meets the other.
-fn lie_apart<C: Storage<ByteItem>>(
-    set: &generic::set::RangeSet<u8, C>,
-    others: &generic::set::RangeSet<u8, C>,
-) -> bool {
+fn lie_apart<C: Storage<ByteItem>>(set: &Bytes<C>, others: &Bytes<C>) -> bool {
     for range in others {
         if set.intersects(*range) {
             return false;
@@ -291,21 +292,16 @@ fn lie_apart<C: Storage<ByteItem>>(
 }
 
 /// Whether the other set holds so many keys, among them 3 and not 20.
-fn holds_the_others<C: Storage<ByteItem>>(others: &generic::set::RangeSet<u8, C>) -> bool {
+fn holds_the_others<C: Storage<ByteItem>>(others: &Bytes<C>) -> bool {
     others.len() == 232 && others.contains(3) && !others.contains(20)
 }
 
-fn has_complement<C: Storage<ByteItem>>(
-    set: &generic::set::RangeSet<u8, C>,
-) -> Result<bool, MapError> {
+fn has_complement<C: Storage<ByteItem>>(set: &Bytes<C>) -> Result<bool, MapError> {
     let others = set.complement()?;
     Ok(holds_the_others(&others) && lie_apart(set, &others))
 }
 
-fn tour<C: Storage<ByteItem>, R: Abort>(
-    rt: &R,
-    set: &mut generic::set::RangeSet<u8, C>,
-) -> Result<(), MapError> {
+fn tour<C: Storage<ByteItem>, R: Abort>(rt: &R, set: &mut Bytes<C>) -> Result<(), MapError> {
     assert_eq!(rt; set.range_count(), 2);
     assert!(rt; set.contains(14) && !set.contains(15));
     set.remove(3u8)?;
@@ -317,7 +313,8 @@ fn tour<C: Storage<ByteItem>, R: Abort>(
 
 #[test]
 fn a_tour_of_sets(rt: HostRuntime) -> Result<(), Fail> {
-    let mut set: ByteSet = extended(rt.alloc())?;
+    let mut set: ByteSet = RangeSet::new(rt.alloc());
+    fill(&mut set)?;
     tour(&rt, &mut set)?;
     Ok(())
 }
