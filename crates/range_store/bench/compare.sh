@@ -11,7 +11,7 @@ for crate in range_keys range_algebra range_store range_map range_sets btree_ran
     cp -r "$top/crates/$crate" "$work/crates/"
 done
 cp "$top/HANDLES" "$work/"
-{ grep -v '^rangerun' "$top/crates.txt"; echo 'containers: btree_range_map anyhow'; } > "$work/crates.txt"
+{ grep -Ev '^(rangerun|[a-z]+_tests):' "$top/crates.txt"; echo 'containers: btree_range_map anyhow'; } > "$work/crates.txt"
 cp "$(dirname "$0")/containers.txt" "$work/crates/containers/src/main.rt"
 cd "$work/crates/containers"
 rt run
