@@ -1,4 +1,6 @@
 //! The collections, generic in their container.
 
-pub use range_map::map::{self, RangeMap};
+pub mod map;
+
+pub use map::RangeMap;
 pub use range_sets::set::{self, RangeSet};

@@ -1,5 +1,6 @@
 use crate::support::{InVector, NumberItem, closed, half_open, new_map, range_count};
-use range_map::map::{Command, MapError, RangeMap, Reply, answer, run};
+use range_map::map::{MapError, RangeMap};
+use range_sets::command::{Command, Reply, answer, run};
 use range_store::vec_storage::VecStorage;
 use std::alloc::Global;
 use std::process::Abort;

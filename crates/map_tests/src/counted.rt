@@ -1,7 +1,8 @@
 //! How many steps counted calls take.
 
 use crate::support::{InTree, InVector, NumberItem, Range, closed, half_open};
-use range_map::map::{Command, MapError, RangeMap, Reply, run_counted};
+use range_map::map::{MapError, RangeMap};
+use range_sets::command::{Command, Reply, run_counted};
 use range_store::storage::{Steps, Storage};
 use std::alloc::{AllocError, Global};
 use std::test::Fail;

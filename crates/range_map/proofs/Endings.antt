@@ -1,6 +1,6 @@
 -- A list whose first item has another start, and its last another end.
 use Rattle.std.proofs.Common.{◌≡◌, ◌+◌, ◌-◌, ◌<◌, ◌≤◌, ℕ, suc, List, [], ◌∷◌, ◌++◌, length, take, drop, get_or, refl, ap, sym, ◌∙◌, arith, Option, Some, None, Bool, inl, inr, length-append, append_assoc}
-use Rattle.std.proofs.lemmas.List.{take_at, drop_at, drop-drop, length-take-le}
+use Rattle.std.proofs.lemmas.List.{append-nil, take_at, drop_at, drop-drop, length-take-le}
 use Rattle.std.proofs.Math.ListN.{set}
 use Rattle.std.specs.Prelude.{slice_get}
 use Rattle.std.specs.Cmp.{IsEquivalence}
@@ -99,3 +99,7 @@ module _ {K V : Type 0} where
   pub own_values : (order : KeyOrder K) (same : V → V → Bool) → IsEquivalence same → (xs : List (Item (AnyRange K) V)) → Every (λ j. HasValue order same xs j.value) xs
   own_values order same equal [] = tt
   own_values order same equal (x ∷ xs) = (inl (equal.refl x.value), every_weaker _ _ xs (λ j h. inr h) (own_values order same equal xs))
+
+pub prefix_is_all : {X : Type 0} (done rest all : List X) → done ++ rest ≡ all → length rest ≡ 0 → done ≡ all
+prefix_is_all done [] all e h = sym (append-nil done) ∙ e
+prefix_is_all done (x ∷ rest) all e h = absurd (omega arith)

@@ -1,8 +1,6 @@
 pub mod Adding
-pub mod Asked
 pub mod Coarse
 pub mod Copying
-pub mod CountedRuns
 pub mod Covering
 pub mod CutOut
 pub mod CutParts
@@ -12,7 +10,6 @@ pub mod Edging
 pub mod Endings
 pub mod Extents
 pub mod FewGaps
-pub mod FewRanges
 pub mod Filling
 pub mod Forms
 pub mod Found
@@ -20,7 +17,6 @@ pub mod Framing
 pub mod FreeParts
 pub mod Gapping
 pub mod Gathering
-pub mod Histories
 pub mod Joined
 pub mod JustBefore
 pub mod Lengths
@@ -30,7 +26,6 @@ pub mod Meeting
 pub mod Openings
 pub mod Planning
 pub mod Replaced
-pub mod Replies
 pub mod RunParts
 pub mod Scans
 pub mod Seaming

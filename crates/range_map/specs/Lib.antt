@@ -5,14 +5,12 @@ pub mod Changes
 pub mod Coarse
 pub mod Copies
 pub mod Costs
-pub mod CountedRuns
 pub mod Depths
 pub mod Edges
 pub mod Edits
 pub mod Frames
 pub mod FreeRanges
 pub mod Gaps
-pub mod History
 pub mod ItemCuts
 pub mod Iterating
 pub mod ListOrder
@@ -23,10 +21,8 @@ pub mod Plans
 pub mod Ranges
 pub mod Reach
 pub mod Replaced
-pub mod Runs
 pub mod Seams
 pub mod Searches
 pub mod Stored
-pub mod Tagged
 pub mod Texts
 pub mod Window

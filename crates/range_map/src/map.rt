@@ -1,4 +1,4 @@
-//! A map from ranges of keys to values, with the commands that can be given to it.
+//! A map from ranges of keys to values.
 ghost use Rattle.std.specs.Prelude.{◌≡◌, ◌+◌, [], length};
 ghost use Rattle.std.specs.Option.{option_copied};
 ghost use Rattle.range_map.specs.Stored.{IsStored};
@@ -7,7 +7,6 @@ ghost use Rattle.range_store.specs.Counting.{AddsSteps};
 ghost use Rattle.range_map.specs.Bindings.{Binds, IsCoarse};
 ghost use Rattle.range_map.specs.Coarse.{IsOnlyCoarse, IsLeastCount};
 
-pub use crate::command::{Command, Reply, answer, run, run_counted};
 pub use crate::error::{MapError, NotInserted, UpdateError};
 pub use crate::gaps::Gaps;
 pub use crate::into_iter::IntoIter;

@@ -6,7 +6,7 @@ use Rattle.range_algebra.specs.Intervals.{Every}
 use Rattle.range_algebra.specs.Range.{IsEmptyRange}
 use Rattle.range_algebra.specs.declared.any.AnyRange.{AnyRange}
 use Rattle.range_store.specs.declared.storage.Item.{Item}
-use Rattle.range_map.proofs.Histories.{is_greater}
+use Rattle.range_sets.proofs.Histories.{is_greater}
 use Rattle.range_map.specs.Frames.{GaveWayTo}
 
 module _ {K : Type 0} (order : KeyOrder K) where

@@ -1,10 +1,15 @@
-pub mod Complementing
+pub mod Asked
 pub mod ComplementTwice
+pub mod Complementing
+pub mod CountedRuns
 pub mod Counting
 pub mod Enclosing
+pub mod FewRanges
 pub mod Filling
+pub mod Histories
 pub mod Likeness
 pub mod Matching
 pub mod Membership
 pub mod Ranges
+pub mod Replies
 pub mod Showing

@@ -1,5 +1,9 @@
 pub mod Complements
+pub mod CountedRuns
 pub mod Extending
+pub mod History
 pub mod KeySets
+pub mod Runs
 pub mod SetOrder
 pub mod SetTexts
+pub mod Tagged

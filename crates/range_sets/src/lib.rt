@@ -1,8 +1,9 @@
-//! Sets of keys, kept as ranges, for every container.
+//! What stands on the contract of the map alone: sets of keys, and lists of commands to a map.
 #![tactic(auto)]
 
 mod change;
 mod cloning;
+pub mod command;
 mod comparing;
 mod complement;
 mod extension;

@@ -4,8 +4,7 @@ use Rattle.std.proofs.lemmas.List.{append-nil}
 use Rattle.range_algebra.proofs.Lists.{parts}
 use Rattle.range_store.specs.Places.{place_before}
 use Rattle.range_store.proofs.PlacesLemmas.{place_at, at_place}
-use Rattle.range_map.proofs.Endings.{put_next, put_all}
-use Rattle.range_map.proofs.Histories.{ended}
+use Rattle.range_map.proofs.Endings.{put_next, put_all, prefix_is_all}
 use Rattle.range_map.proofs.change.replace_run_by.Goals as goal
 
 pub loop-item-init : goal.loop-item-init
@@ -55,7 +54,7 @@ returns g c =
     let here : place_before (storage.rank now) (length (storage.items now)) c.loop-item.cursor.at ≡ place + length done = place_at (storage.is_good now) (storage.rank now) (length (storage.items now)) c.loop-item.cursor.at (place + length done) was.position in
     let rest = c.loop-item.item-iterator.rest in
     let none : length rest.items ≡ 0 = omega (arith, rest.ok.0, c.in-None.ensures.steps.0) in
-    let all = ended done rest.items c.args.items.items was.parted none in
+    let all = prefix_is_all done rest.items c.args.items.items was.parted none in
     rw (← all) (put_all before (storage.items now) (storage.items c.remove_rest.new.stored) done place c.args.run.left c.loop-item.cursor.left was.changed was.fewer c.requires.in_range (rw here at c.remove_rest.ensures.list))
 
 pub loop-item-smaller : goal.loop-item-smaller

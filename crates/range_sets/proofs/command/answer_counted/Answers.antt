@@ -1,5 +1,5 @@
-use Rattle.range_map.proofs.Replies.{meets_some, meets_none}
-use Rattle.range_map.proofs.command.answer_counted.Goals as goal
+use Rattle.range_sets.proofs.Replies.{meets_some, meets_none}
+use Rattle.range_sets.proofs.command.answer_counted.Goals as goal
 
 pub returns-in-Ok-remove_counted-clause-step : goal.returns-in-Ok-remove_counted-clause-step
 returns-in-Ok-remove_counted-clause-step g c =

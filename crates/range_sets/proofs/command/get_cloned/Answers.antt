@@ -1,6 +1,6 @@
 use Rattle.range_map.specs.Bindings.{IsBound}
-use Rattle.range_map.proofs.Replies.{binds_alike, is_bound, on_err}
-use Rattle.range_map.proofs.command.get_cloned.Goals as goal
+use Rattle.range_sets.proofs.Replies.{binds_alike, is_bound, on_err}
+use Rattle.range_sets.proofs.command.get_cloned.Goals as goal
 
 pub returns-in_ok-clone-in-Some-clause-value : goal.returns-in_ok-clone-in-Some-clause-value
 returns-in_ok-clone-in-Some-clause-value g c =

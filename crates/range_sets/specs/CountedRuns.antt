@@ -6,11 +6,11 @@ use Rattle.range_algebra.specs.Range.{IsEmptyRange}
 use Rattle.range_store.specs.Counting.{AddsSteps}
 use Rattle.range_store.specs.declared.storage.Item.{Item}
 use Rattle.range_map.specs.Costs.{TakesAtLeast, TakesAsChange}
-use Rattle.range_map.specs.Runs.{IsStep}
-use Rattle.range_map.specs.declared.command.Command.{Command}
-use Rattle.range_map.specs.declared.command.Command.TheVariants.{Insert, Remove, Get, Contains, Intersects}
-use Rattle.range_map.specs.declared.command.Reply.{Reply}
-use Rattle.range_map.specs.declared.command.Reply.TheVariants.{Done, Memory}
+use Rattle.range_sets.specs.Runs.{IsStep}
+use Rattle.range_sets.specs.declared.command.Command.{Command}
+use Rattle.range_sets.specs.declared.command.Command.TheVariants.{Insert, Remove, Get, Contains, Intersects}
+use Rattle.range_sets.specs.declared.command.Reply.{Reply}
+use Rattle.range_sets.specs.declared.command.Reply.TheVariants.{Done, Memory}
 
 -- none of the replies says that there was not enough memory
 abbrev pub HasNoMemory : {K V E : Type 0} → List (Reply K V E) → Type 0

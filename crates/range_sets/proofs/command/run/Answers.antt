@@ -1,8 +1,8 @@
 use Rattle.range_map.specs.Bindings.{Binds}
-use Rattle.range_map.specs.Tagged.{MayAnswerTo}
-use Rattle.range_map.proofs.CountedRuns.{if_ok_then, uncounted, few_after}
-use Rattle.range_map.proofs.Histories.{run_binds}
-use Rattle.range_map.proofs.command.run.Goals as goal
+use Rattle.range_sets.specs.Tagged.{MayAnswerTo}
+use Rattle.range_sets.proofs.CountedRuns.{if_ok_then, uncounted, few_after}
+use Rattle.range_sets.proofs.Histories.{run_binds}
+use Rattle.range_sets.proofs.command.run.Goals as goal
 
 pub returns-clause-chain : goal.returns-clause-chain
 returns-clause-chain g c =

@@ -21,7 +21,7 @@ use Rattle.range_map.specs.Answers.{Answered, IsAsAnswered, MayAnswer, IsUpdated
 use Rattle.range_map.specs.Bindings.{Binds, BindsTo, IsBound}
 use Rattle.range_map.specs.Pieces.{IsPiece, IsCommonPart, later, earlier}
 use Rattle.range_map.specs.Ranges.{Overlap}
-use Rattle.range_map.specs.Runs.{IsAnswered, MayFail}
+use Rattle.range_sets.specs.Runs.{IsAnswered, MayFail}
 
 module _ {K : Type 0} (order : KeyOrder K) (lawful : IsLawful order) (k : K) (key : order.is_key k) where
   later_reaches : (p q : Position K) (b : Bool) → is_gt (position_cmp order.cmp p q) ≡ b → Le (position_cmp order.cmp) q (if b then p else q)

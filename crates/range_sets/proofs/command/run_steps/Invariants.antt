@@ -1,8 +1,8 @@
 use Rattle.std.proofs.Common.{◌≡◌, ◌≤◌, ◌+◌, ◌++◌, length, vec_len}
 use Rattle.std.specs.Prelude.{vec_capacity}
-use Rattle.range_map.specs.Tagged.{MayAnswerTo}
-use Rattle.range_map.specs.CountedRuns.{IsCountedRun}
-use Rattle.range_map.proofs.command.run_steps.Given as goal
+use Rattle.range_sets.specs.Tagged.{MayAnswerTo}
+use Rattle.range_sets.specs.CountedRuns.{IsCountedRun}
+use Rattle.range_sets.proofs.command.run_steps.Given as goal
 
 abbrev pub invariant-loop-command : goal.invariant-loop-command
 invariant-loop-command g l =

@@ -1,21 +1,20 @@
-//! Lists of commands.
+//! Lists of commands to a map.
 ghost use Rattle.std.specs.Prelude.{◌≡◌, ℕ, ◌+◌, ◌*◌, ◌≤◌, length, OnOk, OnErr, MatchResult, IfOk, Option, Some};
 ghost use Rattle.std.specs.Option.{option_copied};
 ghost use Rattle.range_algebra.specs.Range.{ClonesAreEqual};
 ghost use Rattle.range_map.specs.Bindings.{Binds, IsBound};
 ghost use Rattle.range_store.specs.Holding.{box_items};
 ghost use Rattle.range_map.specs.Costs.{TakesAtLeast};
-ghost use Rattle.range_map.specs.CountedRuns.{LookupTakes, TakesFor, IsCountedRun, IsRunOfDue, HasNoMemory};
+ghost use Rattle.range_sets.specs.CountedRuns.{LookupTakes, TakesFor, IsCountedRun, IsRunOfDue, HasNoMemory};
 ghost use Rattle.range_map.specs.Depths.{greatest_level};
-ghost use Rattle.range_map.specs.Runs.{IsStep, IsRun, HasNoUpdate};
-ghost use Rattle.range_map.specs.History.{BindOver};
-ghost use Rattle.range_map.specs.Tagged.{MayAnswerTo, MayBeAskedAll};
-ghost use Rattle.range_map.specs.declared.command.Command.TheVariants.{Update};
+ghost use Rattle.range_sets.specs.Runs.{IsStep, IsRun, HasNoUpdate};
+ghost use Rattle.range_sets.specs.History.{BindOver};
+ghost use Rattle.range_sets.specs.Tagged.{MayAnswerTo, MayBeAskedAll};
+ghost use Rattle.range_sets.specs.declared.command.Command.TheVariants.{Update};
 
-use crate::error::{MapError, NotInserted, UpdateError};
-use crate::map::RangeMap;
 use range_algebra::any::AnyRange;
 use range_keys::traits::{Measure, PartialEnum};
+use range_map::map::{MapError, NotInserted, RangeMap, UpdateError};
 use range_store::btree::BoxStorage;
 use range_store::storage::{Item, Steps, Storage};
 use std::alloc::{AllocError, Global};

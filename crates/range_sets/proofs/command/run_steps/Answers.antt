@@ -1,8 +1,8 @@
 use Rattle.std.proofs.Common.{◌≡◌, ◌++◌, ◌∷◌, [], length, sym, ap, ◌∙◌, arith, append_assoc}
-use Rattle.range_map.specs.Tagged.{MayAnswerTo}
-use Rattle.range_map.proofs.CountedRuns.{one_more_counted}
-use Rattle.range_map.proofs.Histories.{ended}
-use Rattle.range_map.proofs.command.run_steps.Goals as goal
+use Rattle.range_sets.specs.Tagged.{MayAnswerTo}
+use Rattle.range_sets.proofs.CountedRuns.{one_more_counted}
+use Rattle.range_map.proofs.Endings.{prefix_is_all}
+use Rattle.range_sets.proofs.command.run_steps.Goals as goal
 
 pub loop-command-preserved : goal.loop-command-preserved
 loop-command-preserved g c =
@@ -19,5 +19,5 @@ pub returns-clause-run : goal.returns-clause-run
 returns-clause-run g c =
     let rest = c.loop-command.command-iterator.rest in
     let none : length rest.items ≡ 0 = omega (arith, rest.ok.0, c.in-None.ensures.steps.0) in
-    let all = ended c.loop-command.yielded rest.items c.args.commands.items c.loop-command.invariant.left none in
+    let all = prefix_is_all c.loop-command.yielded rest.items c.args.commands.items c.loop-command.invariant.left none in
     rw (← all) c.loop-command.invariant.chain

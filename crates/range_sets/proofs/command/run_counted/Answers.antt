@@ -2,11 +2,11 @@ use Rattle.std.proofs.Common.{◌+◌, ◌*◌, length, arith}
 use Rattle.range_store.specs.Holding.{box_items}
 use Rattle.range_map.specs.Bindings.{Binds}
 use Rattle.range_map.specs.Depths.{greatest_level}
-use Rattle.range_map.specs.Tagged.{MayAnswerTo}
-use Rattle.range_map.proofs.CountedRuns.{if_ok_then, uncounted, few_after, run_most, run_least, few_asks, some_asks}
+use Rattle.range_sets.specs.Tagged.{MayAnswerTo}
+use Rattle.range_sets.proofs.CountedRuns.{if_ok_then, uncounted, few_after, run_most, run_least, few_asks, some_asks}
 use Rattle.range_map.proofs.Depths.{greatest_level_is}
-use Rattle.range_map.proofs.Histories.{run_binds}
-use Rattle.range_map.proofs.command.run_counted.Goals as goal
+use Rattle.range_sets.proofs.Histories.{run_binds}
+use Rattle.range_sets.proofs.command.run_counted.Goals as goal
 
 pub returns-clause-chain : goal.returns-clause-chain
 returns-clause-chain g c =

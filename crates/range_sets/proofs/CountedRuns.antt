@@ -11,15 +11,15 @@ use Rattle.range_store.specs.declared.btree.node.TheConstants.{MOST}
 use Rattle.range_store.specs.declared.btree.searching.TheConstants.{HALVINGS}
 use Rattle.range_store.specs.declared.storage.Item.{Item}
 use Rattle.range_map.specs.Costs.{TakesAtLeast, TakesAsChange}
-use Rattle.range_map.specs.CountedRuns.{HasNoMemory, IsDone, ChangeTakes, LookupTakes, TakesFor, IsDue, IsRunOfDue, IsCountedRun}
+use Rattle.range_sets.specs.CountedRuns.{HasNoMemory, IsDone, ChangeTakes, LookupTakes, TakesFor, IsDue, IsRunOfDue, IsCountedRun}
 use Rattle.range_map.specs.Depths.{IsGreatestLevel}
-use Rattle.range_map.specs.Runs.{IsStep, IsRun, HasNoUpdate}
-use Rattle.range_map.specs.declared.command.Command.{Command}
-use Rattle.range_map.specs.declared.command.Command.TheVariants.{Insert, InsertDisconnected, Remove, Update, Get, Contains, Intersects, Count}
-use Rattle.range_map.specs.declared.command.Reply.{Reply}
-use Rattle.range_map.specs.declared.command.Reply.TheVariants.{Done, Memory, Connected, Closure, Value, Truth, Count as Counted}
-use Rattle.range_map.proofs.FewRanges.{two_more, few_more}
-use Rattle.range_map.proofs.Histories.{is_greater}
+use Rattle.range_sets.specs.Runs.{IsStep, IsRun, HasNoUpdate}
+use Rattle.range_sets.specs.declared.command.Command.{Command}
+use Rattle.range_sets.specs.declared.command.Command.TheVariants.{Insert, InsertDisconnected, Remove, Update, Get, Contains, Intersects, Count}
+use Rattle.range_sets.specs.declared.command.Reply.{Reply}
+use Rattle.range_sets.specs.declared.command.Reply.TheVariants.{Done, Memory, Connected, Closure, Value, Truth, Count as Counted}
+use Rattle.range_sets.proofs.FewRanges.{two_more, few_more}
+use Rattle.range_sets.proofs.Histories.{is_greater}
 
 pub if_ok_then : {A E : Type 0} {P Q : A → Type 0} (r : Result A E) → IfOk r P → ((x : A) → P x → Q x) → IfOk r Q
 if_ok_then (Ok x) h f = f x h

@@ -1,8 +1,8 @@
 use Rattle.std.proofs.lemmas.Grind.{common_steps}
 use Rattle.std.proofs.Common.{rules, subst, arith}
-use Rattle.range_map.specs.Tagged.{MayAnswerTo}
-use Rattle.range_map.proofs.Asked.{answered_as, fails_as}
-use Rattle.range_map.proofs.command.update_tagged.Goals as goal
+use Rattle.range_sets.specs.Tagged.{MayAnswerTo}
+use Rattle.range_sets.proofs.Asked.{answered_as, fails_as}
+use Rattle.range_sets.proofs.command.update_tagged.Goals as goal
 
 pub returns-in-Ok : goal.returns-in-Ok
 returns-in-Ok g c =

@@ -4,11 +4,11 @@ use Rattle.std.specs.Prelude.{Option, Result}
 use Rattle.range_keys.specs.Order.{KeyOrder}
 use Rattle.range_algebra.specs.declared.any.AnyRange.{AnyRange}
 use Rattle.range_store.specs.declared.storage.Item.{Item}
-use Rattle.range_map.specs.Runs.{IsStep, IsRun, HasNoUpdate}
-use Rattle.range_map.specs.declared.command.Command.{Command}
-use Rattle.range_map.specs.declared.command.Command.TheVariants.{Insert, InsertDisconnected, Remove, Update, Get, Contains, Intersects, Count}
-use Rattle.range_map.specs.declared.command.Reply.{Reply}
-use Rattle.range_map.specs.declared.command.Reply.TheVariants.{Done, Memory, Connected, Value, Truth, Count as Counted}
+use Rattle.range_sets.specs.Runs.{IsStep, IsRun, HasNoUpdate}
+use Rattle.range_sets.specs.declared.command.Command.{Command}
+use Rattle.range_sets.specs.declared.command.Command.TheVariants.{Insert, InsertDisconnected, Remove, Update, Get, Contains, Intersects, Count}
+use Rattle.range_sets.specs.declared.command.Reply.{Reply}
+use Rattle.range_sets.specs.declared.command.Reply.TheVariants.{Done, Memory, Connected, Value, Truth, Count as Counted}
 
 module _ {K : Type 0} (order : KeyOrder K) {V : Type 0} (same : V → V → Bool) {T E : Type 0} (may : T → Option V → Result (Option V) E → Type 0) where
   -- a list that stays has no more ranges

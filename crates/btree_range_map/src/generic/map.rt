@@ -1,0 +1,8 @@
+//! A map from ranges of keys to values, with the lists of commands that can be given to it.
+
+pub use range_map::map::{
+    Gaps, IntoIter, Iter, MapError, NotInserted, RangeMap, UpdateError, binary_search,
+    coarse_lists_are_shortest, coarse_lists_are_unique, one_level_is_greatest,
+    stored_lists_are_coarse,
+};
+pub use range_sets::command::{Command, Reply, answer, run, run_counted};
