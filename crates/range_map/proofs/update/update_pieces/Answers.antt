@@ -61,3 +61,63 @@ returns-in_err-replace-clause-ok g c = grind (arith, common_steps)
 
 pub returns-in_err-replace-clause-refused : goal.returns-in_err-replace-clause-refused
 returns-in_err-replace-clause-refused g c = grind (arith, common_steps)
+
+pub replace-requires-clause-stored : goal.replace-requires-clause-stored
+replace-requires-clause-stored g c = grind (arith, common_steps)
+
+pub replace-requires-clause-nonempty : goal.replace-requires-clause-nonempty
+replace-requires-clause-nonempty g c = grind (arith, common_steps)
+
+pub replace-requires-clause-window : goal.replace-requires-clause-window
+replace-requires-clause-window g c = grind (arith, common_steps)
+
+pub replace-requires-clause-first : goal.replace-requires-clause-first
+replace-requires-clause-first g c = grind (arith, common_steps)
+
+pub replace-requires-clause-last : goal.replace-requires-clause-last
+replace-requires-clause-last g c = grind (arith, common_steps)
+
+pub update_within-requires-clause-keys : goal.update_within-requires-clause-keys
+update_within-requires-clause-keys g c = grind (arith, common_steps)
+
+pub update_within-requires-clause-values : goal.update_within-requires-clause-values
+update_within-requires-clause-values g c = grind (arith, common_steps)
+
+pub update_within-requires-clause-stored : goal.update_within-requires-clause-stored
+update_within-requires-clause-stored g c = grind (arith, common_steps)
+
+pub update_within-requires-clause-nonempty : goal.update_within-requires-clause-nonempty
+update_within-requires-clause-nonempty g c = grind (arith, common_steps)
+
+pub update_within-requires-clause-window : goal.update_within-requires-clause-window
+update_within-requires-clause-window g c = grind (arith, common_steps)
+
+pub update_within-requires-clause-one : goal.update_within-requires-clause-one
+update_within-requires-clause-one g c = grind (arith, common_steps)
+
+pub update_within-requires-clause-first : goal.update_within-requires-clause-first
+update_within-requires-clause-first g c = grind (arith, common_steps)
+
+pub update_within-requires-clause-last : goal.update_within-requires-clause-last
+update_within-requires-clause-last g c = grind (arith, common_steps)
+
+pub update_within-requires-clause-bound : goal.update_within-requires-clause-bound
+update_within-requires-clause-bound g c = grind (arith, common_steps)
+
+pub gather-requires-clause-keys : goal.gather-requires-clause-keys
+gather-requires-clause-keys g c = grind (arith, common_steps)
+
+pub gather-requires-clause-stored : goal.gather-requires-clause-stored
+gather-requires-clause-stored g c = grind (arith, common_steps)
+
+pub gather-requires-clause-nonempty : goal.gather-requires-clause-nonempty
+gather-requires-clause-nonempty g c = grind (arith, common_steps)
+
+pub gather-requires-clause-window : goal.gather-requires-clause-window
+gather-requires-clause-window g c = grind (arith, common_steps)
+
+pub gather-requires-clause-free : goal.gather-requires-clause-free
+gather-requires-clause-free g c = grind (arith, common_steps)
+
+pub gather-requires-clause-bound : goal.gather-requires-clause-bound
+gather-requires-clause-bound g c = grind (arith, common_steps)

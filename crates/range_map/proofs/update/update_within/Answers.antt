@@ -141,3 +141,51 @@ returns-in_ok-unbind_within-in-Ok-None-clause-form g c = grind (arith, common_st
 
 pub returns-in_ok-unbind_within-in-Ok-None-clause-refused : goal.returns-in_ok-unbind_within-in-Ok-None-clause-refused
 returns-in_ok-unbind_within-in-Ok-None-clause-refused g c = grind (arith, common_steps)
+
+pub bind_within-requires-clause-keys : goal.bind_within-requires-clause-keys
+bind_within-requires-clause-keys g c = grind (arith, common_steps)
+
+pub bind_within-requires-clause-values : goal.bind_within-requires-clause-values
+bind_within-requires-clause-values g c = grind (arith, common_steps)
+
+pub bind_within-requires-clause-stored : goal.bind_within-requires-clause-stored
+bind_within-requires-clause-stored g c = grind (arith, common_steps)
+
+pub bind_within-requires-clause-nonempty : goal.bind_within-requires-clause-nonempty
+bind_within-requires-clause-nonempty g c = grind (arith, common_steps)
+
+pub bind_within-requires-clause-window : goal.bind_within-requires-clause-window
+bind_within-requires-clause-window g c = grind (arith, common_steps)
+
+pub bind_within-requires-clause-one : goal.bind_within-requires-clause-one
+bind_within-requires-clause-one g c = grind (arith, common_steps)
+
+pub bind_within-requires-clause-first : goal.bind_within-requires-clause-first
+bind_within-requires-clause-first g c = grind (arith, common_steps)
+
+pub bind_within-requires-clause-last : goal.bind_within-requires-clause-last
+bind_within-requires-clause-last g c = grind (arith, common_steps)
+
+pub unbind_within-requires-clause-keys : goal.unbind_within-requires-clause-keys
+unbind_within-requires-clause-keys g c = grind (arith, common_steps)
+
+pub unbind_within-requires-clause-values : goal.unbind_within-requires-clause-values
+unbind_within-requires-clause-values g c = grind (arith, common_steps)
+
+pub unbind_within-requires-clause-stored : goal.unbind_within-requires-clause-stored
+unbind_within-requires-clause-stored g c = grind (arith, common_steps)
+
+pub unbind_within-requires-clause-nonempty : goal.unbind_within-requires-clause-nonempty
+unbind_within-requires-clause-nonempty g c = grind (arith, common_steps)
+
+pub unbind_within-requires-clause-window : goal.unbind_within-requires-clause-window
+unbind_within-requires-clause-window g c = grind (arith, common_steps)
+
+pub unbind_within-requires-clause-one : goal.unbind_within-requires-clause-one
+unbind_within-requires-clause-one g c = grind (arith, common_steps)
+
+pub unbind_within-requires-clause-first : goal.unbind_within-requires-clause-first
+unbind_within-requires-clause-first g c = grind (arith, common_steps)
+
+pub unbind_within-requires-clause-last : goal.unbind_within-requires-clause-last
+unbind_within-requires-clause-last g c = grind (arith, common_steps)
