@@ -1,6 +1,6 @@
 //! A tree and a vector that get the same calls.
 
-use crate::calls::{Answer, Call, first_difference, play};
+use crate::calls::{Answer, Call, exchanges, first_difference, play};
 use range_store::btree::BoxStorage;
 use range_store::storage::Storage;
 use range_store::vec_storage::VecStorage;
@@ -56,12 +56,21 @@ pub fn append(tree: &mut Tree, first: u64, end: u64) -> Result<(), AllocError> {
     Ok(())
 }
 
-/// The tree has so many levels.
-pub fn expect_levels(rt: &impl Abort, tree: &Tree, levels: usize) {
+pub fn exchange_in_tree(tree: &mut Tree, times: usize) -> Result<(), AllocError> {
+    exchanges(tree, times)
+}
+
+pub fn exchange_in_list(list: &mut List, times: usize) -> Result<(), AllocError> {
+    exchanges(list, times)
+}
+
+/// The tree holds so many items, on so many levels.
+pub fn expect_levels(rt: &impl Abort, tree: &Tree, items: u64, levels: usize) {
     assert!(rt;
-        tree.levels() == levels,
-        "{} levels for {levels}",
-        tree.levels()
+        tree.len() as u64 == items && tree.levels() == levels,
+        "{} levels for {levels}, {} items for {items}",
+        tree.levels(),
+        tree.len()
     );
 }
 
@@ -82,9 +91,9 @@ pub fn expect_same(rt: &impl Abort, tree: &Tree, list: &List) {
 }
 
 /// Both do a call, and answer the same.
-pub fn play_both(rt: &impl Abort, both: &mut Both, call: Call) -> Result<(), AllocError> {
+pub fn play_both(rt: &impl Abort, both: &mut Both, call: Call) -> Result<Answer, AllocError> {
     let answer = play_tree(&mut both.tree, call)?;
     let told = play_list(&mut both.list, call)?;
     assert!(rt; answer == told, "at {call:?}");
-    Ok(())
+    Ok(answer)
 }

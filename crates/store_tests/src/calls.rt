@@ -1,5 +1,6 @@
 //! Calls on a container, which name their items by rank.
 
+ghost use Rattle.std.specs.Prelude.{◌+◌, ◌≤◌};
 ghost use Rattle.std.specs.Option.{ForSome};
 
 use range_store::storage::Storage;
@@ -34,20 +35,6 @@ fn nth<C: Storage<u64>>(storage: &C, rank: usize) -> Option<C::Position>
         p = storage.next(p)?;
     }
     Some(p)
-}
-
-// The item so many ranks before the last, by a walk.
-fn item_back<C: Storage<u64>>(storage: &C, back: usize) -> Option<u64> {
-    let mut p = storage.last()?;
-    for _ in 0..back {
-        p = storage.prev(p)?;
-    }
-    Some(*storage.get(p))
-}
-
-fn item<C: Storage<u64>>(storage: &C, rank: usize) -> Option<u64> {
-    let p = nth(storage, rank)?;
-    Some(*storage.get(p))
 }
 
 // What stands before a position.
@@ -127,21 +114,85 @@ pub fn play<C: Storage<u64>>(storage: &mut C, call: Call) -> Result<Answer, Allo
     }
 }
 
-/// The first rank, from either end, at which the two hold other items, or the length where one of
-/// them has an item there.
-pub fn first_difference<C: Storage<u64>, D: Storage<u64>>(left: &C, right: &D) -> Option<usize> {
-    let len = left.len();
-    for rank in 0..len {
-        if item(left, rank) != item(right, rank)
-            || item_back(left, rank) != item_back(right, rank)
-        {
+// Takes the item of a rank out and puts it before all others. No memory is asked for.
+fn exchange<C: Storage<u64>>(storage: &mut C, rank: usize)
+    requires { 1 ≤ C.room storage.old }
+    ensures { C.room storage.old ≤ C.room storage.new + 1 }
+{
+    if let Some(p) = nth(storage, rank) {
+        let (item, _) = storage.remove_at(p);
+        let first = storage.first();
+        storage.insert_at(first, item);
+    }
+}
+
+/// Exchanges an item here and there so many times. Memory is asked for once, before all.
+pub fn exchanges<C: Storage<u64>>(storage: &mut C, times: usize) -> Result<(), AllocError> {
+    storage.reserve(times)?;
+    for turn in 0..times {
+        exchange(storage, turn.wrapping_mul(37) % 400);
+    }
+    Ok(())
+}
+
+// The item at a position, if there is one.
+fn item_at<C: Storage<u64>>(storage: &C, at: Option<C::Position>) -> Option<u64>
+    requires { ForSome at (λ p. C.is_good storage.now p) }
+{
+    let p = at?;
+    Some(*storage.get(p))
+}
+
+// The position behind one, if there are both.
+fn ahead<C: Storage<u64>>(storage: &C, at: Option<C::Position>) -> Option<C::Position>
+    requires { ForSome at (λ p. C.is_good storage.now p) }
+    ensures { ForSome result (λ p. C.is_good storage.now p) }
+{
+    storage.next(at?)
+}
+
+// The position before one, if there are both.
+fn back<C: Storage<u64>>(storage: &C, at: Option<C::Position>) -> Option<C::Position>
+    requires { ForSome at (λ p. C.is_good storage.now p) }
+    ensures { ForSome result (λ p. C.is_good storage.now p) }
+{
+    storage.prev(at?)
+}
+
+// How many items the two have in common from the first on, where one then has another or none.
+fn difference_ahead<C: Storage<u64>, D: Storage<u64>>(left: &C, right: &D) -> Option<usize> {
+    let mut p = left.first();
+    let mut q = right.first();
+    for rank in 0..left.len().saturating_add(1) {
+        if item_at(left, p) != item_at(right, q) {
             return Some(rank);
         }
+        p = ahead(left, p);
+        q = ahead(right, q);
     }
-    let more = item(left, len).or(item_back(left, len));
-    if right.len() == len && more.is_none() {
-        None
-    } else {
-        Some(len)
+    None
+}
+
+// How many items the two have in common from the last back, where one then has another or none.
+fn difference_back<C: Storage<u64>, D: Storage<u64>>(left: &C, right: &D) -> Option<usize> {
+    let mut p = left.last();
+    let mut q = right.last();
+    for rank in 0..left.len().saturating_add(1) {
+        if item_at(left, p) != item_at(right, q) {
+            return Some(rank);
+        }
+        p = back(left, p);
+        q = back(right, q);
     }
+    None
+}
+
+/// The first rank, from either end, at which the two hold other items, or a length where they
+/// have different ones.
+pub fn first_difference<C: Storage<u64>, D: Storage<u64>>(left: &C, right: &D) -> Option<usize> {
+    let len = left.len();
+    if right.len() != len {
+        return Some(len);
+    }
+    difference_ahead(left, right).or(difference_back(left, right))
 }

@@ -18,7 +18,7 @@ fn take(rt: &impl Abort, tree: &mut Tree, first: u64, end: u64) -> Result<(), Al
 fn rises(rt: &impl Abort, tree: &mut Tree) -> Result<(), AllocError> {
     for (first, end, levels) in [(0, 7, 1), (7, 8, 2), (8, 64, 3)] {
         append(tree, first, end)?;
-        expect_levels(rt, tree, levels);
+        expect_levels(rt, tree, end, levels);
     }
     Ok(())
 }
@@ -26,13 +26,13 @@ fn rises(rt: &impl Abort, tree: &mut Tree) -> Result<(), AllocError> {
 fn falls(rt: &impl Abort, tree: &mut Tree) -> Result<(), AllocError> {
     for (first, end, levels) in [(0, 34, 2), (34, 57, 2), (57, 64, 0)] {
         take(rt, tree, first, end)?;
-        expect_levels(rt, tree, levels);
+        expect_levels(rt, tree, 64 - end, levels);
     }
     Ok(())
 }
 
 fn rises_and_falls(rt: &impl Abort, tree: &mut Tree) -> Result<(), AllocError> {
-    expect_levels(rt, tree, 0);
+    expect_levels(rt, tree, 0, 0);
     rises(rt, tree)?;
     falls(rt, tree)
 }
@@ -185,7 +185,7 @@ fn grows_again(rt: &impl Abort, both: &mut Both) -> Result<(), AllocError> {
             let rank = scattered(item, len(both));
             put_again(rt, both, Call::Put(rank, item))?;
         }
-        expect_levels(rt, &both.tree, levels);
+        expect_levels(rt, &both.tree, end, levels);
         expect_same_copy(rt, both);
     }
     Ok(())

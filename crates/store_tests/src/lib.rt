@@ -8,4 +8,6 @@ mod calls;
 #[cfg(test)]
 mod containers;
 #[cfg(test)]
+mod runs;
+#[cfg(test)]
 mod searching;
