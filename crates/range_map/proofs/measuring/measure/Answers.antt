@@ -29,3 +29,12 @@ loop-range-preserved g c =
     let before = subst (λ rest. IsMeasured order g.K.Measure.len g.K.Measure.distance (item_ranges c.args.items) rest c.loop-range.total) at c.loop-range.invariant in
     let some : c.bounded_len.result ≡ Some c.in_ok-total.field-0 = c.in_ok-total.was in
     measured_more order g.K.Measure.len g.K.Measure.distance (item_ranges c.args.items) (item_ranges c.next.new.self) c.in-Some.range.now c.loop-range.total c.in_ok-total.field-0 before (sym c.bounded_len.ensures.measure ∙ some)
+
+pub loop-range-init : goal.loop-range-init
+loop-range-init g c = search rules
+
+pub loop-range-smaller : goal.loop-range-smaller
+loop-range-smaller g c = search rules
+
+pub returns : goal.returns
+returns g c = search rules

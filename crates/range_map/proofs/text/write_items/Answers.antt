@@ -18,3 +18,12 @@ loop-range-preserved g c =
     let ok : IsOk c.write_item.result = search rules in
     let shown = subst (λ items. HasShown g.K.Debug.debug_output g.V.Debug.debug_output g.W.Write.write_str_gives all items c.args.f.now c.loop-range.f) step c.loop-range.invariant in
     shown_more g.K.Debug.debug_output g.V.Debug.debug_output g.W.Write.write_str_gives all left item c.args.f.now c.loop-range.f c.write_item.new.f c.write_item.result shown c.write_item.ensures ok
+
+pub loop-range-smaller : goal.loop-range-smaller
+loop-range-smaller g c = search rules
+
+pub returns : goal.returns
+returns g c = search rules
+
+pub returns-in_err-write_item : goal.returns-in_err-write_item
+returns-in_err-write_item g c = search rules

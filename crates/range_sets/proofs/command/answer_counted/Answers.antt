@@ -1,27 +1,32 @@
+use Rattle.std.proofs.lemmas.Grind.{common_steps}
+use Rattle.std.proofs.Common.{refl, rules, arith}
 use Rattle.range_sets.proofs.Replies.{meets_some, meets_none}
 use Rattle.range_sets.proofs.command.answer_counted.Goals as goal
 
-pub returns-in-Ok-remove_counted-clause-step : goal.returns-in-Ok-remove_counted-clause-step
-returns-in-Ok-remove_counted-clause-step g c =
-    let items = g.C.Storage.items c.args.map.now in
-    let done = c.in-Ok-remove_counted.ensures in
-    rw c.in-Remove.is record {
-      unbound = done.unbound;
+pub returns-in-Ok-clause-step : goal.returns-in-Ok-clause-step
+returns-in-Ok-clause-step g c =
+    let done = c.in-Ok.ensures in
+    rw c.in-Insert.is record {
+      bound = done.bound;
       form = done.form;
       few = done.few;
       empty = done.empty_unchanged;
-      unmet = λ unmet. done.unmet_unchanged (meets_none g.K.MaybeBounded.order items c.in-Remove.range unmet);
     }
 
-pub returns-in-Remove-clause-step : goal.returns-in-Remove-clause-step
-returns-in-Remove-clause-step g c =
-    let items = g.C.Storage.items c.args.map.now in
-    let refused = c.in-Err-Memory-remove_counted.ensures in
-    rw c.in-Remove.is (
-      λ empty. let ok = refused.empty empty in cc,
-      meets_some g.K.MaybeBounded.order items c.in-Remove.range (λ apart. let ok = refused.unmet apart in cc),
-      refused.refused,
-    )
+pub returns-in-Ok-clause-takes : goal.returns-in-Ok-clause-takes
+returns-in-Ok-clause-takes g c =
+    let done = c.in-Ok.ensures in
+    rw c.in-Insert.is (record { at_most = λ unrefused. done.most; at_least = done.least; none = done.empty_uncounted })
+
+pub returns-in-Insert-clause-step : goal.returns-in-Insert-clause-step
+returns-in-Insert-clause-step g c =
+    let refused = c.in-Err-Memory.ensures in
+    rw c.in-Insert.is (λ empty. let ok = refused.empty empty in cc, refused.refused)
+
+pub returns-in-Insert-clause-takes : goal.returns-in-Insert-clause-takes
+returns-in-Insert-clause-takes g c =
+    let refused = c.in-Err-Memory.ensures in
+    rw c.in-Insert.is (record { at_most = λ done. absurd done; at_least = refused.least; none = refused.empty_uncounted })
 
 pub returns-in-Ok-insert_disconnected-clause-step : goal.returns-in-Ok-insert_disconnected-clause-step
 returns-in-Ok-insert_disconnected-clause-step g c =
@@ -36,6 +41,15 @@ returns-in-Ok-insert_disconnected-clause-step g c =
       },
     )
 
+pub returns-in-Ok-insert_disconnected-clause-takes : goal.returns-in-Ok-insert_disconnected-clause-takes
+returns-in-Ok-insert_disconnected-clause-takes g c = rw c.in-InsertDisconnected.is refl
+
+pub returns-in-Err-Connected-clause-step : goal.returns-in-Err-Connected-clause-step
+returns-in-Err-Connected-clause-step g c = grind (arith, common_steps)
+
+pub returns-in-Err-Connected-clause-takes : goal.returns-in-Err-Connected-clause-takes
+returns-in-Err-Connected-clause-takes g c = rw c.in-InsertDisconnected.is refl
+
 pub returns-in-InsertDisconnected-clause-step : goal.returns-in-InsertDisconnected-clause-step
 returns-in-InsertDisconnected-clause-step g c =
     let refused = c.in-Err-Memory-insert_disconnected.ensures in
@@ -45,12 +59,77 @@ returns-in-InsertDisconnected-clause-step g c =
       refused.refused,
     )
 
-pub returns-in-Ok-clause-takes : goal.returns-in-Ok-clause-takes
-returns-in-Ok-clause-takes g c =
-    let done = c.in-Ok.ensures in
-    rw c.in-Insert.is (record { at_most = λ unrefused. done.most; at_least = done.least; none = done.empty_uncounted })
+pub returns-in-InsertDisconnected-clause-takes : goal.returns-in-InsertDisconnected-clause-takes
+returns-in-InsertDisconnected-clause-takes g c = rw c.in-InsertDisconnected.is refl
+
+pub returns-in-Ok-remove_counted-clause-step : goal.returns-in-Ok-remove_counted-clause-step
+returns-in-Ok-remove_counted-clause-step g c =
+    let items = g.C.Storage.items c.args.map.now in
+    let done = c.in-Ok-remove_counted.ensures in
+    rw c.in-Remove.is record {
+      unbound = done.unbound;
+      form = done.form;
+      few = done.few;
+      empty = done.empty_unchanged;
+      unmet = λ unmet. done.unmet_unchanged (meets_none g.K.MaybeBounded.order items c.in-Remove.range unmet);
+    }
 
 pub returns-in-Ok-remove_counted-clause-takes : goal.returns-in-Ok-remove_counted-clause-takes
 returns-in-Ok-remove_counted-clause-takes g c =
     let done = c.in-Ok-remove_counted.ensures in
     rw c.in-Remove.is (record { at_most = λ unrefused. done.most; at_least = done.least; none = done.empty_uncounted })
+
+pub returns-in-Remove-clause-step : goal.returns-in-Remove-clause-step
+returns-in-Remove-clause-step g c =
+    let items = g.C.Storage.items c.args.map.now in
+    let refused = c.in-Err-Memory-remove_counted.ensures in
+    rw c.in-Remove.is (
+      λ empty. let ok = refused.empty empty in cc,
+      meets_some g.K.MaybeBounded.order items c.in-Remove.range (λ apart. let ok = refused.unmet apart in cc),
+      refused.refused,
+    )
+
+pub returns-in-Remove-clause-takes : goal.returns-in-Remove-clause-takes
+returns-in-Remove-clause-takes g c =
+    let refused = c.in-Err-Memory-remove_counted.ensures in
+    rw c.in-Remove.is (record { at_most = λ done. absurd done; at_least = refused.least; none = refused.empty_uncounted })
+
+pub returns-in-Update-clause-step : goal.returns-in-Update-clause-step
+returns-in-Update-clause-step g c = search rules
+
+pub returns-in-Update-clause-takes : goal.returns-in-Update-clause-takes
+returns-in-Update-clause-takes g c = rw c.in-Update.is refl
+
+pub returns-in-Ok-get_cloned-clause-step : goal.returns-in-Ok-get_cloned-clause-step
+returns-in-Ok-get_cloned-clause-step g c = search rules
+
+pub returns-in-Ok-get_cloned-clause-takes : goal.returns-in-Ok-get_cloned-clause-takes
+returns-in-Ok-get_cloned-clause-takes g c = rw c.in-Get.is c.get_cloned.ensures.takes
+
+pub returns-in-Get-clause-step : goal.returns-in-Get-clause-step
+returns-in-Get-clause-step g c = search rules
+
+pub returns-in-Get-clause-takes : goal.returns-in-Get-clause-takes
+returns-in-Get-clause-takes g c = rw c.in-Get.is c.get_cloned.ensures.takes
+
+pub returns-in-Contains-clause-step : goal.returns-in-Contains-clause-step
+returns-in-Contains-clause-step g c = search rules
+
+pub returns-in-Contains-clause-takes : goal.returns-in-Contains-clause-takes
+returns-in-Contains-clause-takes g c =
+    let told = c.contains_key_counted.ensures in
+    rw c.in-Contains.is (record { counted = λ some. told.counted; idle = told.none; none = λ empty. absurd empty })
+
+pub returns-in-Intersects-clause-step : goal.returns-in-Intersects-clause-step
+returns-in-Intersects-clause-step g c = search rules
+
+pub returns-in-Intersects-clause-takes : goal.returns-in-Intersects-clause-takes
+returns-in-Intersects-clause-takes g c =
+    let told = c.intersects_counted.ensures in
+    rw c.in-Intersects.is (record { counted = told.counted; idle = told.none; none = told.empty_uncounted })
+
+pub returns-clause-step : goal.returns-clause-step
+returns-clause-step g c = search rules
+
+pub returns-clause-takes : goal.returns-clause-takes
+returns-clause-takes g c = rw c.in-Count.is refl

@@ -96,3 +96,42 @@ returns-then-is_empty-clause-meets g c = grind (arith, common_steps)
 
 pub returns-then-is_empty-clause-refused : goal.returns-then-is_empty-clause-refused
 returns-then-is_empty-clause-refused g c = grind (arith, common_steps)
+
+pub returns-then-is_empty-clause-most : goal.returns-then-is_empty-clause-most
+returns-then-is_empty-clause-most g c = search rules
+
+pub returns-then-is_empty-clause-least : goal.returns-then-is_empty-clause-least
+returns-then-is_empty-clause-least g c = search rules
+
+pub returns-then-is_empty-clause-empty_uncounted : goal.returns-then-is_empty-clause-empty_uncounted
+returns-then-is_empty-clause-empty_uncounted g c = search rules
+
+pub returns-in_err-bind-clause-most : goal.returns-in_err-bind-clause-most
+returns-in_err-bind-clause-most g c = search rules
+
+pub returns-in_err-bind-clause-least : goal.returns-in_err-bind-clause-least
+returns-in_err-bind-clause-least g c = search rules
+
+pub returns-in_err-bind-clause-empty_uncounted : goal.returns-in_err-bind-clause-empty_uncounted
+returns-in_err-bind-clause-empty_uncounted g c = search rules
+
+pub returns-clause-most : goal.returns-clause-most
+returns-clause-most g c = search rules
+
+pub returns-clause-least : goal.returns-clause-least
+returns-clause-least g c = search rules
+
+pub returns-clause-empty_uncounted : goal.returns-clause-empty_uncounted
+returns-clause-empty_uncounted g c = search rules
+
+pub invariant_of-self : goal.invariant_of-self
+invariant_of-self g c = search rules
+
+pub invariant_of-self-2 : goal.invariant_of-self-2
+invariant_of-self-2 g c = search rules
+
+pub bind-requires-clause-stored : goal.bind-requires-clause-stored
+bind-requires-clause-stored g c = search rules
+
+pub bind-requires-clause-nonempty : goal.bind-requires-clause-nonempty
+bind-requires-clause-nonempty g c = search rules

@@ -1,4 +1,5 @@
-use Rattle.std.proofs.Common.{◌<◌, length, ap}
+use Rattle.std.proofs.lemmas.Grind.{common_steps}
+use Rattle.std.proofs.Common.{◌<◌, length, ap, rules, arith}
 use Rattle.std.specs.Range.Bound.{bound_map}
 use Rattle.range_keys.specs.Position.{start_position, end_position}
 use Rattle.range_algebra.specs.Range.{IsEmptyRange}
@@ -52,3 +53,47 @@ returns-clause-complete g c =
     let lawful = g.met.K.PartialEnum.lawful in
     let met = returns-clause-meets g c in
     λ complete h. let found = met.0 h in meeting_binds order lawful g.V.PartialEq.eq (g.C.Storage.items c.args.self.now) (g.R.AsRange.range c.args.range) complete c.in_form.ensures c.known_range.ensures found.0 found.1
+
+pub returns-then-is_empty-clause-meets : goal.returns-then-is_empty-clause-meets
+returns-then-is_empty-clause-meets g c = search rules
+
+pub returns-then-is_empty-clause-bound : goal.returns-then-is_empty-clause-bound
+returns-then-is_empty-clause-bound g c = search rules
+
+pub returns-then-is_empty-clause-complete : goal.returns-then-is_empty-clause-complete
+returns-then-is_empty-clause-complete g c = search rules
+
+pub returns-then-is_empty-clause-counted : goal.returns-then-is_empty-clause-counted
+returns-then-is_empty-clause-counted g c = search rules
+
+pub returns-then-is_empty-clause-none : goal.returns-then-is_empty-clause-none
+returns-then-is_empty-clause-none g c = search rules
+
+pub returns-then-is_empty-clause-empty_uncounted : goal.returns-then-is_empty-clause-empty_uncounted
+returns-then-is_empty-clause-empty_uncounted g c = search rules
+
+pub returns-in-None-clause-complete : goal.returns-in-None-clause-complete
+returns-in-None-clause-complete g c = search rules
+
+pub returns-in-None-clause-counted : goal.returns-in-None-clause-counted
+returns-in-None-clause-counted g c = search rules
+
+pub returns-in-None-clause-none : goal.returns-in-None-clause-none
+returns-in-None-clause-none g c = search rules
+
+pub returns-in-None-clause-empty_uncounted : goal.returns-in-None-clause-empty_uncounted
+returns-in-None-clause-empty_uncounted g c = search rules
+
+pub returns-clause-counted : goal.returns-clause-counted
+returns-clause-counted g c = search rules
+
+pub returns-clause-empty_uncounted : goal.returns-clause-empty_uncounted
+returns-clause-empty_uncounted g c = search rules
+
+pub returns-clause-none : goal.returns-clause-none
+returns-clause-none g c =
+    let storage = g.C.Storage in
+    let stored = c.self.inside.stored in
+    let position = rw c.in-Some.is at c.find-from.ensures.found.position in
+    let within : storage.rank stored c.in-Some.p < length (storage.items stored) = g.met.C.Storage.good_is_in_range stored c.in-Some.p position.0 in
+    rw (← c.self.view_is) (λ none. absurd (omega (arith, within, ap length none)))
