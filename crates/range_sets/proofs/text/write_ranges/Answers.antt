@@ -17,3 +17,12 @@ loop-range-preserved g c =
     let ok : IsOk c.fmt.result = search rules in
     let shown = subst (λ ranges. HasShown g.T.Debug.debug_output g.W.Write.write_str_gives all ranges c.args.f.now c.loop-range.f) step c.loop-range.invariant in
     shown_more g.T.Debug.debug_output g.W.Write.write_str_gives all left range c.args.f.now c.loop-range.f c.fmt.new.f c.fmt.result shown c.fmt.ensures.writes ok
+
+pub returns : goal.returns
+returns g c = search rules
+
+pub returns-in_err-fmt : goal.returns-in_err-fmt
+returns-in_err-fmt g c = search rules
+
+pub loop-range-smaller : goal.loop-range-smaller
+loop-range-smaller g c = search rules

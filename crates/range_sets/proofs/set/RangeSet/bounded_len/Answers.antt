@@ -1,4 +1,11 @@
+use Rattle.std.proofs.Common.{rules}
 use Rattle.range_sets.proofs.set.RangeSet.bounded_len.Goals as goal
 
 pub returns-clause-untold : goal.returns-clause-untold
 returns-clause-untold g c = rw (← c.self.view_is) c.bounded_len.ensures.untold
+
+pub returns-clause-measure : goal.returns-clause-measure
+returns-clause-measure g c = search rules
+
+pub returns-clause-counted : goal.returns-clause-counted
+returns-clause-counted g c = search rules

@@ -1,4 +1,4 @@
-use Rattle.std.proofs.Common.{sym, ◌∙◌, true, arith}
+use Rattle.std.proofs.Common.{sym, ◌∙◌, true, arith, rules}
 use Rattle.std.specs.Cmp.{Equal-is}
 use Rattle.range_algebra.specs.References.{range_of}
 use Rattle.range_sets.proofs.Complementing.{gaps_stored}
@@ -43,3 +43,15 @@ pub loop-gap-init : goal.loop-gap-init
 loop-gap-init g c =
     let room = g.C.Storage.room c.reserve.new.map in
     begun g.T.MaybeBounded.order c.gaps-gaps.result (g.C.Storage.items c.reserve.new.map) room (c.reserve.ensures.list ∙ c.new-others.ensures) (omega (arith, c.in-Some.ensures, c.range_count.ensures.value, c.in_ok-reserve.ensures.space, c.gaps-gaps.ensures.few))
+
+pub returns-clause-gaps : goal.returns-clause-gaps
+returns-clause-gaps g c = search rules
+
+pub returns-clause-form : goal.returns-clause-form
+returns-clause-form g c = search rules
+
+pub loop-gap-smaller : goal.loop-gap-smaller
+loop-gap-smaller g c = search rules
+
+pub append-requires-clause-room : goal.append-requires-clause-room
+append-requires-clause-room g c = search rules

@@ -1,4 +1,4 @@
-use Rattle.std.proofs.Common.{◌∷◌, [], map}
+use Rattle.std.proofs.Common.{◌∷◌, [], map, rules}
 use Rattle.std.proofs.lemmas.List.{map-append}
 use Rattle.range_sets.proofs.Membership.{none_added, one_more}
 use Rattle.range_sets.proofs.set.RangeSet.extend.Goals as goal
@@ -26,3 +26,24 @@ loop-range-preserved g c =
       added = rw (map-append range c.loop-range.yielded (next ∷ [])) more;
       form = c.insert.ensures.form;
     }
+
+pub returns-clause-added : goal.returns-clause-added
+returns-clause-added g c = search rules
+
+pub returns-clause-refused : goal.returns-clause-refused
+returns-clause-refused g c = search rules
+
+pub returns-clause-form : goal.returns-clause-form
+returns-clause-form g c = search rules
+
+pub returns-in_err-insert-clause-added : goal.returns-in_err-insert-clause-added
+returns-in_err-insert-clause-added g c = search rules
+
+pub returns-in_err-insert-clause-refused : goal.returns-in_err-insert-clause-refused
+returns-in_err-insert-clause-refused g c = search rules
+
+pub returns-in_err-insert-clause-form : goal.returns-in_err-insert-clause-form
+returns-in_err-insert-clause-form g c = search rules
+
+pub insert-requires : goal.insert-requires
+insert-requires g c = search rules

@@ -1,3 +1,4 @@
+use Rattle.std.proofs.Common.{rules}
 use Rattle.range_sets.proofs.Likeness.{held_bound}
 use Rattle.range_sets.proofs.set.RangeSet.range_count.Goals as goal
 
@@ -6,3 +7,6 @@ returns-clause-least g c =
     rw (← c.self.view_is)
     (λ complete others alike.
     c.range_count.ensures.least complete others ((held_bound g.T.MaybeBounded.order (g.C.Storage.items c.self.inside.map) others).0 alike))
+
+pub returns-clause-value : goal.returns-clause-value
+returns-clause-value g c = search rules
