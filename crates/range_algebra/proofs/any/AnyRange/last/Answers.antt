@@ -14,3 +14,6 @@ pub returns-clause-complete : goal.returns-clause-complete
 returns-clause-complete g c = λ complete.
     let order = g.T.MaybeBounded.order in
     if_ok _ _ c.key_of_end.result (last_none order g.met.T.PartialEnum.lawful c.args.self.now complete c.known.ensures) c.key_of_end.ensures
+
+pub returns-clause-nonempty : goal.returns-clause-nonempty
+returns-clause-nonempty g c = search rules
