@@ -5,7 +5,7 @@ pub returns-clause-value : goal.returns-clause-value
 returns-clause-value g c = search rules
 
 pub returns-clause-same : goal.returns-clause-same
-returns-clause-same g c = search rules
+returns-clause-same g c = c.cmp_across.ensures.same
 
 pub returns-clause-alike : goal.returns-clause-alike
-returns-clause-alike g c = search rules
+returns-clause-alike g c = c.cmp_across.ensures.alike

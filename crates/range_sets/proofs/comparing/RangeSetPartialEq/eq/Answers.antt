@@ -5,7 +5,7 @@ pub returns-clause-value : goal.returns-clause-value
 returns-clause-value g c = search rules
 
 pub returns-clause-bound : goal.returns-clause-bound
-returns-clause-bound g c = search rules
+returns-clause-bound g c = c.eq_across.ensures.bound
 
 pub returns-clause-same : goal.returns-clause-same
-returns-clause-same g c = search rules
+returns-clause-same g c = c.eq_across.ensures.same
