@@ -194,8 +194,7 @@ fn run_steps<
     ensures refused { OnErr result (C.items map.new ≡ C.items map.old) }
     ensures refused_steps { OnErr result (steps.new ≡ steps.old) }
 {
-    let mut replies = Vec::new(alloc);
-    replies.reserve(commands.len())?;
+    let mut replies = Vec::with_capacity(alloc, commands.len())?;
     for command in commands {
         let reply = answer_counted(map, command, f, steps);
         match replies.push(reply) {

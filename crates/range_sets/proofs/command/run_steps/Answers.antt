@@ -23,14 +23,14 @@ returns-clause-run g c =
     let all = prefix_is_all c.loop-command.yielded rest.items c.args.commands.items c.loop-command.invariant.left none in
     rw (← all) c.loop-command.invariant.chain
 
-pub returns-in_err-reserve-clause-run : goal.returns-in_err-reserve-clause-run
-returns-in_err-reserve-clause-run g c = grind (arith, common_steps)
+pub returns-in_err-replies-clause-run : goal.returns-in_err-replies-clause-run
+returns-in_err-replies-clause-run g c = grind (arith, common_steps)
 
-pub returns-in_err-reserve-clause-refused : goal.returns-in_err-reserve-clause-refused
-returns-in_err-reserve-clause-refused g c = grind (arith, common_steps)
+pub returns-in_err-replies-clause-refused : goal.returns-in_err-replies-clause-refused
+returns-in_err-replies-clause-refused g c = grind (arith, common_steps)
 
-pub returns-in_err-reserve-clause-refused_steps : goal.returns-in_err-reserve-clause-refused_steps
-returns-in_err-reserve-clause-refused_steps g c = grind (arith, common_steps)
+pub returns-in_err-replies-clause-refused_steps : goal.returns-in_err-replies-clause-refused_steps
+returns-in_err-replies-clause-refused_steps g c = grind (arith, common_steps)
 
 pub loop-command-init : goal.loop-command-init
 loop-command-init g c = search rules
