@@ -1,5 +1,5 @@
 -- How long a list is once it was changed.
-use Rattle.std.proofs.Common.{◌≡◌, ℕ, ◌+◌, ◌≤◌, List, ◌++◌, length, take, drop, ap, arith, length-append, length-drop}
+use Rattle.std.proofs.Common.{◌≡◌, ℕ, ◌+◌, ◌-◌, ◌*◌, ◌≤◌, List, ◌++◌, length, take, drop, ap, arith, length-append, length-drop}
 use Rattle.std.specs.Prelude.{Option, Some, None}
 use Rattle.std.specs.declared.ops.Bound.{Bound}
 use Rattle.std.proofs.lemmas.List.{length-take-le}
@@ -19,6 +19,43 @@ one_item (Some x) = omega arith
 pub changed_length : {T : Type 0} (items new a b d : List T) (at end : ℕ) → at ≤ length items → end ≤ length items → new ≡ take at items ++ a ++ b ++ d ++ drop end items → length new + end ≡ at + length a + length b + length d + length items
 changed_length items new a b d at end within within_end made =
     omega (arith, ap length made, length-append (take at items ++ a ++ b ++ d) (drop end items), length-append (take at items ++ a ++ b) d, length-append (take at items ++ a) b, length-append (take at items) a, length-take-le at items within, length-drop end items)
+
+-- a run that takes in the items that join ends where the plan behind it begins
+pub run_ends : (begin joins place firsts lasts count upto joins_behind left : ℕ) → begin + joins ≡ place + firsts → upto + lasts ≡ place + count + joins_behind → firsts + lasts ≤ count → left ≡ joins + (count - (firsts + lasts)) + joins_behind → begin + left ≡ upto
+run_ends begin joins place firsts lasts count upto joins_behind left begins ends apart is = omega (arith, begins, ends, apart, is)
+
+pub joins_fit : (joins joins_behind inner left : ℕ) → left ≡ joins + inner + joins_behind → joins + joins_behind ≤ left
+joins_fit joins joins_behind inner left is = omega (arith, is)
+
+-- the same, where the lengths were counted
+pub counted_ends : (begin before firsts count lasts behind upto first_count last_count before_count behind_count : ℕ) → begin + (before + (count - (firsts + lasts)) + behind) ≡ upto → first_count ≡ firsts → last_count ≡ lasts → before_count ≡ before → behind_count ≡ behind → begin + (before_count + (count - (first_count + last_count)) + behind_count) ≡ upto
+counted_ends begin before firsts count lasts behind upto first_count last_count before_count behind_count ends first_is last_is before_is behind_is = omega (arith, ends, first_is, last_is, before_is, behind_is)
+
+pub counted_fit : (joins joins_behind before behind inner before_count behind_count : ℕ) → joins ≡ before → joins_behind ≡ behind → before_count ≡ before → behind_count ≡ behind → joins + joins_behind ≤ before_count + inner + behind_count
+counted_fit joins joins_behind before behind inner before_count behind_count joins_is joins_behind_is before_is behind_is = omega (arith, joins_is, joins_behind_is, before_is, behind_is)
+
+pub few_rest : (rest rest_behind firsts lasts count : ℕ) → rest ≤ firsts → rest_behind ≤ lasts → firsts + lasts ≤ count → rest + rest_behind ≤ count + 1
+few_rest rest rest_behind firsts lasts count few few_behind apart = omega (arith, few, few_behind, apart)
+
+pub begins_within : (at rest begin joins place firsts lasts count items : ℕ) → at + rest ≡ begin → begin + joins ≡ place + firsts → firsts + lasts ≤ count → place + count ≤ items → at ≤ items
+begins_within at rest begin joins place firsts lasts count items left_is begins apart within = omega (arith, left_is, begins, apart, within)
+
+pub le_of : (a b c : ℕ) → a ≤ b → b ≤ c → a ≤ c
+le_of a b c h k = omega (arith, h, k)
+
+pub le_sum : (a b : ℕ) → a ≤ a + b
+le_sum a b = omega arith
+
+-- what stands in the place of one item
+pub one_more : (new at count items : ℕ) → count ≡ 1 → new + (at + count) ≡ at + 1 + 0 + 1 + items → new ≤ items + 1
+one_more new at count items one size = omega (arith, one, size)
+
+pub two_more : (new at count items : ℕ) → count ≡ 1 → new + (at + count) ≡ at + 1 + 1 + 1 + items → new ≤ items + 2
+two_more new at count items one size = omega (arith, one, size)
+
+-- what is bound leaves at most one item on each side, and one between them
+pub bound_size : (new end at rest rest_behind items begin place firsts joins upto lasts count joins_behind : ℕ) → new + end ≡ at + rest + 1 + rest_behind + items → at + rest ≡ begin → end ≡ upto + rest_behind → begin + joins ≡ place + firsts → upto + lasts ≡ place + count + joins_behind → firsts + lasts ≤ count → firsts ≤ 1 → lasts ≤ 1 → 2 * new + count ≤ 2 * items + 4
+bound_size new end at rest rest_behind items begin place firsts joins upto lasts count joins_behind size left_is right_is begins ends apart one other = omega (arith, size, left_is, right_is, begins, ends, apart, one, other)
 
 module _ {K V P : Type 0} (is_good : P → Type 0) (rank : P → ℕ) (items : List (Item (AnyRange K) V)) where
   -- the items that stand before a run, with the rest of a cut one

@@ -10,16 +10,16 @@ ghost use Rattle.range_map.specs.Costs.{TakesAtLeast, TakesAsChange};
 ghost use Rattle.range_map.specs.Changes.{IsInserted};
 
 use crate::change::{change, divide};
-use crate::cut::{known_bound, turned_clone};
-use crate::edges::{joined_items, left_side, right_side};
-use crate::reach::{item_count, reaching_before, reaching_behind, surrounding};
+use crate::cut::cut_parts;
+use crate::edges::both_sides;
+use crate::reach::{reaching_before, reaching_behind, surrounding};
 use crate::window::{Window, find_window};
 use range_algebra::any::AnyRange;
 use range_algebra::inner;
 use range_keys::traits::{Measure, PartialEnum};
-use range_store::inner::cursor::Cursor;
 use range_store::storage::{Item, Steps, Storage};
 use std::alloc::AllocError;
+use std::ops::RangeBounds;
 
 /// How much room one item in the place of a run needs.
 fn growth(count: usize) -> usize
@@ -50,56 +50,43 @@ pub(crate) fn bind_within<K: PartialEnum + Clone, V: Eq + Clone, C: Storage<Item
     ensures refused { OnErr result (C.items stored.new ≡ C.items stored.old) }
 {
     inner::known(&range);
-    let item = stored.get(p);
-    inner::known(&item.key);
-    let joins = item.value == value;
+    let joins = stored.get(p).value == value;
     if joins {
         return Ok(());
     }
-    let copy = item.value.clone()?;
-    let end = turned_clone(&range.start)?;
-    known_bound(&end);
-    let start = turned_clone(&range.end)?;
-    known_bound(&start);
-    stored.reserve(2)?;
+    let (start, end) = (range.start_bound(), range.end_bound());
+    let parts = cut_parts::<K, V, C>(stored, p, start, end, 2)?;
     let middle = Item { key: range, value };
-    divide::<K, V, C>(stored, p, end, Some(middle), start, copy);
+    divide::<K, V, C>(stored, p, parts, Some(middle));
     Ok(())
 }
 
-/// Binds a range that no stored range surrounds.
+/// Binds an item's range, which no stored range surrounds, to its value.
 fn bind_over<K: PartialEnum + Clone, V: Eq + Clone, C: Storage<Item<AnyRange<K>, V>>>(
     stored: &mut C,
     window: &Window<C::Position>,
     first: Option<C::Position>,
     last: Option<C::Position>,
-    range: AnyRange<K>,
-    value: V,
+    item: Item<AnyRange<K>, V>,
     steps: &mut Steps,
 ) -> Result<(), AllocError>
     requires keys { ClonesAreEqual K.is_clone K.eq }
     requires stored { IsStored K.order V.eq (C.items stored.old) }
-    requires nonempty { ¬ IsEmptyRange K.order range }
-    requires window { IsWindow K.order (C.is_good stored.old) (C.rank stored.old) (C.items stored.old) range window.now (place_before (C.rank stored.old) (length (C.items stored.old)) window.now.from) }
-    requires first { ReachesBefore K.order (C.is_good stored.old) (C.rank stored.old) (C.items stored.old) range (place_before (C.rank stored.old) (length (C.items stored.old)) window.now.from) window.now.count first }
-    requires last { ReachesBehind K.order (C.is_good stored.old) (C.rank stored.old) (C.items stored.old) range (place_before (C.rank stored.old) (length (C.items stored.old)) window.now.from) window.now.count last }
+    requires nonempty { ¬ IsEmptyRange K.order item.key }
+    requires window { IsWindow K.order (C.is_good stored.old) (C.rank stored.old) (C.items stored.old) item.key window.now (place_before (C.rank stored.old) (length (C.items stored.old)) window.now.from) }
+    requires first { ReachesBefore K.order (C.is_good stored.old) (C.rank stored.old) (C.items stored.old) item.key (place_before (C.rank stored.old) (length (C.items stored.old)) window.now.from) window.now.count first }
+    requires last { ReachesBehind K.order (C.is_good stored.old) (C.rank stored.old) (C.items stored.old) item.key (place_before (C.rank stored.old) (length (C.items stored.old)) window.now.from) window.now.count last }
     requires apart { length (option_items first) + length (option_items last) ≤ window.now.count }
-    ensures ok { OnOk result (IsInserted K.order V.eq (C.items stored.old) (C.items stored.new) range value) }
+    ensures ok { OnOk result (IsInserted K.order V.eq (C.items stored.old) (C.items stored.new) item.key item.value) }
     ensures few { OnOk result (2 * length (C.items stored.new) + window.now.count ≤ 2 * length (C.items stored.old) + 4) }
     ensures counted { AddsSteps steps.old steps.new 0 2 }
     ensures refused { OnErr result (C.items stored.new ≡ C.items stored.old) }
 {
-    inner::known(&range);
-    let left = left_side::<K, V, C>(stored, window, first, &range, &value, steps)?;
-    let right = right_side::<K, V, C>(stored, window, last, &range, &value, steps)?;
-    let inner = window.count - (item_count(&first) + item_count(&last));
-    let count = joined_items(&left.edge) + inner + joined_items(&right);
-    stored.reserve(growth(count))?;
-    let run = Cursor {
-        at: left.from,
-        left: count,
-    };
-    change::<K, V, C>(stored, run, left.edge, right, range, value);
+    inner::known(&item.key);
+    let (range, value) = (&item.key, &item.value);
+    let sides = both_sides::<K, V, C>(stored, window, first, last, range, value, steps)?;
+    stored.reserve(growth(sides.run.left))?;
+    change::<K, V, C>(stored, sides, item);
     Ok(())
 }
 
@@ -124,6 +111,9 @@ pub(crate) fn bind<K: Measure + Clone, V: Eq + Clone, C: Storage<Item<AnyRange<K
     let last = reaching_behind::<K, V, C, AnyRange<K>>(stored, &window, &range, steps);
     match surrounding(window.count, first, last) {
         Some(p) => bind_within::<K, V, C>(stored, &window, p, range, value),
-        None => bind_over::<K, V, C>(stored, &window, first, last, range, value, steps),
+        None => {
+            let item = Item { key: range, value };
+            bind_over::<K, V, C>(stored, &window, first, last, item, steps)
+        }
     }
 }

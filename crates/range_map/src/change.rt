@@ -11,7 +11,8 @@ ghost use Rattle.range_map.specs.Window.{option_items};
 ghost use Rattle.range_map.specs.Edges.{joined_count, IsGoodEdge, IsLeftEdited, IsRightEdited, IsLeftShape, IsRightShape};
 ghost use Rattle.range_map.specs.Seams.{with_first_start, with_last_end};
 
-use crate::edges::Edge;
+use crate::cut::Parts;
+use crate::edges::{Edge, Sides};
 use range_algebra::any::AnyRange;
 use range_store::inner::cursor::{Cursor, put, remove_rest, replace_run};
 use range_store::storage::{Item, Storage};
@@ -102,26 +103,25 @@ fn joined<K: Drop>(other: Option<Bound<K>>, own: Bound<K>) -> Bound<K>
     }
 }
 
-/// Binds a range where `left` and `right` say what becomes of the items beside it, and a run gives
-/// way to it.
+/// Lets an item stand for the whole run of `sides`, which says too what becomes of the items beside
+/// it.
 pub(crate) fn change<K: Drop, V: Drop, C: Storage<Item<AnyRange<K>, V>>>(
     stored: &mut C,
-    run: Cursor<C::Position>,
-    left: Edge<K, C::Position>,
-    right: Edge<K, C::Position>,
-    range: AnyRange<K>,
-    value: V,
+    sides: Sides<K, C::Position>,
+    item: Item<AnyRange<K>, V>,
 )
-    requires left { IsGoodEdge (C.is_good stored.old) left }
-    requires right { IsGoodEdge (C.is_good stored.old) right }
-    requires good { ForSome run.at (C.is_good stored.old) }
-    requires in_range { place_before (C.rank stored.old) (length (C.items stored.old)) run.at + run.left ≤ length (C.items stored.old) }
-    requires space { 1 ≤ run.left + C.room stored.old }
-    ensures { (at end : ℕ) (before behind : Option (Item (AnyRange K) V)) (start finish : Option (Bound K)) → let from = place_before (C.rank stored.old) (length (C.items stored.old)) run.at in IsLeftShape (C.is_good stored.old) (C.rank stored.old) (C.items stored.old) left at from before start → IsRightShape (C.is_good stored.old) (C.rank stored.old) (C.items stored.old) right (from + run.left) end behind finish → joined_count left + joined_count right ≤ run.left → C.items stored.new ≡ take at (C.items stored.old) ++ option_items before ++ option_items (Some (record { key = record { start = unwrap_or start range.start; end = unwrap_or finish range.end }; value = value })) ++ option_items behind ++ drop end (C.items stored.old) }
+    requires left { IsGoodEdge (C.is_good stored.old) sides.left }
+    requires right { IsGoodEdge (C.is_good stored.old) sides.right }
+    requires good { ForSome sides.run.at (C.is_good stored.old) }
+    requires in_range { place_before (C.rank stored.old) (length (C.items stored.old)) sides.run.at + sides.run.left ≤ length (C.items stored.old) }
+    requires space { 1 ≤ sides.run.left + C.room stored.old }
+    ensures { (at end : ℕ) (before behind : Option (Item (AnyRange K) V)) (start finish : Option (Bound K)) → let from = place_before (C.rank stored.old) (length (C.items stored.old)) sides.run.at in IsLeftShape (C.is_good stored.old) (C.rank stored.old) (C.items stored.old) sides.left at from before start → IsRightShape (C.is_good stored.old) (C.rank stored.old) (C.items stored.old) sides.right (from + sides.run.left) end behind finish → joined_count sides.left + joined_count sides.right ≤ sides.run.left → C.items stored.new ≡ take at (C.items stored.old) ++ option_items before ++ option_items (Some (record { key = record { start = unwrap_or start item.key.start; end = unwrap_or finish item.key.end }; value = item.value })) ++ option_items behind ++ drop end (C.items stored.old) }
 {
+    let Sides { left, right, run } = sides;
+    let Item { key, value } = item;
     let start = open_left::<K, V, C>(stored, left);
     let end = open_right::<K, V, C>(stored, right);
-    let (own_start, own_end) = range.into_bounds();
+    let (own_start, own_end) = key.into_bounds();
     let key = AnyRange {
         start: joined(start, own_start),
         end: joined(end, own_end),
@@ -209,20 +209,19 @@ pub(crate) fn clear<K: Drop, V: Drop, C: Storage<Item<AnyRange<K>, V>>>(
     remove_rest::<Item<AnyRange<K>, V>, C>(stored, run);
 }
 
-/// Shortens an item to `end`, and puts `middle` and what it was behind `start`, with a clone of its
-/// value, after it.
+/// Divides an item into its parts before and behind a range that is cut out of it, with `middle`
+/// between them.
 pub(crate) fn divide<K: Drop, V: Drop, C: Storage<Item<AnyRange<K>, V>>>(
     stored: &mut C,
     p: C::Position,
-    end: Bound<K>,
+    parts: Parts<K, V>,
     middle: Option<Item<AnyRange<K>, V>>,
-    start: Bound<K>,
-    value: V,
 )
     requires good { C.is_good stored.old p }
     requires space { length (option_items middle) + 1 ≤ C.room stored.old }
-    ensures { (d : Item (AnyRange K) V) → let place = C.rank stored.old p in let item = slice_index_or (C.items stored.old) place d in C.items stored.new ≡ take place (C.items stored.old) ++ option_items (Some (with_end item end)) ++ option_items middle ++ option_items (Some (record { key = record { start = start; end = item.key.end }; value = value })) ++ drop (place + 1) (C.items stored.old) }
+    ensures { (d : Item (AnyRange K) V) → let place = C.rank stored.old p in let item = slice_index_or (C.items stored.old) place d in C.items stored.new ≡ take place (C.items stored.old) ++ option_items (Some (with_end item parts.end)) ++ option_items middle ++ option_items (Some (record { key = record { start = parts.start; end = item.key.end }; value = parts.value })) ++ drop (place + 1) (C.items stored.old) }
 {
+    let Parts { end, start, value } = parts;
     let old_end = replace_end::<K, V, C>(stored, p, end);
     let key = AnyRange {
         start,

@@ -1,13 +1,15 @@
 //! Where a range cuts a stored item, and the bound that the item then has.
-ghost use Rattle.std.specs.Prelude.{◌≡◌, ◌↔◌, IfOk, IsTrue};
+ghost use Rattle.std.specs.Prelude.{◌≡◌, ◌↔◌, ◌≤◌, IfOk, OnOk, IsTrue, slice_index_or};
 ghost use Rattle.std.specs.Option.{option_map};
 ghost use Rattle.std.specs.Range.Bound.{bound_map};
 ghost use Rattle.range_keys.specs.Position.{position_cmp};
-ghost use Rattle.range_algebra.specs.Clones.{IsBoundClone};
+ghost use Rattle.range_algebra.specs.Clones.{IsBoundClone, SameBound};
 ghost use Rattle.range_algebra.specs.Compared.{inverted};
 ghost use Rattle.range_algebra.specs.Cuts.{lower, upper};
 ghost use Rattle.range_algebra.specs.Intervals.{Lt};
-ghost use Rattle.range_algebra.specs.Range.{IsKnownBound};
+ghost use Rattle.range_algebra.specs.Range.{ClonesAreEqual, IsKnownBound};
+ghost use Rattle.range_algebra.specs.declared.any.AnyRange.{AnyRange};
+ghost use Rattle.range_store.specs.declared.storage.Item.{Item};
 ghost use Rattle.range_map.specs.Edits.{turned_bound};
 
 use range_algebra::any::AnyRange;
@@ -15,6 +17,7 @@ use range_algebra::inner;
 use range_algebra::range::AsRange;
 use range_keys::bound::Directed;
 use range_keys::traits::{Measure, PartialEnum};
+use range_store::storage::{Item, Storage};
 use std::alloc::AllocError;
 use std::ops::{Bound, RangeBounds};
 
@@ -40,16 +43,8 @@ pub(crate) fn turned<K>(bound: Bound<K>) -> Bound<K>
     }
 }
 
-/// A clone of the bound on the other side of a bound: what it includes is excluded, and the other
-/// way round.
-pub(crate) fn turned_clone<K: Clone>(bound: &Bound<K>) -> Result<Bound<K>, AllocError>
-    ensures { IfOk result (λ copy. IsBoundClone K.is_clone (turned_bound bound.now) copy) }
-{
-    turned_clone_of(bound.as_ref())
-}
-
 /// A clone of the bound on the other side of the one that is referred to.
-pub(crate) fn turned_clone_of<K: Clone>(bound: Bound<&K>) -> Result<Bound<K>, AllocError>
+fn turned_clone<K: Clone>(bound: Bound<&K>) -> Result<Bound<K>, AllocError>
     ensures { IfOk result (λ copy. IsBoundClone K.is_clone (turned_bound (bound_map (λ x. x.now) bound.entry)) copy) }
 {
     Ok(match bound {
@@ -67,6 +62,56 @@ pub(crate) fn known_bound<K: PartialEnum>(bound: &Bound<K>)
         Bound::Included(key) | Bound::Excluded(key) => key.known(),
         Bound::Unbounded => (),
     }
+}
+
+/// The bound that an item has where it is cut at a bound: that one on its other side, with a clone
+/// of its value.
+pub(crate) fn cut_bound<K: PartialEnum + Clone>(bound: Bound<&K>) -> Result<Bound<K>, AllocError>
+    requires { ClonesAreEqual K.is_clone K.eq }
+    ensures known { IfOk result (λ cut. IsKnownBound K.order cut) }
+    ensures turned { IfOk result (λ cut. SameBound K.order (turned_bound (bound_map (λ x. x.now) bound.entry)) cut) }
+{
+    let cut = turned_clone(bound)?;
+    known_bound(&cut);
+    Ok(cut)
+}
+
+/// What the parts of an item need where a range is cut out of it.
+#[derive(Drop)]
+pub struct Parts<K, V> {
+    /// Where the part before the range ends.
+    pub end: Bound<K>,
+    /// Where the part behind it starts.
+    pub start: Bound<K>,
+    /// The value of the part behind it.
+    pub value: V,
+}
+
+/// Makes room for more items, and clones what the parts of an item need where a range with these
+/// bounds is cut out of it.
+pub(crate) fn cut_parts<K: PartialEnum + Clone, V: Eq + Clone, C: Storage<Item<AnyRange<K>, V>>>(
+    stored: &mut C,
+    p: C::Position,
+    start: Bound<&K>,
+    end: Bound<&K>,
+    room: usize,
+) -> Result<Parts<K, V>, AllocError>
+    requires keys { ClonesAreEqual K.is_clone K.eq }
+    requires values { ClonesAreEqual V.is_clone V.eq }
+    requires good { C.is_good stored.old p }
+    ensures end { IfOk result (λ parts. IsKnownBound K.order parts.end × SameBound K.order (turned_bound (bound_map (λ x. x.now) start.entry)) parts.end) }
+    ensures start { IfOk result (λ parts. IsKnownBound K.order parts.start × SameBound K.order (turned_bound (bound_map (λ x. x.now) end.entry)) parts.start) }
+    ensures value { IfOk result (λ parts. (d : Item (AnyRange K) V) → IsTrue (V.eq (slice_index_or (C.items stored.old) (C.rank stored.old p) d).value parts.value)) }
+    ensures list { C.items stored.new ≡ C.items stored.old }
+    ensures space { OnOk result (room ≤ C.room stored.new) }
+    ensures positions { (q : C.Position) → C.is_good stored.old q → C.is_good stored.new q × (C.rank stored.new q ≡ C.rank stored.old q) }
+{
+    stored.reserve(room)?;
+    Ok(Parts {
+        end: cut_bound(start)?,
+        start: cut_bound(end)?,
+        value: stored.get(p).value.clone()?,
+    })
 }
 
 /// Whether the first range starts before the second.

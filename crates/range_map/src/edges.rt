@@ -1,5 +1,5 @@
 //! What a range that is bound leaves or joins on each side.
-ghost use Rattle.std.specs.Prelude.{◌≡◌, ◌+◌, length, IfOk, MatchOption};
+ghost use Rattle.std.specs.Prelude.{◌≡◌, ◌+◌, ◌-◌, ◌≤◌, length, IfOk, MatchOption};
 ghost use Rattle.std.specs.Cmp.{IsEquivalence};
 ghost use Rattle.range_keys.specs.Order.{IsLawful};
 ghost use Rattle.range_keys.specs.Position.{start_position};
@@ -8,18 +8,20 @@ ghost use Rattle.range_algebra.specs.Range.{ClonesAreEqual, IsEmptyRange};
 ghost use Rattle.range_store.specs.Counting.{AddsSteps};
 ghost use Rattle.range_store.specs.Places.{place_before};
 ghost use Rattle.range_map.specs.Stored.{IsStored};
-ghost use Rattle.range_map.specs.Window.{IsWindow};
+ghost use Rattle.range_map.specs.Window.{IsWindow, option_items};
 ghost use Rattle.range_map.specs.Reach.{ReachesBefore, ReachesBehind};
 ghost use Rattle.std.specs.Range.Bound.{bound_map};
 ghost use Rattle.range_map.specs.Edges.{joined_count, IsCutAt, TouchesBefore, TouchesNoneBefore, TouchesAfter, TouchesNoneAfter};
 ghost use Rattle.range_map.specs.Plans.{IsLeftPlan, IsRightPlan};
 
-use crate::cut::{known_bound, turned_clone, turned_clone_of};
+use crate::cut::cut_bound;
+use crate::reach::item_count;
 use crate::window::Window;
 use range_algebra::any::AnyRange;
 use range_algebra::inner;
 use range_algebra::inner::starts_at_end;
 use range_keys::traits::PartialEnum;
+use range_store::inner::cursor::Cursor;
 use range_store::storage::{Item, Steps, Storage};
 use std::alloc::AllocError;
 use std::ops::{Bound, RangeBounds};
@@ -65,9 +67,8 @@ pub(crate) fn cut_edge<K: PartialEnum + Clone, P: Copy>(
     inner::known_bound(bound);
     match item {
         Some(p) => {
-            let turned = turned_clone_of(bound)?;
-            known_bound(&turned);
-            Ok(Edge::Cut(p, turned))
+            let cut = cut_bound(bound)?;
+            Ok(Edge::Cut(p, cut))
         }
         None => Ok(Edge::Plain),
     }
@@ -163,8 +164,7 @@ pub(crate) fn left_side<K: PartialEnum + Clone, V: Eq + Drop, C: Storage<Item<An
                     from: Some(first),
                 });
             }
-            let end = turned_clone(&range.start)?;
-            known_bound(&end);
+            let end = cut_bound(range.start_bound())?;
             Ok(LeftSide {
                 edge: Edge::Cut(first, end),
                 from: stored.next(first),
@@ -209,8 +209,7 @@ pub(crate) fn right_side<K: PartialEnum + Clone, V: Eq + Drop, C: Storage<Item<A
             if joins {
                 return Ok(Edge::Joined(last));
             }
-            let start = turned_clone(&range.end)?;
-            known_bound(&start);
+            let start = cut_bound(range.end_bound())?;
             Ok(Edge::Cut(last, start))
         }
         None => match joined_after::<K, V, C>(stored, window, range, value, steps) {
@@ -221,4 +220,50 @@ pub(crate) fn right_side<K: PartialEnum + Clone, V: Eq + Drop, C: Storage<Item<A
             None => Ok(Edge::Plain),
         },
     }
+}
+
+/// What a bound range leaves or joins on both sides, and the items that give way to it.
+#[derive(Drop)]
+pub struct Sides<K, P: Copy> {
+    pub left: Edge<K, P>,
+    pub right: Edge<K, P>,
+    pub run: Cursor<P>,
+}
+
+/// What a bound range leaves or joins on both sides; `first` and `last` are the items that reach
+/// out of it there.
+pub(crate) fn both_sides<K: PartialEnum + Clone, V: Eq + Drop, C: Storage<Item<AnyRange<K>, V>>>(
+    stored: &C,
+    window: &Window<C::Position>,
+    first: Option<C::Position>,
+    last: Option<C::Position>,
+    range: &AnyRange<K>,
+    value: &V,
+    steps: &mut Steps,
+) -> Result<Sides<K, C::Position>, AllocError>
+    requires keys { ClonesAreEqual K.is_clone K.eq }
+    requires stored { IsStored K.order V.eq (C.items stored.now) }
+    requires nonempty { ¬ IsEmptyRange K.order range.now }
+    requires window { IsWindow K.order (C.is_good stored.now) (C.rank stored.now) (C.items stored.now) range.now window.now (place_before (C.rank stored.now) (length (C.items stored.now)) window.now.from) }
+    requires first { ReachesBefore K.order (C.is_good stored.now) (C.rank stored.now) (C.items stored.now) range.now (place_before (C.rank stored.now) (length (C.items stored.now)) window.now.from) window.now.count first }
+    requires last { ReachesBehind K.order (C.is_good stored.now) (C.rank stored.now) (C.items stored.now) range.now (place_before (C.rank stored.now) (length (C.items stored.now)) window.now.from) window.now.count last }
+    requires apart { length (option_items first) + length (option_items last) ≤ window.now.count }
+    ensures left { IfOk result (λ sides. (lawful : IsLawful K.order) → (equal : IsEquivalence V.eq) → IsLeftPlan K.order V.eq lawful equal (C.is_good stored.now) (C.rank stored.now) (C.items stored.now) range.now value.now (place_before (C.rank stored.now) (length (C.items stored.now)) window.now.from) window.now.count first sides.left sides.run.at) }
+    ensures right { IfOk result (λ sides. (lawful : IsLawful K.order) → (equal : IsEquivalence V.eq) → IsRightPlan K.order V.eq lawful equal (C.is_good stored.now) (C.rank stored.now) (C.items stored.now) range.now value.now (place_before (C.rank stored.now) (length (C.items stored.now)) window.now.from) window.now.count last sides.right) }
+    ensures run { IfOk result (λ sides. sides.run.left ≡ joined_count sides.left + (window.now.count - (length (option_items first) + length (option_items last))) + joined_count sides.right) }
+    ensures counted { AddsSteps steps.old steps.new 0 2 }
+{
+    let left = left_side::<K, V, C>(stored, window, first, range, value, steps)?;
+    let right = right_side::<K, V, C>(stored, window, last, range, value, steps)?;
+    let inner = window.count - (item_count(&first) + item_count(&last));
+    let count = joined_items(&left.edge) + inner + joined_items(&right);
+    let run = Cursor {
+        at: left.from,
+        left: count,
+    };
+    Ok(Sides {
+        left: left.edge,
+        right,
+        run,
+    })
 }

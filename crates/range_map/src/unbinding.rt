@@ -12,7 +12,7 @@ ghost use Rattle.range_map.specs.Costs.{TakesAtLeast, TakesAsChange};
 ghost use Rattle.range_map.specs.Changes.{IsRemoved};
 
 use crate::change::{clear, divide};
-use crate::cut::{known_bound, turned_clone_of};
+use crate::cut::cut_parts;
 use crate::edges::cut_edge;
 use crate::reach::{item_count, reaching_before, reaching_behind, run_start, surrounding};
 use crate::window::{Window, find_window};
@@ -44,15 +44,8 @@ pub(crate) fn unbind_within<
     ensures refused { OnErr result (C.items stored.new ≡ C.items stored.old) }
 {
     inner::known_range(range);
-    let item = stored.get(p);
-    inner::known(&item.key);
-    let copy = item.value.clone()?;
-    let end = turned_clone_of(range.start())?;
-    known_bound(&end);
-    let start = turned_clone_of(range.end())?;
-    known_bound(&start);
-    stored.reserve(1)?;
-    divide::<K, V, C>(stored, p, end, None, start, copy);
+    let parts = cut_parts::<K, V, C>(stored, p, range.start(), range.end(), 1)?;
+    divide::<K, V, C>(stored, p, parts, None);
     Ok(())
 }
 

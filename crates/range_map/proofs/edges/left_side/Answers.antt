@@ -1,8 +1,5 @@
-use Rattle.std.proofs.Common.{◌<◌, length, sym, ◌∙◌}
-use Rattle.std.specs.Cmp.{Equal-is}
-use Rattle.range_algebra.specs.Clones.{bound_clone}
+use Rattle.std.proofs.Common.{◌<◌, length, sym}
 use Rattle.range_store.specs.Places.{place_before}
-use Rattle.range_map.specs.Edits.{turned_bound}
 use Rattle.range_map.proofs.Planning.{left_plan_inside, left_plan_cut, left_joined_at, left_plan_plain}
 use Rattle.range_map.proofs.edges.left_side.Goals as goal
 
@@ -24,11 +21,9 @@ returns-in_ok-end-in-Some-clause-planned g c = λ lawful equal.
     let items = storage.items stored in
     let w = c.args.window.now in
     let place = place_before (storage.rank stored) (length items) w.from in
-    let equal_keys = λ (x : g.row.K.Denot) (y : g.row.K.Denot) (h : g.K.Clone.is_clone x y).
-    sym (g.met.K.MaybeBounded.order_is_cmp x y) ∙ (Equal-is (g.K.Ord.cmp x y)).0 (sym (g.met.K.Ord.matches_eq x y) ∙ c.requires.keys x y h) in
-    let bound = c.in_ok-end-in-Some.end in
-    let cloned = bound_clone order lawful g.K.Clone.is_clone equal_keys (turned_bound c.args.range.now.start) bound c.in_ok-end-in-Some.ensures in
-    rw c.in-Some.is (left_plan_cut order lawful g.V.PartialEq.eq equal (storage.is_good stored) (storage.rank stored) items c.args.range.now w place c.requires.stored c.known.ensures c.requires.nonempty c.requires.window c.args.value.now c.in-Some.first c.get-item.result.now bound c.next.result (rw c.in-Some.is at c.requires.first) c.get-item.ensures (sym c.if-joins.ensures) c.known_bound.ensures cloned c.next.ensures)
+    let cut = c.in_ok-end-in-Some in
+    let turned = rw (c.start_bound.ensures tt) at cut.ensures.turned in
+    rw c.in-Some.is (left_plan_cut order lawful g.V.PartialEq.eq equal (storage.is_good stored) (storage.rank stored) items c.args.range.now w place c.requires.stored c.known.ensures c.requires.nonempty c.requires.window c.args.value.now c.in-Some.first c.get-item.result.now cut.end c.next.result (rw c.in-Some.is at c.requires.first) c.get-item.ensures (sym c.if-joins.ensures) cut.ensures.known turned c.next.ensures)
 
 pub returns-in-Some-joined_before-clause-planned : goal.returns-in-Some-joined_before-clause-planned
 returns-in-Some-joined_before-clause-planned g c = λ lawful equal.

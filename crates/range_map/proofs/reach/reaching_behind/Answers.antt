@@ -1,3 +1,4 @@
+use Rattle.std.proofs.lemmas.Grind.{common_steps}
 use Rattle.std.proofs.Common.{◌≡◌, ◌+◌, ◌-◌, ◌<◌, length, get_or, ap, sym, ◌∙◌, arith, IsTrue, subst}
 use Rattle.std.proofs.lemmas.List.{get_or_read}
 use Rattle.range_keys.specs.Position.{position_cmp}
@@ -26,3 +27,6 @@ returns-else-ends_after-clause-reaching g c = λ x some read.
     let cmp = position_cmp order.cmp in
     let ends : Le cmp (item_upper order item) (upper order (g.R.AsRange.range c.args.range.now)) = not_lt cmp (position_total order.cmp g.met.K.PartialEnum.lawful.total) (item_upper order item) (upper order (g.R.AsRange.range c.args.range.now)) (λ l. let held : IsTrue c.ends_after.result = c.ends_after.ensures.1 l in cc) in
     subst (λ y. Le cmp (item_upper order y) (upper order (g.R.AsRange.range c.args.range.now))) (sym same) ends
+
+pub returns-then-ends_after-clause-reaching : goal.returns-then-ends_after-clause-reaching
+returns-then-ends_after-clause-reaching g c = grind (arith, common_steps)
