@@ -131,6 +131,13 @@ module _ {K : Type 0} (order : KeyOrder K) (lawful : IsLawful order) where
   pub told_reach : (r : AnyRange K) → ¬ IsEmptyRange order r → Le (position_cmp order.cmp) (start_position order (told_bound order.least r.start)) (end_position order (told_bound order.greatest r.end))
   told_reach r full = rw (told_start r.start, told_end r.end) (reach_full r full)
 
+  -- a bound that names a key of the type names one after what is told is put in
+  pub told_known : (told : Option K) (b : Bound K) → ((m : K) → told ≡ Some m → order.is_key m) → IsKnownBound order b → IsKnownBound order (told_bound told b)
+  told_known told (Included a) keys known = known
+  told_known told (Excluded a) keys known = known
+  told_known (Some m) Unbounded keys known = keys m refl
+  told_known None Unbounded keys known = tt
+
   pub full_measure : (len : K → ℕ) (distance : K → K → ℕ) (r : AnyRange K) → ¬ IsEmptyRange order r
       → range_measure order len distance r ≡ measure_between len distance (told_bound order.least r.start) (told_bound order.greatest r.end)
   full_measure len distance r full = rw (reach_full r full) refl

@@ -1,12 +1,29 @@
-use Rattle.std.proofs.Common.{rules, ◌≡◌, subst, sym}
+use Rattle.std.proofs.Common.{rules, ◌≡◌, subst, sym, arith}
+use Rattle.std.proofs.lemmas.Grind.{common_steps}
 use Rattle.std.specs.Option.{IsSomeAnd}
 use Rattle.std.specs.Range.Bound.{bound_map}
 use Rattle.range_keys.specs.Position.{key_value}
 use Rattle.range_algebra.specs.Measures.{told_bound}
 use Rattle.range_algebra.specs.Numbers.{IsNumberOfKeys}
 use Rattle.range_algebra.specs.Range.{Holds, IsEmptyRange}
-use Rattle.range_algebra.proofs.Measuring.{told_reach, full_measure, measure_is_number}
+use Rattle.range_algebra.proofs.Measuring.{told_reach, told_known, full_measure, measure_is_number}
 use Rattle.range_algebra.proofs.any.AnyRange.bounded_len.Goals as goal
+
+pub measured-requires-clause-known_start : goal.measured-requires-clause-known_start
+measured-requires-clause-known_start g c =
+    let order = g.T.MaybeBounded.order in
+    let lawful = g.met.T.PartialEnum.lawful in
+    let bound = c.args.self.now.start in
+    let start : bound_map key_value c.with_told-start.result ≡ told_bound order.least bound = search rules in
+    rw start (told_known order lawful order.least bound lawful.least_key c.known.ensures.0)
+
+pub measured-requires-clause-known_end : goal.measured-requires-clause-known_end
+measured-requires-clause-known_end g c =
+    let order = g.T.MaybeBounded.order in
+    let lawful = g.met.T.PartialEnum.lawful in
+    let bound = c.args.self.now.end in
+    let end : bound_map key_value c.with_told-end.result ≡ told_bound order.greatest bound = search rules in
+    rw end (told_known order lawful order.greatest bound lawful.greatest_key c.known.ensures.1)
 
 pub measured-requires-clause-nonempty : goal.measured-requires-clause-nonempty
 measured-requires-clause-nonempty g c =
@@ -32,3 +49,21 @@ returns-clause-counted g c = λ counts.
     let order = g.T.MaybeBounded.order in
     let r = c.args.self.now in
     subst (λ n. IsSomeAnd n (IsNumberOfKeys order (Holds order r))) (sym (returns-clause-measure g c)) (measure_is_number order g.T.Measure.len g.T.Measure.distance counts r c.known.ensures)
+
+pub returns-then-is_empty-clause-measure : goal.returns-then-is_empty-clause-measure
+returns-then-is_empty-clause-measure g c = search rules
+
+pub returns-then-is_empty-clause-empty : goal.returns-then-is_empty-clause-empty
+returns-then-is_empty-clause-empty g c = search rules
+
+pub returns-then-is_empty-clause-untold : goal.returns-then-is_empty-clause-untold
+returns-then-is_empty-clause-untold g c = search rules
+
+pub returns-then-is_empty-clause-counted : goal.returns-then-is_empty-clause-counted
+returns-then-is_empty-clause-counted g c = search rules
+
+pub returns-clause-empty : goal.returns-clause-empty
+returns-clause-empty g c = search rules
+
+pub returns-clause-untold : goal.returns-clause-untold
+returns-clause-untold g c = search rules

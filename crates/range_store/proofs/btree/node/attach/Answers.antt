@@ -8,3 +8,6 @@ use Rattle.range_store.proofs.btree.node.attach.Goals as goal
 pub returns-in-None-clause-sizes : goal.returns-in-None-clause-sizes
 returns-in-None-clause-sizes c =
     rw c.in-None.is (grind (arith, common_steps) ∙ set_parts (sizes_of (get c.args.nodes.now c.args.number)) c.args.index (count_of (get c.args.nodes.now c.args.child)) (omega (arith, c.requires.sizes, c.requires.within)))
+
+pub returns-in-Some-clause-sizes : goal.returns-in-Some-clause-sizes
+returns-in-Some-clause-sizes c = grind (arith, common_steps)

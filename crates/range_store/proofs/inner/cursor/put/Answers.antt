@@ -1,4 +1,4 @@
-use Rattle.std.proofs.Common.{◌≡◌, ◌+◌, ◌≤◌, length, ap, sym, arith}
+use Rattle.std.proofs.Common.{◌≡◌, ◌+◌, ◌≤◌, length, ap, sym, arith, rules}
 use Rattle.range_store.specs.Places.{place_before}
 use Rattle.range_store.proofs.Edits.{put_over}
 use Rattle.range_store.proofs.inner.cursor.put.Goals as goal
@@ -12,3 +12,6 @@ returns-clause-list g c =
     let here : place ≡ storage.rank stored c.in-Some.p = ap (place_before (storage.rank stored) (length items)) c.in-Some.is in
     let within : place + c.args.cursor.left ≤ length items = c.requires.in_range in
     put_over items (storage.items c.replace-replaced.new.self) place (storage.rank stored c.in-Some.p) c.args.cursor.left c.args.item c.replace-replaced.ensures.list (sym here) (omega arith) (omega arith)
+
+pub returns-clause-position : goal.returns-clause-position
+returns-clause-position g c = search rules

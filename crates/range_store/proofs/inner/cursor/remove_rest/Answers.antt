@@ -1,4 +1,5 @@
-use Rattle.std.proofs.Common.{arith, length}
+use Rattle.std.proofs.Common.{arith, length, rules}
+use Rattle.std.proofs.lemmas.Grind.{common_steps}
 use Rattle.range_store.specs.Places.{place_before}
 use Rattle.range_store.proofs.Edits.{removed_one}
 use Rattle.range_store.proofs.inner.cursor.remove_rest.Goals as goal
@@ -14,3 +15,9 @@ loop-removed-preserved g c =
       changed = removed_one before (storage.items c.loop-removed.stored) (storage.items c.remove_at-following.new.self) place c.loop-removed._removed (storage.rank c.loop-removed.stored c.in-Some.p) c.remove_at-following.result.0 c.loop-removed.invariant.changed c.remove_at-following.ensures.list here.1 (omega arith);
       space = omega (arith, c.remove_at-following.ensures.space, c.loop-removed.invariant.space);
     }
+
+pub loop-removed-init : goal.loop-removed-init
+loop-removed-init g c = grind (arith, common_steps)
+
+pub returns-clause-list : goal.returns-clause-list
+returns-clause-list g c = search rules

@@ -17,3 +17,6 @@ returns-clause-complete g c = λ complete none.
     let empty : IsEmptyRange order (range_of c.args.self.now) → IsTrue c.starts_past_end.result = search rules in
     let known : IsKnownRange order (range_of c.args.self.now) = (c.known_bound.ensures, c.known_bound-2.ensures) in
     empty (keyless_is_empty order g.met.T.PartialEnum.lawful complete (range_of c.args.self.now) known none)
+
+pub returns-clause-by_position : goal.returns-clause-by_position
+returns-clause-by_position g c = search rules

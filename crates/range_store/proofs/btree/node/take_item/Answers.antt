@@ -1,0 +1,18 @@
+use Rattle.std.proofs.Common.{arith}
+use Rattle.std.proofs.lemmas.Grind.{common_steps}
+use Rattle.range_store.proofs.btree.node.take_item.Goals as goal
+
+pub returns-clause-value : goal.returns-clause-value
+returns-clause-value c = grind (arith, common_steps)
+
+pub returns-clause-items : goal.returns-clause-items
+returns-clause-items c = grind (arith, common_steps)
+
+pub returns-clause-sizes : goal.returns-clause-sizes
+returns-clause-sizes c = grind (arith, common_steps)
+
+pub returns-clause-children : goal.returns-clause-children
+returns-clause-children c = grind (arith, common_steps)
+
+pub returns-clause-rewritten : goal.returns-clause-rewritten
+returns-clause-rewritten c = grind (arith, common_steps)
