@@ -1,5 +1,4 @@
-use Rattle.std.proofs.lemmas.Grind.{common_steps}
-use Rattle.std.proofs.Common.{◌≡◌, ◌++◌, ◌∷◌, [], length, sym, ap, ◌∙◌, arith, append_assoc, rules}
+use Rattle.std.proofs.Common.{◌≡◌, ◌++◌, ◌∷◌, [], length, sym, ap, ◌∙◌, arith, append_assoc}
 use Rattle.range_sets.specs.Tagged.{MayAnswerTo}
 use Rattle.range_sets.proofs.CountedRuns.{one_more_counted}
 use Rattle.range_map.proofs.Endings.{prefix_is_all}
@@ -22,27 +21,3 @@ returns-clause-run g c =
     let none : length rest.items ≡ 0 = omega (arith, rest.ok.0, c.in-None.ensures.steps.0) in
     let all = prefix_is_all c.loop-command.yielded rest.items c.args.commands.items c.loop-command.invariant.left none in
     rw (← all) c.loop-command.invariant.chain
-
-pub returns-in_err-replies-clause-run : goal.returns-in_err-replies-clause-run
-returns-in_err-replies-clause-run g c = grind (arith, common_steps)
-
-pub returns-in_err-replies-clause-refused : goal.returns-in_err-replies-clause-refused
-returns-in_err-replies-clause-refused g c = grind (arith, common_steps)
-
-pub returns-in_err-replies-clause-refused_steps : goal.returns-in_err-replies-clause-refused_steps
-returns-in_err-replies-clause-refused_steps g c = grind (arith, common_steps)
-
-pub loop-command-init : goal.loop-command-init
-loop-command-init g c = search rules
-
-pub loop-command-smaller : goal.loop-command-smaller
-loop-command-smaller g c = search rules
-
-pub unreachable-unreachable : goal.unreachable-unreachable
-unreachable-unreachable g c = search rules
-
-pub returns-clause-refused : goal.returns-clause-refused
-returns-clause-refused g c = search rules
-
-pub returns-clause-refused_steps : goal.returns-clause-refused_steps
-returns-clause-refused_steps g c = search rules

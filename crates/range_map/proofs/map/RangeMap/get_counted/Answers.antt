@@ -1,4 +1,4 @@
-use Rattle.std.proofs.Common.{◌<◌, length, refl, rules}
+use Rattle.std.proofs.Common.{◌<◌, length, refl}
 use Rattle.range_map.proofs.Found.{none_bound, other_bound, bound_at, holds_at, past_not}
 use Rattle.range_map.proofs.map.RangeMap.get_counted.Goals as goal
 
@@ -27,21 +27,3 @@ returns-clause-value g c =
     let within : place < length items = g.met.C.Storage.good_is_in_range stored c.in-Some.p position.0 in
     let held = holds_at g.K.MaybeBounded.order g.met.K.PartialEnum.lawful g.V.PartialEq.eq items c.args.key place c.get-item.result.now c.known.ensures within c.get-item.ensures (rw c.in-Some.is at c.find-from.ensures.found.above) c.if-starts_past.ensures.past in
     rw (← c.self.view_is) (bound_at g.K.MaybeBounded.order g.met.K.PartialEnum.lawful g.V.PartialEq.eq items c.args.key place c.get-item.result.now g.met.V.Eq.laws within c.get-item.ensures held)
-
-pub returns-in-None-clause-counted : goal.returns-in-None-clause-counted
-returns-in-None-clause-counted g c = search rules
-
-pub returns-in-None-clause-none : goal.returns-in-None-clause-none
-returns-in-None-clause-none g c = search rules
-
-pub returns-then-starts_past-clause-counted : goal.returns-then-starts_past-clause-counted
-returns-then-starts_past-clause-counted g c = search rules
-
-pub returns-then-starts_past-clause-none : goal.returns-then-starts_past-clause-none
-returns-then-starts_past-clause-none g c = search rules
-
-pub returns-clause-counted : goal.returns-clause-counted
-returns-clause-counted g c = search rules
-
-pub returns-clause-none : goal.returns-clause-none
-returns-clause-none g c = search rules
