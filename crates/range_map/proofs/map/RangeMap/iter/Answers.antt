@@ -10,3 +10,6 @@ returns-clause-coarse g c = λ complete. stored_coarse g.K.MaybeBounded.order g.
 
 pub returns-clause-only : goal.returns-clause-only
 returns-clause-only g c = λ complete. stored_only g.K.MaybeBounded.order g.met.K.PartialEnum.lawful g.V.PartialEq.eq g.met.V.Eq.laws complete (c.new.result) (returns-clause-form g c)
+
+pub returns-clause-items : goal.returns-clause-items
+returns-clause-items g c = search rules
