@@ -45,3 +45,6 @@ pub returns-in_default-clause-none : goal.returns-in_default-clause-none
 returns-in_default-clause-none c =
     let other : c.args.text.now ≢ codes "clear" = search rules in
     none_named c.args.text.now c.in_ok-word.word.now c.in_ok-word.fields.now c.in_ok-word.ensures other c.in_default.not-set c.in_default.not-fill c.in_default.not-fail
+
+pub returns-in_ok-value-in-set-clause-found : goal.returns-in_ok-value-in-set-clause-found
+returns-in_ok-value-in-set-clause-found c = search rules

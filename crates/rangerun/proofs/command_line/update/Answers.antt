@@ -1,3 +1,4 @@
+use Rattle.std.proofs.Common.{rules}
 use Rattle.rangerun.proofs.Spelled.{if_none, has_byte, parted_update}
 use Rattle.rangerun.proofs.command_line.update.Goals as goal
 
@@ -11,3 +12,6 @@ returns-in_err-range-clause-none g c = if_none c.from_residual-in_err-range.resu
 pub returns-in_err-tag-clause-none : goal.returns-in_err-tag-clause-none
 returns-in_err-tag-clause-none g c = if_none c.from_residual-in_err-tag.result _ (λ range tag spelled. c.in_err-tag.ensures.none tag
     (parted_update g.K.MaybeBounded.order.is_key g.K.SpelledKey.as_number c.args.text.now c.in_ok-spelled.spelled.now c.in_ok-spelled.action.now range tag c.in_ok-spelled.ensures spelled).1)
+
+pub returns-clause-found : goal.returns-clause-found
+returns-clause-found g c = search rules

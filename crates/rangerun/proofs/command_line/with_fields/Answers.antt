@@ -1,4 +1,5 @@
-use Rattle.std.proofs.Common.{◌≢◌}
+use Rattle.std.proofs.Common.{arith, ◌≢◌}
+use Rattle.std.proofs.lemmas.Grind.{common_steps}
 use Rattle.rangerun.proofs.Spelled.{if_none}
 use Rattle.rangerun.proofs.LineWords.{text_of, none_of, none_named}
 use Rattle.rangerun.proofs.LineWords.Word.{InsertWord, TryWord, RemoveWord, UpdateWord, GetWord, HasWord, MeetsWord}
@@ -36,3 +37,24 @@ returns-in_default-clause-none g c = none_named g.K.MaybeBounded.order.is_key g.
       | HasWord ↦ c.in_default.not-has
       | MeetsWord ↦ c.in_default.not-meets
     ])
+
+pub returns-in_ok-range-in-insert-clause-found : goal.returns-in_ok-range-in-insert-clause-found
+returns-in_ok-range-in-insert-clause-found g c = grind (arith, common_steps)
+
+pub returns-in_ok-range-in-try-clause-found : goal.returns-in_ok-range-in-try-clause-found
+returns-in_ok-range-in-try-clause-found g c = grind (arith, common_steps)
+
+pub returns-in_ok-range-in-remove-clause-found : goal.returns-in_ok-range-in-remove-clause-found
+returns-in_ok-range-in-remove-clause-found g c = grind (arith, common_steps)
+
+pub returns-in_ok-range-in-update-clause-found : goal.returns-in_ok-range-in-update-clause-found
+returns-in_ok-range-in-update-clause-found g c = grind (arith, common_steps)
+
+pub returns-in_ok-key-in-get-clause-found : goal.returns-in_ok-key-in-get-clause-found
+returns-in_ok-key-in-get-clause-found g c = grind (arith, common_steps)
+
+pub returns-in_ok-key-in-has-clause-found : goal.returns-in_ok-key-in-has-clause-found
+returns-in_ok-key-in-has-clause-found g c = grind (arith, common_steps)
+
+pub returns-in_ok-range-in-meets-clause-found : goal.returns-in_ok-range-in-meets-clause-found
+returns-in_ok-range-in-meets-clause-found g c = grind (arith, common_steps)

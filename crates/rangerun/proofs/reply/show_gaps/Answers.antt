@@ -1,4 +1,4 @@
-use Rattle.std.proofs.Common.{◌≡◌, ◌∷◌, subst}
+use Rattle.std.proofs.Common.{rules, ◌≡◌, ◌∷◌, subst}
 use Rattle.btree_range_map.specs.FreeRanges.{AreGaps}
 use Rattle.btree_range_map.specs.References.{range_of}
 use Rattle.rangerun.specs.Replies.{SpellsSpan}
@@ -19,3 +19,6 @@ returns-in_ok-write_gap-in-Some g c =
     on_ok_as c.write_gaps.result _ _ (λ others.
     let (text, spelled, appended) = shown_first Spells gap left before now next c.in_ok-write_gap-in-Some.ensures others in
     (text, (gap ∷ left, subst (AreGaps order items) step c.gaps-gaps.ensures.gaps, spelled), appended)) c.write_gaps.ensures
+
+pub returns-in-None : goal.returns-in-None
+returns-in-None g c = search rules

@@ -1,4 +1,4 @@
-use Rattle.std.proofs.Common.{◌++◌, ◌∷◌, [], refl, decimal}
+use Rattle.std.proofs.Common.{rules, ◌++◌, ◌∷◌, [], refl, decimal}
 use Rattle.rangerun.proofs.Progress.{on_ok_as}
 use Rattle.rangerun.proofs.reply.show_levels.Goals as goal
 

@@ -1,4 +1,4 @@
-use Rattle.std.proofs.Common.{◌≡◌, ◌≢◌, subst, [], arith, ◌∙◌, sym, ap, Some}
+use Rattle.std.proofs.Common.{rules, ◌≡◌, ◌≢◌, subst, [], arith, ◌∙◌, sym, ap, Some}
 use Rattle.std.specs.Str.{IsUtf8}
 use Rattle.std.specs.Io.BufRead.{first_line, take_through, drop_through}
 use Rattle.std.specs.Io.KnownBytes.{IsAtEnd}
@@ -70,3 +70,6 @@ returns-in_default-from_utf8-clause-unread g c = λ e. stopped_at g.K.MaybeBound
 
 pub returns-clause-unread : goal.returns-clause-unread
 returns-clause-unread g c = λ e. stopped_at g.K.MaybeBounded.order g.K.SpelledKey.as_number (g.R.Read.remaining c.args.input.now) (g.R.Read.remaining c.loop.input) (g.W.Write.contents c.args.out.now) (g.W.Write.contents c.loop.out) (box_items c.loop.map) c.loop.invariant
+
+pub returns-in_default-answer_line-clause-unread : goal.returns-in_default-answer_line-clause-unread
+returns-in_default-answer_line-clause-unread g c = search rules
