@@ -1,6 +1,5 @@
-use Rattle.std.proofs.Common.{arith}
-use Rattle.std.proofs.lemmas.Grind.{common_steps}
+use Rattle.std.proofs.Common.{rules, append_assoc}
 use Rattle.rangerun.proofs.reply.write_span.Goals as goal
 
 pub returns : goal.returns
-returns g c = grind (arith, common_steps)
+returns g c = search (rules, append_assoc)
