@@ -27,13 +27,6 @@ run_ends begin joins place firsts lasts count upto joins_behind left begins ends
 pub joins_fit : (joins joins_behind inner left : ℕ) → left ≡ joins + inner + joins_behind → joins + joins_behind ≤ left
 joins_fit joins joins_behind inner left is = omega (arith, is)
 
--- the same, where the lengths were counted
-pub counted_ends : (begin before firsts count lasts behind upto first_count last_count before_count behind_count : ℕ) → begin + (before + (count - (firsts + lasts)) + behind) ≡ upto → first_count ≡ firsts → last_count ≡ lasts → before_count ≡ before → behind_count ≡ behind → begin + (before_count + (count - (first_count + last_count)) + behind_count) ≡ upto
-counted_ends begin before firsts count lasts behind upto first_count last_count before_count behind_count ends first_is last_is before_is behind_is = omega (arith, ends, first_is, last_is, before_is, behind_is)
-
-pub counted_fit : (joins joins_behind before behind inner before_count behind_count : ℕ) → joins ≡ before → joins_behind ≡ behind → before_count ≡ before → behind_count ≡ behind → joins + joins_behind ≤ before_count + inner + behind_count
-counted_fit joins joins_behind before behind inner before_count behind_count joins_is joins_behind_is before_is behind_is = omega (arith, joins_is, joins_behind_is, before_is, behind_is)
-
 pub few_rest : (rest rest_behind firsts lasts count : ℕ) → rest ≤ firsts → rest_behind ≤ lasts → firsts + lasts ≤ count → rest + rest_behind ≤ count + 1
 few_rest rest rest_behind firsts lasts count few few_behind apart = omega (arith, few, few_behind, apart)
 

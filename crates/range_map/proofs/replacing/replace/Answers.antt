@@ -7,9 +7,7 @@ use Rattle.range_store.proofs.PlacesLemmas.{place_at, kept_at, good_at}
 use Rattle.range_map.specs.Edges.{IsLeftShape, IsRightShape, joined_count}
 use Rattle.range_map.specs.Edits.{turned_bound}
 use Rattle.range_map.specs.Seams.{seam_edge}
-use Rattle.range_map.specs.Window.{option_items}
 use Rattle.range_map.proofs.Framing.{all_meet}
-use Rattle.range_map.proofs.Lengths.{counted_ends, counted_fit}
 use Rattle.range_map.proofs.Openings.{left_kept, right_kept, left_good, right_good}
 use Rattle.range_map.proofs.Replaced.{IsReplacement, planned, replaced}
 use Rattle.range_map.proofs.Seaming.{seam_count}
@@ -118,8 +116,8 @@ change_to-requires-clause-in_range g c =
     let size : length (storage.items ready) ≡ length items = ap length same in
     let here : place_before (storage.rank ready) (length (storage.items ready)) c.or.result ≡ left.begin = ap (λ n. place_before (storage.rank ready) n c.or.result) size ∙ (ap (place_before (storage.rank ready) (length items)) c.or.ensures ∙ place_at (storage.is_good ready) (storage.rank ready) (length items) (option_or joined from) left.begin run) in
     let count = c.item_count-3.result + (w.count - (c.item_count.result + c.item_count-2.result)) + c.item_count-4.result in
-    let upto : left.begin + count ≡ right.upto = counted_ends left.begin (length (option_items joined)) (length (option_items c.args.first)) w.count (length (option_items c.args.last)) (length (option_items c.joined_right-behind.result)) right.upto c.item_count.result c.item_count-2.result c.item_count-3.result c.item_count-4.result plan.upto c.item_count.ensures c.item_count-2.ensures c.item_count-3.ensures c.item_count-4.ensures in
-    rw (here, size, upto) plan.within
+    let upto : left.begin + count ≡ right.upto = omega (arith, plan.upto, c.item_count.ensures, c.item_count-2.ensures, c.item_count-3.ensures, c.item_count-4.ensures) in
+    rw (here, size) (omega (arith, upto, plan.within))
 
 pub returns-clause-ok : goal.returns-clause-ok
 returns-clause-ok g c =
@@ -149,7 +147,7 @@ returns-clause-ok g c =
     let size : length (storage.items ready) ≡ length items = ap length same in
     let here : place_before (storage.rank ready) (length (storage.items ready)) c.or.result ≡ left.begin = ap (λ n. place_before (storage.rank ready) n c.or.result) size ∙ (ap (place_before (storage.rank ready) (length items)) c.or.ensures ∙ place_at (storage.is_good ready) (storage.rank ready) (length items) (option_or joined from) left.begin run) in
     let count = c.item_count-3.result + (w.count - (c.item_count.result + c.item_count-2.result)) + c.item_count-4.result in
-    let upto : left.begin + count ≡ right.upto = counted_ends left.begin (length (option_items joined)) (length (option_items c.args.first)) w.count (length (option_items c.args.last)) (length (option_items c.joined_right-behind.result)) right.upto c.item_count.result c.item_count-2.result c.item_count-3.result c.item_count-4.result plan.upto c.item_count.ensures c.item_count-2.ensures c.item_count-3.ensures c.item_count-4.ensures in
+    let upto : left.begin + count ≡ right.upto = omega (arith, plan.upto, c.item_count.ensures, c.item_count-2.ensures, c.item_count-3.ensures, c.item_count-4.ensures) in
     let edge = seam_edge joined first (turned_bound r.start) in
     let edge_behind = seam_edge other last (turned_bound r.end) in
     let edge_is : c.seam-left.result ≡ edge = c.seam-left.ensures ∙ ap (seam_edge joined first) (c.turned-left.ensures ∙ ap turned_bound c.into_bounds-start.ensures.start) in
@@ -159,7 +157,7 @@ returns-clause-ok g c =
     let on_right = subst (λ n. IsRightShape (storage.is_good ready) (storage.rank ready) (storage.items ready) c.seam-right.result n right.end right.rest right.finish) (sym (ap (λ n. n + count) here ∙ upto)) (rw behind_is (right_kept (storage.is_good stored) (storage.is_good ready) (storage.rank stored) (storage.rank ready) items (storage.items ready) kept same edge_behind right.upto right.end right.rest right.finish right.shape)) in
     let joins = ap joined_count edge_is ∙ seam_count joined first (turned_bound r.start) in
     let joins_behind = ap joined_count behind_is ∙ seam_count other last (turned_bound r.end) in
-    let done = c.change_to.ensures left.at right.end left.rest right.rest left.start right.finish on_left on_right (counted_fit (joined_count c.seam-left.result) (joined_count c.seam-right.result) (length (option_items joined)) (length (option_items other)) (w.count - (c.item_count.result + c.item_count-2.result)) c.item_count-3.result c.item_count-4.result joins joins_behind c.item_count-3.ensures c.item_count-4.ensures) in
+    let done = c.change_to.ensures left.at right.end left.rest right.rest left.start right.finish on_left on_right (omega (arith, joins, joins_behind, c.item_count-3.ensures, c.item_count-4.ensures)) in
     let met = all_meet order lawful equal_values equal (storage.is_good stored) (storage.rank stored) items r w place c.requires.stored c.known.ensures c.requires.window in
     replaced order lawful equal_values equal (storage.is_good stored) (storage.rank stored) items r place w.count (storage.items c.change_to.new.stored) middle first last edge edge_behind (option_or joined from) c.requires.stored c.requires.middle c.known.ensures met left right (rw same at done)
 
@@ -179,7 +177,7 @@ pub overflow_sub-inner : goal.overflow_sub-inner
 overflow_sub-inner g c = grind (arith, common_steps)
 
 pub returns-clause-refused : goal.returns-clause-refused
-returns-clause-refused g c = tt
+returns-clause-refused g c = grind (arith, common_steps)
 
 pub run_start-from-requires-clause-from : goal.run_start-from-requires-clause-from
 run_start-from-requires-clause-from g c = grind (arith, common_steps)
