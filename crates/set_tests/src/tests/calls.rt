@@ -3,7 +3,7 @@
 use crate::tests::support::Keys::{
     self, Above, All, Alone, Any, Below, Closed, HalfOpen, Starting, UpTo,
 };
-use crate::tests::support::{Entry, Step, Tree, Vector, extend, play_both};
+use crate::tests::support::{Entry, Step, Tree, Vector, extend, plays};
 use btree_range_map::generic::map::MapError;
 use btree_range_map::generic::set::RangeSet;
 use btree_range_map::storage::Storage;
@@ -35,8 +35,7 @@ static BYTES: &[Step<'static, u8>] = &[
 
 #[test]
 fn bytes(rt: HostRuntime) -> Result<(), Fail> {
-    assert_eq!(rt; play_both(rt.alloc(), BYTES)?, (BYTES.len(), BYTES.len()));
-    Ok(())
+    plays(&rt, rt.alloc(), BYTES)
 }
 
 static ALL_NUMBERS_OF_64_BITS: &[Step<'static, u64>] = &[
@@ -46,11 +45,7 @@ static ALL_NUMBERS_OF_64_BITS: &[Step<'static, u64>] = &[
 
 #[test]
 fn all_numbers_of_64_bits(rt: HostRuntime) -> Result<(), Fail> {
-    assert_eq!(rt;
-        play_both(rt.alloc(), ALL_NUMBERS_OF_64_BITS)?,
-        (ALL_NUMBERS_OF_64_BITS.len(), ALL_NUMBERS_OF_64_BITS.len())
-    );
-    Ok(())
+    plays(&rt, rt.alloc(), ALL_NUMBERS_OF_64_BITS)
 }
 
 static THE_GAP_BESIDE_THE_LEAST_NUMBER: &[Step<'static, u32>] = &[
@@ -61,14 +56,7 @@ static THE_GAP_BESIDE_THE_LEAST_NUMBER: &[Step<'static, u32>] = &[
 
 #[test]
 fn the_gap_beside_the_least_number(rt: HostRuntime) -> Result<(), Fail> {
-    assert_eq!(rt;
-        play_both(rt.alloc(), THE_GAP_BESIDE_THE_LEAST_NUMBER)?,
-        (
-            THE_GAP_BESIDE_THE_LEAST_NUMBER.len(),
-            THE_GAP_BESIDE_THE_LEAST_NUMBER.len()
-        )
-    );
-    Ok(())
+    plays(&rt, rt.alloc(), THE_GAP_BESIDE_THE_LEAST_NUMBER)
 }
 
 static CHARACTERS: &[Step<'static, char>] = &[
@@ -81,11 +69,7 @@ static CHARACTERS: &[Step<'static, char>] = &[
 
 #[test]
 fn characters(rt: HostRuntime) -> Result<(), Fail> {
-    assert_eq!(rt;
-        play_both(rt.alloc(), CHARACTERS)?,
-        (CHARACTERS.len(), CHARACTERS.len())
-    );
-    Ok(())
+    plays(&rt, rt.alloc(), CHARACTERS)
 }
 
 /// Insertions that join, removals, look-ups and copies.
@@ -115,11 +99,7 @@ static NUMBERS: &[Step<'static, i32>] = &[
 
 #[test]
 fn numbers(rt: HostRuntime) -> Result<(), Fail> {
-    assert_eq!(rt;
-        play_both(rt.alloc(), NUMBERS)?,
-        (NUMBERS.len(), NUMBERS.len())
-    );
-    Ok(())
+    plays(&rt, rt.alloc(), NUMBERS)
 }
 
 static A_SET_IS_SHOWN: &[Step<'static, i32>] = &[
@@ -134,11 +114,7 @@ static A_SET_IS_SHOWN: &[Step<'static, i32>] = &[
 
 #[test]
 fn a_set_is_shown(rt: HostRuntime) -> Result<(), Fail> {
-    assert_eq!(rt;
-        play_both(rt.alloc(), A_SET_IS_SHOWN)?,
-        (A_SET_IS_SHOWN.len(), A_SET_IS_SHOWN.len())
-    );
-    Ok(())
+    plays(&rt, rt.alloc(), A_SET_IS_SHOWN)
 }
 
 const RANGES: [(i32, i32); 5] = [(0, 2), (40, 46), (20, 24), (8, 3), (2, 20)];

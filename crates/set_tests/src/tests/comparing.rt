@@ -1,7 +1,7 @@
 //! How sets compare.
 
 use crate::tests::support::Keys::{self, Alone, Below, Between, Closed, HalfOpen, Starting};
-use crate::tests::support::{Entry, Step, Tree, Vector, compared, goes, play_both};
+use crate::tests::support::{Entry, Step, Tree, Vector, compared, goes, play_both, plays};
 use btree_range_map::generic::map::MapError;
 use btree_range_map::generic::set::RangeSet;
 use btree_range_map::storage::Storage;
@@ -28,14 +28,7 @@ static A_MENDED_SET_EQUALS_A_PLAIN_ONE: &[Step<'static, i32>] = &[
 
 #[test]
 fn a_mended_set_equals_a_plain_one(rt: HostRuntime) -> Result<(), Fail> {
-    assert_eq!(rt;
-        play_both(rt.alloc(), A_MENDED_SET_EQUALS_A_PLAIN_ONE)?,
-        (
-            A_MENDED_SET_EQUALS_A_PLAIN_ONE.len(),
-            A_MENDED_SET_EQUALS_A_PLAIN_ONE.len()
-        )
-    );
-    Ok(())
+    plays(&rt, rt.alloc(), A_MENDED_SET_EQUALS_A_PLAIN_ONE)
 }
 
 /// Ranks, and the ranges of sets: those of one rank hold the same keys, and the others are in
@@ -93,14 +86,7 @@ static THE_COMPLEMENT_OF_THE_COMPLEMENT_IS_THE_SET: &[Step<'static, u8>] = &[
 
 #[test]
 fn the_complement_of_the_complement_is_the_set(rt: HostRuntime) -> Result<(), Fail> {
-    assert_eq!(rt;
-        play_both(rt.alloc(), THE_COMPLEMENT_OF_THE_COMPLEMENT_IS_THE_SET)?,
-        (
-            THE_COMPLEMENT_OF_THE_COMPLEMENT_IS_THE_SET.len(),
-            THE_COMPLEMENT_OF_THE_COMPLEMENT_IS_THE_SET.len()
-        )
-    );
-    Ok(())
+    plays(&rt, rt.alloc(), THE_COMPLEMENT_OF_THE_COMPLEMENT_IS_THE_SET)
 }
 
 /// Adds or takes away some of the first four keys, all of it taken from one number.
@@ -144,6 +130,14 @@ fn alike<C: Storage<Entry<u8>>, D: Storage<Entry<u8>>>(
     }
 }
 
+fn change<C: Storage<Entry<u8>>, D: Storage<Entry<u8>>>(
+    alloc: Global,
+    set: &mut RangeSet<u8, C>,
+    drawn: u32,
+) -> Result<bool, MapError> {
+    goes::<u8, C, D>(alloc, set, &drawn_step(drawn))
+}
+
 /// Changes both sets, and tells what `alike` says then.
 fn changed_alike<C: Storage<Entry<u8>>, D: Storage<Entry<u8>>>(
     alloc: Global,
@@ -151,8 +145,8 @@ fn changed_alike<C: Storage<Entry<u8>>, D: Storage<Entry<u8>>>(
     right: &mut RangeSet<u8, D>,
     drawn: (u32, u32),
 ) -> Result<Option<bool>, MapError> {
-    goes::<u8, C, D>(alloc, left, &drawn_step(drawn.0))?;
-    goes::<u8, D, C>(alloc, right, &drawn_step(drawn.1))?;
+    change::<C, D>(alloc, left, drawn.0)?;
+    change::<D, C>(alloc, right, drawn.1)?;
     Ok(alike(left, right))
 }
 

@@ -17,6 +17,8 @@ use std::cmp::Ordering;
 use std::fmt::Debug;
 use std::hash::{DefaultHasher, Hash, Hasher};
 use std::ops::Bound;
+use std::process::Abort;
+use std::test::Fail;
 
 /// What a set stores: a range with no value.
 pub type Entry<T> = Item<AnyRange<T>, ()>;
@@ -285,10 +287,36 @@ fn gather<T: Key, C: Storage<Entry<T>>>(
     Ok(true)
 }
 
+fn count_of<T: Key, C: Storage<Entry<T>>>(set: &RangeSet<T, C>) -> usize {
+    set.range_count()
+}
+
 fn hash_of<T: Key, C: Storage<Entry<T>>>(set: &RangeSet<T, C>) -> u64 {
     let mut state = DefaultHasher::new();
     set.hash(&mut state);
     state.finish()
+}
+
+/// How two sets compare across containers, where the two comparisons say the same.
+fn compared_across<T: Key, C: Storage<Entry<T>>, D: Storage<Entry<T>>>(
+    left: &RangeSet<T, C>,
+    right: &RangeSet<T, D>,
+) -> Option<Ordering> {
+    let ordering = left.cmp_across(right);
+    if left.eq_across(right) == ordering.is_eq() {
+        Some(ordering)
+    } else {
+        None
+    }
+}
+
+/// Whether two sets store as many ranges where they are equal, and hash alike just there.
+fn hash_alike<T: Key, C: Storage<Entry<T>>, D: Storage<Entry<T>>>(
+    left: &RangeSet<T, C>,
+    right: &RangeSet<T, D>,
+    equal: bool,
+) -> bool {
+    (hash_of(left) == hash_of(right)) == equal && (count_of(left) == count_of(right) || !equal)
 }
 
 /// How two sets compare, where all comparisons across containers and the hashes say the same.
@@ -296,14 +324,13 @@ pub fn compared<T: Key, C: Storage<Entry<T>>, D: Storage<Entry<T>>>(
     left: &RangeSet<T, C>,
     right: &RangeSet<T, D>,
 ) -> Option<Ordering> {
-    let ordering = left.cmp_across(right);
-    let equal = ordering == Ordering::Equal;
-    let agree = right.cmp_across(left) == ordering.reverse()
-        && left.eq_across(right) == equal
-        && right.eq_across(left) == equal
-        && (hash_of(left) == hash_of(right)) == equal
-        && (left.range_count() == right.range_count() || !equal);
-    if agree { Some(ordering) } else { None }
+    let ordering = compared_across(left, right)?;
+    let back = compared_across(right, left)?;
+    if back == ordering.reverse() && hash_alike(left, right, ordering.is_eq()) {
+        Some(ordering)
+    } else {
+        None
+    }
 }
 
 /// How two sets over one container compare, where all comparisons and the hashes say the same.
@@ -409,4 +436,12 @@ pub fn play_both<T: Key>(alloc: Global, steps: &[Step<'_, T>]) -> Result<(usize,
     let over_vector = play::<T, Vector<T>, Tree<T>>(alloc, steps)?;
     let over_tree = play::<T, Tree<T>, Vector<T>>(alloc, steps)?;
     Ok((over_vector, over_tree))
+}
+
+/// Passes where every step holds, and else tells what `play_both` does.
+pub fn plays<T: Key>(rt: &impl Abort, alloc: Global, steps: &[Step<'_, T>]) -> Result<(), Fail>
+    requires { ClonesAreEqual T.is_clone T.eq }
+{
+    assert_eq!(rt; play_both(alloc, steps)?, (steps.len(), steps.len()));
+    Ok(())
 }

@@ -124,6 +124,12 @@ fn play(alloc: Global, steps: &[Step<'_>]) -> Result<usize, MapError> {
     run(&mut map, steps)
 }
 
+/// Passes where every step holds, and else tells the place of the first that does not.
+fn plays(rt: &impl Abort, alloc: Global, steps: &[Step<'_>]) -> Result<(), Fail> {
+    assert_eq!(rt; play(alloc, steps)?, steps.len());
+    Ok(())
+}
+
 static A_TOUR: &[Step<'static>] = &[
     Step::With(Closed(0, 5), Call::Insert(1)),
     Step::With(Alone(4), Call::Insert(0)),
@@ -139,8 +145,7 @@ static A_TOUR: &[Step<'static>] = &[
 
 #[test]
 fn a_tour(rt: HostRuntime) -> Result<(), Fail> {
-    assert_eq!(rt; play(rt.alloc(), A_TOUR)?, A_TOUR.len());
-    Ok(())
+    plays(&rt, rt.alloc(), A_TOUR)
 }
 
 static INSERTIONS_IN_EVERY_SPELLING: &[Step<'static>] = &[
@@ -166,11 +171,7 @@ static INSERTIONS_IN_EVERY_SPELLING: &[Step<'static>] = &[
 
 #[test]
 fn insertions_in_every_spelling(rt: HostRuntime) -> Result<(), Fail> {
-    assert_eq!(rt;
-        play(rt.alloc(), INSERTIONS_IN_EVERY_SPELLING)?,
-        INSERTIONS_IN_EVERY_SPELLING.len()
-    );
-    Ok(())
+    plays(&rt, rt.alloc(), INSERTIONS_IN_EVERY_SPELLING)
 }
 
 static REMOVALS_IN_EVERY_SPELLING: &[Step<'static>] = &[
@@ -193,11 +194,7 @@ static REMOVALS_IN_EVERY_SPELLING: &[Step<'static>] = &[
 
 #[test]
 fn removals_in_every_spelling(rt: HostRuntime) -> Result<(), Fail> {
-    assert_eq!(rt;
-        play(rt.alloc(), REMOVALS_IN_EVERY_SPELLING)?,
-        REMOVALS_IN_EVERY_SPELLING.len()
-    );
-    Ok(())
+    plays(&rt, rt.alloc(), REMOVALS_IN_EVERY_SPELLING)
 }
 
 static RANGES_APART_IN_EVERY_SPELLING: &[Step<'static>] = &[
@@ -216,11 +213,7 @@ static RANGES_APART_IN_EVERY_SPELLING: &[Step<'static>] = &[
 
 #[test]
 fn ranges_apart_in_every_spelling(rt: HostRuntime) -> Result<(), Fail> {
-    assert_eq!(rt;
-        play(rt.alloc(), RANGES_APART_IN_EVERY_SPELLING)?,
-        RANGES_APART_IN_EVERY_SPELLING.len()
-    );
-    Ok(())
+    plays(&rt, rt.alloc(), RANGES_APART_IN_EVERY_SPELLING)
 }
 
 static MEETINGS_IN_EVERY_SPELLING: &[Step<'static>] = &[
@@ -248,11 +241,7 @@ static MEETINGS_IN_EVERY_SPELLING: &[Step<'static>] = &[
 
 #[test]
 fn meetings_in_every_spelling(rt: HostRuntime) -> Result<(), Fail> {
-    assert_eq!(rt;
-        play(rt.alloc(), MEETINGS_IN_EVERY_SPELLING)?,
-        MEETINGS_IN_EVERY_SPELLING.len()
-    );
-    Ok(())
+    plays(&rt, rt.alloc(), MEETINGS_IN_EVERY_SPELLING)
 }
 
 fn fill<C: Storage<ByteItem>>(set: &mut Bytes<C>) -> Result<(), MapError> {
