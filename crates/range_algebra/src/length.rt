@@ -22,7 +22,7 @@ impl<T: Measure + Bounded> AnyRange<T> {
     /// Over keys of other lengths it is the distance from the start's key to the end's, in the unit
     /// of `Measure::len`, less the length of an excluded start, plus that of an included end. An
     /// unbounded bound stands for the least or the greatest key of the type, included. An empty
-    /// range, as `8..3`, measures 0. The call takes no memory, and the same few steps for any
+    /// range, as `8..3`, measures 0. The call allocates nothing, and the same few steps for any
     /// range.
     ///
     /// ```
@@ -42,7 +42,7 @@ impl<T: Measure> AnyRange<T> {
     /// that the key type does not tell.
     ///
     /// An empty range is not unbounded towards such an end, so it measures `Some(0)`. The call
-    /// takes no memory.
+    /// allocates nothing.
     ///
     /// ```
     /// assert_eq!(AnyRange::new(Bound::Excluded(2u64), Bound::Included(5)).bounded_len(), Some(3));

@@ -30,7 +30,7 @@ pub trait AsBound {
     // The bound that is meant.
     ghost bound: { Self → Bound Self.Item };
 
-    /// The bound. Takes no memory.
+    /// The bound. Allocates nothing.
     fn bound(&self) -> Bound<&Self::Item>
         ensures { bound_map (λ x. x.now) result ≡ bound self.now };
 }
@@ -136,14 +136,14 @@ pub trait BoundPartialOrd<T: PartialEnum> {
     // The bound that is meant.
     ghost directed: { Self → Directed (Bound T) };
 
-    /// `Some` of what [`BoundOrd::bound_cmp`] answers, always. Takes no memory.
+    /// `Some` of what [`BoundOrd::bound_cmp`] answers, always. Allocates nothing.
     fn bound_partial_cmp<B: AsBound<Item = T>>(&self, other: &Directed<B>) -> Option<BoundOrdering>
         ensures { result ≡ Some (bound_ordering T.order (directed self.now) (directed_map B.bound other.now)) };
 }
 
 /// Bounds that compare with the bounds of keys `T`.
 pub trait BoundOrd<T: PartialEnum>: BoundPartialOrd<T> {
-    /// How this bound lies to the other, by their positions. Takes no memory.
+    /// How this bound lies to the other, by their positions. Allocates nothing.
     fn bound_cmp<B: AsBound<Item = T>>(&self, other: &Directed<B>) -> BoundOrdering
         ensures { result ≡ bound_ordering T.order (Self.directed self.now) (directed_map B.bound other.now) };
 }

@@ -21,7 +21,7 @@ use range_store::storage::{Item, Steps, Storage};
 use std::alloc::AllocError;
 use std::ops::RangeBounds;
 
-/// How much room one item in the place of a run needs.
+/// How much capacity to spare one item needs that replaces a run.
 fn growth(count: usize) -> usize
     ensures { result ≡ 1 - count }
 {

@@ -1,5 +1,4 @@
-//! The one change to a container: nothing here takes memory beyond the container's room, and
-//! nothing fails.
+//! The one change to a container: nothing here allocates, and nothing fails.
 ghost use Rattle.std.specs.Prelude.{◌≡◌, ◌+◌, ◌≤◌, ◌∷◌, ◌++◌, [], length, take, drop, slice_set, slice_index_or, Some, Option, List, ℕ};
 ghost use Rattle.std.specs.Option.{ForSome, unwrap_or};
 ghost use Rattle.std.specs.declared.ops.Bound.{Bound};
@@ -165,8 +164,8 @@ fn replace_run_by<T: Drop, C: Storage<T>>(stored: &mut C, run: Cursor<C::Positio
     remove_rest::<T, C>(stored, cursor);
 }
 
-/// Binds the ranges of a list, where `left` and `right` say what becomes of the items beside them,
-/// and a run gives way to them.
+/// Binds the ranges of a list, which replace a run; `left` and `right` say what becomes of the items
+/// beside them.
 ///
 /// A start that the run joins becomes that of the first item, and an end that of the last.
 pub(crate) fn change_to<K: Drop, V: Drop, C: Storage<Item<AnyRange<K>, V>>>(

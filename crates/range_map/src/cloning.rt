@@ -24,7 +24,7 @@ fn known_items<K: PartialEnum, V, C: Storage<Item<AnyRange<K>, V>>>(stored: &C)
 }
 
 impl<K: PartialEnum, V: Eq + Drop, C: Storage<Item<AnyRange<K>, V>>> RangeMap<K, V, C> {
-    /// A map that binds no key. Takes no memory.
+    /// A map that binds no key. Allocates nothing.
     pub fn default(alloc: Global) -> Self
         ensures { C.items result ≡ [] }
     {

@@ -32,7 +32,7 @@ fn are_equal_items<K: PartialEnum, V: Eq>(
     *range == *other_range && *value == *other_value
 }
 
-/// Whether two containers store equal lists. Takes no memory, and one step for each item.
+/// Whether two containers store equal lists. Allocates nothing, and one step for each item.
 fn store_equal_lists<K, V, C, D>(left: &C, right: &D) -> bool
 where
     K: PartialEnum,
@@ -74,7 +74,7 @@ fn compare_items<K: PartialEnum, V: Ord>(
     }
 }
 
-/// How the lists of two containers compare, in dictionary order. Takes no memory, and one step for
+/// How the lists of two containers compare, in dictionary order. Allocates nothing, and one step for
 /// each item.
 fn compare_lists<K, V, C, D>(left: &C, right: &D) -> Ordering
 where
@@ -124,7 +124,7 @@ impl<K: PartialEnum, V: Eq + Drop, C: Storage<Item<AnyRange<K>, V>>> RangeMap<K,
     /// Whether a map over any container stores equal ranges with equal values.
     ///
     /// Then the two bind every key alike; over keys that tell their neighbours and ends, as
-    /// integers and characters, it does exactly where they do. Takes no memory. Costs one step for
+    /// integers and characters, it does exactly where they do. Allocates nothing. Costs one step for
     /// each stored range.
     pub fn eq_across<D: Storage<Item<AnyRange<K>, V>>>(&self, other: &RangeMap<K, V, D>) -> bool
         ensures value { result ≡ same_list K.order V.eq (C.items self.now) (D.items other.now) }

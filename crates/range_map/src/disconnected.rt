@@ -123,7 +123,7 @@ impl<K: Measure, V: Eq + Drop, C: Storage<Item<AnyRange<K>, V>>> RangeMap<K, V, 
     /// Binds each key of a range that neither meets nor touches a stored one, whatever its value.
     ///
     /// The range is stored as it is given, and no other changes. An empty range changes nothing and
-    /// takes no memory. An error hands back the range and the value, and leaves the map as it was.
+    /// allocates nothing. An error hands back the range and the value, and leaves the map as it was.
     /// Clones nothing; takes memory where the container has no room for one more range. Costs one
     /// search and two comparisons more.
     pub fn insert_disconnected<R: IntoRange<Item = K>>(

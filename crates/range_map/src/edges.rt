@@ -37,14 +37,14 @@ pub enum Edge<K, P: Copy> {
     Joined(P),
 }
 
-/// The side before a range, and the first item that gives way.
+/// The side before a range, and the first item that is replaced.
 #[derive(Drop)]
 pub struct LeftSide<K, P: Copy> {
     pub edge: Edge<K, P>,
     pub from: Option<P>,
 }
 
-/// How many items an edge adds to those that give way.
+/// How many items an edge adds to those that are replaced.
 pub(crate) fn joined_items<K, P: Copy>(edge: &Edge<K, P>) -> usize
     ensures { result ≡ joined_count edge.now }
 {
@@ -222,7 +222,7 @@ pub(crate) fn right_side<K: PartialEnum + Clone, V: Eq + Drop, C: Storage<Item<A
     }
 }
 
-/// What a bound range leaves or joins on both sides, and the items that give way to it.
+/// What a bound range leaves or joins on both sides, and the items that it replaces.
 #[derive(Drop)]
 pub struct Sides<K, P: Copy> {
     pub left: Edge<K, P>,

@@ -100,7 +100,7 @@ impl<K: PartialEnum, V: Eq + Drop, C: Storage<Item<AnyRange<K>, V>>> RangeMap<K,
     ///
     /// A map that binds no key has one gap, the full range, and one that binds every key has none.
     /// A gap refers to the bounds of the ranges beside it: `AnyRange::cloned` makes one of its own
-    /// of it. A walk over all gaps takes one step for each stored range. Takes no memory.
+    /// of it. A walk over all gaps takes one step for each stored range. Allocates nothing.
     ///
     /// ```
     /// let mut gaps = map.gaps(); // of a map over bytes that binds `..10` and `20..`

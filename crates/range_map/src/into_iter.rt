@@ -69,7 +69,7 @@ impl<K: Drop, V: Drop, C: Storage<Item<AnyRange<K>, V>>> ExactSizeIterator for I
     }
 }
 
-/// `for (range, value) in map`: the pairs are moved out, one at each step. Takes no memory.
+/// `for (range, value) in map`: the pairs are moved out, one at each step. Allocates nothing.
 impl<K: PartialEnum, V: Eq + Drop, C: Storage<Item<AnyRange<K>, V>>> IntoIterator
     for RangeMap<K, V, C> {
     type Item = (AnyRange<K>, V);
@@ -87,7 +87,7 @@ impl<K: PartialEnum, V: Eq + Drop, C: Storage<Item<AnyRange<K>, V>>> IntoIterato
     }
 }
 
-/// `for (range, value) in &map`: what `iter` gives. Takes no memory.
+/// `for (range, value) in &map`: what `iter` gives. Allocates nothing.
 impl<'a, K: PartialEnum, V: Eq + Drop, C: Storage<Item<AnyRange<K>, V>>> IntoIterator
     for &'a RangeMap<K, V, C> {
     type Item = (&'a AnyRange<K>, &'a V);

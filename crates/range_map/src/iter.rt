@@ -49,7 +49,7 @@ impl<'a, K: 'a, V: 'a, C: Storage<Item<AnyRange<K>, V>> + 'a> Iter<'a, K, V, C> 
     }
 }
 
-/// A clone has the same items left. It takes no memory and never fails.
+/// A clone has the same items left. It allocates nothing and never fails.
 impl<'a, K: 'a, V: 'a, C: Storage<Item<AnyRange<K>, V>> + 'a> Clone for Iter<'a, K, V, C> {
     ghost is_clone = { λ walk copy. copy ≡ walk };
 

@@ -13,7 +13,7 @@ use range_store::storage::Item;
 impl<K: PartialEnum, V: Eq + Drop> RangeMap<K, V, BoxStorage<Item<AnyRange<K>, V>>> {
     /// How many levels of nodes the tree has in which the ranges are kept: 0 for a map without any.
     ///
-    /// A look-up reads one node on each level. Takes no memory.
+    /// A look-up reads one node on each level. Allocates nothing.
     pub fn levels(&self) -> usize
         ensures value { result ≡ level_count self.now }
         ensures empty { length (box_items self.now) ≡ 0 → result ≡ 0 }

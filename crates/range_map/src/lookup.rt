@@ -16,7 +16,7 @@ use range_keys::traits::{Measure, PartialEnum};
 use range_store::storage::{Item, Steps, Storage};
 
 impl<K: PartialEnum, V: Eq + Drop, C: Storage<Item<AnyRange<K>, V>>> RangeMap<K, V, C> {
-    /// Whether no range is stored. Takes no memory.
+    /// Whether no range is stored. Allocates nothing.
     pub fn is_empty(&self) -> bool
         ensures { IsTrue result ↔ C.items self.now ≡ [] }
     {
@@ -25,7 +25,7 @@ impl<K: PartialEnum, V: Eq + Drop, C: Storage<Item<AnyRange<K>, V>>> RangeMap<K,
 
     /// Whether the key is bound.
     ///
-    /// Costs one search and one comparison more. Takes no memory.
+    /// Costs one search and one comparison more. Allocates nothing.
     pub fn contains_key(&self, key: K) -> bool
         ensures { IsTrue result ↔ IsBound K.order (C.items self.now) key }
     {
@@ -47,7 +47,7 @@ impl<K: Measure, V: Eq + Drop, C: Storage<Item<AnyRange<K>, V>>> RangeMap<K, V, 
     /// Whether the range is nonempty and meets a stored one.
     ///
     /// It does wherever one of its keys is bound; over keys that leave no gap, nowhere else.
-    /// Costs one search and one comparison more. Takes no memory.
+    /// Costs one search and one comparison more. Allocates nothing.
     pub fn intersects<R: AsRange<Item = K>>(&self, range: R) -> bool
         ensures meets { IsTrue result ↔ (¬ IsEmptyRange K.order (R.range range)) × MeetsSome K.order (C.items self.now) (R.range range) }
         ensures bound { BindsKeyOf K.order (C.items self.now) (R.range range) → IsTrue result }

@@ -55,7 +55,7 @@ impl<K: PartialEnum, V: Eq, C: Storage<Item<AnyRange<K>, V>>> Model for RangeMap
 }
 
 impl<K: PartialEnum, V: Eq + Drop, C: Storage<Item<AnyRange<K>, V>>> RangeMap<K, V, C> {
-    /// A map that binds no key. Takes no memory.
+    /// A map that binds no key. Allocates nothing.
     pub fn new(alloc: Global) -> Self
         ensures { C.items result ≡ [] }
     {
@@ -73,7 +73,7 @@ impl<K: PartialEnum, V: Eq + Drop, C: Storage<Item<AnyRange<K>, V>>> RangeMap<K,
         let _first = self.stored.first();
     }
 
-    /// How many ranges are stored. Takes no memory.
+    /// How many ranges are stored. Allocates nothing.
     ///
     /// Over keys that tell their neighbours and ends no list of ranges that binds the same has
     /// fewer.
@@ -87,7 +87,7 @@ impl<K: PartialEnum, V: Eq + Drop, C: Storage<Item<AnyRange<K>, V>>> RangeMap<K,
 
     /// The value to which the key is bound, or none.
     ///
-    /// Costs one search and one comparison more. Takes no memory.
+    /// Costs one search and one comparison more. Allocates nothing.
     pub fn get(&self, key: K) -> Option<&V>
         ensures { Binds K.order V.eq (C.items self.now) key (option_copied result) }
     {
@@ -120,7 +120,7 @@ impl<K: PartialEnum, V: Eq + Drop, C: Storage<Item<AnyRange<K>, V>>> RangeMap<K,
         }
     }
 
-    /// The stored ranges with their values, in rising order, from both ends. Takes no memory.
+    /// The stored ranges with their values, in rising order, from both ends. Allocates nothing.
     pub fn iter(&self) -> Iter<'_, K, V, C>
         ensures items { result ≡ C.items self.now }
         ensures form { IsStored K.order V.eq result }

@@ -32,7 +32,7 @@ impl<K: Measure + Bounded, V: Eq + Drop, C: Storage<Item<AnyRange<K>, V>>> Range
     /// the number of bound keys.
     ///
     /// An unbounded bound stands for the least or the greatest key, included. Costs a step and a
-    /// distance for each stored range. Takes no memory.
+    /// distance for each stored range. Allocates nothing.
     ///
     /// ```
     /// map.insert(0.., 1)?; // of a map over bytes
@@ -50,7 +50,7 @@ impl<K: Measure, V: Eq + Drop, C: Storage<Item<AnyRange<K>, V>>> RangeMap<K, V, 
     /// What the stored ranges measure together, as `len` says, or `None` where one of them is
     /// unbounded towards an end that the key type does not tell.
     ///
-    /// Costs a step and a distance for each stored range. Takes no memory.
+    /// Costs a step and a distance for each stored range. Allocates nothing.
     pub fn bounded_len(&self) -> Option<u128>
         ensures measure { result ≡ list_measure K.order K.len K.distance (item_ranges (C.items self.now)) }
         ensures untold { IsNone result ↔ Any (λ i. HasUntoldEnd K.order i.key) (C.items self.now) }

@@ -15,7 +15,7 @@ use range_store::storage::Item;
 /// The greatest index whose item the element is not before; where `connected` is set, an element
 /// that touches an item is not before it.
 ///
-/// Costs one comparison for each halving of the list. Takes no memory.
+/// Costs one comparison for each halving of the list. Allocates nothing.
 pub fn binary_search<T: Measure, V, U: AsRange<Item = T>>(
     items: &[Item<AnyRange<T>, V>],
     element: &U,

@@ -17,7 +17,7 @@ use range_store::storage::{Item, Steps, Storage};
 impl<T: Measure + Clone, C: Storage<Item<AnyRange<T>, ()>>> RangeSet<T, C> {
     /// Adds each key of the range. An empty range changes nothing.
     ///
-    /// Takes memory where one range more is stored and the container has no room for it. After an
+    /// Allocates where one range more is stored and the container has no room for it. After an
     /// error the set is as it was. Costs one search, and a step for each stored range that the
     /// range meets or touches.
     pub fn insert<R: IntoRange<Item = T>>(&mut self, range: R) -> Result<(), MapError>

@@ -22,7 +22,7 @@ impl<T: PartialEnum, C: Storage<Item<AnyRange<T>, ()>>> RangeSet<T, C> {
     /// Whether a set over any container stores equal ranges.
     ///
     /// Then the two hold the same keys; over keys that tell their neighbours and ends, as integers
-    /// and characters, it does exactly where they do. Takes no memory. Costs one step for each
+    /// and characters, it does exactly where they do. Allocates nothing. Costs one step for each
     /// stored range.
     pub fn eq_across<D: Storage<Item<AnyRange<T>, ()>>>(&self, other: &RangeSet<T, D>) -> bool
         ensures value { result ≡ same_ranges T.order (C.items self.now) (D.items other.now) }

@@ -48,7 +48,7 @@ impl<T: PartialEnum, C: Storage<Item<AnyRange<T>, ()>>> Iterator for IntoIter<T,
     }
 }
 
-/// `for range in set`: the ranges are moved out, one at each step. Takes no memory.
+/// `for range in set`: the ranges are moved out, one at each step. Allocates nothing.
 impl<T: PartialEnum, C: Storage<Item<AnyRange<T>, ()>>> IntoIterator for RangeSet<T, C> {
     type Item = AnyRange<T>;
 

@@ -55,7 +55,7 @@ impl<'a, T: 'a, C: Storage<Item<AnyRange<T>, ()>> + 'a> Iterator for Iter<'a, T,
     }
 }
 
-/// `for range in &set`: what `iter` gives. Takes no memory.
+/// `for range in &set`: what `iter` gives. Allocates nothing.
 impl<'a, T: PartialEnum, C: Storage<Item<AnyRange<T>, ()>>> IntoIterator for &'a RangeSet<T, C> {
     type Item = &'a AnyRange<T>;
 

@@ -16,7 +16,7 @@ impl<T: Measure + Bounded, C: Storage<Item<AnyRange<T>, ()>>> RangeSet<T, C> {
     /// What the stored ranges measure together: over the shipped keys, each of which has length 1,
     /// the number of keys in the set.
     ///
-    /// Costs a step and a distance for each stored range. Takes no memory.
+    /// Costs a step and a distance for each stored range. Allocates nothing.
     pub fn len(&self) -> u128
         ensures measure { list_measure T.order T.len T.distance (item_ranges (C.items self.now)) ≡ Some result }
         ensures counted { IsCountedMeasure T.order T.len T.distance → IsNumberOfKeys T.order (HoldsKey T.order (C.items self.now)) result }
@@ -29,7 +29,7 @@ impl<T: Measure, C: Storage<Item<AnyRange<T>, ()>>> RangeSet<T, C> {
     /// What the stored ranges measure together, as `len` says, or `None` where one of them is
     /// unbounded towards an end that the key type does not tell.
     ///
-    /// Costs a step and a distance for each stored range. Takes no memory.
+    /// Costs a step and a distance for each stored range. Allocates nothing.
     pub fn bounded_len(&self) -> Option<u128>
         ensures measure { result ≡ list_measure T.order T.len T.distance (item_ranges (C.items self.now)) }
         ensures untold { IsNone result ↔ Any (λ i. HasUntoldEnd T.order i.key) (C.items self.now) }

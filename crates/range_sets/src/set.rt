@@ -38,7 +38,7 @@ impl<T: PartialEnum, C: Storage<Item<AnyRange<T>, ()>>> Model for RangeSet<T, C>
 }
 
 impl<T: PartialEnum, C: Storage<Item<AnyRange<T>, ()>>> RangeSet<T, C> {
-    /// A set without a key. Takes no memory.
+    /// A set without a key. Allocates nothing.
     pub fn new(alloc: Global) -> Self
         ensures { C.items result ≡ [] }
     {
@@ -48,7 +48,7 @@ impl<T: PartialEnum, C: Storage<Item<AnyRange<T>, ()>>> RangeSet<T, C> {
         }
     }
 
-    /// A set without a key. Takes no memory.
+    /// A set without a key. Allocates nothing.
     pub fn default(alloc: Global) -> Self
         ensures { C.items result ≡ [] }
     {
@@ -62,7 +62,7 @@ impl<T: PartialEnum, C: Storage<Item<AnyRange<T>, ()>>> RangeSet<T, C> {
         let _items = self.map.iter();
     }
 
-    /// How many ranges are stored. Takes no memory.
+    /// How many ranges are stored. Allocates nothing.
     ///
     /// Over keys that tell their neighbours and ends no list of ranges that holds the same keys has
     /// fewer.
@@ -73,7 +73,7 @@ impl<T: PartialEnum, C: Storage<Item<AnyRange<T>, ()>>> RangeSet<T, C> {
         self.map.range_count()
     }
 
-    /// Whether no range is stored. Takes no memory.
+    /// Whether no range is stored. Allocates nothing.
     pub fn is_empty(&self) -> bool
         ensures { IsTrue result ↔ C.items self.now ≡ [] }
     {
@@ -82,7 +82,7 @@ impl<T: PartialEnum, C: Storage<Item<AnyRange<T>, ()>>> RangeSet<T, C> {
 
     /// Whether the key is in the set.
     ///
-    /// Costs one search and one comparison more. Takes no memory.
+    /// Costs one search and one comparison more. Allocates nothing.
     pub fn contains(&self, key: T) -> bool
         ensures { IsTrue result ↔ HoldsKey T.order (C.items self.now) key }
     {
@@ -102,7 +102,7 @@ impl<T: PartialEnum, C: Storage<Item<AnyRange<T>, ()>>> RangeSet<T, C> {
         self.map.contains_key_counted(key, steps)
     }
 
-    /// The stored ranges, in rising order. Takes no memory.
+    /// The stored ranges, in rising order. Allocates nothing.
     pub fn iter(&self) -> Iter<'_, T, C>
         ensures ranges { result ≡ item_ranges (C.items self.now) }
         ensures form { IsStoredSet T.order (C.items self.now) }
@@ -114,7 +114,7 @@ impl<T: PartialEnum, C: Storage<Item<AnyRange<T>, ()>>> RangeSet<T, C> {
     /// The ranges that hold no key of the set, in rising order, each as wide as it goes and none
     /// empty.
     ///
-    /// Takes no memory. A walk over all gaps takes one step for each stored range.
+    /// Allocates nothing. A walk over all gaps takes one step for each stored range.
     pub fn gaps(&self) -> Gaps<'_, T, C>
         ensures gaps { AreGaps T.order (C.items self.now) result }
         ensures once { (k : T) → T.order.is_key k → IsHeldOnce T.order (item_ranges (C.items self.now) ++ result) k }
@@ -128,7 +128,7 @@ impl<T: Measure, C: Storage<Item<AnyRange<T>, ()>>> RangeSet<T, C> {
     /// Whether the range is nonempty and meets a stored one.
     ///
     /// It does wherever one of its keys is in the set; over keys that leave no gap, nowhere else.
-    /// Costs one search and one comparison more. Takes no memory.
+    /// Costs one search and one comparison more. Allocates nothing.
     pub fn intersects<R: AsRange<Item = T>>(&self, range: R) -> bool
         ensures meets { IsTrue result ↔ (¬ IsEmptyRange T.order (R.range range)) × MeetsSome T.order (C.items self.now) (R.range range) }
         ensures bound { BindsKeyOf T.order (C.items self.now) (R.range range) → IsTrue result }

@@ -7,7 +7,7 @@ use range_algebra::any::AnyRange;
 use range_keys::traits::PartialEnum;
 use range_store::storage::{Item, Storage};
 
-/// The first range with its value, moved out of the map. Takes no memory.
+/// The first range with its value, moved out of the map. Allocates nothing.
 pub fn take_first<K: PartialEnum, V: Eq + Drop, C: Storage<Item<AnyRange<K>, V>>>(
     map: &mut RangeMap<K, V, C>,
 ) -> Option<(AnyRange<K>, V)>

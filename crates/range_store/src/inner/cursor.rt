@@ -18,7 +18,7 @@ pub struct Cursor<P: Copy> {
 /// Puts an item in the place of the next one that gives way, or, where none is left, before the
 /// cursor.
 ///
-/// Takes no memory beyond the container's room, and none of that while items are left.
+/// Allocates nothing beyond the container's room, and none of that while items are left.
 pub fn put<T: Drop, C: Storage<T>>(
     stored: &mut C,
     cursor: Cursor<C::Position>,
