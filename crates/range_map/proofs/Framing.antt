@@ -10,13 +10,14 @@ use Rattle.range_algebra.specs.declared.any.AnyRange.{AnyRange}
 use Rattle.range_algebra.specs.Range.{IsKnownRange}
 use Rattle.range_algebra.specs.Intervals.{Le, Lt, Any, Every}
 use Rattle.range_algebra.specs.Orders.{lt_trans, lt_not_le, le_lt_trans}
-use Rattle.range_algebra.specs.Chains.{any_left, any_right, every_weaker, every_append, every_left, every_right, chain_before}
+use Rattle.range_algebra.specs.Chains.{any_left, any_right, any_none, every_weaker, every_append, every_left, every_right, chain_before}
 use Rattle.range_algebra.specs.Cuts.{lower, upper}
 use Rattle.range_algebra.proofs.Lists.{parts, parts_at, every_at}
 use Rattle.range_map.proofs.Edging.{element}
 use Rattle.range_store.specs.declared.storage.Item.{Item}
 use Rattle.range_map.specs.ItemCuts.{item_lower, item_upper}
 use Rattle.range_algebra.specs.Relations.{LiesBefore}
+use Rattle.range_map.specs.Lookups.{MeetsSome}
 use Rattle.range_map.specs.Ranges.{Overlap}
 use Rattle.range_map.specs.Stored.{IsStored}
 use Rattle.range_map.specs.Window.{IsWindow, option_items}
@@ -174,15 +175,18 @@ module _ {K : Type 0} (order : KeyOrder K) (lawful : IsLawful order) {V : Type 0
     all_meet = meets_by w.count refl
 
     -- a window that is not empty holds an item that meets the range
-    pub some_meets : 0 < w.count → Every (λ i. Overlap order i.key r → ⊥) items → ⊥
-    some_meets some none =
+    pub meets_some : 0 < w.count → MeetsSome order items r
+    meets_some some =
         let within : place < length items = omega (arith, some, window.in_range) in
         let x = element items place within in
         let size = run_size items place w.count window.in_range in
         let met = every_at (λ i. Overlap order i.key r) (take w.count (drop place items)) 0 x all_meet (omega (arith, size)) in
         let plus : place + 0 ≡ place = omega arith in
         let there : get_or (take w.count (drop place items)) 0 x ≡ get_or items place x = get_or-take w.count (drop place items) 0 x some ∙ (get_or-drop place items 0 x ∙ ap (λ n. get_or items n x) plus) in
-        every_at (λ i. Overlap order i.key r → ⊥) items place x none within (subst (λ (y : Item (AnyRange K) V). Overlap order y.key r) there met)
+        any_at (λ i. Overlap order i.key r) items place x within (subst (λ (y : Item (AnyRange K) V). Overlap order y.key r) there met)
+
+    pub some_meets : 0 < w.count → Every (λ i. Overlap order i.key r → ⊥) items → ⊥
+    some_meets some none = any_none (λ i. Overlap order i.key r) (λ i. Overlap order i.key r → ⊥) items none (λ i no met. no met) (meets_some some)
 
     -- an empty window leaves no item that meets the range
     pub none_meets : w.count ≡ 0 → Every (λ i. Overlap order i.key r → ⊥) items

@@ -1,11 +1,12 @@
 //! Binding a nonempty range in a container.
-ghost use Rattle.std.specs.Prelude.{◌≡◌, ◌+◌, ◌-◌, ◌*◌, ◌≤◌, length, OnOk, OnErr};
+ghost use Rattle.std.specs.Prelude.{◌≡◌, ◌↔◌, ◌+◌, ◌-◌, ◌*◌, ◌≤◌, length, OnOk, OnErr, Ok, true, false};
 ghost use Rattle.range_algebra.specs.Range.{ClonesAreEqual, IsEmptyRange};
 ghost use Rattle.range_store.specs.Counting.{AddsSteps};
 ghost use Rattle.range_store.specs.Places.{place_before};
 ghost use Rattle.range_map.specs.Stored.{IsStored};
 ghost use Rattle.range_map.specs.Window.{IsWindow, option_items};
 ghost use Rattle.range_map.specs.Reach.{ReachesBefore, ReachesBehind};
+ghost use Rattle.range_map.specs.Lookups.{MeetsSome};
 ghost use Rattle.range_map.specs.Costs.{TakesAtLeast, TakesAsChange};
 ghost use Rattle.range_map.specs.Changes.{IsInserted};
 
@@ -116,4 +117,30 @@ pub(crate) fn bind<K: Measure + Clone, V: Eq + Clone, C: Storage<Item<AnyRange<K
             bind_over::<K, V, C>(stored, &window, first, last, item, steps)
         }
     }
+}
+
+/// Binds each key of a nonempty range to the value where no stored range meets it, and returns
+/// whether none does.
+pub(crate) fn bind_disjoint<K: Measure + Clone, V: Eq + Clone, C: Storage<Item<AnyRange<K>, V>>>(
+    stored: &mut C,
+    range: AnyRange<K>,
+    value: V,
+) -> Result<bool, AllocError>
+    requires keys { ClonesAreEqual K.is_clone K.eq }
+    requires stored { IsStored K.order V.eq (C.items stored.old) }
+    requires nonempty { ¬ IsEmptyRange K.order range }
+    ensures met { result ≡ Ok false ↔ MeetsSome K.order (C.items stored.old) range }
+    ensures met_unchanged { result ≡ Ok false → C.items stored.new ≡ C.items stored.old }
+    ensures bound { result ≡ Ok true → IsInserted K.order V.eq (C.items stored.old) (C.items stored.new) range value }
+    ensures refused { OnErr result (C.items stored.new ≡ C.items stored.old) }
+{
+    inner::known(&range);
+    let mut steps = Steps::new();
+    let window = find_window::<K, V, C, AnyRange<K>>(stored, &range, &mut steps);
+    if window.count > 0 {
+        return Ok(false);
+    }
+    let item = Item { key: range, value };
+    bind_over::<K, V, C>(stored, &window, None, None, item, &mut steps)?;
+    Ok(true)
 }

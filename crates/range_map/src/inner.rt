@@ -1,5 +1,6 @@
 //! What the crates above need beyond the map itself.
 
 pub mod append;
+pub mod disjoint;
 pub mod scan;
 pub mod taking;
