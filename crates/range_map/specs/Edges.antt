@@ -1,5 +1,5 @@
 -- How a range that is bound joins what stands beside it.
-use Rattle.std.specs.Prelude.{◌≡◌, ℕ, ◌+◌, ◌-◌, ◌<◌, ◌≤◌, Bool, true, List, ◌++◌, length, take, drop, slice_index_or, slice_set, Option, Some, None, ⊤}
+use Rattle.std.specs.Prelude.{◌≡◌, ℕ, ◌+◌, ◌-◌, ◌<◌, ◌≤◌, Bool, true, List, ◌++◌, length, take, drop, slice_index_or, slice_set, Option, Some, None, MatchOption, ⊤}
 use Rattle.std.specs.declared.ops.Bound.{Bound}
 use Rattle.std.specs.declared.cmp.Ordering.TheVariants.{Equal}
 use Rattle.std.specs.Cmp.{IsEquivalence}
@@ -15,7 +15,11 @@ use Rattle.range_map.specs.declared.edges.Edge.TheVariants.{Plain, Cut, Joined}
 use Rattle.range_map.specs.Edits.{turned_bound, with_start, with_end}
 use Rattle.range_algebra.specs.Clones.{SameBound}
 use Rattle.range_algebra.specs.declared.any.AnyRange.{AnyRange}
+use Rattle.range_store.specs.Places.{place_before}
+use Rattle.range_store.specs.declared.inner.cursor.Cursor.{Cursor}
 use Rattle.range_store.specs.declared.storage.Item.{Item}
+use Rattle.range_map.specs.declared.cut.Parts.{Parts}
+use Rattle.range_map.specs.declared.window.Window.{Window}
 use Rattle.range_algebra.specs.Intervals.{Every, Le}
 use Rattle.range_algebra.specs.Sides.{IsLeft, IsRight}
 use Rattle.range_algebra.specs.Joins.{IsLeftOf, IsRightOf}
@@ -124,3 +128,24 @@ module _ {K P : Type 0} where
     IsRightShape is_good rank items Plain upto end rest finish = (upto ≡ end) × (rest ≡ None) × (finish ≡ None)
     IsRightShape is_good rank items (Cut p b) upto end rest finish = is_good p × (rank p ≡ upto) × (end ≡ upto + 1) × (finish ≡ None) × ((x : Item (AnyRange K) V) × (x ≡ slice_index_or items upto x) × (rest ≡ Some (with_start x b)))
     IsRightShape is_good rank items (Joined p) upto end rest finish = is_good p × (rank p + 1 ≡ upto) × (upto ≡ end) × (rest ≡ None) × ((x : Item (AnyRange K) V) × (x ≡ slice_index_or items (rank p) x) × (finish ≡ Some x.key.end))
+
+    -- `put` stands in the place of the run, between what the edges leave of the items beside it
+    abbrev pub IsSpliced : (P → Type 0) → (P → ℕ) → List (Item (AnyRange K) V) → List (Item (AnyRange K) V) → Edge K P → Edge K P → Cursor P → (Option (Bound K) → Option (Bound K) → List (Item (AnyRange K) V)) → Type 0
+    IsSpliced is_good rank items new left right run put = (at end : ℕ) (before after : Option (Item (AnyRange K) V)) (start finish : Option (Bound K)) → let from = place_before rank (length items) run.at in IsLeftShape is_good rank items left at from before start → IsRightShape is_good rank items right (from + run.left) end after finish → joined_count left + joined_count right ≤ run.left → new ≡ take at items ++ option_items before ++ put start finish ++ option_items after ++ drop end items
+
+-- an item in two parts, with `middle` between them
+abbrev pub IsDivided : {K V : Type 0} → List (Item (AnyRange K) V) → List (Item (AnyRange K) V) → ℕ → Parts K V → Option (Item (AnyRange K) V) → Type 0
+IsDivided {K} {V} items new place parts middle = (d : Item (AnyRange K) V) → let item = slice_index_or items place d in new ≡ take place items ++ option_items (Some (with_end item parts.end)) ++ option_items middle ++ option_items (Some (record { key = record { start = parts.start; end = item.key.end }; value = parts.value })) ++ drop (place + 1) items
+
+-- an item with the bounds of those that it joins
+abbrev pub joined_item : {K V : Type 0} → Item (AnyRange K) V → Option (Bound K) → Option (Bound K) → Item (AnyRange K) V
+joined_item i start finish = record { key = record { start = unwrap_or start i.key.start; end = unwrap_or finish i.key.end }; value = i.value }
+
+module _ {K : Type 0} (order : KeyOrder K) {V : Type 0} (same : V → V → Bool) {P : Type 0} (is_good : P → Type 0) (rank : P → ℕ) (items : List (Item (AnyRange K) V)) (r : AnyRange K) (v : V) (w : Window P) where
+  -- the item just before the window, if the range touches it and has an equal value
+  abbrev pub IsJoinedBefore : Option P → Type 0
+  IsJoinedBefore found = let place = place_before rank (length items) w.from in MatchOption found (TouchesNoneBefore order same items place r v) (λ q. is_good q × (rank q + 1 ≡ place) × TouchesBefore order same items place r v)
+
+  -- the item just after it, if the range touches it and has an equal value
+  abbrev pub IsJoinedAfter : Option P → Type 0
+  IsJoinedAfter found = let end = place_before rank (length items) w.from + w.count in MatchOption found (TouchesNoneAfter order same items end r v) (λ q. is_good q × (rank q ≡ end) × TouchesAfter order same items end r v)

@@ -5,13 +5,14 @@ use Rattle.std.specs.declared.ops.Bound.{Bound}
 use Rattle.range_keys.specs.Order.{KeyOrder, IsLawful}
 use Rattle.range_algebra.specs.declared.any.AnyRange.{AnyRange}
 use Rattle.range_store.specs.declared.storage.Item.{Item}
-use Rattle.range_store.specs.Places.{IsAt}
+use Rattle.range_store.specs.Places.{IsAt, place_before}
 use Rattle.range_map.specs.declared.edges.Edge.{Edge}
 use Rattle.std.specs.Option.{unwrap_or}
 use Rattle.range_algebra.specs.Intervals.{Every}
 use Rattle.range_algebra.specs.Relations.{Touches}
 use Rattle.range_map.specs.Frames.{IsStartOf, IsEndOf, IsNewItem}
 use Rattle.range_map.specs.Window.{option_items}
+use Rattle.range_map.specs.declared.window.Window.{Window}
 use Rattle.range_map.specs.Edges.{IsLeftEdge, IsRightEdge, IsLeftShape, IsRightShape, joined_count}
 
 module _ {K : Type 0} (order : KeyOrder K) {V : Type 0} (same : V → V → Bool) (items : List (Item (AnyRange K) V)) (r : AnyRange K) (v : V) (place count : ℕ) where
@@ -60,3 +61,12 @@ module _ {K : Type 0} (order : KeyOrder K) {V : Type 0} (same : V → V → Bool
     pub frame : IsRightFrame order same items r v place count end rest finish
     pub few : length (option_items rest) ≤ length (option_items last)
     pub ends : upto + length (option_items last) ≡ place + count + joined_count edge
+
+module _ {K : Type 0} (order : KeyOrder K) {V : Type 0} (same : V → V → Bool) {P : Type 0} (is_good : P → Type 0) (rank : P → ℕ) (items : List (Item (AnyRange K) V)) (r : AnyRange K) (v : V) (w : Window P) where
+  -- what becomes of the items before a window, and where the run starts
+  abbrev pub IsPlannedBefore : Option P → Edge K P → Option P → Type 0
+  IsPlannedBefore first edge from = (lawful : IsLawful order) → (equal : IsEquivalence same) → IsLeftPlan order same lawful equal is_good rank items r v (place_before rank (length items) w.from) w.count first edge from
+
+  -- what becomes of the items after it
+  abbrev pub IsPlannedAfter : Option P → Edge K P → Type 0
+  IsPlannedAfter last edge = (lawful : IsLawful order) → (equal : IsEquivalence same) → IsRightPlan order same lawful equal is_good rank items r v (place_before rank (length items) w.from) w.count last edge

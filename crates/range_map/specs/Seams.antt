@@ -1,23 +1,27 @@
 -- What is to become of the items beside a range in which a list of items comes to stand.
 use Rattle.std.specs.Prelude.{◌≡◌, ℕ, ◌+◌, Bool, List, [], ◌∷◌, ◌⊎◌, length, take, drop, Option, Some, None}
 use Rattle.std.specs.Cmp.{IsEquivalence}
+use Rattle.std.specs.Option.{option_or}
 use Rattle.std.specs.declared.cmp.Ordering.TheVariants.{Equal}
 use Rattle.std.specs.declared.ops.Bound.{Bound}
 use Rattle.range_keys.specs.Order.{KeyOrder, IsLawful}
 use Rattle.range_keys.specs.Position.{position_cmp}
+use Rattle.range_algebra.specs.Clones.{SameBound}
 use Rattle.range_algebra.specs.Cuts.{lower, upper}
+use Rattle.range_algebra.specs.Range.{IsKnownBound}
 use Rattle.range_algebra.specs.Intervals.{Lt, Every}
 use Rattle.range_algebra.specs.declared.any.AnyRange.{AnyRange}
 use Rattle.range_store.specs.declared.storage.Item.{Item}
-use Rattle.range_store.specs.Places.{IsAt}
+use Rattle.range_store.specs.Places.{IsAt, place_before}
 use Rattle.range_map.specs.declared.edges.Edge.{Edge}
 use Rattle.range_map.specs.declared.edges.Edge.TheVariants.{Joined}
 use Rattle.range_map.specs.Edges.{IsLeftRest, IsRightRest, IsLeftShape, IsRightShape, edge_at}
-use Rattle.range_map.specs.Edits.{with_start, with_end}
+use Rattle.range_map.specs.Edits.{turned_bound, with_start, with_end}
 use Rattle.range_map.specs.Frames.{HasValue}
 use Rattle.range_map.specs.ItemCuts.{item_lower, item_upper}
 use Rattle.range_map.specs.Plans.{IsLeftPlan, IsRightPlan}
 use Rattle.range_map.specs.Window.{option_items}
+use Rattle.range_map.specs.declared.window.Window.{Window}
 
 module _ {K V : Type 0} where
   -- the first item starts at the bound, if there are both
@@ -67,3 +71,12 @@ module _ {K : Type 0} (order : KeyOrder K) {V : Type 0} (same : V → V → Bool
   IsRightSeam previous last edge =
       ((m : Item (AnyRange K) V) × (previous ≡ Some m) × (position_cmp order.cmp (item_upper order m) (upper order r) ≡ Equal) × IsRightPlan order same lawful equal is_good rank items r m.value place count last edge)
       ⊎ (((m : Item (AnyRange K) V) → previous ≡ Some m → Lt (position_cmp order.cmp) (item_upper order m) (upper order r)) × IsRightCutting last edge)
+
+module _ {K : Type 0} (order : KeyOrder K) {V : Type 0} (same : V → V → Bool) {P : Type 0} (is_good : P → Type 0) (rank : P → ℕ) (items : List (Item (AnyRange K) V)) (r : AnyRange K) (w : Window P) where
+  -- the item that the first of a run is to join, where there is one
+  abbrev pub IsJoiningFirst : Option (Item (AnyRange K) V) → Option P → Option P → Type 0
+  IsJoiningFirst next first found = let place = place_before rank (length items) w.from in (lawful : IsLawful order) → (equal : IsEquivalence same) → (b : Bound K) (from : Option P) → IsKnownBound order b → SameBound order (turned_bound r.start) b → IsAt is_good rank (length items) from (place + length (option_items first)) → IsLeftSeam order same lawful equal is_good rank items r place w.count next first (seam_edge found first b) (option_or found from)
+
+  -- the item that the last of a run is to join, where there is one
+  abbrev pub IsJoiningLast : Option (Item (AnyRange K) V) → Option P → Option P → Type 0
+  IsJoiningLast previous last found = let place = place_before rank (length items) w.from in (lawful : IsLawful order) → (equal : IsEquivalence same) → (b : Bound K) → IsKnownBound order b → SameBound order (turned_bound r.end) b → IsRightSeam order same lawful equal is_good rank items r place w.count previous last (seam_edge found last b)

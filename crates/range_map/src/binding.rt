@@ -2,10 +2,9 @@
 ghost use Rattle.std.specs.Prelude.{◌≡◌, ◌↔◌, ◌+◌, ◌-◌, ◌*◌, ◌≤◌, length, OnOk, OnErr, Ok, true, false};
 ghost use Rattle.range_algebra.specs.Range.{ClonesAreEqual, IsEmptyRange};
 ghost use Rattle.range_store.specs.Counting.{AddsSteps};
-ghost use Rattle.range_store.specs.Places.{place_before};
 ghost use Rattle.range_map.specs.Stored.{IsStored};
-ghost use Rattle.range_map.specs.Window.{IsWindow, option_items};
-ghost use Rattle.range_map.specs.Reach.{ReachesBefore, ReachesBehind};
+ghost use Rattle.range_map.specs.Window.{option_items, IsWindowOf};
+ghost use Rattle.range_map.specs.Reach.{IsFirstReaching, IsLastReaching};
 ghost use Rattle.range_map.specs.Lookups.{MeetsSome};
 ghost use Rattle.range_map.specs.Costs.{TakesAtLeast, TakesAsChange};
 ghost use Rattle.range_map.specs.Changes.{IsInserted};
@@ -42,10 +41,10 @@ pub(crate) fn bind_within<K: PartialEnum + Clone, V: Eq + Clone, C: Storage<Item
     requires values { ClonesAreEqual V.is_clone V.eq }
     requires stored { IsStored K.order V.eq (C.items stored.old) }
     requires nonempty { ¬ IsEmptyRange K.order range }
-    requires window { IsWindow K.order (C.is_good stored.old) (C.rank stored.old) (C.items stored.old) range window.now (place_before (C.rank stored.old) (length (C.items stored.old)) window.now.from) }
+    requires window { IsWindowOf K.order (C.is_good stored.old) (C.rank stored.old) (C.items stored.old) range window.now }
     requires one { window.now.count ≡ 1 }
-    requires first { ReachesBefore K.order (C.is_good stored.old) (C.rank stored.old) (C.items stored.old) range (place_before (C.rank stored.old) (length (C.items stored.old)) window.now.from) window.now.count (Some p) }
-    requires last { ReachesBehind K.order (C.is_good stored.old) (C.rank stored.old) (C.items stored.old) range (place_before (C.rank stored.old) (length (C.items stored.old)) window.now.from) window.now.count (Some p) }
+    requires first { IsFirstReaching K.order (C.is_good stored.old) (C.rank stored.old) (C.items stored.old) range window.now (Some p) }
+    requires last { IsLastReaching K.order (C.is_good stored.old) (C.rank stored.old) (C.items stored.old) range window.now (Some p) }
     ensures ok { OnOk result (IsInserted K.order V.eq (C.items stored.old) (C.items stored.new) range value) }
     ensures few { OnOk result (length (C.items stored.new) ≤ length (C.items stored.old) + 2) }
     ensures refused { OnErr result (C.items stored.new ≡ C.items stored.old) }
@@ -74,9 +73,9 @@ fn bind_over<K: PartialEnum + Clone, V: Eq + Clone, C: Storage<Item<AnyRange<K>,
     requires keys { ClonesAreEqual K.is_clone K.eq }
     requires stored { IsStored K.order V.eq (C.items stored.old) }
     requires nonempty { ¬ IsEmptyRange K.order item.key }
-    requires window { IsWindow K.order (C.is_good stored.old) (C.rank stored.old) (C.items stored.old) item.key window.now (place_before (C.rank stored.old) (length (C.items stored.old)) window.now.from) }
-    requires first { ReachesBefore K.order (C.is_good stored.old) (C.rank stored.old) (C.items stored.old) item.key (place_before (C.rank stored.old) (length (C.items stored.old)) window.now.from) window.now.count first }
-    requires last { ReachesBehind K.order (C.is_good stored.old) (C.rank stored.old) (C.items stored.old) item.key (place_before (C.rank stored.old) (length (C.items stored.old)) window.now.from) window.now.count last }
+    requires window { IsWindowOf K.order (C.is_good stored.old) (C.rank stored.old) (C.items stored.old) item.key window.now }
+    requires first { IsFirstReaching K.order (C.is_good stored.old) (C.rank stored.old) (C.items stored.old) item.key window.now first }
+    requires last { IsLastReaching K.order (C.is_good stored.old) (C.rank stored.old) (C.items stored.old) item.key window.now last }
     requires apart { length (option_items first) + length (option_items last) ≤ window.now.count }
     ensures ok { OnOk result (IsInserted K.order V.eq (C.items stored.old) (C.items stored.new) item.key item.value) }
     ensures few { OnOk result (2 * length (C.items stored.new) + window.now.count ≤ 2 * length (C.items stored.old) + 4) }

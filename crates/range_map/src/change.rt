@@ -1,13 +1,13 @@
 //! The one change to a container: nothing here allocates, and nothing fails.
-ghost use Rattle.std.specs.Prelude.{◌≡◌, ◌+◌, ◌≤◌, ◌∷◌, ◌++◌, [], length, take, drop, slice_set, slice_index_or, Some, Option, List, ℕ};
+ghost use Rattle.std.specs.Prelude.{◌≡◌, ◌+◌, ◌≤◌, ◌∷◌, ◌++◌, [], length, take, drop, slice_set, slice_index_or, Some, Option};
 ghost use Rattle.std.specs.Option.{ForSome, unwrap_or};
 ghost use Rattle.std.specs.declared.ops.Bound.{Bound};
 ghost use Rattle.range_store.specs.declared.storage.Item.{Item};
-ghost use Rattle.range_store.specs.Places.{place_before, IsAt};
+ghost use Rattle.range_store.specs.Places.{place_before};
 ghost use Rattle.range_algebra.specs.declared.any.AnyRange.{AnyRange};
 ghost use Rattle.range_map.specs.Edits.{with_start, with_end};
 ghost use Rattle.range_map.specs.Window.{option_items};
-ghost use Rattle.range_map.specs.Edges.{joined_count, IsGoodEdge, IsLeftEdited, IsRightEdited, IsLeftShape, IsRightShape};
+ghost use Rattle.range_map.specs.Edges.{IsGoodEdge, IsLeftEdited, IsRightEdited, IsSpliced, IsDivided, joined_item};
 ghost use Rattle.range_map.specs.Seams.{with_first_start, with_last_end};
 
 use crate::cut::Parts;
@@ -114,7 +114,7 @@ pub(crate) fn change<K: Drop, V: Drop, C: Storage<Item<AnyRange<K>, V>>>(
     requires good { ForSome sides.run.at (C.is_good stored.old) }
     requires in_range { place_before (C.rank stored.old) (length (C.items stored.old)) sides.run.at + sides.run.left ≤ length (C.items stored.old) }
     requires space { 1 ≤ sides.run.left + C.room stored.old }
-    ensures { (at end : ℕ) (before behind : Option (Item (AnyRange K) V)) (start finish : Option (Bound K)) → let from = place_before (C.rank stored.old) (length (C.items stored.old)) sides.run.at in IsLeftShape (C.is_good stored.old) (C.rank stored.old) (C.items stored.old) sides.left at from before start → IsRightShape (C.is_good stored.old) (C.rank stored.old) (C.items stored.old) sides.right (from + sides.run.left) end behind finish → joined_count sides.left + joined_count sides.right ≤ sides.run.left → C.items stored.new ≡ take at (C.items stored.old) ++ option_items before ++ option_items (Some (record { key = record { start = unwrap_or start item.key.start; end = unwrap_or finish item.key.end }; value = item.value })) ++ option_items behind ++ drop end (C.items stored.old) }
+    ensures { IsSpliced (C.is_good stored.old) (C.rank stored.old) (C.items stored.old) (C.items stored.new) sides.left sides.right sides.run (λ start finish. option_items (Some (joined_item item start finish))) }
 {
     let Sides { left, right, run } = sides;
     let Item { key, value } = item;
@@ -180,7 +180,7 @@ pub(crate) fn change_to<K: Drop, V: Drop, C: Storage<Item<AnyRange<K>, V>>>(
     requires good { ForSome run.at (C.is_good stored.old) }
     requires in_range { place_before (C.rank stored.old) (length (C.items stored.old)) run.at + run.left ≤ length (C.items stored.old) }
     requires space { length items.items ≤ run.left + C.room stored.old }
-    ensures { (at end : ℕ) (before behind : Option (Item (AnyRange K) V)) (start finish : Option (Bound K)) → let from = place_before (C.rank stored.old) (length (C.items stored.old)) run.at in IsLeftShape (C.is_good stored.old) (C.rank stored.old) (C.items stored.old) left at from before start → IsRightShape (C.is_good stored.old) (C.rank stored.old) (C.items stored.old) right (from + run.left) end behind finish → joined_count left + joined_count right ≤ run.left → C.items stored.new ≡ take at (C.items stored.old) ++ option_items before ++ with_last_end finish (with_first_start start items.items) ++ option_items behind ++ drop end (C.items stored.old) }
+    ensures { IsSpliced (C.is_good stored.old) (C.rank stored.old) (C.items stored.old) (C.items stored.new) left right run (λ start finish. with_last_end finish (with_first_start start items.items)) }
 {
     let start = open_left::<K, V, C>(stored, left);
     let end = open_right::<K, V, C>(stored, right);
@@ -201,7 +201,7 @@ pub(crate) fn clear<K: Drop, V: Drop, C: Storage<Item<AnyRange<K>, V>>>(
     requires right { IsGoodEdge (C.is_good stored.old) right }
     requires good { ForSome run.at (C.is_good stored.old) }
     requires in_range { place_before (C.rank stored.old) (length (C.items stored.old)) run.at + run.left ≤ length (C.items stored.old) }
-    ensures { (at end : ℕ) (before behind : Option (Item (AnyRange K) V)) (start finish : Option (Bound K)) → let from = place_before (C.rank stored.old) (length (C.items stored.old)) run.at in IsLeftShape (C.is_good stored.old) (C.rank stored.old) (C.items stored.old) left at from before start → IsRightShape (C.is_good stored.old) (C.rank stored.old) (C.items stored.old) right (from + run.left) end behind finish → joined_count left + joined_count right ≤ run.left → C.items stored.new ≡ take at (C.items stored.old) ++ option_items before ++ [] ++ option_items behind ++ drop end (C.items stored.old) }
+    ensures { IsSpliced (C.is_good stored.old) (C.rank stored.old) (C.items stored.old) (C.items stored.new) left right run (λ _ _. []) }
 {
     let _start = open_left::<K, V, C>(stored, left);
     let _end = open_right::<K, V, C>(stored, right);
@@ -218,7 +218,7 @@ pub(crate) fn divide<K: Drop, V: Drop, C: Storage<Item<AnyRange<K>, V>>>(
 )
     requires good { C.is_good stored.old p }
     requires space { length (option_items middle) + 1 ≤ C.room stored.old }
-    ensures { (d : Item (AnyRange K) V) → let place = C.rank stored.old p in let item = slice_index_or (C.items stored.old) place d in C.items stored.new ≡ take place (C.items stored.old) ++ option_items (Some (with_end item parts.end)) ++ option_items middle ++ option_items (Some (record { key = record { start = parts.start; end = item.key.end }; value = parts.value })) ++ drop (place + 1) (C.items stored.old) }
+    ensures { IsDivided (C.items stored.old) (C.items stored.new) (C.rank stored.old p) parts middle }
 {
     let Parts { end, start, value } = parts;
     let old_end = replace_end::<K, V, C>(stored, p, end);

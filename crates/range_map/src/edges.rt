@@ -1,18 +1,15 @@
 //! What a range that is bound leaves or joins on each side.
-ghost use Rattle.std.specs.Prelude.{◌≡◌, ◌+◌, ◌-◌, ◌≤◌, length, IfOk, MatchOption};
-ghost use Rattle.std.specs.Cmp.{IsEquivalence};
-ghost use Rattle.range_keys.specs.Order.{IsLawful};
+ghost use Rattle.std.specs.Prelude.{◌≡◌, ◌+◌, ◌-◌, ◌≤◌, length, IfOk};
 ghost use Rattle.range_keys.specs.Position.{start_position};
 ghost use Rattle.range_algebra.specs.Compared.{starts_at_end};
 ghost use Rattle.range_algebra.specs.Range.{ClonesAreEqual, IsEmptyRange};
 ghost use Rattle.range_store.specs.Counting.{AddsSteps};
-ghost use Rattle.range_store.specs.Places.{place_before};
 ghost use Rattle.range_map.specs.Stored.{IsStored};
-ghost use Rattle.range_map.specs.Window.{IsWindow, option_items};
-ghost use Rattle.range_map.specs.Reach.{ReachesBefore, ReachesBehind};
+ghost use Rattle.range_map.specs.Window.{option_items, IsWindowOf};
+ghost use Rattle.range_map.specs.Reach.{IsFirstReaching, IsLastReaching};
 ghost use Rattle.std.specs.Range.Bound.{bound_map};
-ghost use Rattle.range_map.specs.Edges.{joined_count, IsCutAt, TouchesBefore, TouchesNoneBefore, TouchesAfter, TouchesNoneAfter};
-ghost use Rattle.range_map.specs.Plans.{IsLeftPlan, IsRightPlan};
+ghost use Rattle.range_map.specs.Edges.{joined_count, IsCutAt, IsJoinedBefore, IsJoinedAfter};
+ghost use Rattle.range_map.specs.Plans.{IsPlannedBefore, IsPlannedAfter};
 
 use crate::cut::cut_bound;
 use crate::reach::item_count;
@@ -91,8 +88,8 @@ pub(crate) fn joined_before<K: PartialEnum, V: Eq + Drop, C: Storage<Item<AnyRan
     value: &V,
     steps: &mut Steps,
 ) -> Option<C::Position>
-    requires window { IsWindow K.order (C.is_good stored.now) (C.rank stored.now) (C.items stored.now) range.now window.now (place_before (C.rank stored.now) (length (C.items stored.now)) window.now.from) }
-    ensures joined { let place = place_before (C.rank stored.now) (length (C.items stored.now)) window.now.from in MatchOption result (TouchesNoneBefore K.order V.eq (C.items stored.now) place range.now value.now) (λ q. C.is_good stored.now q × (C.rank stored.now q + 1 ≡ place) × TouchesBefore K.order V.eq (C.items stored.now) place range.now value.now) }
+    requires window { IsWindowOf K.order (C.is_good stored.now) (C.rank stored.now) (C.items stored.now) range.now window.now }
+    ensures joined { IsJoinedBefore K.order V.eq (C.is_good stored.now) (C.rank stored.now) (C.items stored.now) range.now value.now window.now result }
     ensures counted { AddsSteps steps.old steps.new 0 1 }
 {
     match window.before {
@@ -117,8 +114,8 @@ pub(crate) fn joined_after<K: PartialEnum, V: Eq + Drop, C: Storage<Item<AnyRang
     value: &V,
     steps: &mut Steps,
 ) -> Option<C::Position>
-    requires window { IsWindow K.order (C.is_good stored.now) (C.rank stored.now) (C.items stored.now) range.now window.now (place_before (C.rank stored.now) (length (C.items stored.now)) window.now.from) }
-    ensures joined { let end = place_before (C.rank stored.now) (length (C.items stored.now)) window.now.from + window.now.count in MatchOption result (TouchesNoneAfter K.order V.eq (C.items stored.now) end range.now value.now) (λ q. C.is_good stored.now q × (C.rank stored.now q ≡ end) × TouchesAfter K.order V.eq (C.items stored.now) end range.now value.now) }
+    requires window { IsWindowOf K.order (C.is_good stored.now) (C.rank stored.now) (C.items stored.now) range.now window.now }
+    ensures joined { IsJoinedAfter K.order V.eq (C.is_good stored.now) (C.rank stored.now) (C.items stored.now) range.now value.now window.now result }
     ensures counted { AddsSteps steps.old steps.new 0 1 }
 {
     match window.after {
@@ -147,9 +144,9 @@ pub(crate) fn left_side<K: PartialEnum + Clone, V: Eq + Drop, C: Storage<Item<An
     requires keys { ClonesAreEqual K.is_clone K.eq }
     requires stored { IsStored K.order V.eq (C.items stored.now) }
     requires nonempty { ¬ IsEmptyRange K.order range.now }
-    requires window { IsWindow K.order (C.is_good stored.now) (C.rank stored.now) (C.items stored.now) range.now window.now (place_before (C.rank stored.now) (length (C.items stored.now)) window.now.from) }
-    requires first { ReachesBefore K.order (C.is_good stored.now) (C.rank stored.now) (C.items stored.now) range.now (place_before (C.rank stored.now) (length (C.items stored.now)) window.now.from) window.now.count first }
-    ensures planned { IfOk result (λ side. (lawful : IsLawful K.order) → (equal : IsEquivalence V.eq) → IsLeftPlan K.order V.eq lawful equal (C.is_good stored.now) (C.rank stored.now) (C.items stored.now) range.now value.now (place_before (C.rank stored.now) (length (C.items stored.now)) window.now.from) window.now.count first side.edge side.from) }
+    requires window { IsWindowOf K.order (C.is_good stored.now) (C.rank stored.now) (C.items stored.now) range.now window.now }
+    requires first { IsFirstReaching K.order (C.is_good stored.now) (C.rank stored.now) (C.items stored.now) range.now window.now first }
+    ensures planned { IfOk result (λ side. IsPlannedBefore K.order V.eq (C.is_good stored.now) (C.rank stored.now) (C.items stored.now) range.now value.now window.now first side.edge side.from) }
     ensures counted { AddsSteps steps.old steps.new 0 1 }
 {
     inner::known(range);
@@ -195,9 +192,9 @@ pub(crate) fn right_side<K: PartialEnum + Clone, V: Eq + Drop, C: Storage<Item<A
     requires keys { ClonesAreEqual K.is_clone K.eq }
     requires stored { IsStored K.order V.eq (C.items stored.now) }
     requires nonempty { ¬ IsEmptyRange K.order range.now }
-    requires window { IsWindow K.order (C.is_good stored.now) (C.rank stored.now) (C.items stored.now) range.now window.now (place_before (C.rank stored.now) (length (C.items stored.now)) window.now.from) }
-    requires last { ReachesBehind K.order (C.is_good stored.now) (C.rank stored.now) (C.items stored.now) range.now (place_before (C.rank stored.now) (length (C.items stored.now)) window.now.from) window.now.count last }
-    ensures planned { IfOk result (λ edge. (lawful : IsLawful K.order) → (equal : IsEquivalence V.eq) → IsRightPlan K.order V.eq lawful equal (C.is_good stored.now) (C.rank stored.now) (C.items stored.now) range.now value.now (place_before (C.rank stored.now) (length (C.items stored.now)) window.now.from) window.now.count last edge) }
+    requires window { IsWindowOf K.order (C.is_good stored.now) (C.rank stored.now) (C.items stored.now) range.now window.now }
+    requires last { IsLastReaching K.order (C.is_good stored.now) (C.rank stored.now) (C.items stored.now) range.now window.now last }
+    ensures planned { IfOk result (λ edge. IsPlannedAfter K.order V.eq (C.is_good stored.now) (C.rank stored.now) (C.items stored.now) range.now value.now window.now last edge) }
     ensures counted { AddsSteps steps.old steps.new 0 1 }
 {
     inner::known(range);
@@ -244,12 +241,12 @@ pub(crate) fn both_sides<K: PartialEnum + Clone, V: Eq + Drop, C: Storage<Item<A
     requires keys { ClonesAreEqual K.is_clone K.eq }
     requires stored { IsStored K.order V.eq (C.items stored.now) }
     requires nonempty { ¬ IsEmptyRange K.order range.now }
-    requires window { IsWindow K.order (C.is_good stored.now) (C.rank stored.now) (C.items stored.now) range.now window.now (place_before (C.rank stored.now) (length (C.items stored.now)) window.now.from) }
-    requires first { ReachesBefore K.order (C.is_good stored.now) (C.rank stored.now) (C.items stored.now) range.now (place_before (C.rank stored.now) (length (C.items stored.now)) window.now.from) window.now.count first }
-    requires last { ReachesBehind K.order (C.is_good stored.now) (C.rank stored.now) (C.items stored.now) range.now (place_before (C.rank stored.now) (length (C.items stored.now)) window.now.from) window.now.count last }
+    requires window { IsWindowOf K.order (C.is_good stored.now) (C.rank stored.now) (C.items stored.now) range.now window.now }
+    requires first { IsFirstReaching K.order (C.is_good stored.now) (C.rank stored.now) (C.items stored.now) range.now window.now first }
+    requires last { IsLastReaching K.order (C.is_good stored.now) (C.rank stored.now) (C.items stored.now) range.now window.now last }
     requires apart { length (option_items first) + length (option_items last) ≤ window.now.count }
-    ensures left { IfOk result (λ sides. (lawful : IsLawful K.order) → (equal : IsEquivalence V.eq) → IsLeftPlan K.order V.eq lawful equal (C.is_good stored.now) (C.rank stored.now) (C.items stored.now) range.now value.now (place_before (C.rank stored.now) (length (C.items stored.now)) window.now.from) window.now.count first sides.left sides.run.at) }
-    ensures right { IfOk result (λ sides. (lawful : IsLawful K.order) → (equal : IsEquivalence V.eq) → IsRightPlan K.order V.eq lawful equal (C.is_good stored.now) (C.rank stored.now) (C.items stored.now) range.now value.now (place_before (C.rank stored.now) (length (C.items stored.now)) window.now.from) window.now.count last sides.right) }
+    ensures left { IfOk result (λ sides. IsPlannedBefore K.order V.eq (C.is_good stored.now) (C.rank stored.now) (C.items stored.now) range.now value.now window.now first sides.left sides.run.at) }
+    ensures right { IfOk result (λ sides. IsPlannedAfter K.order V.eq (C.is_good stored.now) (C.rank stored.now) (C.items stored.now) range.now value.now window.now last sides.right) }
     ensures run { IfOk result (λ sides. sides.run.left ≡ joined_count sides.left + (window.now.count - (length (option_items first) + length (option_items last))) + joined_count sides.right) }
     ensures counted { AddsSteps steps.old steps.new 0 2 }
 {

@@ -3,8 +3,8 @@ ghost use Rattle.std.specs.Prelude.{◌≡◌, ◌+◌, ◌≤◌, length, Some,
 ghost use Rattle.std.specs.Option.{ForSome};
 ghost use Rattle.range_store.specs.Counting.{AddsSteps};
 ghost use Rattle.range_store.specs.Places.{place_before, IsAt};
-ghost use Rattle.range_map.specs.Window.{IsWindow, option_items};
-ghost use Rattle.range_map.specs.Reach.{ReachesBefore, ReachesBehind};
+ghost use Rattle.range_map.specs.Window.{option_items, IsWindowOf};
+ghost use Rattle.range_map.specs.Reach.{IsFirstReaching, IsLastReaching};
 
 use crate::cut::{ends_after, starts_before};
 use crate::window::Window;
@@ -20,8 +20,8 @@ pub(crate) fn reaching_before<
     C: Storage<Item<AnyRange<K>, V>>,
     R: AsRange<Item = K>,
 >(stored: &C, window: &Window<C::Position>, range: &R, steps: &mut Steps) -> Option<C::Position>
-    requires window { IsWindow K.order (C.is_good stored.now) (C.rank stored.now) (C.items stored.now) (R.range range.now) window.now (place_before (C.rank stored.now) (length (C.items stored.now)) window.now.from) }
-    ensures reaching { ReachesBefore K.order (C.is_good stored.now) (C.rank stored.now) (C.items stored.now) (R.range range.now) (place_before (C.rank stored.now) (length (C.items stored.now)) window.now.from) window.now.count result }
+    requires window { IsWindowOf K.order (C.is_good stored.now) (C.rank stored.now) (C.items stored.now) (R.range range.now) window.now }
+    ensures reaching { IsFirstReaching K.order (C.is_good stored.now) (C.rank stored.now) (C.items stored.now) (R.range range.now) window.now result }
     ensures counted { AddsSteps steps.old steps.new 0 1 }
 {
     if window.count == 0 {
@@ -47,8 +47,8 @@ pub(crate) fn reaching_behind<
     C: Storage<Item<AnyRange<K>, V>>,
     R: AsRange<Item = K>,
 >(stored: &C, window: &Window<C::Position>, range: &R, steps: &mut Steps) -> Option<C::Position>
-    requires window { IsWindow K.order (C.is_good stored.now) (C.rank stored.now) (C.items stored.now) (R.range range.now) window.now (place_before (C.rank stored.now) (length (C.items stored.now)) window.now.from) }
-    ensures reaching { ReachesBehind K.order (C.is_good stored.now) (C.rank stored.now) (C.items stored.now) (R.range range.now) (place_before (C.rank stored.now) (length (C.items stored.now)) window.now.from) window.now.count result }
+    requires window { IsWindowOf K.order (C.is_good stored.now) (C.rank stored.now) (C.items stored.now) (R.range range.now) window.now }
+    ensures reaching { IsLastReaching K.order (C.is_good stored.now) (C.rank stored.now) (C.items stored.now) (R.range range.now) window.now result }
     ensures counted { AddsSteps steps.old steps.new 0 1 }
 {
     match window.last {

@@ -1,19 +1,13 @@
 //! Letting a list of items stand for all that a range held.
 ghost use Rattle.std.specs.Prelude.{◌≡◌, ◌+◌, ◌≤◌, Option, length, option_copied, IfSome, OnOk, OnErr};
-ghost use Rattle.std.specs.Cmp.{IsEquivalence};
-ghost use Rattle.std.specs.Option.{option_or};
 ghost use Rattle.std.specs.declared.ops.Bound.{Bound};
-ghost use Rattle.range_keys.specs.Order.{IsLawful};
-ghost use Rattle.range_algebra.specs.Clones.{SameBound};
-ghost use Rattle.range_algebra.specs.Range.{IsEmptyRange, IsKnownBound};
-ghost use Rattle.range_store.specs.Places.{place_before, IsAt};
-ghost use Rattle.range_map.specs.Edits.{turned_bound};
+ghost use Rattle.range_algebra.specs.Range.{IsEmptyRange};
 ghost use Rattle.range_map.specs.Pieces.{LiesIn};
-ghost use Rattle.range_map.specs.Reach.{ReachesBefore, ReachesBehind};
+ghost use Rattle.range_map.specs.Reach.{IsFirstReaching, IsLastReaching};
 ghost use Rattle.range_map.specs.Replaced.{AreWithin, IsReplaced};
-ghost use Rattle.range_map.specs.Seams.{seam_edge, IsLeftSeam, IsRightSeam};
+ghost use Rattle.range_map.specs.Seams.{seam_edge, IsJoiningFirst, IsJoiningLast};
 ghost use Rattle.range_map.specs.Stored.{IsStored};
-ghost use Rattle.range_map.specs.Window.{IsWindow, option_items};
+ghost use Rattle.range_map.specs.Window.{option_items, IsWindowOf};
 
 use crate::change::change_to;
 use crate::cut::{ends_after, starts_before, turned};
@@ -40,10 +34,10 @@ fn joined_left<K: Measure, V: Eq + Drop, C: Storage<Item<AnyRange<K>, V>>>(
 ) -> Option<C::Position>
     requires stored { IsStored K.order V.eq (C.items stored.now) }
     requires nonempty { ¬ IsEmptyRange K.order range.now }
-    requires window { IsWindow K.order (C.is_good stored.now) (C.rank stored.now) (C.items stored.now) range.now window.now (place_before (C.rank stored.now) (length (C.items stored.now)) window.now.from) }
-    requires first { ReachesBefore K.order (C.is_good stored.now) (C.rank stored.now) (C.items stored.now) range.now (place_before (C.rank stored.now) (length (C.items stored.now)) window.now.from) window.now.count first }
+    requires window { IsWindowOf K.order (C.is_good stored.now) (C.rank stored.now) (C.items stored.now) range.now window.now }
+    requires first { IsFirstReaching K.order (C.is_good stored.now) (C.rank stored.now) (C.items stored.now) range.now window.now first }
     requires within { IfSome next (λ i. LiesIn K.order i.now.key range.now) }
-    ensures { let place = place_before (C.rank stored.now) (length (C.items stored.now)) window.now.from in (lawful : IsLawful K.order) → (equal : IsEquivalence V.eq) → (b : Bound K) (behind : Option C.Position) → IsKnownBound K.order b → SameBound K.order (turned_bound range.now.start) b → IsAt (C.is_good stored.now) (C.rank stored.now) (length (C.items stored.now)) behind (place + length (option_items first)) → IsLeftSeam K.order V.eq lawful equal (C.is_good stored.now) (C.rank stored.now) (C.items stored.now) range.now place window.now.count (option_copied next.entry) first (seam_edge result first b) (option_or result behind) }
+    ensures { IsJoiningFirst K.order V.eq (C.is_good stored.now) (C.rank stored.now) (C.items stored.now) range.now window.now (option_copied next.entry) first result }
 {
     inner::known(range);
     let Some(item) = next else {
@@ -79,10 +73,10 @@ fn joined_right<K: Measure, V: Eq + Drop, C: Storage<Item<AnyRange<K>, V>>>(
 ) -> Option<C::Position>
     requires stored { IsStored K.order V.eq (C.items stored.now) }
     requires nonempty { ¬ IsEmptyRange K.order range.now }
-    requires window { IsWindow K.order (C.is_good stored.now) (C.rank stored.now) (C.items stored.now) range.now window.now (place_before (C.rank stored.now) (length (C.items stored.now)) window.now.from) }
-    requires last { ReachesBehind K.order (C.is_good stored.now) (C.rank stored.now) (C.items stored.now) range.now (place_before (C.rank stored.now) (length (C.items stored.now)) window.now.from) window.now.count last }
+    requires window { IsWindowOf K.order (C.is_good stored.now) (C.rank stored.now) (C.items stored.now) range.now window.now }
+    requires last { IsLastReaching K.order (C.is_good stored.now) (C.rank stored.now) (C.items stored.now) range.now window.now last }
     requires within { IfSome previous (λ i. LiesIn K.order i.now.key range.now) }
-    ensures { let place = place_before (C.rank stored.now) (length (C.items stored.now)) window.now.from in (lawful : IsLawful K.order) → (equal : IsEquivalence V.eq) → (b : Bound K) → IsKnownBound K.order b → SameBound K.order (turned_bound range.now.end) b → IsRightSeam K.order V.eq lawful equal (C.is_good stored.now) (C.rank stored.now) (C.items stored.now) range.now place window.now.count (option_copied previous.entry) last (seam_edge result last b) }
+    ensures { IsJoiningLast K.order V.eq (C.is_good stored.now) (C.rank stored.now) (C.items stored.now) range.now window.now (option_copied previous.entry) last result }
 {
     inner::known(range);
     let Some(item) = previous else {
@@ -132,9 +126,9 @@ pub(crate) fn replace<K: Measure, V: Eq + Drop, C: Storage<Item<AnyRange<K>, V>>
 ) -> Result<(), AllocError>
     requires stored { IsStored K.order V.eq (C.items stored.old) }
     requires nonempty { ¬ IsEmptyRange K.order range }
-    requires window { IsWindow K.order (C.is_good stored.old) (C.rank stored.old) (C.items stored.old) range window.now (place_before (C.rank stored.old) (length (C.items stored.old)) window.now.from) }
-    requires first { ReachesBefore K.order (C.is_good stored.old) (C.rank stored.old) (C.items stored.old) range (place_before (C.rank stored.old) (length (C.items stored.old)) window.now.from) window.now.count first }
-    requires last { ReachesBehind K.order (C.is_good stored.old) (C.rank stored.old) (C.items stored.old) range (place_before (C.rank stored.old) (length (C.items stored.old)) window.now.from) window.now.count last }
+    requires window { IsWindowOf K.order (C.is_good stored.old) (C.rank stored.old) (C.items stored.old) range window.now }
+    requires first { IsFirstReaching K.order (C.is_good stored.old) (C.rank stored.old) (C.items stored.old) range window.now first }
+    requires last { IsLastReaching K.order (C.is_good stored.old) (C.rank stored.old) (C.items stored.old) range window.now last }
     requires apart { length (option_items first) + length (option_items last) ≤ window.now.count }
     requires middle { IsStored K.order V.eq middle.items }
     requires within { AreWithin K.order middle.items range }

@@ -2,10 +2,9 @@
 ghost use Rattle.std.specs.Prelude.{◌≡◌, ◌+◌, ◌*◌, ◌≤◌, ◌<◌, length, OnOk, OnErr, IsOk};
 ghost use Rattle.range_algebra.specs.Range.{ClonesAreEqual, IsEmptyRange};
 ghost use Rattle.range_store.specs.Counting.{AddsSteps};
-ghost use Rattle.range_store.specs.Places.{place_before};
 ghost use Rattle.range_map.specs.Stored.{IsStored};
-ghost use Rattle.range_map.specs.Window.{IsWindow, option_items};
-ghost use Rattle.range_map.specs.Reach.{ReachesBefore, ReachesBehind};
+ghost use Rattle.range_map.specs.Window.{option_items, IsWindowOf};
+ghost use Rattle.range_map.specs.Reach.{IsFirstReaching, IsLastReaching};
 ghost use Rattle.range_algebra.specs.Intervals.{Every};
 ghost use Rattle.range_map.specs.Ranges.{Overlap};
 ghost use Rattle.range_map.specs.Costs.{TakesAtLeast, TakesAsChange};
@@ -35,10 +34,10 @@ pub(crate) fn unbind_within<
     requires values { ClonesAreEqual V.is_clone V.eq }
     requires stored { IsStored K.order V.eq (C.items stored.old) }
     requires nonempty { ¬ IsEmptyRange K.order (R.range range.now) }
-    requires window { IsWindow K.order (C.is_good stored.old) (C.rank stored.old) (C.items stored.old) (R.range range.now) window.now (place_before (C.rank stored.old) (length (C.items stored.old)) window.now.from) }
+    requires window { IsWindowOf K.order (C.is_good stored.old) (C.rank stored.old) (C.items stored.old) (R.range range.now) window.now }
     requires one { window.now.count ≡ 1 }
-    requires first { ReachesBefore K.order (C.is_good stored.old) (C.rank stored.old) (C.items stored.old) (R.range range.now) (place_before (C.rank stored.old) (length (C.items stored.old)) window.now.from) window.now.count (Some p) }
-    requires last { ReachesBehind K.order (C.is_good stored.old) (C.rank stored.old) (C.items stored.old) (R.range range.now) (place_before (C.rank stored.old) (length (C.items stored.old)) window.now.from) window.now.count (Some p) }
+    requires first { IsFirstReaching K.order (C.is_good stored.old) (C.rank stored.old) (C.items stored.old) (R.range range.now) window.now (Some p) }
+    requires last { IsLastReaching K.order (C.is_good stored.old) (C.rank stored.old) (C.items stored.old) (R.range range.now) window.now (Some p) }
     ensures ok { OnOk result (IsRemoved K.order V.eq (C.items stored.old) (C.items stored.new) (R.range range.now)) }
     ensures few { OnOk result (length (C.items stored.new) ≤ length (C.items stored.old) + 1) }
     ensures refused { OnErr result (C.items stored.new ≡ C.items stored.old) }
@@ -65,10 +64,10 @@ fn unbind_over<
     requires keys { ClonesAreEqual K.is_clone K.eq }
     requires stored { IsStored K.order V.eq (C.items stored.old) }
     requires nonempty { ¬ IsEmptyRange K.order (R.range range.now) }
-    requires window { IsWindow K.order (C.is_good stored.old) (C.rank stored.old) (C.items stored.old) (R.range range.now) window.now (place_before (C.rank stored.old) (length (C.items stored.old)) window.now.from) }
+    requires window { IsWindowOf K.order (C.is_good stored.old) (C.rank stored.old) (C.items stored.old) (R.range range.now) window.now }
     requires some { 0 < window.now.count }
-    requires first { ReachesBefore K.order (C.is_good stored.old) (C.rank stored.old) (C.items stored.old) (R.range range.now) (place_before (C.rank stored.old) (length (C.items stored.old)) window.now.from) window.now.count first }
-    requires last { ReachesBehind K.order (C.is_good stored.old) (C.rank stored.old) (C.items stored.old) (R.range range.now) (place_before (C.rank stored.old) (length (C.items stored.old)) window.now.from) window.now.count last }
+    requires first { IsFirstReaching K.order (C.is_good stored.old) (C.rank stored.old) (C.items stored.old) (R.range range.now) window.now first }
+    requires last { IsLastReaching K.order (C.is_good stored.old) (C.rank stored.old) (C.items stored.old) (R.range range.now) window.now last }
     requires apart { length (option_items first) + length (option_items last) ≤ window.now.count }
     ensures ok { OnOk result (IsRemoved K.order V.eq (C.items stored.old) (C.items stored.new) (R.range range.now)) }
     ensures few { OnOk result (2 * length (C.items stored.new) + window.now.count ≤ 2 * length (C.items stored.old) + 3) }
@@ -101,7 +100,7 @@ fn unbind_met<
     requires values { ClonesAreEqual V.is_clone V.eq }
     requires stored { IsStored K.order V.eq (C.items stored.old) }
     requires nonempty { ¬ IsEmptyRange K.order (R.range range.now) }
-    requires window { IsWindow K.order (C.is_good stored.old) (C.rank stored.old) (C.items stored.old) (R.range range.now) window.now (place_before (C.rank stored.old) (length (C.items stored.old)) window.now.from) }
+    requires window { IsWindowOf K.order (C.is_good stored.old) (C.rank stored.old) (C.items stored.old) (R.range range.now) window.now }
     requires some { 0 < window.now.count }
     ensures ok { OnOk result (IsRemoved K.order V.eq (C.items stored.old) (C.items stored.new) (R.range range.now)) }
     ensures few { OnOk result (2 * length (C.items stored.new) + window.now.count ≤ 2 * length (C.items stored.old) + 3) }

@@ -1,15 +1,14 @@
 //! Changing what the keys of a range are bound to by a closure.
-ghost use Rattle.std.specs.Prelude.{◌≡◌, ◌+◌, ◌≤◌, length, OnOk, OnErr, IsOk, Some, None, Ok, Err};
+ghost use Rattle.std.specs.Prelude.{◌≡◌, ◌+◌, ◌≤◌, OnOk, OnErr, IsOk, Some, None, Ok, Err};
 ghost use Rattle.range_keys.specs.Order.{IsComplete};
 ghost use Rattle.range_algebra.specs.Intervals.{Every};
 ghost use Rattle.range_algebra.specs.Range.{ClonesAreEqual, IsEmptyRange};
-ghost use Rattle.range_store.specs.Places.{place_before};
 ghost use Rattle.range_map.specs.Answers.{MayBeAsked, FailsAt, IsUpdated};
 ghost use Rattle.range_map.specs.Bindings.{IsCoarse};
 ghost use Rattle.range_map.specs.Coarse.{IsOnlyCoarse};
-ghost use Rattle.range_map.specs.Reach.{ReachesBefore, ReachesBehind};
+ghost use Rattle.range_map.specs.Reach.{IsFirstReaching, IsLastReaching};
 ghost use Rattle.range_map.specs.Stored.{IsStored};
-ghost use Rattle.range_map.specs.Window.{IsWindow, option_items};
+ghost use Rattle.range_map.specs.Window.{IsWindowOf};
 ghost use Rattle.range_map.specs.declared.error.UpdateError.TheVariants.{Closure as ClosureError};
 
 use crate::binding::bind_within;
@@ -45,10 +44,10 @@ fn update_within<
     requires values { ClonesAreEqual V.is_clone V.eq }
     requires stored { IsStored K.order V.eq (C.items stored.old) }
     requires nonempty { ¬ IsEmptyRange K.order range }
-    requires window { IsWindow K.order (C.is_good stored.old) (C.rank stored.old) (C.items stored.old) range window.now (place_before (C.rank stored.old) (length (C.items stored.old)) window.now.from) }
+    requires window { IsWindowOf K.order (C.is_good stored.old) (C.rank stored.old) (C.items stored.old) range window.now }
     requires one { window.now.count ≡ 1 }
-    requires first { ReachesBefore K.order (C.is_good stored.old) (C.rank stored.old) (C.items stored.old) range (place_before (C.rank stored.old) (length (C.items stored.old)) window.now.from) window.now.count (Some p) }
-    requires last { ReachesBehind K.order (C.is_good stored.old) (C.rank stored.old) (C.items stored.old) range (place_before (C.rank stored.old) (length (C.items stored.old)) window.now.from) window.now.count (Some p) }
+    requires first { IsFirstReaching K.order (C.is_good stored.old) (C.rank stored.old) (C.items stored.old) range window.now (Some p) }
+    requires last { IsLastReaching K.order (C.is_good stored.old) (C.rank stored.old) (C.items stored.old) range window.now (Some p) }
     requires bound { Every (λ i. MayBeAsked F.Fn f.now (Some i.value)) (C.items stored.old) }
     ensures ok { OnOk result (IsUpdated K.order V.eq F.Fn f.now (C.items stored.old) (C.items stored.new) range) }
     ensures form { IsStored K.order V.eq (C.items stored.new) }

@@ -7,7 +7,7 @@ ghost use Rattle.std.specs.Ordering.{is_gt};
 ghost use Rattle.range_store.specs.Counting.{AddsSteps};
 ghost use Rattle.range_store.specs.Places.{place_before};
 ghost use Rattle.range_map.specs.Stored.{IsStored};
-ghost use Rattle.range_map.specs.Window.{IsFound, IsWalk, IsWindow};
+ghost use Rattle.range_map.specs.Window.{IsFound, IsWalk, IsWindowOf};
 
 use crate::probe::EndsBefore;
 use range_algebra::any::AnyRange;
@@ -105,7 +105,7 @@ pub(crate) fn find_window<
     R: AsRange<Item = K>,
 >(stored: &C, range: &R, steps: &mut Steps) -> Window<C::Position>
     requires { IsStored K.order V.eq (C.items stored.now) }
-    ensures window { IsWindow K.order (C.is_good stored.now) (C.rank stored.now) (C.items stored.now) (R.range range.now) result (place_before (C.rank stored.now) (length (C.items stored.now)) result.from) }
+    ensures window { IsWindowOf K.order (C.is_good stored.now) (C.rank stored.now) (C.items stored.now) (R.range range.now) result }
     ensures counted { AddsSteps steps.old steps.new (C.least_asks stored.now) (C.most_asks stored.now + result.count + 1) }
 {
     inner::known_range(range);
