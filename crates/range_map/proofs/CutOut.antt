@@ -19,7 +19,7 @@ use Rattle.range_map.specs.Stored.{IsStored}
 use Rattle.range_map.specs.Bindings.{IsUnboundAfter, IsBoundAfter}
 use Rattle.range_algebra.proofs.Holding.{empty_is_keyless}
 use Rattle.range_map.specs.Window.{IsWindow, IsLeftPart, IsRightPart, option_items}
-use Rattle.range_map.specs.declared.window.Window.{Window}
+use Rattle.range_map.specs.declared.change.window.Window.{Window}
 use Rattle.range_map.proofs.Forms.{places, nonempty_good, Known, Chained, stored_known, stored_chain, unbound_after}
 use Rattle.range_algebra.proofs.Lists.{parts, parts_at}
 

@@ -17,7 +17,7 @@ use Rattle.range_algebra.specs.Cuts.{past, lower, upper}
 use Rattle.range_map.specs.ItemCuts.{item_lower, item_upper}
 use Rattle.range_map.specs.Stored.{IsStored}
 use Rattle.range_map.specs.Window.{IsWindow, IsLeftPart, IsRightPart, option_items}
-use Rattle.range_map.specs.declared.window.Window.{Window}
+use Rattle.range_map.specs.declared.change.window.Window.{Window}
 use Rattle.range_map.proofs.Forms.{places, nonempty_good, Known, stored_known, stored_chain, chain_stored, unbound_after}
 use Rattle.range_algebra.proofs.Lists.{every_at, parts}
 use Rattle.std.proofs.Common.{Result, Ok, Err, IfOk}

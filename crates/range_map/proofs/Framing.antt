@@ -21,7 +21,7 @@ use Rattle.range_map.specs.Lookups.{MeetsSome}
 use Rattle.range_map.specs.Ranges.{Overlap}
 use Rattle.range_map.specs.Stored.{IsStored}
 use Rattle.range_map.specs.Window.{IsWindow, option_items}
-use Rattle.range_map.specs.declared.window.Window.{Window}
+use Rattle.range_map.specs.declared.change.window.Window.{Window}
 use Rattle.range_map.specs.Frames.{IsStartOf, IsEndOf, HasValue, IsNewItem, GaveWayTo, IsPart, WasCutOut}
 use Rattle.range_map.specs.Plans.{IsLeftFrame, IsRightFrame}
 use Rattle.range_map.proofs.Forms.{places, before_is, Chained, stored_known, stored_chain}

@@ -5,8 +5,8 @@ use Rattle.std.specs.declared.ops.Bound.{Bound}
 use Rattle.std.proofs.lemmas.List.{length-take-le}
 use Rattle.range_algebra.specs.declared.any.AnyRange.{AnyRange}
 use Rattle.range_store.specs.declared.storage.Item.{Item}
-use Rattle.range_map.specs.declared.edges.Edge.{Edge}
-use Rattle.range_map.specs.declared.edges.Edge.TheVariants.{Plain, Cut, Joined}
+use Rattle.range_map.specs.declared.change.edges.Edge.{Edge}
+use Rattle.range_map.specs.declared.change.edges.Edge.TheVariants.{Plain, Cut, Joined}
 use Rattle.range_map.specs.Edges.{IsLeftShape, IsRightShape}
 use Rattle.range_map.specs.Window.{option_items}
 

@@ -12,8 +12,8 @@ use Rattle.range_map.specs.Edits.{with_start, with_end}
 use Rattle.range_map.specs.Window.{option_items}
 use Rattle.range_algebra.proofs.Lists.{parts_at}
 use Rattle.range_map.specs.Edges.{joined_count, edge_at, IsGoodEdge, IsLeftShape, IsRightShape, IsLeftEdited, IsRightEdited}
-use Rattle.range_map.specs.declared.edges.Edge.{Edge}
-use Rattle.range_map.specs.declared.edges.Edge.TheVariants.{Plain, Cut, Joined}
+use Rattle.range_map.specs.declared.change.edges.Edge.{Edge}
+use Rattle.range_map.specs.declared.change.edges.Edge.TheVariants.{Plain, Cut, Joined}
 
 pub regrouped : {X : Type 0} (a b c e : List X) (m : X) → (a ++ b) ++ m ∷ (c ++ e) ≡ a ++ b ++ (m ∷ []) ++ c ++ e
 regrouped a b c e m = sym (append_assoc (a ++ b ++ (m ∷ [])) c e ∙ append_assoc (a ++ b) (m ∷ []) (c ++ e))

@@ -16,12 +16,12 @@ use Rattle.range_store.specs.declared.storage.Item.{Item}
 use Rattle.range_store.specs.Places.{IsAt}
 use Rattle.range_map.specs.Stored.{IsStored}
 use Rattle.range_map.specs.Window.{IsWindow, option_items}
-use Rattle.range_map.specs.declared.window.Window.{Window}
+use Rattle.range_map.specs.declared.change.window.Window.{Window}
 use Rattle.range_map.specs.Edits.{turned_bound, with_start, with_end}
 use Rattle.range_map.specs.Reach.{ReachesBefore, ReachesBehind}
 use Rattle.range_map.specs.Edges.{edge_at, IsLeftShape, IsRightShape, IsLeftRest, IsRightRest, TouchesBefore, TouchesNoneBefore, TouchesAfter, TouchesNoneAfter}
 use Rattle.range_map.specs.Plans.{IsLeftFrame, IsRightFrame, IsLeftPlan, IsRightPlan}
-use Rattle.range_map.specs.declared.edges.Edge.TheVariants.{Plain, Cut, Joined}
+use Rattle.range_map.specs.declared.change.edges.Edge.TheVariants.{Plain, Cut, Joined}
 use Rattle.range_map.proofs.Edging.{element, element_is, left_rest_whole, left_rest_cut, right_rest_whole, right_rest_cut, left_edge_inside, left_edge_rest, left_edge_joined, left_edge_none, right_edge_inside, right_edge_rest, right_edge_joined, right_edge_none}
 
 none_last : {X : Type 0} (xs : List X) (y : X) → xs ++ y ∷ [] ≡ [] → ⊥

@@ -16,7 +16,7 @@ use Rattle.range_algebra.proofs.Lists.{parts}
 use Rattle.range_algebra.proofs.Places.{held_between}
 use Rattle.range_store.specs.Places.{IsAt}
 use Rattle.range_store.specs.declared.storage.Item.{Item}
-use Rattle.range_map.specs.declared.edges.Edge.{Edge}
+use Rattle.range_map.specs.declared.change.edges.Edge.{Edge}
 use Rattle.range_map.specs.Edits.{turned_bound}
 use Rattle.range_map.specs.Frames.{HasValue}
 use Rattle.range_map.specs.Ranges.{Overlap}

@@ -22,9 +22,9 @@ use Rattle.range_algebra.specs.declared.any.AnyRange.{AnyRange}
 use Rattle.range_algebra.proofs.Places.{reaches, turned, turned_known}
 use Rattle.range_store.specs.declared.storage.Item.{Item}
 use Rattle.range_store.specs.Places.{IsAt}
-use Rattle.range_map.specs.declared.edges.Edge.{Edge}
-use Rattle.range_map.specs.declared.edges.Edge.TheVariants.{Plain, Cut, Joined}
-use Rattle.range_map.specs.declared.window.Window.{Window}
+use Rattle.range_map.specs.declared.change.edges.Edge.{Edge}
+use Rattle.range_map.specs.declared.change.edges.Edge.TheVariants.{Plain, Cut, Joined}
+use Rattle.range_map.specs.declared.change.window.Window.{Window}
 use Rattle.range_map.specs.Edges.{IsLeftShape, IsRightShape, joined_count, edge_at, edge_start, edge_end, TouchesBefore, TouchesNoneBefore, TouchesAfter, TouchesNoneAfter}
 use Rattle.range_map.specs.Edits.{turned_bound, with_start}
 use Rattle.range_map.specs.Frames.{HasValue}

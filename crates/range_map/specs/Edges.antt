@@ -10,16 +10,16 @@ use Rattle.range_keys.specs.declared.inner.position.Position.{Position}
 use Rattle.range_algebra.specs.Range.{IsKnownRange, IsKnownBound}
 use Rattle.std.specs.Option.{unwrap_or}
 use Rattle.std.specs.declared.ops.Bound.TheVariants.{Unbounded}
-use Rattle.range_map.specs.declared.edges.Edge.{Edge}
-use Rattle.range_map.specs.declared.edges.Edge.TheVariants.{Plain, Cut, Joined}
+use Rattle.range_map.specs.declared.change.edges.Edge.{Edge}
+use Rattle.range_map.specs.declared.change.edges.Edge.TheVariants.{Plain, Cut, Joined}
 use Rattle.range_map.specs.Edits.{turned_bound, with_start, with_end}
 use Rattle.range_algebra.specs.Clones.{SameBound}
 use Rattle.range_algebra.specs.declared.any.AnyRange.{AnyRange}
 use Rattle.range_store.specs.Places.{place_before}
 use Rattle.range_store.specs.declared.inner.cursor.Cursor.{Cursor}
 use Rattle.range_store.specs.declared.storage.Item.{Item}
-use Rattle.range_map.specs.declared.cut.Parts.{Parts}
-use Rattle.range_map.specs.declared.window.Window.{Window}
+use Rattle.range_map.specs.declared.change.cut.Parts.{Parts}
+use Rattle.range_map.specs.declared.change.window.Window.{Window}
 use Rattle.range_algebra.specs.Intervals.{Every, Le}
 use Rattle.range_algebra.specs.Sides.{IsLeft, IsRight}
 use Rattle.range_algebra.specs.Joins.{IsLeftOf, IsRightOf}

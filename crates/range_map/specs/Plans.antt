@@ -6,13 +6,13 @@ use Rattle.range_keys.specs.Order.{KeyOrder, IsLawful}
 use Rattle.range_algebra.specs.declared.any.AnyRange.{AnyRange}
 use Rattle.range_store.specs.declared.storage.Item.{Item}
 use Rattle.range_store.specs.Places.{IsAt, place_before}
-use Rattle.range_map.specs.declared.edges.Edge.{Edge}
+use Rattle.range_map.specs.declared.change.edges.Edge.{Edge}
 use Rattle.std.specs.Option.{unwrap_or}
 use Rattle.range_algebra.specs.Intervals.{Every}
 use Rattle.range_algebra.specs.Relations.{Touches}
 use Rattle.range_map.specs.Frames.{IsStartOf, IsEndOf, IsNewItem}
 use Rattle.range_map.specs.Window.{option_items}
-use Rattle.range_map.specs.declared.window.Window.{Window}
+use Rattle.range_map.specs.declared.change.window.Window.{Window}
 use Rattle.range_map.specs.Edges.{IsLeftEdge, IsRightEdge, IsLeftShape, IsRightShape, joined_count}
 
 module _ {K : Type 0} (order : KeyOrder K) {V : Type 0} (same : V → V → Bool) (items : List (Item (AnyRange K) V)) (r : AnyRange K) (v : V) (place count : ℕ) where

@@ -13,15 +13,15 @@ use Rattle.range_algebra.specs.Intervals.{Lt, Every}
 use Rattle.range_algebra.specs.declared.any.AnyRange.{AnyRange}
 use Rattle.range_store.specs.declared.storage.Item.{Item}
 use Rattle.range_store.specs.Places.{IsAt, place_before}
-use Rattle.range_map.specs.declared.edges.Edge.{Edge}
-use Rattle.range_map.specs.declared.edges.Edge.TheVariants.{Joined}
+use Rattle.range_map.specs.declared.change.edges.Edge.{Edge}
+use Rattle.range_map.specs.declared.change.edges.Edge.TheVariants.{Joined}
 use Rattle.range_map.specs.Edges.{IsLeftRest, IsRightRest, IsLeftShape, IsRightShape, edge_at}
 use Rattle.range_map.specs.Edits.{turned_bound, with_start, with_end}
 use Rattle.range_map.specs.Frames.{HasValue}
 use Rattle.range_map.specs.ItemCuts.{item_lower, item_upper}
 use Rattle.range_map.specs.Plans.{IsLeftPlan, IsRightPlan}
 use Rattle.range_map.specs.Window.{option_items}
-use Rattle.range_map.specs.declared.window.Window.{Window}
+use Rattle.range_map.specs.declared.change.window.Window.{Window}
 
 module _ {K V : Type 0} where
   -- the first item starts at the bound, if there are both

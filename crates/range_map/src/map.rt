@@ -7,16 +7,30 @@ ghost use Rattle.range_store.specs.Counting.{AddsSteps};
 ghost use Rattle.range_map.specs.Bindings.{Binds, IsCoarse};
 ghost use Rattle.range_map.specs.Coarse.{IsOnlyCoarse, IsLeastCount};
 
+mod clone;
+mod compare;
+mod gaps;
+mod insert;
+mod insert_disconnected;
+mod into_iter;
+mod iter;
+mod len;
+mod levels;
+mod lookup;
+mod remove;
+mod text;
+mod update;
+
+use crate::change::window::{find, starts_past};
 pub use crate::error::{MapError, NotInserted, UpdateError};
-pub use crate::gaps::Gaps;
-pub use crate::into_iter::IntoIter;
-pub use crate::iter::Iter;
 pub use crate::laws::{
     coarse_lists_are_shortest, coarse_lists_are_unique, stored_lists_are_coarse,
 };
-pub use crate::levels::one_level_is_greatest;
 pub use crate::search::binary_search;
-use crate::window::{find, starts_past};
+pub use gaps::Gaps;
+pub use into_iter::IntoIter;
+pub use iter::Iter;
+pub use levels::one_level_is_greatest;
 use range_algebra::any::AnyRange;
 use range_keys::bound::Directed;
 use range_keys::traits::PartialEnum;

@@ -5,7 +5,7 @@ ghost use Rattle.range_map.specs.Bindings.{IsBoundAfter};
 ghost use Rattle.range_map.specs.Lookups.{MeetsSome, MeetAlso};
 ghost use Rattle.range_map.specs.Stored.{IsStored};
 
-use crate::binding::bind_disjoint;
+use crate::change::bind::bind_disjoint;
 use crate::error::MapError;
 use crate::map::RangeMap;
 use range_algebra::any::AnyRange;

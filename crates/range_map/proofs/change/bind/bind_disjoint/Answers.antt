@@ -1,0 +1,35 @@
+use Rattle.std.proofs.Common.{◌≡◌, refl, ◌<◌, length, arith, rules}
+use Rattle.range_algebra.specs.Chains.{any_none}
+use Rattle.range_map.specs.Ranges.{Overlap}
+use Rattle.range_store.specs.Places.{place_before}
+use Rattle.range_map.proofs.Framing.{meets_some, none_meets}
+use Rattle.range_map.proofs.change.bind.bind_disjoint.Goals as goal
+
+pub returns-then-window-gt0-clause-met : goal.returns-then-window-gt0-clause-met
+returns-then-window-gt0-clause-met g c =
+    let storage = g.C.Storage in
+    let stored = c.args.stored.now in
+    let items = storage.items stored in
+    let w = c.find_window-window.result in
+    let some : 0 < w.count = omega (arith, c.if-window-gt0.true) in
+    (λ _. meets_some g.K.MaybeBounded.order g.met.K.PartialEnum.lawful g.V.PartialEq.eq g.met.V.Eq.laws (storage.is_good stored) (storage.rank stored) items c.args.range w (place_before (storage.rank stored) (length items) w.from) c.requires.stored c.known.ensures c.find_window-window.ensures.window some, λ _. refl)
+
+pub returns-clause-met : goal.returns-clause-met
+returns-clause-met g c =
+    let storage = g.C.Storage in
+    let stored = c.args.stored.now in
+    let items = storage.items stored in
+    let w = c.find_window-window.result in
+    let none : w.count ≡ 0 = omega (arith, c.if-window-gt0.false) in
+    let unmet = none_meets g.K.MaybeBounded.order g.met.K.PartialEnum.lawful g.V.PartialEq.eq g.met.V.Eq.laws (storage.is_good stored) (storage.rank stored) items c.args.range w (place_before (storage.rank stored) (length items) w.from) c.requires.stored c.known.ensures c.find_window-window.ensures.window none in
+    (λ e. cc, λ met. absurd (any_none (λ i. Overlap g.K.MaybeBounded.order i.key c.args.range) (λ i. ¬ Overlap g.K.MaybeBounded.order i.key c.args.range) items unmet (λ i no at. no at) met))
+
+pub returns-in_err-bind_over-clause-met : goal.returns-in_err-bind_over-clause-met
+returns-in_err-bind_over-clause-met g c =
+    let storage = g.C.Storage in
+    let stored = c.args.stored.now in
+    let items = storage.items stored in
+    let w = c.find_window-window.result in
+    let none : w.count ≡ 0 = omega (arith, c.if-window-gt0.false) in
+    let unmet = none_meets g.K.MaybeBounded.order g.met.K.PartialEnum.lawful g.V.PartialEq.eq g.met.V.Eq.laws (storage.is_good stored) (storage.rank stored) items c.args.range w (place_before (storage.rank stored) (length items) w.from) c.requires.stored c.known.ensures c.find_window-window.ensures.window none in
+    (λ e. absurd (search (rules, e)), λ met. absurd (any_none (λ i. Overlap g.K.MaybeBounded.order i.key c.args.range) (λ i. ¬ Overlap g.K.MaybeBounded.order i.key c.args.range) items unmet (λ i no at. no at) met))

@@ -1,0 +1,17 @@
+use Rattle.std.proofs.Common.{◌≡◌, get_or}
+use Rattle.std.proofs.lemmas.List.{get_or_read}
+use Rattle.range_map.proofs.change.cut.cut_parts.Goals as goal
+
+pub get-requires : goal.get-requires
+get-requires g c = (c.reserve.ensures.positions c.args.p c.requires.good).0
+
+pub returns-clause-value : goal.returns-clause-value
+returns-clause-value g c = λ d.
+    let storage = g.C.Storage in
+    let stored = c.args.stored.now in
+    let items = storage.items stored in
+    let p = c.args.p in
+    let x = c.get.result.now in
+    let kept = c.reserve.ensures.positions p c.requires.good in
+    let read : x ≡ get_or items (storage.rank stored p) x = rw (c.reserve.ensures.list, kept.1) at c.get.ensures in
+    rw (← get_or_read items (storage.rank stored p) x (g.met.C.Storage.good_is_in_range stored p c.requires.good) read d) (c.requires.values x.value c.in_ok-clone.field-0 c.in_ok-clone.ensures.cases)

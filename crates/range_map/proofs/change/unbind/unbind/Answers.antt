@@ -1,0 +1,36 @@
+use Rattle.std.proofs.Common.{◌<◌, length, arith}
+use Rattle.range_store.specs.Places.{place_before}
+use Rattle.range_map.proofs.CutOut.{unmet}
+use Rattle.range_map.proofs.Framing.{none_meets, some_meets, not_cut}
+use Rattle.range_map.proofs.change.unbind.unbind.Goals as goal
+
+pub returns-then-window-eq0-clause-ok : goal.returns-then-window-eq0-clause-ok
+returns-then-window-eq0-clause-ok g c =
+    let storage = g.C.Storage in
+    let stored = c.args.stored.now in
+    let items = storage.items stored in
+    let w = c.find_window-window.result in
+    record {
+      stored = c.requires.stored;
+      apart = none_meets g.K.MaybeBounded.order g.met.K.PartialEnum.lawful g.V.PartialEq.eq g.met.V.Eq.laws (storage.is_good stored) (storage.rank stored) items (g.R.AsRange.range c.args.range.now) w (place_before (storage.rank stored) (length items) w.from) c.requires.stored c.known_range.ensures c.find_window-window.ensures.window c.if-window-eq0.true;
+      frame = not_cut g.K.MaybeBounded.order g.met.K.PartialEnum.lawful g.V.PartialEq.eq g.met.V.Eq.laws (storage.is_good stored) (storage.rank stored) items (g.R.AsRange.range c.args.range.now) w (place_before (storage.rank stored) (length items) w.from) c.requires.stored c.known_range.ensures c.find_window-window.ensures.window;
+      unbound = unmet g.K.MaybeBounded.order g.met.K.PartialEnum.lawful g.V.PartialEq.eq g.met.V.Eq.laws (storage.is_good stored) (storage.rank stored) items (g.R.AsRange.range c.args.range.now) w (place_before (storage.rank stored) (length items) w.from) c.requires.stored c.known_range.ensures c.requires.nonempty c.find_window-window.ensures.window c.if-window-eq0.true;
+    }
+
+pub returns-clause-unmet : goal.returns-clause-unmet
+returns-clause-unmet g c = λ none.
+    let storage = g.C.Storage in
+    let stored = c.args.stored.now in
+    let items = storage.items stored in
+    let w = c.find_window-window.result in
+    let some : 0 < w.count = omega (arith, c.if-window-eq0.false) in
+    absurd (some_meets g.K.MaybeBounded.order g.met.K.PartialEnum.lawful g.V.PartialEq.eq g.met.V.Eq.laws (storage.is_good stored) (storage.rank stored) items (g.R.AsRange.range c.args.range.now) w (place_before (storage.rank stored) (length items) w.from) c.requires.stored c.known_range.ensures c.find_window-window.ensures.window some none)
+
+pub returns-clause-unmet_unchanged : goal.returns-clause-unmet_unchanged
+returns-clause-unmet_unchanged g c = λ none.
+    let storage = g.C.Storage in
+    let stored = c.args.stored.now in
+    let items = storage.items stored in
+    let w = c.find_window-window.result in
+    let some : 0 < w.count = omega (arith, c.if-window-eq0.false) in
+    absurd (some_meets g.K.MaybeBounded.order g.met.K.PartialEnum.lawful g.V.PartialEq.eq g.met.V.Eq.laws (storage.is_good stored) (storage.rank stored) items (g.R.AsRange.range c.args.range.now) w (place_before (storage.rank stored) (length items) w.from) c.requires.stored c.known_range.ensures c.find_window-window.ensures.window some none)

@@ -1,0 +1,11 @@
+use Rattle.std.proofs.Common.{rules}
+use Rattle.range_map.proofs.map.compare.RangeMapOrd.cmp.Goals as goal
+
+pub returns-clause-value : goal.returns-clause-value
+returns-clause-value g c = search rules
+
+pub returns-clause-same : goal.returns-clause-same
+returns-clause-same g c = search rules
+
+pub returns-clause-alike : goal.returns-clause-alike
+returns-clause-alike g c = search rules

@@ -1,0 +1,19 @@
+use Rattle.std.proofs.Common.{ap}
+use Rattle.range_map.proofs.StoredLists.{stored_coarse, stored_only}
+use Rattle.range_map.proofs.map.into_iter.RangeMapIntoIterator.into_iter.Goals as goal
+
+pub returns : goal.returns
+returns g c =
+    let order = g.K.MaybeBounded.order in
+    let lawful = g.met.K.PartialEnum.lawful in
+    let items = g.C.Storage.items c.self.inside.stored in
+    record {
+      into_iter_gives = (
+        ap g.C.Storage.items c.self.view_is,
+        c.self.invariant,
+        λ complete. (
+          stored_coarse order lawful g.V.PartialEq.eq g.met.V.Eq.laws complete items c.self.invariant,
+          stored_only order lawful g.V.PartialEq.eq g.met.V.Eq.laws complete items c.self.invariant,
+        ),
+      );
+    }

@@ -1,0 +1,104 @@
+//! Which of the items that a range meets reach out of it.
+ghost use Rattle.std.specs.Prelude.{◌≡◌, ◌+◌, ◌≤◌, length, Some, IsSome, MatchOption};
+ghost use Rattle.std.specs.Option.{ForSome};
+ghost use Rattle.range_store.specs.Counting.{AddsSteps};
+ghost use Rattle.range_store.specs.Places.{place_before, IsAt};
+ghost use Rattle.range_map.specs.Window.{option_items, IsWindowOf};
+ghost use Rattle.range_map.specs.Reach.{IsFirstReaching, IsLastReaching};
+
+use crate::change::cut::{ends_after, starts_before};
+use crate::change::window::Window;
+use range_algebra::any::AnyRange;
+use range_algebra::range::AsRange;
+use range_keys::traits::{Measure, PartialEnum};
+use range_store::storage::{Item, Steps, Storage};
+
+/// The first item that the range meets, if it starts before the range. A step, if there is one.
+pub(crate) fn reaching_before<
+    K: Measure,
+    V: Eq + Drop,
+    C: Storage<Item<AnyRange<K>, V>>,
+    R: AsRange<Item = K>,
+>(stored: &C, window: &Window<C::Position>, range: &R, steps: &mut Steps) -> Option<C::Position>
+    requires window { IsWindowOf K.order (C.is_good stored.now) (C.rank stored.now) (C.items stored.now) (R.range range.now) window.now }
+    ensures reaching { IsFirstReaching K.order (C.is_good stored.now) (C.rank stored.now) (C.items stored.now) (R.range range.now) window.now result }
+    ensures counted { AddsSteps steps.old steps.new 0 1 }
+{
+    if window.count == 0 {
+        return None;
+    }
+    match window.from {
+        Some(first) => {
+            steps.tick();
+            if starts_before(&stored.get(first).key, range) {
+                Some(first)
+            } else {
+                None
+            }
+        }
+        None => None,
+    }
+}
+
+/// The last item that the range meets, if it ends after the range. A step, if there is one.
+pub(crate) fn reaching_behind<
+    K: Measure,
+    V: Eq + Drop,
+    C: Storage<Item<AnyRange<K>, V>>,
+    R: AsRange<Item = K>,
+>(stored: &C, window: &Window<C::Position>, range: &R, steps: &mut Steps) -> Option<C::Position>
+    requires window { IsWindowOf K.order (C.is_good stored.now) (C.rank stored.now) (C.items stored.now) (R.range range.now) window.now }
+    ensures reaching { IsLastReaching K.order (C.is_good stored.now) (C.rank stored.now) (C.items stored.now) (R.range range.now) window.now result }
+    ensures counted { AddsSteps steps.old steps.new 0 1 }
+{
+    match window.last {
+        Some(last) => {
+            steps.tick();
+            if ends_after(&stored.get(last).key, range) {
+                Some(last)
+            } else {
+                None
+            }
+        }
+        None => None,
+    }
+}
+
+/// The one item that a range meets, if it reaches out on both sides.
+pub(crate) fn surrounding<P: Copy>(count: usize, first: Option<P>, last: Option<P>) -> Option<P>
+    requires first { length (option_items first) ≤ count }
+    requires last { length (option_items last) ≤ count }
+    ensures { MatchOption result (length (option_items first) + length (option_items last) ≤ count) (λ p. (count ≡ 1) × (first ≡ Some p) × IsSome last) }
+{
+    if count == 1 && last.is_some() {
+        first
+    } else {
+        None
+    }
+}
+
+/// The first item behind the one that reaches out before the range.
+pub(crate) fn run_start<K: PartialEnum, V: Eq + Drop, C: Storage<Item<AnyRange<K>, V>>>(
+    stored: &C,
+    from: Option<C::Position>,
+    first: Option<C::Position>,
+) -> Option<C::Position>
+    requires from { ForSome from (C.is_good stored.now) }
+    requires first { ForSome first (λ p. C.is_good stored.now p × (C.rank stored.now p ≡ place_before (C.rank stored.now) (length (C.items stored.now)) from)) }
+    ensures { IsAt (C.is_good stored.now) (C.rank stored.now) (length (C.items stored.now)) result (place_before (C.rank stored.now) (length (C.items stored.now)) from + length (option_items first)) }
+{
+    match first {
+        Some(p) => stored.next(p),
+        None => from,
+    }
+}
+
+/// How many items an option names.
+pub(crate) fn item_count<T>(item: &Option<T>) -> usize
+    ensures { result ≡ length (option_items item.now) }
+{
+    match item {
+        Some(_) => 1,
+        None => 0,
+    }
+}

@@ -1,0 +1,237 @@
+//! The one change to a container: nothing here allocates, and nothing fails.
+ghost use Rattle.std.specs.Prelude.{◌≡◌, ◌+◌, ◌≤◌, ◌∷◌, ◌++◌, [], length, take, drop, slice_set, slice_index_or, Some, Option};
+ghost use Rattle.std.specs.Option.{ForSome, unwrap_or};
+ghost use Rattle.std.specs.declared.ops.Bound.{Bound};
+ghost use Rattle.range_store.specs.declared.storage.Item.{Item};
+ghost use Rattle.range_store.specs.Places.{place_before};
+ghost use Rattle.range_algebra.specs.declared.any.AnyRange.{AnyRange};
+ghost use Rattle.range_map.specs.Edits.{with_start, with_end};
+ghost use Rattle.range_map.specs.Window.{option_items};
+ghost use Rattle.range_map.specs.Edges.{IsGoodEdge, IsLeftEdited, IsRightEdited, IsSpliced, IsDivided, joined_item};
+ghost use Rattle.range_map.specs.Seams.{with_first_start, with_last_end};
+
+use crate::change::cut::Parts;
+use crate::change::edges::{Edge, Sides};
+use range_algebra::any::AnyRange;
+use range_store::inner::cursor::{Cursor, put, remove_rest, replace_run};
+use range_store::storage::{Item, Storage};
+use std::mem;
+use std::ops::Bound;
+
+/// Gives the item at a position another start, and answers the one that it had.
+pub(crate) fn replace_start<K: Drop, V: Drop, C: Storage<Item<AnyRange<K>, V>>>(
+    stored: &mut C,
+    p: C::Position,
+    start: Bound<K>,
+) -> Bound<K>
+    requires { C.is_good stored.old p }
+    ensures list { (d : Item (AnyRange K) V) → C.items stored.new ≡ slice_set (C.items stored.old) (C.rank stored.old p) (with_start (slice_index_or (C.items stored.old) (C.rank stored.old p) d) start) }
+    ensures start { (d : Item (AnyRange K) V) → result ≡ (slice_index_or (C.items stored.old) (C.rank stored.old p) d).key.start }
+    ensures size { length (C.items stored.new) ≡ length (C.items stored.old) }
+    ensures space { C.room stored.new ≡ C.room stored.old }
+    ensures positions { (q : C.Position) → C.is_good stored.old q → C.is_good stored.new q × (C.rank stored.new q ≡ C.rank stored.old q) }
+{
+    mem::replace(&mut stored.get_mut(p).key.start, start)
+}
+
+/// Gives the item at a position another end, and answers the one that it had.
+pub(crate) fn replace_end<K: Drop, V: Drop, C: Storage<Item<AnyRange<K>, V>>>(
+    stored: &mut C,
+    p: C::Position,
+    end: Bound<K>,
+) -> Bound<K>
+    requires { C.is_good stored.old p }
+    ensures list { (d : Item (AnyRange K) V) → C.items stored.new ≡ slice_set (C.items stored.old) (C.rank stored.old p) (with_end (slice_index_or (C.items stored.old) (C.rank stored.old p) d) end) }
+    ensures end { (d : Item (AnyRange K) V) → result ≡ (slice_index_or (C.items stored.old) (C.rank stored.old p) d).key.end }
+    ensures size { length (C.items stored.new) ≡ length (C.items stored.old) }
+    ensures space { C.room stored.new ≡ C.room stored.old }
+    ensures positions { (q : C.Position) → C.is_good stored.old q → C.is_good stored.new q × (C.rank stored.new q ≡ C.rank stored.old q) }
+{
+    mem::replace(&mut stored.get_mut(p).key.end, end)
+}
+
+/// Shortens the item before a range, or takes the start of the one that the range joins.
+fn open_left<K: Drop, V: Drop, C: Storage<Item<AnyRange<K>, V>>>(
+    stored: &mut C,
+    edge: Edge<K, C::Position>,
+) -> Option<Bound<K>>
+    requires { IsGoodEdge (C.is_good stored.old) edge }
+    ensures edited { IsLeftEdited (C.rank stored.old) (C.items stored.old) (C.items stored.new) edge result }
+    ensures size { length (C.items stored.new) ≡ length (C.items stored.old) }
+    ensures space { C.room stored.new ≡ C.room stored.old }
+    ensures positions { (q : C.Position) → C.is_good stored.old q → C.is_good stored.new q × (C.rank stored.new q ≡ C.rank stored.old q) }
+{
+    match edge {
+        Edge::Plain => None,
+        Edge::Cut(p, end) => {
+            let _before = replace_end::<K, V, C>(stored, p, end);
+            None
+        }
+        Edge::Joined(p) => Some(replace_start::<K, V, C>(stored, p, Bound::Unbounded)),
+    }
+}
+
+/// Shortens the item behind a range, or takes the end of the one that the range joins.
+fn open_right<K: Drop, V: Drop, C: Storage<Item<AnyRange<K>, V>>>(
+    stored: &mut C,
+    edge: Edge<K, C::Position>,
+) -> Option<Bound<K>>
+    requires { IsGoodEdge (C.is_good stored.old) edge }
+    ensures edited { IsRightEdited (C.rank stored.old) (C.items stored.old) (C.items stored.new) edge result }
+    ensures size { length (C.items stored.new) ≡ length (C.items stored.old) }
+    ensures space { C.room stored.new ≡ C.room stored.old }
+    ensures positions { (q : C.Position) → C.is_good stored.old q → C.is_good stored.new q × (C.rank stored.new q ≡ C.rank stored.old q) }
+{
+    match edge {
+        Edge::Plain => None,
+        Edge::Cut(p, start) => {
+            let _before = replace_start::<K, V, C>(stored, p, start);
+            None
+        }
+        Edge::Joined(p) => Some(replace_end::<K, V, C>(stored, p, Bound::Unbounded)),
+    }
+}
+
+/// The bound that is joined, or else the own one.
+fn joined<K: Drop>(other: Option<Bound<K>>, own: Bound<K>) -> Bound<K>
+    ensures { result ≡ unwrap_or other own }
+{
+    match other {
+        Some(bound) => bound,
+        None => own,
+    }
+}
+
+/// Lets an item stand for the whole run of `sides`, which says too what becomes of the items beside
+/// it.
+pub(crate) fn change<K: Drop, V: Drop, C: Storage<Item<AnyRange<K>, V>>>(
+    stored: &mut C,
+    sides: Sides<K, C::Position>,
+    item: Item<AnyRange<K>, V>,
+)
+    requires left { IsGoodEdge (C.is_good stored.old) sides.left }
+    requires right { IsGoodEdge (C.is_good stored.old) sides.right }
+    requires good { ForSome sides.run.at (C.is_good stored.old) }
+    requires in_range { place_before (C.rank stored.old) (length (C.items stored.old)) sides.run.at + sides.run.left ≤ length (C.items stored.old) }
+    requires space { 1 ≤ sides.run.left + C.room stored.old }
+    ensures { IsSpliced (C.is_good stored.old) (C.rank stored.old) (C.items stored.old) (C.items stored.new) sides.left sides.right sides.run (λ start finish. option_items (Some (joined_item item start finish))) }
+{
+    let Sides { left, right, run } = sides;
+    let Item { key, value } = item;
+    let start = open_left::<K, V, C>(stored, left);
+    let end = open_right::<K, V, C>(stored, right);
+    let (own_start, own_end) = key.into_bounds();
+    let key = AnyRange {
+        start: joined(start, own_start),
+        end: joined(end, own_end),
+    };
+    replace_run::<Item<AnyRange<K>, V>, C>(stored, run, Item { key, value });
+}
+
+/// Gives the first item another start, where there is one.
+fn start_at<K: Drop, V: Drop>(items: &mut Vec<Item<AnyRange<K>, V>>, start: Option<Bound<K>>)
+    ensures { items.new.items ≡ with_first_start start items.old.items }
+{
+    if let Some(start) = start {
+        if let Some(item) = items.first_mut() {
+            item.key.start = start;
+        }
+    }
+}
+
+/// Gives the last item another end, where there is one.
+fn end_at<K: Drop, V: Drop>(items: &mut Vec<Item<AnyRange<K>, V>>, end: Option<Bound<K>>)
+    ensures { items.new.items ≡ with_last_end end items.old.items }
+{
+    if let Some(end) = end {
+        if let Some(item) = items.last_mut() {
+            item.key.end = end;
+        }
+    }
+}
+
+/// Lets the items of a list stand for the whole run.
+fn replace_run_by<T: Drop, C: Storage<T>>(stored: &mut C, run: Cursor<C::Position>, items: Vec<T>)
+    requires good { ForSome run.at (C.is_good stored.old) }
+    requires in_range { place_before (C.rank stored.old) (length (C.items stored.old)) run.at + run.left ≤ length (C.items stored.old) }
+    requires space { length items.items ≤ run.left + C.room stored.old }
+    ensures { let place = place_before (C.rank stored.old) (length (C.items stored.old)) run.at in C.items stored.new ≡ take place (C.items stored.old) ++ items.items ++ drop (place + run.left) (C.items stored.old) }
+{
+    let mut cursor = run;
+    for item in items {
+        cursor = put::<T, C>(stored, cursor, item);
+    }
+    remove_rest::<T, C>(stored, cursor);
+}
+
+/// Binds the ranges of a list, which replace a run; `left` and `right` say what becomes of the items
+/// beside them.
+///
+/// A start that the run joins becomes that of the first item, and an end that of the last.
+pub(crate) fn change_to<K: Drop, V: Drop, C: Storage<Item<AnyRange<K>, V>>>(
+    stored: &mut C,
+    run: Cursor<C::Position>,
+    left: Edge<K, C::Position>,
+    right: Edge<K, C::Position>,
+    items: Vec<Item<AnyRange<K>, V>>,
+)
+    requires left { IsGoodEdge (C.is_good stored.old) left }
+    requires right { IsGoodEdge (C.is_good stored.old) right }
+    requires good { ForSome run.at (C.is_good stored.old) }
+    requires in_range { place_before (C.rank stored.old) (length (C.items stored.old)) run.at + run.left ≤ length (C.items stored.old) }
+    requires space { length items.items ≤ run.left + C.room stored.old }
+    ensures { IsSpliced (C.is_good stored.old) (C.rank stored.old) (C.items stored.old) (C.items stored.new) left right run (λ start finish. with_last_end finish (with_first_start start items.items)) }
+{
+    let start = open_left::<K, V, C>(stored, left);
+    let end = open_right::<K, V, C>(stored, right);
+    let mut items = items;
+    start_at(&mut items, start);
+    end_at(&mut items, end);
+    replace_run_by::<Item<AnyRange<K>, V>, C>(stored, run, items);
+}
+
+/// Removes a run, where `left` and `right` say what becomes of the items beside it.
+pub(crate) fn clear<K: Drop, V: Drop, C: Storage<Item<AnyRange<K>, V>>>(
+    stored: &mut C,
+    run: Cursor<C::Position>,
+    left: Edge<K, C::Position>,
+    right: Edge<K, C::Position>,
+)
+    requires left { IsGoodEdge (C.is_good stored.old) left }
+    requires right { IsGoodEdge (C.is_good stored.old) right }
+    requires good { ForSome run.at (C.is_good stored.old) }
+    requires in_range { place_before (C.rank stored.old) (length (C.items stored.old)) run.at + run.left ≤ length (C.items stored.old) }
+    ensures { IsSpliced (C.is_good stored.old) (C.rank stored.old) (C.items stored.old) (C.items stored.new) left right run (λ _ _. []) }
+{
+    let _start = open_left::<K, V, C>(stored, left);
+    let _end = open_right::<K, V, C>(stored, right);
+    remove_rest::<Item<AnyRange<K>, V>, C>(stored, run);
+}
+
+/// Divides an item into its parts before and behind a range that is cut out of it, with `middle`
+/// between them.
+pub(crate) fn divide<K: Drop, V: Drop, C: Storage<Item<AnyRange<K>, V>>>(
+    stored: &mut C,
+    p: C::Position,
+    parts: Parts<K, V>,
+    middle: Option<Item<AnyRange<K>, V>>,
+)
+    requires good { C.is_good stored.old p }
+    requires space { length (option_items middle) + 1 ≤ C.room stored.old }
+    ensures { IsDivided (C.items stored.old) (C.items stored.new) (C.rank stored.old p) parts middle }
+{
+    let Parts { end, start, value } = parts;
+    let old_end = replace_end::<K, V, C>(stored, p, end);
+    let key = AnyRange {
+        start,
+        end: old_end,
+    };
+    let behind = stored.next(p);
+    let at = stored.insert_at(behind, Item { key, value });
+    match middle {
+        Some(item) => {
+            let _at = stored.insert_at(Some(at), item);
+        }
+        None => (),
+    }
+}

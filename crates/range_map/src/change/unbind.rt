@@ -1,0 +1,142 @@
+//! Unbinding a nonempty range in a container.
+ghost use Rattle.std.specs.Prelude.{◌≡◌, ◌+◌, ◌*◌, ◌≤◌, ◌<◌, length, OnOk, OnErr, IsOk};
+ghost use Rattle.range_algebra.specs.Range.{ClonesAreEqual, IsEmptyRange};
+ghost use Rattle.range_store.specs.Counting.{AddsSteps};
+ghost use Rattle.range_map.specs.Stored.{IsStored};
+ghost use Rattle.range_map.specs.Window.{option_items, IsWindowOf};
+ghost use Rattle.range_map.specs.Reach.{IsFirstReaching, IsLastReaching};
+ghost use Rattle.range_algebra.specs.Intervals.{Every};
+ghost use Rattle.range_map.specs.Ranges.{Overlap};
+ghost use Rattle.range_map.specs.Costs.{TakesAtLeast, TakesAsChange};
+ghost use Rattle.range_map.specs.Changes.{IsRemoved};
+
+use crate::change::cut::cut_parts;
+use crate::change::edges::cut_edge;
+use crate::change::reach::{item_count, reaching_before, reaching_behind, run_start, surrounding};
+use crate::change::splice::{clear, divide};
+use crate::change::window::{Window, find_window};
+use range_algebra::any::AnyRange;
+use range_algebra::inner;
+use range_algebra::range::AsRange;
+use range_keys::traits::Measure;
+use range_store::inner::cursor::Cursor;
+use range_store::storage::{Item, Steps, Storage};
+use std::alloc::AllocError;
+
+/// Unbinds a range that lies within one stored range, which becomes two.
+pub(crate) fn unbind_within<
+    K: Measure + Clone,
+    V: Eq + Clone,
+    C: Storage<Item<AnyRange<K>, V>>,
+    R: AsRange<Item = K>,
+>(stored: &mut C, window: &Window<C::Position>, p: C::Position, range: &R) -> Result<(), AllocError>
+    requires keys { ClonesAreEqual K.is_clone K.eq }
+    requires values { ClonesAreEqual V.is_clone V.eq }
+    requires stored { IsStored K.order V.eq (C.items stored.old) }
+    requires nonempty { ¬ IsEmptyRange K.order (R.range range.now) }
+    requires window { IsWindowOf K.order (C.is_good stored.old) (C.rank stored.old) (C.items stored.old) (R.range range.now) window.now }
+    requires one { window.now.count ≡ 1 }
+    requires first { IsFirstReaching K.order (C.is_good stored.old) (C.rank stored.old) (C.items stored.old) (R.range range.now) window.now (Some p) }
+    requires last { IsLastReaching K.order (C.is_good stored.old) (C.rank stored.old) (C.items stored.old) (R.range range.now) window.now (Some p) }
+    ensures ok { OnOk result (IsRemoved K.order V.eq (C.items stored.old) (C.items stored.new) (R.range range.now)) }
+    ensures few { OnOk result (length (C.items stored.new) ≤ length (C.items stored.old) + 1) }
+    ensures refused { OnErr result (C.items stored.new ≡ C.items stored.old) }
+{
+    inner::known_range(range);
+    let parts = cut_parts::<K, V, C>(stored, p, range.start(), range.end(), 1)?;
+    divide::<K, V, C>(stored, p, parts, None);
+    Ok(())
+}
+
+/// Unbinds a range that meets a stored range and is surrounded by none.
+fn unbind_over<
+    K: Measure + Clone,
+    V: Eq + Drop,
+    C: Storage<Item<AnyRange<K>, V>>,
+    R: AsRange<Item = K>,
+>(
+    stored: &mut C,
+    window: &Window<C::Position>,
+    first: Option<C::Position>,
+    last: Option<C::Position>,
+    range: &R,
+) -> Result<(), AllocError>
+    requires keys { ClonesAreEqual K.is_clone K.eq }
+    requires stored { IsStored K.order V.eq (C.items stored.old) }
+    requires nonempty { ¬ IsEmptyRange K.order (R.range range.now) }
+    requires window { IsWindowOf K.order (C.is_good stored.old) (C.rank stored.old) (C.items stored.old) (R.range range.now) window.now }
+    requires some { 0 < window.now.count }
+    requires first { IsFirstReaching K.order (C.is_good stored.old) (C.rank stored.old) (C.items stored.old) (R.range range.now) window.now first }
+    requires last { IsLastReaching K.order (C.is_good stored.old) (C.rank stored.old) (C.items stored.old) (R.range range.now) window.now last }
+    requires apart { length (option_items first) + length (option_items last) ≤ window.now.count }
+    ensures ok { OnOk result (IsRemoved K.order V.eq (C.items stored.old) (C.items stored.new) (R.range range.now)) }
+    ensures few { OnOk result (2 * length (C.items stored.new) + window.now.count ≤ 2 * length (C.items stored.old) + 3) }
+    ensures refused { OnErr result (C.items stored.new ≡ C.items stored.old) }
+{
+    inner::known_range(range);
+    let before = cut_edge(first, range.start())?;
+    let behind = cut_edge(last, range.end())?;
+    let run = Cursor {
+        at: run_start::<K, V, C>(stored, window.from, first),
+        left: window.count - (item_count(&first) + item_count(&last)),
+    };
+    clear::<K, V, C>(stored, run, before, behind);
+    Ok(())
+}
+
+/// Unbinds a range that meets a stored range.
+fn unbind_met<
+    K: Measure + Clone,
+    V: Eq + Clone,
+    C: Storage<Item<AnyRange<K>, V>>,
+    R: AsRange<Item = K>,
+>(
+    stored: &mut C,
+    window: &Window<C::Position>,
+    range: &R,
+    steps: &mut Steps,
+) -> Result<(), AllocError>
+    requires keys { ClonesAreEqual K.is_clone K.eq }
+    requires values { ClonesAreEqual V.is_clone V.eq }
+    requires stored { IsStored K.order V.eq (C.items stored.old) }
+    requires nonempty { ¬ IsEmptyRange K.order (R.range range.now) }
+    requires window { IsWindowOf K.order (C.is_good stored.old) (C.rank stored.old) (C.items stored.old) (R.range range.now) window.now }
+    requires some { 0 < window.now.count }
+    ensures ok { OnOk result (IsRemoved K.order V.eq (C.items stored.old) (C.items stored.new) (R.range range.now)) }
+    ensures few { OnOk result (2 * length (C.items stored.new) + window.now.count ≤ 2 * length (C.items stored.old) + 3) }
+    ensures counted { AddsSteps steps.old steps.new 0 2 }
+    ensures refused { OnErr result (C.items stored.new ≡ C.items stored.old) }
+{
+    let first = reaching_before::<K, V, C, R>(stored, window, range, steps);
+    let last = reaching_behind::<K, V, C, R>(stored, window, range, steps);
+    match surrounding(window.count, first, last) {
+        Some(p) => unbind_within::<K, V, C, R>(stored, window, p, range),
+        None => unbind_over::<K, V, C, R>(stored, window, first, last, range),
+    }
+}
+
+/// Binds no key of a nonempty range.
+pub(crate) fn unbind<
+    K: Measure + Clone,
+    V: Eq + Clone,
+    C: Storage<Item<AnyRange<K>, V>>,
+    R: AsRange<Item = K>,
+>(stored: &mut C, range: &R, steps: &mut Steps) -> Result<(), AllocError>
+    requires keys { ClonesAreEqual K.is_clone K.eq }
+    requires values { ClonesAreEqual V.is_clone V.eq }
+    requires stored { IsStored K.order V.eq (C.items stored.old) }
+    requires nonempty { ¬ IsEmptyRange K.order (R.range range.now) }
+    ensures ok { OnOk result (IsRemoved K.order V.eq (C.items stored.old) (C.items stored.new) (R.range range.now)) }
+    ensures most { OnOk result (TakesAsChange steps.old steps.new (C.most_asks stored.old) (length (C.items stored.old)) (length (C.items stored.new))) }
+    ensures least { TakesAtLeast steps.old steps.new (C.least_asks stored.old) }
+    ensures refused { OnErr result (C.items stored.new ≡ C.items stored.old) }
+    ensures unmet { Every (λ i. ¬ Overlap K.order i.key (R.range range.now)) (C.items stored.old) → IsOk result }
+    ensures unmet_unchanged { Every (λ i. ¬ Overlap K.order i.key (R.range range.now)) (C.items stored.old) → C.items stored.new ≡ C.items stored.old }
+{
+    inner::known_range(range);
+    let window = find_window::<K, V, C, R>(stored, range, steps);
+    if window.count == 0 {
+        return Ok(());
+    }
+    unbind_met::<K, V, C, R>(stored, &window, range, steps)
+}

@@ -1,0 +1,222 @@
+//! Equality, order and hash of maps: those of the lists that they store.
+ghost use Rattle.std.specs.Prelude.{◌≡◌, ◌↔◌, List, IsTrue};
+ghost use Rattle.std.specs.Cmp.{partial_equiv_from_equiv, on_equiv, on_total, po};
+ghost use Rattle.std.specs.List.{fold};
+ghost use Rattle.std.specs.Ordering.{as_partial_cmp, is_eq};
+ghost use Rattle.std.specs.declared.cmp.Ordering.TheVariants.{Equal};
+ghost use Rattle.std.proofs.Common.{refl, ap, ◌∙◌};
+ghost use Rattle.range_keys.specs.Order.{IsComplete};
+ghost use Rattle.range_algebra.specs.declared.any.AnyRange.{AnyRange};
+ghost use Rattle.range_store.specs.declared.storage.Item.{Item};
+ghost use Rattle.range_map.specs.Bindings.{BindAlike};
+ghost use Rattle.range_map.specs.ListOrder.{same_item, same_list, item_cmp, list_cmp, list_input, lists_equivalence, lists_order, lists_tied, lists_fed};
+ghost use Rattle.range_map.specs.Stored.{IsStored};
+
+use crate::map::RangeMap;
+use crate::map::iter::Iter;
+use range_algebra::any::AnyRange;
+use range_keys::traits::PartialEnum;
+use range_store::storage::{Item, Storage};
+use std::cmp::Ordering;
+use std::hash::{Hash, Hasher};
+
+/// Whether an item equals another: as ranges, and as values.
+fn are_equal_items<K: PartialEnum, V: Eq>(
+    range: &AnyRange<K>,
+    value: &V,
+    other_range: &AnyRange<K>,
+    other_value: &V,
+) -> bool
+    ensures { result ≡ same_item K.order V.eq (record { key = range.now; value = value.now }) (record { key = other_range.now; value = other_value.now }) }
+{
+    *range == *other_range && *value == *other_value
+}
+
+/// Whether two containers store equal lists. Allocates nothing, and one step for each item.
+fn store_equal_lists<K, V, C, D>(left: &C, right: &D) -> bool
+where
+    K: PartialEnum,
+    V: Eq,
+    C: Storage<Item<AnyRange<K>, V>>,
+    D: Storage<Item<AnyRange<K>, V>>,
+    ensures { result ≡ same_list K.order V.eq (C.items left.now) (D.items right.now) }
+{
+    if left.len() != right.len() {
+        return false;
+    }
+    let mut items = Iter::new(left);
+    let mut others = Iter::new(right);
+    while let Some((range, value)) = items.next() {
+        match others.next() {
+            Some((other_range, other_value)) => {
+                if !are_equal_items(range, value, other_range, other_value) {
+                    return false;
+                }
+            }
+            None => return false,
+        }
+    }
+    true
+}
+
+/// How an item compares with another: by their ranges, and then by their values.
+fn compare_items<K: PartialEnum, V: Ord>(
+    range: &AnyRange<K>,
+    value: &V,
+    other_range: &AnyRange<K>,
+    other_value: &V,
+) -> Ordering
+    ensures { result ≡ item_cmp K.order V.cmp (record { key = range.now; value = value.now }) (record { key = other_range.now; value = other_value.now }) }
+{
+    match range.cmp(other_range) {
+        Ordering::Equal => value.cmp(other_value),
+        ordering => ordering,
+    }
+}
+
+/// How the lists of two containers compare, in dictionary order. Allocates nothing, and one step for
+/// each item.
+fn compare_lists<K, V, C, D>(left: &C, right: &D) -> Ordering
+where
+    K: PartialEnum,
+    V: Ord,
+    C: Storage<Item<AnyRange<K>, V>>,
+    D: Storage<Item<AnyRange<K>, V>>,
+    ensures { result ≡ list_cmp K.order V.cmp (C.items left.now) (D.items right.now) }
+{
+    let mut items = Iter::new(left);
+    let mut others = Iter::new(right);
+    while let Some((range, value)) = items.next() {
+        match others.next() {
+            Some((other_range, other_value)) => {
+                let ordering = compare_items(range, value, other_range, other_value);
+                if ordering.is_ne() {
+                    return ordering;
+                }
+            }
+            None => return Ordering::Greater,
+        }
+    }
+    match others.next() {
+        Some(_) => Ordering::Less,
+        None => Ordering::Equal,
+    }
+}
+
+/// Feeds the number of items, and then each: its range, and then its value.
+fn hash_list<K, V, C, H>(stored: &C, state: &mut H)
+where
+    K: PartialEnum + Hash,
+    V: Hash,
+    C: Storage<Item<AnyRange<K>, V>>,
+    H: Hasher,
+    ensures { state.new ≡ fold H.write state.old (list_input K.order K.hash_input V.hash_input (C.items stored.now)) }
+{
+    state.write_usize(stored.len());
+    let mut items = Iter::new(stored);
+    while let Some((range, value)) = items.next() {
+        range.hash(state);
+        value.hash(state);
+    }
+}
+
+impl<K: PartialEnum, V: Eq + Drop, C: Storage<Item<AnyRange<K>, V>>> RangeMap<K, V, C> {
+    /// Whether a map over any container stores equal ranges with equal values.
+    ///
+    /// Then the two bind every key alike; over keys that tell their neighbours and ends, as
+    /// integers and characters, it does exactly where they do. Allocates nothing. Costs one step for
+    /// each stored range.
+    pub fn eq_across<D: Storage<Item<AnyRange<K>, V>>>(&self, other: &RangeMap<K, V, D>) -> bool
+        ensures value { result ≡ same_list K.order V.eq (C.items self.now) (D.items other.now) }
+        ensures bound { IsTrue result → BindAlike K.order V.eq (C.items self.now) (D.items other.now) }
+        ensures same { IsComplete K.order → IsTrue result ↔ BindAlike K.order V.eq (C.items self.now) (D.items other.now) }
+    {
+        self.in_form();
+        other.in_form();
+        store_equal_lists::<K, V, C, D>(&self.stored, &other.stored)
+    }
+}
+
+impl<K: PartialEnum, V: Ord + Drop, C: Storage<Item<AnyRange<K>, V>>> RangeMap<K, V, C> {
+    /// How a map over any container compares, by the stored ranges with their values in dictionary
+    /// order, each range before its value.
+    ///
+    /// Over keys that tell their neighbours and ends, as integers and characters, maps that bind
+    /// every key alike, and no others, are `Equal`, and compare alike with every map. Takes no
+    /// memory. Costs one step for each stored range.
+    pub fn cmp_across<D: Storage<Item<AnyRange<K>, V>>>(
+        &self,
+        other: &RangeMap<K, V, D>,
+    ) -> Ordering
+        ensures value { result ≡ list_cmp K.order V.cmp (C.items self.now) (D.items other.now) }
+        ensures same { IsComplete K.order → result ≡ Equal ↔ BindAlike K.order V.eq (C.items self.now) (D.items other.now) }
+        ensures alike { IsComplete K.order → (items others : List (Item (AnyRange K) V)) → IsStored K.order V.eq items → IsStored K.order V.eq others → BindAlike K.order V.eq (C.items self.now) items → BindAlike K.order V.eq (D.items other.now) others → result ≡ list_cmp K.order V.cmp items others }
+    {
+        self.in_form();
+        other.in_form();
+        compare_lists::<K, V, C, D>(&self.stored, &other.stored)
+    }
+}
+
+impl<K: PartialEnum, V: Eq + Drop, C: Storage<Item<AnyRange<K>, V>>> PartialEq
+    for RangeMap<K, V, C> {
+    ghost eq = { λ map other. same_list K.order V.eq (C.items map) (C.items other) };
+
+    ghost laws = { partial_equiv_from_equiv (on_equiv C.items (lists_equivalence K.order K.lawful V.eq V.Eq.laws)) };
+
+    fn eq(&self, other: &RangeMap<K, V, C>) -> bool
+        ensures value { result ≡ same_list K.order V.eq (C.items self.now) (C.items other.now) }
+        ensures bound { IsTrue result → BindAlike K.order V.eq (C.items self.now) (C.items other.now) }
+        ensures same { IsComplete K.order → IsTrue result ↔ BindAlike K.order V.eq (C.items self.now) (C.items other.now) }
+    {
+        self.eq_across(other)
+    }
+}
+
+impl<K: PartialEnum, V: Eq + Drop, C: Storage<Item<AnyRange<K>, V>>> Eq for RangeMap<K, V, C> {
+    ghost laws = { on_equiv C.items (lists_equivalence K.order K.lawful V.eq V.Eq.laws) };
+}
+
+impl<K: PartialEnum, V: Ord + Drop, C: Storage<Item<AnyRange<K>, V>>> PartialOrd
+    for RangeMap<K, V, C> {
+    ghost partial_cmp = { as_partial_cmp (λ map other. list_cmp K.order V.cmp (C.items map) (C.items other)) };
+
+    ghost laws = { po (on_total C.items (lists_order K.order K.lawful V.cmp V.total)) (λ map other. lists_tied K.order V.eq V.cmp V.matches_eq (C.items map) (C.items other)) };
+
+    fn partial_cmp(&self, other: &RangeMap<K, V, C>) -> Option<Ordering> {
+        Some(self.cmp(other))
+    }
+}
+
+impl<K: PartialEnum, V: Ord + Drop, C: Storage<Item<AnyRange<K>, V>>> Ord for RangeMap<K, V, C> {
+    ghost cmp = { λ map other. list_cmp K.order V.cmp (C.items map) (C.items other) };
+
+    ghost total = { on_total C.items (lists_order K.order K.lawful V.cmp V.total) };
+
+    ghost matches_partial_cmp = { λ map other. refl };
+
+    ghost matches_eq = { λ map other. lists_tied K.order V.eq V.cmp V.matches_eq (C.items map) (C.items other) };
+
+    fn cmp(&self, other: &RangeMap<K, V, C>) -> Ordering
+        ensures value { result ≡ list_cmp K.order V.cmp (C.items self.now) (C.items other.now) }
+        ensures same { IsComplete K.order → result ≡ Equal ↔ BindAlike K.order V.eq (C.items self.now) (C.items other.now) }
+        ensures alike { IsComplete K.order → (items others : List (Item (AnyRange K) V)) → IsStored K.order V.eq items → IsStored K.order V.eq others → BindAlike K.order V.eq (C.items self.now) items → BindAlike K.order V.eq (C.items other.now) others → result ≡ list_cmp K.order V.cmp items others }
+    {
+        self.cmp_across(other)
+    }
+}
+
+impl<K: PartialEnum + Hash, V: Hash + Drop, C: Storage<Item<AnyRange<K>, V>>> Hash
+    for RangeMap<K, V, C> {
+    ghost hash_input = { λ map. list_input K.order K.hash_input V.hash_input (C.items map) };
+
+    ghost respects_eq = { λ map other. lists_fed K.order V.eq K.hash_input V.hash_input (λ a b f. K.respects_eq a b (K.matches_eq a b ∙ ap is_eq (K.order_is_cmp a b ∙ f))) V.respects_eq (C.items map) (C.items other) };
+
+    fn hash<H: Hasher>(&self, state: &mut H)
+        ensures value { state.new ≡ fold H.write state.old (list_input K.order K.hash_input V.hash_input (C.items self.now)) }
+        ensures same { IsComplete K.order → (others : List (Item (AnyRange K) V)) → IsStored K.order V.eq others → BindAlike K.order V.eq (C.items self.now) others → state.new ≡ fold H.write state.old (list_input K.order K.hash_input V.hash_input others) }
+    {
+        self.in_form();
+        hash_list::<K, V, C, H>(&self.stored, state);
+    }
+}

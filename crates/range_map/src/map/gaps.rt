@@ -1,0 +1,120 @@
+//! The ranges that a map leaves free.
+ghost use Rattle.std.specs.Prelude.{◌≡◌, ◌+◌, ◌≤◌, ◌++◌, [], length, ◌∷◌, MatchOption, Some};
+ghost use Rattle.std.specs.Iterator.{YieldsFirstBy, item_count};
+ghost use Rattle.std.specs.Option.{option_map};
+ghost use Rattle.std.specs.Range.Bound.{bound_map};
+ghost use Rattle.range_algebra.specs.References.{range_of};
+ghost use Rattle.range_map.specs.FreeRanges.{between, free_from, item_ranges, AreGaps, IsHeldOnce};
+ghost use Rattle.range_map.specs.Window.{option_items};
+
+use crate::change::cut::invert;
+use crate::map::RangeMap;
+use crate::map::iter::Iter;
+use range_algebra::any::AnyRange;
+use range_keys::traits::PartialEnum;
+use range_store::storage::{Item, Storage};
+use std::marker::Model;
+use std::ops::{Bound, RangeBounds};
+
+/// The gaps that are left, in order: ranges over references to the keys that bound them. A contract
+/// sees the list of what they refer to.
+#[derive(Drop)]
+pub struct Gaps<'a, K: PartialEnum + 'a, V: 'a, C: Storage<Item<AnyRange<K>, V>> + 'a> {
+    items: Iter<'a, K, V, C>,
+    start: Option<Bound<&'a K>>,
+}
+
+impl<'a, K: PartialEnum + 'a, V: 'a, C: Storage<Item<AnyRange<K>, V>> + 'a> Model
+    for Gaps<'a, K, V, C> {
+    ghost use Rattle.std.specs.Prelude.{List};
+    ghost use Rattle.std.specs.Option.{option_map};
+    ghost use Rattle.std.specs.Range.Bound.{bound_map};
+    ghost use Rattle.range_algebra.specs.declared.any.AnyRange.{AnyRange};
+    ghost use Rattle.range_map.specs.FreeRanges.{free_from};
+
+    ghost Value = { List (AnyRange K) };
+
+    ghost view = { λ g. free_from K.order (option_map (bound_map (λ x. x.now)) g.start) g.items };
+}
+
+/// The range between two bounds, unless it is empty or one of them is missing.
+fn range_between<'a, K: PartialEnum>(
+    start: Option<Bound<&'a K>>,
+    end: Option<Bound<&'a K>>,
+) -> Option<AnyRange<&'a K>>
+    ensures { option_items (option_map range_of result) ≡ between K.order (option_map (bound_map (λ x. x.now)) start.entry) (option_map (bound_map (λ x. x.now)) end.entry) }
+{
+    match (start, end) {
+        (Some(start), Some(end)) => {
+            let range = AnyRange::new(start, end);
+            if range.ref_is_empty() {
+                None
+            } else {
+                Some(range)
+            }
+        }
+        (_, _) => None,
+    }
+}
+
+/// The next gap from a start on, and where the one behind it starts.
+fn next_gap<'a, K: PartialEnum, V, C: Storage<Item<AnyRange<K>, V>>>(
+    items: &mut Iter<'a, K, V, C>,
+    start: Option<Bound<&'a K>>,
+) -> (Option<AnyRange<&'a K>>, Option<Bound<&'a K>>)
+    ensures next { let bound = option_map (bound_map (λ x. x.now)) in free_from K.order (bound start.entry) items.old ≡ option_items (option_map range_of result.0) ++ free_from K.order (bound result.1) items.new }
+    ensures last { result.0 ≡ None → free_from K.order (option_map (bound_map (λ x. x.now)) result.1) items.new ≡ [] }
+{
+    let mut from = start;
+    while let Some((range, _)) = items.next() {
+        let gap = range_between(from, invert(range.start_bound()));
+        from = invert(range.end_bound());
+        if gap.is_some() {
+            return (gap, from);
+        }
+    }
+    (range_between(from, Some(Bound::Unbounded)), None)
+}
+
+impl<'a, K: PartialEnum + 'a, V: 'a, C: Storage<Item<AnyRange<K>, V>> + 'a> Iterator
+    for Gaps<'a, K, V, C> {
+    type Item = AnyRange<&'a K>;
+
+    ghost next_gives = { YieldsFirstBy range_of (λ rest. rest) };
+
+    ghost remaining = { item_count (λ rest. rest) };
+
+    fn next(&mut self) -> Option<AnyRange<&'a K>> {
+        let (gap, start) = next_gap(&mut self.items, self.start);
+        self.start = start;
+        gap
+    }
+
+    fn size_hint(&self) -> (usize, Option<usize>) {
+        (0, None)
+    }
+}
+
+impl<K: PartialEnum, V: Eq + Drop, C: Storage<Item<AnyRange<K>, V>>> RangeMap<K, V, C> {
+    /// The ranges that hold no bound key, in rising order, each as wide as it goes and none empty.
+    ///
+    /// A map that binds no key has one gap, the full range, and one that binds every key has none.
+    /// A gap refers to the bounds of the ranges beside it: `AnyRange::cloned` makes one of its own
+    /// of it. A walk over all gaps takes one step for each stored range. Allocates nothing.
+    ///
+    /// ```
+    /// let mut gaps = map.gaps(); // of a map over bytes that binds `..10` and `20..`
+    /// let gap = gaps.next().unwrap().cloned()?; // equal to `10..20`
+    /// assert!(rt; gaps.next().is_none());
+    /// ```
+    pub fn gaps(&self) -> Gaps<'_, K, V, C>
+        ensures gaps { AreGaps K.order (C.items self.now) result }
+        ensures once { (k : K) → K.order.is_key k → IsHeldOnce K.order (item_ranges (C.items self.now) ++ result) k }
+        ensures few { length result ≤ length (C.items self.now) + 1 }
+    {
+        Gaps {
+            items: self.iter(),
+            start: Some(Bound::Unbounded),
+        }
+    }
+}

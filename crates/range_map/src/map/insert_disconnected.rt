@@ -1,0 +1,155 @@
+//! Binding a range that lies apart from all that is stored.
+ghost use Rattle.std.specs.Prelude.{◌≡◌, ◌↔◌, ◌+◌, ◌≤◌, length, IsTrue, IsErrAnd, IfErr, OnOk, OnErr, IsOk};
+ghost use Rattle.std.specs.Option.{ForSome};
+ghost use Rattle.range_store.specs.Places.{place_before};
+ghost use Rattle.range_keys.specs.Order.{IsComplete};
+ghost use Rattle.range_algebra.specs.Range.{IsEmptyRange};
+ghost use Rattle.range_map.specs.Stored.{IsStored};
+ghost use Rattle.range_map.specs.Bindings.{IsBoundAfter, IsCoarse};
+ghost use Rattle.range_map.specs.Coarse.{IsOnlyCoarse};
+ghost use Rattle.range_map.specs.Lookups.{IsConnectedToSome, IsPutInto, MeetAlso};
+ghost use Rattle.range_map.specs.Gaps.{IsGap, IsAnswerAt, LiesApart, IsConnectedError, handed_back};
+
+use crate::change::window::find;
+use crate::error::NotInserted;
+use crate::map::RangeMap;
+use range_algebra::any::AnyRange;
+use range_algebra::inner::{self, starts_at_end};
+use range_algebra::range::IntoRange;
+use range_keys::bound::Directed;
+use range_keys::traits::{Measure, PartialEnum};
+use range_store::storage::{Item, Steps, Storage};
+use std::ops::RangeBounds;
+
+/// Where a range belongs among the stored ones.
+#[derive(Drop)]
+pub struct Gap<P: Copy> {
+    /// Whether it touches and meets none of them.
+    pub is_free: bool,
+    /// The one that is to follow it.
+    pub from: Option<P>,
+}
+
+/// Whether the first range ends before the second, with a place between.
+fn lies_apart<K: PartialEnum>(first: &AnyRange<K>, second: &AnyRange<K>) -> bool
+    ensures { IsTrue result ↔ LiesApart K.order first.now second.now }
+{
+    let (end, start) = (first.end_bound(), second.start_bound());
+    Directed::End(end) < Directed::Start(start) && !starts_at_end(end, start)
+}
+
+/// Whether the item before a range, where there is one, lies apart from it.
+fn is_clear_before<K: PartialEnum, V: Eq + Drop, C: Storage<Item<AnyRange<K>, V>>>(
+    stored: &C,
+    before: Option<C::Position>,
+    range: &AnyRange<K>,
+) -> bool
+    requires { ForSome before (C.is_good stored.now) }
+    ensures { IsAnswerAt K.order (λ i. LiesApart K.order i.key range.now) (C.rank stored.now) (C.items stored.now) before result }
+{
+    match before {
+        Some(p) => lies_apart(&stored.get(p).key, range),
+        None => true,
+    }
+}
+
+/// Whether the item behind a range, where there is one, lies apart from it.
+fn is_clear_behind<K: PartialEnum, V: Eq + Drop, C: Storage<Item<AnyRange<K>, V>>>(
+    stored: &C,
+    from: Option<C::Position>,
+    range: &AnyRange<K>,
+) -> bool
+    requires { ForSome from (C.is_good stored.now) }
+    ensures { IsAnswerAt K.order (λ i. LiesApart K.order range.now i.key) (C.rank stored.now) (C.items stored.now) from result }
+{
+    match from {
+        Some(p) => lies_apart(range, &stored.get(p).key),
+        None => true,
+    }
+}
+
+/// Where a nonempty range belongs among the stored ones.
+fn find_gap<K: PartialEnum, V: Eq + Drop, C: Storage<Item<AnyRange<K>, V>>>(
+    stored: &C,
+    range: &AnyRange<K>,
+) -> Gap<C::Position>
+    requires stored { IsStored K.order V.eq (C.items stored.now) }
+    requires nonempty { ¬ IsEmptyRange K.order range.now }
+    ensures { IsGap K.order (C.is_good stored.now) (C.rank stored.now) (C.items stored.now) range.now result (place_before (C.rank stored.now) (length (C.items stored.now)) result.from) }
+{
+    inner::known(range);
+    let start = Directed::Start(range.start_bound());
+    let mut steps = Steps::new();
+    let (before, from) = find::<K, V, C>(stored, &start, &mut steps);
+    let clear_before = is_clear_before::<K, V, C>(stored, before, range);
+    let clear_behind = is_clear_behind::<K, V, C>(stored, from, range);
+    Gap {
+        is_free: clear_before && clear_behind,
+        from,
+    }
+}
+
+/// Stores a nonempty range that is connected to no stored one.
+fn bind_apart<K: PartialEnum, V: Eq + Drop, C: Storage<Item<AnyRange<K>, V>>>(
+    stored: &mut C,
+    range: AnyRange<K>,
+    value: V,
+) -> Result<(), NotInserted<K, V>>
+    requires stored { IsStored K.order V.eq (C.items stored.old) }
+    requires nonempty { ¬ IsEmptyRange K.order range }
+    ensures connected { IsErrAnd result IsConnectedError ↔ IsConnectedToSome K.order (C.items stored.old) range }
+    ensures given { IfErr result (λ e. handed_back e ≡ (range, value)) }
+    ensures put { OnOk result (IsPutInto (C.items stored.old) (C.items stored.new) (record { key = range; value = value })) }
+    ensures bound { OnOk result (IsBoundAfter K.order V.eq (C.items stored.old) (C.items stored.new) range value) }
+    ensures meets { OnOk result (MeetAlso K.order (C.items stored.old) (C.items stored.new) range) }
+    ensures form { IsStored K.order V.eq (C.items stored.new) }
+    ensures refused { OnErr result (C.items stored.new ≡ C.items stored.old) }
+{
+    inner::known(&range);
+    let gap = find_gap::<K, V, C>(stored, &range);
+    if !gap.is_free {
+        return Err(NotInserted::Connected(range, value));
+    }
+    match stored.reserve(1) {
+        Ok(()) => {
+            let _position = stored.insert_at(gap.from, Item { key: range, value });
+            Ok(())
+        }
+        Err(_) => Err(NotInserted::Memory(range, value)),
+    }
+}
+
+impl<K: Measure, V: Eq + Drop, C: Storage<Item<AnyRange<K>, V>>> RangeMap<K, V, C> {
+    /// Binds each key of a range that neither meets nor touches a stored one, whatever its value.
+    ///
+    /// The range is stored as it is given, and no other changes. An empty range changes nothing and
+    /// allocates nothing. An error hands back the range and the value, and leaves the map as it was.
+    /// Clones nothing; takes memory where the container has no room for one more range. Costs one
+    /// search and two comparisons more.
+    pub fn insert_disconnected<R: IntoRange<Item = K>>(
+        &mut self,
+        range: R,
+        value: V,
+    ) -> Result<(), NotInserted<K, V>>
+        ensures connected { IsErrAnd result IsConnectedError ↔ (¬ IsEmptyRange K.order (R.range range)) × IsConnectedToSome K.order (C.items self.old) (R.range range) }
+        ensures given { IfErr result (λ e. handed_back e ≡ (R.range range, value)) }
+        ensures put { OnOk result (¬ IsEmptyRange K.order (R.range range) → IsPutInto (C.items self.old) (C.items self.new) (record { key = R.range range; value = value })) }
+        ensures bound { OnOk result (IsBoundAfter K.order V.eq (C.items self.old) (C.items self.new) (R.range range) value) }
+        ensures meets { OnOk result (¬ IsEmptyRange K.order (R.range range) → MeetAlso K.order (C.items self.old) (C.items self.new) (R.range range)) }
+        ensures form { IsStored K.order V.eq (C.items self.new) }
+        ensures coarse { IsComplete K.order → IsCoarse K.order V.eq (C.items self.new) }
+        ensures only { IsComplete K.order → IsOnlyCoarse K.order V.eq (C.items self.new) }
+        ensures few { length (C.items self.new) ≤ length (C.items self.old) + 1 }
+        ensures refused { OnErr result (C.items self.new ≡ C.items self.old) }
+        ensures empty { IsEmptyRange K.order (R.range range) → IsOk result }
+        ensures empty_unchanged { IsEmptyRange K.order (R.range range) → C.items self.new ≡ C.items self.old }
+    {
+        self.in_form();
+        let range = range.into_range();
+        inner::known(&range);
+        if range.is_empty() {
+            return Ok(());
+        }
+        bind_apart::<K, V, C>(&mut self.stored, range, value)
+    }
+}

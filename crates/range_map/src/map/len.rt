@@ -1,0 +1,61 @@
+//! How much a map binds.
+ghost use Rattle.std.specs.Prelude.{◌≡◌, ◌↔◌, Some, IsNone, IsSomeAnd};
+ghost use Rattle.range_keys.specs.Counted.{IsCountedMeasure};
+ghost use Rattle.range_algebra.specs.Intervals.{Any};
+ghost use Rattle.range_algebra.specs.Measures.{list_measure, AreInOrder, HasUntoldEnd};
+ghost use Rattle.range_algebra.specs.Numbers.{IsNumberOfKeys};
+ghost use Rattle.range_map.specs.Bindings.{IsBound};
+ghost use Rattle.range_map.specs.FreeRanges.{item_ranges};
+
+use crate::map::RangeMap;
+use crate::map::iter::Iter;
+use range_algebra::any::AnyRange;
+use range_keys::traits::{Bounded, Measure};
+use range_store::storage::{Item, Storage};
+
+/// What ranges in order measure together, or none where one of them has an end that is not told.
+fn measure<K: Measure, V, C: Storage<Item<AnyRange<K>, V>>>(
+    mut items: Iter<'_, K, V, C>,
+) -> Option<u128>
+    requires { AreInOrder K.order (item_ranges items) }
+    ensures { result ≡ list_measure K.order K.len K.distance (item_ranges items.entry) }
+{
+    let mut total = 0;
+    while let Some((range, _)) = items.next() {
+        total += range.bounded_len()?;
+    }
+    Some(total)
+}
+
+impl<K: Measure + Bounded, V: Eq + Drop, C: Storage<Item<AnyRange<K>, V>>> RangeMap<K, V, C> {
+    /// What the stored ranges measure together: over the shipped keys, each of which has length 1,
+    /// the number of bound keys.
+    ///
+    /// An unbounded bound stands for the least or the greatest key, included. Costs a step and a
+    /// distance for each stored range. Allocates nothing.
+    ///
+    /// ```
+    /// map.insert(0.., 1)?; // of a map over bytes
+    /// assert_eq!(rt; map.len(), 256);
+    /// ```
+    pub fn len(&self) -> u128
+        ensures measure { list_measure K.order K.len K.distance (item_ranges (C.items self.now)) ≡ Some result }
+        ensures counted { IsCountedMeasure K.order K.len K.distance → IsNumberOfKeys K.order (IsBound K.order (C.items self.now)) result }
+    {
+        self.bounded_len().unwrap()
+    }
+}
+
+impl<K: Measure, V: Eq + Drop, C: Storage<Item<AnyRange<K>, V>>> RangeMap<K, V, C> {
+    /// What the stored ranges measure together, as `len` says, or `None` where one of them is
+    /// unbounded towards an end that the key type does not tell.
+    ///
+    /// Costs a step and a distance for each stored range. Allocates nothing.
+    pub fn bounded_len(&self) -> Option<u128>
+        ensures measure { result ≡ list_measure K.order K.len K.distance (item_ranges (C.items self.now)) }
+        ensures untold { IsNone result ↔ Any (λ i. HasUntoldEnd K.order i.key) (C.items self.now) }
+        ensures counted { IsCountedMeasure K.order K.len K.distance → IsSomeAnd result (IsNumberOfKeys K.order (IsBound K.order (C.items self.now))) }
+    {
+        measure(self.iter())
+    }
+}

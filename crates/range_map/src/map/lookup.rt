@@ -1,0 +1,87 @@
+//! Whether keys are bound.
+ghost use Rattle.std.specs.Prelude.{◌≡◌, ◌↔◌, ◌+◌, [], IsTrue};
+ghost use Rattle.range_keys.specs.Order.{IsComplete};
+ghost use Rattle.range_store.specs.Counting.{AddsSteps};
+ghost use Rattle.range_algebra.specs.Range.{IsEmptyRange};
+ghost use Rattle.range_map.specs.Bindings.{IsBound};
+ghost use Rattle.range_map.specs.Lookups.{MeetsSome, BindsKeyOf};
+
+use crate::change::window::{find, starts_past};
+use crate::map::RangeMap;
+use range_algebra::any::AnyRange;
+use range_algebra::inner;
+use range_algebra::range::AsRange;
+use range_keys::bound::Directed;
+use range_keys::traits::{Measure, PartialEnum};
+use range_store::storage::{Item, Steps, Storage};
+
+impl<K: PartialEnum, V: Eq + Drop, C: Storage<Item<AnyRange<K>, V>>> RangeMap<K, V, C> {
+    /// Whether no range is stored. Allocates nothing.
+    pub fn is_empty(&self) -> bool
+        ensures { IsTrue result ↔ C.items self.now ≡ [] }
+    {
+        self.stored.len() == 0
+    }
+
+    /// Whether the key is bound.
+    ///
+    /// Costs one search and one comparison more. Allocates nothing.
+    pub fn contains_key(&self, key: K) -> bool
+        ensures { IsTrue result ↔ IsBound K.order (C.items self.now) key }
+    {
+        let mut steps = Steps::new();
+        self.contains_key_counted(key, &mut steps)
+    }
+
+    /// Whether the key is bound; adds the steps that it takes, as `get_counted` does.
+    pub fn contains_key_counted(&self, key: K, steps: &mut Steps) -> bool
+        ensures value { IsTrue result ↔ IsBound K.order (C.items self.now) key }
+        ensures counted { AddsSteps steps.old steps.new (C.least_asks self.now) (C.most_asks self.now + 1) }
+        ensures none { C.items self.now ≡ [] → AddsSteps steps.old steps.new 0 0 }
+    {
+        self.get_counted(key, steps).is_some()
+    }
+}
+
+impl<K: Measure, V: Eq + Drop, C: Storage<Item<AnyRange<K>, V>>> RangeMap<K, V, C> {
+    /// Whether the range is nonempty and meets a stored one.
+    ///
+    /// It does wherever one of its keys is bound; over keys that leave no gap, nowhere else.
+    /// Costs one search and one comparison more. Allocates nothing.
+    pub fn intersects<R: AsRange<Item = K>>(&self, range: R) -> bool
+        ensures meets { IsTrue result ↔ (¬ IsEmptyRange K.order (R.range range)) × MeetsSome K.order (C.items self.now) (R.range range) }
+        ensures bound { BindsKeyOf K.order (C.items self.now) (R.range range) → IsTrue result }
+        ensures complete { IsComplete K.order → IsTrue result → BindsKeyOf K.order (C.items self.now) (R.range range) }
+    {
+        let mut steps = Steps::new();
+        self.intersects_counted(range, &mut steps)
+    }
+
+    /// Whether the range is nonempty and meets a stored one; adds the steps that it takes.
+    ///
+    /// A step is one range that the search asks, or one comparison of the range with a stored one.
+    /// An empty range and the empty map take none.
+    pub fn intersects_counted<R: AsRange<Item = K>>(&self, range: R, steps: &mut Steps) -> bool
+        ensures meets { IsTrue result ↔ (¬ IsEmptyRange K.order (R.range range)) × MeetsSome K.order (C.items self.now) (R.range range) }
+        ensures bound { BindsKeyOf K.order (C.items self.now) (R.range range) → IsTrue result }
+        ensures complete { IsComplete K.order → IsTrue result → BindsKeyOf K.order (C.items self.now) (R.range range) }
+        ensures counted { ¬ IsEmptyRange K.order (R.range range) → AddsSteps steps.old steps.new (C.least_asks self.now) (C.most_asks self.now + 1) }
+        ensures none { C.items self.now ≡ [] → AddsSteps steps.old steps.new 0 0 }
+        ensures empty_uncounted { IsEmptyRange K.order (R.range range) → steps.new ≡ steps.old }
+    {
+        self.in_form();
+        inner::known_range(&range);
+        if range.is_empty() {
+            return false;
+        }
+        let start = Directed::Start(range.start());
+        let (_, from) = find::<K, V, C>(&self.stored, &start, steps);
+        match from {
+            None => false,
+            Some(p) => {
+                let end = Directed::End(range.end());
+                !starts_past::<K, V>(self.stored.get(p), &end, steps)
+            }
+        }
+    }
+}

@@ -1,0 +1,86 @@
+//! Unbinding the keys of a range.
+ghost use Rattle.std.specs.Prelude.{◌≡◌, ◌+◌, ◌≤◌, length, OnOk, OnErr, IsOk};
+ghost use Rattle.range_keys.specs.Order.{IsComplete};
+ghost use Rattle.range_algebra.specs.Range.{ClonesAreEqual, IsEmptyRange};
+ghost use Rattle.range_map.specs.Stored.{IsStored};
+ghost use Rattle.range_algebra.specs.Intervals.{Every};
+ghost use Rattle.range_map.specs.Ranges.{Overlap};
+ghost use Rattle.range_map.specs.Costs.{TakesAtLeast, TakesAsChange};
+ghost use Rattle.range_map.specs.Frames.{WasCutOut};
+ghost use Rattle.range_map.specs.Bindings.{IsUnboundAfter, IsCoarse};
+ghost use Rattle.range_map.specs.Coarse.{IsOnlyCoarse};
+
+use crate::change::unbind::unbind;
+use crate::error::MapError;
+use crate::map::RangeMap;
+use range_algebra::any::AnyRange;
+use range_algebra::inner;
+use range_algebra::range::AsRange;
+use range_keys::traits::Measure;
+use range_store::storage::{Item, Steps, Storage};
+
+impl<K: Measure + Clone, V: Eq + Clone, C: Storage<Item<AnyRange<K>, V>>> RangeMap<K, V, C> {
+    /// Binds no key of the range. An empty range, and one that meets no stored range, change
+    /// nothing.
+    ///
+    /// Takes memory for a clone of each bound at which it cuts a stored range; and where one stored
+    /// range becomes two, for a clone of its value and for the container's room. After an error the
+    /// map is as it was. Costs one search, and a step for each stored range that the range meets.
+    pub fn remove<R: AsRange<Item = K>>(&mut self, range: R) -> Result<(), MapError>
+        requires keys { ClonesAreEqual K.is_clone K.eq }
+        requires values { ClonesAreEqual V.is_clone V.eq }
+        ensures unbound { OnOk result (IsUnboundAfter K.order V.eq (C.items self.old) (C.items self.new) (R.range range)) }
+        ensures form { IsStored K.order V.eq (C.items self.new) }
+        ensures coarse { IsComplete K.order → IsCoarse K.order V.eq (C.items self.new) }
+        ensures only { IsComplete K.order → IsOnlyCoarse K.order V.eq (C.items self.new) }
+        ensures apart { OnOk result (¬ IsEmptyRange K.order (R.range range) → Every (λ i. ¬ Overlap K.order i.key (R.range range)) (C.items self.new)) }
+        ensures frame { OnOk result (¬ IsEmptyRange K.order (R.range range) → WasCutOut K.order V.eq (C.items self.old) (C.items self.new) (R.range range)) }
+        ensures few { length (C.items self.new) ≤ length (C.items self.old) + 1 }
+
+        ensures refused { OnErr result (C.items self.new ≡ C.items self.old) }
+        ensures empty { IsEmptyRange K.order (R.range range) → IsOk result }
+        ensures empty_unchanged { IsEmptyRange K.order (R.range range) → C.items self.new ≡ C.items self.old }
+        ensures unmet { Every (λ i. ¬ Overlap K.order i.key (R.range range)) (C.items self.old) → IsOk result }
+        ensures unmet_unchanged { Every (λ i. ¬ Overlap K.order i.key (R.range range)) (C.items self.old) → C.items self.new ≡ C.items self.old }
+    {
+        let mut steps = Steps::new();
+        self.remove_counted(range, &mut steps)
+    }
+
+    /// Binds no key of the range, as `remove` does; adds the steps that it takes.
+    ///
+    /// A step is one range that the search asks, or one comparison of the range with a stored one.
+    /// An empty range takes none.
+    pub fn remove_counted<R: AsRange<Item = K>>(
+        &mut self,
+        range: R,
+        steps: &mut Steps,
+    ) -> Result<(), MapError>
+        requires keys { ClonesAreEqual K.is_clone K.eq }
+        requires values { ClonesAreEqual V.is_clone V.eq }
+        ensures unbound { OnOk result (IsUnboundAfter K.order V.eq (C.items self.old) (C.items self.new) (R.range range)) }
+        ensures form { IsStored K.order V.eq (C.items self.new) }
+        ensures coarse { IsComplete K.order → IsCoarse K.order V.eq (C.items self.new) }
+        ensures only { IsComplete K.order → IsOnlyCoarse K.order V.eq (C.items self.new) }
+        ensures apart { OnOk result (¬ IsEmptyRange K.order (R.range range) → Every (λ i. ¬ Overlap K.order i.key (R.range range)) (C.items self.new)) }
+        ensures frame { OnOk result (¬ IsEmptyRange K.order (R.range range) → WasCutOut K.order V.eq (C.items self.old) (C.items self.new) (R.range range)) }
+        ensures few { length (C.items self.new) ≤ length (C.items self.old) + 1 }
+
+        ensures refused { OnErr result (C.items self.new ≡ C.items self.old) }
+        ensures empty { IsEmptyRange K.order (R.range range) → IsOk result }
+        ensures empty_unchanged { IsEmptyRange K.order (R.range range) → C.items self.new ≡ C.items self.old }
+        ensures unmet { Every (λ i. ¬ Overlap K.order i.key (R.range range)) (C.items self.old) → IsOk result }
+        ensures unmet_unchanged { Every (λ i. ¬ Overlap K.order i.key (R.range range)) (C.items self.old) → C.items self.new ≡ C.items self.old }
+        ensures most { OnOk result (TakesAsChange steps.old steps.new (C.most_asks self.old) (length (C.items self.old)) (length (C.items self.new))) }
+        ensures least { ¬ IsEmptyRange K.order (R.range range) → TakesAtLeast steps.old steps.new (C.least_asks self.old) }
+        ensures empty_uncounted { IsEmptyRange K.order (R.range range) → steps.new ≡ steps.old }
+    {
+        self.in_form();
+        inner::known_range(&range);
+        if range.is_empty() {
+            return Ok(());
+        }
+        unbind::<K, V, C, R>(&mut self.stored, &range, steps)?;
+        Ok(())
+    }
+}

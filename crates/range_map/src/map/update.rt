@@ -1,0 +1,148 @@
+//! Changing what the keys of a range are bound to by a closure.
+ghost use Rattle.std.specs.Prelude.{◌≡◌, ◌+◌, ◌≤◌, OnOk, OnErr, IsOk, Some, None, Ok, Err};
+ghost use Rattle.range_keys.specs.Order.{IsComplete};
+ghost use Rattle.range_algebra.specs.Intervals.{Every};
+ghost use Rattle.range_algebra.specs.Range.{ClonesAreEqual, IsEmptyRange};
+ghost use Rattle.range_map.specs.Answers.{MayBeAsked, FailsAt, IsUpdated};
+ghost use Rattle.range_map.specs.Bindings.{IsCoarse};
+ghost use Rattle.range_map.specs.Coarse.{IsOnlyCoarse};
+ghost use Rattle.range_map.specs.Reach.{IsFirstReaching, IsLastReaching};
+ghost use Rattle.range_map.specs.Stored.{IsStored};
+ghost use Rattle.range_map.specs.Window.{IsWindowOf};
+ghost use Rattle.range_map.specs.declared.error.UpdateError.TheVariants.{Closure as ClosureError};
+
+use crate::change::bind::bind_within;
+use crate::change::pieces::gather;
+use crate::change::reach::{reaching_before, reaching_behind, surrounding};
+use crate::change::replace::replace;
+use crate::change::unbind::unbind_within;
+use crate::change::window::{Window, find_window};
+use crate::error::UpdateError;
+use crate::map::RangeMap;
+use range_algebra::any::AnyRange;
+use range_algebra::inner::{self, clone_of};
+use range_algebra::range::AsRange;
+use range_keys::traits::Measure;
+use range_store::storage::{Item, Steps, Storage};
+use std::alloc::Global;
+
+/// Asks the closure for a range that one stored range surrounds, and does as it answers.
+fn update_within<
+    K: Measure + Clone,
+    V: Eq + Clone,
+    E: Drop,
+    F: Fn(Option<&V>) -> Result<Option<V>, E>,
+    C: Storage<Item<AnyRange<K>, V>>,
+>(
+    stored: &mut C,
+    window: &Window<C::Position>,
+    p: C::Position,
+    range: AnyRange<K>,
+    f: &F,
+) -> Result<(), UpdateError<E>>
+    requires keys { ClonesAreEqual K.is_clone K.eq }
+    requires values { ClonesAreEqual V.is_clone V.eq }
+    requires stored { IsStored K.order V.eq (C.items stored.old) }
+    requires nonempty { ¬ IsEmptyRange K.order range }
+    requires window { IsWindowOf K.order (C.is_good stored.old) (C.rank stored.old) (C.items stored.old) range window.now }
+    requires one { window.now.count ≡ 1 }
+    requires first { IsFirstReaching K.order (C.is_good stored.old) (C.rank stored.old) (C.items stored.old) range window.now (Some p) }
+    requires last { IsLastReaching K.order (C.is_good stored.old) (C.rank stored.old) (C.items stored.old) range window.now (Some p) }
+    requires bound { Every (λ i. MayBeAsked F.Fn f.now (Some i.value)) (C.items stored.old) }
+    ensures ok { OnOk result (IsUpdated K.order V.eq F.Fn f.now (C.items stored.old) (C.items stored.new) range) }
+    ensures form { IsStored K.order V.eq (C.items stored.new) }
+    ensures closure { (e : E) → result ≡ Err (ClosureError e) → FailsAt K.order V.eq F.Fn f.now (C.items stored.old) range e }
+    ensures refused { OnErr result (C.items stored.new ≡ C.items stored.old) }
+{
+    inner::known(&range);
+    match f(Some(&stored.get(p).value)) {
+        Ok(Some(value)) => {
+            bind_within::<K, V, C>(stored, window, p, range, value)?;
+            Ok(())
+        }
+        Ok(None) => {
+            unbind_within::<K, V, C, AnyRange<K>>(stored, window, p, &range)?;
+            Ok(())
+        }
+        Err(e) => Err(UpdateError::Closure(e)),
+    }
+}
+
+/// Asks the closure for each piece of a nonempty range, and then does as it answered.
+fn update_pieces<
+    K: Measure + Clone,
+    V: Eq + Clone,
+    E: Drop,
+    F: Fn(Option<&V>) -> Result<Option<V>, E>,
+    C: Storage<Item<AnyRange<K>, V>>,
+>(alloc: Global, stored: &mut C, range: AnyRange<K>, f: &F) -> Result<(), UpdateError<E>>
+    requires keys { ClonesAreEqual K.is_clone K.eq }
+    requires values { ClonesAreEqual V.is_clone V.eq }
+    requires stored { IsStored K.order V.eq (C.items stored.old) }
+    requires nonempty { ¬ IsEmptyRange K.order range }
+    requires free { MayBeAsked F.Fn f.now None }
+    requires bound { Every (λ i. MayBeAsked F.Fn f.now (Some i.value)) (C.items stored.old) }
+    ensures ok { OnOk result (IsUpdated K.order V.eq F.Fn f.now (C.items stored.old) (C.items stored.new) range) }
+    ensures form { IsStored K.order V.eq (C.items stored.new) }
+    ensures closure { (e : E) → result ≡ Err (ClosureError e) → FailsAt K.order V.eq F.Fn f.now (C.items stored.old) range e }
+    ensures refused { OnErr result (C.items stored.new ≡ C.items stored.old) }
+{
+    let mut steps = Steps::new();
+    let window = find_window::<K, V, C, AnyRange<K>>(stored, &range, &mut steps);
+    let first = reaching_before::<K, V, C, AnyRange<K>>(stored, &window, &range, &mut steps);
+    let last = reaching_behind::<K, V, C, AnyRange<K>>(stored, &window, &range, &mut steps);
+    if let Some(p) = surrounding(window.count, first, last) {
+        return update_within(stored, &window, p, range, f);
+    }
+    let middle = gather(alloc, stored, &window, &range, f)?;
+    replace::<K, V, C>(stored, &window, first, last, range, middle)?;
+    Ok(())
+}
+
+impl<K: Measure + Clone, V: Eq + Clone, C: Storage<Item<AnyRange<K>, V>>> RangeMap<K, V, C> {
+    /// Binds each piece of the range as the closure answers to what its keys are bound to.
+    ///
+    /// The closure is asked once for each part that the range has in common with a stored range,
+    /// with its value, and once for each gap inside, with `None`; it answers the new value, `None`
+    /// to unbind the keys, or an error, which ends the call. Only when all answers are there is
+    /// anything changed; after an error the map is as it was. An empty range asks nothing and
+    /// changes nothing.
+    ///
+    /// Takes memory for a list of what the closure gives, for clones of the bounds of its pieces
+    /// and of the stored ranges that are cut, and where more ranges are stored than the container
+    /// has room for. Costs one search, and a step for each stored range that the range meets or
+    /// touches.
+    ///
+    /// ```
+    /// // Counts one more for each key of the range.
+    /// map.update(0..10, |count| Ok::<_, Infallible>(Some(count.copied().unwrap_or(0) + 1)))?;
+    /// ```
+    pub fn update<R: AsRange<Item = K>, E: Drop, F: Fn(Option<&V>) -> Result<Option<V>, E>>(
+        &mut self,
+        range: R,
+        f: F,
+    ) -> Result<(), UpdateError<E>>
+        requires keys { ClonesAreEqual K.is_clone K.eq }
+        requires values { ClonesAreEqual V.is_clone V.eq }
+        requires free { MayBeAsked F.Fn f None }
+        requires bound { Every (λ i. MayBeAsked F.Fn f (Some i.value)) (C.items self.old) }
+        ensures updated { OnOk result (¬ IsEmptyRange K.order (R.range range) → IsUpdated K.order V.eq F.Fn f (C.items self.old) (C.items self.new) (R.range range)) }
+        ensures form { IsStored K.order V.eq (C.items self.new) }
+        ensures coarse { IsComplete K.order → IsCoarse K.order V.eq (C.items self.new) }
+        ensures only { IsComplete K.order → IsOnlyCoarse K.order V.eq (C.items self.new) }
+        ensures closure { (e : E) → result ≡ Err (ClosureError e) → FailsAt K.order V.eq F.Fn f (C.items self.old) (R.range range) e }
+        ensures refused { OnErr result (C.items self.new ≡ C.items self.old) }
+        ensures empty { IsEmptyRange K.order (R.range range) → IsOk result }
+        ensures empty_unchanged { IsEmptyRange K.order (R.range range) → C.items self.new ≡ C.items self.old }
+    {
+        self.in_form();
+        inner::known_range(&range);
+        if range.is_empty() {
+            return Ok(());
+        }
+        let start = clone_of(range.start())?;
+        let end = clone_of(range.end())?;
+        let range = AnyRange { start, end };
+        update_pieces(self.alloc, &mut self.stored, range, &f)
+    }
+}
