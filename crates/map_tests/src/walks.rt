@@ -21,7 +21,7 @@ fn nested<C: Storage<NumberItem>>(alloc: Global) -> Result<RangeMap<i32, i64, C>
     Ok(map)
 }
 
-/// Whether a walk gave this.
+/// Whether an iterator returned this.
 fn is_row(given: Option<(&Range, &i64)>, row: Option<Row>) -> bool {
     match (given, row) {
         (Some((range, value)), Some(row)) => *range == closed(row.0, row.1) && *value == row.2,
@@ -29,14 +29,14 @@ fn is_row(given: Option<(&Range, &i64)>, row: Option<Row>) -> bool {
     }
 }
 
-/// The end of a walk that is asked for a range.
+/// The end of an iterator that is asked for a range.
 #[derive(Clone, Copy)]
 enum Side {
     Front,
     Back,
 }
 
-/// Whether the walk gives the row at this end.
+/// Whether the iterator returns the row at this end.
 fn gives<C: Storage<NumberItem>>(
     walk: &mut Iter<'_, i32, i64, C>,
     side: Side,
@@ -48,7 +48,7 @@ fn gives<C: Storage<NumberItem>>(
     }
 }
 
-/// Asks the walk in turn. Answers the place of the first row that it does not give.
+/// Asks the iterator in turn. Returns the place of the first row that it does not give.
 fn first_other<C: Storage<NumberItem>>(
     walk: &mut Iter<'_, i32, i64, C>,
     rows: &[(Side, Option<Row>)],

@@ -134,7 +134,7 @@ impl<K: PartialEnum, V: Eq + Drop, C: Storage<Item<AnyRange<K>, V>>> RangeMap<K,
         }
     }
 
-    /// The stored ranges with their values, in rising order, from both ends. Allocates nothing.
+    /// The stored ranges with their values, in ascending order, from both ends. Allocates nothing.
     pub fn iter(&self) -> Iter<'_, K, V, C>
         ensures items { result ≡ C.items self.now }
         ensures form { IsStored K.order V.eq result }

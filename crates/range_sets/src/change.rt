@@ -17,7 +17,7 @@ use range_store::storage::{Item, Steps, Storage};
 impl<T: Measure + Clone, C: Storage<Item<AnyRange<T>, ()>>> RangeSet<T, C> {
     /// Adds each key of the range. An empty range changes nothing.
     ///
-    /// Allocates where one range more is stored and the container has no room for it. After an
+    /// Allocates where one range more is stored and the container has no capacity for it. After an
     /// error the set is as it was. Costs one search, and a step for each stored range that the
     /// range meets or touches.
     pub fn insert<R: IntoRange<Item = T>>(&mut self, range: R) -> Result<(), MapError>
@@ -63,8 +63,8 @@ impl<T: Measure + Clone, C: Storage<Item<AnyRange<T>, ()>>> RangeSet<T, C> {
     /// Takes each key of the range away. An empty range, and one that meets no stored range, change
     /// nothing.
     ///
-    /// Takes memory for a clone of each bound at which it cuts a stored range, and for the
-    /// container's room where one stored range becomes two. After an error the set is as it was.
+    /// Allocates a clone of each bound at which it cuts a stored range, and what the
+    /// container needs where one stored range becomes two. After an error the set is as it was.
     /// Costs one search, and a step for each stored range that the range meets.
     pub fn remove<R: AsRange<Item = T>>(&mut self, range: R) -> Result<(), MapError>
         requires { ClonesAreEqual T.is_clone T.eq }

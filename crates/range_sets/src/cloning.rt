@@ -13,7 +13,7 @@ use std::alloc::AllocError;
 impl<T: PartialEnum + Clone, C: Storage<Item<AnyRange<T>, ()>>> RangeSet<T, C> {
     /// A set that stores equal ranges, and shares nothing with this one.
     ///
-    /// Takes memory for its ranges and for each clone of a key; fails where that is refused. Costs
+    /// Allocates its ranges and each clone of a key; fails where an allocation is refused. Costs
     /// a clone and a step for each stored range.
     pub fn clone(&self) -> Result<Self, AllocError>
         requires { ClonesAreEqual T.is_clone T.eq }

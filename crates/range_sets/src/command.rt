@@ -207,7 +207,7 @@ fn run_steps<
 
 /// Answers the commands in turn, one reply each.
 ///
-/// Makes room for all replies first: where there is none, nothing is done. A command that is
+/// Reserves capacity for all replies first: where that fails, nothing is done. A command that is
 /// refused later gets the reply `Memory`, `Connected` or `Closure`, changes nothing, and the others
 /// follow. An update asks `f` with its tag.
 pub fn run<

@@ -1,4 +1,4 @@
-//! The stored ranges, in rising order.
+//! The stored ranges, in ascending order.
 ghost use Rattle.std.specs.Prelude.{◌≡◌, List};
 ghost use Rattle.std.specs.Iterator.{YieldsFirstRef, item_count};
 ghost use Rattle.range_map.specs.FreeRanges.{item_ranges};

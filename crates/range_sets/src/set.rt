@@ -102,7 +102,7 @@ impl<T: PartialEnum, C: Storage<Item<AnyRange<T>, ()>>> RangeSet<T, C> {
         self.map.contains_key_counted(key, steps)
     }
 
-    /// The stored ranges, in rising order. Allocates nothing.
+    /// The stored ranges, in ascending order. Allocates nothing.
     pub fn iter(&self) -> Iter<'_, T, C>
         ensures ranges { result ≡ item_ranges (C.items self.now) }
         ensures form { IsStoredSet T.order (C.items self.now) }
@@ -111,10 +111,10 @@ impl<T: PartialEnum, C: Storage<Item<AnyRange<T>, ()>>> RangeSet<T, C> {
         Iter::new(self.map.iter())
     }
 
-    /// The ranges that hold no key of the set, in rising order, each as wide as it goes and none
+    /// The ranges that hold no key of the set, in ascending order, each as wide as it goes and none
     /// empty.
     ///
-    /// Allocates nothing. A walk over all gaps takes one step for each stored range.
+    /// Allocates nothing. An iteration over all gaps takes one step for each stored range.
     pub fn gaps(&self) -> Gaps<'_, T, C>
         ensures gaps { AreGaps T.order (C.items self.now) result }
         ensures once { (k : T) → T.order.is_key k → IsHeldOnce T.order (item_ranges (C.items self.now) ++ result) k }

@@ -1,4 +1,4 @@
-//! An ordered container, seen as a list of items and a room.
+//! An ordered container, seen as a list of items with capacity to spare.
 #![tactic(auto)]
 
 pub mod btree;

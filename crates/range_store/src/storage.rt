@@ -1,4 +1,5 @@
-//! An ordered container, seen as a list of items and a room, and a probe that searches it.
+//! An ordered container, seen as a list of items with capacity to spare, and a probe that searches
+//! it.
 ghost use Rattle.std.specs.Prelude.{◌≡◌, ℕ, ◌+◌, ◌-◌, ◌^◌, ◌<◌, ◌≤◌, List, Bool, true, false, [], ◌∷◌, ◌++◌, length, slice_index_or, slice_set, insert, remove, IsTrue, IsSome, IfSome, IfNone, OnOk, OnErr, IfOk, MatchOption, All, min, Option};
 ghost use Rattle.std.specs.List.Sorted.{IsPartitionedBy, IsPartitionPoint};
 ghost use Rattle.std.specs.List.{AllZip};
@@ -89,7 +90,7 @@ pub trait Probe<T> {
         ensures { result.now ≡ steps_taken self.now };
 }
 
-/// An ordered container: a list of items, and room for more.
+/// An ordered container: a list of items, and capacity for more.
 pub trait Storage<T>: Drop {
     type Position: Copy;
 

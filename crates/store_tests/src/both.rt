@@ -48,7 +48,7 @@ pub fn play_list(list: &mut List, call: Call) -> Result<Answer, AllocError> {
     play(list, call)
 }
 
-/// Puts numbers behind all others, each at the rank of the same number.
+/// Puts numbers after all others, each at the rank of the same number.
 pub fn append(tree: &mut Tree, first: u64, end: u64) -> Result<(), AllocError> {
     for item in first..end {
         play_tree(tree, Call::Put(item as usize, item))?;

@@ -23,10 +23,10 @@ pub enum Call {
     PopLast,
 }
 
-/// What a call answers: the items before, at and behind a position, or one item in the middle.
+/// What a call returns: the items before, at and after a position, or one item in the middle.
 pub type Answer = [Option<u64>; 3];
 
-// The position of a rank, by a walk.
+// The position of a rank, step by step.
 fn nth<C: Storage<u64>>(storage: &C, rank: usize) -> Option<C::Position>
     ensures { ForSome result (λ p. C.is_good storage.now p) }
 {
@@ -45,7 +45,7 @@ fn before<C: Storage<u64>>(storage: &C, p: C::Position) -> Option<u64>
     Some(*storage.get(q))
 }
 
-// What stands behind a position.
+// What comes after a position.
 fn behind<C: Storage<u64>>(storage: &C, p: C::Position) -> Option<u64>
     requires { C.is_good storage.now p }
 {
@@ -143,7 +143,7 @@ fn item_at<C: Storage<u64>>(storage: &C, at: Option<C::Position>) -> Option<u64>
     Some(*storage.get(p))
 }
 
-// The position behind one, if there are both.
+// The position after one, if there are both.
 fn ahead<C: Storage<u64>>(storage: &C, at: Option<C::Position>) -> Option<C::Position>
     requires { ForSome at (λ p. C.is_good storage.now p) }
     ensures { ForSome result (λ p. C.is_good storage.now p) }

@@ -171,7 +171,7 @@ fn put_again(rt: &impl Abort, both: &mut Both, call: Call) -> Result<(), AllocEr
     Ok(())
 }
 
-/// A copy of the tree, where there is memory for it, and the tree itself are as the vector.
+/// A copy of the tree, where its allocations succeed, and the tree itself are as the vector.
 fn expect_same_copy(rt: &impl Abort, both: &Both) {
     if let Ok(copy) = copy_of_tree(&both.tree) {
         expect_same(rt, &copy, &both.list);

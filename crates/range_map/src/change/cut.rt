@@ -81,14 +81,14 @@ pub(crate) fn cut_bound<K: PartialEnum + Clone>(bound: Bound<&K>) -> Result<Boun
 pub struct Parts<K, V> {
     /// Where the part before the range ends.
     pub end: Bound<K>,
-    /// Where the part behind it starts.
+    /// Where the part after it starts.
     pub start: Bound<K>,
-    /// The value of the part behind it.
+    /// The value of the part after it.
     pub value: V,
 }
 
-/// Makes room for more items, and clones what the parts of an item need where a range with these
-/// bounds is cut out of it.
+/// Reserves capacity for more items, and clones what the parts of an item need where a range with
+/// these bounds is cut out of it.
 pub(crate) fn cut_parts<K: PartialEnum + Clone, V: Eq + Clone, C: Storage<Item<AnyRange<K>, V>>>(
     stored: &mut C,
     p: C::Position,

@@ -106,7 +106,7 @@ pub(crate) fn joined_before<K: PartialEnum, V: Eq + Drop, C: Storage<Item<AnyRan
     }
 }
 
-/// The item just behind a window, if the range touches it and has an equal value.
+/// The item just after a window, if the range touches it and has an equal value.
 pub(crate) fn joined_after<K: PartialEnum, V: Eq + Drop, C: Storage<Item<AnyRange<K>, V>>>(
     stored: &C,
     window: &Window<C::Position>,
@@ -180,7 +180,7 @@ pub(crate) fn left_side<K: PartialEnum + Clone, V: Eq + Drop, C: Storage<Item<An
     }
 }
 
-/// What a bound range leaves or joins behind it; `last` is the item that reaches out of it there.
+/// What a bound range leaves or joins after it; `last` is the item that reaches out of it there.
 pub(crate) fn right_side<K: PartialEnum + Clone, V: Eq + Drop, C: Storage<Item<AnyRange<K>, V>>>(
     stored: &C,
     window: &Window<C::Position>,

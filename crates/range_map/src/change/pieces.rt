@@ -23,7 +23,7 @@ use range_store::storage::{Item, Storage};
 use std::alloc::{AllocError, Global};
 use std::ops::{Bound, RangeBounds};
 
-/// Where a gap in the range starts: behind the range before it, where there is one.
+/// Where a gap in the range starts: after the range before it, where there is one.
 fn gap_start<'a, K: PartialEnum>(
     range: &'a AnyRange<K>,
     before: Option<&'a AnyRange<K>>,
@@ -39,7 +39,7 @@ fn gap_start<'a, K: PartialEnum>(
     }
 }
 
-/// Where a gap in the range ends: before the range behind it, where there is one.
+/// Where a gap in the range ends: before the range after it, where there is one.
 fn gap_end<'a, K: PartialEnum>(
     range: &'a AnyRange<K>,
     after: Option<&'a AnyRange<K>>,
@@ -106,7 +106,7 @@ fn end_last_at<K: Drop, V>(items: &mut Vec<Item<AnyRange<K>, V>>, end: Bound<K>)
     }
 }
 
-/// Puts a part with its value behind the others, or makes it one with the last of them.
+/// Puts a part with its value after the others, or makes it one with the last of them.
 fn put<K: PartialEnum + Clone, V: Eq + Drop>(
     items: &mut Vec<Item<AnyRange<K>, V>>,
     part: AnyRange<&K>,
@@ -129,7 +129,7 @@ fn put<K: PartialEnum + Clone, V: Eq + Drop>(
     Ok(())
 }
 
-/// Asks the closure for one piece, and puts its answer behind the others.
+/// Asks the closure for one piece, and puts its answer after the others.
 fn ask<
     'a,
     K: PartialEnum + Clone,

@@ -77,7 +77,7 @@ pub(crate) fn surrounding<P: Copy>(count: usize, first: Option<P>, last: Option<
     }
 }
 
-/// The first item behind the one that reaches out before the range.
+/// The first item after the one that reaches out before the range.
 pub(crate) fn run_start<K: PartialEnum, V: Eq + Drop, C: Storage<Item<AnyRange<K>, V>>>(
     stored: &C,
     from: Option<C::Position>,

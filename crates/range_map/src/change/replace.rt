@@ -115,7 +115,7 @@ fn seam<K: Drop, P: Copy>(joined: Option<P>, reaching: Option<P>, bound: Bound<K
 /// Lets the items of a list stand for all that a nonempty range held, where no stored range
 /// surrounds it.
 ///
-/// Clones nothing, and takes memory only where more items come than give way.
+/// Clones nothing, and allocates only where more items come than are replaced.
 pub(crate) fn replace<K: Measure, V: Eq + Drop, C: Storage<Item<AnyRange<K>, V>>>(
     stored: &mut C,
     window: &Window<C::Position>,

@@ -71,7 +71,7 @@ fn open_left<K: Drop, V: Drop, C: Storage<Item<AnyRange<K>, V>>>(
     }
 }
 
-/// Shortens the item behind a range, or takes the end of the one that the range joins.
+/// Shortens the item after a range, or takes the end of the one that the range joins.
 fn open_right<K: Drop, V: Drop, C: Storage<Item<AnyRange<K>, V>>>(
     stored: &mut C,
     edge: Edge<K, C::Position>,
@@ -164,8 +164,8 @@ fn replace_run_by<T: Drop, C: Storage<T>>(stored: &mut C, run: Cursor<C::Positio
     remove_rest::<T, C>(stored, cursor);
 }
 
-/// Binds the ranges of a list, which replace a run; `left` and `right` say what becomes of the items
-/// beside them.
+/// Binds the ranges of a list, which replace a run; `left` and `right` say what becomes of the
+/// items beside them.
 ///
 /// A start that the run joins becomes that of the first item, and an end that of the last.
 pub(crate) fn change_to<K: Drop, V: Drop, C: Storage<Item<AnyRange<K>, V>>>(
@@ -208,7 +208,7 @@ pub(crate) fn clear<K: Drop, V: Drop, C: Storage<Item<AnyRange<K>, V>>>(
     remove_rest::<Item<AnyRange<K>, V>, C>(stored, run);
 }
 
-/// Divides an item into its parts before and behind a range that is cut out of it, with `middle`
+/// Divides an item into its parts before and after a range that is cut out of it, with `middle`
 /// between them.
 pub(crate) fn divide<K: Drop, V: Drop, C: Storage<Item<AnyRange<K>, V>>>(
     stored: &mut C,

@@ -1,4 +1,4 @@
-//! Ranges that are known to stand behind all others of a map.
+//! Ranges that are known to come after all others of a map.
 ghost use Rattle.std.specs.Prelude.{◌≡◌, ◌+◌, ◌≤◌, ◌++◌, ◌∷◌, [], OnOk};
 ghost use Rattle.range_map.specs.Stored.{IsStored};
 
@@ -8,7 +8,7 @@ use range_keys::traits::PartialEnum;
 use range_store::storage::{Item, Storage};
 use std::alloc::AllocError;
 
-/// Makes room for so many ranges more.
+/// Reserves capacity for so many ranges more.
 pub fn reserve<K: PartialEnum, V: Eq + Drop, C: Storage<Item<AnyRange<K>, V>>>(
     map: &mut RangeMap<K, V, C>,
     count: usize,
@@ -19,7 +19,7 @@ pub fn reserve<K: PartialEnum, V: Eq + Drop, C: Storage<Item<AnyRange<K>, V>>>(
     map.stored.reserve(count)
 }
 
-/// Stores a range behind all that are stored, with no search and no memory.
+/// Stores a range after all that are stored, with no search and no allocation.
 pub fn append<K: PartialEnum, V: Eq + Drop, C: Storage<Item<AnyRange<K>, V>>>(
     map: &mut RangeMap<K, V, C>,
     range: AnyRange<K>,

@@ -35,7 +35,7 @@ impl<K: PartialEnum, V: Eq + Drop, C: Storage<Item<AnyRange<K>, V>>> RangeMap<K,
 impl<K: PartialEnum + Clone, V: Eq + Clone, C: Storage<Item<AnyRange<K>, V>>> RangeMap<K, V, C> {
     /// A map that stores equal ranges with equal values, and shares nothing with this one.
     ///
-    /// Takes memory for its items and for each clone; fails where that is refused. Costs a clone
+    /// Allocates its items and each clone; fails where an allocation does. Costs a clone
     /// and a step for each stored range.
     pub fn clone(&self) -> Result<Self, AllocError>
         requires keys { ClonesAreEqual K.is_clone K.eq }

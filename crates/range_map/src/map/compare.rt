@@ -74,8 +74,8 @@ fn compare_items<K: PartialEnum, V: Ord>(
     }
 }
 
-/// How the lists of two containers compare, in dictionary order. Allocates nothing, and one step for
-/// each item.
+/// How the lists of two containers compare, in dictionary order. Allocates nothing, and one step
+/// for each item.
 fn compare_lists<K, V, C, D>(left: &C, right: &D) -> Ordering
 where
     K: PartialEnum,
@@ -124,8 +124,8 @@ impl<K: PartialEnum, V: Eq + Drop, C: Storage<Item<AnyRange<K>, V>>> RangeMap<K,
     /// Whether a map over any container stores equal ranges with equal values.
     ///
     /// Then the two bind every key alike; over keys that tell their neighbours and ends, as
-    /// integers and characters, it does exactly where they do. Allocates nothing. Costs one step for
-    /// each stored range.
+    /// integers and characters, it does exactly where they do. Allocates nothing. Costs one step
+    /// for each stored range.
     pub fn eq_across<D: Storage<Item<AnyRange<K>, V>>>(&self, other: &RangeMap<K, V, D>) -> bool
         ensures value { result ≡ same_list K.order V.eq (C.items self.now) (D.items other.now) }
         ensures bound { IsTrue result → BindAlike K.order V.eq (C.items self.now) (D.items other.now) }

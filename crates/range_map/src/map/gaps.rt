@@ -57,7 +57,7 @@ fn range_between<'a, K: PartialEnum>(
     }
 }
 
-/// The next gap from a start on, and where the one behind it starts.
+/// The next gap from a start on, and where the one after it starts.
 fn next_gap<'a, K: PartialEnum, V, C: Storage<Item<AnyRange<K>, V>>>(
     items: &mut Iter<'a, K, V, C>,
     start: Option<Bound<&'a K>>,
@@ -96,11 +96,12 @@ impl<'a, K: PartialEnum + 'a, V: 'a, C: Storage<Item<AnyRange<K>, V>> + 'a> Iter
 }
 
 impl<K: PartialEnum, V: Eq + Drop, C: Storage<Item<AnyRange<K>, V>>> RangeMap<K, V, C> {
-    /// The ranges that hold no bound key, in rising order, each as wide as it goes and none empty.
+    /// The ranges that hold no bound key, in ascending order, each as wide as it goes and none
+    /// empty.
     ///
     /// A map that binds no key has one gap, the full range, and one that binds every key has none.
     /// A gap refers to the bounds of the ranges beside it: `AnyRange::cloned` makes one of its own
-    /// of it. A walk over all gaps takes one step for each stored range. Allocates nothing.
+    /// of it. An iteration over all gaps takes one step for each stored range. Allocates nothing.
     ///
     /// ```
     /// let mut gaps = map.gaps(); // of a map over bytes that binds `..10` and `20..`

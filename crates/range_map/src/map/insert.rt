@@ -21,7 +21,7 @@ use range_store::storage::{Item, Steps, Storage};
 impl<K: Measure + Clone, V: Eq + Clone, C: Storage<Item<AnyRange<K>, V>>> RangeMap<K, V, C> {
     /// Binds each key of the range to the value. An empty range changes nothing.
     ///
-    /// Allocates where more ranges are stored than the container has room for, and for a clone
+    /// Allocates where more ranges are stored than the container has capacity for, and for a clone
     /// of a bound or a value where a stored range with another value is cut. After an error the map
     /// is as it was. Costs one search, and a step for each stored range that the range meets or
     /// touches.

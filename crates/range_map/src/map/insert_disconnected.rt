@@ -53,7 +53,7 @@ fn is_clear_before<K: PartialEnum, V: Eq + Drop, C: Storage<Item<AnyRange<K>, V>
     }
 }
 
-/// Whether the item behind a range, where there is one, lies apart from it.
+/// Whether the item after a range, where there is one, lies apart from it.
 fn is_clear_behind<K: PartialEnum, V: Eq + Drop, C: Storage<Item<AnyRange<K>, V>>>(
     stored: &C,
     from: Option<C::Position>,
@@ -123,9 +123,9 @@ impl<K: Measure, V: Eq + Drop, C: Storage<Item<AnyRange<K>, V>>> RangeMap<K, V, 
     /// Binds each key of a range that neither meets nor touches a stored one, whatever its value.
     ///
     /// The range is stored as it is given, and no other changes. An empty range changes nothing and
-    /// allocates nothing. An error hands back the range and the value, and leaves the map as it was.
-    /// Clones nothing; takes memory where the container has no room for one more range. Costs one
-    /// search and two comparisons more.
+    /// allocates nothing. An error hands back the range and the value, and leaves the map as it
+    /// was. Clones nothing; allocates where the container has no capacity for one more range. Costs
+    /// one search and two comparisons more.
     pub fn insert_disconnected<R: IntoRange<Item = K>>(
         &mut self,
         range: R,

@@ -23,8 +23,8 @@ impl<K: Measure + Clone, V: Eq + Clone, C: Storage<Item<AnyRange<K>, V>>> RangeM
     /// Binds no key of the range. An empty range, and one that meets no stored range, change
     /// nothing.
     ///
-    /// Takes memory for a clone of each bound at which it cuts a stored range; and where one stored
-    /// range becomes two, for a clone of its value and for the container's room. After an error the
+    /// Allocates a clone of each bound at which it cuts a stored range; and where one stored
+    /// range becomes two, a clone of its value and what the container needs. After an error the
     /// map is as it was. Costs one search, and a step for each stored range that the range meets.
     pub fn remove<R: AsRange<Item = K>>(&mut self, range: R) -> Result<(), MapError>
         requires keys { ClonesAreEqual K.is_clone K.eq }

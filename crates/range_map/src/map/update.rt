@@ -108,9 +108,9 @@ impl<K: Measure + Clone, V: Eq + Clone, C: Storage<Item<AnyRange<K>, V>>> RangeM
     /// anything changed; after an error the map is as it was. An empty range asks nothing and
     /// changes nothing.
     ///
-    /// Takes memory for a list of what the closure gives, for clones of the bounds of its pieces
+    /// Allocates a list of what the closure returns, clones of the bounds of its pieces
     /// and of the stored ranges that are cut, and where more ranges are stored than the container
-    /// has room for. Costs one search, and a step for each stored range that the range meets or
+    /// has capacity for. Costs one search, and a step for each stored range that the range meets or
     /// touches.
     ///
     /// ```

@@ -305,7 +305,7 @@ pub fn pool(nodes: &mut Slab<Node>, left: usize, middle: usize, right: usize)
     node.count = node.count + 1 + count;
 }
 
-// Puts another item and another child behind it in the place of those at `index` and behind it. The
+// Puts another item and another child after it in the place of those at `index` and after it. The
 // sizes of that child and of `left`, which stands before the item, are taken anew.
 pub fn set_border(nodes: &mut Slab<Node>, number: usize, index: usize, left: usize, split: Split)
     requires present { ContainsKey nodes.old number }
@@ -329,7 +329,7 @@ pub fn set_border(nodes: &mut Slab<Node>, number: usize, index: usize, left: usi
     node.sizes.as_mut_slice()[index + 1] = right_size;
 }
 
-// Takes the item at `index` out of a node, and the child behind it. The size of `left`, which
+// Takes the item at `index` out of a node, and the child after it. The size of `left`, which
 // stands before the item, is taken anew.
 pub fn detach(nodes: &mut Slab<Node>, number: usize, index: usize, left: usize)
     requires present { ContainsKey nodes.old number }

@@ -76,7 +76,7 @@ pub fn found_from(nodes: &Slab<Node>, node: usize, place: usize) -> Option<Found
     }
 }
 
-// What follows below a node: what follows below its child at `index`, or else the item behind that.
+// What follows below a node: what follows below its child at `index`, or else the item after that.
 pub fn found_or_behind(
     nodes: &Slab<Node>,
     node: usize,

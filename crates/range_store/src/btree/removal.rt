@@ -12,7 +12,7 @@ use crate::btree::node::{
 use crate::btree::place::{Found, descend, find_below, found_from, found_or_behind};
 use slab::Slab;
 
-// Levels the child at `index` with the one behind it: they become one, or two with as many items.
+// Levels the child at `index` with the one after it: they become one, or two with as many items.
 pub fn level(nodes: &mut Slab<Node>, low: usize, number: usize, index: usize)
     requires { IsLevelled nodes.old low number index }
     ensures shrinks { Shrinks nodes.old nodes.new (suc low) number (numbers nodes.old (suc (suc low)) number) }

@@ -91,7 +91,7 @@ impl NumberTree {
         find_below(&self.nodes, self.levels - 1, self.root, rank)
     }
 
-    /// What stands behind a number, if that still stands at this place of a leaf and is not the
+    /// What comes after a number, if that still stands at this place of a leaf and is not the
     /// last one there. One node is read.
     pub fn behind(&self, spot: Spot, number: usize) -> Option<Found>
         requires { (k : ℕ) → occurrences k self.now.numbers ≤ 1 }
@@ -121,7 +121,7 @@ impl NumberTree {
         None
     }
 
-    /// Makes room for `additional` more numbers.
+    /// Reserves capacity for `additional` more numbers.
     pub fn reserve(&mut self, additional: usize) -> Result<(), AllocError>
         ensures room { OnOk result (additional ≤ self.new.room) }
         ensures no_less { self.old.room ≤ self.new.room }

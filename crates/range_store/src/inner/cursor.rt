@@ -1,4 +1,4 @@
-//! A run of items that gives way to others where it stands, so that only the difference in number
+//! A run of items that others replace where it stands, so that only the difference in number
 //! is inserted or removed.
 ghost use Rattle.std.specs.Prelude.{◌≡◌, ◌+◌, ◌-◌, ◌≤◌, ◌∷◌, ◌++◌, length, take, drop};
 ghost use Rattle.std.specs.Option.{ForSome};
@@ -6,7 +6,7 @@ ghost use Rattle.range_store.specs.Places.{place_before, IsAt};
 
 use crate::storage::Storage;
 
-/// The items that are still to give way: `left` of them, from `at` on.
+/// The items that are still to be replaced: `left` of them, from `at` on.
 #[derive(Drop)]
 pub struct Cursor<P: Copy> {
     /// The first of them, or the item before which others are put; `None` at the end of the list.
@@ -15,10 +15,11 @@ pub struct Cursor<P: Copy> {
     pub left: usize,
 }
 
-/// Puts an item in the place of the next one that gives way, or, where none is left, before the
+/// Puts an item in the place of the next one to be replaced, or, where none is left, before the
 /// cursor.
 ///
-/// Allocates nothing beyond the container's room, and none of that while items are left.
+/// Allocates nothing: it uses the container's capacity to spare, and none of that while items are
+/// left.
 pub fn put<T: Drop, C: Storage<T>>(
     stored: &mut C,
     cursor: Cursor<C::Position>,

@@ -150,8 +150,8 @@ fn changed_alike<C: Storage<Entry<u8>>, D: Storage<Entry<u8>>>(
     Ok(alike(left, right))
 }
 
-/// How often two sets that are changed 300 times hold the same keys, or the first change after which
-/// their comparisons say otherwise.
+/// How often two sets that are changed 300 times hold the same keys, or the first change after
+/// which their comparisons say otherwise.
 fn count_alike<C: Storage<Entry<u8>>, D: Storage<Entry<u8>>>(
     alloc: Global,
     left: &mut RangeSet<u8, C>,
