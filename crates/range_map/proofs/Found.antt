@@ -1,5 +1,5 @@
 -- What a search among stored items finds.
-use Rattle.std.proofs.Common.{◌≡◌, ℕ, zero, suc, ◌+◌, ◌<◌, List, [], ◌∷◌, ◌++◌, length, take, drop, get_or, ap, sym, ◌∙◌, arith, Option, Bool, true, false, inl, inr}
+use Rattle.std.proofs.Common.{refl, ◌≡◌, ℕ, zero, suc, ◌+◌, ◌<◌, List, [], ◌∷◌, ◌++◌, length, take, drop, get_or, ap, sym, ◌∙◌, arith, Option, Bool, true, false, inl, inr}
 use Rattle.std.specs.declared.cmp.Ordering.{Ordering}
 use Rattle.std.specs.declared.cmp.Ordering.TheVariants.{Less, Equal, Greater}
 use Rattle.std.specs.Ordering.{is_gt, is_lt}
@@ -22,7 +22,7 @@ use Rattle.range_algebra.specs.Intervals.{Le, Lt, Every}
 use Rattle.range_algebra.specs.Orders.{lt_not_le, not_lt, lt_le_trans, le_lt_trans, lt_trans, lt_of}
 use Rattle.range_algebra.specs.Chains.{every_weaker}
 use Rattle.range_map.specs.Stored.{IsStored}
-use Rattle.range_map.specs.Bindings.{IsBound, BindsTo}
+use Rattle.range_map.specs.Bindings.{IsStoredFor, IsBound, BindsTo}
 use Rattle.range_map.specs.Window.{IsFound, IsJustBefore}
 use Rattle.range_map.proofs.Forms.{places}
 use Rattle.range_map.proofs.Listed.{IsListed, listed, not_greater}
@@ -148,6 +148,11 @@ module _ {K : Type 0} (order : KeyOrder K) (lawful : IsLawful order) {V : Type 0
       let more : drop place items ≡ x ∷ drop (place + 1) items = drop_more items place x within ∙ ap (λ y. y ∷ drop (place + 1) items) (sym read) in
       let ends : Every (λ i. Le (places order lawful) (Beside k At) (End i)) (x ∷ drop (place + 1) items) = rw more at above in
       (holds_by_position order lawful x.key k key).1 (sym starts, ends.0)
+
+  pub stored_at : (items : List (Item (AnyRange K) V)) (k : K) (place : ℕ) (x : Item (AnyRange K) V) → place < length items → x ≡ get_or items place x → Holds order x.key k → IsStoredFor order items k x.value
+  stored_at [] k place x within read held = absurd (omega arith)
+  stored_at (i ∷ rest) k zero x within read held = let at : x ≡ i = read in rw (← at) (inl (held, refl))
+  stored_at (i ∷ rest) k (suc place) x within read held = inr (stored_at rest k place x (omega arith) read held)
 
   pub bound_at : (items : List (Item (AnyRange K) V)) (k : K) (place : ℕ) (x : Item (AnyRange K) V) → IsEquivalence same → place < length items → x ≡ get_or items place x → Holds order x.key k → BindsTo order same items k x.value
   bound_at [] k place x equal within read held = absurd (omega arith)

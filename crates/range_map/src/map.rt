@@ -1,10 +1,10 @@
 //! A map from ranges of keys to values.
-ghost use Rattle.std.specs.Prelude.{◌≡◌, ◌+◌, [], length};
+ghost use Rattle.std.specs.Prelude.{◌≡◌, ◌+◌, [], length, IfSome};
 ghost use Rattle.std.specs.Option.{option_copied};
 ghost use Rattle.range_map.specs.Stored.{IsStored};
 ghost use Rattle.range_keys.specs.Order.{IsComplete};
 ghost use Rattle.range_store.specs.Counting.{AddsSteps};
-ghost use Rattle.range_map.specs.Bindings.{Binds, IsCoarse};
+ghost use Rattle.range_map.specs.Bindings.{Binds, IsCoarse, IsStoredFor};
 ghost use Rattle.range_map.specs.Coarse.{IsOnlyCoarse, IsLeastCount};
 
 mod clone;
@@ -103,7 +103,8 @@ impl<K: PartialEnum, V: Eq + Drop, C: Storage<Item<AnyRange<K>, V>>> RangeMap<K,
     ///
     /// Costs one search and one comparison more. Allocates nothing.
     pub fn get(&self, key: K) -> Option<&V>
-        ensures { Binds K.order V.eq (C.items self.now) key (option_copied result) }
+        ensures value { Binds K.order V.eq (C.items self.now) key (option_copied result) }
+        ensures stored { IfSome result (λ v. IsStoredFor K.order (C.items self.now) key v.now) }
     {
         let mut steps = Steps::new();
         self.get_counted(key, &mut steps)
@@ -115,6 +116,7 @@ impl<K: PartialEnum, V: Eq + Drop, C: Storage<Item<AnyRange<K>, V>>> RangeMap<K,
     /// The empty map takes none.
     pub fn get_counted(&self, key: K, steps: &mut Steps) -> Option<&V>
         ensures value { Binds K.order V.eq (C.items self.now) key (option_copied result) }
+        ensures stored { IfSome result (λ v. IsStoredFor K.order (C.items self.now) key v.now) }
         ensures counted { AddsSteps steps.old steps.new (C.least_asks self.now) (C.most_asks self.now + 1) }
         ensures none { C.items self.now ≡ [] → AddsSteps steps.old steps.new 0 0 }
     {

@@ -1,5 +1,5 @@
 use Rattle.std.proofs.Common.{◌<◌, length, refl}
-use Rattle.range_map.proofs.Found.{none_bound, other_bound, bound_at, holds_at, past_not}
+use Rattle.range_map.proofs.Found.{none_bound, other_bound, bound_at, holds_at, stored_at, past_not}
 use Rattle.range_map.proofs.map.RangeMap.get_counted.Goals as goal
 
 pub returns-in-None-clause-value : goal.returns-in-None-clause-value
@@ -27,3 +27,14 @@ returns-clause-value g c =
     let within : place < length items = g.met.C.Storage.good_is_in_range stored c.in-Some.p position.0 in
     let held = holds_at g.K.MaybeBounded.order g.met.K.PartialEnum.lawful g.V.PartialEq.eq items c.args.key place c.get-item.result.now c.known.ensures within c.get-item.ensures (rw c.in-Some.is at c.find-from.ensures.found.above) c.if-starts_past.ensures.past in
     rw (← c.self.view_is) (bound_at g.K.MaybeBounded.order g.met.K.PartialEnum.lawful g.V.PartialEq.eq items c.args.key place c.get-item.result.now g.met.V.Eq.laws within c.get-item.ensures held)
+
+pub returns-clause-stored : goal.returns-clause-stored
+returns-clause-stored g c =
+    let storage = g.C.Storage in
+    let stored = c.self.inside.stored in
+    let items = storage.items stored in
+    let position = rw c.in-Some.is at c.find-from.ensures.found.position in
+    let place = storage.rank stored c.in-Some.p in
+    let within : place < length items = g.met.C.Storage.good_is_in_range stored c.in-Some.p position.0 in
+    let held = holds_at g.K.MaybeBounded.order g.met.K.PartialEnum.lawful g.V.PartialEq.eq items c.args.key place c.get-item.result.now c.known.ensures within c.get-item.ensures (rw c.in-Some.is at c.find-from.ensures.found.above) c.if-starts_past.ensures.past in
+    rw (← c.self.view_is) (stored_at g.K.MaybeBounded.order g.met.K.PartialEnum.lawful g.V.PartialEq.eq items c.args.key place c.get-item.result.now within c.get-item.ensures held)
