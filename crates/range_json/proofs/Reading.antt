@@ -1,0 +1,105 @@
+-- What is read of a list while a loop goes over it.
+use Rattle.std.proofs.Common.{◌≡◌, refl, sym, ap, subst, ◌∙◌, ◌⊎◌, ◌↔◌, inl, inr, ℕ, suc, ◌+◌, List, [], ◌∷◌, ◌++◌, map, length, Bool, Option, Some, None, arith, rules}
+use Rattle.std.proofs.lemmas.List.{map-append}
+use Rattle.serde_json.specs.Data.{Data, Items, null, boolean, number, string, array, object}
+use Rattle.serde_json.specs.Find.{as_array}
+use Rattle.serde_json.specs.View.{view, items_of, items_view}
+use Rattle.serde_json.specs.declared.value.Value.{Value}
+use Rattle.range_keys.specs.Order.{KeyOrder}
+use Rattle.range_algebra.specs.declared.any.AnyRange.{AnyRange}
+use Rattle.range_store.specs.declared.storage.Item.{Item}
+use Rattle.range_map.specs.Stored.{IsStored}
+use Rattle.range_sets.specs.KeySets.{HoldsAllOf, HoldsAllAlso, HoldsAlso, IsStoredSet}
+use Rattle.range_sets.proofs.Membership.{one_more, none_added, all_of}
+use Rattle.range_json.specs.declared.error.JsonError.{JsonError}
+use Rattle.range_json.specs.Shapes.{list_of, elements_of}
+use Rattle.range_json.specs.Faults.{before, first_fault, range_fault, IsRangeRead, AreRangesRead}
+
+-- the elements of an array are the list that it is made of
+pub list_back : (ds : List Data) → list_of (items_of ds) ≡ ds
+list_back [] = refl
+list_back (d ∷ ds) = ap (λ es. d ∷ es) (list_back ds)
+
+abbrev Fault : Type 0
+Fault = Option JsonError
+
+module _ (fault : ℕ → Data → Fault) where
+  behind_at : (f : Fault) (rest tail : Fault) → before f rest ≡ None → (rest ≡ None → tail ≡ tail) → f ≡ None
+  behind_at None rest tail e h = refl
+  behind_at (Some x) rest tail e h = e
+
+  rest_none : (f rest : Fault) → before f rest ≡ None → rest ≡ None
+  rest_none None rest e = e
+  rest_none (Some x) rest e = search (rules, e)
+
+  -- where the elements before have no fault, the first is one of those behind
+  pub fault_behind : (i : ℕ) (ds more : List Data) → first_fault fault i ds ≡ None → first_fault fault i (ds ++ more) ≡ first_fault fault (i + length ds) more
+  fault_behind i [] more h = ap (λ n. first_fault fault n more) (omega arith)
+  fault_behind i (d ∷ ds) more h =
+      let here : fault i d ≡ None = behind_at (fault i d) (first_fault fault (suc i) ds) None h (λ _. refl) in
+      let later : first_fault fault (suc i) ds ≡ None = rest_none (fault i d) (first_fault fault (suc i) ds) h in
+      ap (λ f. before f (first_fault fault (suc i) (ds ++ more))) here ∙ fault_behind (suc i) ds more later ∙ ap (λ n. first_fault fault n more) (omega arith)
+
+  from_start : (ds more : List Data) → first_fault fault 0 ds ≡ None → first_fault fault 0 (ds ++ more) ≡ first_fault fault (length ds) more
+  from_start ds more h = fault_behind 0 ds more h ∙ ap (λ n. first_fault fault n more) (omega arith)
+
+  -- a fault of an element behind elements without one is the first
+  pub fault_first : (ds : List Data) (d : Data) (more : List Data) (e : JsonError) → first_fault fault 0 ds ≡ None → fault (length ds) d ≡ Some e → first_fault fault 0 (ds ++ d ∷ more) ≡ Some e
+  fault_first ds d more e h at = from_start ds (d ∷ more) h ∙ ap (λ f. before f (first_fault fault (suc (length ds)) more)) at
+
+  -- an element without fault behind such elements
+  pub no_fault_more : (ds : List Data) (d : Data) → first_fault fault 0 ds ≡ None → fault (length ds) d ≡ None → first_fault fault 0 (ds ++ d ∷ []) ≡ None
+  no_fault_more ds d h at = from_start ds (d ∷ []) h ∙ ap (λ f. before f None) at
+
+module _ {K : Type 0} (key_reads : Data → Bool) (key_is_read : Data → K → Type 0) (order : KeyOrder K) where
+  -- the values have no fault, and the list holds just the keys of what they are read as
+  pub record IsSetSoFar (vs : List Value) (items : List (Item (AnyRange K) (Unit {0}))) : Type 0 where
+    pub sound : first_fault (range_fault key_reads) 0 (map view vs) ≡ None
+    pub ranges : List (AnyRange K)
+    pub read : AreRangesRead key_is_read (map view vs) ranges
+    pub held : HoldsAllAlso order [] items ranges
+    pub form : IsStoredSet order items
+
+  read_more : (ds : List Data) (rs : List (AnyRange K)) (d : Data) (r : AnyRange K) → AreRangesRead key_is_read ds rs → IsRangeRead key_is_read d r → AreRangesRead key_is_read (ds ++ d ∷ []) (rs ++ r ∷ [])
+  read_more [] [] d r h k = (k, tt)
+  read_more [] (s ∷ rs) d r h k = absurd h
+  read_more (e ∷ ds) [] d r h k = absurd h
+  read_more (e ∷ ds) (s ∷ rs) d r h k = (h.0, read_more ds rs d r h.1 k)
+
+  same_length : (vs : List Value) → length (map view vs) ≡ length vs
+  same_length [] = refl
+  same_length (v ∷ vs) = ap suc (same_length vs)
+
+  pub set_more : (vs : List Value) (v : Value) (before_it after_it : List (Item (AnyRange K) (Unit {0}))) (r : AnyRange K)
+      → IsSetSoFar vs before_it → range_fault key_reads (length vs) (view v) ≡ None → IsRangeRead key_is_read (view v) r → HoldsAlso order before_it after_it r → IsStoredSet order after_it → IsSetSoFar (vs ++ v ∷ []) after_it
+  set_more vs v old new r h fine is_read added form = record {
+    sound = rw (map-append view vs (v ∷ [])) (no_fault_more (range_fault key_reads) (map view vs) (view v) h.sound (rw (same_length vs) fine));
+    ranges = h.ranges ++ r ∷ [];
+    read = rw (map-append view vs (v ∷ [])) (read_more (map view vs) h.ranges (view v) r h.read is_read);
+    held = one_more order [] old new h.ranges r h.held added;
+    form = form;
+  }
+
+  pub set_fails : (vs more : List Value) (v : Value) (e : JsonError) (items : List (Item (AnyRange K) (Unit {0}))) → IsSetSoFar vs items → range_fault key_reads (length vs) (view v) ≡ Some e → first_fault (range_fault key_reads) 0 (map view (vs ++ v ∷ more)) ≡ Some e
+  set_fails vs more v e items h at = rw (map-append view vs (v ∷ more)) (fault_first (range_fault key_reads) (map view vs) (view v) (map view more) e h.sound (rw (same_length vs) at))
+
+  pub set_begun : (items : List (Item (AnyRange K) (Unit {0}))) → items ≡ [] → IsStoredSet order items → IsSetSoFar [] items
+  set_begun items e form = record { sound = refl; ranges = []; read = tt; held = subst (λ is. HoldsAllAlso order [] is []) (sym e) (none_added order []); form = form }
+
+no_such : {A : Type 0} (x : A) → None ≡ Some x → ⊥
+no_such x e = search (rules, e)
+
+-- an array's elements are its list
+pub stands : (d : Data) (vs : List Value) → as_array d ≡ Some (items_view vs) → elements_of d ≡ Some (map view vs)
+stands null vs e = absurd (no_such _ e)
+stands (boolean b) vs e = absurd (no_such _ e)
+stands (number n) vs e = absurd (no_such _ e)
+stands (string s) vs e = absurd (no_such _ e)
+stands (array ds) vs e =
+    let same : ds ≡ items_of (map view vs) = search (rules, e) in
+    ap (λ is. Some (list_of is)) same ∙ ap (λ l. Some l) (list_back (map view vs))
+stands (object ms) vs e = absurd (no_such _ e)
+
+pub again : (xs : List Value) (v : Value) (more : List Value) → (xs ++ v ∷ []) ++ more ≡ xs ++ v ∷ more
+again [] v more = refl
+again (x ∷ xs) v more = ap (λ l. x ∷ l) (again xs v more)

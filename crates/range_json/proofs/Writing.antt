@@ -1,0 +1,28 @@
+-- What is written of a list while a loop goes over it.
+use Rattle.std.proofs.Common.{◌≡◌, refl, sym, ap, ◌∙◌, List, [], ◌∷◌, ◌++◌, map}
+use Rattle.std.proofs.lemmas.List.{map-append}
+use Rattle.serde_json.specs.Data.{Data}
+use Rattle.serde_json.specs.View.{view}
+use Rattle.serde_json.specs.declared.value.Value.{Value}
+
+module _ {X : Type 0} (shape : X → Data) where
+  -- the rest of the list is left, and all before it was written
+  abbrev pub HasWritten : List X → List X → List Value → Type 0
+  HasWritten all left written = map view written ++ map shape left ≡ map shape all
+
+  pub written_none : (all : List X) (written : List Value) → written ≡ [] → HasWritten all all written
+  written_none all written e = rw e refl
+
+  moved : (written : List Value) (v : Value) (rest : List Data) → map view (written ++ v ∷ []) ++ rest ≡ map view written ++ view v ∷ rest
+  moved [] v rest = refl
+  moved (w ∷ written) v rest = ap (λ ds. view w ∷ ds) (moved written v rest)
+
+  pub written_more : (all left : List X) (x : X) (written : List Value) (v : Value) → HasWritten all (x ∷ left) written → view v ≡ shape x → HasWritten all left (written ++ v ∷ [])
+  written_more all left x written v h e = moved written v (map shape left) ∙ ap (λ d. map view written ++ d ∷ map shape left) e ∙ h
+
+  none_left : (ds : List Data) → ds ++ [] ≡ ds
+  none_left [] = refl
+  none_left (d ∷ ds) = ap (λ es. d ∷ es) (none_left ds)
+
+  pub written_all : (all : List X) (written : List Value) → HasWritten all [] written → map view written ≡ map shape all
+  written_all all written h = sym (none_left (map view written)) ∙ h

@@ -1,0 +1,82 @@
+//! Bounds as JSON values.
+ghost use Rattle.std.specs.Prelude.{◌≡◌, ◌⊎◌, Some, None, option_map, IfOk, OnOk, IfErr};
+ghost use Rattle.serde_json.specs.Data.{object, member, no_members};
+ghost use Rattle.serde_json.specs.View.{view};
+ghost use Rattle.range_json.specs.Faults.{IsBoundRead, bound_fault, key_fault};
+ghost use Rattle.range_json.specs.Shapes.{bound_shape, only_member_of};
+ghost use Rattle.range_json.specs.declared.error.JsonError.TheVariants.{Memory};
+
+use crate::error::{JsonError, ReadError};
+use crate::json::Json;
+use serde_json::{Map, Value};
+use std::alloc::{AllocError, Global};
+use std::ops::Bound;
+
+/// An object of one member.
+fn object_of(alloc: Global, name: &str, value: Value) -> Result<Value, AllocError>
+    ensures { IfOk result (λ v. view v ≡ object (member name.now (view value) no_members)) }
+{
+    let mut members = Map::new(alloc);
+    drop(members.insert(String::from_str(alloc, name)?, value)?);
+    Ok(Value::Object(members))
+}
+
+/// A bound by its kind and its key.
+pub(crate) fn bound_to_json<K: Json>(alloc: Global, bound: &Bound<K>) -> Result<Value, AllocError>
+    ensures { IfOk result (λ v. view v ≡ bound_shape K.shape bound.now) }
+{
+    match bound {
+        Bound::Included(key) => object_of(alloc, "Included", key.to_json(alloc)?),
+        Bound::Excluded(key) => object_of(alloc, "Excluded", key.to_json(alloc)?),
+        Bound::Unbounded => Value::try_from_str(alloc, "Unbounded"),
+    }
+}
+
+/// A key of the element at `index`.
+fn key_from_json<K: Json>(alloc: Global, value: &Value, index: usize) -> Result<K, JsonError>
+    ensures read { IfOk result (K.is_read (view value.now)) }
+    ensures sound { OnOk result (key_fault K.reads index (view value.now) ≡ None) }
+    ensures fault { IfErr result (λ e. (e ≡ Memory) ⊎ (key_fault K.reads index (view value.now) ≡ Some e)) }
+{
+    match K::from_json(alloc, value) {
+        Ok(key) => Ok(key),
+        Err(ReadError::Memory) => Err(JsonError::Memory),
+        Err(ReadError::Refused) => Err(JsonError::Key(index)),
+    }
+}
+
+/// The one member of an object that has no other.
+fn only_member(value: &Value) -> Option<(&str, &Value)>
+    ensures { option_map (λ m. (m.0.now, view m.1.now)) result ≡ only_member_of (view value.now) }
+{
+    let members = value.as_object()?;
+    let mut walk = members.iter();
+    match (walk.next(), walk.next()) {
+        (Some((name, member)), None) => Some((name.as_str(), member)),
+        _ => None,
+    }
+}
+
+/// A bound of the element at `index`.
+pub(crate) fn bound_from_json<K: Json>(
+    alloc: Global,
+    value: &Value,
+    index: usize,
+) -> Result<Bound<K>, JsonError>
+    ensures read { IfOk result (IsBoundRead K.is_read (view value.now)) }
+    ensures sound { OnOk result (bound_fault K.reads index (view value.now) ≡ None) }
+    ensures fault { IfErr result (λ e. (e ≡ Memory) ⊎ (bound_fault K.reads index (view value.now) ≡ Some e)) }
+{
+    if let Some(text) = value.as_str() {
+        return if text == "Unbounded" {
+            Ok(Bound::Unbounded)
+        } else {
+            Err(JsonError::NotBound(index))
+        };
+    }
+    match only_member(value) {
+        Some(("Included", key)) => Ok(Bound::Included(key_from_json(alloc, key, index)?)),
+        Some(("Excluded", key)) => Ok(Bound::Excluded(key_from_json(alloc, key, index)?)),
+        _ => Err(JsonError::NotBound(index)),
+    }
+}

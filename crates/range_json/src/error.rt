@@ -1,0 +1,75 @@
+//! Why a JSON value was not read.
+ghost use Rattle.std.specs.Prelude.{◌≡◌};
+ghost use Rattle.range_json.specs.declared.error.JsonError.TheVariants.{Memory};
+ghost use Rattle.range_json.specs.declared.error.ReadError.TheVariants.{Memory as ReadMemory};
+
+use range_map::map::MapError;
+use std::alloc::AllocError;
+use thiserror::Error;
+
+/// Why a key or a value was not read.
+#[derive(Debug, Drop, Clone, Copy, PartialEq, Eq, Error)]
+pub enum ReadError {
+    /// There was not enough memory.
+    #[error("out of memory")]
+    Memory,
+    /// The JSON value is none of the type's.
+    #[error("no value of the type")]
+    Refused,
+}
+
+impl From<AllocError> for ReadError {
+    ghost from_gives = { λ _ e. e ≡ ReadMemory };
+
+    fn from(_error: AllocError) -> ReadError {
+        ReadError::Memory
+    }
+}
+
+/// Why a range, a set or a map was not read. The number is the place of the faulty element, from 0.
+#[derive(Debug, Drop, Clone, Copy, PartialEq, Eq, Error)]
+pub enum JsonError {
+    /// There was not enough memory.
+    #[error("out of memory")]
+    Memory,
+    /// The whole, or its member `items`, is no array.
+    #[error("no array")]
+    NotArray,
+    /// The element is no array of two.
+    #[error("element {0} is no pair")]
+    NotPair(usize),
+    /// The range is no array of two.
+    #[error("element {0} has no range")]
+    NotRange(usize),
+    /// A bound of the range is none.
+    #[error("element {0} has a bound that is none")]
+    NotBound(usize),
+    /// The key of a bound is none.
+    #[error("element {0} has a key that is none")]
+    Key(usize),
+    /// The value is none.
+    #[error("element {0} has a value that is none")]
+    Value(usize),
+    /// The range meets that of an earlier element.
+    #[error("element {0} meets an earlier one")]
+    Meets(usize),
+    /// The object is none of version 2.
+    #[error("another version")]
+    Version,
+}
+
+impl From<AllocError> for JsonError {
+    ghost from_gives = { λ _ e. e ≡ Memory };
+
+    fn from(_error: AllocError) -> JsonError {
+        JsonError::Memory
+    }
+}
+
+impl From<MapError> for JsonError {
+    ghost from_gives = { λ _ e. e ≡ Memory };
+
+    fn from(_error: MapError) -> JsonError {
+        JsonError::Memory
+    }
+}

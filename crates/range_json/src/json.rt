@@ -1,0 +1,45 @@
+//! Ranges, sets and maps as JSON values.
+ghost use Rattle.std.specs.Prelude.{◌≡◌, Bool, true, false, IsTrue, IfOk, OnOk, IsErrOf};
+ghost use Rattle.serde_json.specs.Data.{Data};
+ghost use Rattle.serde_json.specs.View.{view};
+ghost use Rattle.range_json.specs.declared.error.ReadError.TheVariants.{Refused};
+
+pub use crate::error::{JsonError, ReadError};
+pub use crate::map::map_to_json;
+pub use crate::range::{range_from_json, range_to_json};
+pub use crate::set::{set_from_json, set_to_json};
+use serde_json::Value;
+use std::alloc::{AllocError, Global};
+
+/// A type whose values are written as JSON values and read from them.
+pub trait Json: Sized + Drop {
+    // What a value is written as.
+    ghost shape: { Self → Data };
+
+    // Which JSON values are read.
+    ghost reads: { Data → Bool };
+
+    // A value that the type really has: a contract sees any whole number for a `u8`.
+    ghost is_value: { Self → Type 0 };
+
+    // The value is one that may be read there.
+    ghost is_read: { Data → Self → Type 0 };
+
+    /// The JSON value that stands for this one. Fails where memory is refused.
+    fn to_json(&self, alloc: Global) -> Result<Value, AllocError>
+        ensures written { IfOk result (λ v. view v ≡ shape self.now) }
+        ensures known { is_value self.now };
+
+    /// The value for which the JSON value stands. Fails where there is none, or memory is refused.
+    fn from_json(alloc: Global, value: &Value) -> Result<Self, ReadError>
+        ensures read { IfOk result (is_read (view value.now)) }
+        ensures readable { OnOk result (IsTrue (reads (view value.now))) }
+        ensures refused { IsErrOf result Refused → reads (view value.now) ≡ false };
+}
+
+/// A type that reads what it has written as an equal value. It has laws alone.
+pub trait ReadsBack: Json + Eq {
+    ghost reads_written: { (x : Self) → Self.is_value x → IsTrue (Self.reads (Self.shape x)) };
+
+    ghost reads_back: { (x y : Self) → Self.is_value x → Self.is_read (Self.shape x) y → IsTrue (Self.eq x y) };
+}

@@ -1,0 +1,62 @@
+//! Ranges as JSON values.
+ghost use Rattle.std.specs.Prelude.{◌≡◌, ◌⊎◌, Some, None, option_map, IfOk, OnOk, IfErr};
+ghost use Rattle.serde_json.specs.View.{view};
+ghost use Rattle.range_json.specs.Shapes.{range_shape, pair_of};
+ghost use Rattle.range_json.specs.Faults.{IsRangeRead, range_fault};
+ghost use Rattle.range_json.specs.declared.error.JsonError.TheVariants.{Memory};
+
+use crate::bound::{bound_from_json, bound_to_json};
+use crate::error::JsonError;
+use crate::json::Json;
+use range_algebra::any::AnyRange;
+use serde_json::Value;
+use std::alloc::{AllocError, Global};
+
+/// The range as an array of its start and its end, as they are spelled.
+pub fn range_to_json<K: Json>(alloc: Global, range: &AnyRange<K>) -> Result<Value, AllocError>
+    ensures { IfOk result (λ v. view v ≡ range_shape K.shape range.now) }
+{
+    let mut ends = Vec::with_capacity(alloc, 2)?;
+    ends.push(bound_to_json(alloc, &range.start)?)?;
+    ends.push(bound_to_json(alloc, &range.end)?)?;
+    Ok(Value::Array(ends))
+}
+
+/// The two elements of an array of two.
+pub(crate) fn pair(value: &Value) -> Option<(&Value, &Value)>
+    ensures { option_map (λ p. (view p.0.now, view p.1.now)) result ≡ pair_of (view value.now) }
+{
+    let mut walk = value.as_array()?.iter();
+    match (walk.next(), walk.next(), walk.next()) {
+        (Some(first), Some(second), None) => Some((first, second)),
+        _ => None,
+    }
+}
+
+/// The range of the element at `index`.
+pub(crate) fn element_range<K: Json>(
+    alloc: Global,
+    value: &Value,
+    index: usize,
+) -> Result<AnyRange<K>, JsonError>
+    ensures read { IfOk result (IsRangeRead K.is_read (view value.now)) }
+    ensures sound { OnOk result (range_fault K.reads index (view value.now) ≡ None) }
+    ensures fault { IfErr result (λ e. (e ≡ Memory) ⊎ (range_fault K.reads index (view value.now) ≡ Some e)) }
+{
+    match pair(value) {
+        Some((start, end)) => Ok(AnyRange {
+            start: bound_from_json(alloc, start, index)?,
+            end: bound_from_json(alloc, end, index)?,
+        }),
+        None => Err(JsonError::NotRange(index)),
+    }
+}
+
+/// The range with the bounds that stand in an array of two.
+pub fn range_from_json<K: Json>(alloc: Global, value: &Value) -> Result<AnyRange<K>, JsonError>
+    ensures read { IfOk result (IsRangeRead K.is_read (view value.now)) }
+    ensures sound { OnOk result (range_fault K.reads 0 (view value.now) ≡ None) }
+    ensures fault { IfErr result (λ e. (e ≡ Memory) ⊎ (range_fault K.reads 0 (view value.now) ≡ Some e)) }
+{
+    element_range(alloc, value, 0)
+}

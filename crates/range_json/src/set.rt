@@ -1,0 +1,55 @@
+//! Sets as JSON values.
+ghost use Rattle.std.specs.Prelude.{◌≡◌, ◌⊎◌, Some, None, IfOk, OnOk, IfErr};
+ghost use Rattle.serde_json.specs.View.{view};
+ghost use Rattle.range_algebra.specs.Range.{ClonesAreEqual};
+ghost use Rattle.range_sets.specs.KeySets.{IsStoredSet};
+ghost use Rattle.range_json.specs.Shapes.{set_shape};
+ghost use Rattle.range_json.specs.Faults.{HoldsWhatStands, set_fault};
+ghost use Rattle.range_json.specs.declared.error.JsonError.TheVariants.{Memory};
+
+use crate::error::JsonError;
+use crate::json::Json;
+use crate::range::{element_range, range_to_json};
+use range_algebra::any::AnyRange;
+use range_keys::traits::{Measure, PartialEnum};
+use range_sets::set::RangeSet;
+use range_store::storage::{Item, Storage};
+use serde_json::Value;
+use std::alloc::{AllocError, Global};
+
+/// The stored ranges as an array, in order.
+pub fn set_to_json<T: Json + PartialEnum, C: Storage<Item<AnyRange<T>, ()>>>(
+    alloc: Global,
+    set: &RangeSet<T, C>,
+) -> Result<Value, AllocError>
+    ensures { IfOk result (λ v. view v ≡ set_shape T.shape (C.items set.now)) }
+{
+    let mut written = Vec::with_capacity(alloc, set.range_count())?;
+    let mut ranges = set.iter();
+    while let Some(range) = ranges.next() {
+        written.push(range_to_json(alloc, range)?)?;
+    }
+    Ok(Value::Array(written))
+}
+
+/// A set of just the keys of the ranges that stand in an array.
+pub fn set_from_json<T: Json + Measure + Clone, C: Storage<Item<AnyRange<T>, ()>>>(
+    alloc: Global,
+    value: &Value,
+) -> Result<RangeSet<T, C>, JsonError>
+    requires { ClonesAreEqual T.is_clone T.eq }
+    ensures held { IfOk result (λ set. HoldsWhatStands T.is_read T.order (view value.now) (C.items set)) }
+    ensures form { IfOk result (λ set. IsStoredSet T.order (C.items set)) }
+    ensures sound { OnOk result (set_fault T.reads (view value.now) ≡ None) }
+    ensures fault { IfErr result (λ e. (e ≡ Memory) ⊎ (set_fault T.reads (view value.now) ≡ Some e)) }
+{
+    let elements = match value.as_array() {
+        Some(elements) => elements,
+        None => return Err(JsonError::NotArray),
+    };
+    let mut set = RangeSet::new(alloc);
+    for (index, element) in elements.iter().enumerate() {
+        set.insert(element_range(alloc, element, index)?)?;
+    }
+    Ok(set)
+}
