@@ -1,2 +1,3 @@
+pub mod MapReading
 pub mod Reading
 pub mod Writing

@@ -1,19 +1,19 @@
 -- What is read of a list while a loop goes over it.
-use Rattle.std.proofs.Common.{◌≡◌, refl, sym, ap, subst, ◌∙◌, ◌⊎◌, ◌↔◌, inl, inr, ℕ, suc, ◌+◌, List, [], ◌∷◌, ◌++◌, map, length, Bool, Option, Some, None, arith, rules}
+use Rattle.std.proofs.Common.{◌≡◌, refl, sym, ap, subst, ◌∙◌, ℕ, suc, ◌+◌, List, [], ◌∷◌, ◌++◌, map, length, Bool, Option, Some, None, arith, rules}
 use Rattle.std.proofs.lemmas.List.{map-append}
-use Rattle.serde_json.specs.Data.{Data, Items, null, boolean, number, string, array, object}
+use Rattle.std.specs.List.{AllZip}
+use Rattle.serde_json.specs.Data.{Data, null, boolean, number, string, array, object}
 use Rattle.serde_json.specs.Find.{as_array}
 use Rattle.serde_json.specs.View.{view, items_of, items_view}
 use Rattle.serde_json.specs.declared.value.Value.{Value}
 use Rattle.range_keys.specs.Order.{KeyOrder}
 use Rattle.range_algebra.specs.declared.any.AnyRange.{AnyRange}
 use Rattle.range_store.specs.declared.storage.Item.{Item}
-use Rattle.range_map.specs.Stored.{IsStored}
-use Rattle.range_sets.specs.KeySets.{HoldsAllOf, HoldsAllAlso, HoldsAlso, IsStoredSet}
-use Rattle.range_sets.proofs.Membership.{one_more, none_added, all_of}
+use Rattle.range_sets.specs.KeySets.{HoldsAllAlso, HoldsAlso, IsStoredSet}
+use Rattle.range_sets.proofs.Membership.{one_more, none_added}
 use Rattle.range_json.specs.declared.error.JsonError.{JsonError}
 use Rattle.range_json.specs.Shapes.{list_of, elements_of}
-use Rattle.range_json.specs.Faults.{before, first_fault, range_fault, IsRangeRead, AreRangesRead}
+use Rattle.range_json.specs.Faults.{before, first_fault, range_fault, IsRangeRead}
 
 -- the elements of an array are the list that it is made of
 pub list_back : (ds : List Data) → list_of (items_of ds) ≡ ds
@@ -51,31 +51,32 @@ module _ (fault : ℕ → Data → Fault) where
   pub no_fault_more : (ds : List Data) (d : Data) → first_fault fault 0 ds ≡ None → fault (length ds) d ≡ None → first_fault fault 0 (ds ++ d ∷ []) ≡ None
   no_fault_more ds d h at = from_start ds (d ∷ []) h ∙ ap (λ f. before f None) at
 
+-- one more is read behind those that are
+pub read_more : {X : Type 0} (R : Data → X → Type 0) (ds : List Data) (xs : List X) (d : Data) (x : X) → AllZip R ds xs → R d x → AllZip R (ds ++ d ∷ []) (xs ++ x ∷ [])
+read_more R [] [] d x h k = (k, tt)
+read_more R [] (y ∷ xs) d x h k = absurd h
+read_more R (e ∷ ds) [] d x h k = absurd h
+read_more R (e ∷ ds) (y ∷ xs) d x h k = (h.0, read_more R ds xs d x h.1 k)
+
+pub same_length : (vs : List Value) → length (map view vs) ≡ length vs
+same_length [] = refl
+same_length (v ∷ vs) = ap suc (same_length vs)
+
 module _ {K : Type 0} (key_reads : Data → Bool) (key_is_read : Data → K → Type 0) (order : KeyOrder K) where
   -- the values have no fault, and the list holds just the keys of what they are read as
   pub record IsSetSoFar (vs : List Value) (items : List (Item (AnyRange K) (Unit {0}))) : Type 0 where
     pub sound : first_fault (range_fault key_reads) 0 (map view vs) ≡ None
     pub ranges : List (AnyRange K)
-    pub read : AreRangesRead key_is_read (map view vs) ranges
+    pub read : AllZip (IsRangeRead key_is_read) (map view vs) ranges
     pub held : HoldsAllAlso order [] items ranges
     pub form : IsStoredSet order items
-
-  read_more : (ds : List Data) (rs : List (AnyRange K)) (d : Data) (r : AnyRange K) → AreRangesRead key_is_read ds rs → IsRangeRead key_is_read d r → AreRangesRead key_is_read (ds ++ d ∷ []) (rs ++ r ∷ [])
-  read_more [] [] d r h k = (k, tt)
-  read_more [] (s ∷ rs) d r h k = absurd h
-  read_more (e ∷ ds) [] d r h k = absurd h
-  read_more (e ∷ ds) (s ∷ rs) d r h k = (h.0, read_more ds rs d r h.1 k)
-
-  same_length : (vs : List Value) → length (map view vs) ≡ length vs
-  same_length [] = refl
-  same_length (v ∷ vs) = ap suc (same_length vs)
 
   pub set_more : (vs : List Value) (v : Value) (before_it after_it : List (Item (AnyRange K) (Unit {0}))) (r : AnyRange K)
       → IsSetSoFar vs before_it → range_fault key_reads (length vs) (view v) ≡ None → IsRangeRead key_is_read (view v) r → HoldsAlso order before_it after_it r → IsStoredSet order after_it → IsSetSoFar (vs ++ v ∷ []) after_it
   set_more vs v old new r h fine is_read added form = record {
     sound = rw (map-append view vs (v ∷ [])) (no_fault_more (range_fault key_reads) (map view vs) (view v) h.sound (rw (same_length vs) fine));
     ranges = h.ranges ++ r ∷ [];
-    read = rw (map-append view vs (v ∷ [])) (read_more (map view vs) h.ranges (view v) r h.read is_read);
+    read = rw (map-append view vs (v ∷ [])) (read_more (IsRangeRead key_is_read) (map view vs) h.ranges (view v) r h.read is_read);
     held = one_more order [] old new h.ranges r h.held added;
     form = form;
   }

@@ -1,8 +1,8 @@
 -- What a key or a plain value is written as, and which one a JSON value stands for.
-use Rattle.std.specs.Prelude.{ℕ, ◌≤◌, ◌&&◌, ℤ, pos, negsuc, int_lt, not, List, [], ◌∷◌, Bool, true, false, nat_le, if◌then◌else◌, Option, Some, None, option_and_then, is_some, chars, encode_utf8, length, ◌==◌}
+use Rattle.std.specs.Prelude.{ℕ, ℤ, pos, negsuc, int_lt, List, nat_le, if◌then◌else◌, Option, Some, None, option_and_then, chars, encode_utf8, length, ◌==◌}
 use Rattle.std.specs.List.{slice_get}
-use Rattle.serde_json.specs.Data.{Data, null, boolean, number, string, array, object, unsigned}
-use Rattle.serde_json.specs.Find.{as_number, as_u64, as_i64, as_str, as_bool, of_integer}
+use Rattle.serde_json.specs.Data.{Data, number, string, unsigned}
+use Rattle.serde_json.specs.Find.{as_number, as_u64, as_i64, as_str, of_integer}
 
 abbrev pub up_to : ℕ → ℕ → Option ℕ
 up_to top n = if nat_le n top then Some n else None

@@ -1,3 +1,6 @@
 pub mod Keys
 pub mod Shapes
 pub mod Faults
+pub mod MapFaults
+pub mod Putting
+pub mod ReadBack

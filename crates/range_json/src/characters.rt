@@ -3,9 +3,9 @@ ghost use Rattle.std.specs.Prelude.{◌≡◌, Some, is_some};
 ghost use Rattle.range_keys.specs.Characters.{character_order};
 ghost use Rattle.range_json.specs.Keys.{character_of, character_shape};
 
-use range_keys::traits::MaybeBounded;
 use crate::error::ReadError;
 use crate::json::Json;
+use range_keys::traits::MaybeBounded;
 use serde_json::Value;
 use std::alloc::{AllocError, Global};
 

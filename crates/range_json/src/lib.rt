@@ -1,12 +1,16 @@
 //! Ranges, sets and maps as JSON values, and what JSON values are read as.
 #![tactic(auto)]
 
+mod array;
 mod bound;
 mod characters;
+mod element;
 mod error;
-mod integers;
 pub mod json;
 mod map;
 mod plain;
 mod range;
 mod set;
+mod signed;
+mod unsigned;
+mod version;

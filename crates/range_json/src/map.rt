@@ -1,13 +1,19 @@
 //! Maps as JSON values.
-ghost use Rattle.std.specs.Prelude.{◌≡◌, IfOk};
+ghost use Rattle.std.specs.Prelude.{◌≡◌, ◌⊎◌, IfOk, IfErr};
 ghost use Rattle.serde_json.specs.View.{view};
+ghost use Rattle.range_algebra.specs.Range.{ClonesAreEqual};
+ghost use Rattle.range_map.specs.Stored.{IsStored};
 ghost use Rattle.range_json.specs.Shapes.{map_shape, pair_shape, range_shape};
+ghost use Rattle.range_json.specs.MapFaults.{IsMapRead, IsMapFault};
+ghost use Rattle.range_json.specs.declared.error.JsonError.TheVariants.{Memory};
 
+use crate::element::{element_from_json, insert_element};
 use crate::error::JsonError;
 use crate::json::Json;
 use crate::range::range_to_json;
+use crate::version::elements_of_map;
 use range_algebra::any::AnyRange;
-use range_keys::traits::PartialEnum;
+use range_keys::traits::{Measure, PartialEnum};
 use range_map::map::RangeMap;
 use range_store::storage::{Item, Storage};
 use serde_json::{Map, Value};
@@ -43,4 +49,34 @@ pub fn map_to_json<K: Json + PartialEnum, V: Json + Eq, C: Storage<Item<AnyRange
     serde_json::put(&mut members, alloc, "items", Value::Array(written))?;
     serde_json::put(&mut members, alloc, "version", Value::from(2u64))?;
     Ok(Value::Object(members))
+}
+
+/// A map that binds the keys of each range in the array to the value beside it.
+///
+/// Reads what `map_to_json` writes, and the bare array of its member `items`. Touching ranges of
+/// equal values are kept as one, and empty ranges bind nothing. Costs an insertion for each
+/// element.
+///
+/// # Errors
+///
+/// The fault of the first faulty element, with its place: an element that is no pair, a range that
+/// is none, a bound or a key that is none, a value that is none, or a nonempty range that meets that
+/// of an earlier element. `NotArray` and `Version` where the whole has neither shape. `Memory` where
+/// an allocation fails.
+pub fn map_from_json<
+    K: Json + Measure + Clone,
+    V: Json + Eq + Clone,
+    C: Storage<Item<AnyRange<K>, V>>,
+>(alloc: Global, value: &Value) -> Result<RangeMap<K, V, C>, JsonError>
+    requires { ClonesAreEqual K.is_clone K.eq }
+    ensures read { IfOk result (λ map. IsMapRead K.order K.reads V.reads K.is_read V.is_read V.eq (view value.now) (C.items map)) }
+    ensures form { IfOk result (λ map. IsStored K.order V.eq (C.items map)) }
+    ensures fault { IfErr result (λ e. (e ≡ Memory) ⊎ IsMapFault K.order K.reads V.reads K.is_read V.is_read (view value.now) e) }
+{
+    let elements = elements_of_map(value)?;
+    let mut map = RangeMap::new(alloc);
+    for (index, element) in elements.iter().enumerate() {
+        insert_element(&mut map, element_from_json(alloc, element, index)?, index)?;
+    }
+    Ok(map)
 }

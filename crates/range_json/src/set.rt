@@ -7,6 +7,7 @@ ghost use Rattle.range_json.specs.Shapes.{set_shape};
 ghost use Rattle.range_json.specs.Faults.{HoldsWhatStands, set_fault};
 ghost use Rattle.range_json.specs.declared.error.JsonError.TheVariants.{Memory};
 
+use crate::array::elements_of_array;
 use crate::error::JsonError;
 use crate::json::Json;
 use crate::range::{element_range, range_to_json};
@@ -43,10 +44,7 @@ pub fn set_from_json<T: Json + Measure + Clone, C: Storage<Item<AnyRange<T>, ()>
     ensures sound { OnOk result (set_fault T.reads (view value.now) ≡ None) }
     ensures fault { IfErr result (λ e. (e ≡ Memory) ⊎ (set_fault T.reads (view value.now) ≡ Some e)) }
 {
-    let elements = match value.as_array() {
-        Some(elements) => elements,
-        None => return Err(JsonError::NotArray),
-    };
+    let elements = elements_of_array(value)?;
     let mut set = RangeSet::new(alloc);
     for (index, element) in elements.iter().enumerate() {
         set.insert(element_range(alloc, element, index)?)?;

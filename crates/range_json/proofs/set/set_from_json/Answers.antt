@@ -1,56 +1,61 @@
-use Rattle.std.proofs.Common.{◌≡◌, ◌⊎◌, inl, inr, sym, ap, ◌∙◌, Some, None, ℕ, ◌+◌, ◌<◌, ◌++◌, ◌∷◌, [], take, drop, get_or, subst, rules, length, map, arith}
+use Rattle.std.proofs.Common.{◌≡◌, ◌⊎◌, inl, inr, sym, ap, ◌∙◌, Some, ◌+◌, ◌<◌, ◌++◌, ◌∷◌, [], take, drop, subst, rules, length, map, arith, true}
 use Rattle.std.proofs.Math.Seq.{take-length}
 use Rattle.std.proofs.lemmas.List.{take_more, length-take-le, take-append-drop}
-use Rattle.serde_json.specs.Find.{as_array}
-use Rattle.serde_json.specs.View.{view, items_view}
+use Rattle.serde_json.specs.View.{view}
 use Rattle.range_json.specs.Faults.{range_fault, first_fault, array_fault, set_fault}
 use Rattle.range_json.specs.declared.error.JsonError.TheVariants.{Memory}
 use Rattle.range_sets.proofs.Membership.{all_of}
-use Rattle.range_json.proofs.Reading.{set_more, set_fails, stands, again, IsSetSoFar}
+use Rattle.range_json.proofs.Reading.{set_begun, set_more, set_fails, again, IsSetSoFar}
+use Rattle.range_json.proofs.MapReading.{none_stored}
 use Rattle.range_json.proofs.set.set_from_json.Goals as goal
+
+pub loop-index-init : goal.loop-index-init
+loop-index-init g c =
+    let items = g.C.Storage.items c.new-set.result in
+    set_begun g.T.Json.reads g.T.Json.is_read g.T.MaybeBounded.order items c.new-set.ensures (none_stored g.T.MaybeBounded.order (λ _ _. true) items c.new-set.ensures)
 
 pub loop-index-preserved : goal.loop-index-preserved
 loop-index-preserved g c =
-    let vs = c.deref-element-items.result.now in
+    let vs = c.in_ok-elements.elements.now in
     let n = c.loop-index.index in
-    let v = c.element-item.result in
+    let v = c.index-elements-index.result in
     let items = g.C.Storage.items in
-    let within : n < length vs = omega (arith, c.loop-index-test.true, c.loop-index.auto.index-end, c.deref-element-items.ensures.len) in
-    let more : take (n + 1) vs ≡ take n vs ++ v ∷ [] = take_more vs n v within ∙ ap (λ w. take n vs ++ w ∷ []) (sym c.element-item.is) in
+    let within : n < length vs = omega (arith, c.loop-index-test.true, c.loop-index.auto.index-end) in
+    let more : take (n + 1) vs ≡ take n vs ++ v ∷ [] = take_more vs n v within ∙ ap (λ w. take n vs ++ w ∷ []) (sym c.index-elements-index.is) in
     let size : length (take n vs) ≡ n = length-take-le n vs (omega (arith, within)) in
     rw more (set_more g.T.Json.reads g.T.Json.is_read g.T.MaybeBounded.order (take n vs) v (items c.loop-index.set) (items c.insert.new.self) c.in_ok-element_range.field-0 c.loop-index.invariant (rw size c.in_ok-element_range.ensures.sound) c.in_ok-element_range.ensures.read c.in_ok-insert.ensures.added c.insert.ensures.form)
 
 pub returns-clause-held : goal.returns-clause-held
 returns-clause-held g c =
-    let vs = c.deref-element-items.result.now in
+    let vs = c.in_ok-elements.elements.now in
     let n = c.loop-index.index in
-    let full : n ≡ length vs = omega (arith, c.loop-index-test.false, c.loop-index.auto.index-end, c.deref-element-items.ensures.len) in
+    let full : n ≡ length vs = omega (arith, c.loop-index-test.false, c.loop-index.auto.index-end) in
     let all : take n vs ≡ vs = ap (λ i. take i vs) full ∙ take-length vs in
     let whole = subst (λ l. IsSetSoFar g.T.Json.reads g.T.Json.is_read g.T.MaybeBounded.order l (g.C.Storage.items c.loop-index.set)) all c.loop-index.invariant in
-    let array = stands (view c.args.value.now) vs (sym c.in-Some.ensures ∙ ap (λ l. Some (items_view l)) (sym c.deref-element-items.ensures.value)) in
+    let array = c.in_ok-elements.ensures.found in
     (map view vs, whole.ranges, array, whole.read, all_of g.T.MaybeBounded.order (g.C.Storage.items c.loop-index.set) whole.ranges whole.held)
 
 pub returns-clause-sound : goal.returns-clause-sound
 returns-clause-sound g c =
-    let vs = c.deref-element-items.result.now in
+    let vs = c.in_ok-elements.elements.now in
     let n = c.loop-index.index in
-    let full : n ≡ length vs = omega (arith, c.loop-index-test.false, c.loop-index.auto.index-end, c.deref-element-items.ensures.len) in
+    let full : n ≡ length vs = omega (arith, c.loop-index-test.false, c.loop-index.auto.index-end) in
     let all : take n vs ≡ vs = ap (λ i. take i vs) full ∙ take-length vs in
     let whole = subst (λ l. IsSetSoFar g.T.Json.reads g.T.Json.is_read g.T.MaybeBounded.order l (g.C.Storage.items c.loop-index.set)) all c.loop-index.invariant in
-    let array = stands (view c.args.value.now) vs (sym c.in-Some.ensures ∙ ap (λ l. Some (items_view l)) (sym c.deref-element-items.ensures.value)) in
+    let array = c.in_ok-elements.ensures.found in
     ap (array_fault (range_fault g.T.Json.reads)) array ∙ whole.sound
 
 pub returns-in_err-element_range-clause-fault : goal.returns-in_err-element_range-clause-fault
 returns-in_err-element_range-clause-fault g c =
-    let vs = c.deref-element-items.result.now in
+    let vs = c.in_ok-elements.elements.now in
     let n = c.loop-index.index in
-    let v = c.element-item.result in
-    let within : n < length vs = omega (arith, c.loop-index-test.true, c.loop-index.auto.index-end, c.deref-element-items.ensures.len) in
-    let more : take (n + 1) vs ≡ take n vs ++ v ∷ [] = take_more vs n v within ∙ ap (λ w. take n vs ++ w ∷ []) (sym c.element-item.is) in
+    let v = c.index-elements-index.result in
+    let within : n < length vs = omega (arith, c.loop-index-test.true, c.loop-index.auto.index-end) in
+    let more : take (n + 1) vs ≡ take n vs ++ v ∷ [] = take_more vs n v within ∙ ap (λ w. take n vs ++ w ∷ []) (sym c.index-elements-index.is) in
     let size : length (take n vs) ≡ n = length-take-le n vs (omega (arith, within)) in
     let rest = drop (n + 1) vs in
     let all : take n vs ++ v ∷ rest ≡ vs = sym (again (take n vs) v rest) ∙ ap (λ l. l ++ rest) (sym more) ∙ take-append-drop (n + 1) vs in
-    let array = stands (view c.args.value.now) vs (sym c.in-Some.ensures ∙ ap (λ l. Some (items_view l)) (sym c.deref-element-items.ensures.value)) in
+    let array = c.in_ok-elements.ensures.found in
     let e = c.in_err-element_range.field-0.0 in
     let told : (e ≡ Memory) ⊎ (set_fault g.T.Json.reads (view c.args.value.now) ≡ Some e) = elim c.in_err-element_range.ensures.fault [
       | inl memory ↦ inl memory

@@ -1,0 +1,40 @@
+//! The two shapes of a map: an array, or an object with the number of its version.
+ghost use Rattle.std.specs.Prelude.{◌≡◌, Ok, Err, IfOk, IfErr, map};
+ghost use Rattle.serde_json.specs.View.{view, members_view};
+ghost use Rattle.range_json.specs.MapFaults.{are_known, map_elements};
+
+use crate::array::elements_of_array;
+use crate::error::JsonError;
+use serde_json::{Map, Value};
+
+/// Whether no member has another name than `version` and `items`.
+fn has_known_members(members: &Map<String, Value>) -> bool
+    ensures { result ≡ are_known (members_view members.now.entries) }
+{
+    let mut walk = members.iter();
+    while let Some((name, _member)) = walk.next() {
+        if name.as_str() != "version" && name.as_str() != "items" {
+            return false;
+        }
+    }
+    true
+}
+
+/// The elements of a map in either shape.
+pub(crate) fn elements_of_map(value: &Value) -> Result<&[Value], JsonError>
+    ensures found { IfOk result (λ vs. map_elements (view value.now) ≡ Ok (map view vs.now)) }
+    ensures fault { IfErr result (λ e. map_elements (view value.now) ≡ Err e) }
+{
+    let members = match value.as_object() {
+        Some(members) => members,
+        None => return elements_of_array(value),
+    };
+    let version = value.get("version").and_then(Value::as_u64);
+    if version != Some(2) || !has_known_members(members) {
+        return Err(JsonError::Version);
+    }
+    match value.get("items") {
+        Some(items) => elements_of_array(items),
+        None => Err(JsonError::NotArray),
+    }
+}
