@@ -2,9 +2,10 @@
 ghost use Rattle.std.specs.Prelude.{◌≡◌, Some, is_some};
 ghost use Rattle.range_keys.specs.Characters.{character_order};
 ghost use Rattle.range_json.specs.Keys.{character_of, character_shape};
+ghost use Rattle.range_json.specs.ReadBack.{character_back, told_some, same_number};
 
 use crate::error::ReadError;
-use crate::json::Json;
+use crate::json::{Json, ReadsBack};
 use range_keys::traits::MaybeBounded;
 use serde_json::Value;
 use std::alloc::{AllocError, Global};
@@ -35,4 +36,10 @@ impl Json for char {
             _ => Err(ReadError::Refused),
         }
     }
+}
+
+impl ReadsBack for char {
+    ghost reads_written = { λ x h. told_some (character_back x h) };
+
+    ghost reads_back = { λ x y h e. same_number (character_back x h) e };
 }
