@@ -55,8 +55,14 @@ pub use Rattle.range_sets.specs.Runs
 pub use Rattle.range_sets.specs.SetOrder
 pub use Rattle.range_sets.specs.SetTexts
 pub use Rattle.range_sets.specs.Tagged
+pub use Rattle.range_json.specs.Faults
+pub use Rattle.range_json.specs.Keys
+pub use Rattle.range_json.specs.MapFaults
+pub use Rattle.range_json.specs.Shapes
 -- The types that contracts name.
 pub use Rattle.range_algebra.specs.declared.any.AnyRange
 pub use Rattle.range_store.specs.declared.storage.Item
 pub use Rattle.range_sets.specs.declared.command.Command
 pub use Rattle.range_sets.specs.declared.command.Reply
+pub use Rattle.range_json.specs.declared.error.JsonError
+pub use Rattle.range_json.specs.declared.error.ReadError

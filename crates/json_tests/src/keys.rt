@@ -1,0 +1,68 @@
+//! The types that come with `Json`.
+
+use crate::support::parsed;
+use range_json::json::{Json, ReadError};
+use std::alloc::{AllocError, Global};
+use std::test::Fail;
+
+/// Whether a JSON text is read as the value and written so.
+fn stands_for<T: Json + Eq>(alloc: Global, text: &str, wanted: T) -> Result<bool, AllocError> {
+    let Some(value) = parsed(alloc, text) else {
+        return Ok(false);
+    };
+    match T::from_json(alloc, &value) {
+        Ok(read) => Ok(read == wanted && wanted.to_json(alloc)? == value),
+        Err(_) => Ok(false),
+    }
+}
+
+/// Whether none of the texts stands for a value of the type.
+fn none_stands<T: Json>(alloc: Global, texts: &[&str]) -> bool {
+    for text in texts {
+        let Some(value) = parsed(alloc, text) else {
+            return false;
+        };
+        match T::from_json(alloc, &value) {
+            Err(ReadError::Refused) => (),
+            _ => return false,
+        }
+    }
+    true
+}
+
+#[test]
+fn unsigned_integers(rt: HostRuntime) -> Result<(), Fail> {
+    let alloc = rt.alloc();
+    assert!(rt; stands_for(alloc, "255", u8::MAX)?);
+    assert!(rt; stands_for(alloc, "65535", u16::MAX)?);
+    assert!(rt; stands_for(alloc, "4294967295", u32::MAX)?);
+    assert!(rt; stands_for(alloc, "18446744073709551615", u64::MAX)?);
+    assert!(rt; stands_for(alloc, "0", 0usize)?);
+    assert!(rt; none_stands::<u8>(alloc, &["256", "-1", "1.0", "\"1\"", "null"]));
+    assert!(rt; none_stands::<u64>(alloc, &["18446744073709551616", "-1"]));
+    Ok(())
+}
+
+#[test]
+fn signed_integers(rt: HostRuntime) -> Result<(), Fail> {
+    let alloc = rt.alloc();
+    assert!(rt; stands_for(alloc, "-128", i8::MIN)?);
+    assert!(rt; stands_for(alloc, "32767", i16::MAX)?);
+    assert!(rt; stands_for(alloc, "-2147483648", i32::MIN)?);
+    assert!(rt; stands_for(alloc, "-9223372036854775808", i64::MIN)?);
+    assert!(rt; none_stands::<i8>(alloc, &["128", "-129", "1.0", "true"]));
+    assert!(rt; none_stands::<i64>(alloc, &["9223372036854775808"]));
+    Ok(())
+}
+
+#[test]
+fn characters_and_plain_values(rt: HostRuntime) -> Result<(), Fail> {
+    let alloc = rt.alloc();
+    assert!(rt; stands_for(alloc, r#""\uD800\uDC00""#, '\u{10000}')?);
+    assert!(rt; none_stands::<char>(alloc, &["\"\"", "\"ab\"", "7"]));
+    assert!(rt; stands_for(alloc, "true", true)?);
+    assert!(rt; none_stands::<bool>(alloc, &["1", "\"true\""]));
+    assert!(rt; stands_for(alloc, "\"ab\"", String::from_str(alloc, "ab")?)?);
+    assert!(rt; none_stands::<String>(alloc, &["1", "[]"]));
+    Ok(())
+}

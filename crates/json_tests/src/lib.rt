@@ -1,0 +1,11 @@
+//! Tests of JSON both ways.
+#![tactic(auto)]
+
+#[cfg(test)]
+mod keys;
+#[cfg(test)]
+mod maps;
+#[cfg(test)]
+mod sets;
+#[cfg(test)]
+mod support;
