@@ -10,6 +10,7 @@ pub mod Histories
 pub mod Likeness
 pub mod Matching
 pub mod Membership
+pub mod Pairing
 pub mod Ranges
 pub mod Replies
 pub mod Showing

@@ -13,7 +13,7 @@ module _ {K : Type 0} (order : KeyOrder K) where
   Items = List (Item (AnyRange K) (Unit {0}))
 
   module _ (lawful : IsLawful order) where
-    held_or_not : (r : AnyRange K) (k : K) → Holds order r k ⊎ (¬ Holds order r k)
+    pub held_or_not : (r : AnyRange K) (k : K) → Holds order r k ⊎ (¬ Holds order r k)
     held_or_not r k = elim (start_decided order lawful r.start k) [
       | inr out ↦ inr (λ h. out h.0)
       | inl starts ↦ elim (end_decided order lawful r.end k) [ inr out ↦ inr (λ h. out h.1) | inl ends ↦ inl (starts, ends) ]

@@ -3,6 +3,8 @@ pub mod CountedRuns
 pub mod Extending
 pub mod History
 pub mod KeySets
+pub mod Members
+pub mod Relations
 pub mod Runs
 pub mod SetOrder
 pub mod SetTexts

@@ -11,5 +11,7 @@ mod into_iter;
 mod iter;
 mod laws;
 mod measuring;
+mod members;
+pub mod multimap;
 pub mod set;
 mod text;

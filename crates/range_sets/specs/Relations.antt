@@ -1,0 +1,33 @@
+-- Which pairs of a key and a value a list of ranges with sets has, and what becomes of them.
+use Rattle.std.specs.Prelude.{◌≡◌, Bool, IsTrue, List, ◌⊎◌, ◌↔◌, Option}
+use Rattle.range_keys.specs.Order.{KeyOrder}
+use Rattle.range_algebra.specs.Intervals.{Any, Every}
+use Rattle.range_algebra.specs.Range.{Holds}
+use Rattle.range_algebra.specs.declared.any.AnyRange.{AnyRange}
+use Rattle.range_store.specs.declared.storage.Item.{Item}
+use Rattle.range_sets.specs.Members.{among}
+
+-- no stored set is empty
+abbrev pub HasNoEmptySet : {K S : Type 0} → (S → Type 0) → List (Item (AnyRange K) S) → Type 0
+HasNoEmptySet is_void items = Every (λ i. ¬ is_void i.value) items
+
+module _ {K : Type 0} (order : KeyOrder K) {S V : Type 0} (has : S → V → Bool) where
+  abbrev Items : Type 0
+  Items = List (Item (AnyRange K) S)
+
+  -- some stored range holds the key, and its set has the value
+  abbrev pub HasPair : List (Item (AnyRange K) S) → K → V → Type 0
+  HasPair items k v = Any (λ i. Holds order i.key k × IsTrue (has i.value v)) items
+
+  -- the answer is the set of the values that are paired with the key, and none where there is no such value
+  abbrev pub AreValuesAt : List (Item (AnyRange K) S) → K → Option S → Type 0
+  AreValuesAt items k answer = (v : V) → HasPair items k v ↔ IsTrue (among has answer v)
+
+  module _ (eq : V → V → Bool) where
+    -- the pairs of the range's keys with what equals the value were added, and no others
+    abbrev pub HasPairsAlso : List (Item (AnyRange K) S) → List (Item (AnyRange K) S) → AnyRange K → V → Type 0
+    HasPairsAlso before after r v = (k : K) → order.is_key k → (w : V) → HasPair after k w ↔ (HasPair before k w ⊎ (Holds order r k × IsTrue (eq v w)))
+
+    -- the pairs of the range's keys with what equals the value were taken away, and no others
+    abbrev pub HasPairsWithout : List (Item (AnyRange K) S) → List (Item (AnyRange K) S) → AnyRange K → V → Type 0
+    HasPairsWithout before after r v = (k : K) → order.is_key k → (w : V) → HasPair after k w ↔ (HasPair before k w × ¬ (Holds order r k × IsTrue (eq v w)))

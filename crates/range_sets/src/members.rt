@@ -1,0 +1,54 @@
+//! Sets that a multimap may keep as its values.
+ghost use Rattle.std.specs.Prelude.{◌≡◌, ◌↔◌, ◌||◌, ◌&&◌, not, Bool, IsTrue, OnOk, OnErr, Some};
+ghost use Rattle.range_algebra.specs.Range.{ClonesAreEqual};
+ghost use Rattle.range_sets.specs.Members.{HasNone, HaveSame, HasAlso, HasAllBut};
+
+use std::alloc::{AllocError, Global};
+
+/// A type of sets, whatever their members are.
+pub trait MaybeEmpty: Eq + Clone + Drop {
+    /// Holds of a set with no member.
+    ghost is_void: { Self → Type 0 };
+
+    /// Holds of every set that there is at run time.
+    ghost is_set: { Self → Type 0 };
+
+    /// The empty set. Takes no memory.
+    fn default(alloc: Global) -> Self
+        ensures { is_void result };
+
+    /// Whether there is no member. Takes no memory.
+    fn is_empty(&self) -> bool
+        ensures { IsTrue result ↔ is_void self.now };
+
+    /// Does nothing, and promises that its argument is a set.
+    fn known(&self)
+        ensures { is_set self.now };
+
+    ghost void_equal: { (s t : Self) → IsTrue (Self.PartialEq.eq s t) → is_void s → is_void t };
+}
+
+/// A type of sets of values, seen as the values that a set has, up to equality.
+pub trait SetMut<V: Eq + Clone>: MaybeEmpty {
+    /// Whether a set has a member that equals the value.
+    ghost has: { Self → V → Bool };
+
+    /// Adds a value. After an error the set has what it had.
+    fn insert(&mut self, value: V) -> Result<(), AllocError>
+        ensures added { OnOk result (HasAlso has V.eq (Some self.old) (Some self.new) value) }
+        ensures refused { OnErr result (HaveSame has self.old self.new) };
+
+    /// Takes a value out. Takes no memory.
+    fn remove(&mut self, value: &V)
+        ensures { HasAllBut has V.eq (Some self.old) (Some self.new) value.now };
+
+    ghost void_is: { (s : Self) → Self.MaybeEmpty.is_void s ↔ HasNone has s };
+
+    ghost has_equal: { (s : Self) (v w : V) → IsTrue (V.eq v w) → has s v ≡ has s w };
+
+    ghost equal_same: { (s t : Self) → IsTrue (Self.PartialEq.eq s t) → HaveSame has s t };
+
+    ghost same_equal: { (s t : Self) → Self.MaybeEmpty.is_set s → Self.MaybeEmpty.is_set t → HaveSame has s t → IsTrue (Self.PartialEq.eq s t) };
+
+    ghost clones_equal: { ClonesAreEqual V.is_clone V.eq → ClonesAreEqual Self.Clone.is_clone Self.PartialEq.eq };
+}
