@@ -23,8 +23,10 @@ pub mod Lengths
 pub mod Likeness
 pub mod Listed
 pub mod Meeting
+pub mod Once
 pub mod Openings
 pub mod Planning
+pub mod Rebinding
 pub mod Replaced
 pub mod RunParts
 pub mod Scans

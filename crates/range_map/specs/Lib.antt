@@ -20,6 +20,7 @@ pub mod Pieces
 pub mod Plans
 pub mod Ranges
 pub mod Reach
+pub mod Rebinding
 pub mod Replaced
 pub mod Seams
 pub mod Searches

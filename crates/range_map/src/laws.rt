@@ -5,7 +5,7 @@ ghost use Rattle.range_keys.specs.Order.{IsComplete};
 ghost use Rattle.range_algebra.specs.Range.{IsKnownRange};
 ghost use Rattle.range_algebra.specs.declared.any.AnyRange.{AnyRange};
 ghost use Rattle.range_store.specs.declared.storage.Item.{Item};
-ghost use Rattle.range_map.specs.Bindings.{IsCoarse, BindAlike, AreAlike, AreDisjoint};
+ghost use Rattle.range_map.specs.Bindings.{BindsTo, IsCoarse, BindAlike, AreAlike, AreDisjoint};
 ghost use Rattle.range_map.specs.ListOrder.{same_list};
 ghost use Rattle.range_map.specs.Stored.{IsStored};
 
@@ -29,4 +29,10 @@ pub fn stored_lists_are_coarse<K: PartialEnum, V: Eq>()
     ensures coarse { IsComplete K.order → (items : List (Item (AnyRange K) V)) → IsStored K.order V.eq items → IsCoarse K.order V.eq items }
     ensures stored { IsComplete K.order → (items : List (Item (AnyRange K) V)) → AllByRecursion (λ i. IsKnownRange K.order i.key) items → IsCoarse K.order V.eq items → IsStored K.order V.eq items }
     ensures equal { IsComplete K.order → (items others : List (Item (AnyRange K) V)) → IsStored K.order V.eq items → IsStored K.order V.eq others → IsTrue (same_list K.order V.eq items others) ↔ BindAlike K.order V.eq items others }
+{}
+
+/// A list in the form of a map binds a key once: all values to which it binds the key are equal.
+/// Over every lawful key.
+pub fn stored_lists_bind_once<K: PartialEnum, V: Eq>()
+    ensures { (items : List (Item (AnyRange K) V)) → IsStored K.order V.eq items → (k : K) → K.order.is_key k → (v w : V) → BindsTo K.order V.eq items k v → BindsTo K.order V.eq items k w → IsTrue (V.eq v w) }
 {}

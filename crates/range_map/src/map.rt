@@ -25,6 +25,7 @@ use crate::change::window::{find, starts_past};
 pub use crate::error::{MapError, NotInserted, UpdateError};
 pub use crate::laws::{
     coarse_lists_are_shortest, coarse_lists_are_unique, stored_lists_are_coarse,
+    stored_lists_bind_once,
 };
 pub use crate::search::binary_search;
 pub use gaps::Gaps;

@@ -1,0 +1,56 @@
+-- A list in stored form binds a key once.
+use Rattle.std.proofs.Common.{◌≡◌, sym, ◌∙◌, Bool, IsTrue, List, [], ◌∷◌, inl, inr}
+use Rattle.std.specs.Cmp.{IsEquivalence}
+use Rattle.range_keys.specs.Order.{KeyOrder, IsLawful}
+use Rattle.range_keys.specs.Position.{position_cmp}
+use Rattle.range_keys.specs.PositionOrder.{position_total}
+use Rattle.range_keys.specs.declared.inner.position.Position.{Position}
+use Rattle.range_keys.specs.declared.inner.position.Position.TheVariants.{Beside}
+use Rattle.range_keys.specs.declared.inner.position.Side.TheVariants.{At}
+use Rattle.range_algebra.specs.Chains.{chain_above, chain_tail}
+use Rattle.range_algebra.specs.Intervals.{Le, Lt, Every}
+use Rattle.range_algebra.specs.Orders.{lt_not_le, le_trans}
+use Rattle.range_algebra.specs.Range.{Holds}
+use Rattle.range_algebra.specs.declared.any.AnyRange.{AnyRange}
+use Rattle.range_algebra.proofs.Places.{held_between}
+use Rattle.range_store.specs.declared.storage.Item.{Item}
+use Rattle.range_map.specs.Bindings.{BindsTo}
+use Rattle.range_map.specs.ItemCuts.{item_lower, item_upper}
+use Rattle.range_map.specs.Stored.{IsStored}
+use Rattle.range_map.proofs.Forms.{places, Known, Chained, stored_known, stored_chain}
+
+module _ {K : Type 0} (order : KeyOrder K) (lawful : IsLawful order) {V : Type 0} (same : V → V → Bool) (equal : IsEquivalence same) where
+  abbrev Items : Type 0
+  Items = List (Item (AnyRange K) V)
+
+  module _ (k : K) (key : order.is_key k) where
+    abbrev here : Position K
+    here = Beside k At
+
+    -- what ends after a key leaves it to none that starts after that end
+    later_not : (v : V) (end : Position K) (items : Items) → Lt (places order lawful) here end → Known order lawful same equal items → Every (λ i. Le (places order lawful) end (item_lower order i)) items → ¬ BindsTo order same items k v
+    later_not v end [] below known above h = h
+    later_not v end (i ∷ rest) below known above (inl h) =
+        let total = position_total order.cmp lawful.total in
+        let held = (held_between order lawful i.key k known.0 key).0 h.0 in
+        lt_not_le (places order lawful) total here end below (le_trans (places order lawful) total end (item_lower order i) here above.0 held.0)
+    later_not v end (i ∷ rest) below known above (inr h) = later_not v end rest below known.1 above.1 h
+
+    -- a key of the first item is held by no other
+    only_first : (v : V) (i : Item (AnyRange K) V) (rest : Items) → Known order lawful same equal (i ∷ rest) → Chained order lawful same equal (i ∷ rest) → Holds order i.key k → ¬ BindsTo order same rest k v
+    only_first v i [] known chain held h = h
+    only_first v i (j ∷ rest) known chain held h =
+        let total = position_total order.cmp lawful.total in
+        let own = (held_between order lawful i.key k known.0 key).0 held in
+        later_not v (item_upper order i) (j ∷ rest) own.1 known.1 (chain_above (places order lawful) total same equal (item_lower order) (item_upper order) (λ x. x.value) (item_upper order i) j rest chain.1.1 chain.1.0.0) h
+
+    once : (items : Items) (v w : V) → Known order lawful same equal items → Chained order lawful same equal items → BindsTo order same items k v → BindsTo order same items k w → IsTrue (same v w)
+    once [] v w known chain b c = absurd b
+    once (i ∷ rest) v w known chain (inl b) (inl c) = sym (equal.congr i.value v w b.1) ∙ c.1
+    once (i ∷ rest) v w known chain (inl b) (inr c) = absurd (only_first w i rest known chain b.0 c)
+    once (i ∷ rest) v w known chain (inr b) (inl c) = absurd (only_first v i rest known chain c.0 b)
+    once (i ∷ rest) v w known chain (inr b) (inr c) =
+        once rest v w known.1 (chain_tail (places order lawful) (position_total order.cmp lawful.total) same equal (item_lower order) (item_upper order) (λ x. x.value) i rest chain.1) b c
+
+  pub bound_once : (items : Items) → IsStored order same items → (k : K) → order.is_key k → (v w : V) → BindsTo order same items k v → BindsTo order same items k w → IsTrue (same v w)
+  bound_once items form k key v w = once k key items v w (stored_known order lawful same equal items form) (stored_chain order lawful same equal items form)
