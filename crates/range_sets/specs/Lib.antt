@@ -3,6 +3,7 @@ pub mod CountedRuns
 pub mod Extending
 pub mod History
 pub mod KeySets
+pub mod ListedMembers
 pub mod Members
 pub mod Relations
 pub mod Runs

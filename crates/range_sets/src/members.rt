@@ -3,6 +3,9 @@ ghost use Rattle.std.specs.Prelude.{◌≡◌, ◌↔◌, ◌||◌, ◌&&◌, no
 ghost use Rattle.range_algebra.specs.Range.{ClonesAreEqual};
 ghost use Rattle.range_sets.specs.Members.{HasNone, HaveSame, HasAlso, HasAllBut};
 
+mod btree_set;
+mod hash_set;
+
 use std::alloc::{AllocError, Global};
 
 /// A type of sets, whatever their members are.
