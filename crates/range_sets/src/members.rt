@@ -16,11 +16,11 @@ pub trait MaybeEmpty: Eq + Clone + Drop {
     /// Holds of every set that there is at run time.
     ghost is_set: { Self → Type 0 };
 
-    /// The empty set. Takes no memory.
+    /// The empty set. Allocates nothing.
     fn default(alloc: Global) -> Self
         ensures { is_void result };
 
-    /// Whether there is no member. Takes no memory.
+    /// Whether there is no member. Allocates nothing.
     fn is_empty(&self) -> bool
         ensures { IsTrue result ↔ is_void self.now };
 
@@ -36,12 +36,16 @@ pub trait SetMut<V: Eq + Clone>: MaybeEmpty {
     /// Whether a set has a member that equals the value.
     ghost has: { Self → V → Bool };
 
+    /// Whether a member equals the value. Allocates nothing.
+    fn contains(&self, value: &V) -> bool
+        ensures { result ≡ has self.now value.now };
+
     /// Adds a value. After an error the set has what it had.
     fn insert(&mut self, value: V) -> Result<(), AllocError>
         ensures added { OnOk result (HasAlso has V.eq (Some self.old) (Some self.new) value) }
         ensures refused { OnErr result (HaveSame has self.old self.new) };
 
-    /// Takes a value out. Takes no memory.
+    /// Takes a value out. Allocates nothing.
     fn remove(&mut self, value: &V)
         ensures { HasAllBut has V.eq (Some self.old) (Some self.new) value.now };
 

@@ -29,6 +29,10 @@ impl<V: Ord + Clone + Drop> MaybeEmpty for BTreeSet<V> {
 impl<V: Ord + Clone + Drop> SetMut<V> for BTreeSet<V> {
     ghost has = { contains V.cmp };
 
+    fn contains(&self, value: &V) -> bool {
+        self.contains(value)
+    }
+
     fn insert(&mut self, value: V) -> Result<(), AllocError> {
         self.insert(value)?;
         Ok(())

@@ -30,6 +30,10 @@ impl<V: Eq + Hash + Clone + Drop> MaybeEmpty for HashSet<V> {
 impl<V: Eq + Hash + Clone + Drop> SetMut<V> for HashSet<V> {
     ghost has = { contains V.eq };
 
+    fn contains(&self, value: &V) -> bool {
+        self.contains(value)
+    }
+
     fn insert(&mut self, value: V) -> Result<(), AllocError> {
         self.insert(value)?;
         Ok(())
