@@ -1,8 +1,7 @@
 -- A list in stored form binds a key once.
-use Rattle.std.proofs.Common.{◌≡◌, sym, ◌∙◌, Bool, IsTrue, List, [], ◌∷◌, inl, inr}
+use Rattle.std.proofs.Common.{sym, ◌∙◌, Bool, IsTrue, List, [], ◌∷◌, inl, inr}
 use Rattle.std.specs.Cmp.{IsEquivalence}
 use Rattle.range_keys.specs.Order.{KeyOrder, IsLawful}
-use Rattle.range_keys.specs.Position.{position_cmp}
 use Rattle.range_keys.specs.PositionOrder.{position_total}
 use Rattle.range_keys.specs.declared.inner.position.Position.{Position}
 use Rattle.range_keys.specs.declared.inner.position.Position.TheVariants.{Beside}

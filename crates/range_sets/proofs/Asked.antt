@@ -1,90 +1,15 @@
--- What the keys of a piece are bound to, and what they come to be bound to by an answer to it.
-use Rattle.std.proofs.Common.{◌≡◌, refl, Bool, true, false, List, [], ◌∷◌, map, Option, Some, None, ◌↔◌, inl, inr}
-use Rattle.std.specs.Prelude.{Result, Ok, Err, if◌then◌else◌}
+-- What the closure of an update may answer, told by what its calls may.
+use Rattle.std.proofs.Common.{Bool, List, [], ◌∷◌, Option}
+use Rattle.std.specs.Prelude.{Result, Ok, Err}
 use denote.Ref.{Bor}
 use Rattle.std.specs.Fn.{Shared}
-use Rattle.std.specs.Cmp.{IsEquivalence}
-use Rattle.std.specs.Ordering.{is_gt}
-use Rattle.range_keys.specs.Order.{KeyOrder, IsLawful}
-use Rattle.range_keys.specs.Position.{position_cmp, start_position, end_position}
-use Rattle.range_keys.specs.PositionOrder.{position_total}
-use Rattle.range_keys.specs.declared.inner.position.Position.{Position}
-use Rattle.range_keys.specs.declared.inner.position.Position.TheVariants.{Beside}
-use Rattle.range_keys.specs.declared.inner.position.Side.TheVariants.{At}
-use Rattle.range_algebra.specs.Intervals.{Le, Any, Every}
-use Rattle.range_algebra.specs.Orders.{eq_le, eq_ge, le_refl, le_trans, lt_not_le, not_lt}
-use Rattle.range_algebra.specs.Range.{Holds}
+use Rattle.range_keys.specs.Order.{KeyOrder}
+use Rattle.range_algebra.specs.Intervals.{Every}
 use Rattle.range_algebra.specs.declared.any.AnyRange.{AnyRange}
-use Rattle.range_algebra.proofs.Holding.{holds_by_position}
 use Rattle.range_store.specs.declared.storage.Item.{Item}
-use Rattle.range_map.specs.Answers.{Answered, IsAsAnswered, MayAnswer, IsUpdated, FailsAt, piece_of}
-use Rattle.range_map.specs.Bindings.{Binds, BindsTo, IsBound}
-use Rattle.range_map.specs.Pieces.{IsPiece, IsCommonPart, later, earlier}
-use Rattle.range_map.specs.Ranges.{Overlap}
+use Rattle.range_map.specs.Answers.{Answered, MayAnswer, IsUpdated, FailsAt}
+use Rattle.range_map.specs.Rebinding.{IsRebound, AreRebound}
 use Rattle.range_sets.specs.Runs.{IsAnswered, MayFail}
-
-module _ {K : Type 0} (order : KeyOrder K) (lawful : IsLawful order) (k : K) (key : order.is_key k) where
-  later_reaches : (p q : Position K) (b : Bool) → is_gt (position_cmp order.cmp p q) ≡ b → Le (position_cmp order.cmp) q (if b then p else q)
-  later_reaches p q true e = not_lt (position_cmp order.cmp) (position_total order.cmp lawful.total) q p (λ less. let clash = rw less at e in cc)
-  later_reaches p q false e = le_refl (position_cmp order.cmp) (position_total order.cmp lawful.total) q
-
-  earlier_stays : (p q : Position K) (b : Bool) → is_gt (position_cmp order.cmp p q) ≡ b → Le (position_cmp order.cmp) (if b then q else p) q
-  earlier_stays p q true e = le_refl (position_cmp order.cmp) (position_total order.cmp lawful.total) q
-  earlier_stays p q false e = e
-
-  -- a key of a common part is held by both
-  common_holds : (r s part : AnyRange K) → IsCommonPart order r s part → Holds order part k → Holds order s k
-  common_holds r s part common held =
-      let cmp = position_cmp order.cmp in
-      let total = position_total order.cmp lawful.total in
-      let within = (holds_by_position order lawful part k key).0 held in
-      let here : Position K = Beside k At in
-      let from : Position K = later order (start_position order r.start) (start_position order s.start) in
-      let to : Position K = earlier order (end_position order r.end) (end_position order s.end) in
-      let start : Position K = start_position order part.start in
-      let end : Position K = end_position order part.end in
-      let starts : Le cmp (start_position order s.start) start = le_trans cmp total (start_position order s.start) from start
-      (later_reaches (start_position order r.start) (start_position order s.start) (is_gt (cmp (start_position order r.start) (start_position order s.start))) refl) (eq_ge cmp total start from common.starts) in
-      let ends : Le cmp end (end_position order s.end) = le_trans cmp total end to (end_position order s.end) (eq_le cmp total end to common.ends)
-      (earlier_stays (end_position order r.end) (end_position order s.end) (is_gt (cmp (end_position order r.end) (end_position order s.end))) refl) in
-      (holds_by_position order lawful s k key).1 (le_trans cmp total (start_position order s.start) start here starts within.0, le_trans cmp total here end (end_position order s.end) within.1 ends)
-
-  -- ranges that hold a key in common meet
-  meet : (r s : AnyRange K) → Holds order r k → Holds order s k → Overlap order r s
-  meet r s held other =
-      let cmp = position_cmp order.cmp in
-      let total = position_total order.cmp lawful.total in
-      let here : Position K = Beside k At in
-      let first = (holds_by_position order lawful r k key).0 held in
-      let second = (holds_by_position order lawful s k key).0 other in (
-        λ less. lt_not_le cmp total (end_position order r.end) (start_position order s.start) less (le_trans cmp total (start_position order s.start) here (end_position order r.end) second.0 first.1),
-        λ less. lt_not_le cmp total (end_position order s.end) (start_position order r.start) less (le_trans cmp total (start_position order r.start) here (end_position order s.end) first.0 second.1),
-      )
-
-  module _ {V : Type 0} (same : V → V → Bool) (equal : IsEquivalence same) where
-    some_bound : (items : List (Item (AnyRange K) V)) (r part : AnyRange K) (v : V) → Any (λ i. IsCommonPart order r i.key part × (i.value ≡ v)) items → Holds order part k → BindsTo order same items k v
-    some_bound [] r part v h held = h
-    some_bound (i ∷ items) r part v (inl (common, e)) held = inl (common_holds r i.key part common held, rw e (equal.refl v))
-    some_bound (i ∷ items) r part v (inr h) held = inr (some_bound items r part v h held)
-
-    none_bound : (items : List (Item (AnyRange K) V)) (part : AnyRange K) → Every (λ i. ¬ Overlap order i.key part) items → Holds order part k → ¬ IsBound order items k
-    none_bound [] part free held bound = bound
-    none_bound (i ∷ items) part free held (inl here) = free.0 (meet i.key part here held)
-    none_bound (i ∷ items) part free held (inr rest) = none_bound items part free.1 held rest
-
-    -- a piece tells what its keys are bound to
-    piece_binds : (items : List (Item (AnyRange K) V)) (r part : AnyRange K) (value : Option V) → IsPiece order items r part value → Holds order part k → Binds order same items k value
-    piece_binds items r part None piece held = none_bound items part piece.0.free held
-    piece_binds items r part (Some v) piece held = some_bound items r part v piece.1 held
-
-    -- what a held key comes to be bound to is an answer to what it was bound to
-    pub bound_by_answer : {E : Type 0} (may : Option V → Result (Option V) E → Type 0) (items next : List (Item (AnyRange K) V)) (r : AnyRange K) (b : Option V) (answers : List (Answered K V))
-        → Every (λ p. IsPiece order items r p.key p.value) (map piece_of answers) → Every (λ a. may a.value (Ok a.answer)) answers
-        → Any (λ a. Holds order a.key k × ((u : Option V) → Binds order same next k u ↔ IsAsAnswered same a.answer u)) answers → Binds order same next k b
-        → (c : Option V) × Binds order same items k c × ((answer : Option V) × may c (Ok answer) × IsAsAnswered same answer b)
-    bound_by_answer may items next r b [] pieces given held h = absurd held
-    bound_by_answer may items next r b (a ∷ answers) pieces given (inl here) h = (a.value, piece_binds items r a.key a.value pieces.0 here.0, (a.answer, given.0, (here.1 b).0 h))
-    bound_by_answer may items next r b (a ∷ answers) pieces given (inr rest) h = bound_by_answer may items next r b answers pieces.1 given.1 rest h
 
 module _ {K : Type 0} (order : KeyOrder K) {V : Type 0} (same : V → V → Bool) {F E : Type 0} (calls : Shared F (Option (Bor V) × Unit {0}) (Result (Option V) E)) (f : F) (may : Option V → Result (Option V) E → Type 0) (told : (value : Option V) (a : Result (Option V) E) → MayAnswer calls f value a → may value a) where
   all_told : (answers : List (Answered K V)) → Every (λ a. MayAnswer calls f a.value (Ok a.answer)) answers → Every (λ a. may a.value (Ok a.answer)) answers
@@ -96,6 +21,14 @@ module _ {K : Type 0} (order : KeyOrder K) {V : Type 0} (same : V → V → Bool
   pub answered_as : {calls : Shared F (Option (Bor V) × Unit {0}) (Result (Option V) E)} {f : F} (items next : List (Item (AnyRange K) V)) (r : AnyRange K) → IsUpdated order same calls f items next r
       → ((value : Option V) (a : Result (Option V) E) → MayAnswer calls f value a → may value a) → IsAnswered order same may items next r
   answered_as {calls} {f} items next r done told = record { answers = done.answers; pieces = done.pieces; given = all_told order same calls f may told done.answers done.given; held = done.held; others = done.others }
+
+  rebound_key : {calls : Shared F (Option (Bor V) × Unit {0}) (Result (Option V) E)} {f : F} (items next : List (Item (AnyRange K) V)) (k : K) → IsRebound order same (MayAnswer calls f) items next k
+      → ((value : Option V) (a : Result (Option V) E) → MayAnswer calls f value a → may value a) → IsRebound order same may items next k
+  rebound_key items next k now told = record { old = now.old; answer = now.answer; was = now.was; given = told now.old (Ok now.answer) now.given; is = now.is }
+
+  pub rebound_as : {calls : Shared F (Option (Bor V) × Unit {0}) (Result (Option V) E)} {f : F} (items next : List (Item (AnyRange K) V)) (r : AnyRange K) → AreRebound order same (MayAnswer calls f) items next r
+      → ((value : Option V) (a : Result (Option V) E) → MayAnswer calls f value a → may value a) → AreRebound order same may items next r
+  rebound_as items next r now told = record { held = λ k key held. rebound_key items next k (now.held k key held) told; others = now.others }
 
   pub fails_as : {calls : Shared F (Option (Bor V) × Unit {0}) (Result (Option V) E)} {f : F} (items : List (Item (AnyRange K) V)) (r : AnyRange K) (e : E) → FailsAt order same calls f items r e
       → ((value : Option V) (a : Result (Option V) E) → MayAnswer calls f value a → may value a) → MayFail order same may items r e

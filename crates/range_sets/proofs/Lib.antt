@@ -1,4 +1,5 @@
 pub mod Asked
+pub mod CallHistories
 pub mod ComplementTwice
 pub mod Complementing
 pub mod CountedRuns

@@ -1,3 +1,4 @@
+pub mod Calls
 pub mod Complements
 pub mod CountedRuns
 pub mod Extending

@@ -1,15 +1,21 @@
 -- Which pairs of a key and a value a list of ranges with sets has, and what becomes of them.
-use Rattle.std.specs.Prelude.{◌≡◌, Bool, IsTrue, List, ◌⊎◌, ◌↔◌, Option}
+use Rattle.std.specs.Prelude.{Bool, IsTrue, List, ◌⊎◌, ◌↔◌, Option}
 use Rattle.range_keys.specs.Order.{KeyOrder}
 use Rattle.range_algebra.specs.Intervals.{Any, Every}
 use Rattle.range_algebra.specs.Range.{Holds}
 use Rattle.range_algebra.specs.declared.any.AnyRange.{AnyRange}
 use Rattle.range_store.specs.declared.storage.Item.{Item}
+use Rattle.range_map.specs.Bindings.{Binds}
 use Rattle.range_sets.specs.Members.{among}
 
 -- no stored set is empty
 abbrev pub HasNoEmptySet : {K S : Type 0} → (S → Type 0) → List (Item (AnyRange K) S) → Type 0
 HasNoEmptySet is_void items = Every (λ i. ¬ is_void i.value) items
+
+module _ {K : Type 0} (order : KeyOrder K) {S : Type 0} (same : S → S → Bool) where
+  -- each key of which P is true is bound as before
+  abbrev pub StayBound : List (Item (AnyRange K) S) → List (Item (AnyRange K) S) → (K → Type 0) → Type 0
+  StayBound before after P = (k : K) → order.is_key k → P k → (b : Option S) → Binds order same after k b ↔ Binds order same before k b
 
 module _ {K : Type 0} (order : KeyOrder K) {S V : Type 0} (has : S → V → Bool) where
   abbrev Items : Type 0
@@ -18,6 +24,10 @@ module _ {K : Type 0} (order : KeyOrder K) {S V : Type 0} (has : S → V → Boo
   -- some stored range holds the key, and its set has the value
   abbrev pub HasPair : List (Item (AnyRange K) S) → K → V → Type 0
   HasPair items k v = Any (λ i. Holds order i.key k × IsTrue (has i.value v)) items
+
+  -- no value is paired with the key
+  abbrev pub IsUnpaired : List (Item (AnyRange K) S) → K → Type 0
+  IsUnpaired items k = (v : V) → ¬ HasPair items k v
 
   -- the answer is the set of the values that are paired with the key, and none where there is no such value
   abbrev pub AreValuesAt : List (Item (AnyRange K) S) → K → Option S → Type 0

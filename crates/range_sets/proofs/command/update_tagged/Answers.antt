@@ -2,7 +2,7 @@ use Rattle.std.proofs.lemmas.Grind.{common_steps}
 use Rattle.std.proofs.Common.{rules, subst, arith, List, [], ◌∷◌}
 use Rattle.range_algebra.specs.Intervals.{Every}
 use Rattle.range_sets.specs.Tagged.{MayAnswerTo}
-use Rattle.range_sets.proofs.Asked.{answered_as, fails_as}
+use Rattle.range_sets.proofs.Asked.{answered_as, rebound_as, fails_as}
 use Rattle.range_sets.proofs.command.update_tagged.Goals as goal
 
 every_one : {X : Type 0} (P : X → Type 0) (xs : List X) → ((x : X) → P x) → Every P xs
@@ -17,6 +17,8 @@ returns-in-Ok g c =
     let done = c.in-Ok.ensures in
     record {
       answered = λ nonempty. answered_as g.K.MaybeBounded.order g.V.PartialEq.eq (MayAnswerTo g.F.Fn c.args.f.now c.args.tag) (g.C.Storage.items c.args.map.now) (g.C.Storage.items c.update.new.self) c.args.range (done.updated nonempty)
+          (λ value a m. subst (λ v. MayAnswerTo g.F.Fn c.args.f.now c.args.tag v a) m.shows m.says.1);
+      rebound = rebound_as g.K.MaybeBounded.order g.V.PartialEq.eq (MayAnswerTo g.F.Fn c.args.f.now c.args.tag) (g.C.Storage.items c.args.map.now) (g.C.Storage.items c.update.new.self) c.args.range done.rebound
           (λ value a m. subst (λ v. MayAnswerTo g.F.Fn c.args.f.now c.args.tag v a) m.shows m.says.1);
       form = done.form;
       empty = done.empty_unchanged;

@@ -1,4 +1,4 @@
-use Rattle.std.proofs.Common.{◌≡◌, ◌+◌, ◌-◌, ◌≤◌, length, refl, ap, ◌∙◌, arith}
+use Rattle.std.proofs.Common.{◌≤◌, length, refl, arith}
 use Rattle.range_store.specs.Places.{place_before}
 use Rattle.range_map.specs.Edges.{joined_count}
 use Rattle.range_map.specs.Window.{option_items}

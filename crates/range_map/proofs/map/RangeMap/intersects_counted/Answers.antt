@@ -1,4 +1,3 @@
-use Rattle.std.proofs.lemmas.Grind.{common_steps}
 use Rattle.std.proofs.Common.{◌<◌, length, ap, rules, arith}
 use Rattle.std.specs.Range.Bound.{bound_map}
 use Rattle.range_keys.specs.Position.{start_position, end_position}

@@ -1,26 +1,53 @@
-use Rattle.std.proofs.Common.{subst}
-use Rattle.std.specs.Prelude.{IfSome}
-use Rattle.range_sets.specs.Members.{HasAlso}
-use Rattle.range_sets.proofs.Pairing.{added, stays_full}
+use Rattle.std.proofs.Common.{subst, IsTrue}
+use Rattle.range_map.specs.Answers.{IsAsAnswered}
+use Rattle.range_sets.specs.Members.{HasAlso, among}
+use Rattle.range_sets.specs.Relations.{HasPair}
+use Rattle.range_sets.proofs.Pairing.{added, values_at, stay_bound, stays_full, not_refused}
 use Rattle.range_sets.proofs.multimap.RangeMultiMap.insert.Goals as goal
 
-pub returns-in-Ok-clause-added : goal.returns-in-Ok-clause-added
-returns-in-Ok-clause-added g c =
-    let done = c.update.ensures in
-    rw (← c.self.view_is) (added g.K.MaybeBounded.order g.met.K.PartialEnum.lawful g.S.PartialEq.eq g.met.S.Eq.laws g.S.SetMut.has g.met.S.SetMut.equal_same g.V.PartialEq.eq _ _ c.args.value (g.C.Storage.items c.self.inside.map) (g.C.Storage.items c.update.new.self) (g.R.AsRange.range c.args.range) c.in-Ok.ensures.updated
-      (λ old answer m. subst (λ o. HasAlso g.S.SetMut.has g.V.PartialEq.eq o answer c.args.value) m.shows m.says.1.0)
-      (rw (← c.self.view_is) at c.in_form.ensures.form) done.form done.empty_unchanged)
+pub returns-clause-added : goal.returns-clause-added
+returns-clause-added g c =
+    let items = g.C.Storage.items c.self.inside.map in
+    let next = g.C.Storage.items c.update.new.self in
+    let order = g.K.MaybeBounded.order in
+    let same = g.S.PartialEq.eq in
+    let equal = g.met.S.Eq.laws in
+    let has = g.S.SetMut.has in
+    let respects = g.met.S.SetMut.equal_same in
+    let form = rw (← c.self.view_is) at c.in_form.ensures.form in
+    let once = c.stored_lists_bind_once.ensures items form in
+    let next_once = c.stored_lists_bind_once.ensures next c.update.ensures.form in
+    let now = not_refused c.update.result c.update.ensures.rebound c.in_default.not-Err in
+    rw (← c.self.view_is) (added order same equal has respects _ items next (g.R.AsRange.range c.args.range) now g.met.K.PartialEnum.lawful once next_once g.V.PartialEq.eq c.args.value
+    (λ old answer m. subst (λ o. HasAlso has g.V.PartialEq.eq o answer c.args.value) m.shows m.says.1.0))
 
-pub invariant_of-self : goal.invariant_of-self
-invariant_of-self g c =
+pub returns-clause-kept : goal.returns-clause-kept
+returns-clause-kept g c =
+    let items = g.C.Storage.items c.self.inside.map in
+    let next = g.C.Storage.items c.update.new.self in
+    let order = g.K.MaybeBounded.order in
+    let same = g.S.PartialEq.eq in
+    let equal = g.met.S.Eq.laws in
+    let has = g.S.SetMut.has in
+    let respects = g.met.S.SetMut.equal_same in
+    let form = rw (← c.self.view_is) at c.in_form.ensures.form in
+    let once = c.stored_lists_bind_once.ensures items form in
+    let next_once = c.stored_lists_bind_once.ensures next c.update.ensures.form in
+    let now = not_refused c.update.result c.update.ensures.rebound c.in_default.not-Err in
+    rw (← c.self.view_is) (stay_bound order same equal has respects _ items next (g.R.AsRange.range c.args.range) now g.met.K.PartialEnum.lawful once next_once (λ k. HasPair order has items k c.args.value)
+    (λ k key here old answer was m.
+    subst (λ o. IsTrue (among has o c.args.value) → IsAsAnswered same o answer) m.shows m.says.1.1.1 ((values_at order same equal has respects k items old (once k key) was c.args.value).0 here)))
+
+pub invariant_of-self-2 : goal.invariant_of-self-2
+invariant_of-self-2 g c =
     let done = c.update.ensures in
     stays_full g.K.MaybeBounded.order g.S.PartialEq.eq g.met.S.Eq.laws g.S.MaybeEmpty.is_void g.met.S.MaybeEmpty.void_equal _ _
-      (g.C.Storage.items c.self.inside.map) (g.C.Storage.items c.update.new.self) (g.R.AsRange.range c.args.range) c.in-Ok.ensures.updated
-      (λ old answer m. m.says.1.1) c.self.invariant done.empty_unchanged
+    (g.C.Storage.items c.self.inside.map) (g.C.Storage.items c.update.new.self) (g.R.AsRange.range c.args.range) (not_refused c.update.result c.update.ensures.updated c.in_default.not-Err)
+    (λ old answer m. m.says.1.1.0) c.self.invariant done.empty_unchanged
 
-pub returns-in-Ok-clause-nonempty : goal.returns-in-Ok-clause-nonempty
-returns-in-Ok-clause-nonempty g c =
+pub returns-clause-nonempty : goal.returns-clause-nonempty
+returns-clause-nonempty g c =
     let done = c.update.ensures in
     stays_full g.K.MaybeBounded.order g.S.PartialEq.eq g.met.S.Eq.laws g.S.MaybeEmpty.is_void g.met.S.MaybeEmpty.void_equal _ _
-      (g.C.Storage.items c.self.inside.map) (g.C.Storage.items c.update.new.self) (g.R.AsRange.range c.args.range) c.in-Ok.ensures.updated
-      (λ old answer m. m.says.1.1) c.self.invariant done.empty_unchanged
+    (g.C.Storage.items c.self.inside.map) (g.C.Storage.items c.update.new.self) (g.R.AsRange.range c.args.range) (not_refused c.update.result c.update.ensures.updated c.in_default.not-Err)
+    (λ old answer m. m.says.1.1.0) c.self.invariant done.empty_unchanged

@@ -1,26 +1,56 @@
-use Rattle.std.proofs.Common.{subst}
+use Rattle.std.proofs.Common.{subst, IsTrue}
 use Rattle.std.specs.Prelude.{IfSome}
-use Rattle.range_sets.specs.Members.{HasAllBut}
-use Rattle.range_sets.proofs.Pairing.{removed, stays_full, not_refused}
+use Rattle.range_map.specs.Answers.{IsAsAnswered}
+use Rattle.range_sets.specs.Members.{HasAllBut, among}
+use Rattle.range_sets.specs.Relations.{HasPair}
+use Rattle.range_sets.proofs.Pairing.{removed, values_at, full_some, stay_bound, stays_full, not_refused}
 use Rattle.range_sets.proofs.multimap.RangeMultiMap.remove.Goals as goal
 
 pub returns-clause-removed : goal.returns-clause-removed
 returns-clause-removed g c =
-    let done = c.update.ensures in
-    rw (← c.self.view_is) (removed g.K.MaybeBounded.order g.met.K.PartialEnum.lawful g.S.PartialEq.eq g.met.S.Eq.laws g.S.SetMut.has g.met.S.SetMut.equal_same g.V.PartialEq.eq _ _ c.args.value.now (g.C.Storage.items c.self.inside.map) (g.C.Storage.items c.update.new.self) (g.R.AsRange.range c.args.range) (not_refused c.update.result c.update.ensures.updated c.in_default.not-Err)
-      (λ old answer m. subst (λ o. HasAllBut g.S.SetMut.has g.V.PartialEq.eq o answer c.args.value.now) m.shows m.says.1.0)
-      (rw (← c.self.view_is) at c.in_form.ensures.form) done.form done.empty_unchanged)
+    let items = g.C.Storage.items c.self.inside.map in
+    let next = g.C.Storage.items c.update.new.self in
+    let order = g.K.MaybeBounded.order in
+    let same = g.S.PartialEq.eq in
+    let equal = g.met.S.Eq.laws in
+    let has = g.S.SetMut.has in
+    let respects = g.met.S.SetMut.equal_same in
+    let form = rw (← c.self.view_is) at c.in_form.ensures.form in
+    let once = c.stored_lists_bind_once.ensures items form in
+    let next_once = c.stored_lists_bind_once.ensures next c.update.ensures.form in
+    let now = not_refused c.update.result c.update.ensures.rebound c.in_default.not-Err in
+    rw (← c.self.view_is) (removed order same equal has respects _ items next (g.R.AsRange.range c.args.range) now g.met.K.PartialEnum.lawful once next_once g.V.PartialEq.eq c.args.value.now
+    (λ old answer m. subst (λ o. HasAllBut has g.V.PartialEq.eq o answer c.args.value.now) m.shows m.says.1.0))
+
+pub returns-clause-kept : goal.returns-clause-kept
+returns-clause-kept g c =
+    let items = g.C.Storage.items c.self.inside.map in
+    let next = g.C.Storage.items c.update.new.self in
+    let order = g.K.MaybeBounded.order in
+    let same = g.S.PartialEq.eq in
+    let equal = g.met.S.Eq.laws in
+    let has = g.S.SetMut.has in
+    let respects = g.met.S.SetMut.equal_same in
+    let form = rw (← c.self.view_is) at c.in_form.ensures.form in
+    let once = c.stored_lists_bind_once.ensures items form in
+    let next_once = c.stored_lists_bind_once.ensures next c.update.ensures.form in
+    let now = not_refused c.update.result c.update.ensures.rebound c.in_default.not-Err in
+    rw (← c.self.view_is) (stay_bound order same equal has respects _ items next (g.R.AsRange.range c.args.range) now g.met.K.PartialEnum.lawful once next_once (λ k. ¬ HasPair order has items k c.args.value.now)
+    (λ k key here old answer was m.
+    subst (λ o. IfSome o (λ s. ¬ g.S.MaybeEmpty.is_void s) → ¬ IsTrue (among has o c.args.value.now) → IsAsAnswered same o answer) m.shows m.says.1.1.1
+    (full_some order same equal g.S.MaybeEmpty.is_void g.met.S.MaybeEmpty.void_equal k items c.self.invariant old was)
+    (λ h. here ((values_at order same equal has respects k items old (once k key) was c.args.value.now).1 h))))
 
 pub invariant_of-self-2 : goal.invariant_of-self-2
 invariant_of-self-2 g c =
     let done = c.update.ensures in
     stays_full g.K.MaybeBounded.order g.S.PartialEq.eq g.met.S.Eq.laws g.S.MaybeEmpty.is_void g.met.S.MaybeEmpty.void_equal _ _
-      (g.C.Storage.items c.self.inside.map) (g.C.Storage.items c.update.new.self) (g.R.AsRange.range c.args.range) (not_refused c.update.result c.update.ensures.updated c.in_default.not-Err)
-      (λ old answer m. m.says.1.1) c.self.invariant done.empty_unchanged
+    (g.C.Storage.items c.self.inside.map) (g.C.Storage.items c.update.new.self) (g.R.AsRange.range c.args.range) (not_refused c.update.result c.update.ensures.updated c.in_default.not-Err)
+    (λ old answer m. m.says.1.1.0) c.self.invariant done.empty_unchanged
 
 pub returns-clause-nonempty : goal.returns-clause-nonempty
 returns-clause-nonempty g c =
     let done = c.update.ensures in
     stays_full g.K.MaybeBounded.order g.S.PartialEq.eq g.met.S.Eq.laws g.S.MaybeEmpty.is_void g.met.S.MaybeEmpty.void_equal _ _
-      (g.C.Storage.items c.self.inside.map) (g.C.Storage.items c.update.new.self) (g.R.AsRange.range c.args.range) (not_refused c.update.result c.update.ensures.updated c.in_default.not-Err)
-      (λ old answer m. m.says.1.1) c.self.invariant done.empty_unchanged
+    (g.C.Storage.items c.self.inside.map) (g.C.Storage.items c.update.new.self) (g.R.AsRange.range c.args.range) (not_refused c.update.result c.update.ensures.updated c.in_default.not-Err)
+    (λ old answer m. m.says.1.1.0) c.self.invariant done.empty_unchanged

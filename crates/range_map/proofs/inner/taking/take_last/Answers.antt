@@ -1,0 +1,32 @@
+use Rattle.std.proofs.Common.{◌≡◌, Bool, List, [], ◌∷◌, ◌++◌, Option, Some, None}
+use Rattle.std.specs.Prelude.{MatchOption}
+use Rattle.std.specs.List.{AllByRecursion}
+use Rattle.range_keys.specs.Order.{KeyOrder}
+use Rattle.range_algebra.specs.declared.any.AnyRange.{AnyRange}
+use Rattle.range_store.specs.declared.storage.Item.{Item}
+use Rattle.range_map.specs.Neighbours.{EachNext}
+use Rattle.range_map.specs.Stored.{IsStored}
+use Rattle.range_map.proofs.inner.taking.take_last.Goals as goal
+
+module _ {X : Type 0} where
+  all_front : (P : X → Type 0) (xs ys : List X) → AllByRecursion P (xs ++ ys) → AllByRecursion P xs
+  all_front P [] ys h = tt
+  all_front P (x ∷ xs) ys h = (h.0, all_front P xs ys h.1)
+
+  next_front : (R : X → X → Type 0) (xs ys : List X) → EachNext R (xs ++ ys) → EachNext R xs
+  next_front R [] ys h = tt
+  next_front R (x ∷ []) ys h = (tt, tt)
+  next_front R (x ∷ y ∷ xs) ys h = (h.0, next_front R (y ∷ xs) ys h.1)
+
+module _ {K : Type 0} (order : KeyOrder K) {V : Type 0} (same : V → V → Bool) where
+  stored_front : (items rest : List (Item (AnyRange K) V)) → IsStored order same (items ++ rest) → IsStored order same items
+  stored_front items rest form = record { known = all_front _ items rest form.known; nonempty = all_front _ items rest form.nonempty; rising = next_front _ items rest form.rising }
+
+  left : (old new : List (Item (AnyRange K) V)) (last : Option (Item (AnyRange K) V)) → IsStored order same old → MatchOption last ((old ≡ []) × (new ≡ [])) (λ x. old ≡ new ++ x ∷ []) → IsStored order same new
+  left old new None form h = rw h.1 (rw h.0 at form)
+  left old new (Some x) form h = stored_front new (x ∷ []) (rw h at form)
+
+pub invariant_of-map : goal.invariant_of-map
+invariant_of-map g c =
+    let items = g.C.Storage.items in
+    left g.K.MaybeBounded.order g.V.PartialEq.eq (items c.map.inside.stored) (items c.pop_last.new.self) c.pop_last.result c.map.invariant c.pop_last.ensures.list

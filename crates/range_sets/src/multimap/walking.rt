@@ -1,0 +1,97 @@
+//! The stored ranges with their sets, moved out of a multimap, and `for` over one.
+ghost use Rattle.std.specs.Prelude.{◌≡◌};
+ghost use Rattle.std.specs.Iterator.{YieldsFirstBy, YieldsLastBy, item_count};
+ghost use Rattle.range_keys.specs.Order.{IsComplete};
+ghost use Rattle.range_map.specs.Coarse.{IsOnlyCoarse};
+ghost use Rattle.range_map.specs.Iterating.{pair_item};
+ghost use Rattle.range_map.specs.Stored.{IsStored};
+ghost use Rattle.range_sets.specs.Relations.{HasNoEmptySet};
+
+use super::{Iter, RangeMultiMap};
+use crate::members::MaybeEmpty;
+use range_algebra::any::AnyRange;
+use range_keys::traits::PartialEnum;
+use range_map::inner::taking::{take_first, take_last};
+use range_map::map::RangeMap;
+use range_store::storage::{Item, Storage};
+use std::marker::Model;
+
+/// The ranges that are left of a multimap that was taken apart, each with its set, in order. A
+/// contract sees their list.
+#[derive(Drop)]
+pub struct IntoIter<K: PartialEnum, S: MaybeEmpty, C: Storage<Item<AnyRange<K>, S>>> {
+    map: RangeMap<K, S, C>,
+}
+
+impl<K: PartialEnum, S: MaybeEmpty, C: Storage<Item<AnyRange<K>, S>>> Model for IntoIter<K, S, C> {
+    ghost use Rattle.std.specs.Prelude.{List};
+    ghost use Rattle.range_algebra.specs.declared.any.AnyRange.{AnyRange};
+    ghost use Rattle.range_store.specs.declared.storage.Item.{Item};
+
+    ghost Value = { List (Item (AnyRange K) S) };
+
+    ghost view = { λ i. C.items i.map };
+}
+
+impl<K: PartialEnum, S: MaybeEmpty, C: Storage<Item<AnyRange<K>, S>>> Iterator
+    for IntoIter<K, S, C> {
+    type Item = (AnyRange<K>, S);
+
+    ghost next_gives = { YieldsFirstBy pair_item (λ rest. rest) };
+
+    ghost remaining = { item_count (λ rest. rest) };
+
+    fn next(&mut self) -> Option<(AnyRange<K>, S)> {
+        take_first(&mut self.map)
+    }
+
+    fn size_hint(&self) -> (usize, Option<usize>) {
+        let left = self.map.range_count();
+        (left, Some(left))
+    }
+}
+
+impl<K: PartialEnum, S: MaybeEmpty, C: Storage<Item<AnyRange<K>, S>>> DoubleEndedIterator
+    for IntoIter<K, S, C> {
+    ghost next_back_gives = { YieldsLastBy pair_item (λ rest. rest) };
+
+    fn next_back(&mut self) -> Option<(AnyRange<K>, S)> {
+        take_last(&mut self.map)
+    }
+}
+
+impl<K: PartialEnum, S: MaybeEmpty, C: Storage<Item<AnyRange<K>, S>>> ExactSizeIterator
+    for IntoIter<K, S, C> {
+    fn len(&self) -> usize {
+        self.map.range_count()
+    }
+}
+
+/// `for (range, set) in map`: the pairs are moved out, one at each step. Allocates nothing.
+impl<K: PartialEnum, S: MaybeEmpty, C: Storage<Item<AnyRange<K>, S>>> IntoIterator
+    for RangeMultiMap<K, S, C> {
+    type Item = (AnyRange<K>, S);
+
+    type IntoIter = IntoIter<K, S, C>;
+
+    ghost into_iter_gives = { λ map walk. (walk ≡ C.items map) × IsStored K.order S.eq walk × HasNoEmptySet S.is_void walk × (IsComplete K.order → IsOnlyCoarse K.order S.eq walk) };
+
+    fn into_iter(self) -> IntoIter<K, S, C> {
+        self.in_form();
+        IntoIter { map: self.map }
+    }
+}
+
+/// `for (range, set) in &map`: what `iter` gives. Allocates nothing.
+impl<'a, K: PartialEnum, S: MaybeEmpty, C: Storage<Item<AnyRange<K>, S>>> IntoIterator
+    for &'a RangeMultiMap<K, S, C> {
+    type Item = (&'a AnyRange<K>, &'a S);
+
+    type IntoIter = Iter<'a, K, S, C>;
+
+    ghost into_iter_gives = { λ map walk. (walk ≡ C.items map.now) × IsStored K.order S.eq walk × HasNoEmptySet S.is_void walk × (IsComplete K.order → IsOnlyCoarse K.order S.eq walk) };
+
+    fn into_iter(self) -> Iter<'a, K, S, C> {
+        self.iter()
+    }
+}
