@@ -59,8 +59,11 @@ pub use Rattle.range_json.specs.Faults
 pub use Rattle.range_json.specs.Keys
 pub use Rattle.range_json.specs.MapFaults
 pub use Rattle.range_json.specs.Shapes
+pub use Rattle.range_sets.specs.Members
+pub use Rattle.range_sets.specs.Relations as Pairs
 -- The types that contracts name.
 pub use Rattle.range_algebra.specs.declared.any.AnyRange
+pub use Rattle.range_store.specs.declared.btree.BoxStorage
 pub use Rattle.range_store.specs.declared.storage.Item
 pub use Rattle.range_sets.specs.declared.command.Command
 pub use Rattle.range_sets.specs.declared.command.Reply

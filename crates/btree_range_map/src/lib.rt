@@ -33,3 +33,11 @@ pub type RangeMap<K, V> = generic::map::RangeMap<K, V, DefaultMapContainer<Item<
 
 /// A set of keys, in the default container.
 pub type RangeSet<K> = generic::set::RangeSet<K, DefaultSetContainer<Item<AnyRange<K>, ()>>>;
+
+/// A relation between keys and values, in the default container: each key of a range has a set of
+/// values.
+pub type RangeMultiMap<K, S> = generic::multimap::RangeMultiMap<
+    K,
+    S,
+    DefaultMapContainer<Item<AnyRange<K>, S>>,
+>;

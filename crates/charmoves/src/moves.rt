@@ -1,0 +1,50 @@
+//! Following the rules.
+ghost use Rattle.std.specs.Prelude.{◌≡◌, ◌↔◌, IsTrue, IfOk};
+ghost use Rattle.std.specs.Str.{chars};
+ghost use Rattle.charmoves.specs.Automata.{rules_of, Accepts, AreReached};
+
+use crate::rules::Rules;
+use btree_range_map::generic::map::MapError;
+use std::alloc::Global;
+use std::collections::BTreeSet;
+
+/// An automaton that follows its rules.
+#[derive(Drop)]
+pub struct Moves {
+    rules: Rules,
+}
+
+impl Moves {
+    /// The automaton of the rules. Takes no memory.
+    pub fn build(rules: Rules) -> Moves
+        ensures { rules_of result ≡ rules }
+    {
+        Moves { rules }
+    }
+
+    /// The states that some rule leads to from one of the given, by the character. Allocates.
+    pub fn step(&self, states: &BTreeSet<u32>, c: char) -> Result<BTreeSet<u32>, MapError>
+        ensures reached { IfOk result (AreReached (rules_of self.now) states.now c) }
+    {
+        let mut reached = BTreeSet::new(self.rules.alloc);
+        for state in states {
+            if let Some(targets) = self.rules.targets(*state, c) {
+                reached.extend(targets)?;
+            }
+        }
+        Ok(reached)
+    }
+
+    /// Whether rules lead along the characters of the text from a start state to an accepting one.
+    ///
+    /// Allocates the sets of the states that are reached, each once.
+    pub fn accepts(&self, text: &str) -> Result<bool, MapError>
+        ensures accepted { IfOk result (λ accepted. IsTrue accepted ↔ Accepts (rules_of self.now) (chars text.now)) }
+    {
+        let mut states = self.rules.starts.clone()?;
+        for c in text.chars() {
+            states = self.step(&states, c)?;
+        }
+        Ok(!states.is_disjoint(&self.rules.accepting))
+    }
+}

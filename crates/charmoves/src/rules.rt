@@ -1,0 +1,100 @@
+//! Rules, start states and accepting states.
+ghost use Rattle.std.specs.Prelude.{◌↔◌, ℕ, IsTrue, OnOk, OnErr};
+ghost use Rattle.std.specs.Option.{option_copied};
+ghost use Rattle.std.specs.Ordering.{nat_cmp};
+ghost use Rattle.std.specs.BTreeSet.{contains};
+ghost use Rattle.btree_range_map.specs.Members.{among};
+ghost use Rattle.charmoves.specs.Automata.{HasRule, IsStart, IsAccepting, KeepsRules, KeepsStarts, KeepsAccepting, HasRuleAlso, StartsAlsoAt, AcceptsAlsoAt};
+
+use btree_range_map::generic::map::MapError;
+use btree_range_map::{IntoRange, RangeMultiMap};
+use std::alloc::Global;
+use std::collections::{BTreeMap, BTreeSet};
+
+/// The rules of an automaton, the states where a text starts, and those in which it may end.
+#[derive(Drop)]
+pub struct Rules {
+    ways: BTreeMap<u32, RangeMultiMap<char, BTreeSet<u32>>>,
+    pub(crate) starts: BTreeSet<u32>,
+    pub(crate) accepting: BTreeSet<u32>,
+    pub(crate) alloc: Global,
+}
+
+impl Rules {
+    /// No rule, and no state that starts or accepts. Takes no memory.
+    pub fn new(alloc: Global) -> Rules
+        ensures rules { (p c q : ℕ) → ¬ HasRule result p c q }
+        ensures starts { (p : ℕ) → ¬ IsStart result p }
+        ensures accepting { (p : ℕ) → ¬ IsAccepting result p }
+    {
+        Rules {
+            ways: BTreeMap::new(alloc),
+            starts: BTreeSet::new(alloc),
+            accepting: BTreeSet::new(alloc),
+            alloc,
+        }
+    }
+
+    /// Adds a rule: from a state, by each character of the range, to a state.
+    ///
+    /// Allocates. After an error the rules are as they were.
+    pub fn add<R: IntoRange<Item = char>>(
+        &mut self,
+        from: u32,
+        range: R,
+        to: u32,
+    ) -> Result<(), MapError>
+        ensures added { OnOk result (HasRuleAlso self.old self.new from (R.range range) to) }
+        ensures starts { KeepsStarts self.old self.new }
+        ensures accepting { KeepsAccepting self.old self.new }
+        ensures refused { OnErr result (KeepsRules self.old self.new) }
+    {
+        if let Some(ways) = self.ways.get_mut(&from) {
+            return ways.insert(range, to);
+        }
+        let mut ways = RangeMultiMap::new(self.alloc);
+        ways.insert(range, to)?;
+        match self.ways.insert(from, ways) {
+            Ok(_) => Ok(()),
+            Err(_) => Err(MapError::Memory),
+        }
+    }
+
+    /// Makes a state one where a text starts.
+    ///
+    /// Allocates. After an error the start states are as they were.
+    pub fn start(&mut self, state: u32) -> Result<(), MapError>
+        ensures started { OnOk result (StartsAlsoAt self.old self.new state) }
+        ensures rules { KeepsRules self.old self.new }
+        ensures accepting { KeepsAccepting self.old self.new }
+        ensures refused { OnErr result (KeepsStarts self.old self.new) }
+    {
+        match self.starts.insert(state) {
+            Ok(_) => Ok(()),
+            Err(_) => Err(MapError::Memory),
+        }
+    }
+
+    /// Makes a state one in which a text may end.
+    ///
+    /// Allocates. After an error the accepting states are as they were.
+    pub fn accept(&mut self, state: u32) -> Result<(), MapError>
+        ensures accepting { OnOk result (AcceptsAlsoAt self.old self.new state) }
+        ensures rules { KeepsRules self.old self.new }
+        ensures starts { KeepsStarts self.old self.new }
+        ensures refused { OnErr result (KeepsAccepting self.old self.new) }
+    {
+        match self.accepting.insert(state) {
+            Ok(_) => Ok(()),
+            Err(_) => Err(MapError::Memory),
+        }
+    }
+
+    /// The states that rules lead to from a state by a character, or none.
+    pub(crate) fn targets(&self, state: u32, c: char) -> Option<&BTreeSet<u32>>
+        ensures { (q : ℕ) → HasRule self.now state c q ↔ IsTrue (among (contains nat_cmp) (option_copied result) q) }
+    {
+        let ways = self.ways.get(&state)?;
+        ways.get::<u32>(c)
+    }
+}
