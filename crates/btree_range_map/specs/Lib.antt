@@ -42,15 +42,19 @@ pub use Rattle.range_map.specs.Lookups
 pub use Rattle.range_map.specs.Neighbours
 pub use Rattle.range_map.specs.Pieces
 pub use Rattle.range_map.specs.Ranges
+pub use Rattle.range_map.specs.Rebinding
 pub use Rattle.range_map.specs.Replaced
 pub use Rattle.range_map.specs.Searches
 pub use Rattle.range_map.specs.Stored
 pub use Rattle.range_map.specs.Texts as MapTexts
+pub use Rattle.range_sets.specs.Calls
 pub use Rattle.range_sets.specs.Complements
 pub use Rattle.range_sets.specs.CountedRuns
 pub use Rattle.range_sets.specs.Extending
 pub use Rattle.range_sets.specs.History
 pub use Rattle.range_sets.specs.KeySets
+pub use Rattle.range_sets.specs.Members
+pub use Rattle.range_sets.specs.Pairs
 pub use Rattle.range_sets.specs.Runs
 pub use Rattle.range_sets.specs.SetOrder
 pub use Rattle.range_sets.specs.SetTexts
@@ -59,8 +63,6 @@ pub use Rattle.range_json.specs.Faults
 pub use Rattle.range_json.specs.Keys
 pub use Rattle.range_json.specs.MapFaults
 pub use Rattle.range_json.specs.Shapes
-pub use Rattle.range_sets.specs.Members
-pub use Rattle.range_sets.specs.Relations as Pairs
 -- The types that contracts name.
 pub use Rattle.range_algebra.specs.declared.any.AnyRange
 pub use Rattle.range_store.specs.declared.btree.BoxStorage

@@ -2,7 +2,7 @@
 //!
 //! A [`RangeMap`] binds each key of a range to one value. Ranges that touch and have equal values
 //! are kept as one, so a map stores no more ranges than its bindings need. A [`RangeSet`] is a set
-//! of keys, kept in the same way.
+//! of keys, kept in the same way; a [`RangeMultiMap`] gives each key a set of values.
 #![tactic(auto)]
 
 pub mod btree;
@@ -34,8 +34,8 @@ pub type RangeMap<K, V> = generic::map::RangeMap<K, V, DefaultMapContainer<Item<
 /// A set of keys, in the default container.
 pub type RangeSet<K> = generic::set::RangeSet<K, DefaultSetContainer<Item<AnyRange<K>, ()>>>;
 
-/// A relation between keys and values, in the default container: each key of a range has a set of
-/// values.
+/// A relation between keys and values, in the default container; `S` is the type of the sets of
+/// values, as `BTreeSet<V>` or `HashSet<V>`.
 pub type RangeMultiMap<K, S> = generic::multimap::RangeMultiMap<
     K,
     S,

@@ -17,7 +17,7 @@ use Rattle.range_map.specs.Copies.{IsCopyOf}
 use Rattle.range_map.specs.Frames.{HasValue}
 use Rattle.range_map.specs.Rebinding.{AreRebound}
 use Rattle.range_sets.specs.Members.{HasNone, HaveSame, HasAlso, HasAllBut, among}
-use Rattle.range_sets.specs.Relations.{HasNoEmptySet, HasPair, IsUnpaired, AreValuesAt, HasPairsAlso, HasPairsWithout, StayBound}
+use Rattle.range_sets.specs.Pairs.{HasNoEmptySet, HasPair, IsUnpaired, AreValuesAt, HasPairsAlso, HasPairsWithout, StayBound}
 use Rattle.range_sets.proofs.Histories.{is_greater}
 use Rattle.range_sets.proofs.Membership.{held_or_not}
 

@@ -5,7 +5,7 @@ use Rattle.range_algebra.specs.Intervals.{Every}
 use Rattle.range_algebra.specs.Range.{Holds}
 use Rattle.range_algebra.specs.declared.any.AnyRange.{AnyRange}
 use Rattle.range_store.specs.declared.storage.Item.{Item}
-use Rattle.range_sets.specs.Relations.{HasPairsAlso, HasPairsWithout}
+use Rattle.range_sets.specs.Pairs.{HasPairsAlso, HasPairsWithout}
 
 -- an insertion or a removal with its range and its value, or a call that returned an error
 pub data Call (K V : Type 0) : Type 0 where

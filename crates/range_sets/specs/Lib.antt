@@ -6,7 +6,7 @@ pub mod History
 pub mod KeySets
 pub mod ListedMembers
 pub mod Members
-pub mod Relations
+pub mod Pairs
 pub mod Runs
 pub mod SetOrder
 pub mod SetTexts

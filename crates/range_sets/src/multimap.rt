@@ -5,7 +5,7 @@ ghost use Rattle.range_keys.specs.Order.{IsComplete};
 ghost use Rattle.range_map.specs.Bindings.{Binds};
 ghost use Rattle.range_map.specs.Coarse.{IsOnlyCoarse, IsLeastCount};
 ghost use Rattle.range_map.specs.Stored.{IsStored};
-ghost use Rattle.range_sets.specs.Relations.{HasNoEmptySet, HasPair, AreValuesAt, IsUnpaired};
+ghost use Rattle.range_sets.specs.Pairs.{HasNoEmptySet, HasPair, AreValuesAt, IsUnpaired};
 
 mod changing;
 mod cloning;
@@ -51,7 +51,7 @@ pub struct RangeMultiMap<K: PartialEnum, S: MaybeEmpty, C: Storage<Item<AnyRange
 
 impl<K: PartialEnum, S: MaybeEmpty, C: Storage<Item<AnyRange<K>, S>>> Model
     for RangeMultiMap<K, S, C> {
-    ghost use Rattle.range_sets.specs.Relations.{HasNoEmptySet};
+    ghost use Rattle.range_sets.specs.Pairs.{HasNoEmptySet};
 
     ghost Value = { C };
 

@@ -7,7 +7,7 @@ ghost use Rattle.range_map.specs.Answers.{IsAsAnswered};
 ghost use Rattle.range_map.specs.Coarse.{IsOnlyCoarse};
 ghost use Rattle.range_map.specs.Stored.{IsStored};
 ghost use Rattle.range_sets.specs.Members.{HasAlso, HasAllBut, among};
-ghost use Rattle.range_sets.specs.Relations.{HasNoEmptySet, HasPair, HasPairsAlso, HasPairsWithout, StayBound};
+ghost use Rattle.range_sets.specs.Pairs.{HasNoEmptySet, HasPair, HasPairsAlso, HasPairsWithout, StayBound};
 
 use super::RangeMultiMap;
 use crate::members::{MaybeEmpty, SetMut};

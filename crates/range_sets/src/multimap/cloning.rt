@@ -3,7 +3,7 @@ ghost use Rattle.std.specs.Prelude.{IfOk};
 ghost use Rattle.range_algebra.specs.Range.{ClonesAreEqual};
 ghost use Rattle.range_map.specs.Copies.{IsCopyOf};
 ghost use Rattle.range_map.specs.Stored.{IsStored};
-ghost use Rattle.range_sets.specs.Relations.{HasNoEmptySet};
+ghost use Rattle.range_sets.specs.Pairs.{HasNoEmptySet};
 
 use super::RangeMultiMap;
 use crate::members::MaybeEmpty;

@@ -3,7 +3,7 @@ ghost use Rattle.std.specs.Prelude.{List, [], ◌↔◌, ◌⊎◌};
 ghost use Rattle.range_algebra.specs.declared.any.AnyRange.{AnyRange};
 ghost use Rattle.range_store.specs.declared.storage.Item.{Item};
 ghost use Rattle.range_sets.specs.Calls.{Call, AreCallsBetween, HasNoneOn, WasInserted};
-ghost use Rattle.range_sets.specs.Relations.{HasPair};
+ghost use Rattle.range_sets.specs.Pairs.{HasPair};
 
 use crate::members::SetMut;
 use range_keys::traits::PartialEnum;

@@ -5,7 +5,7 @@ ghost use Rattle.range_keys.specs.Order.{IsComplete};
 ghost use Rattle.range_map.specs.Coarse.{IsOnlyCoarse};
 ghost use Rattle.range_map.specs.Iterating.{pair_item};
 ghost use Rattle.range_map.specs.Stored.{IsStored};
-ghost use Rattle.range_sets.specs.Relations.{HasNoEmptySet};
+ghost use Rattle.range_sets.specs.Pairs.{HasNoEmptySet};
 
 use super::{Iter, RangeMultiMap};
 use crate::members::MaybeEmpty;
