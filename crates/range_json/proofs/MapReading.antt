@@ -12,14 +12,14 @@ use Rattle.range_algebra.specs.declared.any.AnyRange.{AnyRange}
 use Rattle.range_algebra.specs.Range.{Holds, IsEmptyRange, IsKnownRange}
 use Rattle.range_algebra.proofs.Pieces.{start_decided, end_decided}
 use Rattle.range_store.specs.declared.storage.Item.{Item}
-use Rattle.range_map.specs.Bindings.{IsBound, BindsTo, Binds, BindAlike}
-use Rattle.range_map.specs.Lookups.{MeetsSome}
+use Rattle.range_map.specs.Bindings.{IsBound, BindsTo, Binds, BindAlike, IsBoundAfter}
+use Rattle.range_map.specs.Frames.{GaveWayTo}
+use Rattle.range_map.specs.Lookups.{MeetsSome, MeetAlso}
 use Rattle.range_map.specs.Stored.{IsStored}
 use Rattle.range_map.proofs.Meeting.{binding_meets}
 use Rattle.range_json.specs.declared.error.JsonError.{JsonError}
 use Rattle.range_json.specs.declared.error.JsonError.TheVariants.{Meets}
 use Rattle.range_json.specs.MapFaults.{element_fault, IsElementRead, MeetNonempty, MeetsOne, AreApart, AreRead, IsFirstFault}
-use Rattle.range_json.specs.Putting.{IsPut, IsMet}
 use Rattle.range_json.proofs.Reading.{no_fault_more, read_more, same_length}
 
 is_greater : (o : Ordering) → (o ≡ Greater) ⊎ (¬ (o ≡ Greater))
@@ -33,6 +33,16 @@ module _ {K : Type 0} (order : KeyOrder K) where
 
   empty_or_not : (r : AnyRange K) → IsEmptyRange order r ⊎ (¬ IsEmptyRange order r)
   empty_or_not r = is_greater (position_cmp order.cmp (start_position order r.start) (end_position order r.end))
+
+module _ {K V : Type 0} (order : KeyOrder K) where
+  -- an element's range met no stored one, and its keys were bound
+  pub record IsPut (same : V → V → Bool) (before after : List (Item (AnyRange K) V)) (x : Item (AnyRange K) V) : Type 0 where
+    pub known : IsKnownRange order x.key
+    pub apart : ¬ ((¬ IsEmptyRange order x.key) × MeetsSome order before x.key)
+    pub bound : IsBoundAfter order same before after x.key x.value
+    pub meets : (¬ IsEmptyRange order x.key) → MeetAlso order before after x.key
+    pub frame : (¬ IsEmptyRange order x.key) → GaveWayTo order same before after x.key x.value
+    pub unchanged : IsEmptyRange order x.key → after ≡ before
 
 module _ {K V : Type 0} (order : KeyOrder K) where
   one_of : (s : AnyRange K) (xs : List (Item (AnyRange K) V)) (x : Item (AnyRange K) V) → MeetsOne order s (xs ++ x ∷ []) ↔ (MeetsOne order s xs ⊎ MeetNonempty order x.key s)
@@ -216,15 +226,15 @@ module _ {K V : Type 0} (order : KeyOrder K) where
     }
 
     -- an element that meets an earlier one
-    pub map_meets : (vs more : List Value) (v : Value) (items : List (Item (AnyRange K) V)) (x : Item (AnyRange K) V) → IsMapSoFar vs items → element_fault key_reads value_reads (length vs) (view v) ≡ None → IsElementRead key_is_read value_is_read (view v) x → IsMet order items x → FirstFault (map view (vs ++ v ∷ more)) (Meets (length vs))
-    map_meets vs more v items x so_far fine is_read met = record {
+    pub map_meets : (vs more : List Value) (v : Value) (items : List (Item (AnyRange K) V)) (x : Item (AnyRange K) V) → IsMapSoFar vs items → element_fault key_reads value_reads (length vs) (view v) ≡ None → IsElementRead key_is_read value_is_read (view v) x → IsKnownRange order x.key → (¬ IsEmptyRange order x.key) × MeetsSome order items x.key → FirstFault (map view (vs ++ v ∷ more)) (Meets (length vs))
+    map_meets vs more v items x so_far fine is_read known met = record {
       front = map view vs;
       d = view v;
       rest = map view more;
       earlier = so_far.earlier;
       split = map-append view vs (v ∷ more);
       fine = so_far.read;
-      fault = inr ((rw (same_length vs) fine, (x, is_read, (so_far.meets x.key met.known met.nonempty).0 met.meets)), ap Meets (sym (same_length vs)));
+      fault = inr ((rw (same_length vs) fine, (x, is_read, (so_far.meets x.key known met.0).0 met.1)), ap Meets (sym (same_length vs)));
     }
 
 module _ {K V : Type 0} (order : KeyOrder K) (same : V → V → Bool) where

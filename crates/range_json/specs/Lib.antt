@@ -2,5 +2,4 @@ pub mod Keys
 pub mod Shapes
 pub mod Faults
 pub mod MapFaults
-pub mod Putting
 pub mod ReadBack

@@ -1,10 +1,12 @@
 //! The elements of a map.
 ghost use Rattle.std.specs.Prelude.{◌≡◌, ◌⊎◌, Some, None, IfOk, OnOk, IfErr};
 ghost use Rattle.serde_json.specs.View.{view};
-ghost use Rattle.range_algebra.specs.Range.{ClonesAreEqual};
+ghost use Rattle.range_algebra.specs.Range.{ClonesAreEqual, IsEmptyRange, IsKnownRange};
+ghost use Rattle.range_map.specs.Bindings.{IsBoundAfter};
+ghost use Rattle.range_map.specs.Frames.{GaveWayTo};
+ghost use Rattle.range_map.specs.Lookups.{MeetsSome, MeetAlso};
 ghost use Rattle.range_map.specs.Stored.{IsStored};
 ghost use Rattle.range_json.specs.MapFaults.{IsElementRead, element_fault, value_fault};
-ghost use Rattle.range_json.specs.Putting.{IsPut, IsMet};
 ghost use Rattle.range_json.specs.declared.error.JsonError.TheVariants.{Memory, Meets};
 
 use crate::error::{JsonError, ReadError};
@@ -58,9 +60,14 @@ pub(crate) fn insert_element<K: Measure + Clone, V: Eq + Clone, C: Storage<Item<
     index: usize,
 ) -> Result<(), JsonError>
     requires { ClonesAreEqual K.is_clone K.eq }
-    ensures put { OnOk result (IsPut K.order V.eq (C.items map.old) (C.items map.new) element) }
+    ensures known { IsKnownRange K.order element.key }
+    ensures apart { OnOk result (¬ ((¬ IsEmptyRange K.order element.key) × MeetsSome K.order (C.items map.old) element.key)) }
+    ensures bound { OnOk result (IsBoundAfter K.order V.eq (C.items map.old) (C.items map.new) element.key element.value) }
+    ensures meets { OnOk result ((¬ IsEmptyRange K.order element.key) → MeetAlso K.order (C.items map.old) (C.items map.new) element.key) }
+    ensures frame { OnOk result ((¬ IsEmptyRange K.order element.key) → GaveWayTo K.order V.eq (C.items map.old) (C.items map.new) element.key element.value) }
     ensures form { IsStored K.order V.eq (C.items map.new) }
-    ensures met { IfErr result (λ e. (e ≡ Memory) ⊎ ((e ≡ Meets index) × IsMet K.order (C.items map.old) element)) }
+    ensures empty_unchanged { IsEmptyRange K.order element.key → C.items map.new ≡ C.items map.old }
+    ensures met { IfErr result (λ e. (e ≡ Memory) ⊎ ((e ≡ Meets index) × (¬ IsEmptyRange K.order element.key) × MeetsSome K.order (C.items map.old) element.key)) }
 {
     let Item { key, value } = element;
     inner::known(&key);

@@ -3,7 +3,7 @@ use Rattle.std.proofs.lemmas.List.{take_more, length-take-le, take-append-drop}
 use Rattle.serde_json.specs.View.{view}
 use Rattle.range_json.specs.MapFaults.{IsMapFault, IsFirstFault, IsFaultOf}
 use Rattle.range_json.specs.declared.error.JsonError.TheVariants.{Memory, Meets}
-use Rattle.range_json.proofs.MapReading.{map_begun, map_more, map_fails, map_meets, none_stored}
+use Rattle.range_json.proofs.MapReading.{IsPut, map_begun, map_more, map_fails, map_meets, none_stored}
 use Rattle.range_json.proofs.Reading.{again}
 use Rattle.range_json.proofs.map.map_from_json.Goals as goal
 
@@ -22,7 +22,16 @@ loop-index-preserved g c =
     let within : n < length vs = omega (arith, c.loop-index-test.true, c.loop-index.auto.index-end) in
     let more : take (n + 1) vs ≡ take n vs ++ v ∷ [] = take_more vs n v within ∙ ap (λ w. take n vs ++ w ∷ []) (sym c.index-elements-index.is) in
     let size : length (take n vs) ≡ n = length-take-le n vs (omega (arith, within)) in
-    rw more (map_more g.K.MaybeBounded.order g.K.Json.reads g.V.Json.reads g.K.Json.is_read g.V.Json.is_read g.V.PartialEq.eq g.met.K.PartialEnum.lawful (take n vs) v (items c.loop-index.map) (items c.insert_element.new.map) x c.loop-index.invariant (rw size c.in_ok-element_from_json.ensures.sound) c.in_ok-element_from_json.ensures.read c.in_ok-insert_element.ensures.put c.insert_element.ensures.form)
+    let done = c.in_ok-insert_element.ensures in
+    let put : IsPut g.K.MaybeBounded.order g.V.PartialEq.eq (items c.loop-index.map) (items c.insert_element.new.map) x = record {
+      known = done.known;
+      apart = done.apart;
+      bound = done.bound;
+      meets = done.meets;
+      frame = done.frame;
+      unchanged = done.empty_unchanged;
+    } in
+    rw more (map_more g.K.MaybeBounded.order g.K.Json.reads g.V.Json.reads g.K.Json.is_read g.V.Json.is_read g.V.PartialEq.eq g.met.K.PartialEnum.lawful (take n vs) v (items c.loop-index.map) (items c.insert_element.new.map) x c.loop-index.invariant (rw size c.in_ok-element_from_json.ensures.sound) c.in_ok-element_from_json.ensures.read put c.insert_element.ensures.form)
 
 pub returns-in_err-element_from_json-clause-fault : goal.returns-in_err-element_from_json-clause-fault
 returns-in_err-element_from_json-clause-fault g c =
@@ -56,6 +65,6 @@ returns-in_err-insert_element-clause-fault g c =
     let e = c.in_err-insert_element.field-0.0 in
     let told : (e ≡ Memory) ⊎ IsMapFault order g.K.Json.reads g.V.Json.reads g.K.Json.is_read g.V.Json.is_read (view c.args.value.now) e = elim c.in_err-insert_element.ensures.met [
       | inl memory ↦ inl memory
-      | inr at ↦ inr (subst (λ w. IsFaultOf order g.K.Json.reads g.V.Json.reads g.K.Json.is_read g.V.Json.is_read w e) (sym c.in_ok-elements.ensures.found) (subst (λ l. IsFirstFault order g.K.Json.reads g.V.Json.reads g.K.Json.is_read g.V.Json.is_read (map view l) e) all (subst (λ f. IsFirstFault order g.K.Json.reads g.V.Json.reads g.K.Json.is_read g.V.Json.is_read (map view (take n vs ++ v ∷ rest)) f) (ap Meets size ∙ sym at.0) (map_meets order g.K.Json.reads g.V.Json.reads g.K.Json.is_read g.V.Json.is_read g.V.PartialEq.eq (take n vs) rest v (g.C.Storage.items c.loop-index.map) c.in_ok-element_from_json.field-0 c.loop-index.invariant (rw size c.in_ok-element_from_json.ensures.sound) c.in_ok-element_from_json.ensures.read at.1))))
+      | inr at ↦ inr (subst (λ w. IsFaultOf order g.K.Json.reads g.V.Json.reads g.K.Json.is_read g.V.Json.is_read w e) (sym c.in_ok-elements.ensures.found) (subst (λ l. IsFirstFault order g.K.Json.reads g.V.Json.reads g.K.Json.is_read g.V.Json.is_read (map view l) e) all (subst (λ f. IsFirstFault order g.K.Json.reads g.V.Json.reads g.K.Json.is_read g.V.Json.is_read (map view (take n vs ++ v ∷ rest)) f) (ap Meets size ∙ sym at.0) (map_meets order g.K.Json.reads g.V.Json.reads g.K.Json.is_read g.V.Json.is_read g.V.PartialEq.eq (take n vs) rest v (g.C.Storage.items c.loop-index.map) c.in_ok-element_from_json.field-0 c.loop-index.invariant (rw size c.in_ok-element_from_json.ensures.sound) c.in_ok-element_from_json.ensures.read c.insert_element.ensures.known (at.1, at.2)))))
     ] in
     search (rules, told)
