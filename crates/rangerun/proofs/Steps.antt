@@ -9,6 +9,7 @@ use Rattle.btree_range_map.specs.Command.{Command}
 use Rattle.btree_range_map.specs.Command.TheVariants.{Insert, InsertDisconnected, Remove, Update, Get, Contains, Intersects, Count}
 use Rattle.btree_range_map.specs.Reply.{Reply}
 use Rattle.btree_range_map.specs.Reply.TheVariants.{Done, Memory, Connected, Closure, Value, Truth, Count as Counted}
+use Rattle.btree_range_map.specs.Rebinding.{IsRebound, AreRebound}
 use Rattle.btree_range_map.specs.Runs.{IsAnswered, MayFail, IsStep}
 
 every_as : {A : Type 0} (P Q : A → Type 0) → ((x : A) → P x → Q x) → (xs : List A) → Every P xs → Every Q xs
@@ -26,6 +27,12 @@ module _ {K : Type 0} (order : KeyOrder K) {V : Type 0} (same : V → V → Bool
       others = done.others;
     }
 
+    rebound_key : (items next : List (Item (AnyRange K) V)) (k : K) → IsRebound order same few items next k → IsRebound order same many items next k
+    rebound_key items next k now = record { old = now.old; answer = now.answer; was = now.was; given = follows now.old (Ok now.answer) now.given; is = now.is }
+
+    rebound_as : (items next : List (Item (AnyRange K) V)) (r : AnyRange K) → AreRebound order same few items next r → AreRebound order same many items next r
+    rebound_as items next r now = record { held = λ k key held. rebound_key items next k (now.held k key held); others = now.others }
+
     fails_as : (items : List (Item (AnyRange K) V)) (r : AnyRange K) (e : E) → MayFail order same few items r e → MayFail order same many items r e
     fails_as items r e failed = record { piece = failed.piece; value = failed.value; is_piece = failed.is_piece; says = follows failed.value (Err e) failed.says }
 
@@ -40,6 +47,7 @@ module _ {K : Type 0} (order : KeyOrder K) {V : Type 0} (same : V → V → Bool
     step_as items (Remove r) Memory next step = step
     step_as items (Update r t) Done next step = record {
       answered = λ some. answered_as (few t) (many t) (follows t) items next r (step.answered some);
+      rebound = rebound_as (few t) (many t) (follows t) items next r step.rebound;
       form = step.form;
       empty = step.empty;
     }

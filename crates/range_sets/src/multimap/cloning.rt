@@ -6,7 +6,7 @@ ghost use Rattle.range_map.specs.Stored.{IsStored};
 ghost use Rattle.range_sets.specs.Pairs.{HasNoEmptySet};
 
 use super::RangeMultiMap;
-use crate::members::MaybeEmpty;
+use crate::members::{MaybeEmpty, SetMut};
 use range_algebra::any::AnyRange;
 use range_keys::traits::PartialEnum;
 use range_store::storage::{Item, Storage};
@@ -21,9 +21,11 @@ impl<K: PartialEnum + Clone, S: MaybeEmpty, C: Storage<Item<AnyRange<K>, S>>> Ra
     ///
     /// Allocates for its ranges and for each clone of a key or a set; fails where that is refused.
     /// Costs a clone and a step for each stored range.
-    pub fn clone(&self) -> Result<Self, AllocError>
+    pub fn clone<V: Eq + Clone>(&self) -> Result<Self, AllocError>
+    where
+        S: SetMut<V>,
         requires keys { ClonesAreEqual K.is_clone K.eq }
-        requires sets { ClonesAreEqual S.is_clone S.eq }
+        requires values { ClonesAreEqual V.is_clone V.eq }
         ensures equal { IfOk result (λ copy. IsCopyOf K.order S.eq (C.items copy) (C.items self.now)) }
         ensures form { IfOk result (λ copy. IsStored K.order S.eq (C.items copy)) }
         ensures nonempty { IfOk result (λ copy. HasNoEmptySet S.is_void (C.items copy)) }

@@ -1,0 +1,5 @@
+//! Tests of multimaps, over either container and either type of sets.
+#![tactic(auto)]
+
+#[cfg(test)]
+mod tests;

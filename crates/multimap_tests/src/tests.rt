@@ -1,0 +1,3 @@
+mod rows;
+mod support;
+mod surface;

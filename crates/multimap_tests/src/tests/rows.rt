@@ -1,0 +1,102 @@
+//! Tables of calls.
+
+use crate::tests::support::Keys::{All, Alone, Closed, HalfOpen};
+use crate::tests::support::{Step, plays};
+use std::test::Fail;
+
+/// Two ranges that overlap, and what is left when each value is removed in turn.
+static OVERLAPPING: &[Step<'static, i32>] = &[
+    Step::Stores(&[]),
+    Step::Insert(HalfOpen(0, 10), 1),
+    Step::Insert(HalfOpen(5, 15), 2),
+    Step::Stores(&[(0, 4, &[1]), (5, 9, &[1, 2]), (10, 14, &[2])]),
+    Step::Has(4, &[1]),
+    Step::Has(5, &[2, 1]),
+    Step::Has(14, &[2]),
+    Step::Has(15, &[]),
+    Step::Contains(9, 1, true),
+    Step::Contains(10, 1, false),
+    Step::Contains(-1, 1, false),
+    Step::Remove(HalfOpen(0, 15), 1),
+    Step::Stores(&[(5, 14, &[2])]),
+    Step::Remove(All, 2),
+    Step::Stores(&[]),
+];
+
+#[test]
+fn overlapping_ranges(rt: HostRuntime) -> Result<(), Fail> {
+    plays(&rt, rt.alloc(), OVERLAPPING)
+}
+
+/// Reversed ranges, values that are there already, and values that are not there.
+static NOTHING_TO_DO: &[Step<'static, i32>] = &[
+    Step::Insert(HalfOpen(8, 3), 1),
+    Step::Stores(&[]),
+    Step::Insert(Closed(0, 4), 1),
+    Step::Insert(Closed(2, 3), 1),
+    Step::Remove(Closed(0, 9), 2),
+    Step::Remove(HalfOpen(4, 0), 1),
+    Step::Stores(&[(0, 4, &[1])]),
+];
+
+#[test]
+fn nothing_to_do(rt: HostRuntime) -> Result<(), Fail> {
+    plays(&rt, rt.alloc(), NOTHING_TO_DO)
+}
+
+/// Ranges that come to have equal sets are joined, also across a gap that is filled.
+static JOINED: &[Step<'static, i32>] = &[
+    Step::Insert(Closed(0, 4), 1),
+    Step::Insert(Closed(0, 2), 2),
+    Step::Insert(Closed(8, 9), 1),
+    Step::Stores(&[(0, 2, &[1, 2]), (3, 4, &[1]), (8, 9, &[1])]),
+    Step::Insert(Closed(3, 9), 2),
+    Step::Stores(&[(0, 4, &[1, 2]), (5, 7, &[2]), (8, 9, &[1, 2])]),
+    Step::Insert(Alone(6), 1),
+    Step::Insert(Alone(5), 1),
+    Step::Insert(Alone(7), 1),
+    Step::Stores(&[(0, 9, &[2, 1])]),
+    Step::Remove(Alone(5), 1),
+    Step::Remove(Alone(5), 2),
+    Step::Stores(&[(0, 4, &[1, 2]), (6, 9, &[1, 2])]),
+];
+
+#[test]
+fn ranges_with_equal_sets_are_joined(rt: HostRuntime) -> Result<(), Fail> {
+    plays(&rt, rt.alloc(), JOINED)
+}
+
+/// Digits with a number each, and then one number more for all of them.
+static DIGITS: &[Step<'static, char>] = &[
+    Step::Insert(Alone('1'), 100),
+    Step::Insert(Alone('2'), 101),
+    Step::Insert(Alone('3'), 102),
+    Step::Insert(Alone('4'), 103),
+    Step::Insert(Alone('5'), 104),
+    Step::Insert(Alone('6'), 105),
+    Step::Insert(Alone('7'), 106),
+    Step::Insert(Alone('8'), 107),
+    Step::Insert(Alone('9'), 108),
+    Step::Insert(Closed('0', '9'), 0),
+    Step::Has('9', &[0, 108]),
+    Step::Has('0', &[0]),
+    Step::Has('/', &[]),
+    Step::Has(':', &[]),
+    Step::Stores(&[
+        ('0', '0', &[0]),
+        ('1', '1', &[0, 100]),
+        ('2', '2', &[0, 101]),
+        ('3', '3', &[0, 102]),
+        ('4', '4', &[0, 103]),
+        ('5', '5', &[0, 104]),
+        ('6', '6', &[0, 105]),
+        ('7', '7', &[0, 106]),
+        ('8', '8', &[0, 107]),
+        ('9', '9', &[0, 108]),
+    ]),
+];
+
+#[test]
+fn a_number_for_all_digits(rt: HostRuntime) -> Result<(), Fail> {
+    plays(&rt, rt.alloc(), DIGITS)
+}
