@@ -14,16 +14,16 @@ use Rattle.charmoves.specs.declared.moves.Moves.{Moves}
 use Rattle.charmoves.specs.declared.rules.Rules.{Rules}
 
 -- ranges of characters, each with the states that it leads to
-abbrev pub Ways : Type 0
-Ways = List (Item (AnyRange ℕ) (BTreeSet ℕ))
+abbrev pub Transitions : Type 0
+Transitions = List (Item (AnyRange ℕ) (BTreeSet ℕ))
 
-abbrev pub ways_of : Option (BoxStorage (Item (AnyRange ℕ) (BTreeSet ℕ))) → Ways
-ways_of None = []
-ways_of (Some stored) = box_items stored
+abbrev pub transitions_of : Option (BoxStorage (Item (AnyRange ℕ) (BTreeSet ℕ))) → Transitions
+transitions_of None = []
+transitions_of (Some stored) = box_items stored
 
 -- some rule leads from p to q by the character c
 abbrev pub HasRule : Rules → ℕ → ℕ → ℕ → Type 0
-HasRule a p c q = HasPair character_order (contains nat_cmp) (ways_of (map.get nat_cmp a.ways p)) c q
+HasRule a p c q = HasPair character_order (contains nat_cmp) (transitions_of (map.get nat_cmp a.transitions p)) c q
 
 abbrev pub IsStart : Rules → ℕ → Type 0
 IsStart a p = IsTrue (contains nat_cmp a.starts p)

@@ -12,12 +12,24 @@ use std::alloc::Global;
 use std::collections::{BTreeMap, BTreeSet};
 
 /// The rules of an automaton, the states where a text starts, and those in which it may end.
-#[derive(Drop)]
 pub struct Rules {
-    ways: BTreeMap<u32, RangeMultiMap<char, BTreeSet<u32>>>,
+    transitions: BTreeMap<u32, RangeMultiMap<char, BTreeSet<u32>>>,
     pub(crate) starts: BTreeSet<u32>,
     pub(crate) accepting: BTreeSet<u32>,
     pub(crate) alloc: Global,
+}
+
+impl Drop for Rules {
+    fn drop(self) {
+        let Rules {
+            mut transitions,
+            starts: _starts,
+            accepting: _accepting,
+            alloc: _,
+        } = self;
+        while let Some((_, _of_state)) = transitions.pop_first() {}
+        transitions.destroy_empty();
+    }
 }
 
 impl Rules {
@@ -28,7 +40,7 @@ impl Rules {
         ensures accepting { (p : ℕ) → ¬ IsAccepting result p }
     {
         Rules {
-            ways: BTreeMap::new(alloc),
+            transitions: BTreeMap::new(alloc),
             starts: BTreeSet::new(alloc),
             accepting: BTreeSet::new(alloc),
             alloc,
@@ -49,12 +61,12 @@ impl Rules {
         ensures accepting { KeepsAccepting self.old self.new }
         ensures refused { OnErr result (KeepsRules self.old self.new) }
     {
-        if let Some(ways) = self.ways.get_mut(&from) {
-            return ways.insert(range, to);
+        if let Some(transitions) = self.transitions.get_mut(&from) {
+            return transitions.insert(range, to);
         }
-        let mut ways = RangeMultiMap::new(self.alloc);
-        ways.insert(range, to)?;
-        match self.ways.insert(from, ways) {
+        let mut transitions = RangeMultiMap::new(self.alloc);
+        transitions.insert(range, to)?;
+        match self.transitions.insert(from, transitions) {
             Ok(_) => Ok(()),
             Err(_) => Err(MapError::Memory),
         }
@@ -94,7 +106,7 @@ impl Rules {
     pub(crate) fn targets(&self, state: u32, c: char) -> Option<&BTreeSet<u32>>
         ensures { (q : ℕ) → HasRule self.now state c q ↔ IsTrue (among (contains nat_cmp) (option_copied result) q) }
     {
-        let ways = self.ways.get(&state)?;
-        ways.get::<u32>(c)
+        let transitions = self.transitions.get(&state)?;
+        transitions.get::<u32>(c)
     }
 }

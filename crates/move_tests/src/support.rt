@@ -1,0 +1,111 @@
+//! Automata as tables: their rules and states, and what they answer.
+
+use btree_range_map::generic::map::MapError;
+use charmoves::{Moves, Rules};
+use std::alloc::{AllocError, Global};
+use std::collections::BTreeSet;
+use std::process::Abort;
+use std::test::Fail;
+
+/// A state, the first and the last character of a range, and the state that they lead to.
+pub type Rule = (u32, char, char, u32);
+
+pub type States = BTreeSet<u32>;
+
+/// An automaton, and what it answers.
+pub struct Table<'a> {
+    pub rules: &'a [Rule],
+    pub starts: &'a [u32],
+    pub accepting: &'a [u32],
+    /// From these states the character leads to those.
+    pub steps: &'a [(&'a [u32], char, &'a [u32])],
+    /// Whether the text is accepted.
+    pub texts: &'a [(&'a str, bool)],
+}
+
+pub fn add(rules: &mut Rules, rule: Rule) -> Result<(), MapError> {
+    let (from, first, last, to) = rule;
+    rules.add(from, first..=last, to)
+}
+
+fn add_all(rules: &mut Rules, rows: &[Rule]) -> Result<(), MapError> {
+    for row in rows {
+        add(rules, *row)?;
+    }
+    Ok(())
+}
+
+fn start_all(rules: &mut Rules, states: &[u32]) -> Result<(), MapError> {
+    for state in states {
+        rules.start(*state)?;
+    }
+    Ok(())
+}
+
+fn accept_all(rules: &mut Rules, states: &[u32]) -> Result<(), MapError> {
+    for state in states {
+        rules.accept(*state)?;
+    }
+    Ok(())
+}
+
+/// The rules and states of a table.
+pub fn rules_of(alloc: Global, table: &Table<'_>) -> Result<Rules, MapError> {
+    let mut rules = Rules::new(alloc);
+    add_all(&mut rules, table.rules)?;
+    start_all(&mut rules, table.starts)?;
+    accept_all(&mut rules, table.accepting)?;
+    Ok(rules)
+}
+
+pub fn set_of(alloc: Global, states: &[u32]) -> Result<States, AllocError> {
+    let mut set = BTreeSet::new(alloc);
+    for state in states {
+        set.insert(*state)?;
+    }
+    Ok(set)
+}
+
+pub fn step(moves: &Moves, states: States, c: char) -> Result<States, MapError> {
+    moves.step(&states, c)
+}
+
+/// Whether the states are just these.
+pub fn are(alloc: Global, states: States, expected: &[u32]) -> Result<bool, AllocError> {
+    Ok(states == set_of(alloc, expected)?)
+}
+
+/// Whether from the given states the character leads just to the expected ones.
+fn leads(alloc: Global, moves: &Moves, row: &(&[u32], char, &[u32])) -> Result<bool, MapError> {
+    let (given, c, expected) = *row;
+    let reached = step(moves, set_of(alloc, given)?, c)?;
+    Ok(are(alloc, reached, expected)?)
+}
+
+/// The place of the first row of steps that is answered otherwise.
+fn wrong_step(alloc: Global, moves: &Moves, table: &Table<'_>) -> Result<Option<usize>, MapError> {
+    for (place, row) in table.steps.iter().enumerate() {
+        if !leads(alloc, moves, row)? {
+            return Ok(Some(place));
+        }
+    }
+    Ok(None)
+}
+
+/// The first text that is accepted where it is not to be, or the other way round.
+fn wrong_text<'a>(moves: &Moves, table: &Table<'a>) -> Result<Option<&'a str>, MapError> {
+    for (text, expected) in table.texts {
+        if moves.accepts(text)? != *expected {
+            return Ok(Some(*text));
+        }
+    }
+    Ok(None)
+}
+
+/// Reads a table: its automaton answers as it says.
+pub fn play<R: Abort>(rt: &R, alloc: Global, table: &Table<'_>) -> Result<(), Fail> {
+    let moves = Moves::build(rules_of(alloc, table)?);
+    assert_eq!(rt; wrong_step(alloc, &moves, table)?, None);
+    assert_eq!(rt; wrong_text(&moves, table)?, None);
+    Ok(())
+}
