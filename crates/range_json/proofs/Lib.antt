@@ -1,3 +1,4 @@
+pub mod Keeping
 pub mod MapReading
 pub mod Reading
 pub mod Writing

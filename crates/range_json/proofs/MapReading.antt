@@ -1,4 +1,5 @@
 -- What is read of a map's elements while a loop goes over them.
+use Rattle.std.specs.Cmp.{IsEquivalence}
 use Rattle.std.proofs.Common.{◌≡◌, refl, sym, ap, subst, ◌⊎◌, ◌↔◌, inl, inr, List, [], ◌∷◌, ◌++◌, map, length, Bool, IsTrue, Option, Some, None}
 use Rattle.std.proofs.lemmas.List.{map-append}
 use Rattle.std.specs.declared.cmp.Ordering.{Ordering}
@@ -20,6 +21,7 @@ use Rattle.range_map.proofs.Meeting.{binding_meets}
 use Rattle.range_json.specs.declared.error.JsonError.{JsonError}
 use Rattle.range_json.specs.declared.error.JsonError.TheVariants.{Meets}
 use Rattle.range_json.specs.MapFaults.{element_fault, IsElementRead, MeetNonempty, MeetsOne, AreApart, AreRead, IsFirstFault}
+use Rattle.range_json.proofs.Keeping.{of_last, stored_before, stands_last}
 use Rattle.range_json.proofs.Reading.{no_fault_more, read_more, same_length}
 
 is_greater : (o : Ordering) → (o ≡ Greater) ⊎ (¬ (o ≡ Greater))
@@ -181,6 +183,7 @@ module _ {K V : Type 0} (order : KeyOrder K) where
       pub bound : BindAlike order same items earlier
       pub meets : MeetAlike items earlier
       pub form : IsStored order same items
+      pub kept : IsStored order same earlier → items ≡ earlier
 
     pub map_begun : (items : List (Item (AnyRange K) V)) → items ≡ [] → IsStored order same items → IsMapSoFar [] items
     map_begun items e form =
@@ -190,11 +193,12 @@ module _ {K V : Type 0} (order : KeyOrder K) where
           bound = λ k key b. (λ h. subst (λ is. Binds order same is k b) e h, λ h. subst (λ is. Binds order same is k b) (sym e) h);
           meets = λ s known full. (λ h. subst (λ is. MeetsSome order is s) e h, λ h. absurd h);
           form = form;
+          kept = λ _. e;
         }
 
-    pub map_more : (lawful : IsLawful order) (vs : List Value) (v : Value) (old new : List (Item (AnyRange K) V)) (x : Item (AnyRange K) V)
+    pub map_more : (lawful : IsLawful order) (equal : IsEquivalence same) (vs : List Value) (v : Value) (old new : List (Item (AnyRange K) V)) (x : Item (AnyRange K) V)
         → IsMapSoFar vs old → element_fault key_reads value_reads (length vs) (view v) ≡ None → IsElementRead key_is_read value_is_read (view v) x → IsPut order same old new x → IsStored order same new → IsMapSoFar (vs ++ v ∷ []) new
-    map_more lawful vs v old new x so_far fine is_read put form =
+    map_more lawful equal vs v old new x so_far fine is_read put form =
         let fault = element_fault key_reads value_reads in
         let alone : ¬ MeetsOne order x.key so_far.earlier = λ one.
         let full = one_full x.key so_far.earlier one in
@@ -208,6 +212,10 @@ module _ {K V : Type 0} (order : KeyOrder K) where
           bound = alike_more same lawful old new so_far.earlier x so_far.bound put;
           meets = meet_more same old new so_far.earlier x so_far.meets put;
           form = form;
+          kept = λ whole.
+              let was : old ≡ so_far.earlier = so_far.kept (stored_before order lawful same equal so_far.earlier x whole) in
+              let full = of_last (λ i. ¬ IsEmptyRange order i.key) so_far.earlier x whole.nonempty in
+              stands_last order lawful same equal so_far.earlier new x whole form (subst (λ is. GaveWayTo order same is new x.key x.value) was (put.frame full));
         }
 
     abbrev FirstFault : List Data → JsonError → Type 0

@@ -10,6 +10,7 @@ use Rattle.range_algebra.specs.Range.{IsEmptyRange}
 use Rattle.range_store.specs.declared.storage.Item.{Item}
 use Rattle.range_map.specs.Bindings.{BindAlike}
 use Rattle.range_map.specs.Ranges.{Overlap}
+use Rattle.range_map.specs.Stored.{IsStored}
 use Rattle.range_json.specs.declared.error.JsonError.{JsonError}
 use Rattle.range_json.specs.declared.error.JsonError.TheVariants.{Version, NotArray, NotPair, Value, Meets}
 use Rattle.range_json.specs.Faults.{before, range_fault, first_fault, IsRangeRead}
@@ -100,10 +101,11 @@ module _ {K V : Type 0} where
     abbrev pub IsMapFault : Data → JsonError → Type 0
     IsMapFault d f = IsFaultOf (map_elements d) f
 
-    -- the value has no fault, and the list binds each key as the element does whose range holds it, and no other key
+    -- the value has no fault; the list binds each key as the element does whose range holds it, and no other key; elements in the form of a map are kept one by one
     pub record IsMapRead (same_value : V → V → Bool) (d : Data) (items : List (Item (AnyRange K) V)) : Type 0 where
       pub ds : List Data
       pub elements : List (Item (AnyRange K) V)
       pub whole : map_elements d ≡ Ok ds
       pub read : AreRead ds elements
       pub bound : BindAlike order same_value items elements
+      pub kept : IsStored order same_value elements → items ≡ elements

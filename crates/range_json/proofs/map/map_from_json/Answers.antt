@@ -31,7 +31,7 @@ loop-index-preserved g c =
       frame = done.frame;
       unchanged = done.empty_unchanged;
     } in
-    rw more (map_more g.K.MaybeBounded.order g.K.Json.reads g.V.Json.reads g.K.Json.is_read g.V.Json.is_read g.V.PartialEq.eq g.met.K.PartialEnum.lawful (take n vs) v (items c.loop-index.map) (items c.insert_element.new.map) x c.loop-index.invariant (rw size c.in_ok-element_from_json.ensures.sound) c.in_ok-element_from_json.ensures.read put c.insert_element.ensures.form)
+    rw more (map_more g.K.MaybeBounded.order g.K.Json.reads g.V.Json.reads g.K.Json.is_read g.V.Json.is_read g.V.PartialEq.eq g.met.K.PartialEnum.lawful g.met.V.Eq.laws (take n vs) v (items c.loop-index.map) (items c.insert_element.new.map) x c.loop-index.invariant (rw size c.in_ok-element_from_json.ensures.sound) c.in_ok-element_from_json.ensures.read put c.insert_element.ensures.form)
 
 pub returns-in_err-element_from_json-clause-fault : goal.returns-in_err-element_from_json-clause-fault
 returns-in_err-element_from_json-clause-fault g c =

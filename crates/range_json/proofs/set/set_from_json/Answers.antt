@@ -23,17 +23,24 @@ loop-index-preserved g c =
     let within : n < length vs = omega (arith, c.loop-index-test.true, c.loop-index.auto.index-end) in
     let more : take (n + 1) vs ≡ take n vs ++ v ∷ [] = take_more vs n v within ∙ ap (λ w. take n vs ++ w ∷ []) (sym c.index-elements-index.is) in
     let size : length (take n vs) ≡ n = length-take-le n vs (omega (arith, within)) in
-    rw more (set_more g.T.Json.reads g.T.Json.is_read g.T.MaybeBounded.order (take n vs) v (items c.loop-index.set) (items c.insert.new.self) c.in_ok-element_range.field-0 c.loop-index.invariant (rw size c.in_ok-element_range.ensures.sound) c.in_ok-element_range.ensures.read c.in_ok-insert.ensures.added c.insert.ensures.form)
+    rw more (set_more g.T.Json.reads g.T.Json.is_read g.T.MaybeBounded.order g.met.T.PartialEnum.lawful (take n vs) v (items c.loop-index.set) (items c.insert.new.self) c.in_ok-element_range.field-0 c.loop-index.invariant (rw size c.in_ok-element_range.ensures.sound) c.in_ok-element_range.ensures.read c.in_ok-insert.ensures.added c.insert.ensures.form c.in_ok-insert.ensures.frame)
 
-pub returns-clause-held : goal.returns-clause-held
-returns-clause-held g c =
+pub returns-clause-read : goal.returns-clause-read
+returns-clause-read g c =
     let vs = c.in_ok-elements.elements.now in
     let n = c.loop-index.index in
     let full : n ≡ length vs = omega (arith, c.loop-index-test.false, c.loop-index.auto.index-end) in
     let all : take n vs ≡ vs = ap (λ i. take i vs) full ∙ take-length vs in
     let whole = subst (λ l. IsSetSoFar g.T.Json.reads g.T.Json.is_read g.T.MaybeBounded.order l (g.C.Storage.items c.loop-index.set)) all c.loop-index.invariant in
     let array = c.in_ok-elements.ensures.found in
-    (map view vs, whole.ranges, array, whole.read, all_of g.T.MaybeBounded.order (g.C.Storage.items c.loop-index.set) whole.ranges whole.held)
+    record {
+      ds = map view vs;
+      ranges = whole.ranges;
+      whole = array;
+      read = whole.read;
+      held = all_of g.T.MaybeBounded.order (g.C.Storage.items c.loop-index.set) whole.ranges whole.held;
+      kept = whole.kept;
+    }
 
 pub returns-clause-sound : goal.returns-clause-sound
 returns-clause-sound g c =

@@ -1,0 +1,118 @@
+-- A list in a map's form is stored as it was read.
+use Rattle.std.proofs.Common.{◌≡◌, refl, sym, ap, subst, ◌∙◌, ◌⊎◌, inl, inr, List, [], ◌∷◌, ◌++◌, Bool, true, false, IsTrue, Some, None}
+use Rattle.std.proofs.lemmas.List.{append-nil}
+use Rattle.std.specs.Cmp.{IsEquivalence}
+use Rattle.std.specs.List.{AllByRecursion}
+use Rattle.std.specs.Ordering.{is_eq}
+use Rattle.std.specs.declared.cmp.Ordering.{Ordering}
+use Rattle.std.specs.declared.cmp.Ordering.TheVariants.{Less, Equal, Greater}
+use Rattle.std.specs.declared.ops.Bound.{Bound}
+use Rattle.std.specs.declared.ops.Bound.TheVariants.{Included, Excluded, Unbounded}
+use Rattle.range_keys.specs.Order.{KeyOrder, IsLawful}
+use Rattle.range_keys.specs.Position.{start_position, end_position, position_cmp}
+use Rattle.range_keys.specs.PositionOrder.{position_total}
+use Rattle.range_algebra.specs.declared.any.AnyRange.{AnyRange}
+use Rattle.range_algebra.specs.Chains.{Leads, Good, IsChain, chain_before, chain_left, chain_right, every_left, every_right}
+use Rattle.range_algebra.specs.Compared.{start_is_at, starts_at_end, inverted}
+use Rattle.range_algebra.specs.Cuts.{past, lower, upper}
+use Rattle.range_algebra.specs.Intervals.{Le, Lt, Every}
+use Rattle.range_algebra.specs.Orders.{eq_le, le_trans, lt_le, lt_not_le}
+use Rattle.range_algebra.specs.Range.{IsKnownRange, IsEmptyRange}
+use Rattle.range_algebra.specs.Relations.{Touches}
+use Rattle.range_algebra.proofs.Places.{turned}
+use Rattle.range_store.specs.declared.storage.Item.{Item}
+use Rattle.range_map.specs.Frames.{GaveWayTo, JoinsOrMeets}
+use Rattle.range_map.specs.ItemCuts.{item_lower, item_upper}
+use Rattle.range_map.specs.Ranges.{Overlap}
+use Rattle.range_map.specs.Stored.{IsStored}
+use Rattle.range_map.proofs.Forms.{places, before_is, touches_is, Chained, Known, stored_chain, stored_known, chain_stored}
+
+is_equal : (o : Ordering) → IsTrue (is_eq o) → o ≡ Equal
+is_equal Less h = cc
+is_equal Equal h = refl
+is_equal Greater h = cc
+
+no_item : {X : Type 0} (P : X → Type 0) (xs ys zs : List X) → Every (λ x. ¬ P x) (xs ++ ys ++ zs) → Every P ys → ys ≡ []
+no_item P xs [] zs none all = refl
+no_item P xs (y ∷ ys) zs none all = let tail = every_right (λ x. ¬ P x) xs (y ∷ ys) (every_left (λ x. ¬ P x) (xs ++ y ∷ ys) zs none) in absurd (tail.0 all.0)
+
+one_between : {X : Type 0} (xs : List X) (x : X) (ys : List X) → xs ++ x ∷ [] ++ ys ≡ xs ++ x ∷ ys
+one_between [] x ys = refl
+one_between (y ∷ xs) x ys = ap (λ zs. y ∷ zs) (one_between xs x ys)
+
+-- what holds of all holds of the last
+pub of_last : {X : Type 0} (P : X → Type 0) (xs : List X) (x : X) → AllByRecursion P (xs ++ x ∷ []) → P x
+of_last P [] x h = h.0
+of_last P (y ∷ xs) x h = of_last P xs x h.1
+
+module _ {K V : Type 0} (order : KeyOrder K) (lawful : IsLawful order) (same : V → V → Bool) (equal : IsEquivalence same) where
+  -- a range that touches another ends where that starts
+  touching_at : (e : Bound K) (s : AnyRange K) → IsTrue (starts_at_end order e (lower order s)) → Le (places order lawful) (past order (end_position order e)) (lower order s)
+  touching_at (Included a) s h =
+      let total = position_total order.cmp lawful.total in
+      le_trans (places order lawful) total (past order (end_position order (Included a))) (start_position order (Excluded a)) (lower order s) (eq_le (places order lawful) total (past order (end_position order (Included a))) (start_position order (Excluded a)) (turned order lawful (Included a) (Excluded a) refl)) (eq_le (places order lawful) total (start_position order (Excluded a)) (lower order s) (is_equal (places order lawful (start_position order (Excluded a)) (lower order s)) h))
+  touching_at (Excluded a) s h =
+      let total = position_total order.cmp lawful.total in
+      le_trans (places order lawful) total (past order (end_position order (Excluded a))) (start_position order (Included a)) (lower order s) (eq_le (places order lawful) total (past order (end_position order (Excluded a))) (start_position order (Included a)) (turned order lawful (Excluded a) (Included a) refl)) (eq_le (places order lawful) total (start_position order (Included a)) (lower order s) (is_equal (places order lawful (start_position order (Included a)) (lower order s)) h))
+  touching_at Unbounded s h = absurd (cc)
+
+  abbrev LeadsTo : Item (AnyRange K) V → Item (AnyRange K) V → Type 0
+  LeadsTo i x = Leads (places order lawful) (position_total order.cmp lawful.total) same equal (item_lower order) (item_upper order) (λ j. j.value) i (item_lower order x) x.value
+
+  -- what lies before x, and touches it only beside another value, does not join it
+  not_joined : (i x : Item (AnyRange K) V) → IsKnownRange order i.key → IsKnownRange order x.key → Lt (places order lawful) (item_lower order i) (item_upper order i) → Lt (places order lawful) (item_lower order x) (item_upper order x) → LeadsTo i x → ¬ JoinsOrMeets order same x.key x.value i
+  not_joined i x known known_x good good_x leads h =
+      let cmp = places order lawful in
+      let total = position_total order.cmp lawful.total in
+      elim h [
+        | inl meets ↦ meets.0 ((before_is order lawful i.key.end x.key.start known.1 known_x.0).1 leads.0)
+        | inr joins ↦ elim joins.0 [
+          | inl touches ↦ leads.1 ((touches_is order lawful i.key.end x.key known_x good_x leads.0).0 touches) joins.1
+          | inr touches ↦
+              let at : Le cmp (upper order x.key) (lower order i.key) = touching_at x.key.end i.key touches in
+              lt_not_le cmp total (lower order x.key) (upper order x.key) good_x (le_trans cmp total (upper order x.key) (lower order i.key) (lower order x.key) at (le_trans cmp total (lower order i.key) (upper order i.key) (lower order x.key) (lt_le cmp total (lower order i.key) (upper order i.key) good) leads.0))
+        ]
+      ]
+
+  abbrev Goods : List (Item (AnyRange K) V) → Type 0
+  Goods = Every (λ i. IsKnownRange order i.key × Lt (places order lawful) (item_lower order i) (item_upper order i))
+
+  goods : (xs : List (Item (AnyRange K) V)) → Known order lawful same equal xs → Chained order lawful same equal xs → Goods xs
+  goods [] known chain = tt
+  goods (x ∷ xs) known chain = ((known.0, chain.0), goods xs known.1 (chain_right (places order lawful) (position_total order.cmp lawful.total) same equal (item_lower order) (item_upper order) (λ j. j.value) (x ∷ []) xs chain))
+
+  none_joined : (xs : List (Item (AnyRange K) V)) (x : Item (AnyRange K) V) → Goods xs → IsKnownRange order x.key → Lt (places order lawful) (item_lower order x) (item_upper order x) → Every (λ i. LeadsTo i x) xs → Every (λ i. ¬ JoinsOrMeets order same x.key x.value i) xs
+  none_joined [] x good known_x good_x leads = tt
+  none_joined (i ∷ xs) x good known_x good_x leads = (not_joined i x good.0.0 known_x good.0.1 good_x leads.0, none_joined xs x good.1 known_x good_x leads.1)
+
+  -- nothing stands behind an item that all others lead to
+  none_behind : (front behind : List (Item (AnyRange K) V)) (x : Item (AnyRange K) V) → Goods behind → Lt (places order lawful) (item_lower order x) (item_upper order x) → Every (λ i. LeadsTo i x) behind → Chained order lawful same equal (front ++ x ∷ behind) → behind ≡ []
+  none_behind front [] x good good_x leads chain = refl
+  none_behind front (b ∷ behind) x good good_x leads chain =
+      let cmp = places order lawful in
+      let total = position_total order.cmp lawful.total in
+      let own = chain_right cmp total same equal (item_lower order) (item_upper order) (λ j. j.value) front (x ∷ b ∷ behind) chain in
+      let after : Le cmp (item_upper order x) (item_lower order b) = own.1.0.0 in
+      absurd (lt_not_le cmp total (item_lower order x) (item_upper order x) good_x (le_trans cmp total (item_upper order x) (item_lower order b) (item_lower order x) after (le_trans cmp total (item_lower order b) (item_upper order b) (item_lower order x) (lt_le cmp total (item_lower order b) (item_upper order b) good.0.1) leads.0.0)))
+
+  -- a list in the form stands as it is, where its last item is put to the others
+  pub stands_last : (xs new : List (Item (AnyRange K) V)) (x : Item (AnyRange K) V) → IsStored order same (xs ++ x ∷ []) → IsStored order same new → GaveWayTo order same xs new x.key x.value → new ≡ xs ++ x ∷ []
+  stands_last xs new x whole stored frame =
+      let cmp = places order lawful in
+      let total = position_total order.cmp lawful.total in
+      let chain = stored_chain order lawful same equal (xs ++ x ∷ []) whole in
+      let known = stored_known order lawful same equal (xs ++ x ∷ []) whole in
+      let leads = chain_before cmp total same equal (item_lower order) (item_upper order) (λ j. j.value) xs x [] chain in
+      let last = chain_right cmp total same equal (item_lower order) (item_upper order) (λ j. j.value) xs (x ∷ []) chain in
+      let known_x = (every_right (λ i. IsKnownRange order i.key) xs (x ∷ []) known).0 in
+      let good = goods xs (every_left (λ i. IsKnownRange order i.key) xs (x ∷ []) known) (chain_left cmp total same equal (item_lower order) (item_upper order) (λ j. j.value) xs (x ∷ []) chain) in
+      let apart = none_joined xs x good known_x last.0 leads in
+      let empty : frame.run ≡ [] = no_item (JoinsOrMeets order same x.key x.value) frame.front frame.run frame.behind (subst (λ is. Every (λ i. ¬ JoinsOrMeets order same x.key x.value i) is) frame.before apart) frame.concerned in
+      let split : xs ≡ frame.front ++ frame.behind = frame.before ∙ ap (λ is. frame.front ++ is ++ frame.behind) empty ∙ ap (λ is. is ++ frame.behind) (append-nil frame.front) in
+      let after : new ≡ frame.front ++ x ∷ frame.behind = frame.after ∙ ap (λ is. frame.front ++ is ++ frame.behind) (frame.whole empty) ∙ one_between frame.front x frame.behind in
+      let behind : frame.behind ≡ [] = none_behind frame.front frame.behind x (every_right (λ i. IsKnownRange order i.key × Lt cmp (item_lower order i) (item_upper order i)) frame.front frame.behind (subst Goods split good)) last.0 (every_right (λ i. LeadsTo i x) frame.front frame.behind (subst (λ is. Every (λ i. LeadsTo i x) is) split leads)) (subst (Chained order lawful same equal) after (stored_chain order lawful same equal new stored)) in
+      after ∙ ap (λ is. frame.front ++ x ∷ is) behind ∙ ap (λ is. is ++ x ∷ []) (sym (split ∙ ap (λ is. frame.front ++ is) behind ∙ append-nil frame.front))
+
+  -- the list before the last is in the form
+  pub stored_before : (xs : List (Item (AnyRange K) V)) (x : Item (AnyRange K) V) → IsStored order same (xs ++ x ∷ []) → IsStored order same xs
+  stored_before xs x whole = chain_stored order lawful same equal xs (every_left (λ i. IsKnownRange order i.key) xs (x ∷ []) (stored_known order lawful same equal (xs ++ x ∷ []) whole)) (chain_left (places order lawful) (position_total order.cmp lawful.total) same equal (item_lower order) (item_upper order) (λ j. j.value) xs (x ∷ []) (stored_chain order lawful same equal (xs ++ x ∷ []) whole))
