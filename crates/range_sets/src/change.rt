@@ -4,6 +4,7 @@ ghost use Rattle.range_algebra.specs.Range.{ClonesAreEqual, IsEmptyRange};
 ghost use Rattle.range_algebra.specs.Intervals.{Every};
 ghost use Rattle.range_map.specs.Costs.{TakesAtLeast, TakesAsChange};
 ghost use Rattle.range_map.specs.Frames.{GaveWayTo, WasCutOut};
+ghost use Rattle.range_map.specs.Lookups.{MeetAlso};
 ghost use Rattle.range_map.specs.Ranges.{Overlap};
 ghost use Rattle.range_sets.specs.KeySets.{HoldsAlso, HoldsWithout, IsStoredSet};
 
@@ -25,6 +26,7 @@ impl<T: Measure + Clone, C: Storage<Item<AnyRange<T>, ()>>> RangeSet<T, C> {
         ensures added { OnOk result (HoldsAlso T.order (C.items self.old) (C.items self.new) (R.range range)) }
         ensures form { IsStoredSet T.order (C.items self.new) }
         ensures frame { OnOk result (¬ IsEmptyRange T.order (R.range range) → GaveWayTo T.order (λ _ _. true) (C.items self.old) (C.items self.new) (R.range range) tt) }
+        ensures meets { OnOk result (¬ IsEmptyRange T.order (R.range range) → MeetAlso T.order (C.items self.old) (C.items self.new) (R.range range)) }
         ensures few { length (C.items self.new) ≤ length (C.items self.old) + 1 }
 
         ensures refused { OnErr result (C.items self.new ≡ C.items self.old) }
@@ -48,6 +50,7 @@ impl<T: Measure + Clone, C: Storage<Item<AnyRange<T>, ()>>> RangeSet<T, C> {
         ensures added { OnOk result (HoldsAlso T.order (C.items self.old) (C.items self.new) (R.range range)) }
         ensures form { IsStoredSet T.order (C.items self.new) }
         ensures frame { OnOk result (¬ IsEmptyRange T.order (R.range range) → GaveWayTo T.order (λ _ _. true) (C.items self.old) (C.items self.new) (R.range range) tt) }
+        ensures meets { OnOk result (¬ IsEmptyRange T.order (R.range range) → MeetAlso T.order (C.items self.old) (C.items self.new) (R.range range)) }
         ensures few { length (C.items self.new) ≤ length (C.items self.old) + 1 }
 
         ensures refused { OnErr result (C.items self.new ≡ C.items self.old) }

@@ -37,3 +37,6 @@ returns-clause-least g c = search rules
 
 pub returns-clause-empty_uncounted : goal.returns-clause-empty_uncounted
 returns-clause-empty_uncounted g c = search rules
+
+pub returns-clause-meets : goal.returns-clause-meets
+returns-clause-meets g c = rw (← c.self.view_is) c.insert_counted.ensures.meets
