@@ -85,7 +85,7 @@ impl<K: PartialEnum, V: Eq + Drop, C: Storage<Item<AnyRange<K>, V>>> RangeMap<K,
     pub(crate) fn in_form(&self)
         ensures { IsStored K.order V.eq (C.items self.now) }
     {
-        let _first = self.stored.first();
+        let _alloc = self.alloc;
     }
 
     /// How many ranges are stored. Allocates nothing.

@@ -57,7 +57,7 @@ pub(crate) fn bind_within<K: PartialEnum + Clone, V: Eq + Clone, C: Storage<Item
     let (start, end) = (range.start_bound(), range.end_bound());
     let parts = cut_parts::<K, V, C>(stored, p, start, end, 2)?;
     let middle = Item { key: range, value };
-    divide::<K, V, C>(stored, p, parts, Some(middle));
+    divide::<K, V, C>(stored, p, parts, Some(middle), window.after);
     Ok(())
 }
 

@@ -3,7 +3,7 @@ ghost use Rattle.std.specs.Prelude.{◌≡◌, ◌+◌, ◌≤◌, ◌∷◌, �
 ghost use Rattle.std.specs.Option.{ForSome, unwrap_or};
 ghost use Rattle.std.specs.declared.ops.Bound.{Bound};
 ghost use Rattle.range_store.specs.declared.storage.Item.{Item};
-ghost use Rattle.range_store.specs.Places.{place_before};
+ghost use Rattle.range_store.specs.Places.{place_before, IsAt};
 ghost use Rattle.range_algebra.specs.declared.any.AnyRange.{AnyRange};
 ghost use Rattle.range_map.specs.Edits.{with_start, with_end};
 ghost use Rattle.range_map.specs.Window.{option_items};
@@ -209,14 +209,16 @@ pub(crate) fn clear<K: Drop, V: Drop, C: Storage<Item<AnyRange<K>, V>>>(
 }
 
 /// Divides an item into its parts before and after a range that is cut out of it, with `middle`
-/// between them.
+/// between them. `after` is the position after the item.
 pub(crate) fn divide<K: Drop, V: Drop, C: Storage<Item<AnyRange<K>, V>>>(
     stored: &mut C,
     p: C::Position,
     parts: Parts<K, V>,
     middle: Option<Item<AnyRange<K>, V>>,
+    after: Option<C::Position>,
 )
     requires good { C.is_good stored.old p }
+    requires after { IsAt (C.is_good stored.old) (C.rank stored.old) (length (C.items stored.old)) after (C.rank stored.old p + 1) }
     requires space { length (option_items middle) + 1 ≤ C.room stored.old }
     ensures { IsDivided (C.items stored.old) (C.items stored.new) (C.rank stored.old p) parts middle }
 {
@@ -226,8 +228,7 @@ pub(crate) fn divide<K: Drop, V: Drop, C: Storage<Item<AnyRange<K>, V>>>(
         start,
         end: old_end,
     };
-    let behind = stored.next(p);
-    let at = stored.insert_at(behind, Item { key, value });
+    let at = stored.insert_at(after, Item { key, value });
     match middle {
         Some(item) => {
             let _at = stored.insert_at(Some(at), item);

@@ -44,7 +44,7 @@ pub(crate) fn unbind_within<
 {
     inner::known_range(range);
     let parts = cut_parts::<K, V, C>(stored, p, range.start(), range.end(), 1)?;
-    divide::<K, V, C>(stored, p, parts, None);
+    divide::<K, V, C>(stored, p, parts, None, window.after);
     Ok(())
 }
 

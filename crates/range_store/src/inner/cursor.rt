@@ -78,6 +78,10 @@ pub fn replace_run<T: Drop, C: Storage<T>>(stored: &mut C, cursor: Cursor<C::Pos
     requires space { 1 ≤ cursor.left + C.room stored.old }
     ensures { let place = place_before (C.rank stored.old) (length (C.items stored.old)) cursor.at in C.items stored.new ≡ take place (C.items stored.old) ++ item ∷ drop (place + cursor.left) (C.items stored.old) }
 {
+    if cursor.left == 0 {
+        let _inserted = stored.insert_at(cursor.at, item);
+        return;
+    }
     let rest = put::<T, C>(stored, cursor, item);
     remove_rest::<T, C>(stored, rest);
 }
