@@ -1,7 +1,8 @@
 //! Tables of calls.
 
 use crate::tests::support::Keys::{All, Alone, Closed, HalfOpen};
-use crate::tests::support::{Step, plays};
+use crate::tests::support::Values::{One, Two};
+use crate::tests::support::{Step, Values, plays};
 use std::test::Fail;
 
 /// Two ranges that overlap, and what is left when each value is removed in turn.
@@ -9,16 +10,16 @@ static OVERLAPPING: &[Step<'static, i32>] = &[
     Step::Stores(&[]),
     Step::Insert(HalfOpen(0, 10), 1),
     Step::Insert(HalfOpen(5, 15), 2),
-    Step::Stores(&[(0, 4, &[1]), (5, 9, &[1, 2]), (10, 14, &[2])]),
-    Step::Has(4, &[1]),
-    Step::Has(5, &[2, 1]),
-    Step::Has(14, &[2]),
-    Step::Has(15, &[]),
+    Step::Stores(&[(0, 4, One(1)), (5, 9, Two(1, 2)), (10, 14, One(2))]),
+    Step::Has(4, One(1)),
+    Step::Has(5, Two(2, 1)),
+    Step::Has(14, One(2)),
+    Step::Has(15, Values::None),
     Step::Contains(9, 1, true),
     Step::Contains(10, 1, false),
     Step::Contains(-1, 1, false),
     Step::Remove(HalfOpen(0, 15), 1),
-    Step::Stores(&[(5, 14, &[2])]),
+    Step::Stores(&[(5, 14, One(2))]),
     Step::Remove(All, 2),
     Step::Stores(&[]),
 ];
@@ -36,7 +37,7 @@ static NOTHING_TO_DO: &[Step<'static, i32>] = &[
     Step::Insert(Closed(2, 3), 1),
     Step::Remove(Closed(0, 9), 2),
     Step::Remove(HalfOpen(4, 0), 1),
-    Step::Stores(&[(0, 4, &[1])]),
+    Step::Stores(&[(0, 4, One(1))]),
 ];
 
 #[test]
@@ -49,16 +50,16 @@ static JOINED: &[Step<'static, i32>] = &[
     Step::Insert(Closed(0, 4), 1),
     Step::Insert(Closed(0, 2), 2),
     Step::Insert(Closed(8, 9), 1),
-    Step::Stores(&[(0, 2, &[1, 2]), (3, 4, &[1]), (8, 9, &[1])]),
+    Step::Stores(&[(0, 2, Two(1, 2)), (3, 4, One(1)), (8, 9, One(1))]),
     Step::Insert(Closed(3, 9), 2),
-    Step::Stores(&[(0, 4, &[1, 2]), (5, 7, &[2]), (8, 9, &[1, 2])]),
+    Step::Stores(&[(0, 4, Two(1, 2)), (5, 7, One(2)), (8, 9, Two(1, 2))]),
     Step::Insert(Alone(6), 1),
     Step::Insert(Alone(5), 1),
     Step::Insert(Alone(7), 1),
-    Step::Stores(&[(0, 9, &[2, 1])]),
+    Step::Stores(&[(0, 9, Two(2, 1))]),
     Step::Remove(Alone(5), 1),
     Step::Remove(Alone(5), 2),
-    Step::Stores(&[(0, 4, &[1, 2]), (6, 9, &[1, 2])]),
+    Step::Stores(&[(0, 4, Two(1, 2)), (6, 9, Two(1, 2))]),
 ];
 
 #[test]
@@ -78,21 +79,21 @@ static DIGITS: &[Step<'static, char>] = &[
     Step::Insert(Alone('8'), 107),
     Step::Insert(Alone('9'), 108),
     Step::Insert(Closed('0', '9'), 0),
-    Step::Has('9', &[0, 108]),
-    Step::Has('0', &[0]),
-    Step::Has('/', &[]),
-    Step::Has(':', &[]),
+    Step::Has('9', Two(0, 108)),
+    Step::Has('0', One(0)),
+    Step::Has('/', Values::None),
+    Step::Has(':', Values::None),
     Step::Stores(&[
-        ('0', '0', &[0]),
-        ('1', '1', &[0, 100]),
-        ('2', '2', &[0, 101]),
-        ('3', '3', &[0, 102]),
-        ('4', '4', &[0, 103]),
-        ('5', '5', &[0, 104]),
-        ('6', '6', &[0, 105]),
-        ('7', '7', &[0, 106]),
-        ('8', '8', &[0, 107]),
-        ('9', '9', &[0, 108]),
+        ('0', '0', One(0)),
+        ('1', '1', Two(0, 100)),
+        ('2', '2', Two(0, 101)),
+        ('3', '3', Two(0, 102)),
+        ('4', '4', Two(0, 103)),
+        ('5', '5', Two(0, 104)),
+        ('6', '6', Two(0, 105)),
+        ('7', '7', Two(0, 106)),
+        ('8', '8', Two(0, 107)),
+        ('9', '9', Two(0, 108)),
     ]),
 ];
 

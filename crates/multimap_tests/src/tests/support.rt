@@ -39,18 +39,26 @@ impl<K: Copy> Clone for Keys<K> {
     }
 }
 
+/// The values of a key.
+#[derive(Clone, Copy)]
+pub enum Values {
+    None,
+    One(i32),
+    Two(i32, i32),
+}
+
 /// A stored range by its first and its last key, and its values.
-pub type Row<'a, K> = (K, K, &'a [i32]);
+pub type Row<K> = (K, K, Values);
 
 /// A call on a multimap, or what has to hold of it then.
 pub enum Step<'a, K> {
     Insert(Keys<K>, i32),
     Remove(Keys<K>, i32),
     /// The values of the key; it has no set where there are none.
-    Has(K, &'a [i32]),
+    Has(K, Values),
     /// Whether the key has the value.
     Contains(K, i32, bool),
-    Stores(&'a [Row<'a, K>]),
+    Stores(&'a [Row<K>]),
 }
 
 /// The same range, by its bounds.
@@ -64,16 +72,22 @@ pub fn range_of<K: Copy>(keys: Keys<K>) -> AnyRange<K> {
     AnyRange::new(start, end)
 }
 
-pub fn set_of<S: SetMut<i32>>(alloc: Global, numbers: &[i32]) -> Result<S, AllocError> {
+/// A set of the values, put in one after the other.
+fn set_of<S: SetMut<i32>>(alloc: Global, values: Values) -> Result<S, AllocError> {
     let mut set = S::default(alloc);
-    for number in numbers {
-        set.insert(*number)?;
+    match values {
+        Values::None => (),
+        Values::One(value) => set.insert(value)?,
+        Values::Two(value, other) => {
+            set.insert(value)?;
+            set.insert(other)?;
+        }
     }
     Ok(set)
 }
 
-fn is_set_of<S: SetMut<i32>>(alloc: Global, set: &S, numbers: &[i32]) -> Result<bool, AllocError> {
-    let other: S = set_of(alloc, numbers)?;
+fn is_set_of<S: SetMut<i32>>(alloc: Global, set: &S, values: Values) -> Result<bool, AllocError> {
+    let other: S = set_of(alloc, values)?;
     Ok(*set == other)
 }
 
@@ -101,10 +115,10 @@ fn has<K: Key, S: SetMut<i32>, C: Storage<Item<AnyRange<K>, S>>>(
     alloc: Global,
     map: &RangeMultiMap<K, S, C>,
     key: K,
-    values: &[i32],
+    values: Values,
 ) -> Result<bool, AllocError> {
     match map.get(key) {
-        None => Ok(values.is_empty()),
+        None => Ok(matches!(values, Values::None)),
         Some(set) => is_set_of(alloc, set, values),
     }
 }
@@ -113,7 +127,7 @@ fn is_row<K: Key, S: SetMut<i32>>(
     alloc: Global,
     range: &AnyRange<K>,
     set: &S,
-    row: &Row<'_, K>,
+    row: &Row<K>,
 ) -> Result<bool, AllocError> {
     let (first, last, values) = *row;
     Ok(*range == range_of(Keys::Closed(first, last)) && is_set_of(alloc, set, values)?)
@@ -122,7 +136,7 @@ fn is_row<K: Key, S: SetMut<i32>>(
 pub fn stores<K: Key, S: SetMut<i32>, C: Storage<Item<AnyRange<K>, S>>>(
     alloc: Global,
     map: &RangeMultiMap<K, S, C>,
-    rows: &[Row<'_, K>],
+    rows: &[Row<K>],
 ) -> Result<bool, AllocError> {
     let mut items = map.iter();
     for row in rows {
@@ -156,7 +170,7 @@ fn goes<K: Key, S: SetMut<i32>, C: Storage<Item<AnyRange<K>, S>>>(
     match step {
         Step::Insert(keys, value) => Ok(insert(map, *keys, *value)? == ()),
         Step::Remove(keys, value) => Ok(remove(map, *keys, *value)? == ()),
-        Step::Has(key, values) => Ok(has(alloc, map, *key, values)?),
+        Step::Has(key, values) => Ok(has(alloc, map, *key, *values)?),
         Step::Contains(key, value, held) => Ok(map.contains(*key, value) == *held),
         Step::Stores(rows) => Ok(has_counts(map, rows.len()) && stores(alloc, map, rows)?),
     }
