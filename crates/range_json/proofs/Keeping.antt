@@ -1,5 +1,5 @@
 -- A list in a map's form is stored as it was read.
-use Rattle.std.proofs.Common.{◌≡◌, refl, sym, ap, subst, ◌∙◌, ◌⊎◌, inl, inr, List, [], ◌∷◌, ◌++◌, Bool, true, false, IsTrue, Some, None}
+use Rattle.std.proofs.Common.{◌≡◌, refl, sym, ap, subst, ◌∙◌, inl, inr, List, [], ◌∷◌, ◌++◌, Bool, IsTrue}
 use Rattle.std.proofs.lemmas.List.{append-nil}
 use Rattle.std.specs.Cmp.{IsEquivalence}
 use Rattle.std.specs.List.{AllByRecursion}
@@ -9,21 +9,19 @@ use Rattle.std.specs.declared.cmp.Ordering.TheVariants.{Less, Equal, Greater}
 use Rattle.std.specs.declared.ops.Bound.{Bound}
 use Rattle.std.specs.declared.ops.Bound.TheVariants.{Included, Excluded, Unbounded}
 use Rattle.range_keys.specs.Order.{KeyOrder, IsLawful}
-use Rattle.range_keys.specs.Position.{start_position, end_position, position_cmp}
+use Rattle.range_keys.specs.Position.{start_position, end_position}
 use Rattle.range_keys.specs.PositionOrder.{position_total}
 use Rattle.range_algebra.specs.declared.any.AnyRange.{AnyRange}
-use Rattle.range_algebra.specs.Chains.{Leads, Good, IsChain, chain_before, chain_left, chain_right, every_left, every_right}
-use Rattle.range_algebra.specs.Compared.{start_is_at, starts_at_end, inverted}
+use Rattle.range_algebra.specs.Chains.{Leads, chain_before, chain_left, chain_right, every_left, every_right}
+use Rattle.range_algebra.specs.Compared.{starts_at_end}
 use Rattle.range_algebra.specs.Cuts.{past, lower, upper}
 use Rattle.range_algebra.specs.Intervals.{Le, Lt, Every}
 use Rattle.range_algebra.specs.Orders.{eq_le, le_trans, lt_le, lt_not_le}
-use Rattle.range_algebra.specs.Range.{IsKnownRange, IsEmptyRange}
-use Rattle.range_algebra.specs.Relations.{Touches}
+use Rattle.range_algebra.specs.Range.{IsKnownRange}
 use Rattle.range_algebra.proofs.Places.{turned}
 use Rattle.range_store.specs.declared.storage.Item.{Item}
 use Rattle.range_map.specs.Frames.{GaveWayTo, JoinsOrMeets}
 use Rattle.range_map.specs.ItemCuts.{item_lower, item_upper}
-use Rattle.range_map.specs.Ranges.{Overlap}
 use Rattle.range_map.specs.Stored.{IsStored}
 use Rattle.range_map.proofs.Forms.{places, before_is, touches_is, Chained, Known, stored_chain, stored_known, chain_stored}
 
@@ -36,7 +34,7 @@ no_item : {X : Type 0} (P : X → Type 0) (xs ys zs : List X) → Every (λ x. �
 no_item P xs [] zs none all = refl
 no_item P xs (y ∷ ys) zs none all = let tail = every_right (λ x. ¬ P x) xs (y ∷ ys) (every_left (λ x. ¬ P x) (xs ++ y ∷ ys) zs none) in absurd (tail.0 all.0)
 
-one_between : {X : Type 0} (xs : List X) (x : X) (ys : List X) → xs ++ x ∷ [] ++ ys ≡ xs ++ x ∷ ys
+pub one_between : {X : Type 0} (xs : List X) (x : X) (ys : List X) → xs ++ x ∷ [] ++ ys ≡ xs ++ x ∷ ys
 one_between [] x ys = refl
 one_between (y ∷ xs) x ys = ap (λ zs. y ∷ zs) (one_between xs x ys)
 
@@ -95,6 +93,18 @@ module _ {K V : Type 0} (order : KeyOrder K) (lawful : IsLawful order) (same : V
       let after : Le cmp (item_upper order x) (item_lower order b) = own.1.0.0 in
       absurd (lt_not_le cmp total (item_lower order x) (item_upper order x) good_x (le_trans cmp total (item_upper order x) (item_lower order b) (item_lower order x) after (le_trans cmp total (item_lower order b) (item_upper order b) (item_lower order x) (lt_le cmp total (item_lower order b) (item_upper order b) good.0.1) leads.0.0)))
 
+  -- in a list in the form no item joins or meets the last
+  pub apart_from_last : (xs : List (Item (AnyRange K) V)) (x : Item (AnyRange K) V) → IsStored order same (xs ++ x ∷ []) → Every (λ i. ¬ JoinsOrMeets order same x.key x.value i) xs
+  apart_from_last xs x whole =
+      let cmp = places order lawful in
+      let total = position_total order.cmp lawful.total in
+      let chain = stored_chain order lawful same equal (xs ++ x ∷ []) whole in
+      let known = stored_known order lawful same equal (xs ++ x ∷ []) whole in
+      let leads = chain_before cmp total same equal (item_lower order) (item_upper order) (λ j. j.value) xs x [] chain in
+      let last = chain_right cmp total same equal (item_lower order) (item_upper order) (λ j. j.value) xs (x ∷ []) chain in
+      let good = goods xs (every_left (λ i. IsKnownRange order i.key) xs (x ∷ []) known) (chain_left cmp total same equal (item_lower order) (item_upper order) (λ j. j.value) xs (x ∷ []) chain) in
+      none_joined xs x good (every_right (λ i. IsKnownRange order i.key) xs (x ∷ []) known).0 last.0 leads
+
   -- a list in the form stands as it is, where its last item is put to the others
   pub stands_last : (xs new : List (Item (AnyRange K) V)) (x : Item (AnyRange K) V) → IsStored order same (xs ++ x ∷ []) → IsStored order same new → GaveWayTo order same xs new x.key x.value → new ≡ xs ++ x ∷ []
   stands_last xs new x whole stored frame =
@@ -104,15 +114,18 @@ module _ {K V : Type 0} (order : KeyOrder K) (lawful : IsLawful order) (same : V
       let known = stored_known order lawful same equal (xs ++ x ∷ []) whole in
       let leads = chain_before cmp total same equal (item_lower order) (item_upper order) (λ j. j.value) xs x [] chain in
       let last = chain_right cmp total same equal (item_lower order) (item_upper order) (λ j. j.value) xs (x ∷ []) chain in
-      let known_x = (every_right (λ i. IsKnownRange order i.key) xs (x ∷ []) known).0 in
       let good = goods xs (every_left (λ i. IsKnownRange order i.key) xs (x ∷ []) known) (chain_left cmp total same equal (item_lower order) (item_upper order) (λ j. j.value) xs (x ∷ []) chain) in
-      let apart = none_joined xs x good known_x last.0 leads in
+      let apart = apart_from_last xs x whole in
       let empty : frame.run ≡ [] = no_item (JoinsOrMeets order same x.key x.value) frame.front frame.run frame.behind (subst (λ is. Every (λ i. ¬ JoinsOrMeets order same x.key x.value i) is) frame.before apart) frame.concerned in
       let split : xs ≡ frame.front ++ frame.behind = frame.before ∙ ap (λ is. frame.front ++ is ++ frame.behind) empty ∙ ap (λ is. is ++ frame.behind) (append-nil frame.front) in
       let after : new ≡ frame.front ++ x ∷ frame.behind = frame.after ∙ ap (λ is. frame.front ++ is ++ frame.behind) (frame.whole empty) ∙ one_between frame.front x frame.behind in
       let behind : frame.behind ≡ [] = none_behind frame.front frame.behind x (every_right (λ i. IsKnownRange order i.key × Lt cmp (item_lower order i) (item_upper order i)) frame.front frame.behind (subst Goods split good)) last.0 (every_right (λ i. LeadsTo i x) frame.front frame.behind (subst (λ is. Every (λ i. LeadsTo i x) is) split leads)) (subst (Chained order lawful same equal) after (stored_chain order lawful same equal new stored)) in
       after ∙ ap (λ is. frame.front ++ x ∷ is) behind ∙ ap (λ is. is ++ x ∷ []) (sym (split ∙ ap (λ is. frame.front ++ is) behind ∙ append-nil frame.front))
 
+  -- the front of a list in the form is in the form
+  pub stored_front : (xs ys : List (Item (AnyRange K) V)) → IsStored order same (xs ++ ys) → IsStored order same xs
+  stored_front xs ys whole = chain_stored order lawful same equal xs (every_left (λ i. IsKnownRange order i.key) xs ys (stored_known order lawful same equal (xs ++ ys) whole)) (chain_left (places order lawful) (position_total order.cmp lawful.total) same equal (item_lower order) (item_upper order) (λ j. j.value) xs ys (stored_chain order lawful same equal (xs ++ ys) whole))
+
   -- the list before the last is in the form
   pub stored_before : (xs : List (Item (AnyRange K) V)) (x : Item (AnyRange K) V) → IsStored order same (xs ++ x ∷ []) → IsStored order same xs
-  stored_before xs x whole = chain_stored order lawful same equal xs (every_left (λ i. IsKnownRange order i.key) xs (x ∷ []) (stored_known order lawful same equal (xs ++ x ∷ []) whole)) (chain_left (places order lawful) (position_total order.cmp lawful.total) same equal (item_lower order) (item_upper order) (λ j. j.value) xs (x ∷ []) (stored_chain order lawful same equal (xs ++ x ∷ []) whole))
+  stored_before xs x whole = stored_front xs (x ∷ []) whole

@@ -1,4 +1,5 @@
 pub mod Keeping
 pub mod MapReading
 pub mod Reading
+pub mod ReadingBack
 pub mod Writing

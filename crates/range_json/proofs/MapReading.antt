@@ -22,7 +22,7 @@ use Rattle.range_json.specs.declared.error.JsonError.{JsonError}
 use Rattle.range_json.specs.declared.error.JsonError.TheVariants.{Meets}
 use Rattle.range_json.specs.MapFaults.{element_fault, IsElementRead, MeetNonempty, MeetsOne, AreApart, AreRead, IsFirstFault}
 use Rattle.range_json.proofs.Keeping.{of_last, stored_before, stands_last}
-use Rattle.range_json.proofs.Reading.{no_fault_more, read_more, same_length}
+use Rattle.range_json.proofs.Reading.{all_more, no_fault_more, read_more, same_length}
 
 is_greater : (o : Ordering) → (o ≡ Greater) ⊎ (¬ (o ≡ Greater))
 is_greater Less = inr (λ e. cc)
@@ -189,7 +189,7 @@ module _ {K V : Type 0} (order : KeyOrder K) where
     map_begun items e form =
         record {
           earlier = [];
-          read = record { sound = refl; read = tt; apart = tt };
+          read = record { sound = refl; read = tt; known = tt; apart = tt };
           bound = λ k key b. (λ h. subst (λ is. Binds order same is k b) e h, λ h. subst (λ is. Binds order same is k b) (sym e) h);
           meets = λ s known full. (λ h. subst (λ is. MeetsSome order is s) e h, λ h. absurd h);
           form = form;
@@ -207,6 +207,7 @@ module _ {K V : Type 0} (order : KeyOrder K) where
           read = record {
             sound = rw (map-append view vs (v ∷ [])) (no_fault_more fault (map view vs) (view v) so_far.read.sound (rw (same_length vs) fine));
             read = rw (map-append view vs (v ∷ [])) (read_more (IsElementRead key_is_read value_is_read) (map view vs) so_far.earlier (view v) x so_far.read.read is_read);
+            known = all_more (λ i. IsKnownRange order i.key) so_far.earlier x so_far.read.known put.known;
             apart = apart_more so_far.earlier x so_far.read.apart alone;
           };
           bound = alike_more same lawful old new so_far.earlier x so_far.bound put;
@@ -242,7 +243,7 @@ module _ {K V : Type 0} (order : KeyOrder K) where
       earlier = so_far.earlier;
       split = map-append view vs (v ∷ more);
       fine = so_far.read;
-      fault = inr ((rw (same_length vs) fine, (x, is_read, (so_far.meets x.key known met.0).0 met.1)), ap Meets (sym (same_length vs)));
+      fault = inr ((rw (same_length vs) fine, (x, is_read, known, (so_far.meets x.key known met.0).0 met.1)), ap Meets (sym (same_length vs)));
     }
 
 module _ {K V : Type 0} (order : KeyOrder K) (same : V → V → Bool) where

@@ -1,12 +1,12 @@
 -- What is read of a list while a loop goes over it.
 use Rattle.std.specs.Cmp.{IsEquivalence}
 use Rattle.range_keys.specs.Order.{IsLawful}
-use Rattle.range_algebra.specs.Range.{IsEmptyRange}
+use Rattle.range_algebra.specs.Range.{IsEmptyRange, IsKnownRange}
 use Rattle.range_map.specs.Frames.{GaveWayTo}
 use Rattle.range_json.proofs.Keeping.{of_last, stored_before, stands_last}
 use Rattle.std.proofs.Common.{◌≡◌, refl, sym, ap, subst, ◌∙◌, ℕ, suc, ◌+◌, List, [], ◌∷◌, ◌++◌, map, length, Bool, true, Option, Some, None, arith, rules}
 use Rattle.std.proofs.lemmas.List.{map-append}
-use Rattle.std.specs.List.{AllZip}
+use Rattle.std.specs.List.{AllByRecursion, AllZip}
 use Rattle.serde_json.specs.Data.{Data, null, boolean, number, string, array, object}
 use Rattle.serde_json.specs.Find.{as_array}
 use Rattle.serde_json.specs.View.{view, items_of, items_view}
@@ -56,6 +56,11 @@ module _ (fault : ℕ → Data → Fault) where
   pub no_fault_more : (ds : List Data) (d : Data) → first_fault fault 0 ds ≡ None → fault (length ds) d ≡ None → first_fault fault 0 (ds ++ d ∷ []) ≡ None
   no_fault_more ds d h at = from_start ds (d ∷ []) h ∙ ap (λ f. before f None) at
 
+-- what holds of all and of one more
+pub all_more : {X : Type 0} (P : X → Type 0) (xs : List X) (x : X) → AllByRecursion P xs → P x → AllByRecursion P (xs ++ x ∷ [])
+all_more P [] x h p = (p, tt)
+all_more P (y ∷ xs) x h p = (h.0, all_more P xs x h.1 p)
+
 -- one more is read behind those that are
 pub read_more : {X : Type 0} (R : Data → X → Type 0) (ds : List Data) (xs : List X) (d : Data) (x : X) → AllZip R ds xs → R d x → AllZip R (ds ++ d ∷ []) (xs ++ x ∷ [])
 read_more R [] [] d x h k = (k, tt)
@@ -67,7 +72,7 @@ pub same_length : (vs : List Value) → length (map view vs) ≡ length vs
 same_length [] = refl
 same_length (v ∷ vs) = ap suc (same_length vs)
 
-all_equal : IsEquivalence {K = Unit {0}} (λ _ _. true)
+pub all_equal : IsEquivalence {K = Unit {0}} (λ _ _. true)
 all_equal = record { refl = λ x. refl; symm = λ x y. refl; congr = λ x y z e. refl }
 
 abbrev item_of : {K : Type 0} → AnyRange K → Item (AnyRange K) (Unit {0})
@@ -79,17 +84,19 @@ module _ {K : Type 0} (key_reads : Data → Bool) (key_is_read : Data → K → 
     pub sound : first_fault (range_fault key_reads) 0 (map view vs) ≡ None
     pub ranges : List (AnyRange K)
     pub read : AllZip (IsRangeRead key_is_read) (map view vs) ranges
+    pub known : AllByRecursion (λ r. IsKnownRange order r) ranges
     pub held : HoldsAllAlso order [] items ranges
     pub form : IsStoredSet order items
     pub kept : IsStoredSet order (range_items ranges) → items ≡ range_items ranges
 
   pub set_more : (lawful : IsLawful order) (vs : List Value) (v : Value) (before_it after_it : List (Item (AnyRange K) (Unit {0}))) (r : AnyRange K)
-      → IsSetSoFar vs before_it → range_fault key_reads (length vs) (view v) ≡ None → IsRangeRead key_is_read (view v) r → HoldsAlso order before_it after_it r → IsStoredSet order after_it → ((¬ IsEmptyRange order r) → GaveWayTo order (λ _ _. true) before_it after_it r tt) → IsSetSoFar (vs ++ v ∷ []) after_it
-  set_more lawful vs v old new r h fine is_read added form frame =
+      → IsSetSoFar vs before_it → range_fault key_reads (length vs) (view v) ≡ None → IsRangeRead key_is_read (view v) r → IsKnownRange order r → HoldsAlso order before_it after_it r → IsStoredSet order after_it → ((¬ IsEmptyRange order r) → GaveWayTo order (λ _ _. true) before_it after_it r tt) → IsSetSoFar (vs ++ v ∷ []) after_it
+  set_more lawful vs v old new r h fine is_read known added form frame =
       let more : range_items (h.ranges ++ r ∷ []) ≡ range_items h.ranges ++ item_of r ∷ [] = map-append item_of h.ranges (r ∷ []) in record {
         sound = rw (map-append view vs (v ∷ [])) (no_fault_more (range_fault key_reads) (map view vs) (view v) h.sound (rw (same_length vs) fine));
         ranges = h.ranges ++ r ∷ [];
         read = rw (map-append view vs (v ∷ [])) (read_more (IsRangeRead key_is_read) (map view vs) h.ranges (view v) r h.read is_read);
+        known = all_more (λ s. IsKnownRange order s) h.ranges r h.known known;
         held = one_more order [] old new h.ranges r h.held added;
         form = form;
         kept = λ whole.
@@ -103,7 +110,7 @@ module _ {K : Type 0} (key_reads : Data → Bool) (key_is_read : Data → K → 
   set_fails vs more v e items h at = rw (map-append view vs (v ∷ more)) (fault_first (range_fault key_reads) (map view vs) (view v) (map view more) e h.sound (rw (same_length vs) at))
 
   pub set_begun : (items : List (Item (AnyRange K) (Unit {0}))) → items ≡ [] → IsStoredSet order items → IsSetSoFar [] items
-  set_begun items e form = record { sound = refl; ranges = []; read = tt; held = subst (λ is. HoldsAllAlso order [] is []) (sym e) (none_added order []); form = form; kept = λ _. e }
+  set_begun items e form = record { sound = refl; ranges = []; read = tt; known = tt; held = subst (λ is. HoldsAllAlso order [] is []) (sym e) (none_added order []); form = form; kept = λ _. e }
 
 no_such : {A : Type 0} (x : A) → None ≡ Some x → ⊥
 no_such x e = search (rules, e)

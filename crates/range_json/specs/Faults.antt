@@ -1,11 +1,12 @@
 -- The first fault of a JSON value that is read as a range or a set, and what is read there.
 use Rattle.std.specs.Prelude.{◌≡◌, ℕ, suc, List, [], ◌∷◌, map, Option, Some, None, Bool, if◌then◌else◌}
-use Rattle.std.specs.List.{AllZip}
+use Rattle.std.specs.List.{AllByRecursion, AllZip}
 use Rattle.std.specs.declared.ops.Bound.{Bound}
 use Rattle.std.specs.declared.ops.Bound.TheVariants.{Included, Excluded, Unbounded}
 use Rattle.serde_json.specs.Data.{Data}
 use Rattle.range_keys.specs.Order.{KeyOrder}
 use Rattle.range_algebra.specs.declared.any.AnyRange.{AnyRange}
+use Rattle.range_algebra.specs.Range.{IsKnownRange}
 use Rattle.range_sets.specs.KeySets.{HoldsAllOf, IsStoredSet}
 use Rattle.range_store.specs.declared.storage.Item.{Item}
 use Rattle.range_json.specs.declared.error.JsonError.{JsonError}
@@ -76,11 +77,12 @@ module _ {K : Type 0} (key_is_read : Data → K → Type 0) where
   abbrev pub IsRangeRead : Data → AnyRange K → Type 0
   IsRangeRead d r = (ds : Data × Data) × (pair_of d ≡ Some ds) × IsBoundRead ds.0 r.start × IsBoundRead ds.1 r.end
 
-  -- each is read as the range beside it, the list holds just the keys of these ranges, and ranges in the form of a set are kept one by one
+  -- each is read as the range beside it, whose bounds are keys; the list holds just the keys of these ranges, and ranges in the form of a set are kept one by one
   pub record IsSetRead (order : KeyOrder K) (d : Data) (items : List (Item (AnyRange K) (Unit {0}))) : Type 0 where
     pub ds : List Data
     pub ranges : List (AnyRange K)
     pub whole : elements_of d ≡ Some ds
     pub read : AllZip IsRangeRead ds ranges
+    pub known : AllByRecursion (λ r. IsKnownRange order r) ranges
     pub held : HoldsAllOf order items ranges
     pub kept : IsStoredSet order (range_items ranges) → items ≡ range_items ranges

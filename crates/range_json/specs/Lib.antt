@@ -1,5 +1,6 @@
 pub mod Keys
 pub mod Shapes
+pub mod Values
 pub mod Faults
 pub mod MapFaults
 pub mod ReadBack

@@ -1,12 +1,12 @@
 -- The first fault of a JSON value that is read as a map, in either shape, and what it binds where it has none.
 use Rattle.std.specs.Prelude.{◌≡◌, ℕ, List, [], ◌∷◌, ◌++◌, length, Option, Some, None, Result, Ok, Err, Bool, true, false, ◌==◌, ◌||◌, ◌&&◌, if◌then◌else◌, option_and_then, codes, bytes_eq, ◌⊎◌, ⊤}
-use Rattle.std.specs.List.{AllZip}
+use Rattle.std.specs.List.{AllByRecursion, AllZip}
 use Rattle.serde_json.specs.Data.{Data, null, boolean, number, string, array, object, Members, no_members, member}
 use Rattle.serde_json.specs.Find.{get_member, as_number, as_u64}
 use Rattle.range_keys.specs.Order.{KeyOrder}
 use Rattle.range_algebra.specs.declared.any.AnyRange.{AnyRange}
 use Rattle.range_algebra.specs.Intervals.{Any}
-use Rattle.range_algebra.specs.Range.{IsEmptyRange}
+use Rattle.range_algebra.specs.Range.{IsEmptyRange, IsKnownRange}
 use Rattle.range_store.specs.declared.storage.Item.{Item}
 use Rattle.range_map.specs.Bindings.{BindAlike}
 use Rattle.range_map.specs.Ranges.{Overlap}
@@ -73,15 +73,16 @@ module _ {K V : Type 0} where
   AreApart order (i ∷ items) = (¬ MeetsOne order i.key items) × AreApart order items
 
   module _ (order : KeyOrder K) (key_reads value_reads : Data → Bool) (key_is_read : Data → K → Type 0) (value_is_read : Data → V → Type 0) where
-    -- no element has a fault, and each is read as the item beside it
+    -- no element has a fault, and each is read as the item beside it, whose bounds are keys
     pub record AreRead (ds : List Data) (items : List (Item (AnyRange K) V)) : Type 0 where
       pub sound : first_fault (element_fault key_reads value_reads) 0 ds ≡ None
       pub read : AllZip (IsElementRead key_is_read value_is_read) ds items
+      pub known : AllByRecursion (λ i. IsKnownRange order i.key) items
       pub apart : AreApart order items
 
     -- it has no fault of its own, and its range meets that of an earlier item
     abbrev pub MeetsEarlier : ℕ → Data → List (Item (AnyRange K) V) → Type 0
-    MeetsEarlier i d earlier = (element_fault key_reads value_reads i d ≡ None) × ((x : Item (AnyRange K) V) × IsElementRead key_is_read value_is_read d x × MeetsOne order x.key earlier)
+    MeetsEarlier i d earlier = (element_fault key_reads value_reads i d ≡ None) × ((x : Item (AnyRange K) V) × IsElementRead key_is_read value_is_read d x × IsKnownRange order x.key × MeetsOne order x.key earlier)
 
     -- the fault of the first element that has one
     pub record IsFirstFault (ds : List Data) (f : JsonError) : Type 0 where

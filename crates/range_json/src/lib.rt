@@ -7,6 +7,7 @@ mod characters;
 mod element;
 mod error;
 pub mod json;
+mod laws;
 mod map;
 mod plain;
 mod range;

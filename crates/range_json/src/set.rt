@@ -12,6 +12,7 @@ use crate::error::JsonError;
 use crate::json::Json;
 use crate::range::{element_range, range_to_json};
 use range_algebra::any::AnyRange;
+use range_algebra::inner;
 use range_keys::traits::{Measure, PartialEnum};
 use range_sets::set::RangeSet;
 use range_store::storage::{Item, Storage};
@@ -47,7 +48,9 @@ pub fn set_from_json<T: Json + Measure + Clone, C: Storage<Item<AnyRange<T>, ()>
     let elements = elements_of_array(value)?;
     let mut set = RangeSet::new(alloc);
     for (index, element) in elements.iter().enumerate() {
-        set.insert(element_range(alloc, element, index)?)?;
+        let range = element_range(alloc, element, index)?;
+        inner::known(&range);
+        set.insert(range)?;
     }
     Ok(set)
 }

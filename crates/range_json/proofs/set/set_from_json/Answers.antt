@@ -23,7 +23,7 @@ loop-index-preserved g c =
     let within : n < length vs = omega (arith, c.loop-index-test.true, c.loop-index.auto.index-end) in
     let more : take (n + 1) vs ≡ take n vs ++ v ∷ [] = take_more vs n v within ∙ ap (λ w. take n vs ++ w ∷ []) (sym c.index-elements-index.is) in
     let size : length (take n vs) ≡ n = length-take-le n vs (omega (arith, within)) in
-    rw more (set_more g.T.Json.reads g.T.Json.is_read g.T.MaybeBounded.order g.met.T.PartialEnum.lawful (take n vs) v (items c.loop-index.set) (items c.insert.new.self) c.in_ok-element_range.field-0 c.loop-index.invariant (rw size c.in_ok-element_range.ensures.sound) c.in_ok-element_range.ensures.read c.in_ok-insert.ensures.added c.insert.ensures.form c.in_ok-insert.ensures.frame)
+    rw more (set_more g.T.Json.reads g.T.Json.is_read g.T.MaybeBounded.order g.met.T.PartialEnum.lawful (take n vs) v (items c.loop-index.set) (items c.insert.new.self) c.in_ok-range.range c.loop-index.invariant (rw size c.in_ok-range.ensures.sound) c.in_ok-range.ensures.read c.known.ensures c.in_ok-insert.ensures.added c.insert.ensures.form c.in_ok-insert.ensures.frame)
 
 pub returns-clause-read : goal.returns-clause-read
 returns-clause-read g c =
@@ -38,6 +38,7 @@ returns-clause-read g c =
       ranges = whole.ranges;
       whole = array;
       read = whole.read;
+      known = whole.known;
       held = all_of g.T.MaybeBounded.order (g.C.Storage.items c.loop-index.set) whole.ranges whole.held;
       kept = whole.kept;
     }
@@ -52,8 +53,8 @@ returns-clause-sound g c =
     let array = c.in_ok-elements.ensures.found in
     ap (array_fault (range_fault g.T.Json.reads)) array ∙ whole.sound
 
-pub returns-in_err-element_range-clause-fault : goal.returns-in_err-element_range-clause-fault
-returns-in_err-element_range-clause-fault g c =
+pub returns-in_err-range-clause-fault : goal.returns-in_err-range-clause-fault
+returns-in_err-range-clause-fault g c =
     let vs = c.in_ok-elements.elements.now in
     let n = c.loop-index.index in
     let v = c.index-elements-index.result in
@@ -63,8 +64,8 @@ returns-in_err-element_range-clause-fault g c =
     let rest = drop (n + 1) vs in
     let all : take n vs ++ v ∷ rest ≡ vs = sym (again (take n vs) v rest) ∙ ap (λ l. l ++ rest) (sym more) ∙ take-append-drop (n + 1) vs in
     let array = c.in_ok-elements.ensures.found in
-    let e = c.in_err-element_range.field-0.0 in
-    let told : (e ≡ Memory) ⊎ (set_fault g.T.Json.reads (view c.args.value.now) ≡ Some e) = elim c.in_err-element_range.ensures.fault [
+    let e = c.in_err-range.field-0.0 in
+    let told : (e ≡ Memory) ⊎ (set_fault g.T.Json.reads (view c.args.value.now) ≡ Some e) = elim c.in_err-range.ensures.fault [
       | inl memory ↦ inl memory
       | inr at ↦ inr (ap (array_fault (range_fault g.T.Json.reads)) array ∙ subst (λ l. first_fault (range_fault g.T.Json.reads) 0 (map view l) ≡ Some e) all (set_fails g.T.Json.reads g.T.Json.is_read g.T.MaybeBounded.order (take n vs) rest v e (g.C.Storage.items c.loop-index.set) c.loop-index.invariant (rw size at)))
     ] in
