@@ -4,6 +4,7 @@ ghost use Rattle.serde_json.specs.Data.{object, member, no_members};
 ghost use Rattle.serde_json.specs.View.{view};
 ghost use Rattle.range_json.specs.Faults.{IsBoundRead, bound_fault, key_fault};
 ghost use Rattle.range_json.specs.Shapes.{bound_shape, only_member_of};
+ghost use Rattle.range_json.specs.Values.{IsBoundValue};
 ghost use Rattle.range_json.specs.declared.error.JsonError.TheVariants.{Memory};
 
 use crate::error::{JsonError, ReadError};
@@ -23,7 +24,8 @@ fn object_of(alloc: Global, name: &str, value: Value) -> Result<Value, AllocErro
 
 /// A bound by its kind and its key.
 pub(crate) fn bound_to_json<K: Json>(alloc: Global, bound: &Bound<K>) -> Result<Value, AllocError>
-    ensures { IfOk result (λ v. view v ≡ bound_shape K.shape bound.now) }
+    ensures written { IfOk result (λ v. view v ≡ bound_shape K.shape bound.now) }
+    ensures values { OnOk result (IsBoundValue K.is_value bound.now) }
 {
     match bound {
         Bound::Included(key) => object_of(alloc, "Included", key.to_json(alloc)?),

@@ -1,10 +1,11 @@
 //! Maps as JSON values.
-ghost use Rattle.std.specs.Prelude.{◌≡◌, ◌⊎◌, IfOk, IfErr};
+ghost use Rattle.std.specs.Prelude.{◌≡◌, ◌⊎◌, IfOk, OnOk, IfErr};
 ghost use Rattle.serde_json.specs.View.{view};
 ghost use Rattle.range_algebra.specs.Range.{ClonesAreEqual};
 ghost use Rattle.range_map.specs.Stored.{IsStored};
 ghost use Rattle.range_json.specs.Shapes.{map_shape, pair_shape, range_shape};
 ghost use Rattle.range_json.specs.MapFaults.{IsMapRead, IsMapFault};
+ghost use Rattle.range_json.specs.Values.{IsRangeValue, AreItemValues};
 ghost use Rattle.range_json.specs.declared.error.JsonError.TheVariants.{Memory};
 
 use crate::element::{element_from_json, insert_element};
@@ -25,7 +26,8 @@ fn pair_to_json<K: Json, V: Json>(
     range: &AnyRange<K>,
     value: &V,
 ) -> Result<Value, AllocError>
-    ensures { IfOk result (λ v. view v ≡ pair_shape (range_shape K.shape range.now) (V.shape value.now)) }
+    ensures written { IfOk result (λ v. view v ≡ pair_shape (range_shape K.shape range.now) (V.shape value.now)) }
+    ensures values { OnOk result (IsRangeValue K.is_value range.now × V.is_value value.now) }
 {
     let mut both = Vec::with_capacity(alloc, 2)?;
     both.push(range_to_json(alloc, range)?)?;
@@ -38,7 +40,8 @@ pub fn map_to_json<K: Json + PartialEnum, V: Json + Eq, C: Storage<Item<AnyRange
     alloc: Global,
     map: &RangeMap<K, V, C>,
 ) -> Result<Value, AllocError>
-    ensures { IfOk result (λ v. view v ≡ map_shape K.shape V.shape (C.items map.now)) }
+    ensures written { IfOk result (λ v. view v ≡ map_shape K.shape V.shape (C.items map.now)) }
+    ensures values { OnOk result (AreItemValues K.is_value V.is_value (C.items map.now)) }
 {
     let mut written = Vec::with_capacity(alloc, map.range_count())?;
     let mut items = map.iter();

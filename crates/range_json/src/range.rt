@@ -3,6 +3,7 @@ ghost use Rattle.std.specs.Prelude.{◌≡◌, ◌⊎◌, Some, None, option_map
 ghost use Rattle.serde_json.specs.View.{view};
 ghost use Rattle.range_json.specs.Shapes.{range_shape, pair_of};
 ghost use Rattle.range_json.specs.Faults.{IsRangeRead, range_fault};
+ghost use Rattle.range_json.specs.Values.{IsRangeValue};
 ghost use Rattle.range_json.specs.declared.error.JsonError.TheVariants.{Memory};
 
 use crate::bound::{bound_from_json, bound_to_json};
@@ -14,7 +15,8 @@ use std::alloc::{AllocError, Global};
 
 /// The range as an array of its start and its end, as they are spelled.
 pub fn range_to_json<K: Json>(alloc: Global, range: &AnyRange<K>) -> Result<Value, AllocError>
-    ensures { IfOk result (λ v. view v ≡ range_shape K.shape range.now) }
+    ensures written { IfOk result (λ v. view v ≡ range_shape K.shape range.now) }
+    ensures values { OnOk result (IsRangeValue K.is_value range.now) }
 {
     let mut ends = Vec::with_capacity(alloc, 2)?;
     ends.push(bound_to_json(alloc, &range.start)?)?;

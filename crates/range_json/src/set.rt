@@ -5,6 +5,7 @@ ghost use Rattle.range_algebra.specs.Range.{ClonesAreEqual};
 ghost use Rattle.range_sets.specs.KeySets.{IsStoredSet};
 ghost use Rattle.range_json.specs.Shapes.{set_shape};
 ghost use Rattle.range_json.specs.Faults.{IsSetRead, set_fault};
+ghost use Rattle.range_json.specs.Values.{AreRangeValues};
 ghost use Rattle.range_json.specs.declared.error.JsonError.TheVariants.{Memory};
 
 use crate::array::elements_of_array;
@@ -24,7 +25,8 @@ pub fn set_to_json<T: Json + PartialEnum, C: Storage<Item<AnyRange<T>, ()>>>(
     alloc: Global,
     set: &RangeSet<T, C>,
 ) -> Result<Value, AllocError>
-    ensures { IfOk result (λ v. view v ≡ set_shape T.shape (C.items set.now)) }
+    ensures written { IfOk result (λ v. view v ≡ set_shape T.shape (C.items set.now)) }
+    ensures values { OnOk result (AreRangeValues T.is_value (C.items set.now)) }
 {
     let mut written = Vec::with_capacity(alloc, set.range_count())?;
     let mut ranges = set.iter();
