@@ -1,0 +1,11 @@
+use Rattle.std.proofs.Common.{◌↔◌}
+use Rattle.btree_range_map.specs.Bindings.{IsBound}
+use Rattle.btree_range_map.specs.Holding.{box_items}
+use Rattle.btree_range_map.specs.KeySets.{HoldsKey}
+use Rattle.access.specs.Ports.{port_order}
+use Rattle.access.specs.declared.port.Port.{Port}
+use Rattle.access.proofs.table.AccessTable.open.Given as goal
+
+-- a port is open, and in none of the ranges that are left, just where no range at all allows it
+abbrev pub invariant-loop-range : goal.invariant-loop-range
+invariant-loop-range l = (port : Port) → port_order.is_key port → (HoldsKey port_order (box_items l.open) port × ¬ IsBound port_order l.range-iterator port) ↔ ¬ IsBound port_order l.initial.range-iterator port
