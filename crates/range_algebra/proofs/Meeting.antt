@@ -19,7 +19,7 @@ use Rattle.range_algebra.specs.Range.{StartHolds, EndHolds, Holds, IsKnownBound,
 use Rattle.range_algebra.specs.Compared.{inverted, start_is_at, starts_at_end, range_ordering, matches}
 use Rattle.range_algebra.specs.Combined.{earlier_end, common}
 use Rattle.range_algebra.specs.Cuts.{past, lower, upper}
-use Rattle.range_algebra.specs.Relations.{EitherHolds, ShareKey, AreConnected}
+use Rattle.range_algebra.specs.Relations.{Meets, EitherHolds, ShareKey, AreConnected}
 use Rattle.range_algebra.proofs.Holding.{start_holds, end_holds, holds_by_position}
 use Rattle.range_algebra.proofs.Places.{reaches, key_reaches, turned, unbounded_end}
 use Rattle.range_algebra.proofs.Completeness.{IsStart, IsEnd, start_is, end_is, start_excluded, nonempty_holds}
@@ -141,6 +141,10 @@ module _ {K : Type 0} (order : KeyOrder K) (lawful : IsLawful order) where
           ]
         ]
 
+    -- where an answer says that neither lies before the other, it says that they intersect
+    pub meets_by : (t : Bool) → IsTrue t ↔ (PLe (start_position order r.start) (end_position order s.end) × PLe (start_position order s.start) (end_position order r.end)) → IsTrue t ↔ Meets order r s
+    meets_by t h = (λ e. meets_is.1 (h.0 e), λ m. h.1 (meets_is.0 m))
+
     -- a key in both shows that they intersect
     share_meets : ShareKey order r s → PLe (start_position order r.start) (end_position order s.end) × PLe (start_position order s.start) (end_position order r.end)
     share_meets (k, key, h, g) =
@@ -163,6 +167,10 @@ module _ {K : Type 0} (order : KeyOrder K) (lawful : IsLawful order) where
       -- over complete keys two nonempty ranges intersect exactly where some key is in both
       pub intersects_is : IsTrue (matches (range_ordering order r s) false) ↔ ShareKey order r s
       intersects_is = (λ h. meets_share (meets_is.0 h), λ h. meets_is.1 (share_meets h))
+
+      -- and so says each such answer
+      pub shares_by : (t : Bool) → IsTrue t ↔ (PLe (start_position order r.start) (end_position order s.end) × PLe (start_position order s.start) (end_position order r.end)) → IsTrue t ↔ ShareKey order r s
+      shares_by t h = (λ e. meets_share (h.0 e), λ k. h.1 (share_meets k))
 
   held_decided : (r : AnyRange K) (k : K) → Holds order r k ⊎ (¬ Holds order r k)
   held_decided r k = elim (start_decided order lawful r.start k) [

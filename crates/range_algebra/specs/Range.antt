@@ -10,6 +10,10 @@ use Rattle.range_keys.specs.declared.inner.position.Position.TheVariants.{Beside
 use Rattle.range_keys.specs.declared.inner.position.Side.TheVariants.{At}
 use Rattle.range_algebra.specs.declared.any.AnyRange.{AnyRange}
 
+-- the range from the start to the end
+abbrev pub with_bounds : {K : Type 0} → Bound K → Bound K → AnyRange K
+with_bounds start end = record { start = start; end = end }
+
 module _ {K : Type 0} (order : KeyOrder K) where
   abbrev pub StartHolds : Bound K → K → Type 0
   StartHolds (Included a) k = NotAbove order a k

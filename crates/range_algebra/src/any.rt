@@ -1,8 +1,8 @@
 //! Ranges by their two bounds.
 
-ghost use Rattle.std.specs.Prelude.{◌≡◌, ◌↔◌, ⊤, IsTrue, IfOk, IfSome, IfNone, MatchResult, None};
+ghost use Rattle.std.specs.Prelude.{◌≡◌, ◌↔◌, ⊤, IsTrue, IfOk, OnErr, IfSome, IfNone, MatchResult, None};
 ghost use Rattle.range_algebra.specs.Extremes.{IsLeastOf, IsGreatestOf, HasNoLeast, HasNoGreatest};
-ghost use Rattle.range_algebra.specs.Clones.{IsBoundClone, IsBoundInfallible};
+ghost use Rattle.range_algebra.specs.Clones.{IsBoundClone, IsBoundInfallible, IsRangeInfallible};
 ghost use Rattle.std.specs.declared.cmp.Ordering.TheVariants.{Equal};
 ghost use Rattle.std.specs.Option.{option_or};
 ghost use Rattle.range_keys.specs.Order.{IsComplete, SameAnswer};
@@ -120,13 +120,15 @@ impl<T: PartialEnum> AnyRange<T> {
 impl<T: PartialEnum + Bounded + Clone> AnyRange<T> {
     /// The least key of the range, or `None` where the range is empty or its start names no key.
     ///
-    /// An included start is cloned, so the call takes what memory a clone of a key takes.
+    /// An included start is cloned, so the call takes what memory a clone of a key takes, and fails
+    /// only where the clone fails.
     pub fn first(&self) -> Result<Option<T>, AllocError>
         requires clones { ClonesAreEqual T.is_clone T.eq }
         ensures empty { IsEmptyRange T.order self.now → IfOk result (λ key. key ≡ None) }
         ensures nonempty { ¬ IsEmptyRange T.order self.now → IfOk result (λ key. SameAnswer T.order (start_key T.order self.now.start) key) }
         ensures least { IfOk result (λ key. IfSome key (IsLeastOf T.order self.now)) }
         ensures complete { IsComplete T.order → IfOk result (λ key. IfNone key (HasNoLeast T.order self.now)) }
+        ensures fails { OnErr result (¬ IsBoundInfallible T.is_infallible self.now.start) }
     {
         inner::known(self);
         if self.is_empty() {
@@ -137,13 +139,15 @@ impl<T: PartialEnum + Bounded + Clone> AnyRange<T> {
 
     /// The greatest key of the range, or `None` where the range is empty or its end names no key.
     ///
-    /// An included end is cloned, so the call takes what memory a clone of a key takes.
+    /// An included end is cloned, so the call takes what memory a clone of a key takes, and fails
+    /// only where the clone fails.
     pub fn last(&self) -> Result<Option<T>, AllocError>
         requires clones { ClonesAreEqual T.is_clone T.eq }
         ensures empty { IsEmptyRange T.order self.now → IfOk result (λ key. key ≡ None) }
         ensures nonempty { ¬ IsEmptyRange T.order self.now → IfOk result (λ key. SameAnswer T.order (end_key T.order self.now.end) key) }
         ensures greatest { IfOk result (λ key. IfSome key (IsGreatestOf T.order self.now)) }
         ensures complete { IsComplete T.order → IfOk result (λ key. IfNone key (HasNoGreatest T.order self.now)) }
+        ensures fails { OnErr result (¬ IsBoundInfallible T.is_infallible self.now.end) }
     {
         inner::known(self);
         if self.is_empty() {
@@ -155,12 +159,13 @@ impl<T: PartialEnum + Bounded + Clone> AnyRange<T> {
 
 impl<T: PartialEnum + Bounded + Clone> AnyRange<T> {
     /// A key of the range: the least, or else the greatest, or `None` where the range is empty or
-    /// its bounds name no key.
+    /// its bounds name no key. Fails only where a clone of a key fails.
     pub fn pick(&self) -> Result<Option<T>, AllocError>
         requires clones { ClonesAreEqual T.is_clone T.eq }
         ensures empty { IsEmptyRange T.order self.now → IfOk result (λ key. key ≡ None) }
         ensures nonempty { ¬ IsEmptyRange T.order self.now → IfOk result (λ key. SameAnswer T.order (option_or (start_key T.order self.now.start) (end_key T.order self.now.end)) key) }
         ensures held { IfOk result (λ key. IfSome key (Holds T.order self.now)) }
+        ensures fails { OnErr result (¬ IsRangeInfallible T.is_infallible self.now) }
     {
         match self.first()? {
             Some(key) => Ok(Some(key)),
@@ -172,7 +177,8 @@ impl<T: PartialEnum + Bounded + Clone> AnyRange<T> {
 /// The least key that the start bound names, where it is told.
 fn key_of_start<T: PartialEnum + Bounded + Clone>(start: &Bound<T>) -> Result<Option<T>, AllocError>
     requires { ClonesAreEqual T.is_clone T.eq }
-    ensures { IfOk result (SameAnswer T.order (start_key T.order start.now)) }
+    ensures named { IfOk result (SameAnswer T.order (start_key T.order start.now)) }
+    ensures fails { OnErr result (¬ IsBoundInfallible T.is_infallible start.now) }
 {
     Ok(match start {
         Bound::Included(key) => Some(key.clone()?),
@@ -184,7 +190,8 @@ fn key_of_start<T: PartialEnum + Bounded + Clone>(start: &Bound<T>) -> Result<Op
 /// The greatest key that the end bound names, where it is told.
 fn key_of_end<T: PartialEnum + Bounded + Clone>(end: &Bound<T>) -> Result<Option<T>, AllocError>
     requires { ClonesAreEqual T.is_clone T.eq }
-    ensures { IfOk result (SameAnswer T.order (end_key T.order end.now)) }
+    ensures named { IfOk result (SameAnswer T.order (end_key T.order end.now)) }
+    ensures fails { OnErr result (¬ IsBoundInfallible T.is_infallible end.now) }
 {
     Ok(match end {
         Bound::Included(key) => Some(key.clone()?),

@@ -1,12 +1,13 @@
 //! The common part and the hull of ranges.
 
-ghost use Rattle.std.specs.Prelude.{◌≡◌, ◌↔◌, false, ◌⊎◌, IsTrue, IfOk, OnOk, OnErr, unwrap_or};
-ghost use Rattle.std.specs.Ordering.{is_gt};
+ghost use Rattle.std.specs.Prelude.{◌≡◌, ◌↔◌, ◌⊎◌, IsTrue, IsFalse, IfOk, OnOk, OnErr, unwrap_or};
 ghost use Rattle.std.specs.Range.Bound.{bound_map};
-ghost use Rattle.range_keys.specs.Position.{start_position, end_position, position_cmp};
-ghost use Rattle.range_algebra.specs.Clones.{SameBound};
+ghost use Rattle.range_keys.specs.Order.{IsComplete};
+ghost use Rattle.range_algebra.specs.Clones.{SameBound, IsBoundInfallible, IsRangeInfallible};
 ghost use Rattle.range_algebra.specs.Combined.{earlier_start, later_end, common};
-ghost use Rattle.range_algebra.specs.Range.{StartHolds, EndHolds, Holds, ClonesAreEqual};
+ghost use Rattle.range_algebra.specs.Compared.{starts_past_end};
+ghost use Rattle.range_algebra.specs.Range.{StartHolds, EndHolds, Holds, IsEmptyRange, ClonesAreEqual, with_bounds};
+ghost use Rattle.range_algebra.specs.Relations.{Meets, ShareKey};
 
 use crate::any::AnyRange;
 use crate::{cutting, inner};
@@ -18,24 +19,41 @@ use std::ops::{Bound, RangeBounds};
 impl<T: PartialEnum> AnyRange<T> {
     /// Whether the end of each range is at or after the start of the other.
     ///
-    /// Of two nonempty ranges that says that they intersect.
+    /// Two nonempty ranges intersect where that is so, as `AsRange::intersects` says; over complete
+    /// keys, where some key is in both. Where one of the two is empty the calls may answer
+    /// differently, as for `8..3` and `5..10`: the start of the one is within the other, its end is
+    /// not.
+    ///
+    /// ```text
+    /// let empty: AnyRange<i32> = (8..3).into();
+    /// empty.intersects(&(5..10))               false
+    /// AsRange::intersects(&empty, &(5..10))    true
+    /// ```
     pub fn intersects<S: RangeBounds<T>>(&self, other: &S) -> bool
-        ensures { S.has_bounds other.now → IsTrue result
-            ↔ ((is_gt (position_cmp T.order.cmp (start_position T.order self.now.start) (end_position T.order (S.end_bound other.now))) ≡ false)
-            × (is_gt (position_cmp T.order.cmp (start_position T.order (S.start_bound other.now)) (end_position T.order self.now.end)) ≡ false)) }
+        ensures by_position { S.has_bounds other.now → IsTrue result
+            ↔ (IsFalse (starts_past_end T.order self.now.start (S.end_bound other.now)) × IsFalse (starts_past_end T.order (S.start_bound other.now) self.now.end)) }
+        ensures meets { S.has_bounds other.now → ¬ IsEmptyRange T.order self.now → ¬ IsEmptyRange T.order (with_bounds (S.start_bound other.now) (S.end_bound other.now)) → IsTrue result ↔ Meets T.order self.now (with_bounds (S.start_bound other.now) (S.end_bound other.now)) }
+        ensures complete { S.has_bounds other.now → IsComplete T.order → ¬ IsEmptyRange T.order self.now → ¬ IsEmptyRange T.order (with_bounds (S.start_bound other.now) (S.end_bound other.now)) → IsTrue result ↔ ShareKey T.order self.now (with_bounds (S.start_bound other.now) (S.end_bound other.now)) }
     {
-        !inner::starts_past_end(self.start_bound(), other.end_bound())
-            && !inner::starts_past_end(other.start_bound(), self.end_bound())
+        let (start, end) = (other.start_bound(), other.end_bound());
+        inner::known(self);
+        inner::known_bound(start);
+        inner::known_bound(end);
+        !inner::starts_past_end(self.start_bound(), end)
+            && !inner::starts_past_end(start, self.end_bound())
     }
 }
 
 impl<T: PartialEnum + Clone> AnyRange<T> {
     /// What the two ranges have in common, with clones of the bounds.
+    ///
+    /// Fails only where a clone of a bound fails.
     pub fn intersection(&self, other: &AnyRange<T>) -> Result<AnyRange<T>, AllocError>
         requires clones { ClonesAreEqual T.is_clone T.eq }
         ensures start { IfOk result (λ r. SameBound T.order (common T.order self.now other.now).start r.start) }
         ensures end { IfOk result (λ r. SameBound T.order (common T.order self.now other.now).end r.end) }
         ensures held { IfOk result (λ r. (k : T) → T.order.is_key k → Holds T.order r k ↔ (Holds T.order self.now k × Holds T.order other.now k)) }
+        ensures fails { OnErr result (¬ IsRangeInfallible T.is_infallible (common T.order self.now other.now)) }
     {
         let own = cutting::by_reference(self);
         let others = cutting::by_reference(other);
@@ -45,8 +63,8 @@ impl<T: PartialEnum + Clone> AnyRange<T> {
     /// Widens the range to the hull of it and the other: the earlier start and the later end.
     ///
     /// A hole between the two is included: `0..3` becomes `0..10` by `add(&(8..10))`. The bounds of
-    /// the other are cloned where they are taken. A call that fails to allocate leaves
-    /// the range as it was.
+    /// the other are cloned where they are taken. Fails only where a clone fails, and leaves the
+    /// range as it was.
     pub fn add<S: RangeBounds<T>>(&mut self, other: &S) -> Result<(), AllocError>
         requires clones { ClonesAreEqual T.is_clone T.eq }
         ensures start { S.has_bounds other.now → OnOk result (SameBound T.order (earlier_start T.order self.old.start (S.start_bound other.now)) self.new.start) }
@@ -54,6 +72,7 @@ impl<T: PartialEnum + Clone> AnyRange<T> {
         ensures held { S.has_bounds other.now → OnOk result ((k : T) → T.order.is_key k → Holds T.order self.new k
             ↔ ((StartHolds T.order self.old.start k ⊎ StartHolds T.order (S.start_bound other.now) k) × (EndHolds T.order self.old.end k ⊎ EndHolds T.order (S.end_bound other.now) k))) }
         ensures refused { OnErr result (self.new ≡ self.old) }
+        ensures fails { S.has_bounds other.now → OnErr result (¬ IsRangeInfallible T.is_infallible (with_bounds (S.start_bound other.now) (S.end_bound other.now))) }
     {
         let start = start_to_take(self.start_bound(), other.start_bound())?;
         let end = end_to_take(self.end_bound(), other.end_bound())?;
@@ -69,7 +88,8 @@ fn start_to_take<T: PartialEnum + Clone>(
     other: Bound<&T>,
 ) -> Result<Option<Bound<T>>, AllocError>
     requires { ClonesAreEqual T.is_clone T.eq }
-    ensures { IfOk result (λ taken. SameBound T.order (earlier_start T.order (bound_map (λ x. x.now) own.entry) (bound_map (λ x. x.now) other.entry)) (unwrap_or taken (bound_map (λ x. x.now) own.entry))) }
+    ensures taken { IfOk result (λ taken. SameBound T.order (earlier_start T.order (bound_map (λ x. x.now) own.entry) (bound_map (λ x. x.now) other.entry)) (unwrap_or taken (bound_map (λ x. x.now) own.entry))) }
+    ensures fails { OnErr result (¬ IsBoundInfallible T.is_infallible (bound_map (λ x. x.now) other.entry)) }
 {
     if Directed::Start(own).cmp(&Directed::Start(other)).is_lt() {
         Ok(None)
@@ -84,7 +104,8 @@ fn end_to_take<T: PartialEnum + Clone>(
     other: Bound<&T>,
 ) -> Result<Option<Bound<T>>, AllocError>
     requires { ClonesAreEqual T.is_clone T.eq }
-    ensures { IfOk result (λ taken. SameBound T.order (later_end T.order (bound_map (λ x. x.now) own.entry) (bound_map (λ x. x.now) other.entry)) (unwrap_or taken (bound_map (λ x. x.now) own.entry))) }
+    ensures taken { IfOk result (λ taken. SameBound T.order (later_end T.order (bound_map (λ x. x.now) own.entry) (bound_map (λ x. x.now) other.entry)) (unwrap_or taken (bound_map (λ x. x.now) own.entry))) }
+    ensures fails { OnErr result (¬ IsBoundInfallible T.is_infallible (bound_map (λ x. x.now) other.entry)) }
 {
     if Directed::End(own).cmp(&Directed::End(other)).is_gt() {
         Ok(None)

@@ -7,16 +7,16 @@ use Rattle.range_algebra.specs.Clones.{bound_clone}
 use Rattle.range_algebra.proofs.Taking.{clones_tie, own_taken, other_taken}
 use Rattle.range_algebra.proofs.any.combined.start_to_take.Goals as goal
 
-pub returns-then-is_lt : goal.returns-then-is_lt
-returns-then-is_lt g c =
+pub returns-then-is_lt-clause-taken : goal.returns-then-is_lt-clause-taken
+returns-then-is_lt-clause-taken g c =
     let order = g.T.MaybeBounded.order in
     let a : Bound g.row.T.Denot = bound_map (λ x. x.now) c.args.own in
     let b : Bound g.row.T.Denot = bound_map (λ x. x.now) c.args.other in
     let test : is_lt (position_cmp order.cmp (start_position order a) (start_position order b)) ≡ true = search rules in
     own_taken order g.met.T.PartialEnum.lawful (is_lt (position_cmp order.cmp (start_position order a) (start_position order b))) a b test
 
-pub returns-in_ok-clone_of : goal.returns-in_ok-clone_of
-returns-in_ok-clone_of g c =
+pub returns-in_ok-clone_of-clause-taken : goal.returns-in_ok-clone_of-clause-taken
+returns-in_ok-clone_of-clause-taken g c =
     let order = g.T.MaybeBounded.order in
     let lawful = g.met.T.PartialEnum.lawful in
     let a : Bound g.row.T.Denot = bound_map (λ x. x.now) c.args.own in
