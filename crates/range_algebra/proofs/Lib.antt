@@ -4,6 +4,7 @@ pub mod Completeness
 pub mod Ends
 pub mod Gaps
 pub mod Holding
+pub mod Joined
 pub mod Lists
 pub mod MeasureSums
 pub mod Measuring

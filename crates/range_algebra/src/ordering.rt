@@ -5,6 +5,7 @@ ghost use Rattle.range_algebra.specs.Compared.{range_ordering, is_before, is_aft
 ghost use Rattle.range_algebra.specs.declared.any.AnyRange.{AnyRange};
 
 use crate::inner::compare_ranges;
+pub use crate::laws::{comparisons_order_keys, touching_ranges_are_joined};
 use crate::range::AsRange;
 use range_keys::traits::Measure;
 

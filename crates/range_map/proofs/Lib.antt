@@ -17,7 +17,6 @@ pub mod Framing
 pub mod FreeParts
 pub mod Gapping
 pub mod Gathering
-pub mod Joined
 pub mod JustBefore
 pub mod Lengths
 pub mod Likeness

@@ -20,7 +20,7 @@ use Rattle.range_map.specs.Stored.{IsStored}
 use Rattle.range_map.specs.ListOrder.{same_list, list_cmp, lists_tied, lists_order}
 use Rattle.range_map.specs.Coarse.{IsOnlyCoarse, IsLeastCount}
 use Rattle.range_map.proofs.Coarse.{coarse_alike, coarse_shortest, Follows}
-use Rattle.range_map.proofs.Joined.{before_is, ends_below, joined_touch, is_before_of}
+use Rattle.range_algebra.proofs.Joined.{before_is, ends_below, joined_touch, is_before_of}
 
 both_so : (s t : Bool) → s ≡ true → t ≡ true → (s && t) ≡ true
 both_so s t e f = rw (e, f) refl

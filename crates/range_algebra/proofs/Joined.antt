@@ -1,11 +1,11 @@
 -- Over complete keys two nonempty ranges, the one before the other, touch exactly where no key lies between.
-use Rattle.std.proofs.Common.{◌≡◌, refl, sym, ap, subst, ◌∙◌, Bool, true, false, not, ◌||◌, if◌then◌else◌, IsTrue}
+use Rattle.std.proofs.Common.{◌≡◌, refl, sym, ap, subst, ◌∙◌, Bool, true, false, not, ◌||◌, if◌then◌else◌, IsTrue, ◌↔◌}
 use Rattle.std.specs.declared.ops.Bound.{Bound}
 use Rattle.std.specs.declared.ops.Bound.TheVariants.{Included, Excluded, Unbounded}
 use Rattle.std.specs.declared.cmp.Ordering.{Ordering}
 use Rattle.std.specs.declared.cmp.Ordering.TheVariants.{Less, Equal, Greater}
 use Rattle.std.specs.Ordering.{is_gt, is_lt, is_eq, ordering_reverse, ordering_then}
-use Rattle.std.specs.Cmp.{upto, tied_back, Equal-is}
+use Rattle.std.specs.Cmp.{upto, tied_back, tied_itself, Equal-is}
 use Rattle.range_keys.specs.Order.{KeyOrder, IsLawful, IsComplete, Below, NotAbove}
 use Rattle.range_keys.specs.Position.{start_position, end_position, position_cmp}
 use Rattle.range_keys.specs.PositionOrder.{position_total}
@@ -15,13 +15,12 @@ use Rattle.range_keys.specs.declared.inner.position.Side.TheVariants.{At}
 use Rattle.range_algebra.specs.Range.{StartHolds, EndHolds, Holds, IsKnownBound, IsKnownRange, IsEmptyRange}
 use Rattle.range_algebra.specs.declared.any.AnyRange.{AnyRange}
 use Rattle.range_algebra.specs.declared.ordering.RangeOrdering.TheVariants.{Before, Intersecting, After}
-use Rattle.range_algebra.specs.Compared.{range_ordering, is_before, inverted, start_is_at, starts_at_end}
-use Rattle.range_algebra.proofs.Holding.{start_holds, holds_by_position, empty_is_keyless}
+use Rattle.range_algebra.specs.Compared.{range_ordering, is_before, is_after, inverted, start_is_at, starts_at_end}
+use Rattle.range_algebra.proofs.Holding.{start_holds, holds_by_position, empty_is_keyless, below_up, up_below}
 use Rattle.range_algebra.proofs.Completeness.{nonempty_holds}
 use Rattle.range_algebra.proofs.Canonical.{same_is_equal}
 use Rattle.range_algebra.proofs.Meeting.{not_greater}
 use Rattle.range_algebra.specs.Relations.{AreBelow, LiesBetween, AreJoined}
-use Rattle.range_map.proofs.Coarse.{itself, irreflexive, start_up, end_down, stable_less}
 
 read_flag : (t s : Bool) → (not t || not s) ≡ true → s ≡ true → t ≡ true → ⊥
 read_flag true true e f g = cc
@@ -55,6 +54,31 @@ both_level Greater p h = cc
 stable_not : (b : Bool) → ((b ≡ false → ⊥) → ⊥) → b ≡ false
 stable_not true h = absurd (h (λ e. cc))
 stable_not false h = refl
+
+stable_less : (o : Ordering) → ((o ≡ Less → ⊥) → ⊥) → o ≡ Less
+stable_less Less h = refl
+stable_less Equal h = absurd (h (λ e. cc))
+stable_less Greater h = absurd (h (λ e. cc))
+
+module _ {K : Type 0} (order : KeyOrder K) (lawful : IsLawful order) where
+  itself : (a : K) → NotAbove order a a
+  itself a = ap is_gt (tied_itself lawful.total a)
+
+  irreflexive : (a b : K) → Below order a b → NotAbove order b a → ⊥
+  irreflexive a b l h =
+      let e : order.cmp a a ≡ Less = below_up order lawful a b a l h in
+      let f : order.cmp a a ≡ Equal = tied_itself lawful.total a in
+      cc
+
+  start_up : (b : Bound K) (a c : K) → StartHolds order b a → NotAbove order a c → StartHolds order b c
+  start_up (Included x) a c h l = upto lawful.total x a c h l
+  start_up (Excluded x) a c h l = below_up order lawful x a c h l
+  start_up Unbounded a c h l = tt
+
+  end_down : (b : Bound K) (c d : K) → NotAbove order c d → EndHolds order b d → EndHolds order b c
+  end_down (Included x) c d l h = upto lawful.total c d x l h
+  end_down (Excluded x) c d l h = up_below order lawful c d x l h
+  end_down Unbounded c d l h = tt
 
 module _ {K : Type 0} (order : KeyOrder K) (lawful : IsLawful order) where
   abbrev pub EndsBefore : AnyRange K → AnyRange K → Type 0
@@ -247,3 +271,86 @@ module _ {K : Type 0} (order : KeyOrder K) (lawful : IsLawful order) (complete :
   is_before_of same parted =
       write_before _ _ _ _ _ _ _ _ _ same (ap is_lt starts_less) (ap is_lt below_ends)
       (λ e touching. parted (touch_joined order lawful r s y z key key' here there below_ends touching) e)
+
+told_before : (A B C T U x y z w t : Bool) → (if A then (if B then Before T else Intersecting x y) else (if C then After U else Intersecting z w)) ≡ Before t → (B ≡ true) × (T ≡ t)
+told_before true true C T U x y z w t e = (refl, cc)
+told_before true false C T U x y z w t e = absurd (cc)
+told_before false B true T U x y z w t e = absurd (cc)
+told_before false B false T U x y z w t e = absurd (cc)
+
+told_after : (A B C T U x y z w t : Bool) → (if A then (if B then Before T else Intersecting x y) else (if C then After U else Intersecting z w)) ≡ After t → (C ≡ true) × (U ≡ t)
+told_after true true C T U x y z w t e = absurd (cc)
+told_after true false C T U x y z w t e = absurd (cc)
+told_after false B true T U x y z w t e = (refl, cc)
+told_after false B false T U x y z w t e = absurd (cc)
+
+either_flag : (u : Bool) → (not u || not false) ≡ true
+either_flag true = refl
+either_flag false = refl
+
+write_after : (A B C T U x y z w : Bool) → A ≡ false → C ≡ true → is_after (if A then (if B then Before T else Intersecting x y) else (if C then After U else Intersecting z w)) false ≡ true
+write_after false B true T U x y z w e f = either_flag U
+write_after false B false T U x y z w e f = absurd (cc)
+write_after true B C T U x y z w e f = absurd (cc)
+
+not_less : (o p : Ordering) → p ≡ ordering_reverse o → o ≡ Less → is_lt p ≡ false
+not_less o p e f = rw (e, f) refl
+
+module _ {K : Type 0} (order : KeyOrder K) (lawful : IsLawful order) where
+  -- a comparison that says before, or after, says that the keys of the one are below those of the other
+  pub before_below : (r s : AnyRange K) (t : Bool) → range_ordering order r s ≡ Before t → AreBelow order r s
+  before_below r s t e =
+      let told = told_before _ _ _ _ _ _ _ _ _ t e in
+      ends_below order lawful r s (lt_less (position_cmp order.cmp (end_position order r.end) (start_position order s.start)) told.0)
+
+  ends_after : (r s : AnyRange K) → is_gt (position_cmp order.cmp (start_position order r.start) (end_position order s.end)) ≡ true → EndsBefore order lawful s r
+  ends_after r s h =
+      (position_total order.cmp lawful.total).antisymm (end_position order s.end) (start_position order r.start) ∙ reversed (position_cmp order.cmp (start_position order r.start) (end_position order s.end)) h
+
+  pub after_below : (r s : AnyRange K) (t : Bool) → range_ordering order r s ≡ After t → AreBelow order s r
+  after_below r s t e = ends_below order lawful s r (ends_after r s (told_after _ _ _ _ _ _ _ _ _ t e).0)
+
+  module _ (complete : IsComplete order) where
+    -- a nonempty range of keys
+    abbrev IsFilled : AnyRange K → Type 0
+    IsFilled r = IsKnownRange order r × (¬ IsEmptyRange order r)
+
+    member : (r : AnyRange K) → IsFilled r → (k : K) × order.is_key k × Holds order r k
+    member r h = nonempty_holds order lawful complete r h.0 (not_greater (position_cmp order.cmp (start_position order r.start) (end_position order r.end)) h.1)
+
+    -- the flag of one that ends before the other says whether they are joined
+    flag_joined : (r s : AnyRange K) → IsFilled r → IsFilled s → EndsBefore order lawful r s → (t : Bool) → starts_at_end order r.end (start_position order s.start) ≡ t → IsTrue t ↔ AreJoined order r s
+    flag_joined r s h k before t e =
+        let y = member r h in
+        let z = member s k in (
+          λ touching. touch_joined order lawful r s y.0 z.0 y.1 z.1 y.2 z.2 before (e ∙ touching),
+          λ joined. sym e ∙ joined_touch order lawful complete r s h.0 k.0 h.1 k.1 joined,
+        )
+
+    pub before_joined : (r s : AnyRange K) → IsKnownRange order r → IsKnownRange order s → (¬ IsEmptyRange order r) → (¬ IsEmptyRange order s) → (t : Bool) → range_ordering order r s ≡ Before t → IsTrue t ↔ AreJoined order r s
+    before_joined r s known others full full' t e =
+        let told = told_before _ _ _ _ _ _ _ _ _ t e in
+        flag_joined r s (known, full) (others, full') (lt_less (position_cmp order.cmp (end_position order r.end) (start_position order s.start)) told.0) t told.1
+
+    pub after_joined : (r s : AnyRange K) → IsKnownRange order r → IsKnownRange order s → (¬ IsEmptyRange order r) → (¬ IsEmptyRange order s) → (t : Bool) → range_ordering order r s ≡ After t → IsTrue t ↔ AreJoined order s r
+    after_joined r s known others full full' t e =
+        let told = told_after _ _ _ _ _ _ _ _ _ t e in
+        flag_joined s r (others, full') (known, full) (ends_after r s told.0) t told.1
+
+    -- and nonempty ranges of which the one is below the other are compared so
+    pub below_before : (r s : AnyRange K) → IsKnownRange order r → IsKnownRange order s → (¬ IsEmptyRange order r) → (¬ IsEmptyRange order s) → AreBelow order r s → IsTrue (is_before (range_ordering order r s) false)
+    below_before r s known others full full' below =
+        let y = member r (known, full) in
+        let z = member s (others, full') in
+        is_before_of order lawful complete r s known others y.0 z.0 y.1 z.1 y.2 z.2 below false (λ joined e. cc)
+
+    pub below_after : (r s : AnyRange K) → IsKnownRange order r → IsKnownRange order s → (¬ IsEmptyRange order r) → (¬ IsEmptyRange order s) → AreBelow order s r → IsTrue (is_after (range_ordering order r s) false)
+    below_after r s known others full full' below =
+        let total = position_total order.cmp lawful.total in
+        let y = member r (known, full) in
+        let z = member s (others, full') in
+        let starts = starts_less order lawful complete s r others known z.0 y.0 z.1 y.1 z.2 y.2 below in
+        let ends = below_ends order lawful complete s r others known z.0 y.0 z.1 y.1 z.2 y.2 below in
+        write_after _ _ _ _ _ _ _ _ _
+        (not_less _ _ (total.antisymm (start_position order r.start) (start_position order s.start)) starts)
+        (turned _ _ (total.antisymm (start_position order r.start) (end_position order s.end)) ends)
