@@ -1,7 +1,21 @@
-//! Automata whose moves are ranges of characters, as lexers have them.
+//! Automata over characters, whose rules have ranges of characters, as those of a lexer.
 //!
-//! [`Rules`] gathers rules, start states and accepting states. [`Moves`] follows them: from a set of
-//! states by a character, or along a whole text.
+//! [`Rules`] gathers rules, start states and accepting states; [`Moves`] follows them, from a set of
+//! states by one character or along a whole text. A state may have several rules for a character:
+//! all of them are followed.
+//!
+//! ```
+//! let mut rules = Rules::new(alloc);
+//! rules.add(0, '-', 1)?; // a sign, then digits
+//! rules.add(0, '0'..='9', 2)?;
+//! rules.add(1, '0'..='9', 2)?;
+//! rules.add(2, '0'..='9', 2)?;
+//! rules.start(0)?;
+//! rules.accept(2)?;
+//! let moves = Moves::build(rules);
+//! assert!(rt; moves.accepts("-12")?);
+//! assert!(rt; !moves.accepts("1-2")?);
+//! ```
 #![tactic(auto)]
 
 mod moves;

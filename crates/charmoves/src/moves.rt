@@ -15,14 +15,16 @@ pub struct Moves {
 }
 
 impl Moves {
-    /// The automaton of the rules. Takes no memory.
+    /// The automaton of the rules. Allocates nothing.
     pub fn build(rules: Rules) -> Moves
         ensures { rules_of result ≡ rules }
     {
         Moves { rules }
     }
 
-    /// The states that some rule leads to from one of the given, by the character. Allocates.
+    /// The states that some rule leads to from one of the given by the character.
+    ///
+    /// Looks each given state up once, and its ranges once. Allocates.
     pub fn step(&self, states: &BTreeSet<u32>, c: char) -> Result<BTreeSet<u32>, MapError>
         ensures reached { IfOk result (AreReached (rules_of self.now) states.now c) }
     {
@@ -36,8 +38,9 @@ impl Moves {
     }
 
     /// Whether rules lead along the characters of the text from a start state to an accepting one.
+    /// The empty text is accepted where a start state accepts.
     ///
-    /// Allocates the sets of the states that are reached, each once.
+    /// Makes one step a character, from all states that were reached. Allocates.
     pub fn accepts(&self, text: &str) -> Result<bool, MapError>
         ensures accepted { IfOk result (λ accepted. IsTrue accepted ↔ Accepts (rules_of self.now) (chars text.now)) }
     {

@@ -11,7 +11,9 @@ use btree_range_map::{IntoRange, RangeMultiMap};
 use std::alloc::Global;
 use std::collections::{BTreeMap, BTreeSet};
 
-/// The rules of an automaton, the states where a text starts, and those in which it may end.
+/// The rules of an automaton, the states in which a text starts, and those in which it may end.
+///
+/// A rule leads from a state to a state by each character of a range.
 pub struct Rules {
     transitions: BTreeMap<u32, RangeMultiMap<char, BTreeSet<u32>>>,
     pub(crate) starts: BTreeSet<u32>,
@@ -19,6 +21,7 @@ pub struct Rules {
     pub(crate) alloc: Global,
 }
 
+// Written out: the borrow checker makes no proof for the drop of a multimap inside a `BTreeMap`.
 impl Drop for Rules {
     fn drop(self) {
         let Rules {
@@ -33,7 +36,7 @@ impl Drop for Rules {
 }
 
 impl Rules {
-    /// No rule, and no state that starts or accepts. Takes no memory.
+    /// No rules, and no state that starts or accepts. Allocates nothing.
     pub fn new(alloc: Global) -> Rules
         ensures rules { (p c q : ℕ) → ¬ HasRule result p c q }
         ensures starts { (p : ℕ) → ¬ IsStart result p }
@@ -47,9 +50,11 @@ impl Rules {
         }
     }
 
-    /// Adds a rule: from a state, by each character of the range, to a state.
+    /// Adds a rule: each character of the range leads from the one state to the other. An empty
+    /// range, such as `'z'..='a'`, adds none.
     ///
-    /// Allocates. After an error the rules are as they were.
+    /// Costs one look-up of the state, and one search among its ranges with a step for each range
+    /// that it meets or touches. Allocates. After an error the rules are as they were.
     pub fn add<R: IntoRange<Item = char>>(
         &mut self,
         from: u32,
@@ -72,7 +77,7 @@ impl Rules {
         }
     }
 
-    /// Makes a state one where a text starts.
+    /// Lets a text start in the state.
     ///
     /// Allocates. After an error the start states are as they were.
     pub fn start(&mut self, state: u32) -> Result<(), MapError>
@@ -87,7 +92,7 @@ impl Rules {
         }
     }
 
-    /// Makes a state one in which a text may end.
+    /// Lets a text end in the state, which then accepts.
     ///
     /// Allocates. After an error the accepting states are as they were.
     pub fn accept(&mut self, state: u32) -> Result<(), MapError>
@@ -102,7 +107,7 @@ impl Rules {
         }
     }
 
-    /// The states that rules lead to from a state by a character, or none.
+    /// The states that rules lead to from a state by a character, where there are some.
     pub(crate) fn targets(&self, state: u32, c: char) -> Option<&BTreeSet<u32>>
         ensures { (q : ℕ) → HasRule self.now state c q ↔ IsTrue (among (contains nat_cmp) (option_copied result) q) }
     {

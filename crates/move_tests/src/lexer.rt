@@ -1,8 +1,9 @@
 //! The rules of a lexer, and which word each text is.
 
 use crate::support::{States, Table, are, play, rules_of, set_of, step};
+use btree_range_map::RangeFromExcluded;
 use btree_range_map::generic::map::MapError;
-use charmoves::Moves;
+use charmoves::{Moves, Rules};
 use std::alloc::Global;
 use std::test::Fail;
 
@@ -99,5 +100,43 @@ fn wrong_kind(alloc: Global, moves: &Moves) -> Result<Option<&'static str>, MapE
 fn kinds(rt: HostRuntime) -> Result<(), Fail> {
     let moves = Moves::build(rules_of(rt.alloc(), &WORDS)?);
     assert_eq!(rt; wrong_kind(rt.alloc(), &moves)?, None);
+    Ok(())
+}
+
+fn add_quotes(rules: &mut Rules) -> Result<(), MapError> {
+    rules.add(START, '"', QUOTED)?;
+    rules.add(QUOTED, '"', TEXT)
+}
+
+fn add_quoted(rules: &mut Rules) -> Result<(), MapError> {
+    rules.add(QUOTED, ..'"', QUOTED)?;
+    rules.add(QUOTED, RangeFromExcluded::new('"'), QUOTED)
+}
+
+fn set_ends(rules: &mut Rules) -> Result<(), MapError> {
+    rules.start(START)?;
+    rules.accept(TEXT)
+}
+
+/// Text in quotes, by single characters and ranges of other kinds.
+fn quoted_text(alloc: Global) -> Result<Rules, MapError> {
+    let mut rules = Rules::new(alloc);
+    add_quotes(&mut rules)?;
+    add_quoted(&mut rules)?;
+    set_ends(&mut rules)?;
+    Ok(rules)
+}
+
+#[test]
+fn ranges_of_any_kind(rt: HostRuntime) -> Result<(), Fail> {
+    let moves = Moves::build(quoted_text(rt.alloc())?);
+    for (text, expected) in [
+        ("\"a b\"", true),
+        ("\"\"", true),
+        ("\"a", false),
+        ("\"a\"b\"", false),
+    ] {
+        assert_eq!(rt; moves.accepts(text)?, expected);
+    }
     Ok(())
 }
