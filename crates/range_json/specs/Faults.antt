@@ -39,7 +39,7 @@ module _ (key_reads : Data → Bool) where
   abbrev pub range_fault : ℕ → Data → Option JsonError
   range_fault i d = bounds_fault i (pair_of d)
 
--- the first fault of the elements, the first of which stands at i
+-- the first fault of the elements, the first of which is at i
 abbrev pub first_fault : (ℕ → Data → Option JsonError) → ℕ → List Data → Option JsonError
 first_fault fault i [] = None
 first_fault fault i (d ∷ ds) = before (fault i d) (first_fault fault (suc i) ds)

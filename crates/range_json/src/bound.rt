@@ -52,8 +52,8 @@ fn only_member(value: &Value) -> Option<(&str, &Value)>
     ensures { option_map (λ m. (m.0.now, view m.1.now)) result ≡ only_member_of (view value.now) }
 {
     let members = value.as_object()?;
-    let mut walk = members.iter();
-    match (walk.next(), walk.next()) {
+    let mut entries = members.iter();
+    match (entries.next(), entries.next()) {
         (Some((name, member)), None) => Some((name.as_str(), member)),
         _ => None,
     }

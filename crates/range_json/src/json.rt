@@ -26,12 +26,13 @@ pub trait Json: Sized + Drop {
     // The value is one that may be read there.
     ghost is_read: { Data → Self → Type 0 };
 
-    /// The JSON value that stands for this one. Fails where memory is refused.
+    /// The JSON value that this value is written as. Fails where an allocation fails.
     fn to_json(&self, alloc: Global) -> Result<Value, AllocError>
         ensures written { IfOk result (λ v. view v ≡ shape self.now) }
         ensures known { is_value self.now };
 
-    /// The value for which the JSON value stands. Fails where there is none, or memory is refused.
+    /// The value that the JSON value is read as. `Refused` where it is read as none, `Memory` where an
+    /// allocation fails.
     fn from_json(alloc: Global, value: &Value) -> Result<Self, ReadError>
         ensures read { IfOk result (is_read (view value.now)) }
         ensures readable { OnOk result (IsTrue (reads (view value.now))) }

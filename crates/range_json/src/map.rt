@@ -35,7 +35,15 @@ fn pair_to_json<K: Json, V: Json>(
     Ok(Value::Array(both))
 }
 
-/// The stored ranges with their values, in order, in an object with the number of its version.
+/// An object with the stored ranges and their values, in order, as the array `items`, and with the
+/// number 2 as `version`. Allocates; fails where an allocation fails.
+///
+/// ```
+/// let mut map: RangeMap<u8, i64, VecStorage<_>> = RangeMap::new(alloc);
+/// map.insert(0..5, 1)?;
+/// let value = map_to_json(alloc, &map)?;
+/// // {"items":[[[{"Included":0},{"Excluded":5}],1]],"version":2}
+/// ```
 pub fn map_to_json<K: Json + PartialEnum, V: Json + Eq, C: Storage<Item<AnyRange<K>, V>>>(
     alloc: Global,
     map: &RangeMap<K, V, C>,
@@ -62,7 +70,7 @@ pub fn map_to_json<K: Json + PartialEnum, V: Json + Eq, C: Storage<Item<AnyRange
 ///
 /// # Errors
 ///
-/// The fault of the first faulty element, with its place: an element that is no pair, a range that
+/// The fault of the first faulty element, with its place, from 0: an element that is no pair, a range that
 /// is none, a bound or a key that is none, a value that is none, or a nonempty range that meets that
 /// of an earlier element. `NotArray` and `Version` where the whole has neither shape. `Memory` where
 /// an allocation fails.

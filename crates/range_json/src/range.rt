@@ -13,7 +13,8 @@ use range_algebra::any::AnyRange;
 use serde_json::Value;
 use std::alloc::{AllocError, Global};
 
-/// The range as an array of its start and its end, as they are spelled.
+/// The range as an array of its start and its end, as they are spelled. Allocates; fails where an
+/// allocation fails.
 pub fn range_to_json<K: Json>(alloc: Global, range: &AnyRange<K>) -> Result<Value, AllocError>
     ensures written { IfOk result (λ v. view v ≡ range_shape K.shape range.now) }
     ensures values { OnOk result (IsRangeValue K.is_value range.now) }
@@ -28,8 +29,8 @@ pub fn range_to_json<K: Json>(alloc: Global, range: &AnyRange<K>) -> Result<Valu
 pub(crate) fn pair(value: &Value) -> Option<(&Value, &Value)>
     ensures { option_map (λ p. (view p.0.now, view p.1.now)) result ≡ pair_of (view value.now) }
 {
-    let mut walk = value.as_array()?.iter();
-    match (walk.next(), walk.next(), walk.next()) {
+    let mut elements = value.as_array()?.iter();
+    match (elements.next(), elements.next(), elements.next()) {
         (Some(first), Some(second), None) => Some((first, second)),
         _ => None,
     }
@@ -54,7 +55,12 @@ pub(crate) fn element_range<K: Json>(
     }
 }
 
-/// The range with the bounds that stand in an array of two.
+/// The range with the bounds in an array of two.
+///
+/// # Errors
+///
+/// `NotRange` where the value is no array of two; else the fault of the first faulty bound,
+/// `NotBound` or `Key`. All have the place 0. `Memory` where an allocation fails.
 pub fn range_from_json<K: Json>(alloc: Global, value: &Value) -> Result<AnyRange<K>, JsonError>
     ensures read { IfOk result (IsRangeRead K.is_read (view value.now)) }
     ensures sound { OnOk result (range_fault K.reads 0 (view value.now) ≡ None) }

@@ -20,7 +20,8 @@ use range_store::storage::{Item, Storage};
 use serde_json::Value;
 use std::alloc::{AllocError, Global};
 
-/// The stored ranges as an array, in order.
+/// The stored ranges as an array, in order, bounds as they are spelled. Allocates; fails where an
+/// allocation fails.
 pub fn set_to_json<T: Json + PartialEnum, C: Storage<Item<AnyRange<T>, ()>>>(
     alloc: Global,
     set: &RangeSet<T, C>,
@@ -36,7 +37,14 @@ pub fn set_to_json<T: Json + PartialEnum, C: Storage<Item<AnyRange<T>, ()>>>(
     Ok(Value::Array(written))
 }
 
-/// A set of just the keys of the ranges that stand in an array.
+/// A set of just the keys of the ranges in an array. Ranges that meet or touch are joined.
+///
+/// Costs an insertion for each range.
+///
+/// # Errors
+///
+/// `NotArray` where the value is no array; else the fault of the first faulty element, with its
+/// place. `Memory` where an allocation fails.
 pub fn set_from_json<T: Json + Measure + Clone, C: Storage<Item<AnyRange<T>, ()>>>(
     alloc: Global,
     value: &Value,

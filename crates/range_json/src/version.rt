@@ -11,8 +11,8 @@ use serde_json::{Map, Value};
 fn has_known_members(members: &Map<String, Value>) -> bool
     ensures { result ≡ are_known (members_view members.now.entries) }
 {
-    let mut walk = members.iter();
-    while let Some((name, _member)) = walk.next() {
+    let mut entries = members.iter();
+    while let Some((name, _member)) = entries.next() {
         if name.as_str() != "version" && name.as_str() != "items" {
             return false;
         }
