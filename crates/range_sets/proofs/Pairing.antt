@@ -69,20 +69,16 @@ module _ {K : Type 0} (order : KeyOrder K) {S V : Type 0} (same : S → S → Bo
     as_itself None = refl
     as_itself (Some s) = equal.refl s
 
+    is_bound : (items : Items) (t : S) → BindsTo order same items k t → IsBound order items k
+    is_bound [] t h = h
+    is_bound (i ∷ rest) t (inl h) = inl h.0
+    is_bound (i ∷ rest) t (inr h) = inr (is_bound rest t h)
+
+    -- what a key is bound to is equal to what it was found bound to
     bound_as : (items : Items) (old b : Option S) → IsOnce items k → Binds order same items k old → Binds order same items k b ↔ IsAsAnswered same old b
     bound_as items None None once was = (λ h. refl, λ h. was)
     bound_as items None (Some t) once was = (λ h. absurd (was (is_bound items t h)), λ h. cc)
-      where
-        is_bound : (xs : Items) (t : S) → BindsTo order same xs k t → IsBound order xs k
-        is_bound [] t h = h
-        is_bound (i ∷ rest) t (inl h) = inl h.0
-        is_bound (i ∷ rest) t (inr h) = inr (is_bound rest t h)
     bound_as items (Some s) None once was = (λ h. h (is_bound items s was), λ h. absurd h)
-      where
-        is_bound : (xs : Items) (t : S) → BindsTo order same xs k t → IsBound order xs k
-        is_bound [] t h = h
-        is_bound (i ∷ rest) t (inl h) = inl h.0
-        is_bound (i ∷ rest) t (inr h) = inr (is_bound rest t h)
     bound_as items (Some s) (Some t) once was = (λ h. once s t was h, λ e. as_well items e was)
       where
         as_well : (xs : Items) → IsTrue (same s t) → BindsTo order same xs k s → BindsTo order same xs k t

@@ -28,10 +28,13 @@ pub trait MaybeEmpty: Eq + Clone + Drop {
     fn known(&self)
         ensures { is_set self.now };
 
+    /// What equals a set with no member has none.
     ghost void_equal: { (s t : Self) → IsTrue (Self.PartialEq.eq s t) → is_void s → is_void t };
 }
 
 /// A type of sets of values, seen as the values that a set has, up to equality.
+///
+/// std's `BTreeSet` and `HashSet` are such types.
 pub trait SetMut<V: Eq + Clone>: MaybeEmpty {
     /// Whether a set has a member that equals the value.
     ghost has: { Self → V → Bool };
@@ -40,22 +43,27 @@ pub trait SetMut<V: Eq + Clone>: MaybeEmpty {
     fn contains(&self, value: &V) -> bool
         ensures { result ≡ has self.now value.now };
 
-    /// Adds a value. After an error the set has what it had.
+    /// Adds a value, and nothing else. Fails where an allocation fails; then the set has what it had.
     fn insert(&mut self, value: V) -> Result<(), AllocError>
         ensures added { OnOk result (HasAlso has V.eq (Some self.old) (Some self.new) value) }
         ensures refused { OnErr result (HaveSame has self.old self.new) };
 
-    /// Takes a value out. Allocates nothing.
+    /// Takes a value out, and nothing else. Allocates nothing.
     fn remove(&mut self, value: &V)
         ensures { HasAllBut has V.eq (Some self.old) (Some self.new) value.now };
 
+    /// A set with no member is one that has no value.
     ghost void_is: { (s : Self) → Self.MaybeEmpty.is_void s ↔ HasNone has s };
 
+    /// A set has a value exactly where it has each equal one.
     ghost has_equal: { (s : Self) (v w : V) → IsTrue (V.eq v w) → has s v ≡ has s w };
 
+    /// Equal sets have the same values.
     ghost equal_same: { (s t : Self) → IsTrue (Self.PartialEq.eq s t) → HaveSame has s t };
 
+    /// Sets that have the same values are equal.
     ghost same_equal: { (s t : Self) → Self.MaybeEmpty.is_set s → Self.MaybeEmpty.is_set t → HaveSame has s t → IsTrue (Self.PartialEq.eq s t) };
 
+    /// Where clones of values equal their source, so do clones of sets.
     ghost clones_equal: { ClonesAreEqual V.is_clone V.eq → ClonesAreEqual Self.Clone.is_clone Self.PartialEq.eq };
 }
