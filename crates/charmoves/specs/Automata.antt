@@ -9,6 +9,7 @@ use Rattle.btree_range_map.specs.Characters.{IsCharacter, character_order}
 use Rattle.btree_range_map.specs.Holding.{box_items}
 use Rattle.btree_range_map.specs.Item.{Item}
 use Rattle.btree_range_map.specs.Range.{Holds}
+use Rattle.btree_range_map.specs.Members.{among}
 use Rattle.btree_range_map.specs.Pairs.{HasPair}
 use Rattle.charmoves.specs.declared.moves.Moves.{Moves}
 use Rattle.charmoves.specs.declared.rules.Rules.{Rules}
@@ -17,55 +18,66 @@ use Rattle.charmoves.specs.declared.rules.Rules.{Rules}
 abbrev pub Transitions : Type 0
 Transitions = List (Item (AnyRange ℕ) (BTreeSet ℕ))
 
+-- those of a state for which some are stored, or none
 abbrev pub transitions_of : Option (BoxStorage (Item (AnyRange ℕ) (BTreeSet ℕ))) → Transitions
 transitions_of None = []
 transitions_of (Some stored) = box_items stored
 
--- some rule leads from p to q by the character c
+-- some rule leads from state p by character c to state q
 abbrev pub HasRule : Rules → ℕ → ℕ → ℕ → Type 0
-HasRule a p c q = HasPair character_order (contains nat_cmp) (transitions_of (map.get nat_cmp a.transitions p)) c q
+HasRule rules p c q = HasPair character_order (contains nat_cmp) (transitions_of (map.get nat_cmp rules.transitions p)) c q
 
+-- a text may start in the state
 abbrev pub IsStart : Rules → ℕ → Type 0
-IsStart a p = IsTrue (contains nat_cmp a.starts p)
+IsStart rules p = IsTrue (contains nat_cmp rules.starts p)
 
+-- a text may end in the state
 abbrev pub IsAccepting : Rules → ℕ → Type 0
-IsAccepting a p = IsTrue (contains nat_cmp a.accepting p)
+IsAccepting rules p = IsTrue (contains nat_cmp rules.accepting p)
 
 module _ (before after : Rules) where
-  -- each rule is one as it was
+  -- the rules are those of before
   abbrev pub KeepsRules : Type 0
   KeepsRules = (p c q : ℕ) → HasRule after p c q ↔ HasRule before p c q
 
-  -- so is each state where a text starts
+  -- so are the start states
   abbrev pub KeepsStarts : Type 0
   KeepsStarts = (p : ℕ) → IsStart after p ↔ IsStart before p
 
-  -- and each in which it may end
+  -- so are the accepting states
   abbrev pub KeepsAccepting : Type 0
   KeepsAccepting = (p : ℕ) → IsAccepting after p ↔ IsAccepting before p
 
-  -- the rules and one from a state to a state, by each character of the range
+  -- the rules are those of before, and one that leads from a state by each character of the range to a state
   abbrev pub HasRuleAlso : ℕ → AnyRange ℕ → ℕ → Type 0
   HasRuleAlso from range to = (p c q : ℕ) → IsCharacter c → HasRule after p c q ↔ (HasRule before p c q ⊎ ((p ≡ from) × Holds character_order range c × (q ≡ to)))
 
+  -- the start states are those of before, and this one
   abbrev pub StartsAlsoAt : ℕ → Type 0
   StartsAlsoAt state = (p : ℕ) → IsStart after p ↔ (IsStart before p ⊎ (p ≡ state))
 
+  -- the accepting states are those of before, and this one
   abbrev pub AcceptsAlsoAt : ℕ → Type 0
   AcceptsAlsoAt state = (p : ℕ) → IsAccepting after p ↔ (IsAccepting before p ⊎ (p ≡ state))
 
--- the states that some rule leads to from one of the given, by the character c
-abbrev pub AreReached : Rules → BTreeSet ℕ → ℕ → BTreeSet ℕ → Type 0
-AreReached a states c next = (q : ℕ) → IsTrue (contains nat_cmp next q) ↔ (p : ℕ) × IsTrue (contains nat_cmp states p) × HasRule a p c q
+module _ (rules : Rules) where
+  -- the states that some rule leads to from state p by the character, where there are some
+  abbrev pub AreTargets : ℕ → ℕ → Option (BTreeSet ℕ) → Type 0
+  AreTargets p c found = (q : ℕ) → HasRule rules p c q ↔ IsTrue (among (contains nat_cmp) found q)
 
--- rules lead from p to q along the characters
-abbrev pub LeadsTo : Rules → ℕ → List ℕ → ℕ → Type 0
-LeadsTo a p [] q = p ≡ q
-LeadsTo a p (c ∷ text) q = (s : ℕ) × HasRule a p c s × LeadsTo a s text q
+  -- the states that some rule leads to from one of the given by the character
+  abbrev pub AreReached : BTreeSet ℕ → ℕ → BTreeSet ℕ → Type 0
+  AreReached states c reached = (q : ℕ) → IsTrue (contains nat_cmp reached q) ↔ (p : ℕ) × IsTrue (contains nat_cmp states p) × HasRule rules p c q
 
--- and so from a start state to an accepting one
-abbrev pub Accepts : Rules → List ℕ → Type 0
-Accepts a text = (p : ℕ) × (q : ℕ) × IsStart a p × LeadsTo a p text q × IsAccepting a q
+  -- a path of rules leads along the characters from state p to state q
+  abbrev pub LeadsTo : ℕ → List ℕ → ℕ → Type 0
+  LeadsTo p [] q = p ≡ q
+  LeadsTo p (c ∷ text) q = (s : ℕ) × HasRule rules p c s × LeadsTo s text q
 
+  -- such a path leads from a start state to an accepting one
+  abbrev pub Accepts : List ℕ → Type 0
+  Accepts text = (p : ℕ) × (q : ℕ) × IsStart rules p × LeadsTo p text q × IsAccepting rules q
+
+-- what an automaton was built from
 abbrev pub rules_of : Moves → Rules
-rules_of m = m.rules
+rules_of moves = moves.rules

@@ -42,7 +42,7 @@ impl Moves {
     ///
     /// Makes one step a character, from all states that were reached. Allocates.
     pub fn accepts(&self, text: &str) -> Result<bool, MapError>
-        ensures accepted { IfOk result (λ accepted. IsTrue accepted ↔ Accepts (rules_of self.now) (chars text.now)) }
+        ensures path { IfOk result (λ b. IsTrue b ↔ Accepts (rules_of self.now) (chars text.now)) }
     {
         let mut states = self.rules.starts.clone()?;
         for c in text.chars() {

@@ -1,10 +1,7 @@
 //! Rules, start states and accepting states.
-ghost use Rattle.std.specs.Prelude.{◌↔◌, ℕ, IsTrue, OnOk, OnErr};
+ghost use Rattle.std.specs.Prelude.{ℕ, OnOk, OnErr};
 ghost use Rattle.std.specs.Option.{option_copied};
-ghost use Rattle.std.specs.Ordering.{nat_cmp};
-ghost use Rattle.std.specs.BTreeSet.{contains};
-ghost use Rattle.btree_range_map.specs.Members.{among};
-ghost use Rattle.charmoves.specs.Automata.{HasRule, IsStart, IsAccepting, KeepsRules, KeepsStarts, KeepsAccepting, HasRuleAlso, StartsAlsoAt, AcceptsAlsoAt};
+ghost use Rattle.charmoves.specs.Automata.{HasRule, AreTargets, IsStart, IsAccepting, KeepsRules, KeepsStarts, KeepsAccepting, HasRuleAlso, StartsAlsoAt, AcceptsAlsoAt};
 
 use btree_range_map::generic::map::MapError;
 use btree_range_map::{IntoRange, RangeMultiMap};
@@ -109,7 +106,7 @@ impl Rules {
 
     /// The states that rules lead to from a state by a character, where there are some.
     pub(crate) fn targets(&self, state: u32, c: char) -> Option<&BTreeSet<u32>>
-        ensures { (q : ℕ) → HasRule self.now state c q ↔ IsTrue (among (contains nat_cmp) (option_copied result) q) }
+        ensures { AreTargets self.now state c (option_copied result) }
     {
         let transitions = self.transitions.get(&state)?;
         transitions.get::<u32>(c)

@@ -19,4 +19,4 @@ pub returns : goal.returns
 returns c =
     let text = chars c.args.text.now in
     let end = YieldsList-end (YieldsList-from_chars c.args.text.now c.utf8.text cc) c.loop-c.yielded _ c.loop-c.yielded_by _ _ c.in-None.is c.next.ensures.steps in
-    record { accepted = finished (rules_of c.args.self.now) text (Accepts (rules_of c.args.self.now) text) c.loop-c.states (length c.loop-c.yielded) c.is_disjoint.result end.1 c.is_disjoint.ensures c.loop-c.invariant }
+    record { path = finished (rules_of c.args.self.now) text (Accepts (rules_of c.args.self.now) text) c.loop-c.states (length c.loop-c.yielded) c.is_disjoint.result end.1 c.is_disjoint.ensures c.loop-c.invariant }
