@@ -1,3 +1,4 @@
+pub mod Exact
 pub mod Keeping
 pub mod MapReading
 pub mod Reading

@@ -1,6 +1,7 @@
 //! Laws of what is written and read. Their bodies do nothing.
 ghost use Rattle.std.specs.Prelude.{◌≡◌, List, None, IsTrue};
 ghost use Rattle.std.specs.declared.cmp.Ordering.TheVariants.{Equal};
+ghost use Rattle.serde_json.specs.Data.{Data};
 ghost use Rattle.range_algebra.specs.declared.any.AnyRange.{AnyRange};
 ghost use Rattle.range_algebra.specs.RangeOrder.{range_cmp};
 ghost use Rattle.range_store.specs.declared.storage.Item.{Item};
@@ -10,11 +11,11 @@ ghost use Rattle.range_sets.specs.KeySets.{IsStoredSet};
 ghost use Rattle.range_sets.specs.SetOrder.{same_ranges};
 ghost use Rattle.range_json.specs.Shapes.{range_shape, set_shape, map_shape};
 ghost use Rattle.range_json.specs.Faults.{range_fault, set_fault, IsRangeRead, IsSetRead};
-ghost use Rattle.range_json.specs.MapFaults.{IsMapFault, IsMapRead};
+ghost use Rattle.range_json.specs.MapFaults.{HasOneReading, IsMapFault, IsMapRead};
 ghost use Rattle.range_json.specs.declared.error.JsonError.{JsonError};
 ghost use Rattle.range_json.specs.Values.{IsRangeValue, AreRangeValues, AreItemValues};
 
-use crate::json::ReadsBack;
+use crate::json::{Json, ReadsBack};
 use range_keys::traits::PartialEnum;
 
 /// A written range has no fault, and what is read there equals it.
@@ -33,4 +34,9 @@ pub fn sets_are_read_back<K: ReadsBack + PartialEnum>()
 pub fn maps_are_read_back<K: ReadsBack + PartialEnum, V: ReadsBack>()
     ensures sound { (items : List (Item (AnyRange K) V)) → AreItemValues K.is_value V.is_value items → IsStored K.order V.eq items → (e : JsonError) → ¬ IsMapFault K.order K.reads V.reads K.is_read V.is_read (map_shape K.shape V.shape items) e }
     ensures equal { (items others : List (Item (AnyRange K) V)) → AreItemValues K.is_value V.is_value items → IsStored K.order V.eq items → IsMapRead K.order K.reads V.reads K.is_read V.is_read V.eq (map_shape K.shape V.shape items) others → IsTrue (same_list K.order V.eq others items) }
+{}
+
+/// A JSON value that is read as a map has no fault, where no two unequal keys are read of one value.
+pub fn read_maps_have_no_fault<K: Json + PartialEnum, V: Json + Eq>()
+    ensures { HasOneReading K.order K.is_read → (d : Data) (items : List (Item (AnyRange K) V)) (e : JsonError) → IsMapRead K.order K.reads V.reads K.is_read V.is_read V.eq d items → ¬ IsMapFault K.order K.reads V.reads K.is_read V.is_read d e }
 {}
