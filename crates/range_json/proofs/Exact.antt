@@ -1,6 +1,6 @@
 -- A map that is read has no fault, where a JSON value is read as equal keys.
-use Rattle.std.proofs.Common.{◌≡◌, refl, sym, ap, subst, ◌∙◌, ◌⊎◌, inl, inr, ℕ, List, [], ◌∷◌, ◌++◌, length, Bool, Option, Some, None, Ok, Result}
-use Rattle.std.specs.Cmp.{IsEquivalence, alike_right}
+use Rattle.std.proofs.Common.{◌≡◌, refl, sym, ap, subst, ◌∙◌, inl, inr, List, [], ◌∷◌, ◌++◌, Bool, Option, Some, None}
+use Rattle.std.specs.Cmp.{alike_right}
 use Rattle.std.specs.List.{AllZip}
 use Rattle.std.specs.Ordering.{ordering_then}
 use Rattle.std.specs.declared.cmp.Ordering.{Ordering}
@@ -18,10 +18,14 @@ use Rattle.range_algebra.specs.Clones.{IsBoundClone, range_clone}
 use Rattle.range_algebra.specs.RangeOrder.{range_cmp}
 use Rattle.range_store.specs.declared.storage.Item.{Item}
 use Rattle.range_json.specs.declared.error.JsonError.{JsonError}
-use Rattle.range_json.specs.Shapes.{pair_of, bound_of}
+use Rattle.range_json.specs.Shapes.{bound_of}
 use Rattle.range_json.specs.Faults.{first_fault, ArePartsRead, IsRangeRead}
-use Rattle.range_json.specs.MapFaults.{element_fault, map_elements, IsElementRead, MeetNonempty, MeetsOne, AreApart, AreRead, IsFirstFault, IsFaultOf, IsMapRead, IsMapFault, HasOneReading}
+use Rattle.range_json.specs.MapFaults.{element_fault, IsElementRead, MeetNonempty, MeetsOne, AreApart, AreRead, IsFirstFault, IsFaultOf, IsMapRead, IsMapFault}
 use Rattle.range_json.proofs.Reading.{fault_first}
+
+-- keys that are read of one JSON value are equal
+abbrev pub HasOneReading : {K : Type 0} → KeyOrder K → (Data → K → Type 0) → Type 0
+HasOneReading {K} order key_is_read = (d : Data) (x y : K) → key_is_read d x → key_is_read d y → order.cmp x y ≡ Equal
 
 some_is : {X : Type 0} (x y : X) → Some x ≡ Some y → x ≡ y
 some_is x y e = cc

@@ -1,7 +1,6 @@
 -- The first fault of a JSON value that is read as a map, in either shape, and what it binds where it has none.
 use Rattle.std.specs.Prelude.{◌≡◌, ℕ, List, [], ◌∷◌, ◌++◌, length, Option, Some, None, Result, Ok, Err, Bool, true, false, ◌==◌, ◌||◌, ◌&&◌, if◌then◌else◌, option_and_then, codes, bytes_eq, ◌⊎◌, ⊤}
 use Rattle.std.specs.List.{AllByRecursion, AllZip}
-use Rattle.std.specs.declared.cmp.Ordering.TheVariants.{Equal}
 use Rattle.serde_json.specs.Data.{Data, null, boolean, number, string, array, object, Members, no_members, member}
 use Rattle.serde_json.specs.Find.{get_member, as_number, as_u64}
 use Rattle.range_keys.specs.Order.{KeyOrder}
@@ -111,7 +110,3 @@ module _ {K V : Type 0} where
       pub read : AreRead ds elements
       pub bound : BindAlike order same_value items elements
       pub kept : IsStored order same_value elements → items ≡ elements
-
--- keys that are read of one JSON value are equal
-abbrev pub HasOneReading : {K : Type 0} → KeyOrder K → (Data → K → Type 0) → Type 0
-HasOneReading {K} order key_is_read = (d : Data) (x y : K) → key_is_read d x → key_is_read d y → order.cmp x y ≡ Equal

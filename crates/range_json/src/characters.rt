@@ -42,4 +42,6 @@ impl ReadsBack for char {
     ghost reads_written = { λ x h. told_some (character_back x h) };
 
     ghost reads_back = { λ x y h e. same_number (character_back x h) e };
+
+    ghost one_reading = { λ d x y e h. same_number e h };
 }

@@ -5,7 +5,9 @@ ghost use Rattle.serde_json.specs.View.{view};
 ghost use Rattle.range_json.specs.declared.error.ReadError.TheVariants.{Refused};
 
 pub use crate::error::{JsonError, ReadError};
-pub use crate::laws::{maps_are_read_back, ranges_are_read_back, sets_are_read_back};
+pub use crate::laws::{
+    maps_are_read_back, ranges_are_read_back, read_maps_have_no_fault, sets_are_read_back,
+};
 pub use crate::map::{map_from_json, map_to_json};
 pub use crate::range::{range_from_json, range_to_json};
 pub use crate::set::{set_from_json, set_to_json};
@@ -39,9 +41,12 @@ pub trait Json: Sized + Drop {
         ensures refused { IsErrOf result Refused → reads (view value.now) ≡ false };
 }
 
-/// A type that reads what it has written as an equal value. It has laws alone.
+/// A type that reads what it has written as an equal value, and one JSON value never as two unequal
+/// ones. It has laws alone.
 pub trait ReadsBack: Json + Eq {
     ghost reads_written: { (x : Self) → Self.is_value x → IsTrue (Self.reads (Self.shape x)) };
 
     ghost reads_back: { (x y : Self) → Self.is_value x → Self.is_read (Self.shape x) y → IsTrue (Self.eq x y) };
+
+    ghost one_reading: { (d : Data) (x y : Self) → Self.is_read d x → Self.is_read d y → IsTrue (Self.eq x y) };
 }

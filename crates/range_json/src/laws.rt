@@ -11,7 +11,7 @@ ghost use Rattle.range_sets.specs.KeySets.{IsStoredSet};
 ghost use Rattle.range_sets.specs.SetOrder.{same_ranges};
 ghost use Rattle.range_json.specs.Shapes.{range_shape, set_shape, map_shape};
 ghost use Rattle.range_json.specs.Faults.{range_fault, set_fault, IsRangeRead, IsSetRead};
-ghost use Rattle.range_json.specs.MapFaults.{HasOneReading, IsMapFault, IsMapRead};
+ghost use Rattle.range_json.specs.MapFaults.{IsMapFault, IsMapRead};
 ghost use Rattle.range_json.specs.declared.error.JsonError.{JsonError};
 ghost use Rattle.range_json.specs.Values.{IsRangeValue, AreRangeValues, AreItemValues};
 
@@ -36,7 +36,7 @@ pub fn maps_are_read_back<K: ReadsBack + PartialEnum, V: ReadsBack>()
     ensures equal { (items others : List (Item (AnyRange K) V)) → AreItemValues K.is_value V.is_value items → IsStored K.order V.eq items → IsMapRead K.order K.reads V.reads K.is_read V.is_read V.eq (map_shape K.shape V.shape items) others → IsTrue (same_list K.order V.eq others items) }
 {}
 
-/// A JSON value that is read as a map has no fault, where no two unequal keys are read of one value.
-pub fn read_maps_have_no_fault<K: Json + PartialEnum, V: Json + Eq>()
-    ensures { HasOneReading K.order K.is_read → (d : Data) (items : List (Item (AnyRange K) V)) (e : JsonError) → IsMapRead K.order K.reads V.reads K.is_read V.is_read V.eq d items → ¬ IsMapFault K.order K.reads V.reads K.is_read V.is_read d e }
+/// A JSON value that is read as a map has no fault.
+pub fn read_maps_have_no_fault<K: ReadsBack + PartialEnum, V: Json + Eq>()
+    ensures { (d : Data) (items : List (Item (AnyRange K) V)) (e : JsonError) → IsMapRead K.order K.reads V.reads K.is_read V.is_read V.eq d items → ¬ IsMapFault K.order K.reads V.reads K.is_read V.is_read d e }
 {}

@@ -55,10 +55,14 @@ impl ReadsBack for bool {
     ghost reads_written = { λ x h. Prim.search rules };
 
     ghost reads_back = { λ x y h e. Prim.search (rules, e) };
+
+    ghost one_reading = { λ d x y e h. Prim.search (rules, e, h) };
 }
 
 impl ReadsBack for String {
     ghost reads_written = { λ x h. Prim.search rules };
 
     ghost reads_back = { λ x y h e. Prim.search (rules, e) };
+
+    ghost one_reading = { λ d x y e h. Prim.search (rules, e, h) };
 }

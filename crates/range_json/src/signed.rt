@@ -46,6 +46,8 @@ impl ReadsBack for i8 {
     ghost reads_written = { λ x h. told_some (signed_back 127 (lit< tt) x h) };
 
     ghost reads_back = { λ x y h e. same_integer (signed_back 127 (lit< tt) x h) e };
+
+    ghost one_reading = { λ d x y e h. same_integer e h };
 }
 
 impl Json for i16 {
@@ -71,6 +73,8 @@ impl ReadsBack for i16 {
     ghost reads_written = { λ x h. told_some (signed_back 32_767 (lit< tt) x h) };
 
     ghost reads_back = { λ x y h e. same_integer (signed_back 32_767 (lit< tt) x h) e };
+
+    ghost one_reading = { λ d x y e h. same_integer e h };
 }
 
 impl Json for i32 {
@@ -96,6 +100,8 @@ impl ReadsBack for i32 {
     ghost reads_written = { λ x h. told_some (signed_back 2_147_483_647 (lit< tt) x h) };
 
     ghost reads_back = { λ x y h e. same_integer (signed_back 2_147_483_647 (lit< tt) x h) e };
+
+    ghost one_reading = { λ d x y e h. same_integer e h };
 }
 
 impl Json for i64 {
@@ -121,4 +127,6 @@ impl ReadsBack for i64 {
     ghost reads_written = { λ x h. told_some (signed_back 9_223_372_036_854_775_807 (lit< tt) x h) };
 
     ghost reads_back = { λ x y h e. same_integer (signed_back 9_223_372_036_854_775_807 (lit< tt) x h) e };
+
+    ghost one_reading = { λ d x y e h. same_integer e h };
 }

@@ -43,6 +43,8 @@ impl ReadsBack for u8 {
     ghost reads_written = { λ x h. told_some (unsigned_back 255 x h) };
 
     ghost reads_back = { λ x y h e. same_number (unsigned_back 255 x h) e };
+
+    ghost one_reading = { λ d x y e h. same_number e h };
 }
 
 impl Json for u16 {
@@ -68,6 +70,8 @@ impl ReadsBack for u16 {
     ghost reads_written = { λ x h. told_some (unsigned_back 65_535 x h) };
 
     ghost reads_back = { λ x y h e. same_number (unsigned_back 65_535 x h) e };
+
+    ghost one_reading = { λ d x y e h. same_number e h };
 }
 
 impl Json for u32 {
@@ -93,6 +97,8 @@ impl ReadsBack for u32 {
     ghost reads_written = { λ x h. told_some (unsigned_back 4_294_967_295 x h) };
 
     ghost reads_back = { λ x y h e. same_number (unsigned_back 4_294_967_295 x h) e };
+
+    ghost one_reading = { λ d x y e h. same_number e h };
 }
 
 impl Json for u64 {
@@ -118,6 +124,8 @@ impl ReadsBack for u64 {
     ghost reads_written = { λ x h. told_some (unsigned_back 18_446_744_073_709_551_615 x h) };
 
     ghost reads_back = { λ x y h e. same_number (unsigned_back 18_446_744_073_709_551_615 x h) e };
+
+    ghost one_reading = { λ d x y e h. same_number e h };
 }
 
 impl Json for usize {
@@ -143,4 +151,6 @@ impl ReadsBack for usize {
     ghost reads_written = { λ x h. told_some (unsigned_back 18_446_744_073_709_551_615 x h) };
 
     ghost reads_back = { λ x y h e. same_number (unsigned_back 18_446_744_073_709_551_615 x h) e };
+
+    ghost one_reading = { λ d x y e h. same_number e h };
 }
