@@ -137,8 +137,10 @@ fn a_port_is_a_range(rt: HostRuntime) -> Result<(), Fail> {
 #[test]
 fn ports_have_ends_and_neighbours(rt: HostRuntime) {
     assert_eq!(rt; Port(0).pred(), None);
-    assert_eq!(rt; Port(79).succ(), Some(Port(80)));
+    assert_eq!(rt; Port(1).pred(), Some(Port(0)));
+    assert_eq!(rt; Port(65_534).succ(), Some(Port(65_535)));
     assert_eq!(rt; Port(65_535).succ(), None);
     assert_eq!(rt; <Port as Bounded>::max(), Port(65_535));
     assert_eq!(rt; Port(0).distance(&Port(65_535)), 65_535);
+    assert_eq!(rt; Port(65_535).len(), 1);
 }

@@ -1,5 +1,4 @@
 //! Keys and bounds.
 
 mod bounds;
-mod port;
 mod values;

@@ -1,6 +1,5 @@
 //! The ends, neighbours and distances of each key type.
 
-use super::port::Port;
 use crate::expecting::{expect_answer, expect_none};
 use range_keys::inner::counted::{Counted, measure_counts_keys};
 use range_keys::traits::{Bounded, Complete, MaybeBounded, Measure, PartialEnum};
@@ -145,15 +144,4 @@ fn characters_pass_over_surrogates(rt: HostRuntime) {
     assert!(rt; are_neighbours('\u{D7FF}', '\u{E000}'));
     assert!(rt; distance_between(&'\u{D7FF}', &'\u{E000}') == Some(1));
     assert!(rt; distance_between(&'a', &'\u{1F600}') == Some(128_512 - 97 - 2_048));
-}
-
-#[test]
-fn own_keys_are_keys(rt: HostRuntime) {
-    let ends = Ends {
-        first: Port(0),
-        second: Port(1),
-        last_but_one: Port(65_534),
-        last: Port(65_535),
-    };
-    expect_ends(&rt, "Port", &ends, 65_535);
 }
