@@ -116,3 +116,11 @@ fn intersects(rt: HostRuntime) {
     expect_answer(&rt, "A, A", a.intersects(&a), true);
     expect_answer(&rt, "A, B", a.intersects(&b), false);
 }
+
+#[test]
+fn intersects_by_bounds_where_empty(rt: HostRuntime) {
+    let empty: AnyRange<i32> = (8..3).into();
+    expect_answer(&rt, "bounds", empty.intersects(&(5..10)), false);
+    expect_answer(&rt, "trait", AsRange::intersects(&empty, &(5..10)), true);
+    expect_answer(&rt, "before", empty.intersects(&(9..10)), false);
+}
