@@ -1,8 +1,8 @@
 //! Automata over characters, whose rules have ranges of characters, as those of a lexer.
 //!
-//! [`Rules`] gathers rules, start states and accepting states; [`Moves`] follows them, from a set of
-//! states by one character or along a whole text. A state may have several rules for a character:
-//! all of them are followed.
+//! [`Rules`] gathers rules, start states and accepting states; [`Moves`] follows them, from a set
+//! of states by one character or along a whole text. A state may have several rules for a
+//! character: all of them are followed.
 //!
 //! ```
 //! let mut rules = Rules::new(alloc);

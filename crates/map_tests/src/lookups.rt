@@ -29,7 +29,7 @@ fn a_range_that_touches_is_refused(rt: HostRuntime) -> Result<(), Fail> {
     play(&rt, rt.alloc(), &steps)
 }
 
-/// Whether a range is bound in a new map or, where memory is refused, handed back.
+/// Whether a range is bound in a new map or, where an allocation fails, handed back.
 fn is_bound_or_handed_back<C: Storage<NumberItem>>(alloc: Global) -> bool {
     let mut map: RangeMap<i32, i64, C> = new_map(alloc);
     match insert_disconnected(&mut map, half_open(30, 40), 2) {

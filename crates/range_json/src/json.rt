@@ -33,8 +33,8 @@ pub trait Json: Sized + Drop {
         ensures written { IfOk result (λ v. view v ≡ shape self.now) }
         ensures known { is_value self.now };
 
-    /// The value that the JSON value is read as. `Refused` where it is read as none, `Memory` where an
-    /// allocation fails.
+    /// The value that the JSON value is read as. `Refused` where it is read as none, `Memory` where
+    /// an allocation fails.
     fn from_json(alloc: Global, value: &Value) -> Result<Self, ReadError>
         ensures read { IfOk result (is_read (view value.now)) }
         ensures readable { OnOk result (IsTrue (reads (view value.now))) }

@@ -16,7 +16,7 @@ use std::alloc::Global;
 impl<T: Measure + Clone, C: Storage<Item<AnyRange<T>, ()>>> RangeSet<T, C> {
     /// Adds each key of each range that the iterator gives.
     ///
-    /// Where memory is refused for a range, the keys of all ranges before it stay added, and no
+    /// Where an allocation fails for a range, the keys of all ranges before it stay added, and no
     /// other key. Costs an insertion for each range.
     pub fn extend<R: IntoRange<Item = T>, I: IntoIterator<Item = R>>(
         &mut self,
@@ -37,7 +37,7 @@ impl<T: Measure + Clone, C: Storage<Item<AnyRange<T>, ()>>> RangeSet<T, C> {
 
     /// A set of just the keys of the ranges that the iterator gives.
     ///
-    /// Fails where memory is refused. Costs an insertion for each range.
+    /// Fails where an allocation does. Costs an insertion for each range.
     pub fn from_iter<R: IntoRange<Item = T>, I: IntoIterator<Item = R>>(
         alloc: Global,
         ranges: I,

@@ -43,7 +43,8 @@ pub trait SetMut<V: Eq + Clone>: MaybeEmpty {
     fn contains(&self, value: &V) -> bool
         ensures { result ≡ has self.now value.now };
 
-    /// Adds a value, and nothing else. Fails where an allocation fails; then the set has what it had.
+    /// Adds a value, and nothing else. Fails where an allocation fails; then the set has what it
+    /// had.
     fn insert(&mut self, value: V) -> Result<(), AllocError>
         ensures added { OnOk result (HasAlso has V.eq (Some self.old) (Some self.new) value) }
         ensures refused { OnErr result (HaveSame has self.old self.new) };

@@ -105,7 +105,7 @@ impl<K: PartialEnum, S: MaybeEmpty, C: Storage<Item<AnyRange<K>, S>>> RangeMulti
         self.map.is_empty()
     }
 
-    /// The stored ranges with their sets, in rising order, from both ends. Allocates nothing.
+    /// The stored ranges with their sets, in ascending order, from both ends. Allocates nothing.
     pub fn iter(&self) -> Iter<'_, K, S, C>
         ensures items { result ≡ C.items self.now }
         ensures form { IsStored K.order S.eq result }

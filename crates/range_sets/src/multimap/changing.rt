@@ -68,8 +68,8 @@ impl<K: Measure + Clone, S: MaybeEmpty, C: Storage<Item<AnyRange<K>, S>>> RangeM
     /// Each key that has an equal value already keeps its set. An empty range changes nothing.
     /// Allocates for a copy of each set that the range meets, for a clone of the value in each set
     /// that it joins, for clones of bounds, and where more ranges are stored than the container has
-    /// room for; after an error nothing is changed. Costs one search, and a step for each stored
-    /// range that the range meets or touches.
+    /// capacity for; after an error nothing is changed. Costs one search, and a step for each
+    /// stored range that the range meets or touches.
     pub fn insert<R: AsRange<Item = K>, V: Eq + Clone>(
         &mut self,
         range: R,
