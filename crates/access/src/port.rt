@@ -3,10 +3,12 @@
 ghost use Rattle.std.specs.Prelude.{◌-◌, refl};
 ghost use Rattle.std.proofs.Common.{lit<};
 ghost use Rattle.std.specs.declared.ops.Bound.TheVariants.{Included};
-ghost use Rattle.btree_range_map.specs.Counted.{counted_lawful, counted_complete, counted_measure};
+ghost use Rattle.btree_range_map.specs.Counted.{counted_lawful, counted_complete, counted_measure, measure_counts_keys};
 ghost use Rattle.access.specs.Ports.{port_order, ports_counted};
 
-use btree_range_map::range::traits::{Bounded, Complete, MaybeBounded, Measure, PartialEnum};
+use btree_range_map::range::traits::{
+    Bounded, Complete, Counted, MaybeBounded, Measure, PartialEnum,
+};
 use btree_range_map::{AnyRange, AsRange, IntoRange};
 use std::ops::Bound;
 
@@ -80,6 +82,10 @@ impl Measure for Port {
 
 impl Complete for Port {
     ghost complete = { counted_complete ports_counted };
+}
+
+impl Counted for Port {
+    ghost counts_keys = { measure_counts_keys ports_counted (lit< tt) };
 }
 
 impl AsRange for Port {
