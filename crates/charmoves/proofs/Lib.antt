@@ -1,3 +1,3 @@
 pub mod Adding
+pub mod Paths
 pub mod Stepping
-pub mod Walking

@@ -4,7 +4,7 @@ use Rattle.std.proofs.lemmas.Iterator.{YieldsList-from_chars}
 use Rattle.std.proofs.lemmas.Iterator.Consumers.{YieldsList-turn, YieldsList-end}
 use Rattle.std.proofs.lemmas.List.{length_push}
 use Rattle.charmoves.specs.Automata.{rules_of, Accepts}
-use Rattle.charmoves.proofs.Walking.{one_more, finished}
+use Rattle.charmoves.proofs.Paths.{one_more, finished}
 use Rattle.charmoves.proofs.moves.Moves.accepts.Goals as goal
 
 pub loop-c-preserved : goal.loop-c-preserved

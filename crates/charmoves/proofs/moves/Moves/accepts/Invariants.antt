@@ -1,7 +1,7 @@
 use Rattle.std.proofs.Common.{◌↔◌, length, drop}
 use Rattle.std.specs.Str.{chars}
 use Rattle.charmoves.specs.Automata.{rules_of, Accepts}
-use Rattle.charmoves.proofs.Walking.{AcceptsFrom}
+use Rattle.charmoves.proofs.Paths.{AcceptsFrom}
 use Rattle.charmoves.proofs.moves.Moves.accepts.Given as goal
 
 -- from the states that are reached the rest of the text is accepted where the whole text is

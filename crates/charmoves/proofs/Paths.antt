@@ -1,4 +1,4 @@
--- A walk along a text: from the states that are reached, the rest is accepted where the whole text is.
+-- Paths along a text: from the states that are reached, the rest is accepted where the whole text is.
 use Rattle.std.proofs.Common.{◌≡◌, refl, sym, ap, subst, ◌∙◌, ◌↔◌, ◌⊎◌, inl, inr, ℕ, zero, suc, ◌<◌, ◌+◌, Bool, true, false, not, IsTrue, List, [], ◌∷◌, length, drop, BTreeSet, arith}
 use Rattle.std.specs.Ordering.{nat_cmp, eq_by_cmp}
 use Rattle.std.specs.List.{list_any}
@@ -12,8 +12,8 @@ use Rattle.charmoves.proofs.Stepping.{is_member, or_true}
 abbrev pub AcceptsFrom : Rules → BTreeSet ℕ → List ℕ → Type 0
 AcceptsFrom rules states text = (p : ℕ) × (q : ℕ) × IsTrue (contains nat_cmp states p) × LeadsTo rules p text q × IsAccepting rules q
 
-walked : (rules : Rules) (states next : BTreeSet ℕ) (c : ℕ) (rest : List ℕ) → AreReached rules states c next → AcceptsFrom rules next rest ↔ AcceptsFrom rules states (c ∷ rest)
-walked rules states next c rest reached = (
+one_step : (rules : Rules) (states next : BTreeSet ℕ) (c : ℕ) (rest : List ℕ) → AreReached rules states c next → AcceptsFrom rules next rest ↔ AcceptsFrom rules states (c ∷ rest)
+one_step rules states next c rest reached = (
   λ h. let (p, by, rule) = (reached h.0).0 h.2 in (p, h.1, by, (h.0, rule, h.3), h.4),
   λ h. let (s, rule, path) = h.3 in (s, h.1, (reached s).1 (h.0, h.2, rule), path, h.4),
 )
@@ -60,7 +60,7 @@ module _ (rules : Rules) (text : List ℕ) (Whole : Type 0) where
       → (AcceptsFrom rules states (drop n text) ↔ Whole) → AcceptsFrom rules next (drop m text) ↔ Whole
   one_more states next c n m more within at reached so_far =
       let later : m ≡ suc n = omega (arith, more) in
-      let step = walked rules states next c (drop (suc n) text) reached in
+      let step = one_step rules states next c (drop (suc n) text) reached in
       let was = subst (λ rest. AcceptsFrom rules states rest ↔ Whole) (drop_at text n c within at) so_far in
       subst (λ k. AcceptsFrom rules next (drop k text) ↔ Whole) (sym later) (λ h. was.0 (step.0 h), λ h. step.1 (was.1 h))
 
