@@ -217,7 +217,7 @@ fn bind<C: Storage<Entry>>(map: &mut RangeMap<i32, i64, C>) -> Result<(), MapErr
     map.insert(AnyRange::new(Excluded(0), Included(7)), 2)
 }
 
-/// Whether a map is written as its bounds are spelled, or else memory was refused.
+/// Whether a map is written with the bounds that it stores, or else an allocation failed.
 fn is_written_or_refused<C: Storage<Entry>>(alloc: Global) -> bool {
     let mut map = RangeMap::<i32, i64, C>::new(alloc);
     if bind(&mut map).is_err() {

@@ -13,7 +13,7 @@ use range_algebra::any::AnyRange;
 use serde_json::Value;
 use std::alloc::{AllocError, Global};
 
-/// The range as an array of its start and its end, as they are spelled. Allocates; fails where an
+/// The range as an array of its start and its end, as they are stored. Allocates; fails where an
 /// allocation fails.
 pub fn range_to_json<K: Json>(alloc: Global, range: &AnyRange<K>) -> Result<Value, AllocError>
     ensures written { IfOk result (λ v. view v ≡ range_shape K.shape range.now) }

@@ -20,7 +20,7 @@ use range_store::storage::{Item, Storage};
 use serde_json::Value;
 use std::alloc::{AllocError, Global};
 
-/// The stored ranges as an array, in order, bounds as they are spelled. Allocates; fails where an
+/// The stored ranges as an array, in order, bounds as they are stored. Allocates; fails where an
 /// allocation fails.
 pub fn set_to_json<T: Json + PartialEnum, C: Storage<Item<AnyRange<T>, ()>>>(
     alloc: Global,

@@ -15,7 +15,7 @@ pub enum Call {
     Cut(usize),
     /// Takes the item of a rank out, and looks at what stands round the answered position.
     CutBetween(usize),
-    /// Puts an item in the place of another, which is answered.
+    /// Replaces an item by another, and returns the old one.
     Swap(usize, u64),
     /// Writes an item where it is lent.
     Write(usize, u64),

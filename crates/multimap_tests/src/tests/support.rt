@@ -23,7 +23,7 @@ impl Key for i32 {}
 
 impl Key for char {}
 
-/// A range, as it is spelled.
+/// A range, by the kind of its bounds.
 pub enum Keys<K> {
     All,
     Alone(K),

@@ -1,4 +1,4 @@
-//! Copies, comparisons, walks and texts of multimaps, and calls that find no memory.
+//! Clones, comparisons, iterators and texts of multimaps, and calls that fail to allocate.
 
 use crate::tests::support::Keys::{Alone, Closed, HalfOpen};
 use crate::tests::support::Values::{One, Two};

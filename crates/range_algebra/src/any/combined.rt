@@ -114,7 +114,7 @@ fn end_to_take<T: PartialEnum + Clone>(
     }
 }
 
-/// Puts the new bound, if there is one, in the place of the other.
+/// Replaces the bound by the new one, if there is one.
 fn put<T: Drop>(place: &mut Bound<T>, new: Option<Bound<T>>)
     ensures { place.new ≡ unwrap_or new place.old }
 {

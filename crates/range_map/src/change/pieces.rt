@@ -226,7 +226,7 @@ fn key_at<'a, K: PartialEnum, V: Eq + Drop + 'a, C: Storage<Item<AnyRange<K>, V>
     }
 }
 
-/// What is to stand in the place of a range, by one answer for each piece of it.
+/// What is to replace a range, by one answer for each piece of it.
 pub(crate) fn gather<
     'a,
     K: Measure + Clone,

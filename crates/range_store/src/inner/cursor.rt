@@ -15,7 +15,7 @@ pub struct Cursor<P: Copy> {
     pub left: usize,
 }
 
-/// Puts an item in the place of the next one to be replaced, or, where none is left, before the
+/// Replaces the next item of the run by another, or, where none is left, inserts it before the
 /// cursor.
 ///
 /// Allocates nothing: it uses the container's capacity to spare, and none of that while items are
