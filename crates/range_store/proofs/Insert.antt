@@ -1,7 +1,7 @@
 -- The steps of an insertion below a node, as its code takes them.
 use Rattle.std.proofs.Common.{◌≡◌, ℕ, zero, suc, ◌+◌, ◌-◌, ◌<◌, ◌≤◌, List, [], ◌∷◌, ◌++◌, length, get_or, take, drop, map, refl, sym, ap, ◌∙◌, arith, Option, Some, None, IsSome}
 use Rattle.std.specs.List.{flat_map, insert}
-use Rattle.std.proofs.lemmas.List.{append-nil, append_assoc, take_more, take-map}
+use Rattle.std.proofs.lemmas.List.{append-nil, length-append, take-append-drop, append_assoc, take_more, take-map}
 use Rattle.std.proofs.lemmas.List.Edits.{length-insert}
 use Rattle.std.proofs.lemmas.List.Sums.{sum_by-cons}
 use Rattle.std.proofs.lemmas.List.Elements.{All-head}
@@ -116,6 +116,11 @@ inner_grown s0 s1 s2 (suc e) n i rest rank item split inner shaped owned within 
     } in
     let same : length (before (items_of (get s0 n)) (map (numbers s0 (suc e)) ks) i) ≡ length (front_of (take i (items_of (get s0 n))) (map (numbers s0 (suc e)) (take i ks))) = ap (λ zs. length (front_of (take i (items_of (get s0 n))) zs)) (take-map (numbers s0 (suc e)) i ks) in
     rw (← place, same) (grown e n i rest item s0 s1 s2 split g)
+
+-- a node gets at most one item more from a child that was cut
+pub length-attached : (xs : List ℕ) (i : ℕ) (split : Option Split) → length (take i xs ++ (separators split ++ drop i xs)) ≤ length xs + 1
+length-attached xs i None = omega (arith, length-append (take i xs) (drop i xs), ap length (take-append-drop i xs))
+length-attached xs i (Some split) = omega (arith, length-append (take i xs) (split.middle ∷ drop i xs), length-append (take i xs) (drop i xs), ap length (take-append-drop i xs))
 
 -- the same at a leaf
 pub leaf_step : (s t : Slab Node) (below n rank item : ℕ) → below ≡ 0 → ShapedBut 1 MOST s below n → rank ≤ length (numbers s (suc below) n) → Rewrites s t n → items_of (get t n) ≡ insert (items_of (get s n)) rank item → children_of (get t n) ≡ children_of (get s n) → sizes_of (get t n) ≡ sizes_of (get s n) → count_of (get t n) ≡ count_of (get s n) + 1 → Replaces (MOST + 1) s t below n None (insert (numbers s (suc below) n) rank item)

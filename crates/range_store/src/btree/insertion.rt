@@ -1,7 +1,7 @@
 //! The insertion of an item below a node, with the cuts that it causes.
 ghost use Rattle.std.specs.Prelude.{◌≡◌, ℕ, suc, ◌+◌, ◌-◌, ◌*◌, ◌<◌, ◌≤◌, ◌^◌, length, insert, Some, None};
-ghost use Rattle.slab.specs.Slab.{HasRoomFor};
-ghost use Rattle.range_store.specs.Nodes.{numbers, used, ShapedBut, Replaces, Owned, HasTreeRoom, IsReady, IsCuttable, IsTree};
+ghost use Rattle.slab.specs.Slab.{get, HasRoomFor};
+ghost use Rattle.range_store.specs.Nodes.{numbers, items_of, used, ShapedBut, Replaces, Owned, HasTreeRoom, IsReady, IsCuttable, IsTree};
 
 use crate::btree::node::{
     HALF, LEAST, MOST, Node, Split, attach, count, divide, item_count, put_item, size_from,
@@ -24,7 +24,8 @@ pub fn cut_at(nodes: &mut Slab<Node>, below: usize, number: usize, half: usize) 
 // Cuts a node in two if it has an item too many.
 pub fn cut_overfull(nodes: &mut Slab<Node>, below: usize, number: usize) -> Option<Split>
     requires { IsReady nodes.old below number }
-    ensures { Replaces MOST nodes.old nodes.new below number result (numbers nodes.old (suc below) number) }
+    ensures replaces { Replaces MOST nodes.old nodes.new below number result (numbers nodes.old (suc below) number) }
+    ensures left_whole { length (items_of (get nodes.old number)) ≤ MOST → result ≡ None }
 {
     if item_count(nodes, number) <= MOST {
         return None;
@@ -66,7 +67,8 @@ pub fn insert_below(
     requires within { rank ≤ length (numbers nodes.old (suc below) number) }
     requires small { length (numbers nodes.old (suc below) number) + 1 < 2 ^ 64 }
     requires room { HasTreeRoom nodes.old (suc below) number 1 }
-    ensures { Replaces MOST nodes.old nodes.new below number result.split (insert (numbers nodes.old (suc below) number) rank item) }
+    ensures replaces { Replaces MOST nodes.old nodes.new below number result.split (insert (numbers nodes.old (suc below) number) rank item) }
+    ensures left_whole { length (items_of (get nodes.old number)) < MOST → result.split ≡ None }
 {
     if below == 0 {
         put_item(nodes, number, rank, item);

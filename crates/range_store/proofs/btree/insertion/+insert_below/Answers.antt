@@ -1,12 +1,13 @@
-use Rattle.std.proofs.Common.{◌≡◌, ℕ, suc, ◌+◌, ◌-◌, ◌<◌, ◌≤◌, length, get_or, arith, None, IsSome}
+use Rattle.std.proofs.Common.{◌≡◌, ℕ, suc, ◌+◌, ◌-◌, ◌<◌, ◌≤◌, length, get_or, ap, arith, None, IsSome}
 use Rattle.std.proofs.lemmas.List.Elements.{All-weaker}
 use Rattle.std.specs.List.{insert}
+use Rattle.std.proofs.lemmas.List.Edits.{length-insert}
 use Rattle.slab.specs.Slab.{get}
 use Rattle.range_store.specs.declared.btree.node.TheConstants.{MOST}
 use Rattle.range_store.specs.Nodes.{numbers, items_of, children_of, tops, ShapedBut, Replaces}
 use Rattle.range_store.proofs.Below.{sizes_many}
 use Rattle.range_store.proofs.Replace.{EnoughFor-any}
-use Rattle.range_store.proofs.Insert.{ready, finish, leaf_step, leaf_within, kids_many, kid_owned, kid_apart, kid_smaller, kid_room, kid_shaped, but_from_shaped, inner_grown}
+use Rattle.range_store.proofs.Insert.{ready, finish, length-attached, leaf_step, leaf_within, kids_many, kid_owned, kid_apart, kid_smaller, kid_room, kid_shaped, but_from_shaped, inner_grown}
 use Rattle.range_store.proofs.btree.insertion.+insert_below.Goals as goal
 use Rattle.range_store.proofs.btree.insertion.+insert_below.Goals.{After-put_item, After-insert_below-split, After-attach}
 
@@ -20,12 +21,12 @@ cut_overfull-split-requires t c =
     let step = leaf_step r s c.args.below c.args.number c.args.rank c.args.item c.if-below-eq0.true c.requires.shaped c.requires.within c.put_item.ensures.rewritten c.put_item.ensures.items c.put_item.ensures.children c.put_item.ensures.sizes c.put_item.ensures.count in
     ready r s c.args.below c.args.number c.args.rank c.args.item c.requires.shaped c.requires.owned c.requires.within c.requires.room step
 
-pub returns-then-below-eq0 : goal.returns-then-below-eq0
-returns-then-below-eq0 t c =
+pub returns-then-below-eq0-clause-replaces : goal.returns-then-below-eq0-clause-replaces
+returns-then-below-eq0-clause-replaces t c =
     let r = c.args.nodes.now in
     let s = c.put_item.new.nodes in
     let step = leaf_step r s c.args.below c.args.number c.args.rank c.args.item c.if-below-eq0.true c.requires.shaped c.requires.within c.put_item.ensures.rewritten c.put_item.ensures.items c.put_item.ensures.children c.put_item.ensures.sizes c.put_item.ensures.count in
-    finish r s c.cut_overfull-split.new.nodes c.args.below c.args.number c.cut_overfull-split.result _ c.requires.shaped.node.present step c.cut_overfull-split.ensures
+    finish r s c.cut_overfull-split.new.nodes c.args.below c.args.number c.cut_overfull-split.result _ c.requires.shaped.node.present step c.cut_overfull-split.ensures.replaces
 
 pub insert_below-split-requires : goal.insert_below-split-requires
 insert_below-split-requires t c =
@@ -63,7 +64,7 @@ kept t c =
     let s = c.args.nodes.now in
     let level : suc (c.args.below - 1) ≡ c.args.below = omega arith in
     let apart = kid_apart s c.args.below c.args.number c.descend-place.result.index (omega arith) c.requires.shaped c.requires.owned c.descend-place.ensures.index in
-    c.insert_below-split.ensures.outside c.args.number (rw (level, c.descend-place.ensures.child) apart) c.requires.shaped.node.present
+    c.insert_below-split.ensures.replaces.outside c.args.number (rw (level, c.descend-place.ensures.child) apart) c.requires.shaped.node.present
 
 pub attach-requires : goal.attach-requires
 attach-requires t c =
@@ -80,7 +81,7 @@ attach-requires t c =
       items_room = rw same (omega (arith, c.requires.shaped.node.fits));
       children = rw same many;
       sizes = rw same (sizes_many 1 MOST s c.args.below c.args.number (omega arith) c.requires.shaped);
-      stored = All-weaker (ShapedBut 1 MOST s' (c.args.below - 1)) (λ k. IsSome (get s' k)) (λ k h. h.node.present) (tops c.descend-place.result.child c.insert_below-split.result.split) (c.insert_below-split.ensures.shape 1 (omega arith) (EnoughFor-any 1 c.insert_below-split.result.split _ kid_enough));
+      stored = All-weaker (ShapedBut 1 MOST s' (c.args.below - 1)) (λ k. IsSome (get s' k)) (λ k h. h.node.present) (tops c.descend-place.result.child c.insert_below-split.result.split) (c.insert_below-split.ensures.replaces.shape 1 (omega arith) (EnoughFor-any 1 c.insert_below-split.result.split _ kid_enough));
       small = rw same (omega (arith, c.requires.shaped.node.counted, c.requires.small));
     }
 
@@ -89,12 +90,24 @@ step : (t : ℕ) (c : After-attach t) → get c.insert_below-split.new.nodes c.a
 step t c same =
     let s = c.args.nodes.now in
     let kid = c.descend-place.ensures.child in
-    inner_grown s c.insert_below-split.new.nodes c.attach.new.nodes c.args.below c.args.number c.descend-place.result.index c.descend-place.result.rest c.args.rank c.args.item c.insert_below-split.result.split (omega arith) c.requires.shaped c.requires.owned c.descend-place.ensures.index (rw kid at c.descend-place.ensures.rest) c.descend-place.ensures.rank (rw kid at c.insert_below-split.ensures) same c.attach.ensures.rewritten c.attach.ensures.items c.attach.ensures.children (rw kid at c.attach.ensures.sizes) c.attach.ensures.count
+    inner_grown s c.insert_below-split.new.nodes c.attach.new.nodes c.args.below c.args.number c.descend-place.result.index c.descend-place.result.rest c.args.rank c.args.item c.insert_below-split.result.split (omega arith) c.requires.shaped c.requires.owned c.descend-place.ensures.index (rw kid at c.descend-place.ensures.rest) c.descend-place.ensures.rank (rw kid at c.insert_below-split.ensures.replaces) same c.attach.ensures.rewritten c.attach.ensures.items c.attach.ensures.children (rw kid at c.attach.ensures.sizes) c.attach.ensures.count
 
 pub cut_overfull-cut-requires : goal.cut_overfull-cut-requires
 cut_overfull-cut-requires t c =
     ready c.args.nodes.now c.attach.new.nodes c.args.below c.args.number c.args.rank c.args.item c.requires.shaped c.requires.owned c.requires.within c.requires.room (step t (goal.at.cut_overfull-cut-requires t c).After-attach (kept t (goal.at.cut_overfull-cut-requires t c).After-insert_below-split))
 
-pub returns : goal.returns
-returns t c =
-    finish c.args.nodes.now c.attach.new.nodes c.cut_overfull-cut.new.nodes c.args.below c.args.number c.cut_overfull-cut.result _ c.requires.shaped.node.present (step t (goal.at.returns t c).After-attach (kept t (goal.at.returns t c).After-insert_below-split)) c.cut_overfull-cut.ensures
+pub returns-clause-replaces : goal.returns-clause-replaces
+returns-clause-replaces t c =
+    finish c.args.nodes.now c.attach.new.nodes c.cut_overfull-cut.new.nodes c.args.below c.args.number c.cut_overfull-cut.result _ c.requires.shaped.node.present (step t (goal.at.returns-clause-replaces t c).After-attach (kept t (goal.at.returns-clause-replaces t c).After-insert_below-split)) c.cut_overfull-cut.ensures.replaces
+
+pub returns-then-below-eq0-clause-left_whole : goal.returns-then-below-eq0-clause-left_whole
+returns-then-below-eq0-clause-left_whole t c spare =
+    let r = c.args.nodes.now in
+    let within = leaf_within r c.args.below c.args.number c.args.rank c.if-below-eq0.true c.requires.shaped c.requires.within in
+    c.cut_overfull-split.ensures.left_whole (omega (arith, spare, ap length c.put_item.ensures.items, length-insert (items_of (get r c.args.number)) c.args.rank c.args.item within))
+
+pub returns-clause-left_whole : goal.returns-clause-left_whole
+returns-clause-left_whole t c spare =
+    let same = ap (λ node. length (items_of node)) (kept t (goal.at.returns-clause-left_whole t c).After-insert_below-split) in
+    let more = length-attached (items_of (get c.insert_below-split.new.nodes c.args.number)) c.descend-place.result.index c.insert_below-split.result.split in
+    c.cut_overfull-cut.ensures.left_whole (omega (arith, spare, same, more, ap length c.attach.ensures.items))

@@ -24,11 +24,11 @@ overflow_add-result c = omega (arith, levels_le c.args.nodes.now c.args.levels c
 
 pub store_root-number-requires-clause-stored : goal.store_root-number-requires-clause-stored
 store_root-number-requires-clause-stored c =
-    halves_present c.args.nodes.now c.insert_below-split.new.nodes (c.args.levels - 1) c.args.root c.in-Some.split _ (rw c.in-Some.is at c.insert_below-split.ensures)
+    halves_present c.args.nodes.now c.insert_below-split.new.nodes (c.args.levels - 1) c.args.root c.in-Some.split _ (rw c.in-Some.is at c.insert_below-split.ensures.replaces)
 
 pub store_root-number-requires-clause-room : goal.store_root-number-requires-clause-room
 store_root-number-requires-clause-room c =
-    taller_room c.args.nodes.now c.insert_below-split.new.nodes c.args.levels c.args.root c.args.rank c.args.item c.in-Some.split (omega arith) c.requires.within c.requires.room c.requires.tree (rw c.in-Some.is at c.insert_below-split.ensures)
+    taller_room c.args.nodes.now c.insert_below-split.new.nodes c.args.levels c.args.root c.args.rank c.args.item c.in-Some.split (omega arith) c.requires.within c.requires.room c.requires.tree (rw c.in-Some.is at c.insert_below-split.ensures.replaces)
 
 counted : (c : After-store_root-number) → c.count-many.result + 1 ≡ length (insert (numbers c.args.nodes.now (suc (c.args.levels - 1)) c.args.root) c.args.rank c.args.item)
 counted c =
@@ -37,10 +37,10 @@ counted c =
 
 pub returns-in-Some-clause-tree : goal.returns-in-Some-clause-tree
 returns-in-Some-clause-tree c =
-    (taller_step c.args.nodes.now c.insert_below-split.new.nodes c.store_root-number.new.nodes c.args.levels c.args.root c.store_root-number.result (c.count-many.result + 1) c.in-Some.split _ (omega arith) c.requires.tree (rw c.in-Some.is at c.insert_below-split.ensures) c.store_root-number.ensures (counted (goal.at.returns-in-Some-clause-tree c).After-store_root-number)).0
+    (taller_step c.args.nodes.now c.insert_below-split.new.nodes c.store_root-number.new.nodes c.args.levels c.args.root c.store_root-number.result (c.count-many.result + 1) c.in-Some.split _ (omega arith) c.requires.tree (rw c.in-Some.is at c.insert_below-split.ensures.replaces) c.store_root-number.ensures (counted (goal.at.returns-in-Some-clause-tree c).After-store_root-number)).0
 
 pub returns-in-Some-clause-numbers : goal.returns-in-Some-clause-numbers
 returns-in-Some-clause-numbers c =
     let level : suc (c.args.levels - 1) ≡ c.args.levels = omega arith in
-    (taller_step c.args.nodes.now c.insert_below-split.new.nodes c.store_root-number.new.nodes c.args.levels c.args.root c.store_root-number.result (c.count-many.result + 1) c.in-Some.split _ (omega arith) c.requires.tree (rw c.in-Some.is at c.insert_below-split.ensures) c.store_root-number.ensures (counted (goal.at.returns-in-Some-clause-numbers c).After-store_root-number)).1
+    (taller_step c.args.nodes.now c.insert_below-split.new.nodes c.store_root-number.new.nodes c.args.levels c.args.root c.store_root-number.result (c.count-many.result + 1) c.in-Some.split _ (omega arith) c.requires.tree (rw c.in-Some.is at c.insert_below-split.ensures.replaces) c.store_root-number.ensures (counted (goal.at.returns-in-Some-clause-numbers c).After-store_root-number)).1
     ∙ ap (λ m. insert (numbers c.args.nodes.now m c.args.root) c.args.rank c.args.item) level
