@@ -136,13 +136,12 @@ halved_steps p xs low high first now h some done = record {
     begun_steps (inl asked) = asked
     begun_steps (inr none) = absurd (omega arith)
 
--- the steps of a search in a node, and of the later search in a child
-pub steps_then : (first second third below : ℕ) → AddsSteps first second 1 HALVINGS → AddsSteps second third below (HALVINGS * below) → AddsSteps first third (suc below) (HALVINGS * suc below)
-steps_then first second third below here later = record {
-  at_most = omega (arith, here.at_most, later.at_most);
-  at_least = omega (arith, here.at_least, later.at_least);
+-- the steps of a search in so many nodes, and in one more
+pub steps_more : (first second third many : ℕ) → AddsSteps first second many (HALVINGS * many) → AddsSteps second third 1 HALVINGS → AddsSteps first third (many + 1) (HALVINGS * (many + 1))
+steps_more first second third many earlier here = record {
+  at_most = omega (arith, here.at_most, earlier.at_most);
+  at_least = omega (arith, here.at_least, earlier.at_least);
 }
 
--- the steps of a search in a leaf
-pub steps_leaf : (first second below : ℕ) → below ≡ 0 → AddsSteps first second 1 HALVINGS → AddsSteps first second (suc below) (HALVINGS * suc below)
-steps_leaf first second below leaf here = rw leaf (record { at_most = omega (arith, here.at_most); at_least = here.at_least })
+pub no_steps : (first : ℕ) → AddsSteps first first 0 (HALVINGS * 0)
+no_steps first = record { at_most = omega arith; at_least = omega arith }

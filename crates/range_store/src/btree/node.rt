@@ -100,16 +100,6 @@ pub fn size_from(nodes: &Slab<Node>, number: usize, from: usize) -> usize
     total(sizes.as_slice())
 }
 
-// How many items stand below the children before `end` together.
-pub fn size_before(nodes: &Slab<Node>, number: usize, end: usize) -> usize
-    requires present { ContainsKey nodes.now number }
-    requires within { end ≤ length (sizes_of (get nodes.now number)) }
-    requires small { sum (sizes_of (get nodes.now number)) < 2 ^ 64 }
-    ensures { result ≡ sum (take end (sizes_of (get nodes.now number))) }
-{
-    total(&nodes[number].sizes.as_slice()[..end])
-}
-
 // The sum of these numbers.
 pub fn total(sizes: &[usize]) -> usize
     requires { sum sizes.now < 2 ^ 64 }

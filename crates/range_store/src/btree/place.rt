@@ -92,19 +92,6 @@ pub fn found_or_behind(
     }
 }
 
-// The last item of a node before a place, if there is one.
-pub fn last_before(nodes: &Slab<Node>, node: usize, place: usize) -> Option<Found>
-    requires present { ContainsKey nodes.now node }
-    requires within { place ≤ length (items_of (get nodes.now node)) }
-    ensures { IsLast (items_of (get nodes.now node)) place result }
-{
-    if place == 0 {
-        None
-    } else {
-        Some(found_at(nodes, node, place - 1))
-    }
-}
-
 // The number at a rank below a node.
 pub fn find_below(nodes: &Slab<Node>, below: usize, number: usize, rank: usize) -> Found
     requires shaped { ShapedBut 1 MOST nodes.now below number }
