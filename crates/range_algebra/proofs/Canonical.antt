@@ -10,42 +10,19 @@ use Rattle.range_keys.specs.PositionOrder.{position_total}
 use Rattle.range_keys.specs.declared.inner.position.Position.{Position}
 use Rattle.range_keys.specs.declared.inner.position.Position.TheVariants.{MinusInfinity, Beside, PlusInfinity}
 use Rattle.range_keys.specs.declared.inner.position.Side.TheVariants.{Before, At, After}
+use Rattle.range_keys.proofs.Orderings.{both_equal, equal_then_any, less_then_any, less_unless_equal, not_greater, less_unless_greater, less_then_greater}
+use Rattle.range_keys.proofs.BoundPositions.{IsStart, IsEnd, starts_lie_at_starts, ends_lie_at_ends}
+use Rattle.range_algebra.specs.Orders.{lt_not_le}
 use Rattle.range_algebra.specs.Range.{Holds, HoldSame, IsEmptyRange, IsKnownRange}
 use Rattle.range_algebra.specs.declared.any.AnyRange.{AnyRange}
 use Rattle.range_algebra.specs.RangeOrder.{range_cmp, range_total}
 use Rattle.range_algebra.proofs.Holding.{holds_by_position}
-use Rattle.range_algebra.proofs.Completeness.{IsStart, IsEnd, start_is, end_is, nonempty_holds, less_past, told_none, some_none}
-
-then_less : (o : Ordering) → ordering_then o Greater ≡ Less → o ≡ Less
-then_less Less h = refl
-then_less Equal h = cc
-then_less Greater h = cc
-
-then_same : (o : Ordering) → ordering_then o Equal ≡ Less → o ≡ Less
-then_same Less h = refl
-then_same Equal h = cc
-then_same Greater h = cc
-
-not_greater : (o : Ordering) → (o ≡ Greater → ⊥) → is_gt o ≡ false
-not_greater Less h = refl
-not_greater Equal h = refl
-not_greater Greater h = absurd (h refl)
-
-less_then : (o p : Ordering) → o ≡ Less → ordering_then o p ≡ Less
-less_then o p e = rw e refl
+use Rattle.range_algebra.proofs.Completeness.{nonempty_holds, told_none, none_is_not_some}
 
 near : (o : Ordering) → ordering_then o Less ≡ Less → is_gt (ordering_then o Equal) ≡ false
 near Less h = refl
 near Equal h = refl
 near Greater h = cc
-
-equal_then : (o p : Ordering) → o ≡ Equal → ordering_then o p ≡ p
-equal_then o p e = rw e refl
-
-not_less : (o : Ordering) → is_gt o ≡ false → ordering_reverse o ≡ Less → ⊥
-not_less Less h e = cc
-not_less Equal h e = cc
-not_less Greater h e = cc
 
 module _ {K : Type 0} (order : KeyOrder K) (lawful : IsLawful order) (complete : IsComplete order) where
   unfoldable pub NotPast : Position K → Position K → Type 0
@@ -61,24 +38,24 @@ module _ {K : Type 0} (order : KeyOrder K) (lawful : IsLawful order) (complete :
   from_between : (a b : K) → Tells order (order.succ a) b ⊎ ((c : K) × order.is_key c × Below order a c × Below order c b) → order.succ a ≡ None → KeyFrom (Beside a After) (Beside b At)
   unfolding KeyFrom NotPast IsBefore
   from_between a b (inl t) e = absurd (told_none order lawful complete a b e t)
-  from_between a b (inr (c, key, l, u)) e = (c, key, less_past order lawful complete (order.cmp a c) l, less_then (order.cmp c b) Equal u)
+  from_between a b (inr (c, key, l, u)) e = (c, key, less_then_greater (order.cmp a c) l, less_then_any (order.cmp c b) Equal u)
 
   from_under : (b : K) → IsSome order.least ⊎ ((c : K) × order.is_key c × Below order c b) → order.least ≡ None → KeyFrom MinusInfinity (Beside b At)
   unfolding KeyFrom NotPast IsBefore
-  from_under b (inl t) e = absurd (some_none order lawful complete order.least e t)
-  from_under b (inr (c, key, l)) e = (c, key, refl, less_then (order.cmp c b) Equal l)
+  from_under b (inl t) e = absurd (none_is_not_some order.least e t)
+  from_under b (inr (c, key, l)) e = (c, key, refl, less_then_any (order.cmp c b) Equal l)
 
   just_at : (b : K) → IsBefore (Beside b At) (Beside b After)
   unfolding IsBefore
-  just_at b = equal_then (order.cmp b b) Less (tied_itself lawful.total b)
+  just_at b = equal_then_any (order.cmp b b) Less (tied_itself lawful.total b)
 
-  pub key_from : (p q : Position K) → IsStart order lawful complete p → IsStart order lawful complete q → IsBefore p q → KeyFrom p q
+  pub key_from : (p q : Position K) → IsStart order p → IsStart order q → IsBefore p q → KeyFrom p q
   unfolding IsStart KeyFrom NotPast IsBefore
   key_from (Beside a At) (Beside b At) s t h = (a, s, ap is_gt (tied_itself (position_total order.cmp lawful.total) (Beside a At)), h)
-  key_from (Beside a After) (Beside b At) s t h = from_between a b (complete.next a b s.0 t (then_less (order.cmp a b) h)) s.1
+  key_from (Beside a After) (Beside b At) s t h = from_between a b (complete.next a b s.0 t ((less_unless_greater (order.cmp a b)).0 h)) s.1
   key_from MinusInfinity (Beside b At) s t h = from_under b (complete.below b t) s
   key_from (Beside a At) (Beside b After) s t h = (b, t.0, near (order.cmp a b) h, just_at b)
-  key_from (Beside a After) (Beside b After) s t h = (b, t.0, less_past order lawful complete (order.cmp a b) (then_same (order.cmp a b) h), just_at b)
+  key_from (Beside a After) (Beside b After) s t h = (b, t.0, less_then_greater (order.cmp a b) (less_unless_equal (order.cmp a b) h), just_at b)
   key_from MinusInfinity (Beside b After) s t h = (b, t.0, refl, just_at b)
   key_from MinusInfinity MinusInfinity s t h = cc
   key_from (Beside a x) MinusInfinity s t h = cc
@@ -104,28 +81,28 @@ module _ {K : Type 0} (order : KeyOrder K) (lawful : IsLawful order) (complete :
   to_between : (a b : K) → order.is_key b → Tells order (order.succ a) b ⊎ ((c : K) × order.is_key c × Below order a c × Below order c b) → order.pred b ≡ None → KeyTo (Beside a At) (Beside b Before)
   unfolding KeyTo NotPast IsBefore
   to_between a b key (inl t) e = absurd (no_pred a b (order.succ a) refl key t e)
-  to_between a b key (inr (c, in_type, l, u)) e = (c, in_type, less_then (order.cmp a c) Equal l, less_past order lawful complete (order.cmp c b) u)
+  to_between a b key (inr (c, in_type, l, u)) e = (c, in_type, less_then_any (order.cmp a c) Equal l, less_then_greater (order.cmp c b) u)
 
   to_past : (a : K) → IsSome order.greatest ⊎ ((c : K) × order.is_key c × Below order a c) → order.greatest ≡ None → KeyTo (Beside a At) PlusInfinity
   unfolding KeyTo NotPast IsBefore
-  to_past a (inl t) e = absurd (some_none order lawful complete order.greatest e t)
-  to_past a (inr (c, key, l)) e = (c, key, less_then (order.cmp a c) Equal l, refl)
+  to_past a (inl t) e = absurd (none_is_not_some order.greatest e t)
+  to_past a (inr (c, key, l)) e = (c, key, less_then_any (order.cmp a c) Equal l, refl)
 
   just_before : (a : K) → IsBefore (Beside a Before) (Beside a At)
   unfolding IsBefore
-  just_before a = equal_then (order.cmp a a) Less (tied_itself lawful.total a)
+  just_before a = equal_then_any (order.cmp a a) Less (tied_itself lawful.total a)
 
   at_itself : (k : K) → NotPast (Beside k At) (Beside k At)
   unfolding NotPast
   at_itself k = ap is_gt (tied_itself (position_total order.cmp lawful.total) (Beside k At))
 
-  key_to : (p q : Position K) → IsEnd order lawful complete p → IsEnd order lawful complete q → IsBefore p q → KeyTo p q
+  key_to : (p q : Position K) → IsEnd order p → IsEnd order q → IsBefore p q → KeyTo p q
   unfolding IsEnd KeyTo NotPast IsBefore
   key_to (Beside a At) (Beside b At) s t h = (b, t, h, at_itself b)
-  key_to (Beside a At) (Beside b Before) s t h = to_between a b t.0 (complete.next a b s t.0 (then_less (order.cmp a b) h)) t.1
+  key_to (Beside a At) (Beside b Before) s t h = to_between a b t.0 (complete.next a b s t.0 ((less_unless_greater (order.cmp a b)).0 h)) t.1
   key_to (Beside a At) PlusInfinity s t h = to_past a (complete.above a s) t
   key_to (Beside a Before) (Beside b At) s t h = (a, s.0, just_before a, near (order.cmp a b) h)
-  key_to (Beside a Before) (Beside b Before) s t h = (a, s.0, just_before a, less_past order lawful complete (order.cmp a b) (then_same (order.cmp a b) h))
+  key_to (Beside a Before) (Beside b Before) s t h = (a, s.0, just_before a, less_then_greater (order.cmp a b) (less_unless_equal (order.cmp a b) h))
   key_to (Beside a Before) PlusInfinity s t h = (a, s.0, just_before a, refl)
   key_to PlusInfinity (Beside b x) s t h = cc
   key_to PlusInfinity PlusInfinity s t h = cc
@@ -146,7 +123,7 @@ module _ {K : Type 0} (order : KeyOrder K) (lawful : IsLawful order) (complete :
 
   not_both : (p q : Position K) → IsBefore p q → NotPast q p → ⊥
   unfolding IsBefore NotPast
-  not_both p q h k = not_less (position_cmp order.cmp q p) k (sym ((position_total order.cmp lawful.total).antisymm p q) ∙ h)
+  not_both p q h k = lt_not_le (position_cmp order.cmp) (position_total order.cmp lawful.total) p q h k
 
   NonEmpty : AnyRange K → Type 0
   NonEmpty r = NotPast (start_position order r.start) (end_position order r.end)
@@ -156,7 +133,7 @@ module _ {K : Type 0} (order : KeyOrder K) (lawful : IsLawful order) (complete :
     start_not_before : IsBefore (start_position order r.start) (start_position order s.start) → ⊥
     unfolding NonEmpty NotPast IsBefore KeyFrom
     start_not_before h =
-        let found = key_from (start_position order r.start) (start_position order s.start) (start_is order lawful complete r.start known.0) (start_is order lawful complete s.start others.0) h in
+        let found = key_from (start_position order r.start) (start_position order s.start) (starts_lie_at_starts order lawful r.start known.0) (starts_lie_at_starts order lawful s.start others.0) h in
         let member = nonempty_holds order lawful complete s others full in
         let inside = (holds_by_position order lawful s member.0 member.1).0 member.2 in
         let shared = (holds_by_position order lawful r member.0 member.1).0 ((same member.0 member.1).1 member.2) in
@@ -170,7 +147,7 @@ module _ {K : Type 0} (order : KeyOrder K) (lawful : IsLawful order) (complete :
     end_not_before : IsBefore (end_position order s.end) (end_position order r.end) → ⊥
     unfolding NonEmpty NotPast IsBefore KeyTo
     end_not_before h =
-        let found = key_to (end_position order s.end) (end_position order r.end) (end_is order lawful complete s.end others.1) (end_is order lawful complete r.end known.1) h in
+        let found = key_to (end_position order s.end) (end_position order r.end) (ends_lie_at_ends order lawful s.end others.1) (ends_lie_at_ends order lawful r.end known.1) h in
         let member = nonempty_holds order lawful complete s others full in
         let inside = (holds_by_position order lawful s member.0 member.1).0 member.2 in
         let shared = (holds_by_position order lawful r member.0 member.1).0 ((same member.0 member.1).1 member.2) in
@@ -199,14 +176,9 @@ module _ {K : Type 0} (order : KeyOrder K) (lawful : IsLawful order) (complete :
 
 -- equal ranges hold the same keys
 module _ {K : Type 0} (order : KeyOrder K) (lawful : IsLawful order) where
-  both_level : (o p : Ordering) → ordering_then o p ≡ Equal → (o ≡ Equal) × (p ≡ Equal)
-  both_level Less p h = cc
-  both_level Equal p h = (refl, h)
-  both_level Greater p h = cc
-
   carried : (r s : AnyRange K) → range_cmp order r s ≡ Equal → (k : K) → order.is_key k → Holds order r k → Holds order s k
   carried r s e k key h =
-      let both = both_level (position_cmp order.cmp (start_position order r.start) (start_position order s.start)) (position_cmp order.cmp (end_position order r.end) (end_position order s.end)) e in
+      let both = both_equal (position_cmp order.cmp (start_position order r.start) (start_position order s.start)) (position_cmp order.cmp (end_position order r.end) (end_position order s.end)) e in
       let within = (holds_by_position order lawful r k key).0 h in
       let total = position_total order.cmp lawful.total in
       let starts = total.congr (start_position order r.start) (start_position order s.start) (Beside k At) both.0 in

@@ -12,26 +12,14 @@ use Rattle.range_keys.specs.PositionOrder.{position_total}
 use Rattle.range_keys.specs.declared.inner.position.Position.{Position}
 use Rattle.range_keys.specs.declared.inner.position.Position.TheVariants.{Beside}
 use Rattle.range_keys.specs.declared.inner.position.Side.TheVariants.{At}
+use Rattle.range_keys.proofs.Orderings.{not_greater, not_greater_unless_equal}
+use Rattle.range_algebra.proofs.Completeness.{none_is_not_some}
 use Rattle.range_algebra.specs.Intervals.{Le}
 use Rattle.range_algebra.specs.Orders.{le_refl, le_trans, lt_not_le, lt_le, lt_trans, le_lt_trans}
 use Rattle.range_algebra.specs.Range.{StartHolds, EndHolds, Holds, IsEmptyRange, IsKnownBound, IsKnownRange, start_key, end_key}
 use Rattle.range_algebra.specs.Extremes.{IsLeastOf, IsGreatestOf, HasNoLeast, HasNoGreatest}
 use Rattle.range_algebra.specs.declared.any.AnyRange.{AnyRange}
 use Rattle.range_algebra.proofs.Holding.{holds_by_position, empty_is_keyless}
-
-not_greater : (o : Ordering) → (o ≡ Greater → ⊥) → is_gt o ≡ false
-not_greater Less h = refl
-not_greater Equal h = refl
-not_greater Greater h = absurd (h refl)
-
-then_equal : (o : Ordering) → is_gt (ordering_then o Equal) ≡ false → is_gt o ≡ false
-then_equal Less h = h
-then_equal Equal h = h
-then_equal Greater h = h
-
-some_none : {K : Type 0} (o : Option K) → o ≡ None → IsSome o → ⊥
-some_none None e h = cc
-some_none (Some x) e h = cc
 
 module _ {K : Type 0} (order : KeyOrder K) (lawful : IsLawful order) where
   PLe : Position K → Position K → Type 0
@@ -77,7 +65,7 @@ module _ {K : Type 0} (order : KeyOrder K) (lawful : IsLawful order) where
           λ j key h.
               let low : PLe (start_position order r.start) (Beside j At) = ((holds_by_position order lawful r j key).0 h).0 in
               let near : PLe (Beside m At) (Beside j At) = subst (λ p. PLe p (Beside j At)) named.0 low in
-              ap is_gt (sym (lawful.total.congr m k j same)) ∙ then_equal (order.cmp m j) near,
+              ap is_gt (sym (lawful.total.congr m k j same)) ∙ not_greater_unless_equal (order.cmp m j) near,
         )
 
     greatest_at : (m k : K) → end_key order r.end ≡ Some m → order.cmp m k ≡ Equal → IsGreatestOf order r k
@@ -91,7 +79,7 @@ module _ {K : Type 0} (order : KeyOrder K) (lawful : IsLawful order) where
           λ j key h.
               let up : PLe (Beside j At) (end_position order r.end) = ((holds_by_position order lawful r j key).0 h).1 in
               let near : PLe (Beside j At) (Beside m At) = subst (λ p. PLe (Beside j At) p) named.0 up in
-              ap is_gt (sym (alike_right lawful.total m k j same)) ∙ then_equal (order.cmp j m) near,
+              ap is_gt (sym (alike_right lawful.total m k j same)) ∙ not_greater_unless_equal (order.cmp j m) near,
         )
 
     least_by : (o p : Option K) → start_key order r.start ≡ o → SameAnswer order o p → IfSome p (IsLeastOf order r)
@@ -147,7 +135,7 @@ module _ {K : Type 0} (order : KeyOrder K) (lawful : IsLawful order) where
       | inr (c, in_type, l, u) ↦ lt_not_le order.cmp lawful.total c k u (all c in_type (l, end_down e c k u g))
     ]
     no_least_by Unbounded e known n k key h g all = elim (complete.below k key) [
-      | inl t ↦ some_none order.least n t
+      | inl t ↦ none_is_not_some order.least n t
       | inr (c, in_type, l) ↦ lt_not_le order.cmp lawful.total c k l (all c in_type (tt, end_down e c k l g))
     ]
 
@@ -163,7 +151,7 @@ module _ {K : Type 0} (order : KeyOrder K) (lawful : IsLawful order) where
       | inr (c, in_type, l, u) ↦ lt_not_le order.cmp lawful.total k c l (all c in_type (start_up s k c l g, u))
     ]
     no_greatest_by s Unbounded known n k key g h all = elim (complete.above k key) [
-      | inl t ↦ some_none order.greatest n t
+      | inl t ↦ none_is_not_some order.greatest n t
       | inr (c, in_type, l) ↦ lt_not_le order.cmp lawful.total k c l (all c in_type (start_up s k c l g, tt))
     ]
 

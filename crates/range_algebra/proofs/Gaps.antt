@@ -9,27 +9,13 @@ use Rattle.range_keys.specs.declared.inner.position.Position.{Position}
 use Rattle.range_keys.specs.declared.inner.position.Position.TheVariants.{MinusInfinity, Beside, PlusInfinity}
 use Rattle.range_keys.specs.declared.inner.position.Side.{Side}
 use Rattle.range_keys.specs.declared.inner.position.Side.TheVariants.{Before, At, After}
+use Rattle.range_keys.proofs.Orderings.{less_or_equal, not_greater_unless_equal, not_greater_unless_greater}
 use Rattle.range_algebra.specs.Intervals.{Le}
-
-not_greater_same : (o : Ordering) → is_gt (ordering_then o Equal) ≡ false → is_gt o ≡ false
-not_greater_same Less h = h
-not_greater_same Equal h = h
-not_greater_same Greater h = h
 
 not_greater_less : (o : Ordering) → is_gt (ordering_then o Less) ≡ false → is_gt o ≡ false
 not_greater_less Less h = refl
 not_greater_less Equal h = refl
 not_greater_less Greater h = h
-
-less_greater : (o : Ordering) → is_gt (ordering_then o Greater) ≡ false → o ≡ Less
-less_greater Less h = refl
-less_greater Equal h = cc
-less_greater Greater h = cc
-
-less_or_equal : (o : Ordering) → is_gt o ≡ false → (o ≡ Less) ⊎ (o ≡ Equal)
-less_or_equal Less h = inl refl
-less_or_equal Equal h = inr refl
-less_or_equal Greater h = cc
 
 module _ {K : Type 0} (order : KeyOrder K) (lawful : IsLawful order) (len : K → ℕ) (distance : K → K → ℕ) (measured : IsMeasure order len distance) where
   PLe : Position K → Position K → Type 0
@@ -68,13 +54,13 @@ module _ {K : Type 0} (order : KeyOrder K) (lawful : IsLawful order) (len : K �
   covered a b Before t p q h = absurd p
   covered a b At Before p q h = absurd q
   covered a b After Before p q h = absurd q
-  covered a b At At p q h = (not_greater_same (order.cmp a b) h, omega arith)
+  covered a b At At p q h = (not_greater_unless_equal (order.cmp a b) h, omega arith)
   covered a b At After p q h = (not_greater_less (order.cmp a b) h, omega arith)
   covered a b After At p q h =
-      let l : Below order a b = less_greater (order.cmp a b) h in
+      let l : Below order a b = (not_greater_unless_greater (order.cmp a b)).0 h in
       (ap is_gt l, let m = measured.at_least a b p q l in omega arith)
   covered a b After After p q h =
-      let l : NotAbove order a b = not_greater_same (order.cmp a b) h in
+      let l : NotAbove order a b = not_greater_unless_equal (order.cmp a b) h in
       (l, apart_by a b p q (less_or_equal (order.cmp a b) l))
 
   key_of : (a : K) (s : Side) → IsPlace (Beside a s) → order.is_key a

@@ -13,17 +13,9 @@ use Rattle.range_keys.specs.PositionOrder.{position_total}
 use Rattle.range_algebra.specs.Range.{StartHolds, EndHolds, Holds, IsKeyless, IsEmptyRange, LiesWithin}
 use Rattle.range_keys.specs.declared.inner.position.Position.TheVariants.{MinusInfinity, Beside, PlusInfinity}
 use Rattle.range_keys.specs.declared.inner.position.Side.TheVariants.{Before, At, After}
+use Rattle.range_keys.proofs.Orderings.{any_then_equal, not_greater_unless_greater}
+use Rattle.range_algebra.specs.Orders.{lt_not_le}
 use Rattle.range_algebra.specs.declared.any.AnyRange.{AnyRange}
-
-then_equal : (o : Ordering) → ordering_then o Equal ≡ o
-then_equal Less = refl
-then_equal Equal = refl
-then_equal Greater = refl
-
-then_greater : (o : Ordering) → o ≡ Less ↔ is_gt (ordering_then o Greater) ≡ false
-then_greater Less = (λ _. refl, λ _. refl)
-then_greater Equal = (λ e. cc, λ e. cc)
-then_greater Greater = (λ e. cc, λ e. cc)
 
 module _ {K : Type 0} (order : KeyOrder K) (lawful : IsLawful order) where
   below_up_by : (a b c : K) (o : Ordering) → order.cmp b c ≡ o → Below order a b → is_gt o ≡ false → Below order a c
@@ -44,22 +36,16 @@ module _ {K : Type 0} (order : KeyOrder K) (lawful : IsLawful order) where
   pub up_below : (a b c : K) → NotAbove order a b → Below order b c → Below order a c
   up_below a b c h l = up_below_by a b c (order.cmp a b) refl h l
 
-  irreflexive : (a b : K) → Below order a b → NotAbove order b a → ⊥
-  irreflexive a b l h =
-      let e : order.cmp a a ≡ Less = below_up a b a l h in
-      let f : order.cmp a a ≡ Equal = tied_itself lawful.total a in
-      cc
-
   start_told : (a k : K) (o : Option K) → order.succ a ≡ o → order.is_key k → StartHolds order (Excluded a) k ↔ is_gt (position_cmp order.cmp (at_told o (Beside a After)) (Beside k At)) ≡ false
-  start_told a k None e key = then_greater (order.cmp a k)
-  start_told a k (Some b) e key = rw (then_equal (order.cmp b k)) (lawful.none_between a b k e key, λ h. below_up a b k (lawful.succ_above a b e) h)
+  start_told a k None e key = let told = not_greater_unless_greater (order.cmp a k) in (told.1, told.0)
+  start_told a k (Some b) e key = rw (any_then_equal (order.cmp b k)) (lawful.none_between a b k e key, λ h. below_up a b k (lawful.succ_above a b e) h)
 
   least_told : (k : K) (o : Option K) → order.least ≡ o → order.is_key k → is_gt (position_cmp order.cmp (at_told o MinusInfinity) (Beside k At)) ≡ false
   least_told k None e key = refl
-  least_told k (Some m) e key = rw (then_equal (order.cmp m k)) (lawful.least_bound m k e key)
+  least_told k (Some m) e key = rw (any_then_equal (order.cmp m k)) (lawful.least_bound m k e key)
 
   pub start_holds : (b : Bound K) (k : K) → order.is_key k → StartHolds order b k ↔ is_gt (position_cmp order.cmp (start_position order b) (Beside k At)) ≡ false
-  start_holds (Included a) k key = rw (then_equal (order.cmp a k)) (λ h. h, λ h. h)
+  start_holds (Included a) k key = rw (any_then_equal (order.cmp a k)) (λ h. h, λ h. h)
   start_holds (Excluded a) k key = start_told a k (order.succ a) refl key
   start_holds Unbounded k key = (λ _. least_told k order.least refl key, λ _. tt)
 
@@ -78,22 +64,22 @@ module _ {K : Type 0} (order : KeyOrder K) (lawful : IsLawful order) where
       let above : Below order a k = lawful.total.antisymm a k ∙ ap ordering_reverse f in
       let past : is_gt (order.cmp c k) ≡ false = lawful.none_between a c k e key above in
       let back : is_gt (order.cmp b k) ≡ false = sym (ap is_gt (lawful.total.congr c b k t)) ∙ past in
-      absurd (irreflexive k b h back)
+      absurd (lt_not_le order.cmp lawful.total k b h back)
 
   -- no key lies between a told neighbour and the key that it is told for
   pub not_after : (a b k : K) → order.pred b ≡ Some a → order.is_key k → Below order k b → NotAbove order k a
   not_after a b k e key h = not_after_by a b k (order.succ a) refl (lawful.pred_succ a b e) key h (order.cmp k a) refl
 
   end_told : (b k : K) (o : Option K) → order.pred b ≡ o → order.is_key k → EndHolds order (Excluded b) k ↔ is_gt (position_cmp order.cmp (Beside k At) (at_told o (Beside b Before))) ≡ false
-  end_told b k None e key = then_greater (order.cmp k b)
-  end_told b k (Some a) e key = rw (then_equal (order.cmp k a)) (λ h. not_after a b k e key h, λ h. up_below k a b h (pred_below a b e))
+  end_told b k None e key = let told = not_greater_unless_greater (order.cmp k b) in (told.1, told.0)
+  end_told b k (Some a) e key = rw (any_then_equal (order.cmp k a)) (λ h. not_after a b k e key h, λ h. up_below k a b h (pred_below a b e))
 
   greatest_told : (k : K) (o : Option K) → order.greatest ≡ o → order.is_key k → is_gt (position_cmp order.cmp (Beside k At) (at_told o PlusInfinity)) ≡ false
   greatest_told k None e key = refl
-  greatest_told k (Some m) e key = rw (then_equal (order.cmp k m)) (lawful.greatest_bound m k e key)
+  greatest_told k (Some m) e key = rw (any_then_equal (order.cmp k m)) (lawful.greatest_bound m k e key)
 
   pub end_holds : (b : Bound K) (k : K) → order.is_key k → EndHolds order b k ↔ is_gt (position_cmp order.cmp (Beside k At) (end_position order b)) ≡ false
-  end_holds (Included b) k key = rw (then_equal (order.cmp k b)) (λ h. h, λ h. h)
+  end_holds (Included b) k key = rw (any_then_equal (order.cmp k b)) (λ h. h, λ h. h)
   end_holds (Excluded b) k key = end_told b k (order.pred b) refl key
   end_holds Unbounded k key = (λ _. greatest_told k order.greatest refl key, λ _. tt)
 

@@ -12,6 +12,9 @@ use Rattle.range_keys.specs.PositionOrder.{position_total}
 use Rattle.range_keys.specs.declared.inner.position.Position.{Position}
 use Rattle.range_keys.specs.declared.inner.position.Position.TheVariants.{Beside}
 use Rattle.range_keys.specs.declared.inner.position.Side.TheVariants.{At}
+use Rattle.range_keys.proofs.Orderings.{both_equal, not_not_less}
+use Rattle.range_algebra.specs.Orders.{le_refl, lt_not_le, lt_of}
+use Rattle.range_algebra.proofs.Pieces.{start_up, end_down}
 use Rattle.range_algebra.specs.Range.{StartHolds, EndHolds, Holds, IsKnownBound, IsKnownRange, IsEmptyRange}
 use Rattle.range_algebra.specs.declared.any.AnyRange.{AnyRange}
 use Rattle.range_algebra.specs.declared.ordering.RangeOrdering.TheVariants.{Before, Intersecting, After}
@@ -33,11 +36,6 @@ read_before true false C T U x y z w s e = cc
 read_before false B true T U x y z w s e = cc
 read_before false B false T U x y z w s e = cc
 
-lt_less : (o : Ordering) → is_lt o ≡ true → o ≡ Less
-lt_less Less e = refl
-lt_less Equal e = cc
-lt_less Greater e = cc
-
 reversed : (o : Ordering) → is_gt o ≡ true → ordering_reverse o ≡ Less
 reversed Less e = cc
 reversed Equal e = cc
@@ -46,39 +44,9 @@ reversed Greater e = refl
 turned : (o p : Ordering) → p ≡ ordering_reverse o → o ≡ Less → is_gt p ≡ true
 turned o p e f = rw (e, f) refl
 
-both_level : (o p : Ordering) → ordering_then o p ≡ Equal → (o ≡ Equal) × (p ≡ Equal)
-both_level Less p h = cc
-both_level Equal p h = (refl, h)
-both_level Greater p h = cc
-
 stable_not : (b : Bool) → ((b ≡ false → ⊥) → ⊥) → b ≡ false
 stable_not true h = absurd (h (λ e. cc))
 stable_not false h = refl
-
-stable_less : (o : Ordering) → ((o ≡ Less → ⊥) → ⊥) → o ≡ Less
-stable_less Less h = refl
-stable_less Equal h = absurd (h (λ e. cc))
-stable_less Greater h = absurd (h (λ e. cc))
-
-module _ {K : Type 0} (order : KeyOrder K) (lawful : IsLawful order) where
-  itself : (a : K) → NotAbove order a a
-  itself a = ap is_gt (tied_itself lawful.total a)
-
-  irreflexive : (a b : K) → Below order a b → NotAbove order b a → ⊥
-  irreflexive a b l h =
-      let e : order.cmp a a ≡ Less = below_up order lawful a b a l h in
-      let f : order.cmp a a ≡ Equal = tied_itself lawful.total a in
-      cc
-
-  start_up : (b : Bound K) (a c : K) → StartHolds order b a → NotAbove order a c → StartHolds order b c
-  start_up (Included x) a c h l = upto lawful.total x a c h l
-  start_up (Excluded x) a c h l = below_up order lawful x a c h l
-  start_up Unbounded a c h l = tt
-
-  end_down : (b : Bound K) (c d : K) → NotAbove order c d → EndHolds order b d → EndHolds order b c
-  end_down (Included x) c d l h = upto lawful.total c d x l h
-  end_down (Excluded x) c d l h = up_below order lawful c d x l h
-  end_down Unbounded c d l h = tt
 
 module _ {K : Type 0} (order : KeyOrder K) (lawful : IsLawful order) where
   abbrev pub EndsBefore : AnyRange K → AnyRange K → Type 0
@@ -90,7 +58,7 @@ module _ {K : Type 0} (order : KeyOrder K) (lawful : IsLawful order) where
   pub before_is : (r s : AnyRange K) (same : Bool) → IsTrue (is_before (range_ordering order r s) same) → EndsBefore r s × (IsTrue same → AreTouching r s → ⊥)
   before_is r s same e =
       let read = read_before _ _ _ _ _ _ _ _ _ same e in
-      (lt_less (position_cmp order.cmp (end_position order r.end) (start_position order s.start)) read.0, read.1)
+      (lt_of (position_cmp order.cmp (end_position order r.end) (start_position order s.start)) read.0, read.1)
 
   -- p <= q < r <= s
   apart : (p q r s : Position K) → is_gt (position_cmp order.cmp p q) ≡ false → position_cmp order.cmp q r ≡ Less → is_gt (position_cmp order.cmp r s) ≡ false → is_gt (position_cmp order.cmp s p) ≡ false → ⊥
@@ -122,7 +90,7 @@ module _ {K : Type 0} (order : KeyOrder K) (lawful : IsLawful order) where
 
   stable_start : (b : Bound K) (k : K) → ((StartHolds order b k → ⊥) → ⊥) → StartHolds order b k
   stable_start (Included a) k h = stable_not (is_gt (order.cmp a k)) h
-  stable_start (Excluded a) k h = stable_less (order.cmp a k) h
+  stable_start (Excluded a) k h = not_not_less (order.cmp a k) h
   stable_start Unbounded k h = tt
 
   module _ (complete : IsComplete order) (r s : AnyRange K) (known : IsKnownRange order r) (others : IsKnownRange order s) (full : ¬ IsEmptyRange order r) (full' : ¬ IsEmptyRange order s) (joined : AreJoined order r s) where
@@ -142,8 +110,8 @@ module _ {K : Type 0} (order : KeyOrder K) (lawful : IsLawful order) where
     unfolding Member
     past_end k key h g =
         let low : Below order first_member.0 k = joined.0 first_member.0 k first_member.1 key first_member.2 h in
-        let held : Holds order r k = (start_up order lawful r.start first_member.0 k first_member.2.0 (ap is_gt low), g) in
-        irreflexive order lawful k k (joined.0 k k key key held h) (itself order lawful k)
+        let held : Holds order r k = (start_up order lawful r.start first_member.0 k (ap is_gt low) first_member.2.0, g) in
+        lt_not_le order.cmp lawful.total k k (joined.0 k k key key held h) (le_refl order.cmp lawful.total k)
 
     -- a bound that starts just past the end of the first starts where the second does
     starts_there : (f : Bound K) → IsKnownBound order f → ((k : K) → (EndHolds order r.end k → ⊥) → StartHolds order f k) → ((k : K) → StartHolds order f k → EndHolds order r.end k → ⊥)
@@ -155,25 +123,25 @@ module _ {K : Type 0} (order : KeyOrder K) (lawful : IsLawful order) where
           stable_start s.start k
               (λ no. joined.1 k in_type (
                 λ a key' g. not_above_below a k (λ over. never k h.0 (end_down order lawful r.end k a over g.1)),
-                λ b key' g. not_above_below k b (λ over. no (start_up order lawful s.start b k g.0 over)),
+                λ b key' g. not_above_below k b (λ over. no (start_up order lawful s.start b k over g.0)),
               )),
           h.1,
         ) in
         let back : (k : K) → order.is_key k → Holds order s k → Holds order t k = λ k in_type h. (past k (past_end k in_type h), h.1) in
         let nonempty : ¬ IsEmptyRange order t = λ empty. empty_is_keyless order lawful t empty second_member.0 second_member.1 (back second_member.0 second_member.1 second_member.2) in
         let level = same_is_equal order lawful complete t s (key, others.1) others nonempty full' (λ k in_type. (into k in_type, back k in_type)) in
-        (both_level (position_cmp order.cmp (start_position order t.start) (start_position order s.start)) (position_cmp order.cmp (end_position order t.end) (end_position order s.end)) level).0
+        (both_equal (position_cmp order.cmp (start_position order t.start) (start_position order s.start)) (position_cmp order.cmp (end_position order t.end) (end_position order s.end)) level).0
 
     touching_by : (e : Bound K) → r.end ≡ e → IsTrue (start_is_at order (inverted e) (start_position order s.start))
     unfolding Member
     touching_by (Included a) at =
         ap is_eq (starts_there (Excluded a) (subst (IsKnownBound order) at known.1)
         (λ k h. not_above_below a k (λ over. h (subst (λ x. EndHolds order x k) (sym at) over)))
-        (λ k h g. irreflexive order lawful a k h (subst (λ x. EndHolds order x k) at g)))
+        (λ k h g. lt_not_le order.cmp lawful.total a k h (subst (λ x. EndHolds order x k) at g)))
     touching_by (Excluded a) at =
         ap is_eq (starts_there (Included a) (subst (IsKnownBound order) at known.1)
         (λ k h. stable_not (is_gt (order.cmp a k)) (λ no. h (subst (λ x. EndHolds order x k) (sym at) (not_above_below k a no))))
-        (λ k h g. irreflexive order lawful k a (subst (λ x. EndHolds order x k) at g) h))
+        (λ k h g. lt_not_le order.cmp lawful.total k a (subst (λ x. EndHolds order x k) at g) h))
     touching_by Unbounded at =
         absurd (past_end second_member.0 second_member.1 second_member.2 (subst (λ x. EndHolds order x second_member.0) (sym at) tt))
 
@@ -191,9 +159,9 @@ module _ {K : Type 0} (order : KeyOrder K) (lawful : IsLawful order) (r s : AnyR
   none_between f e past k known between =
       let over : Below order y k = between.0 y key here in
       let under : Below order k z = between.1 z key' there in
-      let outside : EndHolds order r.end k → ⊥ = λ g. irreflexive order lawful k k (between.0 k known (start_up order lawful r.start y k here.0 (ap is_gt over), g)) (itself order lawful k) in
+      let outside : EndHolds order r.end k → ⊥ = λ g. lt_not_le order.cmp lawful.total k k (between.0 k known (start_up order lawful r.start y k (ap is_gt over) here.0, g)) (le_refl order.cmp lawful.total k) in
       let held : Holds order s k = (carried_start f e k known (past k outside), end_down order lawful s.end k z (ap is_gt under) there.1) in
-      irreflexive order lawful k k (between.1 k known held) (itself order lawful k)
+      lt_not_le order.cmp lawful.total k k (between.1 k known held) (le_refl order.cmp lawful.total k)
 
   gap_by : (e : Bound K) → r.end ≡ e → IsTrue (start_is_at order (inverted e) (start_position order s.start)) → (k : K) → order.is_key k → ¬ LiesBetween order r s k
   gap_by (Included a) at t =
@@ -214,22 +182,22 @@ module _ {K : Type 0} (order : KeyOrder K) (lawful : IsLawful order) (complete :
   meeting k known' start end Greater e =
       let under : Below order k y = lawful.total.antisymm k y ∙ ap ordering_reverse e in
       let reach : Below order y z = below y z key key' here there in
-      let held : Holds order s y = (start_up order lawful s.start k y start (ap is_gt under), end_down order lawful s.end y z (ap is_gt reach) there.1) in
-      irreflexive order lawful y y (below y y key key here held) (itself order lawful y)
+      let held : Holds order s y = (start_up order lawful s.start k y (ap is_gt under) start, end_down order lawful s.end y z (ap is_gt reach) there.1) in
+      lt_not_le order.cmp lawful.total y y (below y y key key here held) (le_refl order.cmp lawful.total y)
   meeting k known' start end Less e = met k known' start end (ap is_gt e)
     where
       met : (k : K) → order.is_key k → StartHolds order s.start k → EndHolds order r.end k → NotAbove order y k → ⊥
       met k known' start end over =
-          let held : Holds order r k = (start_up order lawful r.start y k here.0 over, end) in
+          let held : Holds order r k = (start_up order lawful r.start y k over here.0, end) in
           let under : Below order k z = below k z known' key' held there in
-          irreflexive order lawful k k (below k k known' known' held (start, end_down order lawful s.end k z (ap is_gt under) there.1)) (itself order lawful k)
+          lt_not_le order.cmp lawful.total k k (below k k known' known' held (start, end_down order lawful s.end k z (ap is_gt under) there.1)) (le_refl order.cmp lawful.total k)
   meeting k known' start end Equal e = met k known' start end (ap is_gt e)
     where
       met : (k : K) → order.is_key k → StartHolds order s.start k → EndHolds order r.end k → NotAbove order y k → ⊥
       met k known' start end over =
-          let held : Holds order r k = (start_up order lawful r.start y k here.0 over, end) in
+          let held : Holds order r k = (start_up order lawful r.start y k over here.0, end) in
           let under : Below order k z = below k z known' key' held there in
-          irreflexive order lawful k k (below k k known' known' held (start, end_down order lawful s.end k z (ap is_gt under) there.1)) (itself order lawful k)
+          lt_not_le order.cmp lawful.total k k (below k k known' known' held (start, end_down order lawful s.end k z (ap is_gt under) there.1)) (le_refl order.cmp lawful.total k)
 
   overlap : is_gt (position_cmp order.cmp (start_position order s.start) (end_position order r.end)) ≡ false → ⊥
   overlap e =
@@ -301,7 +269,7 @@ module _ {K : Type 0} (order : KeyOrder K) (lawful : IsLawful order) where
   pub before_below : (r s : AnyRange K) (t : Bool) → range_ordering order r s ≡ Before t → AreBelow order r s
   before_below r s t e =
       let told = told_before _ _ _ _ _ _ _ _ _ t e in
-      ends_below order lawful r s (lt_less (position_cmp order.cmp (end_position order r.end) (start_position order s.start)) told.0)
+      ends_below order lawful r s (lt_of (position_cmp order.cmp (end_position order r.end) (start_position order s.start)) told.0)
 
   ends_after : (r s : AnyRange K) → is_gt (position_cmp order.cmp (start_position order r.start) (end_position order s.end)) ≡ true → EndsBefore order lawful s r
   ends_after r s h =
@@ -330,7 +298,7 @@ module _ {K : Type 0} (order : KeyOrder K) (lawful : IsLawful order) where
     pub before_joined : (r s : AnyRange K) → IsKnownRange order r → IsKnownRange order s → (¬ IsEmptyRange order r) → (¬ IsEmptyRange order s) → (t : Bool) → range_ordering order r s ≡ Before t → IsTrue t ↔ AreJoined order r s
     before_joined r s known others full full' t e =
         let told = told_before _ _ _ _ _ _ _ _ _ t e in
-        flag_joined r s (known, full) (others, full') (lt_less (position_cmp order.cmp (end_position order r.end) (start_position order s.start)) told.0) t told.1
+        flag_joined r s (known, full) (others, full') (lt_of (position_cmp order.cmp (end_position order r.end) (start_position order s.start)) told.0) t told.1
 
     pub after_joined : (r s : AnyRange K) → IsKnownRange order r → IsKnownRange order s → (¬ IsEmptyRange order r) → (¬ IsEmptyRange order s) → (t : Bool) → range_ordering order r s ≡ After t → IsTrue t ↔ AreJoined order s r
     after_joined r s known others full full' t e =

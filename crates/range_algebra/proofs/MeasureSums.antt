@@ -14,6 +14,7 @@ use Rattle.range_keys.specs.PositionOrder.{position_total}
 use Rattle.range_keys.specs.declared.inner.position.Position.{Position}
 use Rattle.range_keys.specs.declared.inner.position.Position.TheVariants.{Beside}
 use Rattle.range_keys.specs.declared.inner.position.Side.TheVariants.{Before, At, After}
+use Rattle.range_keys.proofs.Orderings.{any_then_equal, equal_then_any}
 use Rattle.range_algebra.specs.declared.any.AnyRange.{AnyRange}
 use Rattle.range_algebra.specs.Cuts.{past, lower, upper}
 use Rattle.range_algebra.specs.Intervals.{Le, Any}
@@ -27,14 +28,6 @@ use Rattle.range_algebra.proofs.Holding.{holds_by_position}
 use Rattle.range_algebra.proofs.Measuring.{included_included, included_excluded, excluded_included, excluded_excluded, told_start, told_end, known_start, known_end, reach_full, told_reach, full_measure, measure_is_number}
 use Rattle.range_algebra.proofs.Numbers.{number_none, number_both}
 use Rattle.range_algebra.proofs.Places.{reaches}
-
-then_equal : (o : Ordering) → ordering_then o Equal ≡ o
-then_equal Less = refl
-then_equal Equal = refl
-then_equal Greater = refl
-
-equal_then : (o p : Ordering) → o ≡ Equal → ordering_then o p ≡ p
-equal_then o p e = rw e refl
 
 -- a sum that is there has both parts
 sum_parts : (o p : Option ℕ) (n : ℕ) → measure_sum o p ≡ Some n → (m : ℕ) × (k : ℕ) × (o ≡ Some m) × (p ≡ Some k) × (m + k ≡ n)
@@ -78,7 +71,7 @@ module _ {K : Type 0} (order : KeyOrder K) (lawful : IsLawful order) where
       let up = ((holds_by_position order lawful r a key).0 f).1 in
       let down = ((holds_by_position order lawful s b key').0 g).0 in
       let near = le_lt_trans (position_cmp order.cmp) total (Beside a At) (end_position order r.end) (start_position order s.start) up h in
-      sym (then_equal (order.cmp a b)) ∙ lt_le_trans (position_cmp order.cmp) total (Beside a At) (start_position order s.start) (Beside b At) near down
+      sym (any_then_equal (order.cmp a b)) ∙ lt_le_trans (position_cmp order.cmp) total (Beside a At) (start_position order s.start) (Beside b At) near down
 
   -- the keys of the first range are below those of all others
   below_all : (r : AnyRange K) (ranges : List (AnyRange K)) (a b : K) → AreInOrder order (r ∷ ranges) → order.is_key a → order.is_key b → Holds order r a → Any (λ s. Holds order s b) ranges → Below order a b
@@ -123,12 +116,12 @@ module _ {K : Type 0} (order : KeyOrder K) (lawful : IsLawful order) where
     behind : (a : K) (o : Option K) → order.succ a ≡ o → order.is_key a → LiesAbove a (at_told o (Beside a After)) (len a)
     behind a None e key = record {
       is_place = past_place a key;
-      from = ap is_gt (equal_then (order.cmp a a) Less (tied_itself lawful.total a));
+      from = ap is_gt (equal_then_any (order.cmp a a) Less (tied_itself lawful.total a));
       much = let h = behind_key a in let i = no_distance a key in omega arith;
     }
     behind a (Some b) e key = record {
       is_place = key_place b (lawful.succ_key a b e).1;
-      from = ap is_gt (then_equal (order.cmp a b) ∙ lawful.succ_above a b e);
+      from = ap is_gt (any_then_equal (order.cmp a b) ∙ lawful.succ_above a b e);
       much = between_keys a b ∙ measured.step a b e;
     }
 
@@ -140,7 +133,7 @@ module _ {K : Type 0} (order : KeyOrder K) (lawful : IsLawful order) where
         let same : order.cmp b c ≡ Equal = tied_back lawful.total c b t in
         record {
           is_place = key_place c in_type;
-          from = ap is_gt (then_equal (order.cmp b c) ∙ same);
+          from = ap is_gt (any_then_equal (order.cmp b c) ∙ same);
           much = between_keys b c ∙ measured.itself b c key in_type same;
         }
 
@@ -152,7 +145,7 @@ module _ {K : Type 0} (order : KeyOrder K) (lawful : IsLawful order) where
         → off + gap order lawful len distance measured p q ≡ distance a b + put
     joined a b p q off put key key' l start end h =
         let through = gap_adds order lawful len distance measured (Beside a At) p q (key_place a key) start.is_place end.is_place start.from h in
-        let up : Le (position_cmp order.cmp) (Beside a At) (Beside b At) = ap is_gt (then_equal (order.cmp a b)) ∙ l in
+        let up : Le (position_cmp order.cmp) (Beside a At) (Beside b At) = ap is_gt (any_then_equal (order.cmp a b)) ∙ l in
         let past_end = gap_adds order lawful len distance measured (Beside a At) (Beside b At) q (key_place a key) (key_place b key') end.is_place up end.from in
         let keys = between_keys a b in
         let i = start.much in

@@ -14,6 +14,7 @@ use Rattle.range_keys.specs.PositionOrder.{position_total}
 use Rattle.range_keys.specs.declared.inner.position.Position.{Position}
 use Rattle.range_keys.specs.declared.inner.position.Position.TheVariants.{Beside}
 use Rattle.range_keys.specs.declared.inner.position.Side.TheVariants.{Before, At, After}
+use Rattle.range_keys.proofs.Orderings.{any_then_equal, equal_then_any, not_greater}
 use Rattle.range_algebra.specs.declared.any.AnyRange.{AnyRange}
 use Rattle.range_algebra.specs.Intervals.{Le, Lt}
 use Rattle.range_algebra.specs.Orders.{lt_le_trans, le_lt_trans, lt_trans}
@@ -24,19 +25,6 @@ use Rattle.range_algebra.proofs.Holding.{pred_below, empty_is_keyless}
 use Rattle.range_algebra.proofs.Completeness.{nonempty_holds}
 use Rattle.range_algebra.proofs.Numbers.{IsFrom, below_by_index, not_above_by_index, number_none, number_same, number_from}
 
-then_equal : (o : Ordering) → ordering_then o Equal ≡ o
-then_equal Less = refl
-then_equal Equal = refl
-then_equal Greater = refl
-
-not_greater : (o : Ordering) → (o ≡ Greater → ⊥) → is_gt o ≡ false
-not_greater Less h = refl
-not_greater Equal h = refl
-not_greater Greater h = absurd (h refl)
-
-equal_then : (o p : Ordering) → o ≡ Equal → ordering_then o p ≡ p
-equal_then o p e = rw e refl
-
 module _ {K : Type 0} (order : KeyOrder K) (lawful : IsLawful order) where
   PLe : Position K → Position K → Type 0
   PLe p q = Le (position_cmp order.cmp) p q
@@ -46,21 +34,21 @@ module _ {K : Type 0} (order : KeyOrder K) (lawful : IsLawful order) where
 
   start_after : (a : K) (o : Option K) → order.succ a ≡ o → PLt (Beside a At) (at_told o (Beside a After))
   unfolding PLt
-  start_after a None e = equal_then (order.cmp a a) Less (tied_itself lawful.total a)
-  start_after a (Some b) e = then_equal (order.cmp a b) ∙ lawful.succ_above a b e
+  start_after a None e = equal_then_any (order.cmp a a) Less (tied_itself lawful.total a)
+  start_after a (Some b) e = any_then_equal (order.cmp a b) ∙ lawful.succ_above a b e
 
   end_before : (b : K) (o : Option K) → order.pred b ≡ o → PLt (at_told o (Beside b Before)) (Beside b At)
   unfolding PLt
-  end_before b None e = equal_then (order.cmp b b) Less (tied_itself lawful.total b)
-  end_before b (Some a) e = then_equal (order.cmp a b) ∙ pred_below order lawful a b e
+  end_before b None e = equal_then_any (order.cmp b b) Less (tied_itself lawful.total b)
+  end_before b (Some a) e = any_then_equal (order.cmp a b) ∙ pred_below order lawful a b e
 
   up : (a b : K) → PLe (Beside a At) (Beside b At) → NotAbove order a b
   unfolding PLe
-  up a b h = sym (ap is_gt (then_equal (order.cmp a b))) ∙ h
+  up a b h = sym (ap is_gt (any_then_equal (order.cmp a b))) ∙ h
 
   under : (a b : K) → PLt (Beside a At) (Beside b At) → Below order a b
   unfolding PLt
-  under a b h = sym (then_equal (order.cmp a b)) ∙ h
+  under a b h = sym (any_then_equal (order.cmp a b)) ∙ h
 
   reach : (s e s' e' : Bound K) → s ≡ s' → e ≡ e' → Le (position_cmp order.cmp) (start_position order s) (end_position order e) → PLe (start_position order s') (end_position order e')
   unfolding PLe

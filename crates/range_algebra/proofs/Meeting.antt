@@ -11,6 +11,9 @@ use Rattle.range_keys.specs.PositionOrder.{position_total}
 use Rattle.range_keys.specs.declared.inner.position.Position.{Position}
 use Rattle.range_keys.specs.declared.inner.position.Position.TheVariants.{MinusInfinity, Beside, PlusInfinity}
 use Rattle.range_keys.specs.declared.inner.position.Side.TheVariants.{Before, At, After}
+pub use Rattle.range_keys.proofs.Orderings.{not_greater}
+use Rattle.range_keys.proofs.Orderings.{eq_is_equal, less_unless_equal}
+use Rattle.range_keys.proofs.BoundPositions.{IsStart, IsEnd, excluded_start_is_one, starts_lie_at_starts, ends_lie_at_ends}
 use Rattle.range_algebra.specs.declared.any.AnyRange.{AnyRange}
 use Rattle.range_algebra.specs.declared.ordering.RangeOrdering.TheVariants as lying
 use Rattle.range_algebra.specs.Intervals.{Le, Lt}
@@ -22,7 +25,7 @@ use Rattle.range_algebra.specs.Cuts.{past, lower, upper}
 use Rattle.range_algebra.specs.Relations.{Meets, EitherHolds, ShareKey, AreConnected}
 use Rattle.range_algebra.proofs.Holding.{start_holds, end_holds, holds_by_position}
 use Rattle.range_algebra.proofs.Places.{reaches, key_reaches, turned, unbounded_end}
-use Rattle.range_algebra.proofs.Completeness.{IsStart, IsEnd, start_is, end_is, start_excluded, nonempty_holds}
+use Rattle.range_algebra.proofs.Completeness.{nonempty_holds}
 use Rattle.range_algebra.proofs.Canonical.{NotPast, IsBefore, KeyFrom, key_from}
 use Rattle.range_algebra.proofs.Commons.{later_is, earlier_is, common_holds, common_known}
 use Rattle.range_algebra.proofs.Pieces.{start_decided, end_decided, start_up, end_down}
@@ -30,21 +33,6 @@ use Rattle.range_algebra.proofs.Pieces.{start_decided, end_decided, start_up, en
 and_false : (t : Bool) → (t && false) ≡ false
 and_false true = refl
 and_false false = refl
-
-pub not_greater : (o : Ordering) → (o ≡ Greater → ⊥) → is_gt o ≡ false
-not_greater Less h = refl
-not_greater Equal h = refl
-not_greater Greater h = absurd (h refl)
-
-equal_is : (o : Ordering) → is_eq o ≡ true ↔ o ≡ Equal
-equal_is Less = (λ e. cc, λ e. cc)
-equal_is Equal = (λ _. refl, λ _. refl)
-equal_is Greater = (λ e. cc, λ e. cc)
-
-then_less : (o : Ordering) → ordering_then o Equal ≡ Less → o ≡ Less
-then_less Less h = refl
-then_less Equal h = cc
-then_less Greater h = cc
 
 module _ {K : Type 0} (order : KeyOrder K) (lawful : IsLawful order) where
   abbrev PLt : Position K → Position K → Type 0
@@ -70,7 +58,7 @@ module _ {K : Type 0} (order : KeyOrder K) (lawful : IsLawful order) where
       let cmp = position_cmp order.cmp in
       let total = position_total order.cmp lawful.total in
       let at = turned order lawful e i turns in
-      let other = equal_is (cmp (start_position order i) (lower order s)) in (
+      let other = eq_is_equal (cmp (start_position order i) (lower order s)) in (
         λ h. le_trans cmp total (lower order s) (start_position order i) (past order (end_position order e)) (eq_ge cmp total (start_position order i) (lower order s) (other.0 h)) (eq_ge cmp total (past order (end_position order e)) (start_position order i) at),
         λ h. other.1 (sym (total.congr (past order (end_position order e)) (start_position order i) (lower order s) at) ∙ both cmp total (past order (end_position order e)) (lower order s) le h),
       )
@@ -172,14 +160,14 @@ module _ {K : Type 0} (order : KeyOrder K) (lawful : IsLawful order) where
       pub shares_by : (t : Bool) → IsTrue t ↔ (PLe (start_position order r.start) (end_position order s.end) × PLe (start_position order s.start) (end_position order r.end)) → IsTrue t ↔ ShareKey order r s
       shares_by t h = (λ e. meets_share (h.0 e), λ k. h.1 (share_meets k))
 
-  held_decided : (r : AnyRange K) (k : K) → Holds order r k ⊎ (¬ Holds order r k)
-  held_decided r k = elim (start_decided order lawful r.start k) [
+  pub held_or_not : (r : AnyRange K) (k : K) → Holds order r k ⊎ (¬ Holds order r k)
+  held_or_not r k = elim (start_decided order lawful r.start k) [
     | inr out ↦ inr (λ h. out h.0)
     | inl starts ↦ elim (end_decided order lawful r.end k) [ inr out ↦ inr (λ h. out h.1) | inl ends ↦ inl (starts, ends) ]
   ]
 
   at_less : (a b : K) → PLt (Beside a At) (Beside b At) → Below order a b
-  at_less a b h = then_less (order.cmp a b) h
+  at_less a b h = less_unless_equal (order.cmp a b) h
 
   -- the key lies past the end of the one and before the start of the other
   abbrev Gap : AnyRange K → AnyRange K → K → Type 0
@@ -204,10 +192,10 @@ module _ {K : Type 0} (order : KeyOrder K) (lawful : IsLawful order) where
       ((before_is r.end s.start known.1 others.0).1 le, λ t. lt_not_le cmp total (upper order r) (lower order s) less ((touches_is r.end s others full le).0 t))
 
   -- with no such key they touch
-  pub past_is_start : (e q : Position K) (complete : IsComplete order) → IsEnd order lawful complete e → PLt (past order e) q → IsStart order lawful complete (past order e)
+  pub past_is_start : (e q : Position K) (complete : IsComplete order) → IsEnd order e → PLt (past order e) q → IsStart order (past order e)
   unfolding IsStart IsEnd
   past_is_start (Beside b Before) q complete h l = h.0
-  past_is_start (Beside b At) q complete h l = start_excluded order lawful complete b (order.succ b) refl h
+  past_is_start (Beside b At) q complete h l = excluded_start_is_one order lawful b (order.succ b) refl h
   past_is_start (Beside b After) q complete h l = absurd h
   past_is_start MinusInfinity q complete h l = absurd h
   past_is_start PlusInfinity MinusInfinity complete h l = absurd (cc)
@@ -221,7 +209,7 @@ module _ {K : Type 0} (order : KeyOrder K) (lawful : IsLawful order) where
     room_between l connected =
         let total = position_total order.cmp lawful.total in
         let cmp = position_cmp order.cmp in
-        let found = key_from order lawful complete (upper order r) (lower order s) (past_is_start (end_position order r.end) (lower order s) complete (end_is order lawful complete r.end known.1) l) (start_is order lawful complete s.start others.0) l in
+        let found = key_from order lawful complete (upper order r) (lower order s) (past_is_start (end_position order r.end) (lower order s) complete (ends_lie_at_ends order lawful r.end known.1) l) (starts_lie_at_starts order lawful s.start others.0) l in
         let low = nonempty_holds order lawful complete r known full in
         let high = nonempty_holds order lawful complete s others full' in
         let under = (key_reaches order lawful low.0 r.end low.1 known.1).0 (((holds_by_position order lawful r low.0 low.1).0 low.2).1) in
@@ -292,9 +280,9 @@ module _ {K : Type 0} (order : KeyOrder K) (lawful : IsLawful order) where
 
     -- no key between keys of connected ranges is outside both
     pub connected_holds : IsTrue (matches (range_ordering order r s) true) → AreConnected order r s
-    connected_holds e a b k key key' key'' held held' l u = elim (held_decided r k) [
+    connected_holds e a b k key key' key'' held held' l u = elim (held_or_not r k) [
       | inl h ↦ inl h
-      | inr out ↦ elim (held_decided s k) [
+      | inr out ↦ elim (held_or_not s k) [
         | inl h ↦ inr h
         | inr out' ↦ elim (gap_of r s a b k out out' held held' l u) [ inl gap ↦ absurd (no_gap e k key'' gap) | inr gap ↦ absurd (no_gap_back e k key'' gap) ]
       ]

@@ -7,7 +7,7 @@ use Rattle.std.specs.Ordering.{nat_cmp, MatchOrdering, is_gt}
 use Rattle.std.specs.Cmp.{IsTotalOrder, tied_itself, tied_back, alike_right, ranks, ranked, nat_cmp_is}
 use Rattle.std.proofs.lemmas.Bool.Decides.{nat_tests}
 use Rattle.range_keys.specs.Order.{KeyOrder, Below, NotAbove}
-use Rattle.range_keys.specs.Counted.{IsCounted}
+use Rattle.range_keys.specs.Counted.{IsCounted, not_above_is, is_not_above}
 use Rattle.range_algebra.specs.Numbers.{Lists, AreRising, IsNumberOfKeys}
 
 module _ {K : Type 0} (order : KeyOrder K) (total : IsTotalOrder order.cmp) where
@@ -116,12 +116,6 @@ module _ {K : Type 0} (order : KeyOrder K) (total : IsTotalOrder order.cmp) wher
     many = length_both g.keys h.keys m n g.many h.many;
   }
 
-up_is : (a b : ℕ) → is_gt (nat_cmp a b) ≡ false → a ≤ b
-up_is a b f = grind (arith, nat_tests)
-
-is_up : (a b : ℕ) → a ≤ b → is_gt (nat_cmp a b) ≡ false
-is_up a b f = grind (arith, nat_tests)
-
 module _ {K : Type 0} {order : KeyOrder K} {index : K → ℕ} {size : ℕ} (counted : IsCounted order index size) where
   -- keys lie as their indexes do
   pub below_by_index : (a b : K) → order.is_key a → order.is_key b → Below order a b ↔ index a < index b
@@ -130,7 +124,7 @@ module _ {K : Type 0} {order : KeyOrder K} {index : K → ℕ} {size : ℕ} (cou
 
   pub not_above_by_index : (a b : K) → order.is_key a → order.is_key b → NotAbove order a b ↔ index a ≤ index b
   not_above_by_index a b p q =
-      (λ l. up_is (index a) (index b) (sym (ap is_gt (counted.by_index a b p q)) ∙ l), λ h. ap is_gt (counted.by_index a b p q) ∙ is_up (index a) (index b) h)
+      (λ l. not_above_is (index a) (index b) (sym (ap is_gt (counted.by_index a b p q)) ∙ l), λ h. ap is_gt (counted.by_index a b p q) ∙ is_not_above (index a) (index b) h)
 
   -- the key has one of the n indexes from low on
   abbrev pub IsFrom : ℕ → ℕ → K → Type 0

@@ -7,6 +7,7 @@ use Rattle.std.specs.declared.cmp.Ordering.TheVariants.{Less, Equal, Greater}
 use Rattle.std.specs.Ordering.{is_gt}
 use Rattle.range_keys.specs.Order.{KeyOrder, IsLawful, Below, NotAbove}
 use Rattle.range_keys.specs.Position.{start_position, end_position}
+use Rattle.range_keys.proofs.Orderings.{gt_is_greater}
 use Rattle.range_algebra.specs.declared.any.AnyRange.{AnyRange}
 use Rattle.range_algebra.specs.declared.range.parts.Difference.TheVariants.{Before, Empty}
 use Rattle.range_algebra.specs.Orders.{le_trans, lt_not_le, cases, not_le, not_lt, lt_le_trans, le_lt_trans}
@@ -16,11 +17,6 @@ use Rattle.range_algebra.specs.Combined.{later_start, earlier_end}
 use Rattle.range_algebra.specs.Parts.{is_empty_range, unless_empty, part_to, part_from, part_before, part_after, pieces, difference, DifferenceHolds, LieRound, RangeHolds}
 use Rattle.range_algebra.proofs.Holding.{empty_is_keyless}
 use Rattle.range_algebra.proofs.Commons.{places, start_both, end_both}
-
-pub gt_is : (o : Ordering) → is_gt o ≡ true → o ≡ Greater
-gt_is Less h = cc
-gt_is Equal h = cc
-gt_is Greater h = refl
 
 module _ {K : Type 0} (order : KeyOrder K) (lawful : IsLawful order) where
   -- whether a bound holds a key is decided
@@ -82,7 +78,7 @@ module _ {K : Type 0} (order : KeyOrder K) (lawful : IsLawful order) where
   end_splits b j k h outside = not_le order.cmp lawful.total j k (λ le. outside (end_down b k j le h))
 
   unless_by : (r : AnyRange K) (k : K) → order.is_key k → (e : Bool) → is_empty_range order r ≡ e → RangeHolds order (if e then None else Some r) k ↔ Holds order r k
-  unless_by r k key true e = (λ h. absurd h, empty_is_keyless order lawful r (gt_is (places order lawful (start_position order r.start) (end_position order r.end)) e) k key)
+  unless_by r k key true e = (λ h. absurd h, empty_is_keyless order lawful r (gt_is_greater (places order lawful (start_position order r.start) (end_position order r.end)) e) k key)
   unless_by r k key false e = (λ h. h, λ h. h)
 
   pub unless_holds : (r : AnyRange K) (k : K) → order.is_key k → RangeHolds order (unless_empty order r) k ↔ Holds order r k
@@ -135,8 +131,8 @@ module _ {K : Type 0} (order : KeyOrder K) (lawful : IsLawful order) where
 
   difference_by : (r s : AnyRange K) (k : K) → order.is_key k → (d e : Bool) → is_empty_range order r ≡ d → is_empty_range order s ≡ e
       → DifferenceHolds order (if d then Empty else (if e then Before r false else pieces order (part_before order r s) (part_after order r s) (matches (range_ordering order r s) false))) k ↔ (Holds order r k × (¬ Holds order s k))
-  difference_by r s k key true e f g = (λ h. absurd h, λ h. empty_is_keyless order lawful r (gt_is (places order lawful (start_position order r.start) (end_position order r.end)) f) k key h.0)
-  difference_by r s k key false true f g = (λ h. (h, empty_is_keyless order lawful s (gt_is (places order lawful (start_position order s.start) (end_position order s.end)) g) k key), λ h. h.0)
+  difference_by r s k key true e f g = (λ h. absurd h, λ h. empty_is_keyless order lawful r (gt_is_greater (places order lawful (start_position order r.start) (end_position order r.end)) f) k key h.0)
+  difference_by r s k key false true f g = (λ h. (h, empty_is_keyless order lawful s (gt_is_greater (places order lawful (start_position order s.start) (end_position order s.end)) g) k key), λ h. h.0)
   difference_by r s k key false false f g =
       let whole = pieces_hold (part_before order r s) (part_after order r s) (matches (range_ordering order r s) false) k in
       let sides = sides_hold r s k key in
@@ -164,7 +160,7 @@ module _ {K : Type 0} (order : KeyOrder K) (lawful : IsLawful order) where
   lie_by : (r s : AnyRange K) → (¬ IsEmptyRange order s) → (d e : Bool) → is_empty_range order r ≡ d → is_empty_range order s ≡ e
       → LieRound order (if d then Empty else (if e then Before r false else pieces order (part_before order r s) (part_after order r s) (matches (range_ordering order r s) false))) s
   lie_by r s full true e f g = tt
-  lie_by r s full false true f g = absurd (full (gt_is (places order lawful (start_position order s.start) (end_position order s.end)) g))
+  lie_by r s full false true f g = absurd (full (gt_is_greater (places order lawful (start_position order s.start) (end_position order s.end)) g))
   lie_by r s full false false f g =
       pieces_lie (part_before order r s) (part_after order r s) (matches (range_ordering order r s) false) s
       (λ a b key key' h held. before_below r s a b key key' h held.0)

@@ -12,6 +12,8 @@ use Rattle.range_keys.specs.PositionOrder.{position_total}
 use Rattle.range_keys.specs.declared.inner.position.Position.{Position}
 use Rattle.range_keys.specs.declared.inner.position.Position.TheVariants.{MinusInfinity, Beside, PlusInfinity}
 use Rattle.range_keys.specs.declared.inner.position.Side.TheVariants.{Before, At, After}
+use Rattle.range_keys.proofs.Orderings.{any_then_equal, equal_then_any, less_then_any, less_unless_greater, less_unless_less, not_greater_unless_greater}
+use Rattle.range_keys.proofs.BoundPositions.{IsStart, IsEnd, starts_lie_at_starts, ends_lie_at_ends}
 use Rattle.range_algebra.specs.declared.any.AnyRange.{AnyRange}
 use Rattle.range_algebra.specs.Range.{Holds, IsKnownBound, IsKnownRange}
 use Rattle.range_algebra.specs.Compared.{inverted}
@@ -20,86 +22,12 @@ use Rattle.range_algebra.specs.Intervals.{Le, Lt}
 use Rattle.range_algebra.specs.Orders.{lt_not_le, not_le, not_lt, le_lt_trans, both}
 use Rattle.range_algebra.specs.Cuts.{past, lower, upper}
 
-then_greater : (o : Ordering) → is_gt (ordering_then o Greater) ≡ false ↔ o ≡ Less
-then_greater Less = (λ _. refl, λ _. refl)
-then_greater Equal = (λ e. cc, λ e. cc)
-then_greater Greater = (λ e. cc, λ e. cc)
-
-then_equal : (o p : Ordering) → o ≡ Equal → ordering_then o p ≡ p
-then_equal o p e = rw e refl
-
-less_then : (o p : Ordering) → o ≡ Less → ordering_then o p ≡ Less
-less_then o p e = rw e refl
-
-then_same : (o : Ordering) → ordering_then o Equal ≡ o
-then_same Less = refl
-then_same Equal = refl
-then_same Greater = refl
-
-then_less : (o : Ordering) → ordering_then o Less ≡ Less ↔ is_gt o ≡ false
-then_less Less = (λ _. refl, λ _. refl)
-then_less Equal = (λ _. refl, λ _. refl)
-then_less Greater = (λ e. cc, λ e. cc)
-
-greater_less : (o : Ordering) → ordering_then o Greater ≡ Less ↔ o ≡ Less
-greater_less Less = (λ _. refl, λ _. refl)
-greater_less Equal = (λ e. cc, λ e. cc)
-greater_less Greater = (λ e. cc, λ e. cc)
-
 module _ {K : Type 0} (order : KeyOrder K) (lawful : IsLawful order) where
   abbrev PLe : Position K → Position K → Type 0
   PLe p q = Le (position_cmp order.cmp) p q
 
   abbrev PLt : Position K → Position K → Type 0
   PLt p q = Lt (position_cmp order.cmp) p q
-
-  -- where a start can lie
-  unfoldable IsStart : Position K → Type 0
-  IsStart MinusInfinity = order.least ≡ None
-  IsStart (Beside a Before) = ⊥
-  IsStart (Beside a At) = order.is_key a
-  IsStart (Beside a After) = order.is_key a × (order.succ a ≡ None)
-  IsStart PlusInfinity = ⊥
-
-  -- where an end can lie
-  unfoldable IsEnd : Position K → Type 0
-  IsEnd MinusInfinity = ⊥
-  IsEnd (Beside b Before) = order.is_key b × (order.pred b ≡ None)
-  IsEnd (Beside b At) = order.is_key b
-  IsEnd (Beside b After) = ⊥
-  IsEnd PlusInfinity = order.greatest ≡ None
-
-  start_excluded : (a : K) (o : Option K) → order.succ a ≡ o → order.is_key a → IsStart (at_told o (Beside a After))
-  unfolding IsStart
-  start_excluded a None e key = (key, e)
-  start_excluded a (Some b) e key = (lawful.succ_key a b e).1
-
-  start_unbounded : (o : Option K) → order.least ≡ o → IsStart (at_told o MinusInfinity)
-  unfolding IsStart
-  start_unbounded None e = e
-  start_unbounded (Some m) e = lawful.least_key m e
-
-  start_is : (b : Bound K) → IsKnownBound order b → IsStart (start_position order b)
-  unfolding IsStart
-  start_is (Included a) key = key
-  start_is (Excluded a) key = start_excluded a (order.succ a) refl key
-  start_is Unbounded key = start_unbounded order.least refl
-
-  end_excluded : (b : K) (o : Option K) → order.pred b ≡ o → order.is_key b → IsEnd (at_told o (Beside b Before))
-  unfolding IsEnd
-  end_excluded b None e key = (key, e)
-  end_excluded b (Some a) e key = (lawful.pred_key a b e).0
-
-  end_unbounded : (o : Option K) → order.greatest ≡ o → IsEnd (at_told o PlusInfinity)
-  unfolding IsEnd
-  end_unbounded None e = e
-  end_unbounded (Some m) e = lawful.greatest_key m e
-
-  end_is : (b : Bound K) → IsKnownBound order b → IsEnd (end_position order b)
-  unfolding IsEnd
-  end_is (Included a) key = key
-  end_is (Excluded a) key = end_excluded a (order.pred a) refl key
-  end_is Unbounded key = end_unbounded order.greatest refl
 
   -- between a key and its told neighbour lies no key
   up_to_told : (a b c : K) → order.succ b ≡ Some c → order.is_key a → NotAbove order a b ↔ Below order a c
@@ -124,30 +52,30 @@ module _ {K : Type 0} (order : KeyOrder K) (lawful : IsLawful order) where
   )
 
   at_at : (a b : K) (o : Option K) → order.succ b ≡ o → order.is_key a → PLe (Beside a At) (Beside b At) ↔ PLt (Beside a At) (at_told o (Beside b After))
-  at_at a b None e key = rw (then_same (order.cmp a b)) ((then_less (order.cmp a b)).1, (then_less (order.cmp a b)).0)
-  at_at a b (Some c) e key = rw (then_same (order.cmp a b), then_same (order.cmp a c)) (up_to_told a b c e key)
+  at_at a b None e key = rw (any_then_equal (order.cmp a b)) ((less_unless_less (order.cmp a b)).1, (less_unless_less (order.cmp a b)).0)
+  at_at a b (Some c) e key = rw (any_then_equal (order.cmp a b), any_then_equal (order.cmp a c)) (up_to_told a b c e key)
 
   after_at : (a b : K) (o : Option K) → order.succ b ≡ o → order.is_key a → order.succ a ≡ None → PLe (Beside a After) (Beside b At) ↔ PLt (Beside a After) (at_told o (Beside b After))
-  after_at a b None e key none = rw (then_same (order.cmp a b)) (then_greater (order.cmp a b))
+  after_at a b None e key none = rw (any_then_equal (order.cmp a b)) (not_greater_unless_greater (order.cmp a b))
   after_at a b (Some c) e key none =
       let told = up_to_told_end a b c e key none in
-      (λ h. (greater_less (order.cmp a c)).1 (told.0 ((then_greater (order.cmp a b)).0 h)), λ h. (then_greater (order.cmp a b)).1 (told.1 ((greater_less (order.cmp a c)).0 h)))
+      (λ h. (less_unless_greater (order.cmp a c)).1 (told.0 ((not_greater_unless_greater (order.cmp a b)).0 h)), λ h. (not_greater_unless_greater (order.cmp a b)).1 (told.1 ((less_unless_greater (order.cmp a c)).0 h)))
 
   under_told : (b : K) (o : Option K) → PLt MinusInfinity (at_told o (Beside b After))
   under_told b None = refl
   under_told b (Some c) = refl
 
   -- a start is at most at an end where it lies below the place past it
-  start_end : (s e : Position K) → IsStart s → IsEnd e → PLe s e ↔ PLt s (past order e)
+  start_end : (s e : Position K) → IsStart order s → IsEnd order e → PLe s e ↔ PLt s (past order e)
   unfolding IsStart IsEnd
   start_end MinusInfinity (Beside b At) h k = (λ _. under_told b (order.succ b), λ _. refl)
   start_end MinusInfinity (Beside b Before) h k = (λ _. refl, λ _. refl)
   start_end MinusInfinity PlusInfinity h k = (λ _. refl, λ _. refl)
   start_end (Beside a At) (Beside b At) h k = at_at a b (order.succ b) refl h
-  start_end (Beside a At) (Beside b Before) h k = rw (then_same (order.cmp a b)) (then_greater (order.cmp a b))
+  start_end (Beside a At) (Beside b Before) h k = rw (any_then_equal (order.cmp a b)) (not_greater_unless_greater (order.cmp a b))
   start_end (Beside a At) PlusInfinity h k = (λ _. refl, λ _. refl)
   start_end (Beside a After) (Beside b At) h k = after_at a b (order.succ b) refl h.0 h.1
-  start_end (Beside a After) (Beside b Before) h k = (λ t. (greater_less (order.cmp a b)).1 ((then_greater (order.cmp a b)).0 t), λ t. (then_greater (order.cmp a b)).1 ((greater_less (order.cmp a b)).0 t))
+  start_end (Beside a After) (Beside b Before) h k = (λ t. (less_unless_greater (order.cmp a b)).1 ((not_greater_unless_greater (order.cmp a b)).0 t), λ t. (not_greater_unless_greater (order.cmp a b)).1 ((less_unless_greater (order.cmp a b)).0 t))
   start_end (Beside a After) PlusInfinity h k = (λ _. refl, λ _. refl)
   start_end (Beside a Before) e h k = absurd h
   start_end PlusInfinity e h k = absurd h
@@ -155,11 +83,11 @@ module _ {K : Type 0} (order : KeyOrder K) (lawful : IsLawful order) where
   start_end s (Beside b After) h k = absurd k
 
   pub reaches : (s e : Bound K) → IsKnownBound order s → IsKnownBound order e → PLe (start_position order s) (end_position order e) ↔ PLt (start_position order s) (past order (end_position order e))
-  reaches s e h k = start_end (start_position order s) (end_position order e) (start_is s h) (end_is e k)
+  reaches s e h k = start_end (start_position order s) (end_position order e) (starts_lie_at_starts order lawful s h) (ends_lie_at_ends order lawful e k)
 
   pub key_reaches : (k : K) (e : Bound K) → order.is_key k → IsKnownBound order e → PLe (Beside k At) (end_position order e) ↔ PLt (Beside k At) (past order (end_position order e))
   unfolding IsStart
-  key_reaches k e key h = start_end (Beside k At) (end_position order e) key (end_is e h)
+  key_reaches k e key h = start_end (Beside k At) (end_position order e) key (ends_lie_at_ends order lawful e h)
 
   turned_by : (a p : K) (o : Option K) → Tells order o a → position_cmp order.cmp (at_told o (Beside p After)) (Beside a At) ≡ Equal
   turned_by a p None t = absurd t
@@ -185,24 +113,24 @@ module _ {K : Type 0} (order : KeyOrder K) (lawful : IsLawful order) where
   turned_known (Excluded a) i e h = let same : Included a ≡ i = cc in rw (← same) h
   turned_known Unbounded i e h = absurd (cc)
 
-  least_under : (o : Option K) (s : Position K) → order.least ≡ o → IsStart s → PLe (at_told o MinusInfinity) s
+  least_under : (o : Option K) (s : Position K) → order.least ≡ o → IsStart order s → PLe (at_told o MinusInfinity) s
   unfolding IsStart
   least_under None MinusInfinity e h = refl
   least_under None (Beside a x) e h = refl
   least_under None PlusInfinity e h = refl
   least_under (Some m) MinusInfinity e h = absurd (cc)
-  least_under (Some m) (Beside a At) e h = rw (then_same (order.cmp m a)) (lawful.least_bound m a e h)
-  least_under (Some m) (Beside a After) e h = ap is_gt ((then_less (order.cmp m a)).1 (lawful.least_bound m a e h.0))
+  least_under (Some m) (Beside a At) e h = rw (any_then_equal (order.cmp m a)) (lawful.least_bound m a e h)
+  least_under (Some m) (Beside a After) e h = ap is_gt ((less_unless_less (order.cmp m a)).1 (lawful.least_bound m a e h.0))
   least_under (Some m) (Beside a Before) e h = absurd h
   least_under (Some m) PlusInfinity e h = absurd h
 
   -- an unbounded start is the least
   pub unbounded_start : (b : Bound K) → IsKnownBound order b → PLe (start_position order Unbounded) (start_position order b)
-  unbounded_start b h = least_under order.least (start_position order b) refl (start_is b h)
+  unbounded_start b h = least_under order.least (start_position order b) refl (starts_lie_at_starts order lawful b h)
 
   over_told : (b m : K) (o : Option K) → order.succ b ≡ o → order.greatest ≡ Some m → order.is_key b → PLe (at_told o (Beside b After)) (Beside m After)
-  over_told b m None e g h = rw (then_same (order.cmp b m)) (lawful.greatest_bound m b g h)
-  over_told b m (Some c) e g h = ap is_gt ((then_less (order.cmp c m)).1 (lawful.greatest_bound m c g (lawful.succ_key b c e).1))
+  over_told b m None e g h = rw (any_then_equal (order.cmp b m)) (lawful.greatest_bound m b g h)
+  over_told b m (Some c) e g h = ap is_gt ((less_unless_less (order.cmp c m)).1 (lawful.greatest_bound m c g (lawful.succ_key b c e).1))
 
   greatest_last : (m : K) (o : Option K) → order.succ m ≡ o → order.greatest ≡ Some m → at_told o (Beside m After) ≡ Beside m After
   greatest_last m None e g = refl
@@ -212,7 +140,7 @@ module _ {K : Type 0} (order : KeyOrder K) (lawful : IsLawful order) where
   under_infinity b None = refl
   under_infinity b (Some c) = refl
 
-  greatest_over : (o : Option K) (e : Position K) → order.greatest ≡ o → IsEnd e → PLe (past order e) (past order (at_told o PlusInfinity))
+  greatest_over : (o : Option K) (e : Position K) → order.greatest ≡ o → IsEnd order e → PLe (past order e) (past order (at_told o PlusInfinity))
   unfolding IsEnd
   greatest_over None MinusInfinity g h = absurd h
   greatest_over None (Beside b Before) g h = refl
@@ -220,14 +148,14 @@ module _ {K : Type 0} (order : KeyOrder K) (lawful : IsLawful order) where
   greatest_over None (Beside b After) g h = absurd h
   greatest_over None PlusInfinity g h = refl
   greatest_over (Some m) MinusInfinity g h = absurd h
-  greatest_over (Some m) (Beside b Before) g h = rw (greatest_last m (order.succ m) refl g) (ap is_gt ((then_less (order.cmp b m)).1 (lawful.greatest_bound m b g h.0)))
+  greatest_over (Some m) (Beside b Before) g h = rw (greatest_last m (order.succ m) refl g) (ap is_gt ((less_unless_less (order.cmp b m)).1 (lawful.greatest_bound m b g h.0)))
   greatest_over (Some m) (Beside b At) g h = rw (greatest_last m (order.succ m) refl g) (over_told b m (order.succ b) refl g h)
   greatest_over (Some m) (Beside b After) g h = absurd h
   greatest_over (Some m) PlusInfinity g h = absurd (cc)
 
   -- an unbounded end is the greatest
   pub unbounded_end : (b : Bound K) → IsKnownBound order b → PLe (past order (end_position order b)) (past order (end_position order Unbounded))
-  unbounded_end b h = greatest_over order.greatest (end_position order b) refl (end_is b h)
+  unbounded_end b h = greatest_over order.greatest (end_position order b) refl (ends_lie_at_ends order lawful b h)
 
   pub held_between : (r : AnyRange K) (k : K) → IsKnownRange order r → order.is_key k → Holds order r k ↔ (PLe (lower order r) (Beside k At) × PLt (Beside k At) (upper order r))
   held_between r k known key =

@@ -11,6 +11,7 @@ use Rattle.range_keys.specs.PositionOrder.{position_total}
 use Rattle.range_keys.specs.declared.inner.position.Position.{Position}
 use Rattle.range_keys.specs.declared.inner.position.Position.TheVariants.{Beside}
 use Rattle.range_keys.specs.declared.inner.position.Side.TheVariants.{At}
+use Rattle.range_keys.proofs.Orderings.{less_unless_equal, gt_is_greater}
 use Rattle.range_algebra.specs.declared.any.AnyRange.{AnyRange}
 use Rattle.range_algebra.specs.declared.range.parts.ProductArg.{ProductArg}
 use Rattle.range_algebra.specs.declared.range.parts.ProductArg.TheVariants.{Subject, Object}
@@ -24,12 +25,7 @@ use Rattle.range_algebra.specs.Parts.{is_empty_range, unless_empty, part_to, par
 use Rattle.range_algebra.proofs.Holding.{start_holds, end_holds, empty_is_keyless}
 use Rattle.range_algebra.proofs.Places.{reaches, turned, turned_back, turned_known}
 use Rattle.range_algebra.proofs.Commons.{later_over, earlier_under, common_holds}
-use Rattle.range_algebra.proofs.Pieces.{gt_is, start_decided, end_decided, before_holds, after_holds, unless_holds, before_below, after_above}
-
-then_equal : (o : Ordering) → ordering_then o Equal ≡ Less → o ≡ Less
-then_equal Less h = refl
-then_equal Equal h = cc
-then_equal Greater h = cc
+use Rattle.range_algebra.proofs.Pieces.{start_decided, end_decided, before_holds, after_holds, unless_holds, before_below, after_above}
 
 module _ {K : Type 0} (order : KeyOrder K) (lawful : IsLawful order) where
   PLt : Position K → Position K → Type 0
@@ -166,7 +162,7 @@ module _ {K : Type 0} (order : KeyOrder K) (lawful : IsLawful order) where
       let cmp = position_cmp order.cmp in
       let over : PLt (Beside a At) (start_position order s.start) = start_over s.start a key h in
       let under : PLt (end_position order s.end) (Beside b At) = end_under s.end b key' g in
-      then_equal (order.cmp a b) (lt_trans cmp total (Beside a At) (start_position order s.start) (Beside b At) over (le_lt_trans cmp total (start_position order s.start) (end_position order s.end) (Beside b At) full under))
+      less_unless_equal (order.cmp a b) (lt_trans cmp total (Beside a At) (start_position order s.start) (Beside b At) over (le_lt_trans cmp total (start_position order s.start) (end_position order s.end) (Beside b At) full under))
 
   module _ (r s : AnyRange K) (known : IsKnownRange order r) (others : IsKnownRange order s) where
     in_order : PLe (start_position order r.start) (end_position order r.end) → PLe (start_position order s.start) (end_position order s.end) → (a b : K) → order.is_key a → order.is_key b
@@ -231,7 +227,7 @@ module _ {K : Type 0} (order : KeyOrder K) (lawful : IsLawful order) where
     }
 
     keyless : (x : AnyRange K) → is_empty_range order x ≡ true → IsKeyless order x
-    keyless x e = empty_is_keyless order lawful x (gt_is (position_cmp order.cmp (start_position order x.start) (end_position order x.end)) e)
+    keyless x e = empty_is_keyless order lawful x (gt_is_greater (position_cmp order.cmp (start_position order x.start) (end_position order x.end)) e)
 
     object_part : (o : Option (AnyRange K)) (k : K) → PartHolds order (option_map Object o) k ↔ RangeHolds order o k
     object_part None k = (λ h. h, λ h. h)

@@ -6,6 +6,7 @@ use Rattle.std.specs.declared.cmp.Ordering.TheVariants.{Greater}
 use Rattle.range_keys.specs.Order.{KeyOrder, Below, NotAbove}
 use Rattle.std.specs.Ordering.{is_gt}
 use Rattle.range_keys.specs.Position.{start_position, end_position, position_cmp}
+use Rattle.range_keys.specs.Touching.{IsOverKeys}
 use Rattle.range_keys.specs.declared.inner.position.Position.TheVariants.{Beside}
 use Rattle.range_keys.specs.declared.inner.position.Side.TheVariants.{At}
 use Rattle.range_algebra.specs.declared.any.AnyRange.{AnyRange}
@@ -47,9 +48,7 @@ module _ {K : Type 0} (order : KeyOrder K) where
 
   -- the bound's value, if it has one, is a key
   abbrev pub IsKnownBound : Bound K → Type 0
-  IsKnownBound (Included a) = order.is_key a
-  IsKnownBound (Excluded a) = order.is_key a
-  IsKnownBound Unbounded = Unit {0}
+  IsKnownBound b = IsOverKeys order b
 
   abbrev pub IsKnownRange : AnyRange K → Type 0
   IsKnownRange r = IsKnownBound r.start × IsKnownBound r.end

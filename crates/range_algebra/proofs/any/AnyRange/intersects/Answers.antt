@@ -1,7 +1,8 @@
 use Rattle.std.proofs.Common.{rules}
 use Rattle.range_keys.specs.Position.{start_position, end_position, position_cmp}
+use Rattle.range_keys.proofs.Orderings.{not_greater}
 use Rattle.range_algebra.specs.Range.{IsKnownRange, with_bounds}
-use Rattle.range_algebra.proofs.Meeting.{meets_by, shares_by, not_greater}
+use Rattle.range_algebra.proofs.Meeting.{meets_by, shares_by}
 use Rattle.range_algebra.proofs.any.AnyRange.intersects.Goals as goal
 
 pub returns-then-not-starts_past_end-clause-by_position : goal.returns-then-not-starts_past_end-clause-by_position

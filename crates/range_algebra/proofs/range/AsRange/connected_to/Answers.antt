@@ -1,7 +1,8 @@
 use Rattle.std.proofs.Common.{rules, ◌≡◌, ◌∙◌, sym, true}
 use Rattle.range_algebra.specs.Compared.{range_ordering, matches}
 use Rattle.range_keys.specs.Position.{start_position, end_position, position_cmp}
-use Rattle.range_algebra.proofs.Meeting.{connected_holds, holds_connected, not_greater}
+use Rattle.range_keys.proofs.Orderings.{not_greater}
+use Rattle.range_algebra.proofs.Meeting.{connected_holds, holds_connected}
 use Rattle.range_algebra.proofs.range.AsRange.connected_to.Goals as goal
 
 pub returns-clause-complete : goal.returns-clause-complete

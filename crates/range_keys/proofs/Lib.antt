@@ -1,0 +1,3 @@
+pub mod BoundPositions
+pub mod Orderings
+pub mod Touching
