@@ -69,6 +69,10 @@ module _ {K : Type 0} (order : KeyOrder K) where
   DifferenceHolds (Split left right) k = Holds order left k ⊎ Holds order right k
   DifferenceHolds Empty k = ⊥
 
+  -- the parts hold just the keys of the first range that the second does not hold
+  abbrev pub HoldsDifference : AnyRange K → AnyRange K → Difference K → Type 0
+  HoldsDifference r s d = (k : K) → order.is_key k → DifferenceHolds d k ↔ (Holds order r k × ¬ Holds order s k)
+
   -- each part lies on the side of the range that its name says
   abbrev pub LieRound : Difference K → AnyRange K → Type 0
   LieRound (Before r met) s = AreBelow order r s

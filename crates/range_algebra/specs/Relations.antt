@@ -1,10 +1,10 @@
 -- How two ranges lie to one another: by the keys that they hold, and by the positions of their bounds.
-use Rattle.std.specs.Prelude.{◌≡◌, false, IsTrue, ◌⊎◌}
+use Rattle.std.specs.Prelude.{◌≡◌, false, Bool, IsTrue, ◌⊎◌, ◌↔◌}
 use Rattle.std.specs.declared.cmp.Ordering.TheVariants.{Less}
 use Rattle.range_keys.specs.Order.{KeyOrder, Below}
 use Rattle.range_keys.specs.Position.{start_position, end_position, position_cmp}
 use Rattle.range_algebra.specs.declared.any.AnyRange.{AnyRange}
-use Rattle.range_algebra.specs.Range.{Holds}
+use Rattle.range_algebra.specs.Range.{StartHolds, EndHolds, Holds, IsEmptyRange, IsKnownRange}
 use Rattle.range_algebra.specs.Compared.{range_ordering, matches, starts_at_end}
 
 module _ {K : Type 0} (order : KeyOrder K) where
@@ -34,6 +34,22 @@ module _ {K : Type 0} (order : KeyOrder K) where
 
   abbrev pub EitherHolds : AnyRange K → AnyRange K → K → Type 0
   EitherHolds r s k = Holds order r k ⊎ Holds order s k
+
+  -- of two nonempty ranges the flag says whether R is true of them
+  abbrev pub TellsOfNonempty : Bool → (AnyRange K → AnyRange K → Type 0) → AnyRange K → AnyRange K → Type 0
+  TellsOfNonempty flag R r s = ¬ IsEmptyRange order r → ¬ IsEmptyRange order s → IsTrue flag ↔ R r s
+
+  -- R is true of every two nonempty ranges over keys
+  abbrev pub OfAnyNonempty : (AnyRange K → AnyRange K → Type 0) → Type 0
+  OfAnyNonempty R = (r s : AnyRange K) → IsKnownRange order r → IsKnownRange order s → ¬ IsEmptyRange order r → ¬ IsEmptyRange order s → R r s
+
+  -- the third range holds just the keys that both others hold
+  abbrev pub HoldsShared : AnyRange K → AnyRange K → AnyRange K → Type 0
+  HoldsShared r s t = (k : K) → order.is_key k → Holds order t k ↔ (Holds order r k × Holds order s k)
+
+  -- the third range holds just the keys that some start and some end of the others hold
+  abbrev pub HoldsHull : AnyRange K → AnyRange K → AnyRange K → Type 0
+  HoldsHull r s t = (k : K) → order.is_key k → Holds order t k ↔ ((StartHolds order r.start k ⊎ StartHolds order s.start k) × (EndHolds order r.end k ⊎ EndHolds order s.end k))
 
   -- some key is in both
   abbrev pub ShareKey : AnyRange K → AnyRange K → Type 0

@@ -48,9 +48,11 @@ pub struct AnyRange<T> {
 impl<T: Copy> Copy for AnyRange<T> {}
 
 impl<T: Clone> Clone for AnyRange<T> {
-    ghost is_clone = { λ r s. IsBoundClone T.is_clone r.start s.start × IsBoundClone T.is_clone r.end s.end };
+    ghost is_clone = { λ r s. IsBoundClone T.is_clone r.start s.start
+        × IsBoundClone T.is_clone r.end s.end };
 
-    ghost is_infallible = { λ r. IsBoundInfallible T.is_infallible r.start × IsBoundInfallible T.is_infallible r.end };
+    ghost is_infallible = { λ r. IsBoundInfallible T.is_infallible r.start
+        × IsBoundInfallible T.is_infallible r.end };
 
     fn clone(&self) -> Result<AnyRange<T>, AllocError> {
         Ok(AnyRange {
@@ -125,9 +127,11 @@ impl<T: PartialEnum + Bounded + Clone> AnyRange<T> {
     pub fn first(&self) -> Result<Option<T>, AllocError>
         requires clones { ClonesAreEqual T.is_clone T.eq }
         ensures empty { IsEmptyRange T.order self.now → IfOk result (λ key. key ≡ None) }
-        ensures nonempty { ¬ IsEmptyRange T.order self.now → IfOk result (λ key. SameAnswer T.order (start_key T.order self.now.start) key) }
+        ensures nonempty { ¬ IsEmptyRange T.order self.now
+            → IfOk result (λ key. SameAnswer T.order (start_key T.order self.now.start) key) }
         ensures least { IfOk result (λ key. IfSome key (IsLeastOf T.order self.now)) }
-        ensures complete { IsComplete T.order → IfOk result (λ key. IfNone key (HasNoLeast T.order self.now)) }
+        ensures complete { IsComplete T.order
+            → IfOk result (λ key. IfNone key (HasNoLeast T.order self.now)) }
         ensures fails { OnErr result (¬ IsBoundInfallible T.is_infallible self.now.start) }
     {
         inner::known(self);
@@ -144,9 +148,11 @@ impl<T: PartialEnum + Bounded + Clone> AnyRange<T> {
     pub fn last(&self) -> Result<Option<T>, AllocError>
         requires clones { ClonesAreEqual T.is_clone T.eq }
         ensures empty { IsEmptyRange T.order self.now → IfOk result (λ key. key ≡ None) }
-        ensures nonempty { ¬ IsEmptyRange T.order self.now → IfOk result (λ key. SameAnswer T.order (end_key T.order self.now.end) key) }
+        ensures nonempty { ¬ IsEmptyRange T.order self.now
+            → IfOk result (λ key. SameAnswer T.order (end_key T.order self.now.end) key) }
         ensures greatest { IfOk result (λ key. IfSome key (IsGreatestOf T.order self.now)) }
-        ensures complete { IsComplete T.order → IfOk result (λ key. IfNone key (HasNoGreatest T.order self.now)) }
+        ensures complete { IsComplete T.order
+            → IfOk result (λ key. IfNone key (HasNoGreatest T.order self.now)) }
         ensures fails { OnErr result (¬ IsBoundInfallible T.is_infallible self.now.end) }
     {
         inner::known(self);
@@ -163,7 +169,9 @@ impl<T: PartialEnum + Bounded + Clone> AnyRange<T> {
     pub fn pick(&self) -> Result<Option<T>, AllocError>
         requires clones { ClonesAreEqual T.is_clone T.eq }
         ensures empty { IsEmptyRange T.order self.now → IfOk result (λ key. key ≡ None) }
-        ensures nonempty { ¬ IsEmptyRange T.order self.now → IfOk result (λ key. SameAnswer T.order (option_or (start_key T.order self.now.start) (end_key T.order self.now.end)) key) }
+        ensures nonempty { ¬ IsEmptyRange T.order self.now
+            → IfOk result (λ key. SameAnswer T.order
+            (option_or (start_key T.order self.now.start) (end_key T.order self.now.end)) key) }
         ensures held { IfOk result (λ key. IfSome key (Holds T.order self.now)) }
         ensures fails { OnErr result (¬ IsRangeInfallible T.is_infallible self.now) }
     {
@@ -208,7 +216,9 @@ impl<T: PartialEnum> PartialEq for AnyRange<T> {
     fn eq(&self, other: &AnyRange<T>) -> bool
         ensures value { result ≡ eq_by_cmp (range_cmp T.order) self.now other.now }
         ensures same { IsTrue result → HoldSame T.order self.now other.now }
-        ensures complete { IsComplete T.order → ¬ IsEmptyRange T.order self.now → ¬ IsEmptyRange T.order other.now → HoldSame T.order self.now other.now → IsTrue result }
+        ensures complete { IsComplete T.order → ¬ IsEmptyRange T.order self.now
+            → ¬ IsEmptyRange T.order other.now → HoldSame T.order self.now other.now
+            → IsTrue result }
     {
         inner::known(self);
         inner::known(other);
@@ -248,7 +258,8 @@ impl<T: PartialEnum> Ord for AnyRange<T> {
 impl<T: PartialEnum + Hash> Hash for AnyRange<T> {
     ghost hash_input = { range_input T.order T.hash_input };
 
-    ghost respects_eq = { range_respects T.order T.hash_input (λ a b f. T.respects_eq a b (T.matches_eq a b ∙ ap is_eq (T.order_is_cmp a b ∙ f))) };
+    ghost respects_eq = { range_respects T.order T.hash_input
+        (λ a b f. T.respects_eq a b (T.matches_eq a b ∙ ap is_eq (T.order_is_cmp a b ∙ f))) };
 
     fn hash<H: Hasher>(&self, state: &mut H) {
         Directed::Start(self.start_bound()).hash(state);

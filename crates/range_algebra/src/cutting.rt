@@ -2,7 +2,7 @@
 
 ghost use Rattle.std.specs.Prelude.{◌≡◌};
 ghost use Rattle.std.specs.Option.{option_map, option_or};
-ghost use Rattle.std.specs.Range.Bound.{bound_map};
+ghost use Rattle.range_keys.specs.Position.{bound_of};
 ghost use Rattle.range_algebra.specs.Compared.{inverted};
 ghost use Rattle.range_algebra.specs.Combined.{later_start, earlier_end, common};
 ghost use Rattle.range_algebra.specs.References.{range_of, difference_of, part_of, product_of};
@@ -32,7 +32,7 @@ pub fn by_reference<T: Drop>(range: &AnyRange<T>) -> AnyRange<&T>
 
 /// The bound on the other side of the same place.
 fn inverted<'a, T>(bound: Bound<&'a T>) -> Option<Bound<&'a T>>
-    ensures { option_map (bound_map (λ x. x.now)) result ≡ inverted (bound_map (λ x. x.now) bound.entry) }
+    ensures { option_map bound_of result ≡ inverted (bound_of bound.entry) }
 {
     match bound {
         Bound::Included(key) => Some(Bound::Excluded(key)),
@@ -43,7 +43,7 @@ fn inverted<'a, T>(bound: Bound<&'a T>) -> Option<Bound<&'a T>>
 
 /// The later of two starts, or the first.
 fn later_start<'a, T: PartialEnum>(first: Bound<&'a T>, second: Bound<&'a T>) -> Bound<&'a T>
-    ensures { bound_map (λ x. x.now) result ≡ later_start T.order (bound_map (λ x. x.now) first.entry) (bound_map (λ x. x.now) second.entry) }
+    ensures { bound_of result ≡ later_start T.order (bound_of first.entry) (bound_of second.entry) }
 {
     if Directed::Start(first).cmp(&Directed::Start(second)).is_lt() {
         second
@@ -54,7 +54,7 @@ fn later_start<'a, T: PartialEnum>(first: Bound<&'a T>, second: Bound<&'a T>) ->
 
 /// The earlier of two ends, or the first.
 fn earlier_end<'a, T: PartialEnum>(first: Bound<&'a T>, second: Bound<&'a T>) -> Bound<&'a T>
-    ensures { bound_map (λ x. x.now) result ≡ earlier_end T.order (bound_map (λ x. x.now) first.entry) (bound_map (λ x. x.now) second.entry) }
+    ensures { bound_of result ≡ earlier_end T.order (bound_of first.entry) (bound_of second.entry) }
 {
     if Directed::End(first).cmp(&Directed::End(second)).is_gt() {
         second
@@ -92,7 +92,8 @@ fn part_before<'a, T: PartialEnum>(
     range: AnyRange<&'a T>,
     start: Bound<&'a T>,
 ) -> Option<AnyRange<&'a T>>
-    ensures { option_map range_of result ≡ part_to T.order (range_of range.entry) (inverted (bound_map (λ x. x.now) start.entry)) }
+    ensures { option_map range_of result
+        ≡ part_to T.order (range_of range.entry) (inverted (bound_of start.entry)) }
 {
     match inverted(start) {
         Some(end) => unless_empty(AnyRange::new(range.start, earlier_end(range.end, end))),
@@ -105,7 +106,8 @@ fn part_after<'a, T: PartialEnum>(
     range: AnyRange<&'a T>,
     end: Bound<&'a T>,
 ) -> Option<AnyRange<&'a T>>
-    ensures { option_map range_of result ≡ part_from T.order (range_of range.entry) (inverted (bound_map (λ x. x.now) end.entry)) }
+    ensures { option_map range_of result
+        ≡ part_from T.order (range_of range.entry) (inverted (bound_of end.entry)) }
 {
     match inverted(end) {
         Some(start) => unless_empty(AnyRange::new(later_start(range.start, start), range.end)),
@@ -119,7 +121,8 @@ fn pieces<'a, T: PartialEnum>(
     right: Option<AnyRange<&'a T>>,
     met: bool,
 ) -> Difference<&'a T>
-    ensures { difference_of result ≡ pieces T.order (option_map range_of left.entry) (option_map range_of right.entry) met }
+    ensures { difference_of result
+        ≡ pieces T.order (option_map range_of left.entry) (option_map range_of right.entry) met }
 {
     match (left, right) {
         (None, None) => Difference::Empty,
@@ -134,7 +137,8 @@ pub fn difference<'a, T: PartialEnum>(
     range: AnyRange<&'a T>,
     other: AnyRange<&'a T>,
 ) -> Difference<&'a T>
-    ensures { difference_of result ≡ difference T.order (range_of range.entry) (range_of other.entry) }
+    ensures { difference_of result
+        ≡ difference T.order (range_of range.entry) (range_of other.entry) }
 {
     if starts_past_end(range.start, range.end) {
         return Difference::Empty;
@@ -155,7 +159,9 @@ fn either<'a, T: PartialEnum>(
     subject: Option<AnyRange<&'a T>>,
     object: Option<AnyRange<&'a T>>,
 ) -> Option<ProductArg<&'a T>>
-    ensures { option_map part_of result ≡ option_or (option_map Subject (option_map range_of subject.entry)) (option_map Object (option_map range_of object.entry)) }
+    ensures { option_map part_of result
+        ≡ option_or (option_map Subject (option_map range_of subject.entry))
+        (option_map Object (option_map range_of object.entry)) }
 {
     match (subject, object) {
         (Some(part), _) => Some(ProductArg::Subject(part)),
@@ -169,7 +175,8 @@ fn full_product<'a, T: PartialEnum>(
     range: AnyRange<&'a T>,
     other: AnyRange<&'a T>,
 ) -> Product<&'a T>
-    ensures { product_of result ≡ full_product T.order (range_of range.entry) (range_of other.entry) }
+    ensures { product_of result
+        ≡ full_product T.order (range_of range.entry) (range_of other.entry) }
 {
     Product {
         before: either(

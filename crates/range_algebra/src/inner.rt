@@ -1,9 +1,8 @@
 //! What the crates above need beyond the public surface.
 
 ghost use Rattle.std.specs.Prelude.{◌≡◌, ◌↔◌, IsTrue, IfOk, MatchResult};
-ghost use Rattle.std.specs.Range.Bound.{bound_map};
 ghost use Rattle.std.specs.declared.cmp.Ordering.TheVariants.{Equal};
-ghost use Rattle.range_keys.specs.Position.{start_position};
+ghost use Rattle.range_keys.specs.Position.{bound_of, start_position};
 ghost use Rattle.range_algebra.specs.Clones.{IsBoundClone, IsBoundInfallible};
 ghost use Rattle.range_algebra.specs.Compared.{range_ordering, bounds_ordering, starts_at_end, starts_past_end};
 ghost use Rattle.range_algebra.specs.Range.{Holds, LiesWithin, IsKnownBound, IsKnownRange, ClonesAreEqual};
@@ -19,7 +18,7 @@ use std::ops::{Bound, RangeBounds};
 
 /// Does nothing, and promises that the bound's value is a key.
 pub fn known_bound<T: PartialEnum>(bound: Bound<&T>)
-    ensures { IsKnownBound T.order (bound_map (λ x. x.now) bound.entry) }
+    ensures { IsKnownBound T.order (bound_of bound.entry) }
 {
     match bound {
         Bound::Included(key) | Bound::Excluded(key) => key.known(),
@@ -54,14 +53,16 @@ pub fn holds<T: PartialEnum>(range: &AnyRange<T>, key: &T) -> bool
 
 /// A clone of the bound's value, in a bound of the same kind.
 pub fn clone_bound<T: Clone>(bound: &Bound<T>) -> Result<Bound<T>, AllocError>
-    ensures { MatchResult result (IsBoundClone T.is_clone bound.now) (λ _. IsBoundInfallible T.is_infallible bound.now → ⊥) }
+    ensures { MatchResult result (IsBoundClone T.is_clone bound.now)
+        (λ _. IsBoundInfallible T.is_infallible bound.now → ⊥) }
 {
     clone_of(bound.as_ref())
 }
 
 /// A clone of what the bound refers to, in a bound of the same kind.
 pub fn clone_of<T: Clone>(bound: Bound<&T>) -> Result<Bound<T>, AllocError>
-    ensures { MatchResult result (IsBoundClone T.is_clone (bound_map (λ x. x.now) bound.entry)) (λ _. IsBoundInfallible T.is_infallible (bound_map (λ x. x.now) bound.entry) → ⊥) }
+    ensures { MatchResult result (IsBoundClone T.is_clone (bound_of bound.entry))
+        (λ _. IsBoundInfallible T.is_infallible (bound_of bound.entry) → ⊥) }
 {
     Ok(match bound {
         Bound::Included(key) => Bound::Included(key.clone()?),
@@ -80,14 +81,16 @@ pub fn copied<T: PartialEnum + Clone>(range: &AnyRange<T>) -> Result<AnyRange<T>
 
 /// Whether the start bound lies past the end bound.
 pub fn starts_past_end<T: PartialEnum>(start: Bound<&T>, end: Bound<&T>) -> bool
-    ensures { result ≡ starts_past_end T.order (bound_map (λ x. x.now) start.entry) (bound_map (λ x. x.now) end.entry) }
+    ensures { result ≡ starts_past_end T.order (bound_of start.entry) (bound_of end.entry) }
 {
     Directed::Start(start).cmp(&Directed::End(end)).is_gt()
 }
 
 /// Whether a range that starts at the start bound touches one that ends at the end bound.
 pub fn starts_at_end<T: PartialEnum>(end: Bound<&T>, start: Bound<&T>) -> bool
-    ensures { result ≡ starts_at_end T.order (bound_map (λ x. x.now) end.entry) (start_position T.order (bound_map (λ x. x.now) start.entry)) }
+    ensures { result
+        ≡ starts_at_end T.order (bound_of end.entry)
+        (start_position T.order (bound_of start.entry)) }
 {
     let inverted = match end {
         Bound::Included(key) => Bound::Excluded(key),
@@ -111,7 +114,9 @@ pub fn compare_bounds<T: PartialEnum>(
     right: Bound<&T>,
     right_end: Bound<&T>,
 ) -> RangeOrdering
-    ensures { result ≡ bounds_ordering T.order (bound_map (λ x. x.now) left.entry) (bound_map (λ x. x.now) left_end.entry) (bound_map (λ x. x.now) right.entry) (bound_map (λ x. x.now) right_end.entry) }
+    ensures { result
+        ≡ bounds_ordering T.order (bound_of left.entry) (bound_of left_end.entry)
+        (bound_of right.entry) (bound_of right_end.entry) }
 {
     let start = Directed::Start(left);
     let other_start = Directed::Start(right);

@@ -3,7 +3,7 @@
 ghost use Rattle.std.specs.Prelude.{◌≡◌, ◌↔◌, Some, IsNone, IsSomeAnd};
 ghost use Rattle.std.specs.Range.Bound.{bound_map};
 ghost use Rattle.range_keys.specs.Counted.{IsCountedMeasure};
-ghost use Rattle.range_keys.specs.Position.{key_value, start_position, end_position, position_cmp};
+ghost use Rattle.range_keys.specs.Position.{bound_of, key_value, start_position, end_position, position_cmp};
 ghost use Rattle.range_algebra.specs.Intervals.{Le};
 ghost use Rattle.range_algebra.specs.Measures.{told_bound, measure_between, range_measure, HasUntoldEnd};
 ghost use Rattle.range_algebra.specs.Numbers.{IsNumberOfKeys};
@@ -31,7 +31,8 @@ impl<T: Measure + Bounded> AnyRange<T> {
     pub fn len(&self) -> u128
         ensures measure { range_measure T.order T.len T.distance self.now ≡ Some result }
         ensures empty { IsEmptyRange T.order self.now → result ≡ 0 }
-        ensures counted { IsCountedMeasure T.order T.len T.distance → IsNumberOfKeys T.order (Holds T.order self.now) result }
+        ensures counted { IsCountedMeasure T.order T.len T.distance
+            → IsNumberOfKeys T.order (Holds T.order self.now) result }
     {
         self.bounded_len().unwrap()
     }
@@ -51,7 +52,8 @@ impl<T: Measure> AnyRange<T> {
         ensures measure { result ≡ range_measure T.order T.len T.distance self.now }
         ensures empty { IsEmptyRange T.order self.now → result ≡ Some 0 }
         ensures untold { IsNone result ↔ HasUntoldEnd T.order self.now }
-        ensures counted { IsCountedMeasure T.order T.len T.distance → IsSomeAnd result (IsNumberOfKeys T.order (Holds T.order self.now)) }
+        ensures counted { IsCountedMeasure T.order T.len T.distance
+            → IsSomeAnd result (IsNumberOfKeys T.order (Holds T.order self.now)) }
     {
         inner::known(self);
         if self.is_empty() {
@@ -65,7 +67,7 @@ impl<T: Measure> AnyRange<T> {
 
 /// The bound, or the told end in the place of none.
 fn with_told<T: PartialEnum>(bound: Bound<&T>, told: Option<T>) -> Bound<KeyRef<'_, T>>
-    ensures { bound_map key_value result ≡ told_bound told (bound_map (λ x. x.now) bound.entry) }
+    ensures { bound_map key_value result ≡ told_bound told (bound_of bound.entry) }
 {
     match (bound, told) {
         (Bound::Included(key), _) => Bound::Included(KeyRef::Given(key)),
@@ -79,8 +81,12 @@ fn with_told<T: PartialEnum>(bound: Bound<&T>, told: Option<T>) -> Bound<KeyRef<
 fn measured<T: Measure>(start: &Bound<KeyRef<'_, T>>, end: &Bound<KeyRef<'_, T>>) -> Option<u128>
     requires known_start { IsKnownBound T.order (bound_map key_value start.now) }
     requires known_end { IsKnownBound T.order (bound_map key_value end.now) }
-    requires nonempty { Le (position_cmp T.order.cmp) (start_position T.order (bound_map key_value start.now)) (end_position T.order (bound_map key_value end.now)) }
-    ensures { result ≡ measure_between T.len T.distance (bound_map key_value start.now) (bound_map key_value end.now) }
+    requires nonempty { Le (position_cmp T.order.cmp)
+        (start_position T.order (bound_map key_value start.now))
+        (end_position T.order (bound_map key_value end.now)) }
+    ensures { result
+        ≡ measure_between T.len T.distance (bound_map key_value start.now)
+        (bound_map key_value end.now) }
 {
     match (start, end) {
         (Bound::Included(a), Bound::Included(b)) => {

@@ -3,11 +3,10 @@ use Rattle.std.specs.Prelude.{Option, Some, None, Bool, true, false}
 use Rattle.std.specs.declared.cmp.Ordering.{Ordering}
 use Rattle.std.specs.declared.cmp.Ordering.TheVariants.{Less, Equal, Greater}
 use Rattle.std.specs.declared.ops.Bound.{Bound}
-use Rattle.std.specs.Range.Bound.{bound_map}
 use Rattle.std.specs.Borrow.{Bor}
 use Rattle.std.specs.Ordering.{is_eq}
 use Rattle.range_keys.specs.Order.{KeyOrder}
-use Rattle.range_keys.specs.Position.{start_position, end_position, position_cmp}
+use Rattle.range_keys.specs.Position.{bound_of, start_position, end_position, position_cmp}
 use Rattle.range_keys.specs.declared.inner.position.Side.TheVariants.{Before, At, After}
 use Rattle.range_keys.specs.declared.inner.position.Position.{Position}
 use Rattle.range_keys.specs.declared.inner.position.Position.TheVariants.{Beside}
@@ -31,7 +30,7 @@ module _ {K : Type 0} (order : KeyOrder K) where
 
   -- the same, of bounds behind references
   abbrev pub reference_position : Directed (Bound (Bor K)) → Position K
-  reference_position d = directed_position (directed_map (bound_map (λ x. x.now)) d)
+  reference_position d = directed_position (directed_map bound_of d)
 
   -- the option has a value that equals the key
   abbrev pub tells : Option K → K → Bool

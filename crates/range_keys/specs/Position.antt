@@ -5,6 +5,8 @@ use Rattle.std.specs.declared.cmp.Ordering.TheVariants.{Less, Equal, Greater}
 use Rattle.std.specs.declared.ops.Bound.{Bound}
 use Rattle.std.specs.declared.ops.Bound.TheVariants.{Included, Excluded, Unbounded}
 use Rattle.std.specs.Ordering.{nat_cmp, on, ordering_then}
+use Rattle.std.specs.Borrow.{Bor}
+use Rattle.std.specs.Range.Bound.{bound_map}
 use Rattle.range_keys.specs.Order.{KeyOrder}
 pub use Rattle.range_keys.specs.declared.inner.position.Side.{Side}
 pub use Rattle.range_keys.specs.declared.inner.position.Side.TheVariants.{Before, At, After}
@@ -17,6 +19,10 @@ use Rattle.range_keys.specs.declared.inner.position.KeyRef.TheVariants.{Given, T
 abbrev pub key_value : {K : Type 0} → KeyRef K → K
 key_value (Given key) = key.now
 key_value (Told key) = key
+
+-- the bound that the references point to
+abbrev pub bound_of : {K : Type 0} → Bound (Bor K) → Bound K
+bound_of = bound_map (λ x. x.now)
 
 abbrev pub position_map : {A B : Type 0} → (A → B) → Position A → Position B
 position_map f MinusInfinity = MinusInfinity

@@ -4,13 +4,12 @@ ghost use Rattle.std.specs.Prelude.{◌≡◌, Some};
 ghost use Rattle.std.specs.declared.ops.Bound.{Bound};
 ghost use Rattle.std.specs.declared.ops.Bound.TheVariants.{Included};
 ghost use Rattle.std.specs.Ordering.{on, eq_by_cmp, as_partial_cmp};
-ghost use Rattle.std.specs.Range.Bound.{bound_map};
 ghost use Rattle.std.specs.Cmp.{on_total, on_equiv, on_per, eq_by_cmp_equiv, partial_equiv_from_equiv, partial_order_from_total};
 ghost use Rattle.std.specs.Ordering.{is_eq};
 ghost use Rattle.std.proofs.Common.{refl, ap, ◌∙◌};
 ghost use Rattle.range_keys.specs.Hashing.{position_input, position_respects};
 ghost use Rattle.range_keys.specs.declared.bound.Directed.{Directed};
-ghost use Rattle.range_keys.specs.Position.{position_cmp};
+ghost use Rattle.range_keys.specs.Position.{bound_of, position_cmp};
 ghost use Rattle.range_keys.specs.Directed.{directed_map, directed_value, bound_ordering, reference_position};
 ghost use Rattle.range_keys.specs.PositionOrder.{position_total};
 
@@ -32,7 +31,7 @@ pub trait AsBound {
 
     /// The bound. Allocates nothing.
     fn bound(&self) -> Bound<&Self::Item>
-        ensures { bound_map (λ x. x.now) result ≡ bound self.now };
+        ensures { bound_of result ≡ bound self.now };
 }
 
 impl AsBound for u8 {
@@ -48,7 +47,7 @@ impl AsBound for u8 {
 impl<'a, T> AsBound for Bound<&'a T> {
     type Item = T;
 
-    ghost bound = { bound_map (λ x. x.now) };
+    ghost bound = { bound_of };
 
     fn bound(&self) -> Bound<&T> {
         *self
@@ -94,7 +93,7 @@ impl<T> Directed<Bound<T>> {
     /// The same bound over a reference to its key. It can be compared, where keys tell their
     /// neighbours.
     pub fn as_ref(&self) -> Directed<Bound<&T>>
-        ensures { directed_map (bound_map (λ x. x.now)) result ≡ self.now }
+        ensures { directed_map bound_of result ≡ self.now }
     {
         match self {
             Directed::Start(bound) => Directed::Start(bound.as_ref()),
@@ -138,14 +137,16 @@ pub trait BoundPartialOrd<T: PartialEnum> {
 
     /// `Some` of what [`BoundOrd::bound_cmp`] answers, always. Allocates nothing.
     fn bound_partial_cmp<B: AsBound<Item = T>>(&self, other: &Directed<B>) -> Option<BoundOrdering>
-        ensures { result ≡ Some (bound_ordering T.order (directed self.now) (directed_map B.bound other.now)) };
+        ensures { result
+            ≡ Some (bound_ordering T.order (directed self.now) (directed_map B.bound other.now)) };
 }
 
 /// Bounds that compare with the bounds of keys `T`.
 pub trait BoundOrd<T: PartialEnum>: BoundPartialOrd<T> {
     /// How this bound lies to the other, by their positions. Allocates nothing.
     fn bound_cmp<B: AsBound<Item = T>>(&self, other: &Directed<B>) -> BoundOrdering
-        ensures { result ≡ bound_ordering T.order (Self.directed self.now) (directed_map B.bound other.now) };
+        ensures { result
+            ≡ bound_ordering T.order (Self.directed self.now) (directed_map B.bound other.now) };
 }
 
 impl<A: AsBound> BoundPartialOrd<A::Item> for Directed<A>
@@ -184,7 +185,8 @@ where
 impl<'a, T: PartialEnum> PartialEq for Directed<Bound<&'a T>> {
     ghost eq = { on (reference_position T.order) (eq_by_cmp (position_cmp T.order.cmp)) };
 
-    ghost laws = { on_per (reference_position T.order) (partial_equiv_from_equiv (eq_by_cmp_equiv (position_total T.order.cmp T.lawful.total))) };
+    ghost laws = { on_per (reference_position T.order)
+        (partial_equiv_from_equiv (eq_by_cmp_equiv (position_total T.order.cmp T.lawful.total))) };
 
     fn eq(&self, other: &Self) -> bool {
         compare_positions(&position_of(self), &position_of(other)) == Ordering::Equal
@@ -192,13 +194,16 @@ impl<'a, T: PartialEnum> PartialEq for Directed<Bound<&'a T>> {
 }
 
 impl<'a, T: PartialEnum> Eq for Directed<Bound<&'a T>> {
-    ghost laws = { on_equiv (reference_position T.order) (eq_by_cmp_equiv (position_total T.order.cmp T.lawful.total)) };
+    ghost laws = { on_equiv (reference_position T.order)
+        (eq_by_cmp_equiv (position_total T.order.cmp T.lawful.total)) };
 }
 
 impl<'a, T: PartialEnum> PartialOrd for Directed<Bound<&'a T>> {
-    ghost partial_cmp = { as_partial_cmp (on (reference_position T.order) (position_cmp T.order.cmp)) };
+    ghost partial_cmp = { as_partial_cmp
+        (on (reference_position T.order) (position_cmp T.order.cmp)) };
 
-    ghost laws = { partial_order_from_total (on_total (reference_position T.order) (position_total T.order.cmp T.lawful.total)) };
+    ghost laws = { partial_order_from_total
+        (on_total (reference_position T.order) (position_total T.order.cmp T.lawful.total)) };
 
     fn partial_cmp(&self, other: &Self) -> Option<Ordering> {
         Some(self.cmp(other))
@@ -208,7 +213,8 @@ impl<'a, T: PartialEnum> PartialOrd for Directed<Bound<&'a T>> {
 impl<'a, T: PartialEnum> Ord for Directed<Bound<&'a T>> {
     ghost cmp = { on (reference_position T.order) (position_cmp T.order.cmp) };
 
-    ghost total = { on_total (reference_position T.order) (position_total T.order.cmp T.lawful.total) };
+    ghost total = { on_total (reference_position T.order)
+        (position_total T.order.cmp T.lawful.total) };
 
     ghost matches_partial_cmp = { λ a b. refl };
 
@@ -222,7 +228,9 @@ impl<'a, T: PartialEnum> Ord for Directed<Bound<&'a T>> {
 impl<'a, T: PartialEnum + Hash> Hash for Directed<Bound<&'a T>> {
     ghost hash_input = { λ d. position_input T.hash_input (reference_position T.order d) };
 
-    ghost respects_eq = { λ x y e. position_respects T.order.cmp T.hash_input (λ a b f. T.respects_eq a b (T.matches_eq a b ∙ ap is_eq (T.order_is_cmp a b ∙ f))) (reference_position T.order x) (reference_position T.order y) e };
+    ghost respects_eq = { λ x y e. position_respects T.order.cmp T.hash_input
+        (λ a b f. T.respects_eq a b (T.matches_eq a b ∙ ap is_eq (T.order_is_cmp a b ∙ f)))
+        (reference_position T.order x) (reference_position T.order y) e };
 
     fn hash<H: Hasher>(&self, state: &mut H) {
         match position_of(self) {

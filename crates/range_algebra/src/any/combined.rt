@@ -1,13 +1,13 @@
 //! The common part and the hull of ranges.
 
-ghost use Rattle.std.specs.Prelude.{◌≡◌, ◌↔◌, ◌⊎◌, IsTrue, IsFalse, IfOk, OnOk, OnErr, unwrap_or};
-ghost use Rattle.std.specs.Range.Bound.{bound_map};
+ghost use Rattle.std.specs.Prelude.{◌≡◌, ◌↔◌, IsTrue, IsFalse, IfOk, OnOk, OnErr, unwrap_or};
 ghost use Rattle.range_keys.specs.Order.{IsComplete};
+ghost use Rattle.range_keys.specs.Position.{bound_of};
 ghost use Rattle.range_algebra.specs.Clones.{SameBound, IsBoundInfallible, IsRangeInfallible};
 ghost use Rattle.range_algebra.specs.Combined.{earlier_start, later_end, common};
 ghost use Rattle.range_algebra.specs.Compared.{starts_past_end};
-ghost use Rattle.range_algebra.specs.Range.{StartHolds, EndHolds, Holds, IsEmptyRange, ClonesAreEqual, with_bounds};
-ghost use Rattle.range_algebra.specs.Relations.{Meets, ShareKey};
+ghost use Rattle.range_algebra.specs.Range.{ClonesAreEqual, with_bounds};
+ghost use Rattle.range_algebra.specs.Relations.{Meets, ShareKey, TellsOfNonempty, HoldsShared, HoldsHull};
 
 use crate::any::AnyRange;
 use crate::{cutting, inner};
@@ -31,9 +31,14 @@ impl<T: PartialEnum> AnyRange<T> {
     /// ```
     pub fn intersects<S: RangeBounds<T>>(&self, other: &S) -> bool
         ensures by_position { S.has_bounds other.now → IsTrue result
-            ↔ (IsFalse (starts_past_end T.order self.now.start (S.end_bound other.now)) × IsFalse (starts_past_end T.order (S.start_bound other.now) self.now.end)) }
-        ensures meets { S.has_bounds other.now → ¬ IsEmptyRange T.order self.now → ¬ IsEmptyRange T.order (with_bounds (S.start_bound other.now) (S.end_bound other.now)) → IsTrue result ↔ Meets T.order self.now (with_bounds (S.start_bound other.now) (S.end_bound other.now)) }
-        ensures complete { S.has_bounds other.now → IsComplete T.order → ¬ IsEmptyRange T.order self.now → ¬ IsEmptyRange T.order (with_bounds (S.start_bound other.now) (S.end_bound other.now)) → IsTrue result ↔ ShareKey T.order self.now (with_bounds (S.start_bound other.now) (S.end_bound other.now)) }
+            ↔ (IsFalse (starts_past_end T.order self.now.start (S.end_bound other.now))
+            × IsFalse (starts_past_end T.order (S.start_bound other.now) self.now.end)) }
+        ensures meets { S.has_bounds other.now
+            → TellsOfNonempty T.order result (Meets T.order) self.now
+            (with_bounds (S.start_bound other.now) (S.end_bound other.now)) }
+        ensures complete { S.has_bounds other.now → IsComplete T.order
+            → TellsOfNonempty T.order result (ShareKey T.order) self.now
+            (with_bounds (S.start_bound other.now) (S.end_bound other.now)) }
     {
         let (start, end) = (other.start_bound(), other.end_bound());
         inner::known(self);
@@ -50,10 +55,13 @@ impl<T: PartialEnum + Clone> AnyRange<T> {
     /// Fails only where a clone of a bound fails.
     pub fn intersection(&self, other: &AnyRange<T>) -> Result<AnyRange<T>, AllocError>
         requires clones { ClonesAreEqual T.is_clone T.eq }
-        ensures start { IfOk result (λ r. SameBound T.order (common T.order self.now other.now).start r.start) }
-        ensures end { IfOk result (λ r. SameBound T.order (common T.order self.now other.now).end r.end) }
-        ensures held { IfOk result (λ r. (k : T) → T.order.is_key k → Holds T.order r k ↔ (Holds T.order self.now k × Holds T.order other.now k)) }
-        ensures fails { OnErr result (¬ IsRangeInfallible T.is_infallible (common T.order self.now other.now)) }
+        ensures start { IfOk result
+            (λ r. SameBound T.order (common T.order self.now other.now).start r.start) }
+        ensures end { IfOk result
+            (λ r. SameBound T.order (common T.order self.now other.now).end r.end) }
+        ensures held { IfOk result (HoldsShared T.order self.now other.now) }
+        ensures fails { OnErr result
+            (¬ IsRangeInfallible T.is_infallible (common T.order self.now other.now)) }
     {
         let own = cutting::by_reference(self);
         let others = cutting::by_reference(other);
@@ -67,12 +75,18 @@ impl<T: PartialEnum + Clone> AnyRange<T> {
     /// range as it was.
     pub fn add<S: RangeBounds<T>>(&mut self, other: &S) -> Result<(), AllocError>
         requires clones { ClonesAreEqual T.is_clone T.eq }
-        ensures start { S.has_bounds other.now → OnOk result (SameBound T.order (earlier_start T.order self.old.start (S.start_bound other.now)) self.new.start) }
-        ensures end { S.has_bounds other.now → OnOk result (SameBound T.order (later_end T.order self.old.end (S.end_bound other.now)) self.new.end) }
-        ensures held { S.has_bounds other.now → OnOk result ((k : T) → T.order.is_key k → Holds T.order self.new k
-            ↔ ((StartHolds T.order self.old.start k ⊎ StartHolds T.order (S.start_bound other.now) k) × (EndHolds T.order self.old.end k ⊎ EndHolds T.order (S.end_bound other.now) k))) }
+        ensures start { S.has_bounds other.now
+            → OnOk result (SameBound T.order
+            (earlier_start T.order self.old.start (S.start_bound other.now)) self.new.start) }
+        ensures end { S.has_bounds other.now
+            → OnOk result (SameBound T.order
+            (later_end T.order self.old.end (S.end_bound other.now)) self.new.end) }
+        ensures held { S.has_bounds other.now → OnOk result (HoldsHull T.order self.old
+            (with_bounds (S.start_bound other.now) (S.end_bound other.now)) self.new) }
         ensures refused { OnErr result (self.new ≡ self.old) }
-        ensures fails { S.has_bounds other.now → OnErr result (¬ IsRangeInfallible T.is_infallible (with_bounds (S.start_bound other.now) (S.end_bound other.now))) }
+        ensures fails { S.has_bounds other.now
+            → OnErr result (¬ IsRangeInfallible T.is_infallible
+            (with_bounds (S.start_bound other.now) (S.end_bound other.now))) }
     {
         let start = start_to_take(self.start_bound(), other.start_bound())?;
         let end = end_to_take(self.end_bound(), other.end_bound())?;
@@ -88,8 +102,10 @@ fn start_to_take<T: PartialEnum + Clone>(
     other: Bound<&T>,
 ) -> Result<Option<Bound<T>>, AllocError>
     requires { ClonesAreEqual T.is_clone T.eq }
-    ensures taken { IfOk result (λ taken. SameBound T.order (earlier_start T.order (bound_map (λ x. x.now) own.entry) (bound_map (λ x. x.now) other.entry)) (unwrap_or taken (bound_map (λ x. x.now) own.entry))) }
-    ensures fails { OnErr result (¬ IsBoundInfallible T.is_infallible (bound_map (λ x. x.now) other.entry)) }
+    ensures taken { IfOk result (λ taken. SameBound T.order
+        (earlier_start T.order (bound_of own.entry) (bound_of other.entry))
+        (unwrap_or taken (bound_of own.entry))) }
+    ensures fails { OnErr result (¬ IsBoundInfallible T.is_infallible (bound_of other.entry)) }
 {
     if Directed::Start(own).cmp(&Directed::Start(other)).is_lt() {
         Ok(None)
@@ -104,8 +120,10 @@ fn end_to_take<T: PartialEnum + Clone>(
     other: Bound<&T>,
 ) -> Result<Option<Bound<T>>, AllocError>
     requires { ClonesAreEqual T.is_clone T.eq }
-    ensures taken { IfOk result (λ taken. SameBound T.order (later_end T.order (bound_map (λ x. x.now) own.entry) (bound_map (λ x. x.now) other.entry)) (unwrap_or taken (bound_map (λ x. x.now) own.entry))) }
-    ensures fails { OnErr result (¬ IsBoundInfallible T.is_infallible (bound_map (λ x. x.now) other.entry)) }
+    ensures taken { IfOk result (λ taken. SameBound T.order
+        (later_end T.order (bound_of own.entry) (bound_of other.entry))
+        (unwrap_or taken (bound_of own.entry))) }
+    ensures fails { OnErr result (¬ IsBoundInfallible T.is_infallible (bound_of other.entry)) }
 {
     if Directed::End(own).cmp(&Directed::End(other)).is_gt() {
         Ok(None)

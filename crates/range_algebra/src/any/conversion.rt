@@ -40,7 +40,11 @@ impl<T: Drop> From<RangeToInclusive<T>> for AnyRange<T> {
 }
 
 impl<T: Drop> From<RangeInclusive<T>> for AnyRange<T> {
-    ghost from_gives = { λ r s. s ≡ record { start = Included (range_inclusive_start r); end = Included (range_inclusive_end r) } };
+    ghost from_gives = { λ r s. s
+        ≡ record {
+          start = Included (range_inclusive_start r);
+          end = Included (range_inclusive_end r);
+        } };
 
     fn from(value: RangeInclusive<T>) -> AnyRange<T> {
         let (start, end) = value.into_inner();

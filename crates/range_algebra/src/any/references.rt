@@ -15,7 +15,8 @@ use std::alloc::AllocError;
 impl<T: Clone> AnyRange<T> {
     /// The range by its bounds, which are cloned.
     pub fn from<R: AsRange<Item = T>>(range: R) -> Result<AnyRange<T>, AllocError>
-        ensures { MatchResult result (IsRangeClone T.is_clone (R.range range)) (λ _. ¬ IsRangeInfallible T.is_infallible (R.range range)) }
+        ensures { MatchResult result (IsRangeClone T.is_clone (R.range range))
+            (λ _. ¬ IsRangeInfallible T.is_infallible (R.range range)) }
     {
         Ok(AnyRange {
             start: inner::clone_of(range.start())?,
@@ -27,7 +28,8 @@ impl<T: Clone> AnyRange<T> {
 impl<'a, T: Clone> AnyRange<&'a T> {
     /// The same range over clones of the keys.
     pub fn cloned(self) -> Result<AnyRange<T>, AllocError>
-        ensures { MatchResult result (IsRangeClone T.is_clone (range_of self.entry)) (λ _. ¬ IsRangeInfallible T.is_infallible (range_of self.entry)) }
+        ensures { MatchResult result (IsRangeClone T.is_clone (range_of self.entry))
+            (λ _. ¬ IsRangeInfallible T.is_infallible (range_of self.entry)) }
     {
         Ok(AnyRange {
             start: inner::clone_of(self.start)?,
@@ -41,7 +43,8 @@ impl<'a, T: PartialEnum> AnyRange<&'a T> {
     pub fn ref_is_empty(&self) -> bool
         ensures by_position { IsTrue result ↔ IsEmptyRange T.order (range_of self.now) }
         ensures keyless { IsTrue result → IsKeyless T.order (range_of self.now) }
-        ensures complete { IsComplete T.order → IsKeyless T.order (range_of self.now) → IsTrue result }
+        ensures complete { IsComplete T.order → IsKeyless T.order (range_of self.now)
+            → IsTrue result }
     {
         inner::known_bound(self.start);
         inner::known_bound(self.end);

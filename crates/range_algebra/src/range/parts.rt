@@ -51,7 +51,8 @@ pub struct Product<T> {
 impl<'a, T: Clone> ProductArg<&'a T> {
     /// The same part over clones of the keys.
     pub fn cloned(&self) -> Result<ProductArg<T>, AllocError>
-        ensures { MatchResult result (IsPartClone T.is_clone (part_of self.now)) (λ _. ¬ IsPartInfallible T.is_infallible (part_of self.now)) }
+        ensures { MatchResult result (IsPartClone T.is_clone (part_of self.now))
+            (λ _. ¬ IsPartInfallible T.is_infallible (part_of self.now)) }
     {
         match self {
             ProductArg::Subject(range) => Ok(ProductArg::Subject((*range).cloned()?)),
@@ -63,7 +64,8 @@ impl<'a, T: Clone> ProductArg<&'a T> {
 impl<'a, T: Clone> Product<&'a T> {
     /// The same parts over clones of the keys.
     pub fn cloned(&self) -> Result<Product<T>, AllocError>
-        ensures { MatchResult result (IsProductClone T.is_clone (product_of self.now)) (λ _. ¬ IsProductInfallible T.is_infallible (product_of self.now)) }
+        ensures { MatchResult result (IsProductClone T.is_clone (product_of self.now))
+            (λ _. ¬ IsProductInfallible T.is_infallible (product_of self.now)) }
     {
         let before = part_cloned(&self.before)?;
         let intersection = match &self.intersection {
@@ -83,7 +85,10 @@ impl<'a, T: Clone> Product<&'a T> {
 fn part_cloned<'a, T: Clone>(
     part: &Option<ProductArg<&'a T>>,
 ) -> Result<Option<ProductArg<T>>, AllocError>
-    ensures { MatchResult result (IsOptionClone (IsPartClone T.is_clone) (option_map part_of part.now)) (λ _. ¬ IsOptionInfallible (IsPartInfallible T.is_infallible) (option_map part_of part.now)) }
+    ensures { MatchResult result
+        (IsOptionClone (IsPartClone T.is_clone) (option_map part_of part.now))
+        (λ _. ¬ IsOptionInfallible (IsPartInfallible T.is_infallible)
+        (option_map part_of part.now)) }
 {
     match part {
         Some(part) => Ok(Some(part.cloned()?)),

@@ -32,7 +32,10 @@ impl<T: Measure> IntoRange for Range<T> {
 impl<T: Measure> AsRange for RangeInclusive<T> {
     type Item = T;
 
-    ghost range = { λ r. record { start = Included (range_inclusive_start r); end = Included (range_inclusive_end r) } };
+    ghost range = { λ r. record {
+      start = Included (range_inclusive_start r);
+      end = Included (range_inclusive_end r);
+    } };
 
     fn start(&self) -> Bound<&T> {
         Bound::Included(RangeInclusive::start(self))

@@ -16,7 +16,8 @@ use std::cmp::Ordering;
 pub(crate) fn position_of<B: AsBound>(directed: &Directed<B>) -> Position<KeyRef<'_, B::Item>>
 where
     B::Item: PartialEnum,
-    ensures { position_map key_value result ≡ directed_position B.Item.order (directed_map B.bound directed.now) }
+    ensures { position_map key_value result
+        ≡ directed_position B.Item.order (directed_map B.bound directed.now) }
 {
     match directed {
         Directed::Start(start) => position_of_start(start.bound()),
@@ -30,7 +31,8 @@ pub(crate) fn touches<T: PartialEnum>(
     low: &Position<KeyRef<'_, T>>,
     high: &Position<KeyRef<'_, T>>,
 ) -> bool
-    ensures { result ≡ are_adjacent T.order (position_map key_value low.now) (position_map key_value high.now) }
+    ensures { result
+        ≡ are_adjacent T.order (position_map key_value low.now) (position_map key_value high.now) }
 {
     match (low, high) {
         (Position::Beside(a, Side::Before), Position::Beside(b, Side::At)) => {
