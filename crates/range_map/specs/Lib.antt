@@ -1,4 +1,5 @@
 pub mod Answers
+pub mod Askable
 pub mod Asking
 pub mod Bindings
 pub mod Changes

@@ -4,6 +4,7 @@ ghost use Rattle.range_keys.specs.Order.{IsComplete};
 ghost use Rattle.range_algebra.specs.Intervals.{Every};
 ghost use Rattle.range_algebra.specs.Range.{ClonesAreEqual, IsEmptyRange};
 ghost use Rattle.range_map.specs.Answers.{MayAnswer, MayBeAsked, FailsAt, IsUpdated};
+ghost use Rattle.range_map.specs.Askable.{MayBeAskedOfEach};
 ghost use Rattle.range_map.specs.Bindings.{IsCoarse};
 ghost use Rattle.range_map.specs.Coarse.{IsOnlyCoarse};
 ghost use Rattle.range_map.specs.Reach.{IsFirstReaching, IsLastReaching};
@@ -126,7 +127,7 @@ impl<K: Measure + Clone, V: Eq + Clone, C: Storage<Item<AnyRange<K>, V>>> RangeM
         requires keys { ClonesAreEqual K.is_clone K.eq }
         requires values { ClonesAreEqual V.is_clone V.eq }
         requires free { MayBeAsked F.Fn f None }
-        requires bound { Every (λ i. MayBeAsked F.Fn f (Some i.value)) (C.items self.old) }
+        requires bound { MayBeAskedOfEach F.Fn f (C.items self.old) }
         ensures updated { OnOk result (¬ IsEmptyRange K.order (R.range range) → IsUpdated K.order V.eq F.Fn f (C.items self.old) (C.items self.new) (R.range range)) }
         ensures rebound { OnOk result (AreRebound K.order V.eq (MayAnswer F.Fn f) (C.items self.old) (C.items self.new) (R.range range)) }
         ensures form { IsStored K.order V.eq (C.items self.new) }
