@@ -7,7 +7,7 @@ use Rattle.std.specs.Cmp.{IsEquivalence}
 use Rattle.std.specs.declared.ops.Bound.{Bound}
 use Rattle.range_keys.specs.Order.{KeyOrder}
 use Rattle.range_algebra.specs.Chains.{every_weaker}
-use Rattle.range_algebra.specs.Intervals.{Every}
+use Rattle.range_algebra.specs.Intervals.{Any, Every}
 use Rattle.range_algebra.specs.declared.any.AnyRange.{AnyRange}
 use Rattle.range_store.specs.declared.storage.Item.{Item}
 use Rattle.range_map.specs.Edits.{with_start, with_end}
@@ -85,6 +85,14 @@ module _ {K V : Type 0} where
   every_ended P (Some b) [] h = h
   every_ended P (Some b) (i ∷ []) h = h
   every_ended P (Some b) (i ∷ j ∷ rest) h = (h.0, every_ended P (Some b) (j ∷ rest) h.1)
+
+  pub any_ended : (P : Item (AnyRange K) V → Type 0) (finish : Option (Bound K)) (xs : List (Item (AnyRange K) V)) → ((i : Item (AnyRange K) V) (b : Bound K) → finish ≡ Some b → P i → P (with_end i b)) → Any P xs → Any P (with_last_end finish xs)
+  any_ended P None xs f h = h
+  any_ended P (Some b) [] f h = h
+  any_ended P (Some b) (i ∷ []) f (inl h) = inl (f i b refl h)
+  any_ended P (Some b) (i ∷ []) f (inr h) = absurd h
+  any_ended P (Some b) (i ∷ j ∷ rest) f (inl h) = inl h
+  any_ended P (Some b) (i ∷ j ∷ rest) f (inr h) = inr (any_ended P (Some b) (j ∷ rest) f h)
 
   -- a write of the last item's end
   pub set_last : (xs : List (Item (AnyRange K) V)) (x : Item (AnyRange K) V) (b : Bound K) → 0 < length xs → x ≡ get_or xs (length xs - 1) x → set xs (length xs - 1) (with_end x b) ≡ with_last_end (Some b) xs

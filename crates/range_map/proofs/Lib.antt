@@ -22,6 +22,7 @@ pub mod Lengths
 pub mod Likeness
 pub mod Listed
 pub mod Meeting
+pub mod Merging
 pub mod Once
 pub mod Openings
 pub mod Planning

@@ -1,5 +1,5 @@
 -- A clone of a range in the place of the range.
-use Rattle.std.proofs.Common.{◌≡◌, refl, ◌∙◌, Option, Some, None, Bool, false, IsTrue, List, inl, inr, Result, map}
+use Rattle.std.proofs.Common.{◌≡◌, refl, ◌∙◌, Option, Some, None, Bool, false, IsTrue, List, ◌⊎◌, inl, inr, Result, map}
 use Rattle.std.specs.Fn.{Shared}
 use denote.Ref.{Bor}
 use Rattle.std.specs.declared.ops.Bound.{Bound}
@@ -23,7 +23,7 @@ use Rattle.range_algebra.specs.Chains.{every_weaker}
 use Rattle.range_algebra.proofs.Holding.{holds_by_position}
 use Rattle.range_store.specs.declared.storage.Item.{Item}
 use Rattle.range_map.specs.Answers.{piece_of, FailsAt, IsUpdated}
-use Rattle.range_map.specs.Lookups.{IsConnectedTo}
+use Rattle.range_map.specs.Frames.{IsMergedInto}
 use Rattle.range_map.specs.Pieces.{later, earlier, IsCommonPart, LiesIn, IsFreePart, IsPiece}
 use Rattle.range_map.specs.Ranges.{Overlap}
 use Rattle.range_map.proofs.Cutting.{PLe, any_over, later_over, earlier_under, pick}
@@ -150,10 +150,11 @@ module _ {K : Type 0} (order : KeyOrder K) (lawful : IsLawful order) where
         let q' = end_position order s.end in
         greater (cmp p q) (λ le. not_both (cmp p' q') (le_trans cmp total p' p q' (eq_le cmp total p' p starts_alike) (le_trans cmp total p q q' le (eq_ge cmp total q' q ends_alike))) h)
 
-    connected_too : (i : AnyRange K) → IsConnectedTo order i s → IsConnectedTo order i r
-    connected_too i (inl meets) = inl (overlap_too s r starts_alike ends_alike i meets)
-    connected_too i (inr (inl touches)) = inr (inl (touches_start i.end s r starts_alike touches))
-    connected_too i (inr (inr touches)) = inr (inr (touches_end s.end r.end (start_position order i.start) end touches))
+    module _ {V : Type 0} (same : V → V → Bool) (others : List (Item (AnyRange K) V)) where
+      concerned_too : (i : Item (AnyRange K) V) → Overlap order i.key s ⊎ IsMergedInto order same others s i → Overlap order i.key r ⊎ IsMergedInto order same others r i
+      concerned_too i (inl meets) = inl (overlap_too s r starts_alike ends_alike i.key meets)
+      concerned_too i (inr (inl h)) = inr (inl (touches_start i.key.end s r starts_alike h.0, any_over _ _ others (λ j g. (g.0, overlap_too s r starts_alike ends_alike j.key g.1, g.2)) h.1))
+      concerned_too i (inr (inr h)) = inr (inr (touches_end s.end r.end (start_position order i.key.start) end h.0, any_over _ _ others (λ j g. (g.0, overlap_too s r starts_alike ends_alike j.key g.1, g.2)) h.1))
 
     module _ {V : Type 0} (same : V → V → Bool) {F E : Type 0} (calls : Shared F (Option (Bor V) × Unit {0}) (Result (Option V) E)) (f : F) (items : List (Item (AnyRange K) V)) where
       pub fails_too : (e : E) → FailsAt order same calls f items s e → FailsAt order same calls f items r e
@@ -177,7 +178,7 @@ module _ {K : Type 0} (order : KeyOrder K) (lawful : IsLawful order) where
           behind = h.frame.behind;
           before = h.frame.before;
           after = h.frame.after;
-          concerned = every_weaker (λ i. IsConnectedTo order i.key s) (λ i. IsConnectedTo order i.key r) h.frame.run (λ i t. connected_too i.key t) h.frame.concerned;
+          concerned = every_weaker _ _ h.frame.run (λ i t. concerned_too same h.frame.others i t) h.frame.concerned;
           valued = h.frame.valued;
         };
       }

@@ -147,7 +147,7 @@ module _ {K : Type 0} (order : KeyOrder K) (lawful : IsLawful order) {V : Type 0
     frame = record {
       extra = x ∷ [];
       split = ap (λ n. take n items) (sym at) ∙ (take_more items (rank q) x within ∙ ap (λ y. take (rank q) items ++ y ∷ []) (sym read));
-      touched = (touched_before (rank q) x at read touching, tt);
+      touched = (let t = touched_before (rank q) x at read touching in (t.0, t.1, refl), tt);
       start_of = inr (inl (inl refl));
       made = tt;
       apart = tt;
@@ -232,7 +232,7 @@ module _ {K : Type 0} (order : KeyOrder K) (lawful : IsLawful order) {V : Type 0
         frame = record {
           extra = x ∷ [];
           split = drop_more items (place + w.count) x (omega (arith, at, within)) ∙ ap (λ y. y ∷ drop (place + w.count + 1) items) (sym here);
-          touched = (touched_after x here touching, tt);
+          touched = (let t = touched_after x here touching in (t.0, t.1, refl), tt);
           end_of = inr (inl (any_right (λ i. x.key.end ≡ i.key.end) (take w.count (drop place items)) (x ∷ []) (inl refl)));
           made = tt;
           apart = tt;

@@ -1,5 +1,5 @@
 -- The list in which a middle stands for what a range held.
-use Rattle.std.proofs.Common.{◌≡◌, refl, ℕ, ◌+◌, ◌-◌, ◌≤◌, List, ◌++◌, length, take, drop, ap, ◌∙◌, arith, subst, Option, Some, None, Bool, ◌⊎◌, inl, inr, length-append, append_assoc}
+use Rattle.std.proofs.Common.{◌≡◌, refl, ℕ, ◌+◌, ◌-◌, ◌≤◌, List, ◌++◌, length, take, drop, ap, ◌∙◌, arith, subst, Option, Some, None, Bool, IsTrue, ◌⊎◌, inl, inr, length-append, append_assoc}
 use Rattle.std.specs.Cmp.{IsEquivalence}
 use Rattle.std.specs.Prelude.{slice_get}
 use Rattle.std.specs.Option.{option_or}
@@ -7,9 +7,9 @@ use Rattle.std.specs.declared.ops.Bound.{Bound}
 use Rattle.range_keys.specs.Order.{KeyOrder, IsLawful}
 use Rattle.range_keys.specs.declared.inner.position.Position.TheVariants.{Beside}
 use Rattle.range_keys.specs.declared.inner.position.Side.TheVariants.{At}
-use Rattle.range_algebra.specs.Chains.{any_left, any_right, every_weaker, every_append}
+use Rattle.range_algebra.specs.Chains.{any_left, any_right, every_weaker, every_append, every_left, every_right}
 use Rattle.range_algebra.specs.Clones.{SameBound}
-use Rattle.range_algebra.specs.Intervals.{Every}
+use Rattle.range_algebra.specs.Intervals.{Any, Every}
 use Rattle.range_algebra.specs.Range.{IsKnownBound, IsKnownRange, IsEmptyRange}
 use Rattle.range_algebra.specs.declared.any.AnyRange.{AnyRange}
 use Rattle.range_algebra.proofs.Lists.{parts}
@@ -25,11 +25,13 @@ use Rattle.range_map.specs.Seams.{seam_edge, with_first_start, with_last_end, Is
 use Rattle.range_map.specs.Stored.{IsStored}
 use Rattle.range_map.specs.Window.{option_items}
 use Rattle.range_map.proofs.CutParts.{known_turned, same_turned}
-use Rattle.range_map.proofs.Endings.{length_started, length_ended, every_started, every_ended, own_values}
-use Rattle.range_map.proofs.Forms.{nonempty_good, stored_known, chain_stored, same_binds, outside}
+use Rattle.range_map.proofs.Endings.{length_started, length_ended, every_started, every_ended, any_ended, own_values}
+use Rattle.range_map.proofs.Cutting.{any_with}
+use Rattle.range_map.proofs.Forms.{Known, nonempty_good, stored_known, chain_stored, same_binds, outside}
 use Rattle.range_map.proofs.Framing.{parts_of, reassociate, reassociate_pieces}
+use Rattle.range_map.proofs.Merging.{crossing_meets}
 use Rattle.range_map.proofs.Openings.{upto_end}
-use Rattle.range_map.proofs.Seaming.{seam_count, IsLeftFill, IsRightFill, left_fill, right_fill}
+use Rattle.range_map.proofs.Seaming.{seam_count, Crosses, TakesStartOf, IsLeftFill, IsRightFill, left_fill, right_fill}
 
 at_most_one : {X : Type 0} (o : Option X) → length (option_items o) ≤ 1
 at_most_one None = omega arith
@@ -41,6 +43,10 @@ module _ {K : Type 0} (order : KeyOrder K) (lawful : IsLawful order) {V : Type 0
 
   value_right : (more run middle made : List (Item (AnyRange K) V)) → Every (λ j. HasValue order same run j.value ⊎ HasValue order same middle j.value) made → Every (λ j. HasValue order same (more ++ run) j.value ⊎ HasValue order same middle j.value) made
   value_right more run middle made all = every_weaker _ _ made (λ j h. elim h [ inl k ↦ inl (any_right _ more run k) | inr k ↦ inr k ]) all
+
+  within_pieces : (rest body beyond : List (Item (AnyRange K) V)) (B : Item (AnyRange K) V → Type 0) (i : Item (AnyRange K) V) → IsKnownRange order r → Known order lawful same equal body → Any (λ j. B j × Crosses order lawful same equal is_good rank items r place count j × IsTrue (same i.value j.value)) body → Any (λ j. B j × Overlap order j.key r × IsTrue (same i.value j.value)) (rest ++ body ++ beyond)
+  within_pieces rest body beyond B i known all h =
+      any_left _ (rest ++ body) beyond (any_right _ rest body (any_with _ _ (λ j. B j × Overlap order j.key r × IsTrue (same i.value j.value)) body h all (λ j g own. (g.0, crossing_meets order lawful j.key r own known g.1.0 g.1.1, g.2))))
 
   pub replaced : (new middle : List (Item (AnyRange K) V)) (first last : Option P) (edge behind : Edge K P) (from : Option P) → IsStored order same items → IsStored order same middle → IsKnownRange order r → Every (λ i. Overlap order i.key r) (take count (drop place items)) →
       (left : IsLeftFill order lawful same equal is_good rank items r place count middle first edge from) → (right : IsRightFill order lawful same equal is_good rank items r place count middle (take left.at items ++ option_items left.rest) left.start last behind) →
@@ -62,6 +68,8 @@ module _ {K : Type 0} (order : KeyOrder K) (lawful : IsLawful order) {V : Type 0
       let own = every_ended (λ v. HasValue order same run v ⊎ HasValue order same middle v) right.finish (with_first_start left.start middle) (every_started (λ v. HasValue order same run v ⊎ HasValue order same middle v) left.start middle (every_weaker _ _ middle (λ j h. inr h) (own_values order same equal middle))) in
       let on_left = value_left (left.extra ++ met) right.extra middle rest left.valued in
       let on_right : Every (λ j. HasValue order same run j.value ⊎ HasValue order same middle j.value) beyond = rw regroup (value_right left.extra (met ++ right.extra) middle beyond right.valued) in
+      let known_body = every_right _ (front ++ rest) body (every_left _ (front ++ rest ++ body) (beyond ++ tail) right.known) in
+      let took_start = λ (i : Item (AnyRange K) V) (h : TakesStartOf order lawful same equal is_good rank items r place count i (with_first_start left.start middle)). any_ended (λ j. (j.key.start ≡ i.key.start) × Crosses order lawful same equal is_good rank items r place count j × IsTrue (same i.value j.value)) right.finish (with_first_start left.start middle) (λ j b is g. (g.0, (g.1.0, right.reaches b is), g.2)) h in
       let size : length body ≡ length middle = length_ended right.finish (with_first_start left.start middle) ∙ length_started left.start middle in
       record {
         stored = rw list (chain_stored order lawful same equal whole right.known right.spliced.chain);
@@ -74,7 +82,7 @@ module _ {K : Type 0} (order : KeyOrder K) (lawful : IsLawful order) {V : Type 0
           behind = tail;
           before = parts items place ∙ (ap (λ ys. ys ++ drop place items) left.split ∙ (ap (λ ys. (front ++ left.extra) ++ ys) (parts_of items place count ∙ ap (λ ys. met ++ ys) right.split) ∙ reassociate front left.extra met right.extra tail));
           after = changed ∙ reassociate_pieces front rest body beyond tail;
-          concerned = every_append _ (left.extra ++ met) right.extra (every_append _ left.extra met left.touched (every_weaker _ _ met (λ i h. inl h) meets)) right.touched;
+          concerned = every_append _ (left.extra ++ met) right.extra (every_append _ left.extra met (every_weaker _ _ left.extra (λ i h. inr (inl (h.0, within_pieces rest body beyond (λ j. j.key.start ≡ i.key.start) i known known_body (took_start i h.1)))) left.touched) (every_weaker _ _ met (λ i h. inl h) meets)) (every_weaker _ _ right.extra (λ i h. inr (inr (h.0, within_pieces rest body beyond (λ j. j.key.end ≡ i.key.end) i known known_body h.1))) right.touched);
           valued = every_append _ (rest ++ body) beyond (every_append _ rest body on_left own) on_right;
           few = omega (arith, size, at_most_one left.rest, at_most_one right.rest, length-append (rest ++ body) beyond, length-append rest body);
         };
@@ -95,8 +103,9 @@ module _ {K : Type 0} (order : KeyOrder K) (lawful : IsLawful order) {V : Type 0
   planned middle first last joined other from next previous stored others within known full in_range apart is_first is_last begins on_left on_right =
       let before = turned_bound r.start in
       let behind = turned_bound r.end in
-      let left = left_fill order lawful same equal is_good rank items r place count middle first (seam_edge joined first before) (option_or joined from) stored others (subst (λ o. IsLeftSeam order same lawful equal is_good rank items r place count o first (seam_edge joined first before) (option_or joined from)) is_first (on_left before from (known_turned order lawful r.start known.0) (same_turned order lawful r.start) begins)) in
-      let right = right_fill order lawful same equal is_good rank items r place count middle (take left.at items ++ option_items left.rest) left.start last (seam_edge other last behind) stored others within ((nonempty_good order lawful r known).0 full) in_range left.filled left.known (subst (λ o. IsRightSeam order same lawful equal is_good rank items r place count o last (seam_edge other last behind)) is_last (on_right behind (known_turned order lawful r.end known.1) (same_turned order lawful r.end))) in
+      let good = (nonempty_good order lawful r known).0 full in
+      let left = left_fill order lawful same equal is_good rank items r place count middle first (seam_edge joined first before) (option_or joined from) good stored others (subst (λ o. IsLeftSeam order same lawful equal is_good rank items r place count o first (seam_edge joined first before) (option_or joined from)) is_first (on_left before from (known_turned order lawful r.start known.0) (same_turned order lawful r.start) begins)) in
+      let right = right_fill order lawful same equal is_good rank items r place count middle (take left.at items ++ option_items left.rest) left.start last (seam_edge other last behind) stored others within good in_range left.filled left.known (subst (λ o. IsRightSeam order same lawful equal is_good rank items r place count o last (seam_edge other last behind)) is_last (on_right behind (known_turned order lawful r.end known.1) (same_turned order lawful r.end))) in
       let least = upto_end is_good is_good rank rank items items (λ p h. (h, refl)) refl (seam_edge other last behind) right.upto right.end right.rest right.finish right.shape in
       record {
         left = left;

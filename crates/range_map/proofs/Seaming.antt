@@ -14,10 +14,11 @@ use Rattle.range_algebra.specs.Chains.{any_left, any_right, every_weaker, every_
 use Rattle.range_algebra.specs.Clones.{SameBound}
 use Rattle.range_algebra.specs.Compared.{inverted}
 use Rattle.range_algebra.specs.Cuts.{past, lower, upper}
-use Rattle.range_algebra.specs.Intervals.{Le, Lt, Every}
+use Rattle.range_algebra.specs.Intervals.{Le, Lt, Any, Every}
 use Rattle.range_algebra.specs.Joins.{IsLeftOf, IsRightOf}
 use Rattle.range_algebra.specs.Orders.{eq_ge, le_lt_trans, le_refl, lt_le, eq_le, le_trans, lt_trans, lt_le_trans, lt_not_le, not_lt}
 use Rattle.range_algebra.specs.Range.{IsKnownBound, IsKnownRange, IsEmptyRange}
+use Rattle.range_algebra.specs.Relations.{Touches}
 use Rattle.range_algebra.specs.declared.any.AnyRange.{AnyRange}
 use Rattle.range_algebra.proofs.Places.{reaches, turned, turned_known}
 use Rattle.range_store.specs.declared.storage.Item.{Item}
@@ -29,7 +30,6 @@ use Rattle.range_map.specs.Edges.{IsLeftShape, IsRightShape, joined_count, edge_
 use Rattle.range_map.specs.Edits.{turned_bound, with_start}
 use Rattle.range_map.specs.Frames.{HasValue}
 use Rattle.range_map.specs.ItemCuts.{item_lower, item_upper}
-use Rattle.range_map.specs.Lookups.{IsConnectedTo}
 use Rattle.range_map.specs.Pieces.{LiesIn}
 use Rattle.range_map.specs.Plans.{IsLeftPlan, IsRightPlan}
 use Rattle.range_map.specs.Reach.{ReachesBefore, ReachesBehind}
@@ -92,6 +92,17 @@ module _ {K : Type 0} (order : KeyOrder K) (lawful : IsLawful order) {V : Type 0
   Spliced items middle new r = IsSpliced (places order lawful) (position_total order.cmp lawful.total) same equal (item_lower order) (item_upper order) (λ i. i.value) items middle new (lower order r) (upper order r)
 
   module _ {P : Type 0} (is_good : P → Type 0) (rank : P → ℕ) (items : List (Item (AnyRange K) V)) (r : AnyRange K) (place count : ℕ) where
+    -- the item starts before the range ends, and ends after the range starts
+    abbrev pub Crosses : Item (AnyRange K) V → Type 0
+    Crosses i = Lt (places order lawful) (item_lower order i) (upper order r) × Lt (places order lawful) (lower order r) (item_upper order i)
+
+    -- one that crosses the range has the start of an item, and an equal value
+    abbrev pub TakesStartOf : Item (AnyRange K) V → List (Item (AnyRange K) V) → Type 0
+    TakesStartOf i xs = Any (λ j. (j.key.start ≡ i.key.start) × Crosses j × IsTrue (same i.value j.value)) xs
+
+    abbrev pub TakesEndOf : Item (AnyRange K) V → List (Item (AnyRange K) V) → Type 0
+    TakesEndOf i xs = Any (λ j. (j.key.end ≡ i.key.end) × Crosses j × IsTrue (same i.value j.value)) xs
+
     -- the items up to the range, and the middle with the start that it joins
     pub record IsLeftFill (middle : List (Item (AnyRange K) V)) (first : Option P) (edge : Edge K P) (from : Option P) : Type 0 where
       pub at : ℕ
@@ -105,7 +116,7 @@ module _ {K : Type 0} (order : KeyOrder K) (lawful : IsLawful order) {V : Type 0
       pub known : Known order lawful same equal ((take at items ++ option_items rest) ++ with_first_start start middle)
       pub extra : List (Item (AnyRange K) V)
       pub split : take place items ≡ take at items ++ extra
-      pub touched : Every (λ i. IsConnectedTo order i.key r) extra
+      pub touched : Every (λ i. Touches order i.key r × TakesStartOf i (with_first_start start middle)) extra
       pub valued : Every (λ j. HasValue order same (extra ++ take count (drop place items)) j.value ⊎ HasValue order same middle j.value) (option_items rest)
 
     -- the middle with the end that it joins too, and the items behind the range
@@ -121,7 +132,8 @@ module _ {K : Type 0} (order : KeyOrder K) (lawful : IsLawful order) {V : Type 0
       pub known : Known order lawful same equal ((front ++ with_last_end finish (with_first_start start middle)) ++ (option_items rest ++ drop end items))
       pub extra : List (Item (AnyRange K) V)
       pub split : drop (place + count) items ≡ extra ++ drop end items
-      pub touched : Every (λ i. IsConnectedTo order i.key r) extra
+      pub touched : Every (λ i. Touches order r i.key × TakesEndOf i (with_last_end finish (with_first_start start middle))) extra
+      pub reaches : (b : Bound K) → finish ≡ Some b → Lt (places order lawful) (lower order r) (past order (end_position order b))
       pub valued : Every (λ j. HasValue order same (take count (drop place items) ++ extra) j.value ⊎ HasValue order same middle j.value) (option_items rest)
 
     start_filled : (start : Option (Bound K)) (front ms : List (Item (AnyRange K) V)) (m : Item (AnyRange K) V) (s : Position K) → places order lawful (edge_start order same start r) s ≡ Equal → IsLeftOf (places order lawful) (position_total order.cmp lawful.total) same equal (item_lower order) (item_upper order) (λ i. i.value) items front (lower order r) s m.value → Chained order lawful same equal (m ∷ ms) → places order lawful (item_lower order m) (lower order r) ≡ Equal → Filled items (m ∷ ms) (front ++ with_first_start start (m ∷ ms)) (lower order r)
@@ -136,22 +148,34 @@ module _ {K : Type 0} (order : KeyOrder K) (lawful : IsLawful order) {V : Type 0
     start_known None m ms known all = all
     start_known (Some b) m ms known all = ((known, all.0.1), all.1)
 
-    left_joining : (m : Item (AnyRange K) V) (ms : List (Item (AnyRange K) V)) (first : Option P) (edge : Edge K P) (from : Option P) → IsStored order same items → IsStored order same (m ∷ ms) → places order lawful (item_lower order m) (lower order r) ≡ Equal → IsLeftPlan order same lawful equal is_good rank items r m.value place count first edge from → IsLeftFill (m ∷ ms) first edge from
-    left_joining m ms first edge from stored middle at plan = record {
-      at = plan.at;
-      begin = plan.begin;
-      rest = plan.rest;
-      start = plan.start;
-      shape = plan.shape;
-      run = plan.run;
-      begins = plan.begins;
-      filled = start_filled plan.start (take plan.at items ++ option_items plan.rest) ms m plan.side.s plan.side.starts plan.side.left (stored_chain order lawful same equal (m ∷ ms) middle) at;
-      known = every_append _ (take plan.at items ++ option_items plan.rest) (with_first_start plan.start (m ∷ ms)) (every_append _ (take plan.at items) (option_items plan.rest) (known_take order lawful same equal items plan.at (stored_known order lawful same equal items stored)) plan.side.known) (start_known plan.start m ms plan.side.known_start (stored_known order lawful same equal (m ∷ ms) middle));
-      extra = plan.frame.extra;
-      split = plan.frame.split;
-      touched = every_weaker _ _ plan.frame.extra (λ i h. inr (inl h.0)) plan.frame.touched;
-      valued = every_weaker _ _ (option_items plan.rest) (λ j h. elim h.value [ inl e ↦ inr (inl e) | inr k ↦ inl k ]) plan.frame.made;
-    }
+    takes_start : (start : Option (Bound K)) (m : Item (AnyRange K) V) (ms : List (Item (AnyRange K) V)) (i : Item (AnyRange K) V) → start ≡ Some i.key.start → Le (places order lawful) (edge_start order same start r) (lower order r) → Lt (places order lawful) (lower order r) (upper order r) → Lt (places order lawful) (lower order r) (item_upper order m) → IsTrue (same i.value m.value) → TakesStartOf i (with_first_start start (m ∷ ms))
+    takes_start None m ms i is le good over alike = absurd (cc)
+    takes_start (Some b) m ms i is le good over alike =
+        let bound : b ≡ i.key.start = cc in
+        inl (bound, (le_lt_trans (places order lawful) (position_total order.cmp lawful.total) (start_position order b) (lower order r) (upper order r) le good, over), alike)
+
+    left_joining : (m : Item (AnyRange K) V) (ms : List (Item (AnyRange K) V)) (first : Option P) (edge : Edge K P) (from : Option P) → Lt (places order lawful) (lower order r) (upper order r) → IsStored order same items → IsStored order same (m ∷ ms) → places order lawful (item_lower order m) (lower order r) ≡ Equal → IsLeftPlan order same lawful equal is_good rank items r m.value place count first edge from → IsLeftFill (m ∷ ms) first edge from
+    left_joining m ms first edge from good stored middle at plan =
+        let cmp = places order lawful in
+        let total = position_total order.cmp lawful.total in
+        let chain = stored_chain order lawful same equal (m ∷ ms) middle in
+        let le = le_trans cmp total (edge_start order same plan.start r) plan.side.s (lower order r) (eq_le cmp total (edge_start order same plan.start r) plan.side.s plan.side.starts) plan.side.left.below in
+        let over = le_lt_trans cmp total (lower order r) (item_lower order m) (item_upper order m) (eq_ge cmp total (item_lower order m) (lower order r) at) chain.0 in
+        record {
+          at = plan.at;
+          begin = plan.begin;
+          rest = plan.rest;
+          start = plan.start;
+          shape = plan.shape;
+          run = plan.run;
+          begins = plan.begins;
+          filled = start_filled plan.start (take plan.at items ++ option_items plan.rest) ms m plan.side.s plan.side.starts plan.side.left chain at;
+          known = every_append _ (take plan.at items ++ option_items plan.rest) (with_first_start plan.start (m ∷ ms)) (every_append _ (take plan.at items) (option_items plan.rest) (known_take order lawful same equal items plan.at (stored_known order lawful same equal items stored)) plan.side.known) (start_known plan.start m ms plan.side.known_start (stored_known order lawful same equal (m ∷ ms) middle));
+          extra = plan.frame.extra;
+          split = plan.frame.split;
+          touched = every_weaker _ _ plan.frame.extra (λ i h. (h.0, takes_start plan.start m ms i h.2 le good over h.1)) plan.frame.touched;
+          valued = every_weaker _ _ (option_items plan.rest) (λ j h. elim h.value [ inl e ↦ inr (inl e) | inr k ↦ inl k ]) plan.frame.made;
+        }
 
     left_cutting : (middle : List (Item (AnyRange K) V)) (first : Option P) (edge : Edge K P) (from : Option P) → IsStored order same items → IsStored order same middle → Every (λ i. Lt (places order lawful) (lower order r) (item_lower order i)) middle → IsLeftCutting order same lawful equal is_good rank items r place count first edge from → IsLeftFill middle first edge from
     left_cutting middle first edge from stored others starts cut =
@@ -179,13 +203,13 @@ module _ {K : Type 0} (order : KeyOrder K) (lawful : IsLawful order) {V : Type 0
         let above = follows_above cmp total same equal (item_lower order) (item_upper order) (λ i. i.value) m ms chain.1 in
         (later, every_weaker _ _ ms (λ i h. lt_le_trans cmp total (lower order r) (item_upper order m) (item_lower order i) (lt_trans cmp total (lower order r) (item_lower order m) (item_upper order m) later chain.0) h) above)
 
-    pub left_fill : (middle : List (Item (AnyRange K) V)) (first : Option P) (edge : Edge K P) (from : Option P) → IsStored order same items → IsStored order same middle → IsLeftSeam order same lawful equal is_good rank items r place count (slice_get middle 0) first edge from → IsLeftFill middle first edge from
-    left_fill [] first edge from stored others (inl h) = absurd (let e = h.1 in cc)
-    left_fill [] first edge from stored others (inr h) = left_cutting [] first edge from stored others tt h.1
-    left_fill (m ∷ ms) first edge from stored others (inl h) =
+    pub left_fill : (middle : List (Item (AnyRange K) V)) (first : Option P) (edge : Edge K P) (from : Option P) → Lt (places order lawful) (lower order r) (upper order r) → IsStored order same items → IsStored order same middle → IsLeftSeam order same lawful equal is_good rank items r place count (slice_get middle 0) first edge from → IsLeftFill middle first edge from
+    left_fill [] first edge from good stored others (inl h) = absurd (let e = h.1 in cc)
+    left_fill [] first edge from good stored others (inr h) = left_cutting [] first edge from stored others tt h.1
+    left_fill (m ∷ ms) first edge from good stored others (inl h) =
         let item : h.0 ≡ m = let e = h.1 in cc in
-        left_joining m ms first edge from stored others (subst (λ (i : Item (AnyRange K) V). places order lawful (item_lower order i) (lower order r) ≡ Equal) item h.2) (subst (λ (i : Item (AnyRange K) V). IsLeftPlan order same lawful equal is_good rank items r i.value place count first edge from) item h.3)
-    left_fill (m ∷ ms) first edge from stored others (inr h) =
+        left_joining m ms first edge from good stored others (subst (λ (i : Item (AnyRange K) V). places order lawful (item_lower order i) (lower order r) ≡ Equal) item h.2) (subst (λ (i : Item (AnyRange K) V). IsLeftPlan order same lawful equal is_good rank items r i.value place count first edge from) item h.3)
+    left_fill (m ∷ ms) first edge from good stored others (inr h) =
         left_cutting (m ∷ ms) first edge from stored others (all_later m ms (stored_chain order lawful same equal (m ∷ ms) others) (h.0 m refl)) h.1
 
     alike_value : (xs : List (Item (AnyRange K) V)) (v u : V) → same u v ≡ true → HasValue order same xs v → HasValue order same xs u
@@ -209,6 +233,14 @@ module _ {K : Type 0} (order : KeyOrder K) (lawful : IsLawful order) {V : Type 0
     ended_known None z known end = known
     ended_known (Some b) z known end = (known.0, end)
 
+    ended_end : (finish : Option (Bound K)) (z i : Item (AnyRange K) V) → finish ≡ Some i.key.end → (ended finish z).key.end ≡ i.key.end
+    ended_end None z i is = absurd (cc)
+    ended_end (Some b) z i is = cc
+
+    ended_same : (finish : Option (Bound K)) (z : Item (AnyRange K) V) → (ended finish z).value ≡ z.value
+    ended_same None z = refl
+    ended_same (Some b) z = refl
+
     right_joining : (middle front init : List (Item (AnyRange K) V)) (m : Item (AnyRange K) V) (start : Option (Bound K)) (last : Option P) (edge : Edge K P) → IsStored order same items → Lt (places order lawful) (lower order r) (upper order r) → middle ≡ init ++ m ∷ [] → Filled items middle (front ++ with_first_start start middle) (lower order r) → Known order lawful same equal (front ++ with_first_start start middle) → places order lawful (item_upper order m) (upper order r) ≡ Equal → IsRightPlan order same lawful equal is_good rank items r m.value place count last edge → IsRightFill middle front start last edge
     right_joining middle front init m start last edge stored good split fill known at plan =
         let own = subst (λ ys. HasValue order same ys m.value) (sym split) (any_right _ init (m ∷ []) (inl (equal.refl m.value))) in
@@ -225,6 +257,14 @@ module _ {K : Type 0} (order : KeyOrder K) (lawful : IsLawful order) {V : Type 0
         let filled = subst (λ ys. Filled items middle ys (lower order r)) grouped fill in
         let all = subst (λ ys. Known order lawful same equal ys) grouped known in
         let known_z = every_right _ (front ++ s.0) (z ∷ []) all in
+        let cmp = places order lawful in
+        let body_end : with_last_end plan.finish (with_first_start start middle) ≡ s.0 ++ other ∷ [] = ap (with_last_end plan.finish) body ∙ with_last plan.finish s.0 z in
+        let full = (chain_right cmp total same equal (item_lower order) (item_upper order) (λ i. i.value) (front ++ s.0) (z ∷ []) filled.chain).0 in
+        let under = le_lt_trans cmp total (item_lower order other) (item_lower order z) (upper order r) (eq_le cmp total (item_lower order other) (item_lower order z) (ended_lower plan.finish z)) (lt_le_trans cmp total (item_lower order z) (item_upper order z) (upper order r) full (eq_le cmp total (item_upper order z) (upper order r) z_ends)) in
+        let above = lt_le_trans cmp total (lower order r) (upper order r) plan.side.e good plan.side.right.above in
+        let over = lt_le_trans cmp total (lower order r) plan.side.e (item_upper order other) above (eq_ge cmp total (item_upper order other) plan.side.e (ended_upper plan.finish z plan.side.e plan.side.ends z_ends)) in
+        let same_value : m.value ≡ other.value = sym (ended_same plan.finish z ∙ s.4) in
+        let beyond = lt_le_trans cmp total (lower order r) plan.side.e (edge_end order same plan.finish r) above (eq_ge cmp total (edge_end order same plan.finish r) plan.side.e plan.side.ends) in
         let done = spliced_joined (places order lawful) total same equal (item_lower order) (item_upper order) (λ i. i.value) items middle (front ++ s.0) behind z other (lower order r) (upper order r) plan.side.e filled good z_ends right (ended_lower plan.finish z) (ended_upper plan.finish z plan.side.e plan.side.ends z_ends) (ended_value plan.finish z) in
         let known_new = every_append _ (front ++ s.0) (other ∷ behind) (every_left _ (front ++ s.0) (z ∷ []) all) (ended_known plan.finish z known_z.0 plan.side.known_end, every_append _ (option_items plan.rest) (drop plan.end items) plan.side.known (known_drop order lawful same equal items plan.end (stored_known order lawful same equal items stored))) in
         record {
@@ -239,7 +279,8 @@ module _ {K : Type 0} (order : KeyOrder K) (lawful : IsLawful order) {V : Type 0
           known = subst (λ ys. Known order lawful same equal ys) (sym list) known_new;
           extra = plan.frame.extra;
           split = plan.frame.split;
-          touched = every_weaker _ _ plan.frame.extra (λ i h. inr (inr h.0)) plan.frame.touched;
+          touched = every_weaker _ _ plan.frame.extra (λ i h. (h.0, subst (λ ys. TakesEndOf i ys) (sym body_end) (any_right _ s.0 (other ∷ []) (inl (ended_end plan.finish z i h.2, (under, over), subst (λ v. IsTrue (same i.value v)) same_value h.1))))) plan.frame.touched;
+          reaches = λ b is. subst (λ o. Lt cmp (lower order r) (edge_end order same o r)) is beyond;
           valued = every_weaker _ _ (option_items plan.rest) (λ j h. elim h.value [ inl e ↦ inr (alike_value middle m.value j.value e own) | inr k ↦ inl k ]) plan.frame.made;
         }
 
@@ -260,6 +301,7 @@ module _ {K : Type 0} (order : KeyOrder K) (lawful : IsLawful order) {V : Type 0
           extra = [];
           split = refl;
           touched = tt;
+          reaches = λ b is. absurd (cc);
           valued = every_weaker _ _ (option_items cut.rest) (λ j h. inl (any_left _ (take count (drop place items)) [] h)) cut.valued;
         }
 

@@ -88,7 +88,7 @@ module _ {K : Type 0} (order : KeyOrder K) (lawful : IsLawful order) where
       not_le (position_cmp order.cmp) (position_total order.cmp lawful.total) (upper order r) (lower order s) (λ back. h.1 (touch.1 back))
 
   -- ranges with a place between are not connected
-  apart_not : (r s : AnyRange K) → IsKnownRange order r → IsKnownRange order s → PLt (lower order r) (upper order r) → PLt (lower order s) (upper order s) → PLt (upper order r) (lower order s) → (Overlap order r s → ⊥) × (Touches order r s → ⊥) × (Touches order s r → ⊥) × (LiesBefore order r s)
+  pub apart_not : (r s : AnyRange K) → IsKnownRange order r → IsKnownRange order s → PLt (lower order r) (upper order r) → PLt (lower order s) (upper order s) → PLt (upper order r) (lower order s) → (Overlap order r s → ⊥) × (Touches order r s → ⊥) × (Touches order s r → ⊥) × (LiesBefore order r s)
   apart_not r s known others good good_s l =
       let cmp = position_cmp order.cmp in
       let total = position_total order.cmp lawful.total in

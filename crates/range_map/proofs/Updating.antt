@@ -11,19 +11,20 @@ use Rattle.range_algebra.specs.declared.any.AnyRange.{AnyRange}
 use Rattle.range_algebra.specs.Range.{Holds, IsKnownRange}
 use Rattle.range_algebra.specs.Intervals.{Any, Every}
 use Rattle.range_algebra.specs.Orders.{le_refl, lt_le, both}
-use Rattle.range_algebra.specs.Chains.{any_right, every_weaker}
+use Rattle.range_algebra.specs.Chains.{any_right, every_weaker, every_left, every_right}
 use Rattle.range_store.specs.declared.storage.Item.{Item}
 use Rattle.range_map.specs.Answers.{MayAnswer, Answered, IsAsAnswered, IsGivenBy, GaveWayToAnswers, IsGathered, IsUpdated, AreAnswersTo}
 use Rattle.range_map.specs.Bindings.{Binds, IsSomeOf}
 use Rattle.range_map.specs.Changes.{IsInserted, IsRemoved}
-use Rattle.range_map.specs.Frames.{HasValue, JoinsOrMeets, IsNewItem, IsPart, GaveWayTo, WasCutOut}
+use Rattle.range_map.specs.Frames.{StandOrMerge, IsMergedInto, HasValue, JoinsOrMeets, IsNewItem, IsPart, GaveWayTo, WasCutOut}
 use Rattle.range_map.specs.Lookups.{IsConnectedTo}
 use Rattle.range_map.specs.Pieces.{later, earlier, IsCommonPart, IsPiece}
 use Rattle.range_map.specs.Ranges.{Overlap}
 use Rattle.range_map.specs.Replaced.{IsReplaced}
-use Rattle.range_map.proofs.Cutting.{PLe, PLt, Lo, Hi, IsFull, IsInside, IsRight, any_use, any_over, later_over, earlier_under, pick, cut_none, cut_more, cut_all, a_piece}
+use Rattle.range_map.proofs.Cutting.{PLe, PLt, Lo, Hi, IsFull, IsInside, IsRight, any_use, any_over, every_with, later_over, earlier_under, pick, cut_none, cut_more, cut_all, a_piece}
 use Rattle.range_map.proofs.Extents.{end_le}
 use Rattle.range_map.proofs.Forms.{Chained}
+use Rattle.range_map.proofs.Merging.{stands}
 
 module _ {K : Type 0} (order : KeyOrder K) {V : Type 0} (same : V → V → Bool) (equal : IsEquivalence same) {F E : Type 0} (calls : Shared F (Option (Bor V) × Unit {0}) (Result (Option V) E)) (f : F) (items new : List (Item (AnyRange K) V)) (r : AnyRange K) where
   turned : (a b : V) → IsTrue (same a b) → IsTrue (same b a)
@@ -55,23 +56,27 @@ module _ {K : Type 0} (order : KeyOrder K) {V : Type 0} (same : V → V → Bool
     };
   }
 
+  -- what an update does not meet stands or is merged
+  pub updated_stands : IsUpdated order same calls f items new r → StandOrMerge order same items new r
+  updated_stands h = rw (h.frame.before, h.frame.after) (stands order same r h.frame.front h.frame.run h.frame.others h.frame.behind h.frame.concerned)
+
   abbrev one_answer : V → Option V → List (Answered K V)
   one_answer v answer = record { key = r; value = Some v; answer = answer } ∷ []
 
-  connected : (i : Item (AnyRange K) V) (v : V) → JoinsOrMeets order same r v i → IsConnectedTo order i.key r
-  connected i v (inl meets) = inl meets
-  connected i v (inr touches) = inr touches.0
+  meets_alone : (i : Item (AnyRange K) V) (v : V) → JoinsOrMeets order same r v i → (IsConnectedTo order i.key r → Overlap order i.key r) → Overlap order i.key r
+  meets_alone i v (inl meets) alone = meets
+  meets_alone i v (inr touches) alone = alone (inr touches.0)
 
   module _ (old : V) where
-    inserted_frame : (v : V) → GaveWayTo order same items new r v → GaveWayToAnswers order same items new r (one_answer old (Some v))
-    inserted_frame v h = record {
+    inserted_frame : (v : V) → Every (λ i. IsConnectedTo order i.key r → Overlap order i.key r) items → GaveWayTo order same items new r v → GaveWayToAnswers order same items new r (one_answer old (Some v))
+    inserted_frame v alone h = record {
       front = h.front;
       run = h.run;
       others = h.others;
       behind = h.behind;
       before = h.before;
       after = h.after;
-      concerned = every_weaker (JoinsOrMeets order same r v) (λ i. IsConnectedTo order i.key r) h.run (λ i t. connected i v t) h.concerned;
+      concerned = every_with (JoinsOrMeets order same r v) _ (λ i. Overlap order i.key r ⊎ IsMergedInto order same h.others r i) h.run h.concerned (every_right _ h.front h.run (every_left _ (h.front ++ h.run) h.behind (rw h.before at alone))) (λ i t a. inl (meets_alone i v t a));
       valued = every_weaker (IsNewItem order same h.run r v) (λ j. HasValue order same h.run j.value ⊎ IsGivenBy same (one_answer old (Some v)) j.value) h.others (λ j t. elim t.value [
         | inl own ↦ inr (inl (turned j.value v own))
         | inr other ↦ inl other
@@ -86,7 +91,7 @@ module _ {K : Type 0} (order : KeyOrder K) {V : Type 0} (same : V → V → Bool
       behind = h.behind;
       before = h.before;
       after = h.after;
-      concerned = every_weaker (λ i. Overlap order i.key r) (λ i. IsConnectedTo order i.key r) h.run (λ i t. inl t) h.concerned;
+      concerned = every_weaker _ _ h.run (λ i t. inl t) h.concerned;
       valued = every_weaker (IsPart order same h.run r) (λ j. HasValue order same h.run j.value ⊎ IsGivenBy same (one_answer old None) j.value) h.others (λ j t. inl t.value) h.made;
     }
 
@@ -94,14 +99,14 @@ module _ {K : Type 0} (order : KeyOrder K) {V : Type 0} (same : V → V → Bool
     some_of v k None h = h
     some_of v k (Some w) h = h
 
-    pub by_insertion : (v : V) → AreAnswersTo order items r (one_answer old (Some v)) → MayAnswer calls f (Some old) (Ok (Some v)) → IsInserted order same items new r v → IsUpdated order same calls f items new r
-    by_insertion v pieces says h = record {
+    pub by_insertion : (v : V) → Every (λ i. IsConnectedTo order i.key r → Overlap order i.key r) items → AreAnswersTo order items r (one_answer old (Some v)) → MayAnswer calls f (Some old) (Ok (Some v)) → IsInserted order same items new r v → IsUpdated order same calls f items new r
+    by_insertion v alone pieces says h = record {
       answers = one_answer old (Some v);
       pieces = pieces;
       given = (says, tt);
       held = λ k key in_r. inl (in_r, λ b. some_of v k b (h.bound.held k key in_r b));
       others = h.bound.others;
-      frame = inserted_frame v h.frame;
+      frame = inserted_frame v alone h.frame;
     }
 
     pub by_removal : AreAnswersTo order items r (one_answer old None) → MayAnswer calls f (Some old) (Ok None) → IsRemoved order same items new r → IsUpdated order same calls f items new r

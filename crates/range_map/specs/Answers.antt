@@ -9,9 +9,9 @@ use Rattle.range_algebra.specs.Range.{Holds}
 use Rattle.range_algebra.specs.declared.any.AnyRange.{AnyRange}
 use Rattle.range_store.specs.declared.storage.Item.{Item}
 use Rattle.range_map.specs.Bindings.{Binds}
-use Rattle.range_map.specs.Frames.{HasValue}
-use Rattle.range_map.specs.Lookups.{IsConnectedTo}
+use Rattle.range_map.specs.Frames.{IsMergedInto, HasValue}
 use Rattle.range_map.specs.Pieces.{IsPiece, ArePieces, LiesIn}
+use Rattle.range_map.specs.Ranges.{Overlap}
 use Rattle.range_map.specs.Stored.{IsStored}
 
 -- the closure f may answer a where it is shown the value, or none
@@ -53,7 +53,7 @@ abbrev pub AreAnswersTo : {K V : Type 0} → KeyOrder K → List (Item (AnyRange
 AreAnswersTo order items r answers = ArePieces order items r (map piece_of answers)
 
 module _ {K : Type 0} (order : KeyOrder K) {V : Type 0} (same : V → V → Bool) where
-  -- a run of items, each of which meets or touches the range, gave way to others, each with the value of one of the run or of an answer, and all else stands as before
+  -- a run of items, each of which meets the range or is merged, gave way to others, each with the value of one of the run or of an answer, and all else stands as before
   pub record GaveWayToAnswers (items new : List (Item (AnyRange K) V)) (r : AnyRange K) (answers : List (Answered K V)) : Type 0 where
     pub front : List (Item (AnyRange K) V)
     pub run : List (Item (AnyRange K) V)
@@ -61,7 +61,7 @@ module _ {K : Type 0} (order : KeyOrder K) {V : Type 0} (same : V → V → Bool
     pub behind : List (Item (AnyRange K) V)
     pub before : items ≡ front ++ run ++ behind
     pub after : new ≡ front ++ others ++ behind
-    pub concerned : Every (λ i. IsConnectedTo order i.key r) run
+    pub concerned : Every (λ i. Overlap order i.key r ⊎ IsMergedInto order same others r i) run
     pub valued : Every (λ j. HasValue order same run j.value ⊎ IsGivenBy same answers j.value) others
 
   module _ {F E : Type 0} (calls : Shared F (Option (Bor V) × Unit {0}) (Result (Option V) E)) (f : F) where

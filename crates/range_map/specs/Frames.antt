@@ -20,6 +20,16 @@ module _ {K : Type 0} (order : KeyOrder K) {V : Type 0} where
   IsEndOf run r b = (b ≡ r.end) ⊎ (Any (λ i. b ≡ i.key.end) run ⊎ SameBound order (turned_bound r.start) b)
 
   module _ (same_value : V → V → Bool) where
+    -- the item touches the range from one side, and one of the list that meets the range has its bound on the other side, and an equal value
+    abbrev pub IsMergedInto : List (Item (AnyRange K) V) → AnyRange K → Item (AnyRange K) V → Type 0
+    IsMergedInto items r i =
+        (Touches order i.key r × Any (λ j. (j.key.start ≡ i.key.start) × Overlap order j.key r × IsTrue (same_value i.value j.value)) items)
+        ⊎ (Touches order r i.key × Any (λ j. (j.key.end ≡ i.key.end) × Overlap order j.key r × IsTrue (same_value i.value j.value)) items)
+
+    -- each item that the range does not meet stands as before, or is merged into one that now meets it
+    abbrev pub StandOrMerge : List (Item (AnyRange K) V) → List (Item (AnyRange K) V) → AnyRange K → Type 0
+    StandOrMerge items new r = Every (λ i. ¬ Overlap order i.key r → Any (λ j. j ≡ i) new ⊎ IsMergedInto new r i) items
+
     -- some item of the run has an equal value
     abbrev pub HasValue : List (Item (AnyRange K) V) → V → Type 0
     HasValue run v = Any (λ i. IsTrue (same_value v i.value)) run

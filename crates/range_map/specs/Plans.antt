@@ -1,5 +1,5 @@
 -- What is to become of the items beside a range that is bound.
-use Rattle.std.specs.Prelude.{◌≡◌, ℕ, ◌+◌, ◌≤◌, Bool, IsTrue, List, [], ◌++◌, length, take, drop, Option, None}
+use Rattle.std.specs.Prelude.{◌≡◌, ℕ, ◌+◌, ◌≤◌, Bool, IsTrue, List, [], ◌++◌, length, take, drop, Option, Some, None}
 use Rattle.std.specs.Cmp.{IsEquivalence}
 use Rattle.std.specs.declared.ops.Bound.{Bound}
 use Rattle.range_keys.specs.Order.{KeyOrder, IsLawful}
@@ -20,7 +20,7 @@ module _ {K : Type 0} (order : KeyOrder K) {V : Type 0} (same : V → V → Bool
   pub record IsLeftFrame (at : ℕ) (rest : Option (Item (AnyRange K) V)) (start : Option (Bound K)) : Type 0 where
     pub extra : List (Item (AnyRange K) V)
     pub split : take place items ≡ take at items ++ extra
-    pub touched : Every (λ i. Touches order i.key r × IsTrue (same i.value v)) extra
+    pub touched : Every (λ i. Touches order i.key r × IsTrue (same i.value v) × (start ≡ Some i.key.start)) extra
     pub start_of : IsStartOf order (extra ++ take count (drop place items)) r (unwrap_or start r.start)
     pub made : Every (IsNewItem order same (extra ++ take count (drop place items)) r v) (option_items rest)
     pub apart : Every (λ i. ¬ IsTrue (same i.value v)) (option_items rest)
@@ -30,7 +30,7 @@ module _ {K : Type 0} (order : KeyOrder K) {V : Type 0} (same : V → V → Bool
   pub record IsRightFrame (end : ℕ) (rest : Option (Item (AnyRange K) V)) (finish : Option (Bound K)) : Type 0 where
     pub extra : List (Item (AnyRange K) V)
     pub split : drop (place + count) items ≡ extra ++ drop end items
-    pub touched : Every (λ i. Touches order r i.key × IsTrue (same i.value v)) extra
+    pub touched : Every (λ i. Touches order r i.key × IsTrue (same i.value v) × (finish ≡ Some i.key.end)) extra
     pub end_of : IsEndOf order (take count (drop place items) ++ extra) r (unwrap_or finish r.end)
     pub made : Every (IsNewItem order same (take count (drop place items) ++ extra) r v) (option_items rest)
     pub apart : Every (λ i. ¬ IsTrue (same i.value v)) (option_items rest)

@@ -6,9 +6,9 @@ use Rattle.range_algebra.specs.Range.{Holds}
 use Rattle.range_algebra.specs.declared.any.AnyRange.{AnyRange}
 use Rattle.range_store.specs.declared.storage.Item.{Item}
 use Rattle.range_map.specs.Bindings.{Binds}
-use Rattle.range_map.specs.Frames.{HasValue}
-use Rattle.range_map.specs.Lookups.{IsConnectedTo}
+use Rattle.range_map.specs.Frames.{IsMergedInto, HasValue}
 use Rattle.range_map.specs.Pieces.{LiesIn}
+use Rattle.range_map.specs.Ranges.{Overlap}
 use Rattle.range_map.specs.Stored.{IsStored}
 
 module _ {K : Type 0} (order : KeyOrder K) {V : Type 0} where
@@ -17,7 +17,7 @@ module _ {K : Type 0} (order : KeyOrder K) {V : Type 0} where
   AreWithin items r = Every (λ i. LiesIn order i.key r) items
 
   module _ (same : V → V → Bool) where
-    -- a run of items, each of which meets or touches the range, gave way to others, each with the value of one of the run or of the middle, and all else stands as before
+    -- a run of items, each of which meets the range or is merged, gave way to others, each with the value of one of the run or of the middle, and all else stands as before
     pub record GaveWayToAll (items new middle : List (Item (AnyRange K) V)) (r : AnyRange K) : Type 0 where
       pub front : List (Item (AnyRange K) V)
       pub run : List (Item (AnyRange K) V)
@@ -25,7 +25,7 @@ module _ {K : Type 0} (order : KeyOrder K) {V : Type 0} where
       pub behind : List (Item (AnyRange K) V)
       pub before : items ≡ front ++ run ++ behind
       pub after : new ≡ front ++ others ++ behind
-      pub concerned : Every (λ i. IsConnectedTo order i.key r) run
+      pub concerned : Every (λ i. Overlap order i.key r ⊎ IsMergedInto order same others r i) run
       pub valued : Every (λ j. HasValue order same run j.value ⊎ HasValue order same middle j.value) others
       pub few : length others ≤ length middle + 2
 

@@ -7,6 +7,7 @@ ghost use Rattle.range_map.specs.Answers.{MayAnswer, MayBeAsked, FailsAt, IsUpda
 ghost use Rattle.range_map.specs.Askable.{MayBeAskedOfEach};
 ghost use Rattle.range_map.specs.Bindings.{IsCoarse};
 ghost use Rattle.range_map.specs.Coarse.{IsOnlyCoarse};
+ghost use Rattle.range_map.specs.Frames.{StandOrMerge};
 ghost use Rattle.range_map.specs.Reach.{IsFirstReaching, IsLastReaching};
 ghost use Rattle.range_map.specs.Rebinding.{AreRebound};
 ghost use Rattle.range_map.specs.Stored.{IsStored};
@@ -108,7 +109,8 @@ impl<K: Measure + Clone, V: Eq + Clone, C: Storage<Item<AnyRange<K>, V>>> RangeM
     /// with its value, and once for each gap inside, with `None`; it answers the new value, `None`
     /// to unbind the keys, or an error, which ends the call. Only when all answers are there is
     /// anything changed; after an error the map is as it was. An empty range asks nothing and
-    /// changes nothing.
+    /// changes nothing. A stored range that the range only touches keeps its bounds and its value,
+    /// unless keys beside it come to have an equal value: then it is one range with them.
     ///
     /// Allocates a list of what the closure returns, clones of the bounds of its pieces
     /// and of the stored ranges that are cut, and where more ranges are stored than the container
@@ -130,6 +132,7 @@ impl<K: Measure + Clone, V: Eq + Clone, C: Storage<Item<AnyRange<K>, V>>> RangeM
         requires bound { MayBeAskedOfEach F.Fn f (C.items self.old) }
         ensures updated { OnOk result (¬ IsEmptyRange K.order (R.range range) → IsUpdated K.order V.eq F.Fn f (C.items self.old) (C.items self.new) (R.range range)) }
         ensures rebound { OnOk result (AreRebound K.order V.eq (MayAnswer F.Fn f) (C.items self.old) (C.items self.new) (R.range range)) }
+        ensures kept { OnOk result (StandOrMerge K.order V.eq (C.items self.old) (C.items self.new) (R.range range)) }
         ensures form { IsStored K.order V.eq (C.items self.new) }
         ensures coarse { IsComplete K.order → IsCoarse K.order V.eq (C.items self.new) }
         ensures only { IsComplete K.order → IsOnlyCoarse K.order V.eq (C.items self.new) }

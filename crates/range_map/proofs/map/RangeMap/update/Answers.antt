@@ -7,7 +7,10 @@ use Rattle.range_algebra.specs.declared.any.AnyRange.{AnyRange}
 use Rattle.range_map.specs.Answers.{MayAnswer, IsUpdated}
 use Rattle.range_map.proofs.Covering.{on_ok}
 use Rattle.range_map.proofs.Likeness.{clone_empty, updated_too, fails_too}
+use Rattle.range_map.specs.Frames.{StandOrMerge}
 use Rattle.range_map.specs.Rebinding.{AreRebound}
+use Rattle.range_map.proofs.Merging.{unchanged_stands}
+use Rattle.range_map.proofs.Updating.{updated_stands}
 use Rattle.range_map.proofs.Rebinding.{rebound, none_rebound}
 use Rattle.range_map.proofs.StoredLists.{stored_coarse, stored_only}
 use Rattle.range_map.proofs.map.RangeMap.update.Goals as goal
@@ -60,6 +63,31 @@ returns-clause-rebound g c =
     let new = g.C.Storage.items c.update_pieces.new.stored in
     let same = g.V.PartialEq.eq in
     rw (← c.self.view_is) (on_ok (IsUpdated order same g.F.Fn c.args.f items new s) (AreRebound order same (MayAnswer g.F.Fn c.args.f) items new r) c.update_pieces.result (λ h. rebound order lawful same g.met.V.Eq.laws g.F.Fn c.args.f items new r (updated_too order lawful r s start end same g.F.Fn c.args.f items new h)) c.update_pieces.ensures.ok)
+
+pub returns-clause-kept : goal.returns-clause-kept
+returns-clause-kept g c =
+    let order = g.K.MaybeBounded.order in
+    let lawful = g.met.K.PartialEnum.lawful in
+    let equal_keys = λ (a : g.row.K.Denot) (b : g.row.K.Denot) (h : g.K.Clone.is_clone a b).
+    sym (g.met.K.MaybeBounded.order_is_cmp a b) ∙ (Equal-is (g.K.Ord.cmp a b)).0 (sym (g.met.K.Ord.matches_eq a b) ∙ c.requires.keys a b h) in
+    let r = g.R.AsRange.range c.args.range in
+    let s : AnyRange g.row.K.Denot = record { start = c.in_ok-start.start; end = c.in_ok-end.end } in
+    let start = bound_clone order lawful g.K.Clone.is_clone equal_keys r.start s.start (rw c.start.ensures at c.in_ok-start.ensures) in
+    let end = bound_clone order lawful g.K.Clone.is_clone equal_keys r.end s.end (rw c.end.ensures at c.in_ok-end.ensures) in
+    let items = g.C.Storage.items c.self.inside.stored in
+    let new = g.C.Storage.items c.update_pieces.new.stored in
+    let same = g.V.PartialEq.eq in
+    rw (← c.self.view_is) (on_ok (IsUpdated order same g.F.Fn c.args.f items new s) (StandOrMerge order same items new r) c.update_pieces.result (λ h. updated_stands order same g.met.V.Eq.laws g.F.Fn c.args.f items new r (updated_too order lawful r s start end same g.F.Fn c.args.f items new h)) c.update_pieces.ensures.ok)
+
+pub returns-then-is_empty-clause-kept : goal.returns-then-is_empty-clause-kept
+returns-then-is_empty-clause-kept g c =
+    unchanged_stands g.K.MaybeBounded.order g.V.PartialEq.eq (g.R.AsRange.range c.args.range) (g.C.Storage.items c.args.self.now)
+
+pub returns-in_err-start-clause-kept : goal.returns-in_err-start-clause-kept
+returns-in_err-start-clause-kept g c = grind (arith, common_steps)
+
+pub returns-in_err-end-clause-kept : goal.returns-in_err-end-clause-kept
+returns-in_err-end-clause-kept g c = grind (arith, common_steps)
 
 pub returns-then-is_empty-clause-rebound : goal.returns-then-is_empty-clause-rebound
 returns-then-is_empty-clause-rebound g c =

@@ -5,6 +5,7 @@ use Rattle.range_map.specs.Answers.{MayAnswer}
 use Rattle.range_map.proofs.Cutting.{IsFull}
 use Rattle.range_map.proofs.Forms.{stored_known, stored_chain, nonempty_good}
 use Rattle.range_map.proofs.Gathering.{all_full, item_at, listed_at}
+use Rattle.range_map.proofs.Merging.{surrounded_alone}
 use Rattle.range_map.proofs.Updating.{by_insertion, by_removal, whole_piece, whole_answer}
 use Rattle.range_map.proofs.map.update.update_within.Goals as goal
 
@@ -34,7 +35,8 @@ returns-in_ok-bind_within-in-Ok-Some-clause-ok g c =
     let list = listed_at items place x within here in
     let v = c.in-Ok-Some.value in
     let says : MayAnswer g.F.Fn c.args.f.now (Some x.value) (Ok (Some v)) = search rules in
-    by_insertion order same equal g.F.Fn c.args.f.now items (storage.items c.bind_within.new.stored) r x.value v (whole_answer order lawful same equal items r c.known.ensures full chain some (take place items) (drop (place + 1) items) x list known_x (first.3 x here) (last.3 x here_end) (Some v)) says c.in_ok-bind_within-in-Ok-Some.ensures.ok
+    let alone = surrounded_alone order lawful same equal items r c.known.ensures some full chain (take place items) (drop (place + 1) items) x list (first.3 x here) (last.3 x here_end) in
+    by_insertion order same equal g.F.Fn c.args.f.now items (storage.items c.bind_within.new.stored) r x.value v alone (whole_answer order lawful same equal items r c.known.ensures full chain some (take place items) (drop (place + 1) items) x list known_x (first.3 x here) (last.3 x here_end) (Some v)) says c.in_ok-bind_within-in-Ok-Some.ensures.ok
 
 pub returns-in_ok-unbind_within-in-Ok-None-clause-ok : goal.returns-in_ok-unbind_within-in-Ok-None-clause-ok
 returns-in_ok-unbind_within-in-Ok-None-clause-ok g c =
