@@ -3,4 +3,5 @@ pub mod Keeping
 pub mod MapReading
 pub mod Reading
 pub mod ReadingBack
+pub mod ValueSets
 pub mod Writing

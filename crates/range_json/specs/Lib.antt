@@ -1,6 +1,9 @@
 pub mod Keys
 pub mod Shapes
 pub mod Values
+pub mod ValueSets
 pub mod Faults
 pub mod MapFaults
 pub mod ReadBack
+pub mod Laws
+pub mod SetReadBack

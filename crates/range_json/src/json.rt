@@ -31,7 +31,7 @@ pub trait Json: Sized + Drop {
     /// The JSON value that this value is written as. Fails where an allocation fails.
     fn to_json(&self, alloc: Global) -> Result<Value, AllocError>
         ensures written { IfOk result (λ v. view v ≡ shape self.now) }
-        ensures known { is_value self.now };
+        ensures known { OnOk result (is_value self.now) };
 
     /// The value that the JSON value is read as. `Refused` where it is read as none, `Memory` where
     /// an allocation fails.

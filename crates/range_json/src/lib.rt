@@ -14,4 +14,5 @@ mod range;
 mod set;
 mod signed;
 mod unsigned;
+mod value_set;
 mod version;

@@ -6,6 +6,7 @@ pub mod CountedRuns
 pub mod Counting
 pub mod Enclosing
 pub mod FewRanges
+pub mod Filled
 pub mod Filling
 pub mod Histories
 pub mod Likeness

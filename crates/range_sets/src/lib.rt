@@ -7,6 +7,7 @@ pub mod command;
 mod comparing;
 mod complement;
 mod extension;
+pub mod inner;
 mod into_iter;
 mod iter;
 mod laws;

@@ -10,6 +10,7 @@ ghost use Rattle.range_sets.specs.Pairs.{HasNoEmptySet, HasPair, AreValuesAt, Is
 mod changing;
 mod cloning;
 mod comparing;
+pub(crate) mod disjoint;
 mod laws;
 mod text;
 mod walking;

@@ -1,0 +1,56 @@
+-- What a loop has read of an array of values.
+use Rattle.std.proofs.Common.{◌≡◌, refl, sym, ap, subst, ◌∙◌, ◌&&◌, ◌||◌, not, Bool, true, false, IsTrue, List, [], ◌∷◌, ◌++◌, map, Option, Some, None, cond}
+use Rattle.std.proofs.lemmas.List.{map-append}
+use Rattle.std.proofs.lemmas.List.Folds.{list_all-append, list_any-append}
+use Rattle.std.specs.BTreeSet.{BTreeSet, IsEmpty, IsOrdered, IsFromIterResult, Updates, contains}
+use Rattle.std.specs.Cmp.{IsTotalOrder, IsEquivalence, eq_by_cmp_equiv}
+use Rattle.std.specs.Cmp.Lexicographic.{pointwise}
+use Rattle.std.specs.List.{AllByRecursion, AllZip, list_all, list_any}
+use Rattle.std.specs.Ordering.{eq_by_cmp}
+use Rattle.std.specs.declared.cmp.Ordering.{Ordering}
+use Rattle.serde_json.specs.Data.{Data}
+use Rattle.serde_json.specs.View.{view}
+use Rattle.serde_json.specs.declared.value.Value.{Value}
+use Rattle.range_sets.specs.ListedMembers.{tree_same_equal}
+use Rattle.range_json.specs.Shapes.{elements_of}
+use Rattle.range_json.specs.ValueSets.{reads_all, reads_values, reads_some, values_shape, IsValueSet, AreValuesRead}
+use Rattle.range_json.proofs.Reading.{list_back, read_more}
+
+both : (a b : Bool) → a ≡ true → b ≡ true → (a && b) ≡ true
+both a b e f = rw e f
+
+either_is : (a b : Bool) → cond a true b ≡ (b || (a || false))
+either_is true true = refl
+either_is true false = refl
+either_is false true = refl
+either_is false false = refl
+
+module _ {V : Type 0} (cmp : V → V → Ordering) (reads : Data → Bool) (is_read : Data → V → Type 0) where
+  -- the elements are values, and the set has just these
+  pub record AreValuesSoRead (vs : List Value) (s : BTreeSet V) : Type 0 where
+    pub sound : list_all reads (map view vs) ≡ true
+    pub values : List V
+    pub read : AllZip is_read (map view vs) values
+    pub set : IsFromIterResult cmp values s
+
+  pub values_begun : (s : BTreeSet V) → IsEmpty s → IsOrdered cmp s → AreValuesSoRead [] s
+  values_begun s none ordered = record { sound = refl; values = []; read = tt; set = (λ q. ap (list_any (eq_by_cmp cmp q)) none, ordered) }
+
+  module _ (total : IsTotalOrder cmp) where
+    pub values_more : (vs : List Value) (v : Value) (old new : BTreeSet V) (x : V) → AreValuesSoRead vs old → is_read (view v) x → IsTrue (reads (view v)) → Updates cmp old new x true → IsOrdered cmp new → AreValuesSoRead (vs ++ v ∷ []) new
+    values_more vs v old new x h read fine updates ordered =
+        let more = map-append view vs (v ∷ []) in
+        let member = λ (q : V). eq_by_cmp cmp q in
+        let laws = eq_by_cmp_equiv total in record {
+          sound = rw more (list_all-append reads (map view vs) (view v ∷ []) ∙ both (list_all reads (map view vs)) (reads (view v) && true) h.sound (both (reads (view v)) true fine refl));
+          values = h.values ++ x ∷ [];
+          read = rw more (read_more is_read (map view vs) h.values (view v) x h.read read);
+          set = (λ q. updates.0 q ∙ ap (λ b. cond b true (contains cmp old q)) (laws.symm x q) ∙ ap (λ b. cond (member q x) true b) (h.set.0 q) ∙ either_is (member q x) (list_any (member q) h.values) ∙ sym (list_any-append (member q) h.values (x ∷ [])), ordered);
+        }
+
+  pub values_fail : (vs more : List Value) (v : Value) → reads (view v) ≡ false → list_all reads (map view (vs ++ v ∷ more)) ≡ false
+  values_fail vs more v e = rw (map-append view vs (v ∷ more)) (list_all-append reads (map view vs) (view v ∷ map view more) ∙ ap (λ b. list_all reads (map view vs) && (b && list_all reads (map view more))) e ∙ ends_false (list_all reads (map view vs)))
+    where
+      ends_false : (b : Bool) → (b && false) ≡ false
+      ends_false true = refl
+      ends_false false = refl
