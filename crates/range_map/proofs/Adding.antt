@@ -74,9 +74,6 @@ module _ {K : Type 0} (order : KeyOrder K) (len : K → ℕ) (distance : K → K
     pub split : ranges ≡ done ++ rest
     pub sum : list_measure order len distance done ≡ Some total
 
-  pub measured_none : (ranges : List (AnyRange K)) → IsMeasured ranges ranges 0
-  measured_none ranges = record { done = []; split = refl; sum = refl }
-
   one_more : (t n : ℕ) (o : Option ℕ) → o ≡ Some n → measure_sum (Some t) (measure_sum o (Some 0)) ≡ Some (t + n)
   one_more t n o e = rw e (ap Some (omega arith))
 
@@ -86,9 +83,6 @@ module _ {K : Type 0} (order : KeyOrder K) (len : K → ℕ) (distance : K → K
     split = h.split ∙ sym (append_assoc h.done (r ∷ []) rest);
     sum = measure_append h.done (r ∷ []) ∙ ap (λ o. measure_sum o (measure_sum (range_measure order len distance r) (Some 0))) h.sum ∙ one_more t n (range_measure order len distance r) e;
   }
-
-  pub measured_all : (ranges : List (AnyRange K)) (t : ℕ) → IsMeasured ranges [] t → list_measure order len distance ranges ≡ Some t
-  measured_all ranges t h = ap (list_measure order len distance) h.split ∙ measure_append h.done [] ∙ ap (λ o. measure_sum o (Some 0)) h.sum ∙ ap Some (omega arith)
 
   none_more : (t : ℕ) (o p : Option ℕ) → o ≡ None → measure_sum (Some t) (measure_sum o p) ≡ None
   none_more t o p e = rw e refl

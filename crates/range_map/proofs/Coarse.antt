@@ -10,6 +10,7 @@ use Rattle.range_keys.specs.Order.{KeyOrder, IsLawful, Below, NotAbove}
 use Rattle.range_algebra.specs.Range.{StartHolds, EndHolds, Holds, IsKeyless}
 use Rattle.range_algebra.specs.declared.any.AnyRange.{AnyRange}
 use Rattle.range_algebra.proofs.Holding.{below_up, up_below}
+use Rattle.range_map.proofs.Meeting.{binds_bound}
 use Rattle.range_store.specs.declared.storage.Item.{Item}
 use Rattle.range_algebra.specs.Relations.{LiesBetween}
 use Rattle.range_map.specs.Bindings.{IsBound, BindsTo, BindAlike, AreDisjoint, IsCoarse, AreAlike}
@@ -33,11 +34,11 @@ pub stable_order : (m n : ℕ) → ((m ≤ n → ⊥) → ⊥) → m ≤ n
 stable_order m n h = order_by m n h (nat_cmp m n) (ranks m n)
 
 module _ {K : Type 0} (order : KeyOrder K) (lawful : IsLawful order) where
-  pub itself : (a : K) → NotAbove order a a
-  itself a = ap is_gt (tied_itself lawful.total a)
+  pub at_most_itself : (a : K) → NotAbove order a a
+  at_most_itself a = ap is_gt (tied_itself lawful.total a)
 
-  pub irreflexive : (a b : K) → Below order a b → NotAbove order b a → ⊥
-  irreflexive a b l h =
+  pub below_is_irreflexive : (a b : K) → Below order a b → NotAbove order b a → ⊥
+  below_is_irreflexive a b l h =
       let e : order.cmp a a ≡ Less = below_up order lawful a b a l h in
       let f : order.cmp a a ≡ Equal = tied_itself lawful.total a in
       cc
@@ -53,15 +54,10 @@ module _ {K : Type 0} (order : KeyOrder K) (lawful : IsLawful order) where
   end_down Unbounded c d l h = tt
 
   -- a range holds what lies between two keys that it holds
-  pub convex : (r : AnyRange K) (a b c : K) → Holds order r a → Holds order r b → NotAbove order a c → NotAbove order c b → Holds order r c
-  convex r a b c h g l u = (start_up r.start a c h.0 l, end_down r.end c b u g.1)
+  pub ranges_are_convex : (r : AnyRange K) (a b c : K) → Holds order r a → Holds order r b → NotAbove order a c → NotAbove order c b → Holds order r c
+  ranges_are_convex r a b c h g l u = (start_up r.start a c h.0 l, end_down r.end c b u g.1)
 
   module _ {V : Type 0} (same_value : V → V → Bool) (values : IsEquivalence same_value) where
-    binds_bound : (items : List (Item (AnyRange K) V)) (k : K) (v : V) → BindsTo order same_value items k v → IsBound order items k
-    binds_bound [] k v h = h
-    binds_bound (i ∷ rest) k v (inl h) = inl h.0
-    binds_bound (i ∷ rest) k v (inr h) = inr (binds_bound rest k v h)
-
     bound_binds : (items : List (Item (AnyRange K) V)) (k : K) → IsBound order items k → (v : V) × BindsTo order same_value items k v
     bound_binds [] k h = absurd h
     bound_binds (i ∷ rest) k (inl h) = (i.value, inl (h, values.refl i.value))
@@ -82,11 +78,11 @@ module _ {K : Type 0} (order : KeyOrder K) (lawful : IsLawful order) where
         (λ no. first_holds j rest (rest_coarse i (j ∷ rest) coarse) (λ y in_type held. no (lawful.total.trans a y b (coarse.rising.0 a y key in_type h held) (first_below j rest (rest_coarse i (j ∷ rest) coarse) y b in_type key' held g))))
 
     first_alone : (i : Item (AnyRange K) V) (rest : List (Item (AnyRange K) V)) → IsCoarse order same_value (i ∷ rest) → (a : K) → order.is_key a → Holds order i.key a → IsBound order rest a → ⊥
-    first_alone i rest coarse a key h g = irreflexive a a (first_below i rest coarse a a key key h g) (itself a)
+    first_alone i rest coarse a key h g = below_is_irreflexive a a (first_below i rest coarse a a key key h g) (at_most_itself a)
 
     first_value : (i : Item (AnyRange K) V) (rest : List (Item (AnyRange K) V)) → IsCoarse order same_value (i ∷ rest) → (a : K) (v : V) → order.is_key a → Holds order i.key a → BindsTo order same_value (i ∷ rest) a v → IsTrue (same_value i.value v)
     first_value i rest coarse a v key h (inl g) = g.1
-    first_value i rest coarse a v key h (inr g) = absurd (first_alone i rest coarse a key h (binds_bound rest a v g))
+    first_value i rest coarse a v key h (inr g) = absurd (first_alone i rest coarse a key h (binds_bound order same_value rest a v g))
 
     -- no key is held by two items of a coarse list
     pub coarse_disjoint : (items : List (Item (AnyRange K) V)) → IsCoarse order same_value items → AreDisjoint order items
@@ -102,7 +98,7 @@ module _ {K : Type 0} (order : KeyOrder K) (lawful : IsLawful order) where
         → (y : K) → order.is_key y → Holds order j.key y → NotAbove order y b → ⊥
     changes_to i j rest coarse a b v key key' h all y in_type held up =
         let low : Below order a y = coarse.rising.0 a y key in_type h held in
-        let left : IsTrue (same_value i.value v) = first_value i (j ∷ rest) coarse a v key h (all a key (itself a) (upto lawful.total a y b (ap is_gt low) up)) in
+        let left : IsTrue (same_value i.value v) = first_value i (j ∷ rest) coarse a v key h (all a key (at_most_itself a) (upto lawful.total a y b (ap is_gt low) up)) in
         let beyond : BindsTo order same_value (j ∷ rest) y v =
         elim (all y in_type (ap is_gt low) up) [ inl g ↦ absurd (first_alone i (j ∷ rest) coarse y in_type g.0 (inl held)) | inr g ↦ g ] in
         let right : IsTrue (same_value j.value v) = first_value j rest (rest_coarse i (j ∷ rest) coarse) y v in_type held beyond in
@@ -114,15 +110,15 @@ module _ {K : Type 0} (order : KeyOrder K) (lawful : IsLawful order) where
         coarse.parted.0 (coarse.rising.0, apart) (both_same i.value j.value v left right)
       where
         the_gap : (i j : Item (AnyRange K) V) (rest : List (Item (AnyRange K) V)) → IsCoarse order same_value (i ∷ j ∷ rest) → (k y : K) (v : V) → order.is_key k → order.is_key y → Holds order j.key y → LiesBetween order i.key j.key k → BindsTo order same_value (i ∷ j ∷ rest) k v → ⊥
-        the_gap i j rest coarse k y v known in_type held between (inl g) = irreflexive k k (between.0 k known g.0) (itself k)
-        the_gap i j rest coarse k y v known in_type held between (inr (inl g)) = irreflexive k k (between.1 k known g.0) (itself k)
+        the_gap i j rest coarse k y v known in_type held between (inl g) = below_is_irreflexive k k (between.0 k known g.0) (at_most_itself k)
+        the_gap i j rest coarse k y v known in_type held between (inr (inl g)) = below_is_irreflexive k k (between.1 k known g.0) (at_most_itself k)
         the_gap i j rest coarse k y v known in_type held between (inr (inr g)) =
-            irreflexive k y (between.1 y in_type held) (ap is_gt (first_below j rest (rest_coarse i (j ∷ rest) coarse) y k in_type known held (binds_bound rest k v g)))
+            below_is_irreflexive k y (between.1 y in_type held) (ap is_gt (first_below j rest (rest_coarse i (j ∷ rest) coarse) y k in_type known held (binds_bound order same_value rest k v g)))
 
     changes : (i : Item (AnyRange K) V) (rest : List (Item (AnyRange K) V)) → IsCoarse order same_value (i ∷ rest) → (a b : K) (v : V) → order.is_key a → order.is_key b → Holds order i.key a → IsBound order rest b
         → ((c : K) → order.is_key c → NotAbove order a c → NotAbove order c b → BindsTo order same_value (i ∷ rest) c v) → ⊥
     changes i [] coarse a b v key key' h g all = g
-    changes i (j ∷ rest) coarse a b v key key' h (inl g) all = changes_to i j rest coarse a b v key key' h all b key' g (itself b)
+    changes i (j ∷ rest) coarse a b v key key' h (inl g) all = changes_to i j rest coarse a b v key key' h all b key' g (at_most_itself b)
     changes i (j ∷ rest) coarse a b v key key' h (inr g) all =
         first_holds j rest (rest_coarse i (j ∷ rest) coarse) (λ y in_type held. changes_to i j rest coarse a b v key key' h all y in_type held (ap is_gt (first_below j rest (rest_coarse i (j ∷ rest) coarse) y b in_type key' held g)))
 
@@ -136,18 +132,18 @@ module _ {K : Type 0} (order : KeyOrder K) (lawful : IsLawful order) where
       where
         from_first : (y : K) → order.is_key y → Holds order j.key y → IsBound order others k → BindsTo order same_value (i ∷ items) y j.value → ⊥
         from_first y in_type held g (inl f) =
-            changes j others coarse' y k i.value in_type key held g (λ c known l u. there c known i.value (inl (convex i.key y k c f.0 h l u, values.refl i.value)))
+            changes j others coarse' y k i.value in_type key held g (λ c known l u. there c known i.value (inl (ranges_are_convex i.key y k c f.0 h l u, values.refl i.value)))
         from_first y in_type held g (inr f) =
-            irreflexive y k (first_below j others coarse' y k in_type key held g) (ap is_gt (first_below i items coarse k y key in_type h (binds_bound items y j.value f)))
+            below_is_irreflexive y k (first_below j others coarse' y k in_type key held g) (ap is_gt (first_below i items coarse k y key in_type h (binds_bound order same_value items y j.value f)))
 
         settle : BindsTo order same_value (j ∷ others) k i.value → Holds order j.key k
         settle (inl g) = g.0
         settle (inr g) =
-            absurd (first_holds j others coarse' (λ y in_type held. from_first y in_type held (binds_bound others k i.value g) (back y in_type j.value (inl (held, values.refl j.value)))))
+            absurd (first_holds j others coarse' (λ y in_type held. from_first y in_type held (binds_bound order same_value others k i.value g) (back y in_type j.value (inl (held, values.refl j.value)))))
 
     rest_follows : (i j : Item (AnyRange K) V) (items others : List (Item (AnyRange K) V)) → IsCoarse order same_value (i ∷ items) → ((k : K) → order.is_key k → Holds order j.key k → Holds order i.key k) → Follows (i ∷ items) (j ∷ others) → Follows items others
     rest_follows i j items others coarse held there k key v h =
-        elim (there k key v (inr h)) [ inl g ↦ absurd (first_alone i items coarse k key (held k key g.0) (binds_bound items k v h)) | inr g ↦ g ]
+        elim (there k key v (inr h)) [ inl g ↦ absurd (first_alone i items coarse k key (held k key g.0) (binds_bound order same_value items k v h)) | inr g ↦ g ]
 
     first_same : (i j : Item (AnyRange K) V) (items others : List (Item (AnyRange K) V)) → IsCoarse order same_value (i ∷ items) → IsCoarse order same_value (j ∷ others) → ((k : K) → order.is_key k → Holds order i.key k → Holds order j.key k) → Follows (i ∷ items) (j ∷ others) → IsTrue (same_value i.value j.value)
     first_same i j items others coarse coarse' held there =
@@ -216,7 +212,7 @@ module _ {K : Type 0} (order : KeyOrder K) (lawful : IsLawful order) where
     Together items others = (a b : K) → order.is_key a → order.is_key b → IsBound order items a → IsBound order items b → HeldTogether others a b → AllBoundTo items a b
 
     past_first : (i : Item (AnyRange K) V) (rest : List (Item (AnyRange K) V)) → IsCoarse order same_value (i ∷ rest) → (a c : K) (v : V) → order.is_key a → order.is_key c → IsBound order rest a → NotAbove order a c → BindsTo order same_value (i ∷ rest) c v → BindsTo order same_value rest c v
-    past_first i rest coarse a c v key key' g l (inl h) = absurd (irreflexive c a (first_below i rest coarse c a key' key h.0 g) l)
+    past_first i rest coarse a c v key key' g l (inl h) = absurd (below_is_irreflexive c a (first_below i rest coarse c a key' key h.0 g) l)
     past_first i rest coarse a c v key key' g l (inr h) = h
 
     shorter : (items others : List (Item (AnyRange K) V)) → IsCoarse order same_value items → ((k : K) → order.is_key k → IsBound order items k → IsBound order others k) → Together items others → length items ≤ length others
@@ -243,7 +239,7 @@ module _ {K : Type 0} (order : KeyOrder K) (lawful : IsLawful order) where
     together_alike : (others : List (Item (AnyRange K) V)) (a b : K) → HeldTogether others a b → AllBoundTo others a b
     unfolding AllBoundTo
     together_alike [] a b h = absurd h
-    together_alike (i ∷ others) a b (inl h) = (i.value, λ c key low up. inl (convex i.key a b c h.0 h.1 low up, values.refl i.value))
+    together_alike (i ∷ others) a b (inl h) = (i.value, λ c key low up. inl (ranges_are_convex i.key a b c h.0 h.1 low up, values.refl i.value))
     together_alike (i ∷ others) a b (inr h) = let found = together_alike others a b h in (found.0, λ c key low up. inr (found.1 c key low up))
 
     -- no list with the same bindings is shorter than a coarse one
@@ -251,5 +247,5 @@ module _ {K : Type 0} (order : KeyOrder K) (lawful : IsLawful order) where
     unfolding Together AllBoundTo
     coarse_shortest items others coarse alike =
         shorter items others coarse
-        (λ k key h. let found = bound_binds items k h in binds_bound others k found.0 ((alike k key (Some found.0)).0 found.1))
+        (λ k key h. let found = bound_binds items k h in binds_bound order same_value others k found.0 ((alike k key (Some found.0)).0 found.1))
         (λ a b key key' f g both. let found = together_alike others a b both in (found.0, λ c known low up. (alike c known (Some found.0)).1 (found.1 c known low up)))

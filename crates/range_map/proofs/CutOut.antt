@@ -16,17 +16,13 @@ use Rattle.range_algebra.specs.Joins.{IsUnbound, unbound}
 use Rattle.range_algebra.specs.Cuts.{lower, upper}
 use Rattle.range_map.specs.ItemCuts.{item_lower, item_upper}
 use Rattle.range_map.specs.Stored.{IsStored}
-use Rattle.range_map.specs.Bindings.{IsUnboundAfter, IsBoundAfter}
-use Rattle.range_algebra.proofs.Holding.{empty_is_keyless}
+use Rattle.range_map.specs.Bindings.{IsUnboundAfter}
 use Rattle.range_map.specs.Window.{IsWindow, IsLeftPart, IsRightPart, option_items}
 use Rattle.range_map.specs.declared.change.window.Window.{Window}
 use Rattle.range_map.proofs.Forms.{places, nonempty_good, Known, Chained, stored_known, stored_chain, unbound_after}
 use Rattle.range_algebra.proofs.Lists.{parts, parts_at}
 
 module _ {K : Type 0} (order : KeyOrder K) (lawful : IsLawful order) {V : Type 0} (same : V → V → Bool) (equal : IsEquivalence same) where
-  abbrev Stored : Type 0
-  Stored = Item (AnyRange K) V
-
   abbrev pub Left : List (Item (AnyRange K) V) → List (Item (AnyRange K) V) → Position K → Type 0
   Left items kept c = IsLeft (places order lawful) (position_total order.cmp lawful.total) same equal (item_lower order) (item_upper order) (λ i. i.value) items kept c
 
@@ -66,7 +62,7 @@ module _ {K : Type 0} (order : KeyOrder K) (lawful : IsLawful order) {V : Type 0
   right_by items front rest x r (Some y) split chain starts above part =
       rw split (right_cut (places order lawful) (position_total order.cmp lawful.total) same equal (item_lower order) (item_upper order) (λ i. i.value) front x rest y (upper order r) (rw split at chain) (lt_le (places order lawful) (position_total order.cmp lawful.total) (item_lower order x) (upper order r) starts) part.0 part.1 part.2 part.3)
 
-  -- what the last item that meets a range leaves behind it
+  -- what the last item that meets a range leaves after it
   pub right_of : (items : List (Item (AnyRange K) V)) (end : ℕ) (d : Item (AnyRange K) V) (r : AnyRange K) (right : Option (Item (AnyRange K) V)) → 0 < end → end ≤ length items → Chained order lawful same equal items → Lt (places order lawful) (item_lower order (get_or items (end - 1) d)) (upper order r) → Every (λ i. Le (places order lawful) (upper order r) (item_lower order i)) (drop end items) → IsRightPart order same (get_or items (end - 1) d) r right → Right items (option_items right ++ drop end items) (upper order r)
   right_of items end d r right some within chain starts above part =
       let last : end - 1 + 1 ≡ end = omega arith in
@@ -88,9 +84,9 @@ module _ {K : Type 0} (order : KeyOrder K) (lawful : IsLawful order) {V : Type 0
   known_drop items n known = every_right _ (take n items) (drop n items) (rw (parts items n) at known)
 
   -- a range that meets nothing
-  pub unmet : {P : Type 0} (is_good : P → Type 0) (rank : P → ℕ) (items : List (Item (AnyRange K) V)) (r : AnyRange K) (w : Window P) (place : ℕ) →
+  pub unmet_is_unbound : {P : Type 0} (is_good : P → Type 0) (rank : P → ℕ) (items : List (Item (AnyRange K) V)) (r : AnyRange K) (w : Window P) (place : ℕ) →
       IsStored order same items → IsKnownRange order r → (IsEmptyRange order r → ⊥) → IsWindow order is_good rank items r w place → w.count ≡ 0 → IsUnboundAfter order same items items r
-  unmet is_good rank items r w place stored known full window none =
+  unmet_is_unbound is_good rank items r w place stored known full window none =
       let cmp = places order lawful in
       let total = position_total order.cmp lawful.total in
       let chain = stored_chain order lawful same equal items stored in
@@ -102,15 +98,3 @@ module _ {K : Type 0} (order : KeyOrder K) (lawful : IsLawful order) {V : Type 0
       let on_right = right_all items (take place items) (drop place items) (upper order r) (parts items place) chain (every_weaker _ _ (take place items) (λ i h. le_trans cmp total (item_upper order i) (lower order r) (upper order r) h (lt_le cmp total (lower order r) (upper order r) good)) window.below) behind in
       let result = unbound (places order lawful) (position_total order.cmp lawful.total) same equal (item_lower order) (item_upper order) (λ i. i.value) items (take place items) (drop place items) (lower order r) (upper order r) on_left on_right good in
       unbound_after order lawful same equal items items r known all all (subst (λ (ys : List (Item (AnyRange K) V)). IsUnbound (places order lawful) (position_total order.cmp lawful.total) same equal (item_lower order) (item_upper order) (λ i. i.value) items ys (lower order r) (upper order r)) (sym (parts items place)) result)
-
-  pub empty_unbound : (items : List (Item (AnyRange K) V)) (r : AnyRange K) → IsEmptyRange order r → IsUnboundAfter order same items items r
-  empty_unbound items r empty = record {
-    held = λ k key h. absurd (empty_is_keyless order lawful r empty k key h);
-    others = λ k key h b. (λ t. t, λ t. t);
-  }
-
-  pub empty_bound : (items : List (Item (AnyRange K) V)) (r : AnyRange K) (v : V) → IsEmptyRange order r → IsBoundAfter order same items items r v
-  empty_bound items r v empty = record {
-    held = λ k key h. absurd (empty_is_keyless order lawful r empty k key h);
-    others = λ k key h b. (λ t. t, λ t. t);
-  }

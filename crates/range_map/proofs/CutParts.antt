@@ -66,7 +66,7 @@ module _ {K : Type 0} (order : KeyOrder K) (lawful : IsLawful order) where
       let total = position_total order.cmp lawful.total in
       tied_back total (past order (end_position order e)) (start_position order b) (total.congr (past order (end_position order e)) (start_position order t) (start_position order b) at ∙ same_start order lawful t b h)
 
-  -- the start just behind an end bound that is not the last of all
+  -- the start just after an end bound that is not the last of all
   pub cut_start : (a e b : Bound K) → IsKnownBound order a → Lt (places order lawful) (past order (end_position order e)) (past order (end_position order a)) → SameBound order (turned_bound e) b → places order lawful (start_position order b) (past order (end_position order e)) ≡ Equal
   cut_start a (Included k) b known l h = start_by (Included k) (Excluded k) b (turned order lawful (Included k) (Excluded k) refl) h
   cut_start a (Excluded k) b known l h = start_by (Excluded k) (Included k) b (turned order lawful (Excluded k) (Included k) refl) h
@@ -89,7 +89,7 @@ module _ {K : Type 0} (order : KeyOrder K) (lawful : IsLawful order) where
   le_is Equal = (λ h. refl, λ h. refl)
   le_is Greater = (λ h. absurd (cc), λ h. absurd (cc))
 
-  -- a range ends after another where it reaches the start just behind it
+  -- a range ends after another where it reaches the start just after it
   pub ends_after_is : (r i : AnyRange K) (s : Bound K) → IsKnownRange order r → IsKnownRange order i → Some s ≡ inverted r.end → IsTrue (is_le (places order lawful (start_position order s) (end_position order i.end))) ↔ Lt (places order lawful) (upper order r) (upper order i)
   ends_after_is r i s known others turns =
       let total = position_total order.cmp lawful.total in

@@ -20,7 +20,6 @@ use Rattle.range_map.specs.Window.{IsWindow, IsLeftPart, IsRightPart, option_ite
 use Rattle.range_map.specs.declared.change.window.Window.{Window}
 use Rattle.range_map.proofs.Forms.{places, nonempty_good, Known, stored_known, stored_chain, chain_stored, unbound_after}
 use Rattle.range_algebra.proofs.Lists.{every_at, parts}
-use Rattle.std.proofs.Common.{Result, Ok, Err, IfOk}
 use Rattle.std.specs.Cmp.{tied_itself}
 use Rattle.std.specs.declared.ops.Bound.{Bound}
 use Rattle.std.specs.Option.{unwrap_or}
@@ -33,7 +32,7 @@ use Rattle.range_map.specs.Ranges.{Overlap}
 use Rattle.range_map.specs.Frames.{GaveWayTo, WasCutOut}
 use Rattle.range_map.proofs.Forms.{before_is}
 use Rattle.range_map.proofs.Windows.{every_both}
-use Rattle.range_map.specs.Reach.{ReachesBefore, ReachesBehind}
+use Rattle.range_map.specs.Reach.{ReachesBefore, ReachesAfter}
 use Rattle.range_map.specs.Edits.{turned_bound, with_end}
 use Rattle.range_algebra.specs.Clones.{SameBound}
 use Rattle.range_algebra.specs.Range.{IsKnownBound}
@@ -43,10 +42,6 @@ use Rattle.range_map.proofs.CutParts.{cut_end, cut_start, known_turned, same_tur
 use Rattle.range_map.specs.Edges.{IsLeftRest, IsRightRest, IsLeftEdge, IsRightEdge, TouchesBefore, TouchesNoneBefore, TouchesAfter, TouchesNoneAfter, edge_start, edge_end}
 use Rattle.range_map.proofs.Forms.{touches_is, bound_after}
 use Rattle.range_map.proofs.CutOut.{Left, Right, left_all, right_all, left_of, right_of, left_known, right_known, known_take, known_drop}
-
-pub if_ok : {A E : Type 0} (P Q : A → Type 0) (r : Result A E) → ((x : A) → P x → Q x) → IfOk r P → IfOk r Q
-if_ok P Q (Ok x) f h = f x h
-if_ok P Q (Err e) f h = tt
 
 both_truths : (b : Bool) → b ≡ true → b ≡ false → ⊥
 both_truths b e f = let clash : true ≡ false = sym e ∙ f in cc
@@ -134,7 +129,7 @@ module _ {K : Type 0} (order : KeyOrder K) (lawful : IsLawful order) {V : Type 0
         let read = element_is items place within x in
         left_rest_some (omega arith) x read None (reach x (omega arith) read)
 
-    right_rest_by : (n : ℕ) → w.count ≡ n → ReachesBehind order is_good rank items r place w.count None → IsRightRest order same lawful equal items r (place + w.count) None
+    right_rest_by : (n : ℕ) → w.count ≡ n → ReachesAfter order is_good rank items r place w.count None → IsRightRest order same lawful equal items r (place + w.count) None
     right_rest_by zero e reach = right_rest_none e
     right_rest_by (suc n) e reach =
         let within : place + w.count - 1 < length items = omega (arith, e, window.in_range) in
@@ -151,7 +146,7 @@ module _ {K : Type 0} (order : KeyOrder K) (lawful : IsLawful order) {V : Type 0
         let known_x = known_at place x (omega (arith, window.in_range)) read in
         left_rest_some some x read (Some (with_end x b)) (starts, tied_itself (position_total order.cmp lawful.total) (item_lower order x), cut_end order lawful x.key.start r.start b known_x.0 starts same_b, equal.refl x.value, (known_x.0, known_b))
 
-    pub right_rest_whole : ReachesBehind order is_good rank items r place w.count None → IsRightRest order same lawful equal items r (place + w.count) None
+    pub right_rest_whole : ReachesAfter order is_good rank items r place w.count None → IsRightRest order same lawful equal items r (place + w.count) None
     right_rest_whole reach = right_rest_by w.count refl reach
 
     -- an item that ends after the range, with a value that equals its own
@@ -305,13 +300,13 @@ module _ {K : Type 0} (order : KeyOrder K) (lawful : IsLawful order) {V : Type 0
         }
 
     -- the list with the range bound to v
-    pub inserted : (new : List (Item (AnyRange K) V)) (v : V) (m : Item (AnyRange K) V) (at end : ℕ) (left right : Option (Item (AnyRange K) V)) (start finish : Option (Bound K)) →
+    pub edges_insert : (new : List (Item (AnyRange K) V)) (v : V) (m : Item (AnyRange K) V) (at end : ℕ) (left right : Option (Item (AnyRange K) V)) (start finish : Option (Bound K)) →
         IsLeftEdge order same lawful equal items r v at left start → IsRightEdge order same lawful equal items r v end right finish →
         m.key.start ≡ unwrap_or start r.start → m.key.end ≡ unwrap_or finish r.end → same m.value v ≡ true →
         GaveWayTo order same items new r v →
         new ≡ take at items ++ option_items left ++ option_items (Some m) ++ option_items right ++ drop end items →
         IsInserted order same items new r v
-    inserted new v m at end left right start finish on_left on_right starts ends values frame changed =
+    edges_insert new v m at end left right start finish on_left on_right starts ends values frame changed =
         let all = stored_known order lawful same equal items stored in
         let front = take at items ++ option_items left in
         let behind = option_items right ++ drop end items in
@@ -326,12 +321,12 @@ module _ {K : Type 0} (order : KeyOrder K) (lawful : IsLawful order) {V : Type 0
         record { stored = rw list (chain_stored order lawful same equal (front ++ m ∷ behind) others result.chain); bound = rw list (bound_after order lawful same equal items (front ++ m ∷ behind) r v known all others result); frame = frame; meets = rw list (meets_bound order lawful same equal items (front ++ m ∷ behind) r v all others (stored_chain order lawful same equal items stored) known good result) }
 
     -- the list with the range unbound
-    pub removed : (new : List (Item (AnyRange K) V)) (at end : ℕ) (left right : Option (Item (AnyRange K) V)) →
+    pub edges_remove : (new : List (Item (AnyRange K) V)) (at end : ℕ) (left right : Option (Item (AnyRange K) V)) →
         IsLeftRest order same lawful equal items r at left → IsRightRest order same lawful equal items r end right →
         WasCutOut order same items new r →
         new ≡ take at items ++ option_items left ++ [] ++ option_items right ++ drop end items →
         IsRemoved order same items new r
-    removed new at end left right on_left on_right frame changed =
+    edges_remove new at end left right on_left on_right frame changed =
         let all = stored_known order lawful same equal items stored in
         let front = take at items ++ option_items left in
         let behind = option_items right ++ drop end items in

@@ -17,6 +17,7 @@ use Rattle.range_algebra.specs.Intervals.{Le, Lt}
 use Rattle.range_algebra.specs.Orders.{eq_le, eq_ge, le_trans, lt_not_le, not_le, not_lt, both, le_lt_trans, lt_trans}
 use Rattle.range_algebra.specs.Cuts.{past}
 use Rattle.range_algebra.proofs.Places.{reaches, turned, turned_known, unbounded_end}
+use Rattle.range_map.proofs.JustBefore.{IsEnd, end_is}
 
 greater_less : (o : Ordering) → ordering_then o Greater ≡ Less → o ≡ Less
 greater_less Less e = refl
@@ -69,30 +70,6 @@ module _ {K : Type 0} (order : KeyOrder K) (lawful : IsLawful order) where
   past_le e (Excluded b) known known' le = past_turned e (Excluded b) (Included b) refl known known' le
   past_le e Unbounded known known' le = unbounded_end order lawful e known
 
-  -- where an end can lie
-  unfoldable IsEnd : Position K → Type 0
-  IsEnd MinusInfinity = ⊥
-  IsEnd (Beside b Before) = order.is_key b × (order.pred b ≡ None)
-  IsEnd (Beside b At) = order.is_key b
-  IsEnd (Beside b After) = ⊥
-  IsEnd PlusInfinity = Unit {0}
-
-  end_excluded : (b : K) (o : Option K) → order.pred b ≡ o → order.is_key b → IsEnd (at_told o (Beside b Before))
-  unfolding IsEnd
-  end_excluded b None e key = (key, e)
-  end_excluded b (Some a) e key = (lawful.pred_key a b e).0
-
-  end_unbounded : (o : Option K) → order.greatest ≡ o → IsEnd (at_told o PlusInfinity)
-  unfolding IsEnd
-  end_unbounded None e = tt
-  end_unbounded (Some m) e = lawful.greatest_key m e
-
-  end_is : (b : Bound K) → IsKnownBound order b → IsEnd (end_position order b)
-  unfolding IsEnd
-  end_is (Included a) key = key
-  end_is (Excluded a) key = end_excluded a (order.pred a) refl key
-  end_is Unbounded key = end_unbounded order.greatest refl
-
   -- the neighbour before a key that has none is nobody's neighbour
   told_none : (o p : Option K) (a : K) → Tells order o a → SameAnswer order o p → p ≡ None → ⊥
   told_none None p a t s n = t
@@ -127,7 +104,7 @@ module _ {K : Type 0} (order : KeyOrder K) (lawful : IsLawful order) where
   infinity_last (Beside a x) l = cc
   infinity_last PlusInfinity l = cc
 
-  past_lt : (e f : Position K) → IsEnd e → IsEnd f → PLt e f → PLt (past order e) (past order f)
+  past_lt : (e f : Position K) → IsEnd order lawful e → IsEnd order lawful f → PLt e f → PLt (past order e) (past order f)
   unfolding IsEnd
   past_lt (Beside a Before) (Beside b Before) h k l = less_then (order.cmp a b) Equal (equal_less (order.cmp a b) l)
   past_lt (Beside a Before) (Beside b At) h k l = before_at a b (order.succ b) refl (less_less (order.cmp a b) l)
@@ -147,4 +124,4 @@ module _ {K : Type 0} (order : KeyOrder K) (lawful : IsLawful order) where
   end_le e f known known' le =
       let cmp = position_cmp order.cmp in
       let total = position_total order.cmp lawful.total in
-      not_lt cmp total (end_position order e) (end_position order f) (λ l. lt_not_le cmp total (past order (end_position order f)) (past order (end_position order e)) (past_lt (end_position order f) (end_position order e) (end_is f known') (end_is e known) l) le)
+      not_lt cmp total (end_position order e) (end_position order f) (λ l. lt_not_le cmp total (past order (end_position order f)) (past order (end_position order e)) (past_lt (end_position order f) (end_position order e) (end_is order lawful f known') (end_is order lawful e known) l) le)

@@ -1,4 +1,4 @@
--- Answers put one behind the other, those that touch with equal values as one.
+-- Answers put one after the other, those that touch with equal values as one.
 use Rattle.std.proofs.Common.{◌≡◌, refl, sym, ap, ◌∙◌, ℕ, zero, suc, ◌+◌, ◌-◌, ◌<◌, Option, Some, None, Bool, true, List, [], ◌∷◌, ◌++◌, inl, inr, ◌↔◌, length, get_or, arith}
 use Rattle.std.specs.Prelude.{slice_set}
 use Rattle.std.specs.declared.ops.Bound.{Bound}

@@ -27,7 +27,7 @@ use Rattle.range_map.specs.Bindings.{IsBound, BindsTo, Binds, IsSomeOf, IsBoundA
 use Rattle.range_map.proofs.Listed.{IsListed, listed, stored_by, not_greater}
 use Rattle.range_algebra.proofs.Places.{reaches, turned, unbounded_end, held_between}
 
-not_both : (o : Ordering) → is_gt o ≡ false → o ≡ Greater → ⊥
+pub not_both : (o : Ordering) → is_gt o ≡ false → o ≡ Greater → ⊥
 not_both Less h e = cc
 not_both Equal h e = cc
 not_both Greater h e = cc
@@ -41,7 +41,7 @@ module _ {K : Type 0} (order : KeyOrder K) (lawful : IsLawful order) where
   abbrev pub places : Position K → Position K → Ordering
   places = position_cmp order.cmp
 
-  -- a nonempty range has room between its places
+  -- a nonempty range starts below the place where it ends
   pub nonempty_good : (r : AnyRange K) → IsKnownRange order r → (IsEmptyRange order r → ⊥) ↔ Lt places (lower order r) (upper order r)
   nonempty_good r known =
       let reach = reaches order lawful r.start r.end known.0 known.1 in
@@ -140,8 +140,8 @@ module _ {K : Type 0} (order : KeyOrder K) (lawful : IsLawful order) where
     pub respects_any : Respects places (position_total order.cmp lawful.total) same equal (item_lower order) (item_upper order) (λ (i : Item (AnyRange K) V). i.value) (λ u. true)
     respects_any a b s h = h
 
-    pub outside : (r : AnyRange K) (k : K) → IsKnownRange order r → order.is_key k → (Holds order r k → ⊥) → Lt places (Beside k At) (lower order r) ⊎ Le places (upper order r) (Beside k At)
-    outside r k known key h =
+    pub unheld_lies_outside : (r : AnyRange K) (k : K) → IsKnownRange order r → order.is_key k → (Holds order r k → ⊥) → Lt places (Beside k At) (lower order r) ⊎ Le places (upper order r) (Beside k At)
+    unheld_lies_outside r k known key h =
         let total = position_total order.cmp lawful.total in
         elim (cases places total (Beside k At) (lower order r)) [
           | inl l ↦ inl l
@@ -171,7 +171,7 @@ module _ {K : Type 0} (order : KeyOrder K) (lawful : IsLawful order) where
     pub bound_after : (before after : List (Item (AnyRange K) V)) (r : AnyRange K) (v : V) → IsKnownRange order r → Known before → Known after → IsBoundTo places (position_total order.cmp lawful.total) same equal (item_lower order) (item_upper order) (λ i. i.value) before after (lower order r) (upper order r) v → IsBoundAfter order same before after r v
     bound_after before after r v known_range known known' changed = record {
       held = λ k key h. let within = (held_between order lawful r k known_range key).0 h in inside_bound before after r v k known' key changed within.0 within.1;
-      others = λ k key h. same_binds before after k known known' key (λ W alike. changed.outside (Beside k At) W alike (outside r k known_range key h));
+      others = λ k key h. same_binds before after k known known' key (λ W alike. changed.outside (Beside k At) W alike (unheld_lies_outside r k known_range key h));
     }
 
     inside_unbound : (before after : List (Item (AnyRange K) V)) (r : AnyRange K) (k : K) → Known after → order.is_key k → IsUnbound places (position_total order.cmp lawful.total) same equal (item_lower order) (item_upper order) (λ i. i.value) before after (lower order r) (upper order r) → Le places (lower order r) (Beside k At) → Lt places (Beside k At) (upper order r) → (b : Option V) → Binds order same after k b ↔ (b ≡ None)
@@ -183,5 +183,5 @@ module _ {K : Type 0} (order : KeyOrder K) (lawful : IsLawful order) where
     pub unbound_after : (before after : List (Item (AnyRange K) V)) (r : AnyRange K) → IsKnownRange order r → Known before → Known after → IsUnbound places (position_total order.cmp lawful.total) same equal (item_lower order) (item_upper order) (λ i. i.value) before after (lower order r) (upper order r) → IsUnboundAfter order same before after r
     unbound_after before after r known_range known known' changed = record {
       held = λ k key h. let within = (held_between order lawful r k known_range key).0 h in inside_unbound before after r k known' key changed within.0 within.1;
-      others = λ k key h. same_binds before after k known known' key (λ W alike. changed.outside (Beside k At) W alike (outside r k known_range key h));
+      others = λ k key h. same_binds before after k known known' key (λ W alike. changed.outside (Beside k At) W alike (unheld_lies_outside r k known_range key h));
     }

@@ -80,8 +80,8 @@ module _ {K : Type 0} (order : KeyOrder K) (lawful : IsLawful order) {V : Type 0
   listed_partitioned (x ∷ xs) p h (suc i) zero d le within passes = absurd (omega arith)
   listed_partitioned (x ∷ xs) p h (suc i) (suc j) d le within passes = listed_partitioned xs p (stored_tail x xs h) i j d (omega arith) (omega arith) passes
 
-  pub partitioned : (items : List (Item (AnyRange K) V)) (p : Position K) → IsStored order same items → IsPartitionedBy (λ i. is_lt (places order lawful (End i) p)) items
-  partitioned items p h = listed_partitioned items p (listed order lawful same items h)
+  pub found_partitions : (items : List (Item (AnyRange K) V)) (p : Position K) → IsStored order same items → IsPartitionedBy (λ i. is_lt (places order lawful (End i) p)) items
+  found_partitions items p h = listed_partitioned items p (listed order lawful same items h)
 
   pub found_at : {P : Type 0} (is_good : P → Type 0) (rank : P → ℕ) (items : List (Item (AnyRange K) V)) (p : Position K) (before from : Option P) (place : ℕ) → IsAt is_good rank (length items) from place → IsJustBefore is_good rank before place → IsFrontOf (λ i. is_lt (places order lawful (End i) p)) items place → IsFound order is_good rank items p before from
   found_at is_good rank items p before from place at previous front =

@@ -43,11 +43,6 @@ any_of_run P xs place count k x within lt read h =
     let there : get_or (take count (drop place xs)) k x ≡ x = get_or-take count (drop place xs) k x lt ∙ (get_or-drop place xs k x ∙ sym read) in
     any_at P (take count (drop place xs)) k x (omega (arith, size)) (rw there h)
 
-any_more : {X : Type 0} (P Q : X → Type 0) (xs : List X) → ((x : X) → P x → Q x) → Any P xs → Any Q xs
-any_more P Q [] f h = h
-any_more P Q (x ∷ xs) f (inl h) = inl (f x h)
-any_more P Q (x ∷ xs) f (inr h) = inr (any_more P Q xs f h)
-
 none_left : {X : Type 0} (xs ys : List X) → xs ++ ys ≡ [] → xs ≡ []
 none_left [] ys e = refl
 none_left (x ∷ xs) ys e = absurd (cc)

@@ -1,10 +1,10 @@
 -- What stands free between the items of a stored list is all of its gaps.
-use Rattle.std.proofs.Common.{◌≡◌, refl, sym, subst, ◌∙◌, ◌↔◌, Option, Some, None, Bool, true, false, List, [], ◌∷◌, ◌++◌, ◌⊎◌, inl, inr, if◌then◌else◌}
+use Rattle.std.proofs.Common.{◌≡◌, refl, sym, subst, ◌∙◌, ◌↔◌, Option, Some, None, Bool, true, false, List, [], ◌∷◌, ◌++◌, ◌⊎◌, inl, inr, if◌then◌else◌, ◌+◌, ◌≤◌, arith, length, length-append}
 use Rattle.std.specs.declared.ops.Bound.{Bound}
 use Rattle.std.specs.declared.ops.Bound.TheVariants.{Included, Excluded, Unbounded}
 use Rattle.std.specs.declared.cmp.Ordering.{Ordering}
-use Rattle.std.specs.declared.cmp.Ordering.TheVariants.{Less, Equal, Greater}
-use Rattle.std.specs.Ordering.{is_gt, ordering_then}
+use Rattle.std.specs.declared.cmp.Ordering.TheVariants.{Equal}
+use Rattle.std.specs.Ordering.{ordering_then}
 use Rattle.range_keys.specs.Order.{KeyOrder, IsLawful}
 use Rattle.range_keys.specs.Position.{start_position, end_position, position_cmp}
 use Rattle.range_keys.specs.PositionOrder.{position_total}
@@ -29,20 +29,12 @@ use Rattle.range_map.specs.Neighbours.{BeforeFirst, EachNext}
 use Rattle.range_map.specs.Pieces.{LiesIn, IsFreePart, IsPiece}
 use Rattle.range_map.specs.Ranges.{Overlap}
 use Rattle.range_map.specs.Stored.{IsStored}
-use Rattle.range_map.proofs.Forms.{before_is}
+use Rattle.range_map.proofs.Cutting.{every_with}
+use Rattle.range_map.proofs.Forms.{not_both, before_is}
 use Rattle.range_map.proofs.JustBefore.{ends_before, ends_full}
 use Rattle.range_map.proofs.Listed.{IsListed, listed, not_greater}
 
-not_past : (o : Ordering) → is_gt o ≡ false → o ≡ Greater → ⊥
-not_past Less h e = cc
-not_past Equal h e = cc
-not_past Greater h e = cc
-
-every_zip : {X : Type 0} (P Q R : X → Type 0) (xs : List X) → ((x : X) → P x → Q x → R x) → Every P xs → Every Q xs → Every R xs
-every_zip P Q R [] f h k = tt
-every_zip P Q R (x ∷ xs) f h k = (f x h.0 k.0, every_zip P Q R xs f h.1 k.1)
-
--- what holds between each member and those behind it
+-- what holds between each member and those after it
 abbrev pub Pairs : {X : Type 0} → (X → X → Type 0) → List X → Type 0
 Pairs R [] = Unit {0}
 Pairs R (x ∷ xs) = Every (R x) xs × Pairs R xs
@@ -76,7 +68,7 @@ module _ {K : Type 0} (order : KeyOrder K) (lawful : IsLawful order) where
   abbrev End : Bound K → Position K
   End b = end_position order b
 
-  -- the range starts at the bound or behind it
+  -- the range starts at the bound or after it
   abbrev pub From : Option (Bound K) → AnyRange K → Type 0
   From None r = ⊥
   From (Some b) r = PLe (Start b) (Start r.start)
@@ -94,7 +86,7 @@ module _ {K : Type 0} (order : KeyOrder K) (lawful : IsLawful order) where
   known_inverted (Excluded a) h = h
   known_inverted Unbounded h = tt
 
-  -- a range starts behind an end where it starts at the bound on the other side of it
+  -- a range starts after an end where it starts at the bound on the other side of it
   behind_by : (e i : Bound K) (r : AnyRange K) → IsKnownBound order e → inverted e ≡ Some i → IsKnownBound order r.start → PLt (End e) (Start r.start) ↔ PLe (Start i) (Start r.start)
   behind_by e i r known turns full =
       let total = position_total order.cmp lawful.total in
@@ -257,7 +249,7 @@ module _ {K : Type 0} (order : KeyOrder K) (lawful : IsLawful order) where
       none (s ∷ others) all g (inr h) = none others all.1 g h
 
   module _ {V : Type 0} where
-    -- known, nonempty, each before all behind it
+    -- known, nonempty, each before all after it
     pub record IsRow (items : List (Item (AnyRange K) V)) : Type 0 where
       pub full : Every (λ i. IsFull i.key) items
       pub pairs : Pairs (λ i j. LiesBefore order i.key j.key) items
@@ -285,12 +277,12 @@ module _ {K : Type 0} (order : KeyOrder K) (lawful : IsLawful order) where
       pub stored_row : (items : List (Item (AnyRange K) V)) → IsStored order same items → IsRow items
       stored_row items h = let l = listed order lawful same items h in record { full = listed_full items l; pairs = listed_pairs items l }
 
-    -- the items stand behind the bound
+    -- the items stand after the bound
     abbrev Ahead : Option (Bound K) → List (Item (AnyRange K) V) → Type 0
     Ahead s items = Every (λ j. From s j.key) items
 
     ahead_next : (i : Item (AnyRange K) V) (rest : List (Item (AnyRange K) V)) → IsRow (i ∷ rest) → Ahead (inverted i.key.end) rest
-    ahead_next i rest row = every_zip (λ j. IsFull j.key) (λ j. LiesBefore order i.key j.key) (λ j. From (inverted i.key.end) j.key) rest (λ j full l. (behind i.key.end j.key row.full.0.0.1 full).0 l) row.full.1 row.pairs.0
+    ahead_next i rest row = every_with (λ j. IsFull j.key) (λ j. LiesBefore order i.key j.key) (λ j. From (inverted i.key.end) j.key) rest row.full.1 row.pairs.0 (λ j full l. (behind i.key.end j.key row.full.0.0.1 full).0 l)
 
     -- free ranges are known and nonempty
     free_full : (s : Option (Bound K)) (items : List (Item (AnyRange K) V)) → KnownCut s → Every (λ i. IsFull i.key) items → Every IsFull (free_from order s items)
@@ -300,7 +292,7 @@ module _ {K : Type 0} (order : KeyOrder K) (lawful : IsLawful order) where
         (each_between IsFull s (inverted i.key.start) (λ a b e f le. ((subst KnownCut e known, subst KnownCut f (known_inverted i.key.start full.0.0.0)), le)))
         (free_full (inverted i.key.end) rest (known_inverted i.key.end full.0.0.1) full.1)
 
-    -- what starts behind the end of an item starts behind what the item starts behind
+    -- what starts after the end of an item starts after what the item starts after
     behind_item : (s : Option (Bound K)) (i : Item (AnyRange K) V) (r : AnyRange K) → IsFull i.key → IsFull r → From s i.key → From (inverted i.key.end) r → From s r
     behind_item None i r full full_r ahead h = ahead
     behind_item (Some b) i r full full_r ahead h =
@@ -317,12 +309,12 @@ module _ {K : Type 0} (order : KeyOrder K) (lawful : IsLawful order) where
         let others = free_behind (inverted i.key.end) rest (rest_row i rest row) (ahead_next i rest row) in
         every_append (From s) (between order s (inverted i.key.start)) gaps
         (each_between (From s) s (inverted i.key.start) (λ a b e f le. (from_is s a (record { start = a; end = b }) e).1 (le_refl (position_cmp order.cmp) (position_total order.cmp lawful.total) (Start a))))
-        (every_zip IsFull (From (inverted i.key.end)) (From s) gaps (λ r full_r h. behind_item s i r row.full.0 full_r ahead.0 h) full others)
+        (every_with IsFull (From (inverted i.key.end)) (From s) gaps full others (λ r full_r h. behind_item s i r row.full.0 full_r ahead.0 h))
 
     abbrev Misses : List (Item (AnyRange K) V) → AnyRange K → Type 0
     Misses items r = Every (λ i. ¬ Overlap order i.key r) items
 
-    -- what ends before an item ends before those behind it
+    -- what ends before an item ends before those after it
     misses_before : (i : Item (AnyRange K) V) (rest : List (Item (AnyRange K) V)) (r : AnyRange K) → IsRow (i ∷ rest) → PLt (End r.end) (Start i.key.start) → Misses (i ∷ rest) r
     misses_before i rest r row l =
         let total = position_total order.cmp lawful.total in
@@ -336,10 +328,10 @@ module _ {K : Type 0} (order : KeyOrder K) (lawful : IsLawful order) where
         let gaps = free_from order (inverted i.key.end) rest in
         let full = free_full (inverted i.key.end) rest (known_inverted i.key.end row.full.0.0.1) row.full.1 in
         let after = free_behind (inverted i.key.end) rest (rest_row i rest row) (ahead_next i rest row) in
-        let past = every_zip IsFull (From (inverted i.key.end)) (λ r. LiesBefore order i.key r) gaps (λ r full_r h. (behind i.key.end r row.full.0.0.1 full_r).1 h) full after in
+        let past = every_with IsFull (From (inverted i.key.end)) (λ r. LiesBefore order i.key r) gaps full after (λ r full_r h. (behind i.key.end r row.full.0.0.1 full_r).1 h) in
         every_append (Misses (i ∷ rest)) (between order s (inverted i.key.start)) gaps
         (each_between (Misses (i ∷ rest)) s (inverted i.key.start) (λ a b e f le. misses_before i rest (record { start = a; end = b }) row (ends_just_before i.key.start b row.full.0.0.0 f)))
-        (every_zip (λ r. LiesBefore order i.key r) (Misses rest) (Misses (i ∷ rest)) gaps (λ r l h. (λ meets. meets.0 l, h)) past (free_misses (inverted i.key.end) rest (rest_row i rest row)))
+        (every_with (λ r. LiesBefore order i.key r) (Misses rest) (Misses (i ∷ rest)) gaps past (free_misses (inverted i.key.end) rest (rest_row i rest row)) (λ r l h. (λ meets. meets.0 l, h)))
 
     free_pairs : (s : Option (Bound K)) (items : List (Item (AnyRange K) V)) → IsRow items → Pairs (LiesBefore order) (free_from order s items)
     free_pairs s [] row = alone s (Some Unbounded)
@@ -358,7 +350,7 @@ module _ {K : Type 0} (order : KeyOrder K) (lawful : IsLawful order) where
         let gaps = free_from order (inverted i.key.end) rest in
         let full = free_full (inverted i.key.end) rest (known_inverted i.key.end row.full.0.0.1) row.full.1 in
         let after = free_behind (inverted i.key.end) rest (rest_row i rest row) (ahead_next i rest row) in
-        let past = every_zip IsFull (From (inverted i.key.end)) (λ r. LiesBefore order i.key r) gaps (λ r full_r h. (behind i.key.end r row.full.0.0.1 full_r).1 h) full after in
+        let past = every_with IsFull (From (inverted i.key.end)) (λ r. LiesBefore order i.key r) gaps full after (λ r full_r h. (behind i.key.end r row.full.0.0.1 full_r).1 h) in
         pairs_append (LiesBefore order) (between order s (inverted i.key.start)) gaps
         (alone s (inverted i.key.start))
         (free_pairs (inverted i.key.end) rest (rest_row i rest row))
@@ -431,13 +423,13 @@ module _ {K : Type 0} (order : KeyOrder K) (lawful : IsLawful order) where
       is_free : (r : AnyRange K) → IsFull r → Misses items r → IsFree r
       is_free r full misses = record {
         known = full.0;
-        nonempty = not_past (position_cmp order.cmp (Start r.start) (End r.end)) full.1;
+        nonempty = not_both (position_cmp order.cmp (Start r.start) (End r.end)) full.1;
         within = record { starts = unbounded_start order lawful r.start full.0.0; ends = ends_full order lawful r.end full.0.1 };
         free = misses;
       }
 
       gaps_free : Every IsFree (free_from order (Some Unbounded) items)
-      gaps_free = every_zip IsFull (Misses items) IsFree (free_from order (Some Unbounded) items) is_free (free_full (Some Unbounded) items tt row.full) (free_misses (Some Unbounded) items row)
+      gaps_free = every_with IsFull (Misses items) IsFree (free_from order (Some Unbounded) items) (free_full (Some Unbounded) items tt row.full) (free_misses (Some Unbounded) items row) is_free
 
       from_first : (r : AnyRange K) → IsFull r → From (Some Unbounded) r
       from_first r full = unbounded_start order lawful r.start full.0.0
@@ -448,13 +440,12 @@ module _ {K : Type 0} (order : KeyOrder K) (lawful : IsLawful order) where
       -- all gaps of the list stand free between its items
       pub gaps_are : AreGaps order items (free_from order (Some Unbounded) items)
       gaps_are = record {
-        each = every_zip IsFree (IsWide IsFree) (λ g. IsPiece order items full_range g None) (free_from order (Some Unbounded) items) (λ g h k. (h, k)) gaps_free
-            (free_wide IsFree is_full (Some Unbounded) items row.full (λ r such. such.free) bars_first);
+        each = every_with IsFree (IsWide IsFree) (λ g. IsPiece order items full_range g None) (free_from order (Some Unbounded) items) gaps_free (free_wide IsFree is_full (Some Unbounded) items row.full (λ r such. such.free) bars_first) (λ g h k. (h, k));
         rising = each_next (LiesBefore order) (free_from order (Some Unbounded) items) (free_pairs (Some Unbounded) items row);
         all = λ part known piece. free_found IsFree part (is_full part piece.0) piece.1 (Some Unbounded) items row.full piece.0.free (from_first part (is_full part piece.0)) gaps_free;
       }
 
-    -- each key behind the bound is held by an item or stands free
+    -- each key after the bound is held by an item or stands free
     covered : (s : Option (Bound K)) (items : List (Item (AnyRange K) V)) (k : K) → order.is_key k → HoldsFrom s k → HeldBy k (item_ranges items) ⊎ HeldBy k (free_from order s items)
     covered s [] k key h = inr (held_between s (Some Unbounded) k key h (λ b e. let same : Unbounded ≡ b = same_some (Some Unbounded) Unbounded b refl e in rw (← same) tt) (λ e. cc))
     covered s (i ∷ rest) k key h =
@@ -492,3 +483,19 @@ module _ {K : Type 0} (order : KeyOrder K) (lawful : IsLawful order) where
         let across = range_every (λ r. Every (NotBoth k r) gaps) items (every_weaker (λ i. Every (λ g. ¬ Overlap order i.key g) gaps) (λ i. Every (NotBoth k i.key) gaps) items (λ i m. every_weaker (λ g. ¬ Overlap order i.key g) (NotBoth k i.key) gaps (λ g apart. missed_not_both i.key g k key apart) m) missed) in
         once k (ranges ++ gaps) (pairs_append (NotBoth k) ranges gaps own others across)
         (elim (covered (Some Unbounded) items k key tt) [ inl h ↦ any_left (λ r. Holds order r k) ranges gaps h | inr h ↦ any_right (λ r. Holds order r k) ranges gaps h ])
+
+none_or_one : {X : Type 0} (t : Bool) (x : X) → length (if t then [] else x ∷ []) ≤ 1
+none_or_one true x = omega arith
+none_or_one false x = omega arith
+
+-- there is at most one gap more than there are items
+module _ {K : Type 0} (order : KeyOrder K) where
+  one_between : (s e : Option (Bound K)) → length (between order s e) ≤ 1
+  one_between None e = omega arith
+  one_between (Some a) None = omega arith
+  one_between (Some a) (Some b) = none_or_one (starts_past_end order a b) (record { start = a; end = b })
+
+  pub few_free : {V : Type 0} (s : Option (Bound K)) (items : List (Item (AnyRange K) V)) → length (free_from order s items) ≤ length items + 1
+  few_free s [] = omega (arith, one_between s (Some Unbounded))
+  few_free s (i ∷ rest) =
+      omega (arith, one_between s (inverted i.key.start), few_free (inverted i.key.end) rest, length-append (between order s (inverted i.key.start)) (free_from order (inverted i.key.end) rest))

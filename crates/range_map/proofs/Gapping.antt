@@ -39,7 +39,7 @@ module _ {K : Type 0} (order : KeyOrder K) (lawful : IsLawful order) (r : AnyRan
       let turns = sym h.1 in
       (turned_known order lawful a.start e turns h.0.0, turned order lawful e a.start (turned_back order lawful a.start e turns))
 
-  -- nothing starts behind a range with no end
+  -- nothing starts after a range with no end
   last_end : (e a : Bound K) → None ≡ inverted e → IsKnownBound order a → Le (position_cmp order.cmp) (past order (end_position order a)) (past order (end_position order e))
   last_end (Included k) a turns other = absurd (cc)
   last_end (Excluded k) a turns other = absurd (cc)

@@ -56,7 +56,7 @@ run_at P items place count k x all within fits read =
 pub item_at : {X : Type 0} (P : X → Type 0) (items : List X) (k : ℕ) (x : X) → Every P items → k < length items → x ≡ get_or items k x → P x
 item_at P items k x all within read = subst P (sym read) (every_at P items k x all within)
 
--- the items up to one, that one, and those behind it
+-- the items up to one, that one, and those after it
 pub listed_at : {X : Type 0} (items : List X) (n : ℕ) (x : X) → n < length items → x ≡ get_or items n x → items ≡ take n items ++ x ∷ drop (n + 1) items
 listed_at items n x within read = parts_at items n x within ∙ ap (λ y. take n items ++ y ∷ drop (n + 1) items) (sym read)
 
@@ -68,7 +68,7 @@ last_good is_good rank None place count h = λ p e. absurd (cc)
 last_good is_good rank (Some q) place count h = λ p e. let is : q ≡ p = some_is q p e in rw (← is) h.0
 
 module _ {K : Type 0} (order : KeyOrder K) (lawful : IsLawful order) {V : Type 0} (same : V → V → Bool) (equal : IsEquivalence same) {F E : Type 0} (calls : Shared F (Option (Bor V) × Unit {0}) (Result (Option V) E)) (f : F) (items : List (Item (AnyRange K) V)) (r : AnyRange K) where
-  -- the range up to a place, behind the items so far, was asked about
+  -- the range up to a place, after the items so far, was asked about
   pub record IsUnderway (done : List (Item (AnyRange K) V)) (from : Position K) (middle : List (Item (AnyRange K) V)) : Type 0 where
     pub answers : List (Answered K V)
     pub edge : PLe order lawful from (Lo order lawful r) ⊎ Any (λ j. PLe order lawful from (Hi order lawful j.key) × PLe order lawful (Hi order lawful j.key) from) done
@@ -240,7 +240,7 @@ module _ {K : Type 0} (order : KeyOrder K) (lawful : IsLawful order) {V : Type 0
             given = every_append (λ b. MayAnswer calls f b.value (Ok b.answer)) answers (a ∷ []) given (says, tt);
           }
 
-    -- the item behind those so far
+    -- the item after those so far
     module _ (done rest : List (Item (AnyRange K) V)) (x : Item (AnyRange K) V) (list : items ≡ done ++ x ∷ rest) (meets : Overlap order x.key r) (before : Option (AnyRange K)) (old : List (Item (AnyRange K) V)) (was : IsUnderway done (gap_lower order r before) old) where
       good_at : IsFull order lawful items r x
       good_at = (every_right (IsFull order lawful items r) done (x ∷ rest) (rw list at full)).0
@@ -267,7 +267,7 @@ module _ {K : Type 0} (order : KeyOrder K) (lawful : IsLawful order) {V : Type 0
       bounded_it : PLe order lawful (Hi order lawful r) (Lo order lawful x.key) ⊎ Any (λ i. PLe order lawful (Lo order lawful x.key) (Lo order lawful i.key) × PLe order lawful (Lo order lawful i.key) (Lo order lawful x.key)) (x ∷ rest)
       bounded_it = inr (inl (le_refl (position_cmp order.cmp) (position_total order.cmp lawful.total) (Lo order lawful x.key), le_refl (position_cmp order.cmp) (position_total order.cmp lawful.total) (Lo order lawful x.key)))
 
-      -- the place so far is not behind the part in common
+      -- the place so far is not after the part in common
       behind_common : PLe order lawful (gap_lower order r before) (Lo order lawful (common order r x.key))
       behind_common =
           let cmp = position_cmp order.cmp in
@@ -345,7 +345,7 @@ module _ {K : Type 0} (order : KeyOrder K) (lawful : IsLawful order) {V : Type 0
           valued = h.filled.valued;
         }
 
-    -- behind all items that the range meets
+    -- after all items that the range meets
     module _ (done rest : List (Item (AnyRange K) V)) (list : items ≡ done ++ rest) (behind : Every (λ i. PLe order lawful (Hi order lawful r) (Lo order lawful i.key)) rest) (before : Option (AnyRange K)) (old : List (Item (AnyRange K) V)) (was : IsUnderway done (gap_lower order r before) old) where
       up_to_end : PLe order lawful (Hi order lawful r) (Hi order lawful r)
       up_to_end = le_refl (position_cmp order.cmp) (position_total order.cmp lawful.total) (Hi order lawful r)
@@ -377,7 +377,7 @@ module _ {K : Type 0} (order : KeyOrder K) (lawful : IsLawful order) {V : Type 0
   full_by (x ∷ []) items known chain = ((known.0, chain.0), tt)
   full_by (x ∷ y ∷ ys) items known chain = ((known.0, chain.0), full_by (y ∷ ys) items known.1 chain.1.1)
 
-  -- stored ranges are known, with room between their places
+  -- stored ranges are known, and each starts below the place where it ends
   pub all_full : (items : List (Item (AnyRange K) V)) → Known order lawful same equal items → Chained order lawful same equal items → Every (IsFull order lawful items r) items
   all_full items known chain = full_by items items known chain
 

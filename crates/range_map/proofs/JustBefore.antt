@@ -38,7 +38,7 @@ module _ {K : Type 0} (order : KeyOrder K) (lawful : IsLawful order) where
   PLt p q = Lt (position_cmp order.cmp) p q
 
   -- where an end can lie
-  unfoldable IsEnd : Position K → Type 0
+  unfoldable pub IsEnd : Position K → Type 0
   IsEnd MinusInfinity = ⊥
   IsEnd (Beside b Before) = order.is_key b × (order.pred b ≡ None)
   IsEnd (Beside b At) = order.is_key b
@@ -55,7 +55,7 @@ module _ {K : Type 0} (order : KeyOrder K) (lawful : IsLawful order) where
   unbounded_end None e = e
   unbounded_end (Some m) e = lawful.greatest_key m e
 
-  end_is : (b : Bound K) → IsKnownBound order b → IsEnd (end_position order b)
+  pub end_is : (b : Bound K) → IsKnownBound order b → IsEnd (end_position order b)
   unfolding IsEnd
   end_is (Included a) key = key
   end_is (Excluded a) key = excluded_end a (order.pred a) refl key

@@ -20,7 +20,7 @@ pub changed_length : {T : Type 0} (items new a b d : List T) (at end : ℕ) → 
 changed_length items new a b d at end within within_end made =
     omega (arith, ap length made, length-append (take at items ++ a ++ b ++ d) (drop end items), length-append (take at items ++ a ++ b) d, length-append (take at items ++ a) b, length-append (take at items) a, length-take-le at items within, length-drop end items)
 
--- a run that takes in the items that join ends where the plan behind it begins
+-- a run that takes in the items that join ends where the plan after it begins
 pub run_ends : (begin joins place firsts lasts count upto joins_behind left : ℕ) → begin + joins ≡ place + firsts → upto + lasts ≡ place + count + joins_behind → firsts + lasts ≤ count → left ≡ joins + (count - (firsts + lasts)) + joins_behind → begin + left ≡ upto
 run_ends begin joins place firsts lasts count upto joins_behind left begins ends apart is = omega (arith, begins, ends, apart, is)
 
@@ -57,7 +57,7 @@ module _ {K V P : Type 0} (is_good : P → Type 0) (rank : P → ℕ) (items : L
   left_length (Cut p b) at from rest start h = omega (arith, h.2, ap (λ o. length (option_items o)) h.4.2)
   left_length (Joined p) at from rest start h = omega (arith, h.2, ap (λ o. length (option_items o)) h.3)
 
-  -- those behind it
+  -- those after it
   pub right_length : (edge : Edge K P) (upto end : ℕ) (rest : Option (Item (AnyRange K) V)) (finish : Option (Bound K)) → IsRightShape is_good rank items edge upto end rest finish → end ≡ upto + length (option_items rest)
   right_length Plain upto end rest finish h = omega (arith, h.0, ap (λ o. length (option_items o)) h.1)
   right_length (Cut p b) upto end rest finish h = omega (arith, h.2, ap (λ o. length (option_items o)) h.4.2)

@@ -9,7 +9,6 @@ pub mod Cutting
 pub mod Edging
 pub mod Endings
 pub mod Extents
-pub mod FewGaps
 pub mod Filling
 pub mod Forms
 pub mod Found
@@ -28,7 +27,6 @@ pub mod Openings
 pub mod Planning
 pub mod Rebinding
 pub mod Replaced
-pub mod RunParts
 pub mod Scans
 pub mod Seaming
 pub mod Searching

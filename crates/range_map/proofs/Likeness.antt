@@ -27,6 +27,7 @@ use Rattle.range_map.specs.Frames.{IsMergedInto}
 use Rattle.range_map.specs.Pieces.{later, earlier, IsCommonPart, LiesIn, IsFreePart, IsPiece}
 use Rattle.range_map.specs.Ranges.{Overlap}
 use Rattle.range_map.proofs.Cutting.{PLe, any_over, later_over, earlier_under, pick}
+use Rattle.range_map.proofs.Forms.{not_both}
 
 equal_of : (o : Ordering) → IsTrue (is_eq o) → o ≡ Equal
 equal_of Less h = cc
@@ -35,11 +36,6 @@ equal_of Greater h = cc
 
 is_equal : (o : Ordering) → o ≡ Equal → IsTrue (is_eq o)
 is_equal o e = rw e refl
-
-not_both : (o : Ordering) → is_gt o ≡ false → o ≡ Greater → ⊥
-not_both Less h e = cc
-not_both Equal h e = cc
-not_both Greater h e = cc
 
 greater : (o : Ordering) → (is_gt o ≡ false → ⊥) → o ≡ Greater
 greater Less h = absurd (h refl)

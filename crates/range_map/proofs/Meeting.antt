@@ -4,8 +4,6 @@ use Rattle.std.specs.Borrow.{Bor}
 use Rattle.std.specs.List.{AllByRecursion}
 use Rattle.std.specs.Option.{option_copied, is_some}
 use Rattle.std.specs.declared.ops.Bound.{Bound}
-use Rattle.std.specs.declared.cmp.Ordering.{Ordering}
-use Rattle.std.specs.declared.cmp.Ordering.TheVariants.{Less, Equal, Greater}
 use Rattle.std.specs.Ordering.{is_gt}
 use Rattle.std.specs.Cmp.{IsEquivalence}
 use Rattle.std.proofs.lemmas.List.{drop_more, take_all}
@@ -29,17 +27,8 @@ use Rattle.range_map.specs.ItemCuts.{item_lower, item_upper}
 use Rattle.range_map.specs.Lookups.{MeetsSome, BindsKeyOf}
 use Rattle.range_map.specs.Ranges.{Overlap}
 use Rattle.range_map.specs.Stored.{IsStored}
-use Rattle.range_map.proofs.Forms.{Chained, stored_chain}
-
-not_greater : (o : Ordering) → (o ≡ Greater → ⊥) → is_gt o ≡ false
-not_greater Less h = refl
-not_greater Equal h = refl
-not_greater Greater h = absurd (h refl)
-
-not_both : (o : Ordering) → is_gt o ≡ false → o ≡ Greater → ⊥
-not_both Less h e = cc
-not_both Equal h e = cc
-not_both Greater h e = cc
+use Rattle.range_map.proofs.Forms.{not_both, Chained, stored_chain}
+use Rattle.range_map.proofs.Listed.{not_greater}
 
 -- an item that is such is some item
 pub any_at : {X : Type 0} (P : X → Type 0) (xs : List X) (place : ℕ) (x : X) → place < length xs → x ≡ get_or xs place x → P x → Any P xs
@@ -115,7 +104,7 @@ module _ {K : Type 0} (order : KeyOrder K) (lawful : IsLawful order) where
         (holds_by_position order lawful s k found.1).1 (le_trans cmp total (Start s) (start_position order from.0) (Beside k At) from.3 within.0, le_trans cmp total (Beside k At) (end_position order upto.0) (End s) within.1 upto.3),
       )
 
-  -- what starts past an end lies behind it
+  -- what starts past an end lies after it
   not_le_end : (p q : Position K) → true ≡ is_gt (position_cmp order.cmp p q) → PLt q p
   not_le_end p q past =
       not_le (position_cmp order.cmp) (position_total order.cmp lawful.total) q p (λ h. let clash : true ≡ false = past ∙ h in cc)
@@ -194,12 +183,12 @@ module _ {K : Type 0} (order : KeyOrder K) (lawful : IsLawful order) where
     none_decides items r p start below h = none_meets items r (length items) (rw start at below) refl h
 
 module _ {K : Type 0} (order : KeyOrder K) {V : Type 0} (same : V → V → Bool) where
-  bound_by : (items : List (Item (AnyRange K) V)) (k : K) (v : V) → BindsTo order same items k v → IsBound order items k
-  bound_by [] k v h = h
-  bound_by (i ∷ rest) k v (inl h) = inl h.0
-  bound_by (i ∷ rest) k v (inr h) = inr (bound_by rest k v h)
+  pub binds_bound : (items : List (Item (AnyRange K) V)) (k : K) (v : V) → BindsTo order same items k v → IsBound order items k
+  binds_bound [] k v h = h
+  binds_bound (i ∷ rest) k v (inl h) = inl h.0
+  binds_bound (i ∷ rest) k v (inr h) = inr (binds_bound rest k v h)
 
   -- a key is bound where its binding is to some value
   pub holding_is : (items : List (Item (AnyRange K) V)) (k : K) (b : Option (Bor V)) → Binds order same items k (option_copied b) → IsTrue (is_some b) ↔ IsBound order items k
   holding_is items k None h = (λ e. absurd (cc), λ e. absurd (h e))
-  holding_is items k (Some v) h = (λ e. bound_by items k v.now h, λ e. refl)
+  holding_is items k (Some v) h = (λ e. binds_bound items k v.now h, λ e. refl)

@@ -36,23 +36,20 @@ module _ {K : Type 0} (order : KeyOrder K) (lawful : IsLawful order) where
       )
 
   module _ {V : Type 0} (same : V → V → Bool) (equal : IsEquivalence same) (items : List (Item (AnyRange K) V)) (r : AnyRange K) (known : IsKnownRange order r) (some : Lt (places order lawful) (lower order r) (upper order r)) (full : Every (IsFull order lawful items r) items) (chain : Chained order lawful same equal items) (done rest : List (Item (AnyRange K) V)) (x : Item (AnyRange K) V) (list : items ≡ done ++ x ∷ rest) (starts : Lt (places order lawful) (item_lower order x) (lower order r)) (ends : Lt (places order lawful) (upper order r) (item_upper order x)) where
-    IsAlone : Item (AnyRange K) V → Type 0
+    abbrev IsAlone : Item (AnyRange K) V → Type 0
     IsAlone i = IsConnectedTo order i.key r → Overlap order i.key r
 
     alone_before : (i : Item (AnyRange K) V) → IsFull order lawful items r i → Lt (places order lawful) (item_upper order i) (lower order r) → IsAlone i
-    unfolding IsAlone
     alone_before i own l =
         let apart = apart_not order lawful i.key r own.0 known own.1 some l in
         λ h. elim h [ inl meets ↦ meets | inr (inl touches) ↦ absurd (apart.1 touches) | inr (inr touches) ↦ absurd (apart.2 touches) ]
 
     alone_after : (i : Item (AnyRange K) V) → IsFull order lawful items r i → Lt (places order lawful) (upper order r) (item_lower order i) → IsAlone i
-    unfolding IsAlone
     alone_after i own l =
         let apart = apart_not order lawful r i.key known own.0 some own.1 l in
         λ h. elim h [ inl meets ↦ meets | inr (inl touches) ↦ absurd (apart.2 touches) | inr (inr touches) ↦ absurd (apart.1 touches) ]
 
     alone_around : IsFull order lawful items r x → IsAlone x
-    unfolding IsAlone
     alone_around own = λ h.
         let cmp = places order lawful in
         let total = position_total order.cmp lawful.total in
@@ -60,7 +57,6 @@ module _ {K : Type 0} (order : KeyOrder K) (lawful : IsLawful order) where
 
     -- no other item touches a range that one surrounds
     pub surrounded_alone : Every (λ i. IsConnectedTo order i.key r → Overlap order i.key r) items
-    unfolding IsAlone
     surrounded_alone =
         let cmp = places order lawful in
         let total = position_total order.cmp lawful.total in
@@ -79,8 +75,8 @@ module _ {K : Type 0} (order : KeyOrder K) {V : Type 0} (same : V → V → Bool
   merged_within front list behind i (inr h) = inr (h.0, any_left _ (front ++ list) behind (any_right _ front list h.1))
 
   -- what is beside the run stands, and what is in it meets the range or is merged
-  pub stands : (front run others behind : List (Item (AnyRange K) V)) → Every (λ i. Overlap order i.key r ⊎ IsMergedInto order same others r i) run → StandOrMerge order same (front ++ run ++ behind) (front ++ others ++ behind) r
-  stands front run others behind concerned =
+  pub rest_stands : (front run others behind : List (Item (AnyRange K) V)) → Every (λ i. Overlap order i.key r ⊎ IsMergedInto order same others r i) run → StandOrMerge order same (front ++ run ++ behind) (front ++ others ++ behind) r
+  rest_stands front run others behind concerned =
       let before = every_weaker _ (λ i. (Overlap order i.key r → ⊥) → Any (λ j. j ≡ i) (front ++ others ++ behind) ⊎ IsMergedInto order same (front ++ others ++ behind) r i) front (λ i h out. inl (any_left _ (front ++ others) behind (any_left _ front others h))) (each_is_one front) in
       let inside = every_weaker _ (λ i. (Overlap order i.key r → ⊥) → Any (λ j. j ≡ i) (front ++ others ++ behind) ⊎ IsMergedInto order same (front ++ others ++ behind) r i) run (λ i h out. elim h [ inl meets ↦ absurd (out meets) | inr merged ↦ inr (merged_within front others behind i merged) ]) concerned in
       let after = every_weaker _ (λ i. (Overlap order i.key r → ⊥) → Any (λ j. j ≡ i) (front ++ others ++ behind) ⊎ IsMergedInto order same (front ++ others ++ behind) r i) behind (λ i h out. inl (any_right _ (front ++ others) behind h)) (each_is_one behind) in

@@ -18,7 +18,7 @@ use Rattle.range_map.specs.Stored.{IsStored}
 use Rattle.range_map.specs.Window.{IsWindow, option_items}
 use Rattle.range_map.specs.declared.change.window.Window.{Window}
 use Rattle.range_map.specs.Edits.{turned_bound, with_start, with_end}
-use Rattle.range_map.specs.Reach.{ReachesBefore, ReachesBehind}
+use Rattle.range_map.specs.Reach.{ReachesBefore, ReachesAfter}
 use Rattle.range_map.specs.Edges.{edge_at, IsLeftShape, IsRightShape, IsLeftRest, IsRightRest, TouchesBefore, TouchesNoneBefore, TouchesAfter, TouchesNoneAfter}
 use Rattle.range_map.specs.Plans.{IsLeftFrame, IsRightFrame, IsLeftPlan, IsRightPlan}
 use Rattle.range_map.specs.declared.change.edges.Edge.TheVariants.{Plain, Cut, Joined}
@@ -189,7 +189,7 @@ module _ {K : Type 0} (order : KeyOrder K) (lawful : IsLawful order) {V : Type 0
   last_at : (p : P) (x : Item (AnyRange K) V) → rank p + 1 ≡ place + w.count → x ≡ get_or items (rank p) x → x ≡ get_or items (place + w.count - 1) x
   last_at p x at read = let index : rank p ≡ place + w.count - 1 = omega arith in read ∙ ap (λ n. get_or items n x) index
 
-  pub right_plan_inside : (p : P) (x : Item (AnyRange K) V) → ReachesBehind order is_good rank items r place w.count (Some p) → x ≡ get_or items (rank p) x → same x.value v ≡ true → IsRightPlan order same lawful equal is_good rank items r v place w.count (Some p) (Joined p)
+  pub right_plan_inside : (p : P) (x : Item (AnyRange K) V) → ReachesAfter order is_good rank items r place w.count (Some p) → x ≡ get_or items (rank p) x → same x.value v ≡ true → IsRightPlan order same lawful equal is_good rank items r v place w.count (Some p) (Joined p)
   right_plan_inside p x reach read values =
       let here = last_at p x reach.1 read in
       record {
@@ -204,7 +204,7 @@ module _ {K : Type 0} (order : KeyOrder K) (lawful : IsLawful order) {V : Type 0
         ends = omega arith;
       }
 
-  pub right_plan_cut : (p : P) (x : Item (AnyRange K) V) (b : Bound K) → ReachesBehind order is_good rank items r place w.count (Some p) → x ≡ get_or items (rank p) x → same x.value v ≡ false → IsKnownBound order b → SameBound order (turned_bound r.end) b → IsRightPlan order same lawful equal is_good rank items r v place w.count (Some p) (Cut p b)
+  pub right_plan_cut : (p : P) (x : Item (AnyRange K) V) (b : Bound K) → ReachesAfter order is_good rank items r place w.count (Some p) → x ≡ get_or items (rank p) x → same x.value v ≡ false → IsKnownBound order b → SameBound order (turned_bound r.end) b → IsRightPlan order same lawful equal is_good rank items r v place w.count (Some p) (Cut p b)
   right_plan_cut p x b reach read values known_b same_b =
       let here = last_at p x reach.1 read in
       record {
@@ -219,7 +219,7 @@ module _ {K : Type 0} (order : KeyOrder K) (lawful : IsLawful order) {V : Type 0
         ends = omega (arith, reach.2);
       }
 
-  pub right_plan_joined : (q : P) (x : Item (AnyRange K) V) → ReachesBehind order is_good rank items r place w.count None → is_good q → rank q ≡ place + w.count → rank q < length items → x ≡ get_or items (rank q) x → TouchesAfter order same items (place + w.count) r v → IsRightPlan order same lawful equal is_good rank items r v place w.count None (Joined q)
+  pub right_plan_joined : (q : P) (x : Item (AnyRange K) V) → ReachesAfter order is_good rank items r place w.count None → is_good q → rank q ≡ place + w.count → rank q < length items → x ≡ get_or items (rank q) x → TouchesAfter order same items (place + w.count) r v → IsRightPlan order same lawful equal is_good rank items r v place w.count None (Joined q)
   right_plan_joined q x reach is at within read touching =
       let here : x ≡ get_or items (place + w.count) x = read ∙ ap (λ n. get_or items n x) at in
       record {
@@ -242,7 +242,7 @@ module _ {K : Type 0} (order : KeyOrder K) (lawful : IsLawful order) {V : Type 0
         ends = omega arith;
       }
 
-  pub right_plan_plain : ReachesBehind order is_good rank items r place w.count None → TouchesNoneAfter order same items (place + w.count) r v → IsRightPlan order same lawful equal is_good rank items r v place w.count None Plain
+  pub right_plan_plain : ReachesAfter order is_good rank items r place w.count None → TouchesNoneAfter order same items (place + w.count) r v → IsRightPlan order same lawful equal is_good rank items r v place w.count None Plain
   right_plan_plain reach none = record {
     upto = place + w.count;
     end = place + w.count;
@@ -320,7 +320,7 @@ module _ {K : Type 0} (order : KeyOrder K) (lawful : IsLawful order) {V : Type 0
     pub made : Every (IsPart order same (take w.count (drop place items)) r) (option_items rest)
     pub few : length (option_items rest) ≤ 1
 
-  pub right_cut_plan : (last : Option P) (b : Bound K) (upto : ℕ) → upto + length (option_items last) ≡ place + w.count → ReachesBehind order is_good rank items r place w.count last → IsKnownBound order b → SameBound order (turned_bound r.end) b → IsRightCut last b upto
+  pub right_cut_plan : (last : Option P) (b : Bound K) (upto : ℕ) → upto + length (option_items last) ≡ place + w.count → ReachesAfter order is_good rank items r place w.count last → IsKnownBound order b → SameBound order (turned_bound r.end) b → IsRightCut last b upto
   right_cut_plan None b upto at reach known_b same_b = record {
     rest = None;
     shape = (omega (arith, at), refl, refl);

@@ -87,8 +87,8 @@ module _ {K : Type 0} (order : KeyOrder K) (lawful : IsLawful order) (k : K) (ke
 
 module _ {K : Type 0} (order : KeyOrder K) (lawful : IsLawful order) {V : Type 0} (same : V → V → Bool) (equal : IsEquivalence same) {F E : Type 0} (calls : Shared F (Option (Bor V) × Unit {0}) (Result (Option V) E)) (f : F) where
   -- what is answered piece by piece is answered key by key
-  pub rebound : (items next : List (Item (AnyRange K) V)) (r : AnyRange K) → IsUpdated order same calls f items next r → AreRebound order same (MayAnswer calls f) items next r
-  rebound items next r done = record {
+  pub update_rebinds : (items next : List (Item (AnyRange K) V)) (r : AnyRange K) → IsUpdated order same calls f items next r → AreRebound order same (MayAnswer calls f) items next r
+  update_rebinds items next r done = record {
     held = λ k key held. rebound_at order lawful k key same equal (MayAnswer calls f) items next r done.answers done.pieces.each done.given (done.held k key held);
     others = done.others;
   }

@@ -1,5 +1,5 @@
 -- The list in which a middle stands for what a range held.
-use Rattle.std.proofs.Common.{◌≡◌, refl, ℕ, ◌+◌, ◌-◌, ◌≤◌, List, ◌++◌, length, take, drop, ap, ◌∙◌, arith, subst, Option, Some, None, Bool, IsTrue, ◌⊎◌, inl, inr, length-append, append_assoc}
+use Rattle.std.proofs.Common.{◌≡◌, refl, ℕ, ◌+◌, ◌-◌, ◌≤◌, List, ◌++◌, length, take, drop, ap, ◌∙◌, arith, subst, Option, Bool, IsTrue, ◌⊎◌, inl, inr, append_assoc}
 use Rattle.std.specs.Cmp.{IsEquivalence}
 use Rattle.std.specs.Prelude.{slice_get}
 use Rattle.std.specs.Option.{option_or}
@@ -25,17 +25,13 @@ use Rattle.range_map.specs.Seams.{seam_edge, with_first_start, with_last_end, Is
 use Rattle.range_map.specs.Stored.{IsStored}
 use Rattle.range_map.specs.Window.{option_items}
 use Rattle.range_map.proofs.CutParts.{known_turned, same_turned}
-use Rattle.range_map.proofs.Endings.{length_started, length_ended, every_started, every_ended, any_ended, own_values}
+use Rattle.range_map.proofs.Endings.{every_started, every_ended, any_ended, own_values}
 use Rattle.range_map.proofs.Cutting.{any_with}
-use Rattle.range_map.proofs.Forms.{Known, nonempty_good, stored_known, chain_stored, same_binds, outside}
+use Rattle.range_map.proofs.Forms.{Known, nonempty_good, stored_known, chain_stored, same_binds, unheld_lies_outside}
 use Rattle.range_map.proofs.Framing.{parts_of, reassociate, reassociate_pieces}
 use Rattle.range_map.proofs.Merging.{crossing_meets}
 use Rattle.range_map.proofs.Openings.{upto_end}
 use Rattle.range_map.proofs.Seaming.{seam_count, Crosses, TakesStartOf, IsLeftFill, IsRightFill, left_fill, right_fill}
-
-at_most_one : {X : Type 0} (o : Option X) → length (option_items o) ≤ 1
-at_most_one None = omega arith
-at_most_one (Some x) = omega arith
 
 module _ {K : Type 0} (order : KeyOrder K) (lawful : IsLawful order) {V : Type 0} (same : V → V → Bool) (equal : IsEquivalence same) {P : Type 0} (is_good : P → Type 0) (rank : P → ℕ) (items : List (Item (AnyRange K) V)) (r : AnyRange K) (place count : ℕ) where
   value_left : (run more middle made : List (Item (AnyRange K) V)) → Every (λ j. HasValue order same run j.value ⊎ HasValue order same middle j.value) made → Every (λ j. HasValue order same (run ++ more) j.value ⊎ HasValue order same middle j.value) made
@@ -48,11 +44,11 @@ module _ {K : Type 0} (order : KeyOrder K) (lawful : IsLawful order) {V : Type 0
   within_pieces rest body beyond B i known all h =
       any_left _ (rest ++ body) beyond (any_right _ rest body (any_with _ _ (λ j. B j × Overlap order j.key r × IsTrue (same i.value j.value)) body h all (λ j g own. (g.0, crossing_meets order lawful j.key r own known g.1.0 g.1.1, g.2))))
 
-  pub replaced : (new middle : List (Item (AnyRange K) V)) (first last : Option P) (edge behind : Edge K P) (from : Option P) → IsStored order same items → IsStored order same middle → IsKnownRange order r → Every (λ i. Overlap order i.key r) (take count (drop place items)) →
+  pub replacement_is_made : (new middle : List (Item (AnyRange K) V)) (first last : Option P) (edge behind : Edge K P) (from : Option P) → IsStored order same items → IsStored order same middle → IsKnownRange order r → Every (λ i. Overlap order i.key r) (take count (drop place items)) →
       (left : IsLeftFill order lawful same equal is_good rank items r place count middle first edge from) → (right : IsRightFill order lawful same equal is_good rank items r place count middle (take left.at items ++ option_items left.rest) left.start last behind) →
       new ≡ take left.at items ++ option_items left.rest ++ with_last_end right.finish (with_first_start left.start middle) ++ option_items right.rest ++ drop right.end items →
       IsReplaced order same items new middle r
-  replaced new middle first last edge behind from stored others known meets left right changed =
+  replacement_is_made new middle first last edge behind from stored others known meets left right changed =
       let met = take count (drop place items) in
       let front = take left.at items in
       let body = with_last_end right.finish (with_first_start left.start middle) in
@@ -70,11 +66,10 @@ module _ {K : Type 0} (order : KeyOrder K) (lawful : IsLawful order) {V : Type 0
       let on_right : Every (λ j. HasValue order same run j.value ⊎ HasValue order same middle j.value) beyond = rw regroup (value_right left.extra (met ++ right.extra) middle beyond right.valued) in
       let known_body = every_right _ (front ++ rest) body (every_left _ (front ++ rest ++ body) (beyond ++ tail) right.known) in
       let took_start = λ (i : Item (AnyRange K) V) (h : TakesStartOf order lawful same equal is_good rank items r place count i (with_first_start left.start middle)). any_ended (λ j. (j.key.start ≡ i.key.start) × Crosses order lawful same equal is_good rank items r place count j × IsTrue (same i.value j.value)) right.finish (with_first_start left.start middle) (λ j b is g. (g.0, (g.1.0, right.reaches b is), g.2)) h in
-      let size : length body ≡ length middle = length_ended right.finish (with_first_start left.start middle) ∙ length_started left.start middle in
       record {
         stored = rw list (chain_stored order lawful same equal whole right.known right.spliced.chain);
         held = λ k key h b. let within = (held_between order lawful r k known key).0 h in rw list (same_binds order lawful same equal middle whole k known_middle right.known key (λ W alike. right.spliced.inside (Beside k At) W alike within.0 within.1) b);
-        others = λ k key h b. rw list (same_binds order lawful same equal items whole k all right.known key (λ W alike. right.spliced.outside (Beside k At) W alike (outside order lawful same equal r k known key h)) b);
+        others = λ k key h b. rw list (same_binds order lawful same equal items whole k all right.known key (λ W alike. right.spliced.outside (Beside k At) W alike (unheld_lies_outside order lawful same equal r k known key h)) b);
         frame = record {
           front = front;
           run = run;
@@ -84,7 +79,6 @@ module _ {K : Type 0} (order : KeyOrder K) (lawful : IsLawful order) {V : Type 0
           after = changed ∙ reassociate_pieces front rest body beyond tail;
           concerned = every_append _ (left.extra ++ met) right.extra (every_append _ left.extra met (every_weaker _ _ left.extra (λ i h. inr (inl (h.0, within_pieces rest body beyond (λ j. j.key.start ≡ i.key.start) i known known_body (took_start i h.1)))) left.touched) (every_weaker _ _ met (λ i h. inl h) meets)) (every_weaker _ _ right.extra (λ i h. inr (inr (h.0, within_pieces rest body beyond (λ j. j.key.end ≡ i.key.end) i known known_body h.1))) right.touched);
           valued = every_append _ (rest ++ body) beyond (every_append _ rest body on_left own) on_right;
-          few = omega (arith, size, at_most_one left.rest, at_most_one right.rest, length-append (rest ++ body) beyond, length-append rest body);
         };
       }
 
@@ -95,12 +89,12 @@ module _ {K : Type 0} (order : KeyOrder K) (lawful : IsLawful order) {V : Type 0
     pub upto : left.begin + (length (option_items joined) + (count - (length (option_items first) + length (option_items last))) + length (option_items other)) ≡ right.upto
     pub within : right.upto ≤ length items
 
-  pub planned : (middle : List (Item (AnyRange K) V)) (first last joined other from : Option P) (next previous : Option (Item (AnyRange K) V)) → IsStored order same items → IsStored order same middle → AreWithin order middle r → IsKnownRange order r → (IsEmptyRange order r → ⊥) → place + count ≤ length items → length (option_items first) + length (option_items last) ≤ count →
+  pub plans_replacement : (middle : List (Item (AnyRange K) V)) (first last joined other from : Option P) (next previous : Option (Item (AnyRange K) V)) → IsStored order same items → IsStored order same middle → AreWithin order middle r → IsKnownRange order r → (IsEmptyRange order r → ⊥) → place + count ≤ length items → length (option_items first) + length (option_items last) ≤ count →
       next ≡ slice_get middle 0 → previous ≡ slice_get middle (length middle - 1) → IsAt is_good rank (length items) from (place + length (option_items first)) →
       ((b : Bound K) (behind : Option P) → IsKnownBound order b → SameBound order (turned_bound r.start) b → IsAt is_good rank (length items) behind (place + length (option_items first)) → IsLeftSeam order same lawful equal is_good rank items r place count next first (seam_edge joined first b) (option_or joined behind)) →
       ((b : Bound K) → IsKnownBound order b → SameBound order (turned_bound r.end) b → IsRightSeam order same lawful equal is_good rank items r place count previous last (seam_edge other last b)) →
       IsReplacement middle first last joined other from
-  planned middle first last joined other from next previous stored others within known full in_range apart is_first is_last begins on_left on_right =
+  plans_replacement middle first last joined other from next previous stored others within known full in_range apart is_first is_last begins on_left on_right =
       let before = turned_bound r.start in
       let behind = turned_bound r.end in
       let good = (nonempty_good order lawful r known).0 full in

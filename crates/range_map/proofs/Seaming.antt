@@ -32,7 +32,7 @@ use Rattle.range_map.specs.Frames.{HasValue}
 use Rattle.range_map.specs.ItemCuts.{item_lower, item_upper}
 use Rattle.range_map.specs.Pieces.{LiesIn}
 use Rattle.range_map.specs.Plans.{IsLeftPlan, IsRightPlan}
-use Rattle.range_map.specs.Reach.{ReachesBefore, ReachesBehind}
+use Rattle.range_map.specs.Reach.{ReachesBefore, ReachesAfter}
 use Rattle.range_map.specs.Replaced.{AreWithin}
 use Rattle.range_map.specs.Seams.{seam_edge, with_first_start, with_last_end, IsLeftCutting, IsRightCutting, IsLeftSeam, IsRightSeam}
 use Rattle.range_map.specs.Stored.{IsStored}
@@ -119,7 +119,7 @@ module _ {K : Type 0} (order : KeyOrder K) (lawful : IsLawful order) {V : Type 0
       pub touched : Every (λ i. Touches order i.key r × TakesStartOf i (with_first_start start middle)) extra
       pub valued : Every (λ j. HasValue order same (extra ++ take count (drop place items)) j.value ⊎ HasValue order same middle j.value) (option_items rest)
 
-    -- the middle with the end that it joins too, and the items behind the range
+    -- the middle with the end that it joins too, and the items after the range
     pub record IsRightFill (middle front : List (Item (AnyRange K) V)) (start : Option (Bound K)) (last : Option P) (edge : Edge K P) : Type 0 where
       pub upto : ℕ
       pub end : ℕ
@@ -339,16 +339,16 @@ module _ {K : Type 0} (order : KeyOrder K) (lawful : IsLawful order) {V : Type 0
       left_plan_free order lawful same equal is_good rank items r w place stored known full window v behind (subst (λ n. IsAt is_good rank (length items) behind n) plus next) reach none
   left_touched v (Some q) b behind in_range reach found next = left_joined_at order lawful same equal is_good rank items r w place stored known full window v q reach found.0 found.1 (in_range q found.0) found.2
 
-  right_cut_from : (last : Option P) (b : Bound K) (upto : ℕ) → upto + length (option_items last) ≡ place + w.count → ReachesBehind order is_good rank items r place w.count last → IsKnownBound order b → SameBound order (turned_bound r.end) b → IsRightCutting order same lawful equal is_good rank items r place w.count last (edge_at last b)
+  right_cut_from : (last : Option P) (b : Bound K) (upto : ℕ) → upto + length (option_items last) ≡ place + w.count → ReachesAfter order is_good rank items r place w.count last → IsKnownBound order b → SameBound order (turned_bound r.end) b → IsRightCutting order same lawful equal is_good rank items r place w.count last (edge_at last b)
   right_cut_from last b upto at reach known_b same_b =
       let cut = right_cut_plan order lawful same equal is_good rank items r w place stored known full window last b upto at reach known_b same_b in
       record { upto = upto; rest = cut.rest; shape = cut.shape; side = cut.side; valued = every_weaker _ _ (option_items cut.rest) (λ j h. h.value) cut.made; ends = at }
 
-  pub right_cut_any : (last : Option P) (b : Bound K) → ReachesBehind order is_good rank items r place w.count last → IsKnownBound order b → SameBound order (turned_bound r.end) b → IsRightCutting order same lawful equal is_good rank items r place w.count last (edge_at last b)
+  pub right_cut_any : (last : Option P) (b : Bound K) → ReachesAfter order is_good rank items r place w.count last → IsKnownBound order b → SameBound order (turned_bound r.end) b → IsRightCutting order same lawful equal is_good rank items r place w.count last (edge_at last b)
   right_cut_any None b reach known_b same_b = right_cut_from None b (place + w.count) (omega arith) reach known_b same_b
   right_cut_any (Some p) b reach known_b same_b = right_cut_from (Some p) b (place + w.count - 1) (omega (arith, reach.2)) reach known_b same_b
 
-  pub right_touched : (v : V) (joined : Option P) (b : Bound K) → ((p : P) → is_good p → rank p < length items) → ReachesBehind order is_good rank items r place w.count None → MatchOption joined (TouchesNoneAfter order same items (place + w.count) r v) (λ q. is_good q × (rank q ≡ place + w.count) × TouchesAfter order same items (place + w.count) r v) → IsRightPlan order same lawful equal is_good rank items r v place w.count None (seam_edge joined None b)
+  pub right_touched : (v : V) (joined : Option P) (b : Bound K) → ((p : P) → is_good p → rank p < length items) → ReachesAfter order is_good rank items r place w.count None → MatchOption joined (TouchesNoneAfter order same items (place + w.count) r v) (λ q. is_good q × (rank q ≡ place + w.count) × TouchesAfter order same items (place + w.count) r v) → IsRightPlan order same lawful equal is_good rank items r v place w.count None (seam_edge joined None b)
   right_touched v None b in_range reach none = right_plan_plain order lawful same equal is_good rank items r w place stored known full window v reach none
   right_touched v (Some q) b in_range reach found =
       let within = in_range q found.0 in

@@ -1,5 +1,5 @@
--- What one comparison of an element says of the items behind.
-use Rattle.std.proofs.Common.{◌≡◌, ℕ, zero, suc, ◌<◌, ◌≤◌, List, [], ◌∷◌, length, get_or, refl, sym, ◌∙◌, arith, Bool, true, false, not, ◌||◌, if◌then◌else◌, IsTrue, ◌↔◌}
+-- What one comparison of an element says of the items after it.
+use Rattle.std.proofs.Common.{◌≡◌, ℕ, zero, suc, ◌<◌, ◌≤◌, List, [], ◌∷◌, length, get_or, refl, sym, ◌∙◌, arith, Bool, true, false, not, ◌||◌, IsTrue}
 use Rattle.std.specs.List.{AllByRecursion}
 use Rattle.std.specs.declared.ops.Bound.{Bound}
 use Rattle.std.specs.declared.ops.Bound.TheVariants.{Included, Excluded, Unbounded}
@@ -12,10 +12,9 @@ use Rattle.range_keys.specs.PositionOrder.{position_total}
 use Rattle.range_keys.specs.declared.inner.position.Position.{Position}
 use Rattle.range_algebra.specs.declared.any.AnyRange.{AnyRange}
 use Rattle.range_algebra.specs.Range.{IsKnownRange, IsEmptyRange}
-use Rattle.range_algebra.specs.Compared.{starts_at_end, is_before}
+use Rattle.range_algebra.specs.Compared.{starts_at_end}
 use Rattle.range_algebra.specs.Cuts.{past}
-use Rattle.range_algebra.specs.declared.ordering.RangeOrdering.TheVariants.{Before, Intersecting, After}
-use Rattle.range_algebra.specs.Intervals.{Le, Lt, Every}
+use Rattle.range_algebra.specs.Intervals.{Lt, Every}
 use Rattle.range_algebra.specs.Orders.{eq_ge, lt_not_le, le_lt_trans, lt_trans}
 use Rattle.range_algebra.specs.Chains.{every_weaker}
 use Rattle.range_algebra.proofs.Lists.{every_at}
@@ -25,36 +24,18 @@ use Rattle.range_map.specs.Neighbours.{EachNext}
 use Rattle.range_algebra.specs.Relations.{LiesBefore}
 use Rattle.range_map.specs.Searches.{ElementIsBefore}
 use Rattle.range_map.proofs.Forms.{before_is}
-
-less_is : (o : Ordering) → IsTrue (is_lt o) ↔ o ≡ Less
-less_is Less = (λ h. refl, λ h. refl)
-less_is Equal = (λ h. absurd (cc), λ h. absurd (cc))
-less_is Greater = (λ h. absurd (cc), λ h. absurd (cc))
+use Rattle.range_map.proofs.Listed.{less_test, not_greater, before_by_parts}
 
 equal_is : (o : Ordering) → IsTrue (is_eq o) → o ≡ Equal
 equal_is Less h = absurd (cc)
 equal_is Equal h = refl
 equal_is Greater h = absurd (cc)
 
-not_greater : (o : Ordering) → (o ≡ Greater → ⊥) → is_gt o ≡ false
-not_greater Less h = refl
-not_greater Equal h = refl
-not_greater Greater h = absurd (h refl)
-
-parts_are : (a b t x d u v w c : Bool) → IsTrue (is_before (if a then (if b then Before t else Intersecting false x) else (if d then After u else Intersecting v w)) c) ↔ (IsTrue a × IsTrue b × IsTrue (not t || not c))
-parts_are true true t x d u v w c = (λ h. (refl, refl, h), λ h. h.2)
-parts_are true false t x d u v w c = (λ h. absurd (cc), λ h. absurd (cc))
-parts_are false b t x true u v w c = (λ h. absurd (cc), λ h. absurd (cc))
-parts_are false b t x false u v w c = (λ h. absurd (cc), λ h. absurd (cc))
-
 untouched : (t c : Bool) → (IsTrue t → ⊥) → IsTrue (not t || not c)
 untouched true c h = absurd (h refl)
 untouched false c h = refl
 
 module _ {K : Type 0} (order : KeyOrder K) (lawful : IsLawful order) where
-  abbrev PLe : Position K → Position K → Type 0
-  PLe p q = Le (position_cmp order.cmp) p q
-
   abbrev PLt : Position K → Position K → Type 0
   PLt p q = Lt (position_cmp order.cmp) p q
 
@@ -82,15 +63,15 @@ module _ {K : Type 0} (order : KeyOrder K) (lawful : IsLawful order) where
       let cmp = position_cmp order.cmp in
       let total = position_total order.cmp lawful.total in
       let touch = starts_at_end order e.end (Start r) in
-      let old = (parts_are (is_lt (cmp (Start e) (Start r))) (is_lt (cmp (End e) (Start r))) touch (is_eq (cmp (End e) (End r))) (is_gt (cmp (Start e) (End r))) (starts_at_end order r.end (Start e)) (is_eq (cmp (Start e) (Start r))) (is_eq (cmp (End e) (End r))) connected).0 h in
-      let starts = lt_trans cmp total (Start e) (Start r) (Start s) ((less_is (cmp (Start e) (Start r))).0 old.0) rise in
-      let below = (less_is (cmp (End e) (Start r))).0 old.1 in
+      let old = (before_by_parts (is_lt (cmp (Start e) (Start r))) (is_lt (cmp (End e) (Start r))) touch (is_eq (cmp (End e) (End r))) (is_gt (cmp (Start e) (End r))) (starts_at_end order r.end (Start e)) (is_eq (cmp (Start e) (Start r))) (is_eq (cmp (End e) (End r))) connected).0 h in
+      let starts = lt_trans cmp total (Start e) (Start r) (Start s) ((less_test (cmp (Start e) (Start r))).0 old.0) rise in
+      let below = (less_test (cmp (End e) (Start r))).0 old.1 in
       let ends = lt_trans cmp total (End e) (Start r) (Start s) below rise in
       let apart = le_lt_trans cmp total (past order (End e)) (Start r) (Start s) ((before_is order lawful e.end r.start known.1 others.0).0 below) rise in
       let touch' = starts_at_end order e.end (Start s) in
-      (parts_are (is_lt (cmp (Start e) (Start s))) (is_lt (cmp (End e) (Start s))) touch' (is_eq (cmp (End e) (End s))) (is_gt (cmp (Start e) (End s))) (starts_at_end order s.end (Start e)) (is_eq (cmp (Start e) (Start s))) (is_eq (cmp (End e) (End s))) connected).1 (
-        (less_is (cmp (Start e) (Start s))).1 starts,
-        (less_is (cmp (End e) (Start s))).1 ends,
+      (before_by_parts (is_lt (cmp (Start e) (Start s))) (is_lt (cmp (End e) (Start s))) touch' (is_eq (cmp (End e) (End s))) (is_gt (cmp (Start e) (End s))) (starts_at_end order s.end (Start e)) (is_eq (cmp (Start e) (Start s))) (is_eq (cmp (End e) (End s))) connected).1 (
+        (less_test (cmp (Start e) (Start s))).1 starts,
+        (less_test (cmp (End e) (Start s))).1 ends,
         untouched touch' connected (λ t. lt_not_le cmp total (past order (End e)) (Start s) apart (eq_ge cmp total (past order (End e)) (Start s) (touching_same e.end (Start s) t))),
       )
 
@@ -103,7 +84,7 @@ module _ {K : Type 0} (order : KeyOrder K) (lawful : IsLawful order) where
         let first = le_lt_trans cmp total (Start i.key) (End i.key) (Start j.key) (not_greater (cmp (Start i.key) (End i.key)) full.0) rising.0 in
         (first, every_weaker _ _ rest (λ k l. lt_trans cmp total (Start i.key) (Start j.key) (Start k.key) first l) (starts_rise j rest full.1 rising.1))
 
-    -- an element before one item is before each behind it
+    -- an element before one item is before each after it
     pub before_from : (items : List (Item (AnyRange K) V)) (e : AnyRange K) (connected : Bool) (m : ℕ) (x : Item (AnyRange K) V) → IsKnownRange order e → IsKnownRange order x.key → AllByRecursion (λ j. IsEmptyRange order j.key → ⊥) items → EachNext (λ j k. LiesBefore order j.key k.key) items → x ≡ get_or items m x → ElementIsBefore order e connected x.key → (j : ℕ) (d : Item (AnyRange K) V) → m ≤ j → j < length items → ElementIsBefore order e connected (get_or items j d).key
     before_from [] e connected m x known others full rising read h j d from within = absurd (omega arith)
     before_from (y ∷ ys) e connected zero x known others full rising read h zero d from within = let at : x ≡ y = read in rw at at h

@@ -33,8 +33,9 @@ use Rattle.range_map.specs.Window.{IsFound, IsJustBefore}
 use Rattle.range_map.proofs.Forms.{Chained, Known, before_is, bound_after, chain_stored, nonempty_good, stored_chain, stored_known, touches_is}
 use Rattle.range_map.proofs.Meeting.{any_at}
 use Rattle.range_map.proofs.Searching.{touching_same}
+use Rattle.range_map.proofs.Windows.{every_both}
 
--- where an item was put once room was made, by the list from before
+-- where an item was put once capacity was reserved, by the list from before
 pub put_at : {T P : Type 0} (is_good good_after : P → Type 0) (rank rank_after : P → ℕ) (items ready new : List T) (from : Option P) (x : T) → IsAt is_good rank (length items) from (place_before rank (length items) from) → ready ≡ items → ((p : P) → is_good p → good_after p × (rank_after p ≡ rank p)) → new ≡ insert ready (place_before rank_after (length ready) from) x → new ≡ insert items (place_before rank (length items) from) x
 put_at is_good good_after rank rank_after items ready new from x at same kept done =
     let place = place_before rank (length items) from in
@@ -45,10 +46,6 @@ item_at : {X : Type 0} (xs : List X) (n : ℕ) → n < length xs → (x : X) × 
 item_at [] n within = absurd (omega arith)
 item_at (x ∷ xs) zero within = (x, refl)
 item_at (x ∷ xs) (suc n) within = item_at xs n (omega arith)
-
-every_both : {X : Type 0} (P Q : X → Type 0) (xs : List X) → Every P xs → Every Q xs → Every (λ x. P x × Q x) xs
-every_both P Q [] h k = tt
-every_both P Q (x ∷ xs) h k = ((h.0, k.0), every_both P Q xs h.1 k.1)
 
 every_last : {X : Type 0} (P : X → Type 0) (xs : List X) (x : X) → Every P (xs ++ x ∷ []) → P x
 every_last P [] x h = h.0
@@ -153,9 +150,9 @@ module _ {K : Type 0} (order : KeyOrder K) (lawful : IsLawful order) where
           let found = item_at items (rank q) within in
           rw (← at.1) (clear_front (rank q) found.0 within found.1 ((answer found.0 found.1).0 h))
 
-      clear_behind : {P : Type 0} (is_good : P → Type 0) (rank : P → ℕ) (good_in_range : (p : P) → is_good p → rank p < length items) (from : Option P) (place : ℕ) (b : Bool) → IsAt is_good rank (length items) from place → IsAnswerAt order (λ i. LiesApart order r i.key) rank items from b → IsTrue b → Every (Behind r) (drop place items)
-      clear_behind is_good rank good_in_range None place b at answer h = rw (drop_all items place at) tt
-      clear_behind is_good rank good_in_range (Some q) place b at answer h =
+      clear_after : {P : Type 0} (is_good : P → Type 0) (rank : P → ℕ) (good_in_range : (p : P) → is_good p → rank p < length items) (from : Option P) (place : ℕ) (b : Bool) → IsAt is_good rank (length items) from place → IsAnswerAt order (λ i. LiesApart order r i.key) rank items from b → IsTrue b → Every (Behind r) (drop place items)
+      clear_after is_good rank good_in_range None place b at answer h = rw (drop_all items place at) tt
+      clear_after is_good rank good_in_range (Some q) place b at answer h =
           let within = good_in_range q at.0 in
           let found = item_at items (rank q) within in
           rw (← at.1) (clear_back (rank q) found.0 within found.1 ((answer found.0 found.1).0 h))
@@ -203,7 +200,7 @@ module _ {K : Type 0} (order : KeyOrder K) (lawful : IsLawful order) where
             position = found.position;
             in_range = found.in_range;
             before = λ h. clear_before is_good rank good_in_range before place a found.previous first (both_hold free a b both h).0;
-            behind = λ h. clear_behind is_good rank good_in_range from place b found.position second (both_hold free a b both h).1;
+            behind = λ h. clear_after is_good rank good_in_range from place b found.position second (both_hold free a b both h).1;
             taken = λ f. taken_by is_good rank good_in_range before from place free a b found.previous found.position (rw start at found.below) (rw start at found.above) first second both f;
           }
 

@@ -19,6 +19,7 @@ use Rattle.range_map.specs.Bindings.{IsBound, BindsTo, Binds, BindAlike, IsCoars
 use Rattle.range_map.specs.Stored.{IsStored}
 use Rattle.range_map.specs.ListOrder.{same_list, list_cmp, lists_tied, lists_order}
 use Rattle.range_map.specs.Coarse.{IsOnlyCoarse, IsLeastCount}
+use Rattle.range_map.proofs.Meeting.{binds_bound}
 use Rattle.range_map.proofs.Coarse.{coarse_alike, coarse_shortest, Follows}
 use Rattle.range_algebra.proofs.Joined.{before_is, ends_below, joined_touch, is_before_of}
 
@@ -137,11 +138,6 @@ module _ {K : Type 0} (order : KeyOrder K) {V : Type 0} (same_value : V → V �
   binds_any (i ∷ rest) k v (inl h) = inl (h, one i.value v)
   binds_any (i ∷ rest) k v (inr h) = inr (binds_any rest k v h)
 
-  bound_by : (items : List (Item (AnyRange K) V)) (k : K) (v : V) → BindsTo order same_value items k v → IsBound order items k
-  bound_by [] k v h = h
-  bound_by (i ∷ rest) k v (inl h) = inl h.0
-  bound_by (i ∷ rest) k v (inr h) = inr (bound_by rest k v h)
-
   some_value : (items : List (Item (AnyRange K) V)) (k : K) → IsBound order items k → V
   some_value [] k h = absurd h
   some_value (i ∷ rest) k h = i.value
@@ -152,13 +148,13 @@ module _ {K : Type 0} (order : KeyOrder K) {V : Type 0} (same_value : V → V �
     where
       there : ((k : K) → order.is_key k → IsBound order items k ↔ IsBound order others k) → (k : K) → order.is_key k → (b : Option V) → Binds order same_value items k b ↔ Binds order same_value others k b
       there alike k key None = (λ none h. none ((alike k key).1 h), λ none h. none ((alike k key).0 h))
-      there alike k key (Some v) = (λ h. binds_any others k v ((alike k key).0 (bound_by items k v h)), λ h. binds_any items k v ((alike k key).1 (bound_by others k v h)))
+      there alike k key (Some v) = (λ h. binds_any others k v ((alike k key).0 (binds_bound order same_value items k v h)), λ h. binds_any items k v ((alike k key).1 (binds_bound order same_value others k v h)))
 
       into : BindAlike order same_value items others → (k : K) → order.is_key k → IsBound order items k → IsBound order others k
-      into alike k key h = let v = some_value items k h in bound_by others k v ((alike k key (Some v)).0 (binds_any items k v h))
+      into alike k key h = let v = some_value items k h in binds_bound order same_value others k v ((alike k key (Some v)).0 (binds_any items k v h))
 
       onto : BindAlike order same_value items others → (k : K) → order.is_key k → IsBound order others k → IsBound order items k
-      onto alike k key h = let v = some_value others k h in bound_by items k v ((alike k key (Some v)).1 (binds_any others k v h))
+      onto alike k key h = let v = some_value others k h in binds_bound order same_value items k v ((alike k key (Some v)).1 (binds_any others k v h))
 
 module _ {K : Type 0} (order : KeyOrder K) (lawful : IsLawful order) (complete : IsComplete order) {V : Type 0} (same_value : V → V → Bool) where
   keyed_full : (r : AnyRange K) → ¬ IsKeyless order r → ¬ IsEmptyRange order r

@@ -13,10 +13,10 @@ use Rattle.range_algebra.specs.Intervals.{Any, Every}
 use Rattle.range_algebra.specs.Orders.{le_refl, lt_le, both}
 use Rattle.range_algebra.specs.Chains.{any_right, every_weaker, every_left, every_right}
 use Rattle.range_store.specs.declared.storage.Item.{Item}
-use Rattle.range_map.specs.Answers.{MayAnswer, Answered, IsAsAnswered, IsGivenBy, GaveWayToAnswers, IsGathered, IsUpdated, AreAnswersTo}
+use Rattle.range_map.specs.Answers.{MayAnswer, Answered, IsAsAnswered, IsGivenBy, IsGathered, IsUpdated, AreAnswersTo}
 use Rattle.range_map.specs.Bindings.{Binds, IsSomeOf}
 use Rattle.range_map.specs.Changes.{IsInserted, IsRemoved}
-use Rattle.range_map.specs.Frames.{StandOrMerge, IsMergedInto, HasValue, JoinsOrMeets, IsNewItem, IsPart, GaveWayTo, WasCutOut}
+use Rattle.range_map.specs.Frames.{StandOrMerge, IsMergedInto, GaveWay, HasValue, JoinsOrMeets, IsNewItem, IsPart, GaveWayTo, WasCutOut}
 use Rattle.range_map.specs.Lookups.{IsConnectedTo}
 use Rattle.range_map.specs.Pieces.{later, earlier, IsCommonPart, IsPiece}
 use Rattle.range_map.specs.Ranges.{Overlap}
@@ -24,7 +24,7 @@ use Rattle.range_map.specs.Replaced.{IsReplaced}
 use Rattle.range_map.proofs.Cutting.{PLe, PLt, Lo, Hi, IsFull, IsInside, IsRight, any_use, any_over, every_with, later_over, earlier_under, pick, cut_none, cut_more, cut_all, a_piece}
 use Rattle.range_map.proofs.Extents.{end_le}
 use Rattle.range_map.proofs.Forms.{Chained}
-use Rattle.range_map.proofs.Merging.{stands}
+use Rattle.range_map.proofs.Merging.{rest_stands}
 
 module _ {K : Type 0} (order : KeyOrder K) {V : Type 0} (same : V → V → Bool) (equal : IsEquivalence same) {F E : Type 0} (calls : Shared F (Option (Bor V) × Unit {0}) (Result (Option V) E)) (f : F) (items new : List (Item (AnyRange K) V)) (r : AnyRange K) where
   turned : (a b : V) → IsTrue (same a b) → IsTrue (same b a)
@@ -58,7 +58,7 @@ module _ {K : Type 0} (order : KeyOrder K) {V : Type 0} (same : V → V → Bool
 
   -- what an update does not meet stands or is merged
   pub updated_stands : IsUpdated order same calls f items new r → StandOrMerge order same items new r
-  updated_stands h = rw (h.frame.before, h.frame.after) (stands order same r h.frame.front h.frame.run h.frame.others h.frame.behind h.frame.concerned)
+  updated_stands h = rw (h.frame.before, h.frame.after) (rest_stands order same r h.frame.front h.frame.run h.frame.others h.frame.behind h.frame.concerned)
 
   abbrev one_answer : V → Option V → List (Answered K V)
   one_answer v answer = record { key = r; value = Some v; answer = answer } ∷ []
@@ -68,7 +68,7 @@ module _ {K : Type 0} (order : KeyOrder K) {V : Type 0} (same : V → V → Bool
   meets_alone i v (inr touches) alone = alone (inr touches.0)
 
   module _ (old : V) where
-    inserted_frame : (v : V) → Every (λ i. IsConnectedTo order i.key r → Overlap order i.key r) items → GaveWayTo order same items new r v → GaveWayToAnswers order same items new r (one_answer old (Some v))
+    inserted_frame : (v : V) → Every (λ i. IsConnectedTo order i.key r → Overlap order i.key r) items → GaveWayTo order same items new r v → GaveWay order same items new r (IsGivenBy same (one_answer old (Some v)))
     inserted_frame v alone h = record {
       front = h.front;
       run = h.run;
@@ -83,7 +83,7 @@ module _ {K : Type 0} (order : KeyOrder K) {V : Type 0} (same : V → V → Bool
       ]) h.made;
     }
 
-    removed_frame : WasCutOut order same items new r → GaveWayToAnswers order same items new r (one_answer old None)
+    removed_frame : WasCutOut order same items new r → GaveWay order same items new r (IsGivenBy same (one_answer old None))
     removed_frame h = record {
       front = h.front;
       run = h.run;

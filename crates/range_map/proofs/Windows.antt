@@ -1,7 +1,7 @@
 -- The items that a range meets, by places.
-use Rattle.std.proofs.Common.{◌≡◌, ℕ, ◌+◌, ◌-◌, ◌<◌, List, [], ◌∷◌, ◌++◌, length, take, drop, get_or, arith, Option, Bool, length-drop}
+use Rattle.std.proofs.Common.{◌≡◌, ℕ, suc, ◌+◌, ◌-◌, ◌<◌, ◌≤◌, List, [], ◌∷◌, ◌++◌, length, take, drop, get_or, arith, ◌∙◌, sym, ap, Option, Bool, length-drop}
 use Rattle.std.specs.Cmp.{IsEquivalence}
-use Rattle.std.proofs.lemmas.List.{get_or-drop}
+use Rattle.std.proofs.lemmas.List.{drop_more, take_more, get_or-drop}
 use Rattle.range_keys.specs.Order.{KeyOrder, IsLawful}
 use Rattle.range_keys.specs.Position.{start_position, end_position}
 use Rattle.range_keys.specs.PositionOrder.{position_total}
@@ -55,3 +55,17 @@ module _ {K : Type 0} (order : KeyOrder K) (lawful : IsLawful order) {V : Type 0
             (chain_right (places order lawful) (position_total order.cmp lawful.total) same equal (item_lower order) (item_upper order) (λ i. i.value) (take (place + count) items) (drop (place + count) items) (chain_parts (place + count)))
             (λ d some. let index : place + count + 0 ≡ place + count = omega arith in rw (get_or-drop (place + count) items 0 d, index) (walk.stops d (omega (arith, length-drop (place + count) items, walk.in_range))));
       }
+
+-- the first and the last item of a run of a list
+pub first_of_run : {T : Type 0} (items : List T) (place left : ℕ) (x : T) → 0 < left → place + left ≤ length items → x ≡ get_or items place x → take left (drop place items) ≡ x ∷ take (left - 1) (drop (place + 1) items)
+first_of_run items place left x some within read =
+    let one_more : left ≡ suc (left - 1) = omega arith in
+    rw (drop_more items place x (omega arith), ← read) (ap (λ n. take n (x ∷ drop (place + 1) items)) one_more)
+
+pub last_of_run : {T : Type 0} (items : List T) (place left at : ℕ) (x : T) → 0 < left → place + left ≤ length items → at + 1 ≡ place + left → x ≡ get_or items at x → take left (drop place items) ≡ take (left - 1) (drop place items) ++ x ∷ []
+last_of_run items place left at x some within last read =
+    let one_more : left ≡ (left - 1) + 1 = omega arith in
+    let there : place + (left - 1) ≡ at = omega arith in
+    ap (λ n. take n (drop place items)) one_more
+    ∙ take_more (drop place items) (left - 1) x (omega (arith, length-drop place items))
+    ∙ ap (λ y. take (left - 1) (drop place items) ++ y ∷ []) (get_or-drop place items (left - 1) x ∙ ap (λ n. get_or items n x) there ∙ sym read)

@@ -1,5 +1,5 @@
 -- What the closure of an update may be asked and may answer, and what its answers make of a list.
-use Rattle.std.specs.Prelude.{◌≡◌, ◌↔◌, ◌⊎◌, Bool, IsTrue, List, ◌++◌, Option, Some, None, Result, Ok, Err, map}
+use Rattle.std.specs.Prelude.{◌≡◌, ◌↔◌, Bool, IsTrue, List, Option, Some, None, Result, Ok, Err, map}
 use Rattle.std.specs.Fn.{Shared}
 use Rattle.std.specs.Option.{option_copied}
 use denote.Ref.{Bor}
@@ -9,9 +9,8 @@ use Rattle.range_algebra.specs.Range.{Holds}
 use Rattle.range_algebra.specs.declared.any.AnyRange.{AnyRange}
 use Rattle.range_store.specs.declared.storage.Item.{Item}
 use Rattle.range_map.specs.Bindings.{Binds}
-use Rattle.range_map.specs.Frames.{IsMergedInto, HasValue}
+use Rattle.range_map.specs.Frames.{GaveWay}
 use Rattle.range_map.specs.Pieces.{IsPiece, ArePieces, LiesIn}
-use Rattle.range_map.specs.Ranges.{Overlap}
 use Rattle.range_map.specs.Stored.{IsStored}
 
 -- the closure f may answer a where it is shown the value, or none
@@ -53,17 +52,6 @@ abbrev pub AreAnswersTo : {K V : Type 0} → KeyOrder K → List (Item (AnyRange
 AreAnswersTo order items r answers = ArePieces order items r (map piece_of answers)
 
 module _ {K : Type 0} (order : KeyOrder K) {V : Type 0} (same : V → V → Bool) where
-  -- a run of items, each of which meets the range or is merged, gave way to others, each with the value of one of the run or of an answer, and all else stands as before
-  pub record GaveWayToAnswers (items new : List (Item (AnyRange K) V)) (r : AnyRange K) (answers : List (Answered K V)) : Type 0 where
-    pub front : List (Item (AnyRange K) V)
-    pub run : List (Item (AnyRange K) V)
-    pub others : List (Item (AnyRange K) V)
-    pub behind : List (Item (AnyRange K) V)
-    pub before : items ≡ front ++ run ++ behind
-    pub after : new ≡ front ++ others ++ behind
-    pub concerned : Every (λ i. Overlap order i.key r ⊎ IsMergedInto order same others r i) run
-    pub valued : Every (λ j. HasValue order same run j.value ⊎ IsGivenBy same answers j.value) others
-
   module _ {F E : Type 0} (calls : Shared F (Option (Bor V) × Unit {0}) (Result (Option V) E)) (f : F) where
     -- each key of the range is bound as the answer to its piece says, and each other key as before
     pub record IsUpdated (items new : List (Item (AnyRange K) V)) (r : AnyRange K) : Type 0 where
@@ -72,7 +60,7 @@ module _ {K : Type 0} (order : KeyOrder K) {V : Type 0} (same : V → V → Bool
       pub given : Every (λ a. MayAnswer calls f a.value (Ok a.answer)) answers
       pub held : (k : K) → order.is_key k → Holds order r k → Any (λ a. Holds order a.key k × ((b : Option V) → Binds order same new k b ↔ IsAsAnswered same a.answer b)) answers
       pub others : (k : K) → order.is_key k → ¬ Holds order r k → (b : Option V) → Binds order same new k b ↔ Binds order same items k b
-      pub frame : GaveWayToAnswers items new r answers
+      pub frame : GaveWay order same items new r (IsGivenBy same answers)
 
     -- f may answer an error to the value of a piece
     pub record FailsAt (items : List (Item (AnyRange K) V)) (r : AnyRange K) (e : E) : Type 0 where

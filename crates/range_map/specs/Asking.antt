@@ -20,12 +20,12 @@ use Rattle.range_map.specs.Answers.{MayAnswer, IsAnsweredBy}
 use Rattle.range_map.specs.Edits.{with_end}
 
 module _ {K : Type 0} (order : KeyOrder K) where
-  -- where a gap in the range begins, behind the range before it
+  -- where a gap in the range begins, after the range before it
   abbrev pub gap_lower : AnyRange K → Option (AnyRange K) → Position K
   gap_lower r None = lower order r
   gap_lower r (Some before) = upper order before
 
-  -- where it ends, before the range behind it
+  -- where it ends, before the range after it
   abbrev pub gap_upper : AnyRange K → Option (AnyRange K) → Position K
   gap_upper r None = upper order r
   gap_upper r (Some after) = lower order after
@@ -38,7 +38,7 @@ module _ {K : Type 0} (order : KeyOrder K) where
   IsGapEnd r None end = end ≡ Some r.end
   IsGapEnd r (Some after) end = IsKnownRange order after × (end ≡ inverted after.start)
 
-  -- the gap, or none where there is no room for one
+  -- the gap, or none where nothing lies between
   abbrev pub IsGapBetween : AnyRange K → Option (AnyRange K) → Option (AnyRange K) → Option (AnyRange K) → Type 0
   IsGapBetween r before after None = Le (position_cmp order.cmp) (gap_upper r after) (gap_lower r before)
   IsGapBetween r before after (Some gap) = IsKnownRange order gap × (position_cmp order.cmp (lower order gap) (gap_lower r before) ≡ Equal) × (position_cmp order.cmp (upper order gap) (gap_upper r after) ≡ Equal) × Lt (position_cmp order.cmp) (lower order gap) (upper order gap)
@@ -52,7 +52,7 @@ module _ {K : Type 0} (order : KeyOrder K) where
     JoinsNoLast items r v = (d : Item (AnyRange K) V) → 0 < length items → Touches order (slice_index_or items (length items - 1) d).key r → same (slice_index_or items (length items - 1) d).value v ≡ true → ⊥
 
     module _ (is_clone : K → K → Type 0) where
-      -- the range stands behind the others, with cloned bounds
+      -- the range stands after the others, with cloned bounds
       pub record IsAppended (old new : List (Item (AnyRange K) V)) (r : AnyRange K) (v : V) : Type 0 where
         pub start : Bound K
         pub end : Bound K
@@ -75,7 +75,7 @@ module _ {K : Type 0} (order : KeyOrder K) where
       IsPut old new r (Some v) = IsAppended old new r v ⊎ IsExtended old new r v
 
       module _ {F E : Type 0} (calls : Shared F (Option (Bor V) × Unit {0}) (Result (Option V) E)) (f : F) where
-        -- where there is a gap it was asked about, and the answer was put behind the others
+        -- where there is a gap it was asked about, and the answer was put after the others
         abbrev pub IsGapAsked : AnyRange K → Option (AnyRange K) → Option (AnyRange K) → List (Item (AnyRange K) V) → List (Item (AnyRange K) V) → Type 0
         IsGapAsked r before after old new = (IsGapBetween r before after None × (new ≡ old)) ⊎ ((gap : AnyRange K) × IsGapBetween r before after (Some gap) × IsAnsweredBy calls f None (IsPut old new gap))
 

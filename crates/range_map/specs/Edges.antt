@@ -64,7 +64,7 @@ module _ {K : Type 0} (order : KeyOrder K) {V : Type 0} (same : V → V → Bool
       pub known : Every (λ i. IsKnownRange order i.key) (option_items rest)
       pub reaches : (y : Item (AnyRange K) V) → rest ≡ Some y → Le (position_cmp order.cmp) (item_lower order y) (upper order r)
 
-    -- what stands before the range when it is bound to v: the first `at` items and a rest, behind which the range starts at `start`
+    -- what stands before the range when it is bound to v: the first `at` items and a rest, after which the range starts at `start`
     pub record IsLeftEdge (items : List (Item (AnyRange K) V)) (r : AnyRange K) (v : V) (at : ℕ) (rest : Option (Item (AnyRange K) V)) (start : Option (Bound K)) : Type 0 where
       pub s : Position K
       pub starts : position_cmp order.cmp (edge_start start r) s ≡ Equal
@@ -72,7 +72,7 @@ module _ {K : Type 0} (order : KeyOrder K) {V : Type 0} (same : V → V → Bool
       pub known : Every (λ i. IsKnownRange order i.key) (option_items rest)
       pub known_start : IsKnownBound order (unwrap_or start r.start)
 
-    -- what stands behind it
+    -- what stands after it
     pub record IsRightEdge (items : List (Item (AnyRange K) V)) (r : AnyRange K) (v : V) (end : ℕ) (rest : Option (Item (AnyRange K) V)) (finish : Option (Bound K)) : Type 0 where
       pub in_range : end ≤ length items
       pub e : Position K
@@ -123,7 +123,7 @@ module _ {K P : Type 0} where
     IsLeftShape is_good rank items (Cut p b) at from rest start = is_good p × (rank p ≡ at) × (from ≡ at + 1) × (start ≡ None) × ((x : Item (AnyRange K) V) × (x ≡ slice_index_or items at x) × (rest ≡ Some (with_end x b)))
     IsLeftShape is_good rank items (Joined p) at from rest start = is_good p × (rank p ≡ at) × (from ≡ at) × (rest ≡ None) × ((x : Item (AnyRange K) V) × (x ≡ slice_index_or items at x) × (start ≡ Some x.key.start))
 
-    -- a rest and the items from `end` on stand behind the run, which ends at `upto`
+    -- a rest and the items from `end` on stand after the run, which ends at `upto`
     abbrev pub IsRightShape : (P → Type 0) → (P → ℕ) → List (Item (AnyRange K) V) → Edge K P → ℕ → ℕ → Option (Item (AnyRange K) V) → Option (Bound K) → Type 0
     IsRightShape is_good rank items Plain upto end rest finish = (upto ≡ end) × (rest ≡ None) × (finish ≡ None)
     IsRightShape is_good rank items (Cut p b) upto end rest finish = is_good p × (rank p ≡ upto) × (end ≡ upto + 1) × (finish ≡ None) × ((x : Item (AnyRange K) V) × (x ≡ slice_index_or items upto x) × (rest ≡ Some (with_start x b)))

@@ -11,7 +11,7 @@ use Rattle.range_algebra.specs.Relations.{Touches}
 use Rattle.range_map.specs.Ranges.{Overlap}
 
 module _ {K : Type 0} (order : KeyOrder K) {V : Type 0} where
-  -- the start is that of the range or of a run's item, or begins just behind the range
+  -- the start is that of the range or of a run's item, or begins just after the range
   abbrev pub IsStartOf : List (Item (AnyRange K) V) → AnyRange K → Bound K → Type 0
   IsStartOf run r b = (b ≡ r.start) ⊎ (Any (λ i. b ≡ i.key.start) run ⊎ SameBound order (turned_bound r.end) b)
 
@@ -33,6 +33,17 @@ module _ {K : Type 0} (order : KeyOrder K) {V : Type 0} where
     -- some item of the run has an equal value
     abbrev pub HasValue : List (Item (AnyRange K) V) → V → Type 0
     HasValue run v = Any (λ i. IsTrue (same_value v i.value)) run
+
+    -- a run of items, each of which meets the range or is merged, gave way to others, whose values are such or equal one of the run's, and all else stands as before
+    pub record GaveWay (items new : List (Item (AnyRange K) V)) (r : AnyRange K) (IsSuch : V → Type 0) : Type 0 where
+      pub front : List (Item (AnyRange K) V)
+      pub run : List (Item (AnyRange K) V)
+      pub others : List (Item (AnyRange K) V)
+      pub behind : List (Item (AnyRange K) V)
+      pub before : items ≡ front ++ run ++ behind
+      pub after : new ≡ front ++ others ++ behind
+      pub concerned : Every (λ i. Overlap order i.key r ⊎ IsMergedInto others r i) run
+      pub valued : Every (λ j. HasValue run j.value ⊎ IsSuch j.value) others
 
     -- the item meets the range, or touches it with an equal value
     abbrev pub JoinsOrMeets : AnyRange K → V → Item (AnyRange K) V → Type 0

@@ -39,7 +39,7 @@ module _ {K : Type 0} (order : KeyOrder K) where
   between (Some start) None = []
   between (Some start) (Some end) = if starts_past_end order start end then [] else record { start = start; end = end } ∷ []
 
-  -- what is free from a start on, where the items stand behind it
+  -- what is free from a start on, where the items stand after it
   abbrev pub free_from : {V : Type 0} → Option (Bound K) → List (Item (AnyRange K) V) → List (AnyRange K)
   free_from start [] = between start (Some Unbounded)
   free_from start (i ∷ rest) = between start (inverted i.key.start) ++ free_from (inverted i.key.end) rest

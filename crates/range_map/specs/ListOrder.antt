@@ -10,6 +10,8 @@ use Rattle.range_keys.specs.Order.{KeyOrder, IsLawful}
 use Rattle.range_algebra.specs.RangeOrder.{range_cmp, range_total, range_input, range_respects}
 use Rattle.range_algebra.specs.declared.any.AnyRange.{AnyRange}
 use Rattle.range_store.specs.declared.storage.Item.{Item}
+use Rattle.range_map.specs.Bindings.{BindAlike}
+use Rattle.range_map.specs.Stored.{IsStored}
 
 module _ {K : Type 0} (order : KeyOrder K) {V : Type 0} where
   -- equal ranges, by position, with equal values
@@ -27,6 +29,10 @@ module _ {K : Type 0} (order : KeyOrder K) {V : Type 0} where
   -- in dictionary order
   abbrev pub list_cmp : (V → V → Ordering) → List (Item (AnyRange K) V) → List (Item (AnyRange K) V) → Ordering
   list_cmp value_cmp = slice_cmp (item_cmp value_cmp)
+
+  -- any two stored lists that bind every key as these two do compare so
+  abbrev pub CompareAlike : (V → V → Bool) → (V → V → Ordering) → List (Item (AnyRange K) V) → List (Item (AnyRange K) V) → Ordering → Type 0
+  CompareAlike same_value value_cmp items others ordering = (left right : List (Item (AnyRange K) V)) → IsStored order same_value left → IsStored order same_value right → BindAlike order same_value items left → BindAlike order same_value others right → ordering ≡ list_cmp value_cmp left right
 
   -- what a hash is fed of an item
   abbrev pub item_input : (K → List (List ℕ)) → (V → List (List ℕ)) → Item (AnyRange K) V → List (List ℕ)

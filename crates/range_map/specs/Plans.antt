@@ -26,7 +26,7 @@ module _ {K : Type 0} (order : KeyOrder K) {V : Type 0} (same : V → V → Bool
     pub apart : Every (λ i. ¬ IsTrue (same i.value v)) (option_items rest)
     pub whole : extra ++ take count (drop place items) ≡ [] → (rest ≡ None) × (start ≡ None)
 
-  -- which items behind it do
+  -- which items after it do
   pub record IsRightFrame (end : ℕ) (rest : Option (Item (AnyRange K) V)) (finish : Option (Bound K)) : Type 0 where
     pub extra : List (Item (AnyRange K) V)
     pub split : drop (place + count) items ≡ extra ++ drop end items
@@ -50,7 +50,7 @@ module _ {K : Type 0} (order : KeyOrder K) {V : Type 0} (same : V → V → Bool
     pub few : length (option_items rest) ≤ length (option_items first)
     pub begins : begin + joined_count edge ≡ place + length (option_items first)
 
-  -- behind the range
+  -- after the range
   pub record IsRightPlan (place count : ℕ) (last : Option P) (edge : Edge K P) : Type 0 where
     pub upto : ℕ
     pub end : ℕ

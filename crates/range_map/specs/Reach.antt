@@ -17,9 +17,9 @@ module _ {K : Type 0} (order : KeyOrder K) {V : Type 0} {P : Type 0} (is_good : 
   ReachesBefore (Some p) = is_good p × (rank p ≡ place) × (0 < count) × ((x : Item (AnyRange K) V) → x ≡ slice_index_or items place x → Lt (position_cmp order.cmp) (item_lower order x) (lower order r))
 
   -- the last of them ends after the range, or none of them does
-  abbrev pub ReachesBehind : Option P → Type 0
-  ReachesBehind None = (x : Item (AnyRange K) V) → 0 < count → x ≡ slice_index_or items (place + count - 1) x → Le (position_cmp order.cmp) (item_upper order x) (upper order r)
-  ReachesBehind (Some p) = is_good p × (rank p + 1 ≡ place + count) × (0 < count) × ((x : Item (AnyRange K) V) → x ≡ slice_index_or items (place + count - 1) x → Lt (position_cmp order.cmp) (upper order r) (item_upper order x))
+  abbrev pub ReachesAfter : Option P → Type 0
+  ReachesAfter None = (x : Item (AnyRange K) V) → 0 < count → x ≡ slice_index_or items (place + count - 1) x → Le (position_cmp order.cmp) (item_upper order x) (upper order r)
+  ReachesAfter (Some p) = is_good p × (rank p + 1 ≡ place + count) × (0 < count) × ((x : Item (AnyRange K) V) → x ≡ slice_index_or items (place + count - 1) x → Lt (position_cmp order.cmp) (upper order r) (item_upper order x))
 
 module _ {K : Type 0} (order : KeyOrder K) {V : Type 0} {P : Type 0} (is_good : P → Type 0) (rank : P → ℕ) (items : List (Item (AnyRange K) V)) (r : AnyRange K) (w : Window P) where
   -- the first item of the window, if it starts before the range
@@ -28,4 +28,4 @@ module _ {K : Type 0} (order : KeyOrder K) {V : Type 0} {P : Type 0} (is_good : 
 
   -- the last item of the window, if it ends after the range
   abbrev pub IsLastReaching : Option P → Type 0
-  IsLastReaching last = ReachesBehind order is_good rank items r (place_before rank (length items) w.from) w.count last
+  IsLastReaching last = ReachesAfter order is_good rank items r (place_before rank (length items) w.from) w.count last

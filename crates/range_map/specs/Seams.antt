@@ -52,7 +52,7 @@ module _ {K : Type 0} (order : KeyOrder K) {V : Type 0} (same : V → V → Bool
     pub run : IsAt is_good rank (length items) from (place + length (option_items first))
     pub valued : Every (λ j. HasValue order same (take count (drop place items)) j.value) (option_items rest)
 
-  -- nothing joins it from behind: `last` is cut
+  -- nothing joins it on the other side: `last` is cut
   pub record IsRightCutting (last : Option P) (edge : Edge K P) : Type 0 where
     pub upto : ℕ
     pub rest : Option (Item (AnyRange K) V)

@@ -11,7 +11,7 @@ ghost use Rattle.range_map.specs.Changes.{IsInserted};
 
 use crate::change::cut::cut_parts;
 use crate::change::edges::both_sides;
-use crate::change::reach::{reaching_before, reaching_behind, surrounding};
+use crate::change::reach::{reaching_after, reaching_before, surrounding};
 use crate::change::splice::{change, divide};
 use crate::change::window::{Window, find_window};
 use range_algebra::any::AnyRange;
@@ -108,7 +108,7 @@ pub(crate) fn bind<K: Measure + Clone, V: Eq + Clone, C: Storage<Item<AnyRange<K
 {
     let window = find_window::<K, V, C, AnyRange<K>>(stored, &range, steps);
     let first = reaching_before::<K, V, C, AnyRange<K>>(stored, &window, &range, steps);
-    let last = reaching_behind::<K, V, C, AnyRange<K>>(stored, &window, &range, steps);
+    let last = reaching_after::<K, V, C, AnyRange<K>>(stored, &window, &range, steps);
     match surrounding(window.count, first, last) {
         Some(p) => bind_within::<K, V, C>(stored, &window, p, range, value),
         None => {

@@ -41,7 +41,7 @@ pub(crate) fn reaching_before<
 }
 
 /// The last item that the range meets, if it ends after the range. A step, if there is one.
-pub(crate) fn reaching_behind<
+pub(crate) fn reaching_after<
     K: Measure,
     V: Eq + Drop,
     C: Storage<Item<AnyRange<K>, V>>,

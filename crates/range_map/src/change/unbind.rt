@@ -12,7 +12,7 @@ ghost use Rattle.range_map.specs.Changes.{IsRemoved};
 
 use crate::change::cut::cut_parts;
 use crate::change::edges::cut_edge;
-use crate::change::reach::{item_count, reaching_before, reaching_behind, run_start, surrounding};
+use crate::change::reach::{item_count, reaching_after, reaching_before, run_start, surrounding};
 use crate::change::splice::{clear, divide};
 use crate::change::window::{Window, find_window};
 use range_algebra::any::AnyRange;
@@ -108,7 +108,7 @@ fn unbind_met<
     ensures refused { OnErr result (C.items stored.new ≡ C.items stored.old) }
 {
     let first = reaching_before::<K, V, C, R>(stored, window, range, steps);
-    let last = reaching_behind::<K, V, C, R>(stored, window, range, steps);
+    let last = reaching_after::<K, V, C, R>(stored, window, range, steps);
     match surrounding(window.count, first, last) {
         Some(p) => unbind_within::<K, V, C, R>(stored, window, p, range),
         None => unbind_over::<K, V, C, R>(stored, window, first, last, range),

@@ -9,7 +9,7 @@ ghost use Rattle.range_keys.specs.Order.{IsComplete};
 ghost use Rattle.range_algebra.specs.declared.any.AnyRange.{AnyRange};
 ghost use Rattle.range_store.specs.declared.storage.Item.{Item};
 ghost use Rattle.range_map.specs.Bindings.{BindAlike};
-ghost use Rattle.range_map.specs.ListOrder.{same_item, same_list, item_cmp, list_cmp, list_input, lists_equivalence, lists_order, lists_tied, lists_fed};
+ghost use Rattle.range_map.specs.ListOrder.{same_item, same_list, item_cmp, list_cmp, CompareAlike, list_input, lists_equivalence, lists_order, lists_tied, lists_fed};
 ghost use Rattle.range_map.specs.Stored.{IsStored};
 
 use crate::map::RangeMap;
@@ -150,7 +150,7 @@ impl<K: PartialEnum, V: Ord + Drop, C: Storage<Item<AnyRange<K>, V>>> RangeMap<K
     ) -> Ordering
         ensures value { result ≡ list_cmp K.order V.cmp (C.items self.now) (D.items other.now) }
         ensures same { IsComplete K.order → result ≡ Equal ↔ BindAlike K.order V.eq (C.items self.now) (D.items other.now) }
-        ensures alike { IsComplete K.order → (items others : List (Item (AnyRange K) V)) → IsStored K.order V.eq items → IsStored K.order V.eq others → BindAlike K.order V.eq (C.items self.now) items → BindAlike K.order V.eq (D.items other.now) others → result ≡ list_cmp K.order V.cmp items others }
+        ensures alike { IsComplete K.order → CompareAlike K.order V.eq V.cmp (C.items self.now) (D.items other.now) result }
     {
         self.in_form();
         other.in_form();
@@ -200,7 +200,7 @@ impl<K: PartialEnum, V: Ord + Drop, C: Storage<Item<AnyRange<K>, V>>> Ord for Ra
     fn cmp(&self, other: &RangeMap<K, V, C>) -> Ordering
         ensures value { result ≡ list_cmp K.order V.cmp (C.items self.now) (C.items other.now) }
         ensures same { IsComplete K.order → result ≡ Equal ↔ BindAlike K.order V.eq (C.items self.now) (C.items other.now) }
-        ensures alike { IsComplete K.order → (items others : List (Item (AnyRange K) V)) → IsStored K.order V.eq items → IsStored K.order V.eq others → BindAlike K.order V.eq (C.items self.now) items → BindAlike K.order V.eq (C.items other.now) others → result ≡ list_cmp K.order V.cmp items others }
+        ensures alike { IsComplete K.order → CompareAlike K.order V.eq V.cmp (C.items self.now) (C.items other.now) result }
     {
         self.cmp_across(other)
     }

@@ -54,7 +54,7 @@ fn is_clear_before<K: PartialEnum, V: Eq + Drop, C: Storage<Item<AnyRange<K>, V>
 }
 
 /// Whether the item after a range, where there is one, lies apart from it.
-fn is_clear_behind<K: PartialEnum, V: Eq + Drop, C: Storage<Item<AnyRange<K>, V>>>(
+fn is_clear_after<K: PartialEnum, V: Eq + Drop, C: Storage<Item<AnyRange<K>, V>>>(
     stored: &C,
     from: Option<C::Position>,
     range: &AnyRange<K>,
@@ -82,9 +82,9 @@ fn find_gap<K: PartialEnum, V: Eq + Drop, C: Storage<Item<AnyRange<K>, V>>>(
     let mut steps = Steps::new();
     let (before, from) = find::<K, V, C>(stored, &start, &mut steps);
     let clear_before = is_clear_before::<K, V, C>(stored, before, range);
-    let clear_behind = is_clear_behind::<K, V, C>(stored, from, range);
+    let clear_after = is_clear_after::<K, V, C>(stored, from, range);
     Gap {
-        is_free: clear_before && clear_behind,
+        is_free: clear_before && clear_after,
         from,
     }
 }

@@ -16,7 +16,7 @@ ghost use Rattle.range_map.specs.declared.error.UpdateError.TheVariants.{Closure
 
 use crate::change::bind::bind_within;
 use crate::change::pieces::gather;
-use crate::change::reach::{reaching_before, reaching_behind, surrounding};
+use crate::change::reach::{reaching_after, reaching_before, surrounding};
 use crate::change::replace::replace;
 use crate::change::unbind::unbind_within;
 use crate::change::window::{Window, find_window};
@@ -93,7 +93,7 @@ fn update_pieces<
     let mut steps = Steps::new();
     let window = find_window::<K, V, C, AnyRange<K>>(stored, &range, &mut steps);
     let first = reaching_before::<K, V, C, AnyRange<K>>(stored, &window, &range, &mut steps);
-    let last = reaching_behind::<K, V, C, AnyRange<K>>(stored, &window, &range, &mut steps);
+    let last = reaching_after::<K, V, C, AnyRange<K>>(stored, &window, &range, &mut steps);
     if let Some(p) = surrounding(window.count, first, last) {
         return update_within(stored, &window, p, range, f);
     }

@@ -9,7 +9,7 @@ use Rattle.range_map.specs.Window.{option_items}
 use Rattle.range_map.proofs.Lengths.{one_item, changed_length, left_length, right_length, run_ends, joins_fit, few_rest, begins_within, le_of, bound_size}
 use Rattle.range_map.proofs.Openings.{left_kept, right_kept, left_good, right_good, upto_end}
 use Rattle.range_map.proofs.Framing.{gave_way, all_meet}
-use Rattle.range_map.proofs.Edging.{inserted}
+use Rattle.range_map.proofs.Edging.{edges_insert}
 use Rattle.range_map.proofs.change.bind.bind_over.Goals as goal
 
 pub change-requires-clause-left : goal.change-requires-clause-left
@@ -96,7 +96,7 @@ returns g c =
     let right_is = right_length (storage.is_good stored) (storage.rank stored) items sides.right right.upto right.end right.rest right.finish right.shape in
     let size = changed_length items (storage.items c.change.new.stored) (option_items left.rest) (option_items (Some item)) (option_items right.rest) left.at right.end (begins_within left.at (length (option_items left.rest)) left.begin (joined_count sides.left) place (length (option_items c.args.first)) (length (option_items c.args.last)) w.count (length items) left_is left.begins c.requires.apart c.requires.window.in_range) right.side.in_range made in
     record {
-      ok = inserted order g.met.K.PartialEnum.lawful g.V.PartialEq.eq g.met.V.Eq.laws (storage.is_good stored) (storage.rank stored) items c.args.item.key w place c.requires.stored c.known.ensures c.requires.nonempty c.requires.window (storage.items c.change.new.stored) c.args.item.value item left.at right.end left.rest right.rest left.start right.finish left.side right.side refl refl (g.met.V.Eq.laws.refl c.args.item.value) frame made;
+      ok = edges_insert order g.met.K.PartialEnum.lawful g.V.PartialEq.eq g.met.V.Eq.laws (storage.is_good stored) (storage.rank stored) items c.args.item.key w place c.requires.stored c.known.ensures c.requires.nonempty c.requires.window (storage.items c.change.new.stored) c.args.item.value item left.at right.end left.rest right.rest left.start right.finish left.side right.side refl refl (g.met.V.Eq.laws.refl c.args.item.value) frame made;
       few = bound_size (length (storage.items c.change.new.stored)) right.end left.at (length (option_items left.rest)) (length (option_items right.rest)) (length items) left.begin place (length (option_items c.args.first)) (joined_count sides.left) right.upto (length (option_items c.args.last)) w.count (joined_count sides.right) size left_is right_is left.begins right.ends c.requires.apart (one_item c.args.first) (one_item c.args.last);
       counted = c.both_sides.ensures.counted;
       refused = tt;

@@ -8,7 +8,7 @@ use Rattle.range_map.proofs.Lengths.{changed_length, le_of, le_sum, two_more}
 use Rattle.range_map.proofs.Openings.{standing}
 use Rattle.range_map.proofs.Framing.{gave_way, all_meet}
 use Rattle.range_map.proofs.Planning.{left_frame_inside, left_frame_cut, right_frame_inside, right_frame_cut}
-use Rattle.range_map.proofs.Edging.{inserted, left_edge_inside, right_edge_inside, left_rest_cut, right_rest_cut, left_edge_rest, right_edge_rest}
+use Rattle.range_map.proofs.Edging.{edges_insert, left_edge_inside, right_edge_inside, left_rest_cut, right_rest_cut, left_edge_rest, right_edge_rest}
 use Rattle.range_map.proofs.change.bind.bind_within.Goals as goal
 
 pub returns-then-joins-clause-ok : goal.returns-then-joins-clause-ok
@@ -35,7 +35,7 @@ returns-then-joins-clause-ok g c =
     let right = right_edge_inside order lawful same equal (storage.is_good stored) (storage.rank stored) items r w place c.requires.stored c.known.ensures c.requires.nonempty c.requires.window c.args.value x here_end last.2 (last.3 x here_end) values in
     let list = standing items place (place + w.count) x (omega (arith, c.requires.window.in_range, first.2)) here one in
     let frame = gave_way order lawful same equal (storage.is_good stored) (storage.rank stored) items r w place c.requires.stored c.known.ensures c.requires.window items c.args.value x place (place + w.count) None None (Some x.key.start) (Some x.key.end) (all_meet order lawful same equal (storage.is_good stored) (storage.rank stored) items r w place c.requires.stored c.known.ensures c.requires.window) (left_frame_inside order lawful same equal (storage.is_good stored) (storage.rank stored) items r w place c.requires.stored c.known.ensures c.requires.nonempty c.requires.window c.args.value x here first.2) (right_frame_inside order lawful same equal (storage.is_good stored) (storage.rank stored) items r w place c.requires.stored c.known.ensures c.requires.nonempty c.requires.window c.args.value x here_end last.2) (omega arith) refl refl values (λ e. absurd (omega (arith, c.requires.one, e))) list in
-    inserted order lawful same equal (storage.is_good stored) (storage.rank stored) items r w place c.requires.stored c.known.ensures c.requires.nonempty c.requires.window items c.args.value x place (place + w.count) None None (Some x.key.start) (Some x.key.end) left right refl refl values frame list
+    edges_insert order lawful same equal (storage.is_good stored) (storage.rank stored) items r w place c.requires.stored c.known.ensures c.requires.nonempty c.requires.window items c.args.value x place (place + w.count) None None (Some x.key.start) (Some x.key.end) left right refl refl values frame list
 
 pub returns : goal.returns
 returns g c =
@@ -77,7 +77,7 @@ returns g c =
     let frame = gave_way order lawful same equal (storage.is_good stored) (storage.rank stored) items r w place c.requires.stored c.known.ensures c.requires.window (storage.items c.divide.new.stored) c.args.value item place (place + w.count) (Some (with_end x end)) (Some behind) None None (all_meet order lawful same equal (storage.is_good stored) (storage.rank stored) items r w place c.requires.stored c.known.ensures c.requires.window) (left_frame_cut order lawful same equal (storage.is_good stored) (storage.rank stored) items r w place c.requires.stored c.known.ensures c.requires.nonempty c.requires.window c.args.value x here first.2 end end_turned values) (right_frame_cut order lawful same equal (storage.is_good stored) (storage.rank stored) items r w place c.requires.stored c.known.ensures c.requires.nonempty c.requires.window c.args.value x here_end last.2 start copy start_turned copied other) (omega (arith, c.requires.one)) refl refl (equal.refl c.args.value) (λ e. refl) made in
     let size = changed_length items (storage.items c.divide.new.stored) (option_items (Some (with_end x end))) (option_items (Some item)) (option_items (Some behind)) place (place + w.count) (le_of place (place + w.count) (length items) (le_sum place w.count) c.requires.window.in_range) c.requires.window.in_range made in
     record {
-      ok = inserted order lawful same equal (storage.is_good stored) (storage.rank stored) items r w place c.requires.stored c.known.ensures c.requires.nonempty c.requires.window (storage.items c.divide.new.stored) c.args.value item place (place + w.count) (Some (with_end x end)) (Some behind) None None left right refl refl (equal.refl c.args.value) frame made;
+      ok = edges_insert order lawful same equal (storage.is_good stored) (storage.rank stored) items r w place c.requires.stored c.known.ensures c.requires.nonempty c.requires.window (storage.items c.divide.new.stored) c.args.value item place (place + w.count) (Some (with_end x end)) (Some behind) None None left right refl refl (equal.refl c.args.value) frame made;
       few = two_more (length (storage.items c.divide.new.stored)) place w.count (length items) c.requires.one size;
       refused = tt;
     }

@@ -9,7 +9,7 @@ use Rattle.range_map.specs.Edits.{turned_bound}
 use Rattle.range_map.specs.Seams.{seam_edge}
 use Rattle.range_map.proofs.Framing.{all_meet}
 use Rattle.range_map.proofs.Openings.{left_kept, right_kept, left_good, right_good}
-use Rattle.range_map.proofs.Replaced.{IsReplacement, planned, replaced}
+use Rattle.range_map.proofs.Replaced.{IsReplacement, plans_replacement, replacement_is_made}
 use Rattle.range_map.proofs.Seaming.{seam_count}
 use Rattle.range_map.proofs.change.replace.replace.Given.{Over}
 use Rattle.range_map.proofs.change.replace.replace.Goals.{After-item_count-3}
@@ -36,7 +36,7 @@ plan g c =
     let from = c.run_start-from.result in
     let is_first = c.first.ensures.value ∙ ap (λ xs. slice_get xs 0) c.deref.ensures.value in
     let is_last = c.last.ensures.value ∙ ap (λ xs. slice_get xs (length xs - 1)) c.deref-2.ensures.value in
-    planned order lawful equal_values equal (storage.is_good stored) (storage.rank stored) items r place w.count middle first last joined other from (option_copied c.first.result) (option_copied c.last.result) c.requires.stored c.requires.middle c.requires.within c.known.ensures c.requires.nonempty c.requires.window.in_range c.requires.apart is_first is_last c.run_start-from.ensures (c.joined_left-before.ensures lawful equal) (c.joined_right-behind.ensures lawful equal)
+    plans_replacement order lawful equal_values equal (storage.is_good stored) (storage.rank stored) items r place w.count middle first last joined other from (option_copied c.first.result) (option_copied c.last.result) c.requires.stored c.requires.middle c.requires.within c.known.ensures c.requires.nonempty c.requires.window.in_range c.requires.apart is_first is_last c.run_start-from.ensures (c.joined_left-before.ensures lawful equal) (c.joined_right-behind.ensures lawful equal)
 
 pub overflow_add-count : goal.overflow_add-count
 overflow_add-count g c =
@@ -159,7 +159,7 @@ returns-clause-ok g c =
     let joins_behind = ap joined_count behind_is ∙ seam_count other last (turned_bound r.end) in
     let done = c.change_to.ensures left.at right.end left.rest right.rest left.start right.finish on_left on_right (omega (arith, joins, joins_behind, c.item_count-3.ensures, c.item_count-4.ensures)) in
     let met = all_meet order lawful equal_values equal (storage.is_good stored) (storage.rank stored) items r w place c.requires.stored c.known.ensures c.requires.window in
-    replaced order lawful equal_values equal (storage.is_good stored) (storage.rank stored) items r place w.count (storage.items c.change_to.new.stored) middle first last edge edge_behind (option_or joined from) c.requires.stored c.requires.middle c.known.ensures met left right (rw same at done)
+    replacement_is_made order lawful equal_values equal (storage.is_good stored) (storage.rank stored) items r place w.count (storage.items c.change_to.new.stored) middle first last edge edge_behind (option_or joined from) c.requires.stored c.requires.middle c.known.ensures met left right (rw same at done)
 
 pub change_to-requires-clause-space : goal.change_to-requires-clause-space
 change_to-requires-clause-space g c = grind (arith, common_steps)

@@ -1,6 +1,6 @@
 use Rattle.std.proofs.Common.{◌<◌, length, arith}
 use Rattle.range_store.specs.Places.{place_before}
-use Rattle.range_map.proofs.CutOut.{unmet}
+use Rattle.range_map.proofs.CutOut.{unmet_is_unbound}
 use Rattle.range_map.proofs.Framing.{none_meets, some_meets, not_cut}
 use Rattle.range_map.proofs.change.unbind.unbind.Goals as goal
 
@@ -14,7 +14,7 @@ returns-then-window-eq0-clause-ok g c =
       stored = c.requires.stored;
       apart = none_meets g.K.MaybeBounded.order g.met.K.PartialEnum.lawful g.V.PartialEq.eq g.met.V.Eq.laws (storage.is_good stored) (storage.rank stored) items (g.R.AsRange.range c.args.range.now) w (place_before (storage.rank stored) (length items) w.from) c.requires.stored c.known_range.ensures c.find_window-window.ensures.window c.if-window-eq0.true;
       frame = not_cut g.K.MaybeBounded.order g.met.K.PartialEnum.lawful g.V.PartialEq.eq g.met.V.Eq.laws (storage.is_good stored) (storage.rank stored) items (g.R.AsRange.range c.args.range.now) w (place_before (storage.rank stored) (length items) w.from) c.requires.stored c.known_range.ensures c.find_window-window.ensures.window;
-      unbound = unmet g.K.MaybeBounded.order g.met.K.PartialEnum.lawful g.V.PartialEq.eq g.met.V.Eq.laws (storage.is_good stored) (storage.rank stored) items (g.R.AsRange.range c.args.range.now) w (place_before (storage.rank stored) (length items) w.from) c.requires.stored c.known_range.ensures c.requires.nonempty c.find_window-window.ensures.window c.if-window-eq0.true;
+      unbound = unmet_is_unbound g.K.MaybeBounded.order g.met.K.PartialEnum.lawful g.V.PartialEq.eq g.met.V.Eq.laws (storage.is_good stored) (storage.rank stored) items (g.R.AsRange.range c.args.range.now) w (place_before (storage.rank stored) (length items) w.from) c.requires.stored c.known_range.ensures c.requires.nonempty c.find_window-window.ensures.window c.if-window-eq0.true;
     }
 
 pub returns-clause-unmet : goal.returns-clause-unmet

@@ -5,7 +5,7 @@ use Rattle.range_map.specs.Edges.{IsLeftShape, IsRightShape, joined_count, edge_
 use Rattle.range_map.specs.Window.{option_items}
 use Rattle.range_map.proofs.Framing.{cut_way}
 use Rattle.range_map.proofs.Lengths.{one_item, changed_length}
-use Rattle.range_map.proofs.Edging.{removed}
+use Rattle.range_map.proofs.Edging.{edges_remove}
 use Rattle.range_map.proofs.Openings.{cut_joins_none}
 use Rattle.range_map.proofs.Planning.{left_cut_plan, right_cut_plan}
 use Rattle.range_map.proofs.change.unbind.unbind_over.Goals as goal
@@ -47,7 +47,7 @@ returns g c =
     let frame = cut_way order lawful same equal (storage.is_good stored) (storage.rank stored) items r w place c.requires.stored c.known_range.ensures c.requires.window (storage.items c.clear.new.stored) left.rest right.rest c.requires.some left.made right.made left.few right.few done in
     let size = changed_length items (storage.items c.clear.new.stored) (option_items left.rest) [] (option_items right.rest) place (place + w.count) (omega (arith, c.requires.window.in_range)) c.requires.window.in_range done in
     record {
-      ok = removed order lawful same equal (storage.is_good stored) (storage.rank stored) items r w place c.requires.stored c.known_range.ensures c.requires.nonempty c.requires.window (storage.items c.clear.new.stored) place (place + w.count) left.rest right.rest left.side right.side frame done;
+      ok = edges_remove order lawful same equal (storage.is_good stored) (storage.rank stored) items r w place c.requires.stored c.known_range.ensures c.requires.nonempty c.requires.window (storage.items c.clear.new.stored) place (place + w.count) left.rest right.rest left.side right.side frame done;
       few = omega (arith, size, one_item left.rest, one_item right.rest, c.requires.some);
       refused = tt;
     }

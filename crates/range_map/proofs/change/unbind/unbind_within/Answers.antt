@@ -7,7 +7,7 @@ use Rattle.range_map.specs.Window.{option_items}
 use Rattle.range_map.proofs.Framing.{cut_way}
 use Rattle.range_map.proofs.Lengths.{changed_length, le_of, le_sum, one_more}
 use Rattle.range_map.proofs.Planning.{left_part, right_part}
-use Rattle.range_map.proofs.Edging.{element, element_is, removed, left_rest_cut, right_rest_cut}
+use Rattle.range_map.proofs.Edging.{element, element_is, edges_remove, left_rest_cut, right_rest_cut}
 use Rattle.range_map.proofs.change.unbind.unbind_within.Goals as goal
 
 pub returns : goal.returns
@@ -50,7 +50,7 @@ returns g c =
     let frame = cut_way order lawful same equal (storage.is_good stored) (storage.rank stored) items r w place c.requires.stored c.known_range.ensures c.requires.window (storage.items c.divide.new.stored) (Some (with_end x end)) (Some behind) first.2 (left_part order lawful same equal (storage.is_good stored) (storage.rank stored) items r w place c.requires.stored c.known_range.ensures c.requires.nonempty c.requires.window x here first.2 end end_turned, tt) (right_part order lawful same equal (storage.is_good stored) (storage.rank stored) items r w place c.requires.stored c.known_range.ensures c.requires.nonempty c.requires.window x here_end last.2 start copy start_turned copied, tt) (omega arith) (omega arith) made in
     let size = changed_length items (storage.items c.divide.new.stored) (option_items (Some (with_end x end))) [] (option_items (Some behind)) place (place + w.count) (le_of place (place + w.count) (length items) (le_sum place w.count) c.requires.window.in_range) c.requires.window.in_range made in
     record {
-      ok = removed order lawful same equal (storage.is_good stored) (storage.rank stored) items r w place c.requires.stored c.known_range.ensures c.requires.nonempty c.requires.window (storage.items c.divide.new.stored) place (place + w.count) (Some (with_end x end)) (Some behind) left right frame made;
+      ok = edges_remove order lawful same equal (storage.is_good stored) (storage.rank stored) items r w place c.requires.stored c.known_range.ensures c.requires.nonempty c.requires.window (storage.items c.divide.new.stored) place (place + w.count) (Some (with_end x end)) (Some behind) left right frame made;
       few = one_more (length (storage.items c.divide.new.stored)) place w.count (length items) c.requires.one size;
       refused = tt;
     }

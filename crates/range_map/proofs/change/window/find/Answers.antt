@@ -1,10 +1,10 @@
 use Rattle.std.proofs.Common.{◌+◌, refl}
 use Rattle.range_keys.specs.Directed.{reference_position}
-use Rattle.range_map.proofs.Found.{partitioned, found_at}
+use Rattle.range_map.proofs.Found.{found_partitions, found_at}
 use Rattle.range_map.proofs.change.window.find.Goals as goal
 
 pub search-found-requires : goal.search-found-requires
-search-found-requires g c = partitioned g.K.MaybeBounded.order g.met.K.PartialEnum.lawful g.V.PartialEq.eq (g.C.Storage.items c.args.stored.now) (reference_position g.K.MaybeBounded.order c.args.bound.now) c.requires
+search-found-requires g c = found_partitions g.K.MaybeBounded.order g.met.K.PartialEnum.lawful g.V.PartialEq.eq (g.C.Storage.items c.args.stored.now) (reference_position g.K.MaybeBounded.order c.args.bound.now) c.requires
 
 pub returns-in-None-clause-found : goal.returns-in-None-clause-found
 returns-in-None-clause-found g c =

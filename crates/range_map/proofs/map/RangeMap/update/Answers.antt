@@ -11,7 +11,7 @@ use Rattle.range_map.specs.Frames.{StandOrMerge}
 use Rattle.range_map.specs.Rebinding.{AreRebound}
 use Rattle.range_map.proofs.Merging.{unchanged_stands}
 use Rattle.range_map.proofs.Updating.{updated_stands}
-use Rattle.range_map.proofs.Rebinding.{rebound, none_rebound}
+use Rattle.range_map.proofs.Rebinding.{update_rebinds, none_rebound}
 use Rattle.range_map.proofs.StoredLists.{stored_coarse, stored_only}
 use Rattle.range_map.proofs.map.RangeMap.update.Goals as goal
 
@@ -62,7 +62,7 @@ returns-clause-rebound g c =
     let items = g.C.Storage.items c.self.inside.stored in
     let new = g.C.Storage.items c.update_pieces.new.stored in
     let same = g.V.PartialEq.eq in
-    rw (← c.self.view_is) (on_ok (IsUpdated order same g.F.Fn c.args.f items new s) (AreRebound order same (MayAnswer g.F.Fn c.args.f) items new r) c.update_pieces.result (λ h. rebound order lawful same g.met.V.Eq.laws g.F.Fn c.args.f items new r (updated_too order lawful r s start end same g.F.Fn c.args.f items new h)) c.update_pieces.ensures.ok)
+    rw (← c.self.view_is) (on_ok (IsUpdated order same g.F.Fn c.args.f items new s) (AreRebound order same (MayAnswer g.F.Fn c.args.f) items new r) c.update_pieces.result (λ h. update_rebinds order lawful same g.met.V.Eq.laws g.F.Fn c.args.f items new r (updated_too order lawful r s start end same g.F.Fn c.args.f items new h)) c.update_pieces.ensures.ok)
 
 pub returns-clause-kept : goal.returns-clause-kept
 returns-clause-kept g c =
