@@ -6,7 +6,7 @@ use Rattle.range_algebra.specs.declared.any.AnyRange.{AnyRange}
 use Rattle.range_store.specs.declared.storage.Item.{Item}
 use Rattle.range_sets.specs.Calls.{Call, Inserted, Removed, Refused, IsInsertion, IsOn, HasNoneOn, WasInserted, IsCallBetween, AreCallsBetween}
 use Rattle.range_sets.specs.Pairs.{HasPair}
-use Rattle.range_sets.proofs.Membership.{held_or_not}
+use Rattle.range_algebra.proofs.Meeting.{held_or_not}
 
 is_true_or_not : (b : Bool) → IsTrue b ⊎ (¬ IsTrue b)
 is_true_or_not true = inl refl

@@ -7,6 +7,7 @@ use Rattle.std.specs.declared.ops.Bound.TheVariants.{Unbounded}
 use Rattle.std.specs.Ordering.{is_gt, is_eq, eq_by_cmp}
 use Rattle.range_keys.specs.Order.{KeyOrder, IsLawful}
 use Rattle.range_keys.specs.Position.{start_position, end_position, position_cmp}
+use Rattle.range_keys.proofs.Orderings.{not_both_greater_and_not}
 use Rattle.range_algebra.specs.declared.any.AnyRange.{AnyRange}
 use Rattle.range_algebra.specs.Chains.{every_weaker}
 use Rattle.range_algebra.specs.Intervals.{Any, Every}
@@ -24,11 +25,6 @@ use Rattle.range_sets.specs.Complements.{EqualGapsOf}
 use Rattle.range_sets.specs.KeySets.{IsStoredSet}
 use Rattle.range_sets.proofs.Enclosing.{inside}
 use Rattle.range_sets.proofs.Matching.{equal_within, overlap_within, row_pairs, InSome, only, matched}
-
-not_past : (o : Ordering) → is_gt o ≡ false → o ≡ Greater → ⊥
-not_past Less h e = cc
-not_past Equal h e = cc
-not_past Greater h e = cc
 
 both_so : (s t : Bool) → s ≡ true → t ≡ true → (s && t) ≡ true
 both_so s t e f = rw (e, f) refl
@@ -115,7 +111,7 @@ module _ {K : Type 0} (order : KeyOrder K) (lawful : IsLawful order) where
     item_free : (i : Stored) → IsFull order lawful i.key → Every (λ j. ¬ Overlap order j.key i.key) others → IsFree i.key
     item_free i full missed = record {
       known = full.0;
-      nonempty = not_past (position_cmp order.cmp (start_position order i.key.start) (end_position order i.key.end)) full.1;
+      nonempty = not_both_greater_and_not (position_cmp order.cmp (start_position order i.key.start) (end_position order i.key.end)) full.1;
       within = record { starts = unbounded_start order lawful i.key.start full.0.0; ends = ends_full order lawful i.key.end full.0.1 };
       free = missed;
     }

@@ -8,6 +8,7 @@ use Rattle.range_keys.specs.Order.{KeyOrder, IsLawful}
 use Rattle.range_keys.specs.Position.{start_position, end_position, position_cmp}
 use Rattle.range_keys.specs.PositionOrder.{position_total}
 use Rattle.range_keys.specs.declared.inner.position.Position.{Position}
+use Rattle.range_keys.proofs.Orderings.{less_or_not, not_both_greater_and_not}
 use Rattle.range_algebra.specs.Cuts.{upper}
 use Rattle.range_algebra.specs.Intervals.{Le, Every}
 use Rattle.range_algebra.specs.Orders.{le_refl, lt_le, le_trans, lt_not_le}
@@ -23,16 +24,6 @@ use Rattle.range_map.specs.Stored.{IsStored}
 use Rattle.range_map.proofs.Forms.{before_is, nonempty_good, touches_is}
 use Rattle.range_map.proofs.Listed.{IsListed, listed, stored_by, not_greater}
 use Rattle.range_sets.specs.KeySets.{IsStoredSet}
-
-less_or_not : (o : Ordering) → (o ≡ Less) ⊎ (o ≡ Less → ⊥)
-less_or_not Less = inl refl
-less_or_not Equal = inr (λ h. cc)
-less_or_not Greater = inr (λ h. cc)
-
-not_past : (o : Ordering) → is_gt o ≡ false → o ≡ Greater → ⊥
-not_past Less h e = cc
-not_past Equal h e = cc
-not_past Greater h e = cc
 
 -- the ranges as the items of a set
 abbrev pub set_items : {K : Type 0} → List (AnyRange K) → List (Item (AnyRange K) (Unit {0}))
@@ -101,7 +92,7 @@ module _ {K : Type 0} (order : KeyOrder K) (lawful : IsLawful order) where
         let ends : PLe (End g) (End h) = le_trans cmp total (End g) (Start h) (End h) (lt_le cmp total (End g) (Start h) before) within_h in
         let wide : IsFreePart order items full_range (joint g h) = record {
           known = (piece.0.known.0, other.0.known.1);
-          nonempty = not_past (cmp (Start g) (End h)) (le_trans cmp total (Start g) (End g) (End h) within_g ends);
+          nonempty = not_both_greater_and_not (cmp (Start g) (End h)) (le_trans cmp total (Start g) (End g) (End h) within_g ends);
           within = record { starts = piece.0.within.starts; ends = other.0.within.ends };
           free = all_missed items g h full piece.0.known other.0.known other.0.nonempty before touching piece.0.free other.0.free;
         } in

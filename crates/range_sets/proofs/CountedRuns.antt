@@ -3,6 +3,7 @@ use Rattle.std.proofs.Common.{◌≡◌, refl, ℕ, ◌+◌, ◌*◌, ◌^◌, �
 use Rattle.std.specs.Prelude.{Option, Result, Ok, Err, IfOk, OnErr}
 use Rattle.range_keys.specs.Order.{KeyOrder}
 use Rattle.range_keys.specs.Position.{position_cmp, start_position, end_position}
+use Rattle.range_keys.proofs.Orderings.{greater_or_not}
 use Rattle.range_algebra.specs.Range.{IsEmptyRange}
 use Rattle.range_algebra.specs.declared.any.AnyRange.{AnyRange}
 use Rattle.range_store.specs.Holding.{box_items, box_levels}
@@ -19,7 +20,6 @@ use Rattle.range_sets.specs.declared.command.Command.TheVariants.{Insert, Insert
 use Rattle.range_sets.specs.declared.command.Reply.{Reply}
 use Rattle.range_sets.specs.declared.command.Reply.TheVariants.{Done, Memory, Connected, Closure, Value, Truth, Count as Counted}
 use Rattle.range_sets.proofs.FewRanges.{two_more, few_more}
-use Rattle.range_sets.proofs.Histories.{is_greater}
 
 pub if_ok_then : {A E : Type 0} {P Q : A → Type 0} (r : Result A E) → IfOk r P → ((x : A) → P x → Q x) → IfOk r Q
 if_ok_then (Ok x) h f = f x h
@@ -51,7 +51,7 @@ list_or_not items =
 
 module _ {K : Type 0} (order : KeyOrder K) where
   empty_or_not : (r : AnyRange K) → IsEmptyRange order r ⊎ (¬ IsEmptyRange order r)
-  empty_or_not r = is_greater (position_cmp order.cmp (start_position order r.start) (end_position order r.end))
+  empty_or_not r = greater_or_not (position_cmp order.cmp (start_position order r.start) (end_position order r.end))
 
   -- the range is nonempty and the list is not empty, or not
   range_or_not : {V : Type 0} (items : List (Item (AnyRange K) V)) (r : AnyRange K) → ((¬ IsEmptyRange order r) × (0 < length items)) ⊎ (¬ ((¬ IsEmptyRange order r) × (0 < length items)))

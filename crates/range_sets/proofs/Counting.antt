@@ -2,11 +2,11 @@
 use Rattle.std.proofs.Common.{◌≡◌, ◌≤◌, ◌+◌, refl, ap, arith, true, IsTrue, inl, inr, List, [], ◌∷◌, ◌++◌, length, length-append, Result, Ok, Err, OnOk, OnErr}
 use Rattle.range_keys.specs.Order.{KeyOrder}
 use Rattle.range_keys.specs.Position.{start_position, end_position, position_cmp}
+use Rattle.range_keys.proofs.Orderings.{greater_or_not}
 use Rattle.range_algebra.specs.Intervals.{Every}
 use Rattle.range_algebra.specs.Range.{IsEmptyRange}
 use Rattle.range_algebra.specs.declared.any.AnyRange.{AnyRange}
 use Rattle.range_store.specs.declared.storage.Item.{Item}
-use Rattle.range_sets.proofs.Histories.{is_greater}
 use Rattle.range_map.specs.Frames.{GaveWayTo}
 
 module _ {K : Type 0} (order : KeyOrder K) where
@@ -23,7 +23,7 @@ module _ {K : Type 0} (order : KeyOrder K) where
 
   pub one_more : {E : Type 0} (result : Result (Unit {0}) E) (items new : Items) (r : AnyRange K) → OnOk result (¬ IsEmptyRange order r → GaveWayTo order (λ _ _. true) items new r tt) → OnErr result (new ≡ items) → (IsEmptyRange order r → new ≡ items) → length new ≤ length items + 1
   one_more (Err e) items new r frame refused empty = omega (arith, ap length refused)
-  one_more (Ok x) items new r frame refused empty = elim (is_greater (position_cmp order.cmp (start_position order r.start) (end_position order r.end))) [
+  one_more (Ok x) items new r frame refused empty = elim (greater_or_not (position_cmp order.cmp (start_position order r.start) (end_position order r.end))) [
     | inl h ↦ omega (arith, ap length (empty h))
     | inr h ↦ one_for_all items new r (frame h)
   ]

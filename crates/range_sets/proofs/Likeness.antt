@@ -6,6 +6,7 @@ use Rattle.std.specs.Ordering.{eq_by_cmp, ordering_then}
 use Rattle.std.specs.declared.cmp.Ordering.{Ordering}
 use Rattle.std.specs.declared.cmp.Ordering.TheVariants.{Less, Equal, Greater}
 use Rattle.range_keys.specs.Order.{KeyOrder}
+use Rattle.range_keys.proofs.Orderings.{any_then_equal}
 use Rattle.range_algebra.specs.RangeOrder.{range_cmp, range_input}
 use Rattle.range_algebra.specs.declared.any.AnyRange.{AnyRange}
 use Rattle.range_store.specs.declared.storage.Item.{Item}
@@ -20,11 +21,6 @@ use Rattle.range_sets.proofs.Ranges.{ranges_length}
 and_true : (b : Bool) → (b && true) ≡ b
 and_true true = refl
 and_true false = refl
-
-then_equal : (o : Ordering) → ordering_then o Equal ≡ o
-then_equal Less = refl
-then_equal Equal = refl
-then_equal Greater = refl
 
 module _ {K : Type 0} (order : KeyOrder K) where
   abbrev Items : Type 0
@@ -44,7 +40,7 @@ module _ {K : Type 0} (order : KeyOrder K) where
   compared_sets [] [] = refl
   compared_sets [] (j ∷ others) = refl
   compared_sets (i ∷ items) [] = refl
-  compared_sets (i ∷ items) (j ∷ others) = λ n. ordering_then (then_equal (range_cmp order i.key j.key) n) (compared_sets items others n)
+  compared_sets (i ∷ items) (j ∷ others) = λ n. ordering_then (any_then_equal (range_cmp order i.key j.key) n) (compared_sets items others n)
 
   module _ (key_input : K → List (List ℕ)) where
     each_input : (items : Items) → flat_map (item_input order key_input (λ _. [])) items ≡ flat_map (range_input order key_input) (item_ranges items)

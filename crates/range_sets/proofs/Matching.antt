@@ -8,6 +8,7 @@ use Rattle.range_keys.specs.Order.{KeyOrder, IsLawful}
 use Rattle.range_keys.specs.Position.{start_position, end_position, position_cmp}
 use Rattle.range_keys.specs.PositionOrder.{position_total}
 use Rattle.range_keys.specs.declared.inner.position.Position.{Position}
+use Rattle.range_keys.proofs.Orderings.{both_equal, equal_then_equal}
 use Rattle.range_algebra.specs.declared.any.AnyRange.{AnyRange}
 use Rattle.range_algebra.specs.Chains.{every_weaker}
 use Rattle.range_algebra.specs.Intervals.{Le, Lt, Any, Every}
@@ -18,14 +19,6 @@ use Rattle.range_map.specs.Neighbours.{EachNext}
 use Rattle.range_map.specs.Pieces.{LiesIn}
 use Rattle.range_map.specs.Ranges.{Overlap}
 use Rattle.range_map.proofs.FreeParts.{Pairs, IsFull}
-
-then_equal : (o p : Ordering) → o ≡ Equal → p ≡ Equal → ordering_then o p ≡ Equal
-then_equal o p e f = rw (e, f) refl
-
-both_equal : (o p : Ordering) → ordering_then o p ≡ Equal → (o ≡ Equal) × (p ≡ Equal)
-both_equal Less p h = cc
-both_equal Equal p h = (refl, h)
-both_equal Greater p h = cc
 
 module _ {K : Type 0} (order : KeyOrder K) (lawful : IsLawful order) where
   abbrev PLe : Position K → Position K → Type 0
@@ -44,7 +37,7 @@ module _ {K : Type 0} (order : KeyOrder K) (lawful : IsLawful order) where
   same_range r s h k =
       let total = position_total order.cmp lawful.total in
       let cmp = position_cmp order.cmp in
-      then_equal (cmp (Start r) (Start s)) (cmp (End r) (End s)) (both cmp total (Start r) (Start s) k.starts h.starts) (both cmp total (End r) (End s) h.ends k.ends)
+      equal_then_equal (cmp (Start r) (Start s)) (cmp (End r) (End s)) (both cmp total (Start r) (Start s) k.starts h.starts) (both cmp total (End r) (End s) h.ends k.ends)
 
   pub equal_within : (r s : AnyRange K) → range_cmp order r s ≡ Equal → LiesIn order r s × LiesIn order s r
   equal_within r s e =

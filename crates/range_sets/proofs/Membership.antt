@@ -3,7 +3,7 @@ use Rattle.std.proofs.Common.{refl, ◌↔◌, ◌⊎◌, inl, inr, Bool, IsTrue
 use Rattle.range_keys.specs.Order.{KeyOrder, IsLawful}
 use Rattle.range_algebra.specs.Range.{Holds}
 use Rattle.range_algebra.specs.declared.any.AnyRange.{AnyRange}
-use Rattle.range_algebra.proofs.Pieces.{start_decided, end_decided}
+use Rattle.range_algebra.proofs.Meeting.{held_or_not}
 use Rattle.range_store.specs.declared.storage.Item.{Item}
 use Rattle.range_map.specs.Bindings.{IsBound, BindsTo, IsBoundAfter, IsUnboundAfter}
 use Rattle.range_sets.specs.KeySets.{HoldsKey, SomeHolds, HoldsAlso, HoldsWithout, HoldsAllAlso, HoldsAllOf}
@@ -13,12 +13,6 @@ module _ {K : Type 0} (order : KeyOrder K) where
   Items = List (Item (AnyRange K) (Unit {0}))
 
   module _ (lawful : IsLawful order) where
-    pub held_or_not : (r : AnyRange K) (k : K) → Holds order r k ⊎ (¬ Holds order r k)
-    held_or_not r k = elim (start_decided order lawful r.start k) [
-      | inr out ↦ inr (λ h. out h.0)
-      | inl starts ↦ elim (end_decided order lawful r.end k) [ inr out ↦ inr (λ h. out h.1) | inl ends ↦ inl (starts, ends) ]
-    ]
-
     module _ (same : Unit {0} → Unit {0} → Bool) (all_same : (v w : Unit {0}) → IsTrue (same v w)) where
       -- every bound key is bound to the one value
       bound_to : (items : Items) (k : K) → IsBound order items k → BindsTo order same items k tt
@@ -36,8 +30,8 @@ module _ {K : Type 0} (order : KeyOrder K) where
             λ b. is_bound after k ((h.others k key out (Some tt)).1 (bound_to before k b)),
           ) in
           let new : Holds order r k → HoldsKey order after k = λ held. is_bound after k ((h.held k key held (Some tt)).1 (all_same tt tt)) in (
-            λ b. elim (held_or_not r k) [ inl held ↦ inr held | inr out ↦ inl ((old out).0 b) ],
-            λ b. elim (held_or_not r k) [ inl held ↦ new held | inr out ↦ elim b [ inl was ↦ (old out).1 was | inr held ↦ absurd (out held) ] ],
+            λ b. elim (held_or_not order lawful r k) [ inl held ↦ inr held | inr out ↦ inl ((old out).0 b) ],
+            λ b. elim (held_or_not order lawful r k) [ inl held ↦ new held | inr out ↦ elim b [ inl was ↦ (old out).1 was | inr held ↦ absurd (out held) ] ],
           )
 
       pub removed : (before after : Items) (r : AnyRange K) → IsUnboundAfter order same before after r → HoldsWithout order before after r

@@ -7,6 +7,7 @@ use Rattle.std.specs.Fn.{Shared}
 use Rattle.std.specs.Cmp.{IsEquivalence}
 use Rattle.range_keys.specs.Order.{KeyOrder, IsLawful}
 use Rattle.range_keys.specs.Position.{position_cmp, start_position, end_position}
+use Rattle.range_keys.proofs.Orderings.{greater_or_not}
 use Rattle.range_algebra.specs.Intervals.{Every}
 use Rattle.range_algebra.specs.Range.{Holds, IsEmptyRange}
 use Rattle.range_algebra.specs.declared.any.AnyRange.{AnyRange}
@@ -18,8 +19,7 @@ use Rattle.range_map.specs.Frames.{HasValue}
 use Rattle.range_map.specs.Rebinding.{AreRebound}
 use Rattle.range_sets.specs.Members.{HasNone, HaveSame, HasAlso, HasAllBut, among}
 use Rattle.range_sets.specs.Pairs.{HasNoEmptySet, HasPair, IsUnpaired, AreValuesAt, HasPairsAlso, HasPairsWithout, StayBound}
-use Rattle.range_sets.proofs.Histories.{is_greater}
-use Rattle.range_sets.proofs.Membership.{held_or_not}
+use Rattle.range_algebra.proofs.Meeting.{held_or_not}
 
 or_true : (a b : Bool) → IsTrue (a || b) ↔ (IsTrue a ⊎ IsTrue b)
 or_true true b = (λ _. inl refl, λ _. refl)
@@ -184,7 +184,7 @@ module _ {K : Type 0} (order : KeyOrder K) {S : Type 0} (same : S → S → Bool
   all_full run (j ∷ rest) answers full given h = (elim h.0 [ inl was ↦ from_run run j.value full was | inr new ↦ from_answers answers j.value given new ], all_full run rest answers full given h.1)
 
   pub stay_full : (items next : List (Item (AnyRange K) S)) (r : AnyRange K) → HasNoEmptySet is_void items → (IsEmptyRange order r → next ≡ items) → ((¬ IsEmptyRange order r) → IsUpdated order same calls f items next r) → HasNoEmptySet is_void next
-  stay_full items next r full unchanged updated = elim (is_greater (position_cmp order.cmp (start_position order r.start) (end_position order r.end))) [
+  stay_full items next r full unchanged updated = elim (greater_or_not (position_cmp order.cmp (start_position order r.start) (end_position order r.end))) [
     | inl empty ↦ rw (unchanged empty) full
     | inr nonempty ↦
         let done = updated nonempty in

@@ -1,11 +1,11 @@
 -- What a list of calls makes of the pairs of a multimap: the last unrefused call on a pair says whether it is there.
-use Rattle.std.specs.Prelude.{◌≡◌, Bool, IsTrue, List, [], ◌∷◌, ◌⊎◌, ⊤}
+use Rattle.std.specs.Prelude.{◌≡◌, Bool, IsTrue, List, [], ◌∷◌, ◌⊎◌, ◌↔◌, ⊤}
 use Rattle.range_keys.specs.Order.{KeyOrder}
 use Rattle.range_algebra.specs.Intervals.{Every}
 use Rattle.range_algebra.specs.Range.{Holds}
 use Rattle.range_algebra.specs.declared.any.AnyRange.{AnyRange}
 use Rattle.range_store.specs.declared.storage.Item.{Item}
-use Rattle.range_sets.specs.Pairs.{HasPairsAlso, HasPairsWithout}
+use Rattle.range_sets.specs.Pairs.{HasPair, HasPairsAlso, HasPairsWithout}
 
 -- an insertion or a removal with its range and its value, or a call that returned an error
 pub data Call (K V : Type 0) : Type 0 where
@@ -45,3 +45,11 @@ module _ {K : Type 0} (order : KeyOrder K) {S V : Type 0} (has : S → V → Boo
   abbrev pub AreCallsBetween : List (Item (AnyRange K) S) → List (Call K V) → List (Item (AnyRange K) S) → Type 0
   AreCallsBetween items [] last = last ≡ items
   AreCallsBetween items (call ∷ calls) last = (next : List (Item (AnyRange K) S)) × IsCallBetween items call next × AreCallsBetween next calls last
+
+  -- each key has just the values of which the last call on the two is an insertion
+  abbrev pub HasJustInserted : List (Call K V) → List (Item (AnyRange K) S) → Type 0
+  HasJustInserted calls last = (k : K) → order.is_key k → (v : V) → HasPair order has last k v ↔ WasInserted order eq k v calls
+
+  -- and, beside those, just the values that it had before, where no call is on the two
+  abbrev pub HasInsertedOrKept : List (Item (AnyRange K) S) → List (Call K V) → List (Item (AnyRange K) S) → Type 0
+  HasInsertedOrKept items calls last = (k : K) → order.is_key k → (v : V) → HasPair order has last k v ↔ (WasInserted order eq k v calls ⊎ (HasPair order has items k v × HasNoneOn order eq k v calls))

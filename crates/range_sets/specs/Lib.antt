@@ -1,6 +1,7 @@
 pub mod Calls
 pub mod Complements
 pub mod CountedRuns
+pub mod EqualClones
 pub mod Extending
 pub mod History
 pub mod KeySets

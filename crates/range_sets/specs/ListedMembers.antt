@@ -20,7 +20,7 @@ use Rattle.range_sets.specs.Members.{HasNone, HaveSame}
 abbrev has_value : {V : Type 0} → (V → V → Bool) → List V → V → Bool
 has_value eq xs v = list_any (eq v) xs
 
-both_true : (a b : Bool) → a ≡ true → b ≡ true → (a && b) ≡ true
+pub both_true : (a b : Bool) → a ≡ true → b ≡ true → (a && b) ≡ true
 both_true a b e f = rw e f
 
 either_true : (a b : Bool) → a ≡ true → (a || b) ≡ true
@@ -49,7 +49,7 @@ module _ {V : Type 0} (eq : V → V → Bool) (laws : IsEquivalence eq) where
   none_is_empty (x ∷ xs) h = let own = either_true (eq x x) (has_value eq xs x) (laws.refl x) in let none = h x in absurd cc
 
 module _ {V : Type 0} (eq : V → V → Bool) (is_clone : V → V → Type 0) (equal : ClonesAreEqual is_clone eq) where
-  clones_pointwise : (xs ys : List V) → AllZip is_clone xs ys → IsTrue (pointwise eq xs ys)
+  pub clones_pointwise : (xs ys : List V) → AllZip is_clone xs ys → IsTrue (pointwise eq xs ys)
   clones_pointwise [] [] h = refl
   clones_pointwise [] (y ∷ ys) h = absurd h
   clones_pointwise (x ∷ xs) [] h = absurd h

@@ -23,15 +23,20 @@ impl<T: Measure + Clone, C: Storage<Item<AnyRange<T>, ()>>> RangeSet<T, C> {
     /// range meets or touches.
     pub fn insert<R: IntoRange<Item = T>>(&mut self, range: R) -> Result<(), MapError>
         requires { ClonesAreEqual T.is_clone T.eq }
-        ensures added { OnOk result (HoldsAlso T.order (C.items self.old) (C.items self.new) (R.range range)) }
+        ensures added { OnOk result
+            (HoldsAlso T.order (C.items self.old) (C.items self.new) (R.range range)) }
         ensures form { IsStoredSet T.order (C.items self.new) }
-        ensures frame { OnOk result (¬ IsEmptyRange T.order (R.range range) → GaveWayTo T.order (λ _ _. true) (C.items self.old) (C.items self.new) (R.range range) tt) }
-        ensures meets { OnOk result (¬ IsEmptyRange T.order (R.range range) → MeetAlso T.order (C.items self.old) (C.items self.new) (R.range range)) }
+        ensures frame { OnOk result (¬ IsEmptyRange T.order (R.range range)
+            → GaveWayTo T.order (λ _ _. true) (C.items self.old) (C.items self.new)
+            (R.range range) tt) }
+        ensures meets { OnOk result (¬ IsEmptyRange T.order (R.range range)
+            → MeetAlso T.order (C.items self.old) (C.items self.new) (R.range range)) }
         ensures few { length (C.items self.new) ≤ length (C.items self.old) + 1 }
 
         ensures refused { OnErr result (C.items self.new ≡ C.items self.old) }
         ensures empty { IsEmptyRange T.order (R.range range) → IsOk result }
-        ensures empty_unchanged { IsEmptyRange T.order (R.range range) → C.items self.new ≡ C.items self.old }
+        ensures empty_unchanged { IsEmptyRange T.order (R.range range)
+            → C.items self.new ≡ C.items self.old }
     {
         let mut steps = Steps::new();
         self.insert_counted(range, &mut steps)
@@ -47,17 +52,25 @@ impl<T: Measure + Clone, C: Storage<Item<AnyRange<T>, ()>>> RangeSet<T, C> {
         steps: &mut Steps,
     ) -> Result<(), MapError>
         requires { ClonesAreEqual T.is_clone T.eq }
-        ensures added { OnOk result (HoldsAlso T.order (C.items self.old) (C.items self.new) (R.range range)) }
+        ensures added { OnOk result
+            (HoldsAlso T.order (C.items self.old) (C.items self.new) (R.range range)) }
         ensures form { IsStoredSet T.order (C.items self.new) }
-        ensures frame { OnOk result (¬ IsEmptyRange T.order (R.range range) → GaveWayTo T.order (λ _ _. true) (C.items self.old) (C.items self.new) (R.range range) tt) }
-        ensures meets { OnOk result (¬ IsEmptyRange T.order (R.range range) → MeetAlso T.order (C.items self.old) (C.items self.new) (R.range range)) }
+        ensures frame { OnOk result (¬ IsEmptyRange T.order (R.range range)
+            → GaveWayTo T.order (λ _ _. true) (C.items self.old) (C.items self.new)
+            (R.range range) tt) }
+        ensures meets { OnOk result (¬ IsEmptyRange T.order (R.range range)
+            → MeetAlso T.order (C.items self.old) (C.items self.new) (R.range range)) }
         ensures few { length (C.items self.new) ≤ length (C.items self.old) + 1 }
 
         ensures refused { OnErr result (C.items self.new ≡ C.items self.old) }
         ensures empty { IsEmptyRange T.order (R.range range) → IsOk result }
-        ensures empty_unchanged { IsEmptyRange T.order (R.range range) → C.items self.new ≡ C.items self.old }
-        ensures most { OnOk result (TakesAsChange steps.old steps.new (C.most_asks self.old) (length (C.items self.old)) (length (C.items self.new))) }
-        ensures least { ¬ IsEmptyRange T.order (R.range range) → TakesAtLeast steps.old steps.new (C.least_asks self.old) }
+        ensures empty_unchanged { IsEmptyRange T.order (R.range range)
+            → C.items self.new ≡ C.items self.old }
+        ensures most { OnOk result
+            (TakesAsChange steps.old steps.new (C.most_asks self.old) (length (C.items self.old))
+            (length (C.items self.new))) }
+        ensures least { ¬ IsEmptyRange T.order (R.range range)
+            → TakesAtLeast steps.old steps.new (C.least_asks self.old) }
         ensures empty_uncounted { IsEmptyRange T.order (R.range range) → steps.new ≡ steps.old }
     {
         self.map.insert_counted(range, (), steps)
@@ -71,17 +84,24 @@ impl<T: Measure + Clone, C: Storage<Item<AnyRange<T>, ()>>> RangeSet<T, C> {
     /// Costs one search, and a step for each stored range that the range meets.
     pub fn remove<R: AsRange<Item = T>>(&mut self, range: R) -> Result<(), MapError>
         requires { ClonesAreEqual T.is_clone T.eq }
-        ensures removed { OnOk result (HoldsWithout T.order (C.items self.old) (C.items self.new) (R.range range)) }
+        ensures removed { OnOk result
+            (HoldsWithout T.order (C.items self.old) (C.items self.new) (R.range range)) }
         ensures form { IsStoredSet T.order (C.items self.new) }
-        ensures apart { OnOk result (¬ IsEmptyRange T.order (R.range range) → Every (λ i. ¬ Overlap T.order i.key (R.range range)) (C.items self.new)) }
-        ensures frame { OnOk result (¬ IsEmptyRange T.order (R.range range) → WasCutOut T.order (λ _ _. true) (C.items self.old) (C.items self.new) (R.range range)) }
+        ensures apart { OnOk result (¬ IsEmptyRange T.order (R.range range)
+            → Every (λ i. ¬ Overlap T.order i.key (R.range range)) (C.items self.new)) }
+        ensures frame { OnOk result (¬ IsEmptyRange T.order (R.range range)
+            → WasCutOut T.order (λ _ _. true) (C.items self.old) (C.items self.new)
+            (R.range range)) }
         ensures few { length (C.items self.new) ≤ length (C.items self.old) + 1 }
 
         ensures refused { OnErr result (C.items self.new ≡ C.items self.old) }
         ensures empty { IsEmptyRange T.order (R.range range) → IsOk result }
-        ensures empty_unchanged { IsEmptyRange T.order (R.range range) → C.items self.new ≡ C.items self.old }
-        ensures unmet { Every (λ i. ¬ Overlap T.order i.key (R.range range)) (C.items self.old) → IsOk result }
-        ensures unmet_unchanged { Every (λ i. ¬ Overlap T.order i.key (R.range range)) (C.items self.old) → C.items self.new ≡ C.items self.old }
+        ensures empty_unchanged { IsEmptyRange T.order (R.range range)
+            → C.items self.new ≡ C.items self.old }
+        ensures unmet { Every (λ i. ¬ Overlap T.order i.key (R.range range)) (C.items self.old)
+            → IsOk result }
+        ensures unmet_unchanged { Every (λ i. ¬ Overlap T.order i.key (R.range range))
+            (C.items self.old) → C.items self.new ≡ C.items self.old }
     {
         let mut steps = Steps::new();
         self.remove_counted(range, &mut steps)
@@ -97,19 +117,29 @@ impl<T: Measure + Clone, C: Storage<Item<AnyRange<T>, ()>>> RangeSet<T, C> {
         steps: &mut Steps,
     ) -> Result<(), MapError>
         requires { ClonesAreEqual T.is_clone T.eq }
-        ensures removed { OnOk result (HoldsWithout T.order (C.items self.old) (C.items self.new) (R.range range)) }
+        ensures removed { OnOk result
+            (HoldsWithout T.order (C.items self.old) (C.items self.new) (R.range range)) }
         ensures form { IsStoredSet T.order (C.items self.new) }
-        ensures apart { OnOk result (¬ IsEmptyRange T.order (R.range range) → Every (λ i. ¬ Overlap T.order i.key (R.range range)) (C.items self.new)) }
-        ensures frame { OnOk result (¬ IsEmptyRange T.order (R.range range) → WasCutOut T.order (λ _ _. true) (C.items self.old) (C.items self.new) (R.range range)) }
+        ensures apart { OnOk result (¬ IsEmptyRange T.order (R.range range)
+            → Every (λ i. ¬ Overlap T.order i.key (R.range range)) (C.items self.new)) }
+        ensures frame { OnOk result (¬ IsEmptyRange T.order (R.range range)
+            → WasCutOut T.order (λ _ _. true) (C.items self.old) (C.items self.new)
+            (R.range range)) }
         ensures few { length (C.items self.new) ≤ length (C.items self.old) + 1 }
 
         ensures refused { OnErr result (C.items self.new ≡ C.items self.old) }
         ensures empty { IsEmptyRange T.order (R.range range) → IsOk result }
-        ensures empty_unchanged { IsEmptyRange T.order (R.range range) → C.items self.new ≡ C.items self.old }
-        ensures unmet { Every (λ i. ¬ Overlap T.order i.key (R.range range)) (C.items self.old) → IsOk result }
-        ensures unmet_unchanged { Every (λ i. ¬ Overlap T.order i.key (R.range range)) (C.items self.old) → C.items self.new ≡ C.items self.old }
-        ensures most { OnOk result (TakesAsChange steps.old steps.new (C.most_asks self.old) (length (C.items self.old)) (length (C.items self.new))) }
-        ensures least { ¬ IsEmptyRange T.order (R.range range) → TakesAtLeast steps.old steps.new (C.least_asks self.old) }
+        ensures empty_unchanged { IsEmptyRange T.order (R.range range)
+            → C.items self.new ≡ C.items self.old }
+        ensures unmet { Every (λ i. ¬ Overlap T.order i.key (R.range range)) (C.items self.old)
+            → IsOk result }
+        ensures unmet_unchanged { Every (λ i. ¬ Overlap T.order i.key (R.range range))
+            (C.items self.old) → C.items self.new ≡ C.items self.old }
+        ensures most { OnOk result
+            (TakesAsChange steps.old steps.new (C.most_asks self.old) (length (C.items self.old))
+            (length (C.items self.new))) }
+        ensures least { ¬ IsEmptyRange T.order (R.range range)
+            → TakesAtLeast steps.old steps.new (C.least_asks self.old) }
         ensures empty_uncounted { IsEmptyRange T.order (R.range range) → steps.new ≡ steps.old }
     {
         self.map.remove_counted(range, steps)

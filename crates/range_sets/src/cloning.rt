@@ -17,7 +17,8 @@ impl<T: PartialEnum + Clone, C: Storage<Item<AnyRange<T>, ()>>> RangeSet<T, C> {
     /// a clone and a step for each stored range.
     pub fn clone(&self) -> Result<Self, AllocError>
         requires { ClonesAreEqual T.is_clone T.eq }
-        ensures equal { IfOk result (λ copy. IsCopyOf T.order (λ _ _. true) (C.items copy) (C.items self.now)) }
+        ensures equal { IfOk result
+            (λ copy. IsCopyOf T.order (λ _ _. true) (C.items copy) (C.items self.now)) }
         ensures form { IfOk result (λ copy. IsStoredSet T.order (C.items copy)) }
     {
         Ok(RangeSet {

@@ -72,7 +72,8 @@ fn get_cloned<K: Measure, V: Eq + Clone, C: Storage<Item<AnyRange<K>, V>>>(
     requires values { ClonesAreEqual V.is_clone V.eq }
     ensures value { IfOk result (λ b. Binds K.order V.eq (C.items map.now) key b) }
     ensures refused { OnErr result (IsBound K.order (C.items map.now) key) }
-    ensures takes { LookupTakes K.order (C.least_asks map.now) (C.most_asks map.now) (C.items map.now) ⊥ steps.old steps.new }
+    ensures takes { LookupTakes K.order (C.least_asks map.now) (C.most_asks map.now)
+        (C.items map.now) ⊥ steps.old steps.new }
 {
     match map.get_counted(key, steps) {
         Some(value) => Ok(Some(value.clone()?)),
@@ -92,7 +93,8 @@ fn update_tagged<
     requires keys { ClonesAreEqual K.is_clone K.eq }
     requires values { ClonesAreEqual V.is_clone V.eq }
     requires callable { MayBeAskedAll F.Fn f.now }
-    ensures { IsStep K.order V.eq (MayAnswerTo F.Fn f.now) (C.items map.old) (Update range tag) result (C.items map.new) }
+    ensures { IsStep K.order V.eq (MayAnswerTo F.Fn f.now) (C.items map.old)
+        (Update range tag) result (C.items map.new) }
 {
     let answer_one = |old: Option<&V>| -> Result<Option<V>, E>
         requires { MayBeAskedAll F.Fn f.now }
@@ -122,8 +124,10 @@ fn answer_counted<
     requires keys { ClonesAreEqual K.is_clone K.eq }
     requires values { ClonesAreEqual V.is_clone V.eq }
     requires callable { MayBeAskedAll F.Fn f.now }
-    ensures step { IsStep K.order V.eq (MayAnswerTo F.Fn f.now) (C.items map.old) command result (C.items map.new) }
-    ensures takes { TakesFor K.order (C.least_asks map.old) (C.most_asks map.old) (C.items map.old) command result (C.items map.new) steps.old steps.new }
+    ensures step { IsStep K.order V.eq (MayAnswerTo F.Fn f.now) (C.items map.old) command result
+        (C.items map.new) }
+    ensures takes { TakesFor K.order (C.least_asks map.old) (C.most_asks map.old)
+        (C.items map.old) command result (C.items map.new) steps.old steps.new }
 {
     match command {
         Command::Insert(range, value) => match map.insert_counted(range, value, steps) {
@@ -166,7 +170,8 @@ pub fn answer<
     requires keys { ClonesAreEqual K.is_clone K.eq }
     requires values { ClonesAreEqual V.is_clone V.eq }
     requires callable { MayBeAskedAll F.Fn f.now }
-    ensures { IsStep K.order V.eq (MayAnswerTo F.Fn f.now) (C.items map.old) command result (C.items map.new) }
+    ensures { IsStep K.order V.eq (MayAnswerTo F.Fn f.now) (C.items map.old) command result
+        (C.items map.new) }
 {
     let mut steps = Steps::new();
     answer_counted(map, command, f, &mut steps)
@@ -190,7 +195,10 @@ fn run_steps<
     requires keys { ClonesAreEqual K.is_clone K.eq }
     requires values { ClonesAreEqual V.is_clone V.eq }
     requires callable { MayBeAskedAll F.Fn f.now }
-    ensures run { IfOk result (λ replies. IsCountedRun K.order V.eq (MayAnswerTo F.Fn f.now) (λ s. C.items s) (λ s. C.least_asks s) (λ s. C.most_asks s) map.old commands.items replies.items map.new steps.old steps.new) }
+    ensures run { IfOk result
+        (λ replies. IsCountedRun K.order V.eq (MayAnswerTo F.Fn f.now) (λ s. C.items s)
+        (λ s. C.least_asks s)
+        (λ s. C.most_asks s) map.old commands.items replies.items map.new steps.old steps.new) }
     ensures refused { OnErr result (C.items map.new ≡ C.items map.old) }
     ensures refused_steps { OnErr result (steps.new ≡ steps.old) }
 {
@@ -226,9 +234,15 @@ pub fn run<
     requires keys { ClonesAreEqual K.is_clone K.eq }
     requires values { ClonesAreEqual V.is_clone V.eq }
     requires callable { MayBeAskedAll F.Fn f.now }
-    ensures chain { IfOk result (λ replies. IsRun K.order V.eq (MayAnswerTo F.Fn f.now) (C.items map.old) commands.items replies.items (C.items map.new)) }
-    ensures history { IfOk result (λ replies. (k : K) → K.order.is_key k → (b : Option V) → Binds K.order V.eq (C.items map.new) k b → BindOver K.order V.eq (MayAnswerTo F.Fn f.now) k (λ u. Binds K.order V.eq (C.items map.old) k u) commands.items replies.items b) }
-    ensures few { HasNoUpdate commands.items → length (C.items map.new) ≤ length (C.items map.old) + 2 * length commands.items }
+    ensures chain { IfOk result
+        (λ replies. IsRun K.order V.eq (MayAnswerTo F.Fn f.now)
+        (C.items map.old) commands.items replies.items (C.items map.new)) }
+    ensures history { IfOk result (λ replies. (k : K) → K.order.is_key k → (b : Option V)
+        → Binds K.order V.eq (C.items map.new) k b
+        → BindOver K.order V.eq (MayAnswerTo F.Fn f.now) k
+        (λ u. Binds K.order V.eq (C.items map.old) k u) commands.items replies.items b) }
+    ensures few { HasNoUpdate commands.items
+        → length (C.items map.new) ≤ length (C.items map.old) + 2 * length commands.items }
     ensures refused { OnErr result (C.items map.new ≡ C.items map.old) }
 {
     let mut steps = Steps::new();
@@ -255,12 +269,25 @@ pub fn run_counted<
     requires keys { ClonesAreEqual K.is_clone K.eq }
     requires values { ClonesAreEqual V.is_clone V.eq }
     requires callable { MayBeAskedAll F.Fn f.now }
-    ensures chain { IfOk result (λ replies. IsRun K.order V.eq (MayAnswerTo F.Fn f.now) (box_items map.old) commands.items replies.items (box_items map.new)) }
-    ensures history { IfOk result (λ replies. (k : K) → K.order.is_key k → (b : Option V) → Binds K.order V.eq (box_items map.new) k b → BindOver K.order V.eq (MayAnswerTo F.Fn f.now) k (λ u. Binds K.order V.eq (box_items map.old) k u) commands.items replies.items b) }
-    ensures few { HasNoUpdate commands.items → length (box_items map.new) ≤ length (box_items map.old) + 2 * length commands.items }
+    ensures chain { IfOk result
+        (λ replies. IsRun K.order V.eq (MayAnswerTo F.Fn f.now)
+        (box_items map.old) commands.items replies.items (box_items map.new)) }
+    ensures history { IfOk result (λ replies. (k : K) → K.order.is_key k → (b : Option V)
+        → Binds K.order V.eq (box_items map.new) k b
+        → BindOver K.order V.eq (MayAnswerTo F.Fn f.now) k
+        (λ u. Binds K.order V.eq (box_items map.old) k u) commands.items replies.items b) }
+    ensures few { HasNoUpdate commands.items
+        → length (box_items map.new) ≤ length (box_items map.old) + 2 * length commands.items }
     ensures refused { OnErr result (box_items map.new ≡ box_items map.old) }
-    ensures most { IfOk result (λ replies. HasNoUpdate commands.items → HasNoMemory replies.items → steps.new ≤ steps.old + length commands.items * (6 * greatest_level (length (box_items map.old) + 2 * length commands.items + 1) + 10) + 2 * length (box_items map.old)) }
-    ensures least { IfOk result (λ replies. (due : ℕ) × IsRunOfDue K.order V.eq (MayAnswerTo F.Fn f.now) (box_items map.old) commands.items replies.items (box_items map.new) due × TakesAtLeast steps.old steps.new due) }
+    ensures most { IfOk result (λ replies. HasNoUpdate commands.items → HasNoMemory replies.items
+        → steps.new ≤ steps.old + length commands.items *
+        (6 * greatest_level
+        (length (box_items map.old) + 2 * length commands.items + 1) + 10) + 2 * length
+        (box_items map.old)) }
+    ensures least { IfOk result (λ replies. (due : ℕ)
+        × IsRunOfDue K.order V.eq (MayAnswerTo F.Fn f.now)
+        (box_items map.old) commands.items replies.items (box_items map.new) due
+        × TakesAtLeast steps.old steps.new due) }
     ensures refused_steps { OnErr result (steps.new ≡ steps.old) }
 {
     run_steps(alloc, map, commands, f, steps)

@@ -27,7 +27,8 @@ impl<T: PartialEnum, C: Storage<Item<AnyRange<T>, ()>>> RangeSet<T, C> {
     pub fn eq_across<D: Storage<Item<AnyRange<T>, ()>>>(&self, other: &RangeSet<T, D>) -> bool
         ensures value { result ≡ same_ranges T.order (C.items self.now) (D.items other.now) }
         ensures bound { IsTrue result → HoldAlike T.order (C.items self.now) (D.items other.now) }
-        ensures same { IsComplete T.order → IsTrue result ↔ HoldAlike T.order (C.items self.now) (D.items other.now) }
+        ensures same { IsComplete T.order → IsTrue result
+            ↔ HoldAlike T.order (C.items self.now) (D.items other.now) }
     {
         self.map.eq_across(&other.map)
     }
@@ -39,8 +40,13 @@ impl<T: PartialEnum, C: Storage<Item<AnyRange<T>, ()>>> RangeSet<T, C> {
     /// memory. Costs one step for each stored range.
     pub fn cmp_across<D: Storage<Item<AnyRange<T>, ()>>>(&self, other: &RangeSet<T, D>) -> Ordering
         ensures value { result ≡ ranges_cmp T.order (C.items self.now) (D.items other.now) }
-        ensures same { IsComplete T.order → result ≡ Equal ↔ HoldAlike T.order (C.items self.now) (D.items other.now) }
-        ensures alike { IsComplete T.order → (items others : List (Item (AnyRange T) (Unit {0}))) → IsStoredSet T.order items → IsStoredSet T.order others → HoldAlike T.order (C.items self.now) items → HoldAlike T.order (D.items other.now) others → result ≡ ranges_cmp T.order items others }
+        ensures same { IsComplete T.order → result ≡ Equal
+            ↔ HoldAlike T.order (C.items self.now) (D.items other.now) }
+        ensures alike { IsComplete T.order → (items others : List (Item (AnyRange T) (Unit {0})))
+            → IsStoredSet T.order items → IsStoredSet T.order others
+            → HoldAlike T.order (C.items self.now) items
+            → HoldAlike T.order (D.items other.now) others
+            → result ≡ ranges_cmp T.order items others }
     {
         self.map.cmp_across(&other.map)
     }
@@ -49,12 +55,14 @@ impl<T: PartialEnum, C: Storage<Item<AnyRange<T>, ()>>> RangeSet<T, C> {
 impl<T: PartialEnum, C: Storage<Item<AnyRange<T>, ()>>> PartialEq for RangeSet<T, C> {
     ghost eq = { λ set other. same_ranges T.order (C.items set) (C.items other) };
 
-    ghost laws = { partial_equiv_from_equiv (on_equiv C.items (sets_equivalence T.order T.lawful)) };
+    ghost laws = { partial_equiv_from_equiv
+        (on_equiv C.items (sets_equivalence T.order T.lawful)) };
 
     fn eq(&self, other: &RangeSet<T, C>) -> bool
         ensures value { result ≡ same_ranges T.order (C.items self.now) (C.items other.now) }
         ensures bound { IsTrue result → HoldAlike T.order (C.items self.now) (C.items other.now) }
-        ensures same { IsComplete T.order → IsTrue result ↔ HoldAlike T.order (C.items self.now) (C.items other.now) }
+        ensures same { IsComplete T.order → IsTrue result
+            ↔ HoldAlike T.order (C.items self.now) (C.items other.now) }
     {
         self.eq_across(other)
     }
@@ -65,9 +73,11 @@ impl<T: PartialEnum, C: Storage<Item<AnyRange<T>, ()>>> Eq for RangeSet<T, C> {
 }
 
 impl<T: PartialEnum, C: Storage<Item<AnyRange<T>, ()>>> PartialOrd for RangeSet<T, C> {
-    ghost partial_cmp = { as_partial_cmp (λ set other. ranges_cmp T.order (C.items set) (C.items other)) };
+    ghost partial_cmp = { as_partial_cmp
+        (λ set other. ranges_cmp T.order (C.items set) (C.items other)) };
 
-    ghost laws = { po (on_total C.items (sets_order T.order T.lawful)) (λ set other. sets_tied T.order (C.items set) (C.items other)) };
+    ghost laws = { po (on_total C.items (sets_order T.order T.lawful))
+        (λ set other. sets_tied T.order (C.items set) (C.items other)) };
 
     fn partial_cmp(&self, other: &RangeSet<T, C>) -> Option<Ordering> {
         Some(self.cmp(other))
@@ -85,8 +95,13 @@ impl<T: PartialEnum, C: Storage<Item<AnyRange<T>, ()>>> Ord for RangeSet<T, C> {
 
     fn cmp(&self, other: &RangeSet<T, C>) -> Ordering
         ensures value { result ≡ ranges_cmp T.order (C.items self.now) (C.items other.now) }
-        ensures same { IsComplete T.order → result ≡ Equal ↔ HoldAlike T.order (C.items self.now) (C.items other.now) }
-        ensures alike { IsComplete T.order → (items others : List (Item (AnyRange T) (Unit {0}))) → IsStoredSet T.order items → IsStoredSet T.order others → HoldAlike T.order (C.items self.now) items → HoldAlike T.order (C.items other.now) others → result ≡ ranges_cmp T.order items others }
+        ensures same { IsComplete T.order → result ≡ Equal
+            ↔ HoldAlike T.order (C.items self.now) (C.items other.now) }
+        ensures alike { IsComplete T.order → (items others : List (Item (AnyRange T) (Unit {0})))
+            → IsStoredSet T.order items → IsStoredSet T.order others
+            → HoldAlike T.order (C.items self.now) items
+            → HoldAlike T.order (C.items other.now) others
+            → result ≡ ranges_cmp T.order items others }
     {
         self.cmp_across(other)
     }
@@ -95,11 +110,16 @@ impl<T: PartialEnum, C: Storage<Item<AnyRange<T>, ()>>> Ord for RangeSet<T, C> {
 impl<T: PartialEnum + Hash, C: Storage<Item<AnyRange<T>, ()>>> Hash for RangeSet<T, C> {
     ghost hash_input = { λ set. ranges_input T.order T.hash_input (C.items set) };
 
-    ghost respects_eq = { λ set other. sets_fed T.order T.hash_input (λ a b f. T.respects_eq a b (T.matches_eq a b ∙ ap is_eq (T.order_is_cmp a b ∙ f))) (C.items set) (C.items other) };
+    ghost respects_eq = { λ set other. sets_fed T.order T.hash_input
+        (λ a b f. T.respects_eq a b (T.matches_eq a b ∙ ap is_eq (T.order_is_cmp a b ∙ f)))
+        (C.items set) (C.items other) };
 
     fn hash<H: Hasher>(&self, state: &mut H)
-        ensures value { state.new ≡ fold H.write state.old (ranges_input T.order T.hash_input (C.items self.now)) }
-        ensures same { IsComplete T.order → (others : List (Item (AnyRange T) (Unit {0}))) → IsStoredSet T.order others → HoldAlike T.order (C.items self.now) others → state.new ≡ fold H.write state.old (ranges_input T.order T.hash_input others) }
+        ensures value { state.new
+            ≡ fold H.write state.old (ranges_input T.order T.hash_input (C.items self.now)) }
+        ensures same { IsComplete T.order → (others : List (Item (AnyRange T) (Unit {0})))
+            → IsStoredSet T.order others → HoldAlike T.order (C.items self.now) others
+            → state.new ≡ fold H.write state.old (ranges_input T.order T.hash_input others) }
     {
         self.map.hash(state);
     }

@@ -25,8 +25,10 @@ impl<T: Measure + Clone, C: Storage<Item<AnyRange<T>, ()>>> RangeSet<T, C> {
     /// ```
     pub fn complement(&self) -> Result<Self, MapError>
         requires { ClonesAreEqual T.is_clone T.eq }
-        ensures held { IfOk result (λ others. HoldsTheOthers T.order (C.items self.now) (C.items others)) }
-        ensures gaps { IfOk result (λ others. EqualGapsOf T.order (C.items self.now) (C.items others)) }
+        ensures held { IfOk result
+            (λ others. HoldsTheOthers T.order (C.items self.now) (C.items others)) }
+        ensures gaps { IfOk result
+            (λ others. EqualGapsOf T.order (C.items self.now) (C.items others)) }
         ensures form { IfOk result (λ others. IsStoredSet T.order (C.items others)) }
     {
         self.in_form();

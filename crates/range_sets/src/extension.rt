@@ -24,8 +24,12 @@ impl<T: Measure + Clone, C: Storage<Item<AnyRange<T>, ()>>> RangeSet<T, C> {
     ) -> Result<(), MapError>
         requires clones { ClonesAreEqual T.is_clone T.eq }
         requires ends { IsFiniteIterable I.into_iter_gives I.IntoIter.can_next I.IntoIter.remaining ranges }
-        ensures added { OnOk result (AfterAll I.into_iter_gives I.IntoIter.next_gives R.range ranges (HoldsAllAlso T.order (C.items self.old) (C.items self.new))) }
-        ensures refused { OnErr result (AfterSome I.into_iter_gives I.IntoIter.next_gives R.range ranges T.order (HoldsAllAlso T.order (C.items self.old) (C.items self.new))) }
+        ensures added { OnOk result
+            (AfterAll I.into_iter_gives I.IntoIter.next_gives R.range ranges
+            (HoldsAllAlso T.order (C.items self.old) (C.items self.new))) }
+        ensures refused { OnErr result
+            (AfterSome I.into_iter_gives I.IntoIter.next_gives R.range ranges T.order
+            (HoldsAllAlso T.order (C.items self.old) (C.items self.new))) }
         ensures form { IsStoredSet T.order (C.items self.new) }
     {
         self.in_form();
@@ -44,7 +48,9 @@ impl<T: Measure + Clone, C: Storage<Item<AnyRange<T>, ()>>> RangeSet<T, C> {
     ) -> Result<Self, MapError>
         requires clones { ClonesAreEqual T.is_clone T.eq }
         requires ends { IsFiniteIterable I.into_iter_gives I.IntoIter.can_next I.IntoIter.remaining ranges }
-        ensures held { IfOk result (λ set. AfterAll I.into_iter_gives I.IntoIter.next_gives R.range ranges (HoldsAllOf T.order (C.items set))) }
+        ensures held { IfOk result
+            (λ set. AfterAll I.into_iter_gives I.IntoIter.next_gives R.range ranges
+            (HoldsAllOf T.order (C.items set))) }
         ensures form { IfOk result (λ set. IsStoredSet T.order (C.items set)) }
     {
         let mut set = RangeSet::new(alloc);

@@ -13,5 +13,7 @@ use range_keys::traits::PartialEnum;
 /// Where the ranges of a second list equal, one by one, the gaps of a set's list, and those of a
 /// third the gaps of the second, the third list equals the set's, as `==` compares sets.
 pub fn complementing_twice_restores<T: PartialEnum>()
-    ensures { (items others thirds : List (Item (AnyRange T) (Unit {0}))) → IsStoredSet T.order items → EqualGapsOf T.order items others → EqualGapsOf T.order others thirds → IsTrue (same_ranges T.order thirds items) }
+    ensures { (items others thirds : List (Item (AnyRange T) (Unit {0})))
+        → IsStoredSet T.order items → EqualGapsOf T.order items others
+        → EqualGapsOf T.order others thirds → IsTrue (same_ranges T.order thirds items) }
 {}

@@ -18,8 +18,10 @@ impl<T: Measure + Bounded, C: Storage<Item<AnyRange<T>, ()>>> RangeSet<T, C> {
     ///
     /// Costs a step and a distance for each stored range. Allocates nothing.
     pub fn len(&self) -> u128
-        ensures measure { list_measure T.order T.len T.distance (item_ranges (C.items self.now)) ≡ Some result }
-        ensures counted { IsCountedMeasure T.order T.len T.distance → IsNumberOfKeys T.order (HoldsKey T.order (C.items self.now)) result }
+        ensures measure { list_measure T.order T.len T.distance (item_ranges (C.items self.now))
+            ≡ Some result }
+        ensures counted { IsCountedMeasure T.order T.len T.distance
+            → IsNumberOfKeys T.order (HoldsKey T.order (C.items self.now)) result }
     {
         self.map.len()
     }
@@ -31,9 +33,11 @@ impl<T: Measure, C: Storage<Item<AnyRange<T>, ()>>> RangeSet<T, C> {
     ///
     /// Costs a step and a distance for each stored range. Allocates nothing.
     pub fn bounded_len(&self) -> Option<u128>
-        ensures measure { result ≡ list_measure T.order T.len T.distance (item_ranges (C.items self.now)) }
+        ensures measure { result
+            ≡ list_measure T.order T.len T.distance (item_ranges (C.items self.now)) }
         ensures untold { IsNone result ↔ Any (λ i. HasUntoldEnd T.order i.key) (C.items self.now) }
-        ensures counted { IsCountedMeasure T.order T.len T.distance → IsSomeAnd result (IsNumberOfKeys T.order (HoldsKey T.order (C.items self.now))) }
+        ensures counted { IsCountedMeasure T.order T.len T.distance
+            → IsSomeAnd result (IsNumberOfKeys T.order (HoldsKey T.order (C.items self.now))) }
     {
         self.map.bounded_len()
     }

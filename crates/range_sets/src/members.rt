@@ -63,8 +63,10 @@ pub trait SetMut<V: Eq + Clone>: MaybeEmpty {
     ghost equal_same: { (s t : Self) → IsTrue (Self.PartialEq.eq s t) → HaveSame has s t };
 
     /// Sets that have the same values are equal.
-    ghost same_equal: { (s t : Self) → Self.MaybeEmpty.is_set s → Self.MaybeEmpty.is_set t → HaveSame has s t → IsTrue (Self.PartialEq.eq s t) };
+    ghost same_equal: { (s t : Self) → Self.MaybeEmpty.is_set s → Self.MaybeEmpty.is_set t
+        → HaveSame has s t → IsTrue (Self.PartialEq.eq s t) };
 
     /// Where clones of values equal their source, so do clones of sets.
-    ghost clones_equal: { ClonesAreEqual V.is_clone V.eq → ClonesAreEqual Self.Clone.is_clone Self.PartialEq.eq };
+    ghost clones_equal: { ClonesAreEqual V.is_clone V.eq
+        → ClonesAreEqual Self.Clone.is_clone Self.PartialEq.eq };
 }

@@ -96,7 +96,8 @@ impl<T: PartialEnum, C: Storage<Item<AnyRange<T>, ()>>> RangeSet<T, C> {
     /// The empty set takes none.
     pub fn contains_counted(&self, key: T, steps: &mut Steps) -> bool
         ensures value { IsTrue result ↔ HoldsKey T.order (C.items self.now) key }
-        ensures counted { AddsSteps steps.old steps.new (C.least_asks self.now) (C.most_asks self.now + 1) }
+        ensures counted { AddsSteps steps.old steps.new (C.least_asks self.now)
+            (C.most_asks self.now + 1) }
         ensures none { C.items self.now ≡ [] → AddsSteps steps.old steps.new 0 0 }
     {
         self.map.contains_key_counted(key, steps)
@@ -117,7 +118,8 @@ impl<T: PartialEnum, C: Storage<Item<AnyRange<T>, ()>>> RangeSet<T, C> {
     /// Allocates nothing. An iteration over all gaps takes one step for each stored range.
     pub fn gaps(&self) -> Gaps<'_, T, C>
         ensures gaps { AreGaps T.order (C.items self.now) result }
-        ensures once { (k : T) → T.order.is_key k → IsHeldOnce T.order (item_ranges (C.items self.now) ++ result) k }
+        ensures once { (k : T) → T.order.is_key k
+            → IsHeldOnce T.order (item_ranges (C.items self.now) ++ result) k }
         ensures few { length result ≤ length (C.items self.now) + 1 }
     {
         self.map.gaps()
@@ -130,9 +132,12 @@ impl<T: Measure, C: Storage<Item<AnyRange<T>, ()>>> RangeSet<T, C> {
     /// It does wherever one of its keys is in the set; over keys that leave no gap, nowhere else.
     /// Costs one search and one comparison more. Allocates nothing.
     pub fn intersects<R: AsRange<Item = T>>(&self, range: R) -> bool
-        ensures meets { IsTrue result ↔ (¬ IsEmptyRange T.order (R.range range)) × MeetsSome T.order (C.items self.now) (R.range range) }
+        ensures meets { IsTrue result
+            ↔ (¬ IsEmptyRange T.order (R.range range))
+            × MeetsSome T.order (C.items self.now) (R.range range) }
         ensures bound { BindsKeyOf T.order (C.items self.now) (R.range range) → IsTrue result }
-        ensures complete { IsComplete T.order → IsTrue result → BindsKeyOf T.order (C.items self.now) (R.range range) }
+        ensures complete { IsComplete T.order → IsTrue result
+            → BindsKeyOf T.order (C.items self.now) (R.range range) }
     {
         self.map.intersects(range)
     }

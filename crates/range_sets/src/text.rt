@@ -15,7 +15,8 @@ where
     T: PartialEnum + Debug,
     C: Storage<Item<AnyRange<T>, ()>>,
     W: Write,
-    ensures { DisplaysOnOk W.write_str_gives f.old result (ranges_text T.debug_output (item_ranges (C.items set.now))) f.new }
+    ensures { DisplaysOnOk W.write_str_gives f.old result
+        (ranges_text T.debug_output (item_ranges (C.items set.now))) f.new }
 {
     let mut ranges = set.iter();
     while let Some(range) = ranges.next() {

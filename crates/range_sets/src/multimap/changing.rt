@@ -25,9 +25,11 @@ fn with_value<V: Eq + Clone, S: SetMut<V>>(
     value: &V,
 ) -> Result<Option<S>, AllocError>
     requires { ClonesAreEqual V.is_clone V.eq }
-    ensures added { IfOk result (λ new. HasAlso S.has V.eq (option_copied old.entry) new value.now) }
+    ensures added { IfOk result
+        (λ new. HasAlso S.has V.eq (option_copied old.entry) new value.now) }
     ensures nonempty { IfOk result (λ new. IfSome new (λ s. ¬ S.is_void s)) }
-    ensures kept { IfOk result (λ new. IsTrue (among S.has (option_copied old.entry) value.now) → IsAsAnswered S.eq (option_copied old.entry) new) }
+    ensures kept { IfOk result (λ new. IsTrue (among S.has (option_copied old.entry) value.now)
+        → IsAsAnswered S.eq (option_copied old.entry) new) }
 {
     let mut set = match old {
         Some(set) => set.clone()?,
@@ -45,9 +47,12 @@ fn without_value<V: Eq + Clone, S: SetMut<V>>(
     value: &V,
 ) -> Result<Option<S>, AllocError>
     requires { ClonesAreEqual V.is_clone V.eq }
-    ensures removed { IfOk result (λ new. HasAllBut S.has V.eq (option_copied old.entry) new value.now) }
+    ensures removed { IfOk result
+        (λ new. HasAllBut S.has V.eq (option_copied old.entry) new value.now) }
     ensures nonempty { IfOk result (λ new. IfSome new (λ s. ¬ S.is_void s)) }
-    ensures kept { IfOk result (λ new. IfSome (option_copied old.entry) (λ s. ¬ S.is_void s) → ¬ IsTrue (among S.has (option_copied old.entry) value.now) → IsAsAnswered S.eq (option_copied old.entry) new) }
+    ensures kept { IfOk result (λ new. IfSome (option_copied old.entry) (λ s. ¬ S.is_void s)
+        → ¬ IsTrue (among S.has (option_copied old.entry) value.now)
+        → IsAsAnswered S.eq (option_copied old.entry) new) }
 {
     let Some(old) = old else {
         return Ok(None);
@@ -79,23 +84,29 @@ impl<K: Measure + Clone, S: MaybeEmpty, C: Storage<Item<AnyRange<K>, S>>> RangeM
         S: SetMut<V>,
         requires keys { ClonesAreEqual K.is_clone K.eq }
         requires values { ClonesAreEqual V.is_clone V.eq }
-        ensures added { OnOk result (HasPairsAlso K.order S.has V.eq (C.items self.old) (C.items self.new) (R.range range) value) }
-        ensures kept { StayBound K.order S.eq (C.items self.old) (C.items self.new) (λ k. HasPair K.order S.has (C.items self.old) k value) }
+        ensures added { OnOk result
+            (HasPairsAlso K.order S.has V.eq (C.items self.old) (C.items self.new)
+            (R.range range) value) }
+        ensures kept { StayBound K.order S.eq (C.items self.old) (C.items self.new)
+            (λ k. HasPair K.order S.has (C.items self.old) k value) }
         ensures form { IsStored K.order S.eq (C.items self.new) }
         ensures nonempty { HasNoEmptySet S.is_void (C.items self.new) }
         ensures only { IsComplete K.order → IsOnlyCoarse K.order S.eq (C.items self.new) }
         ensures refused { OnErr result (C.items self.new ≡ C.items self.old) }
         ensures empty { IsEmptyRange K.order (R.range range) → IsOk result }
-        ensures empty_unchanged { IsEmptyRange K.order (R.range range) → C.items self.new ≡ C.items self.old }
+        ensures empty_unchanged { IsEmptyRange K.order (R.range range)
+            → C.items self.new ≡ C.items self.old }
     {
         self.in_form();
         stored_lists_bind_once::<K, S>();
         let alloc = self.alloc;
         let answer = |old: Option<&S>| -> Result<Option<S>, AllocError>
             requires { ClonesAreEqual V.is_clone V.eq }
-            ensures added { IfOk result (λ new. HasAlso S.has V.eq (option_copied old.entry) new value) }
+            ensures added { IfOk result
+                (λ new. HasAlso S.has V.eq (option_copied old.entry) new value) }
             ensures nonempty { IfOk result (λ new. IfSome new (λ s. ¬ S.is_void s)) }
-            ensures kept { IfOk result (λ new. IsTrue (among S.has (option_copied old.entry) value) → IsAsAnswered S.eq (option_copied old.entry) new) }
+            ensures kept { IfOk result (λ new. IsTrue (among S.has (option_copied old.entry) value)
+                → IsAsAnswered S.eq (option_copied old.entry) new) }
         { with_value::<V, S>(alloc, old, &value) };
         if let Err(_) = self.map.update(range, answer) {
             return Err(MapError::Memory);
@@ -119,22 +130,29 @@ impl<K: Measure + Clone, S: MaybeEmpty, C: Storage<Item<AnyRange<K>, S>>> RangeM
         S: SetMut<V>,
         requires keys { ClonesAreEqual K.is_clone K.eq }
         requires values { ClonesAreEqual V.is_clone V.eq }
-        ensures removed { OnOk result (HasPairsWithout K.order S.has V.eq (C.items self.old) (C.items self.new) (R.range range) value.now) }
-        ensures kept { StayBound K.order S.eq (C.items self.old) (C.items self.new) (λ k. ¬ HasPair K.order S.has (C.items self.old) k value.now) }
+        ensures removed { OnOk result
+            (HasPairsWithout K.order S.has V.eq (C.items self.old) (C.items self.new)
+            (R.range range) value.now) }
+        ensures kept { StayBound K.order S.eq (C.items self.old) (C.items self.new)
+            (λ k. ¬ HasPair K.order S.has (C.items self.old) k value.now) }
         ensures form { IsStored K.order S.eq (C.items self.new) }
         ensures nonempty { HasNoEmptySet S.is_void (C.items self.new) }
         ensures only { IsComplete K.order → IsOnlyCoarse K.order S.eq (C.items self.new) }
         ensures refused { OnErr result (C.items self.new ≡ C.items self.old) }
         ensures empty { IsEmptyRange K.order (R.range range) → IsOk result }
-        ensures empty_unchanged { IsEmptyRange K.order (R.range range) → C.items self.new ≡ C.items self.old }
+        ensures empty_unchanged { IsEmptyRange K.order (R.range range)
+            → C.items self.new ≡ C.items self.old }
     {
         self.in_form();
         stored_lists_bind_once::<K, S>();
         let answer = |old: Option<&S>| -> Result<Option<S>, AllocError>
             requires { ClonesAreEqual V.is_clone V.eq }
-            ensures removed { IfOk result (λ new. HasAllBut S.has V.eq (option_copied old.entry) new value.entry.now) }
+            ensures removed { IfOk result
+                (λ new. HasAllBut S.has V.eq (option_copied old.entry) new value.entry.now) }
             ensures nonempty { IfOk result (λ new. IfSome new (λ s. ¬ S.is_void s)) }
-            ensures kept { IfOk result (λ new. IfSome (option_copied old.entry) (λ s. ¬ S.is_void s) → ¬ IsTrue (among S.has (option_copied old.entry) value.entry.now) → IsAsAnswered S.eq (option_copied old.entry) new) }
+            ensures kept { IfOk result (λ new. IfSome (option_copied old.entry) (λ s. ¬ S.is_void s)
+                → ¬ IsTrue (among S.has (option_copied old.entry) value.entry.now)
+                → IsAsAnswered S.eq (option_copied old.entry) new) }
         { without_value::<V, S>(old, value) };
         if let Err(_) = self.map.update(range, answer) {
             return Err(MapError::Memory);

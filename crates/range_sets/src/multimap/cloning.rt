@@ -26,7 +26,8 @@ impl<K: PartialEnum + Clone, S: MaybeEmpty, C: Storage<Item<AnyRange<K>, S>>> Ra
         S: SetMut<V>,
         requires keys { ClonesAreEqual K.is_clone K.eq }
         requires values { ClonesAreEqual V.is_clone V.eq }
-        ensures equal { IfOk result (λ copy. IsCopyOf K.order S.eq (C.items copy) (C.items self.now)) }
+        ensures equal { IfOk result
+            (λ copy. IsCopyOf K.order S.eq (C.items copy) (C.items self.now)) }
         ensures form { IfOk result (λ copy. IsStored K.order S.eq (C.items copy)) }
         ensures nonempty { IfOk result (λ copy. HasNoEmptySet S.is_void (C.items copy)) }
     {

@@ -22,8 +22,10 @@ impl<K: PartialEnum, S: MaybeEmpty, C: Storage<Item<AnyRange<K>, S>>> RangeMulti
         other: &RangeMultiMap<K, S, D>,
     ) -> bool
         ensures value { result ≡ same_list K.order S.eq (C.items self.now) (D.items other.now) }
-        ensures bound { IsTrue result → BindAlike K.order S.eq (C.items self.now) (D.items other.now) }
-        ensures same { IsComplete K.order → IsTrue result ↔ BindAlike K.order S.eq (C.items self.now) (D.items other.now) }
+        ensures bound { IsTrue result
+            → BindAlike K.order S.eq (C.items self.now) (D.items other.now) }
+        ensures same { IsComplete K.order → IsTrue result
+            ↔ BindAlike K.order S.eq (C.items self.now) (D.items other.now) }
     {
         self.map.eq_across(&other.map)
     }
@@ -33,12 +35,15 @@ impl<K: PartialEnum, S: MaybeEmpty, C: Storage<Item<AnyRange<K>, S>>> PartialEq
     for RangeMultiMap<K, S, C> {
     ghost eq = { λ map other. same_list K.order S.eq (C.items map) (C.items other) };
 
-    ghost laws = { partial_equiv_from_equiv (on_equiv C.items (lists_equivalence K.order K.lawful S.eq S.Eq.laws)) };
+    ghost laws = { partial_equiv_from_equiv
+        (on_equiv C.items (lists_equivalence K.order K.lawful S.eq S.Eq.laws)) };
 
     fn eq(&self, other: &RangeMultiMap<K, S, C>) -> bool
         ensures value { result ≡ same_list K.order S.eq (C.items self.now) (C.items other.now) }
-        ensures bound { IsTrue result → BindAlike K.order S.eq (C.items self.now) (C.items other.now) }
-        ensures same { IsComplete K.order → IsTrue result ↔ BindAlike K.order S.eq (C.items self.now) (C.items other.now) }
+        ensures bound { IsTrue result
+            → BindAlike K.order S.eq (C.items self.now) (C.items other.now) }
+        ensures same { IsComplete K.order → IsTrue result
+            ↔ BindAlike K.order S.eq (C.items self.now) (C.items other.now) }
     {
         self.eq_across(other)
     }

@@ -1,9 +1,8 @@
 //! Laws of lists of calls. Their bodies do nothing.
-ghost use Rattle.std.specs.Prelude.{List, [], ◌↔◌, ◌⊎◌};
+ghost use Rattle.std.specs.Prelude.{List, []};
 ghost use Rattle.range_algebra.specs.declared.any.AnyRange.{AnyRange};
 ghost use Rattle.range_store.specs.declared.storage.Item.{Item};
-ghost use Rattle.range_sets.specs.Calls.{Call, AreCallsBetween, HasNoneOn, WasInserted};
-ghost use Rattle.range_sets.specs.Pairs.{HasPair};
+ghost use Rattle.range_sets.specs.Calls.{Call, AreCallsBetween, HasJustInserted, HasInsertedOrKept};
 
 use crate::members::SetMut;
 use range_keys::traits::PartialEnum;
@@ -14,6 +13,10 @@ use range_keys::traits::PartialEnum;
 /// So from the empty multimap on. From any other, a pair that was there before the first call stays
 /// where no call is on it.
 pub fn last_call_decides_pairs<K: PartialEnum, V: Eq + Clone, S: SetMut<V>>()
-    ensures from_empty { (calls : List (Call K V)) (last : List (Item (AnyRange K) S)) → AreCallsBetween K.order S.has V.eq [] calls last → (k : K) → K.order.is_key k → (v : V) → HasPair K.order S.has last k v ↔ WasInserted K.order V.eq k v calls }
-    ensures from_any { (items : List (Item (AnyRange K) S)) (calls : List (Call K V)) (last : List (Item (AnyRange K) S)) → AreCallsBetween K.order S.has V.eq items calls last → (k : K) → K.order.is_key k → (v : V) → HasPair K.order S.has last k v ↔ (WasInserted K.order V.eq k v calls ⊎ (HasPair K.order S.has items k v × HasNoneOn K.order V.eq k v calls)) }
+    ensures from_empty { (calls : List (Call K V)) (last : List (Item (AnyRange K) S))
+        → AreCallsBetween K.order S.has V.eq [] calls last
+        → HasJustInserted K.order S.has V.eq calls last }
+    ensures from_any { (items last : List (Item (AnyRange K) S)) (calls : List (Call K V))
+        → AreCallsBetween K.order S.has V.eq items calls last
+        → HasInsertedOrKept K.order S.has V.eq items calls last }
 {}

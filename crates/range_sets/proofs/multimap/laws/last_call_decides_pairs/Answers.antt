@@ -7,4 +7,4 @@ returns-clause-from_empty g c =
 
 pub returns-clause-from_any : goal.returns-clause-from_any
 returns-clause-from_any g c =
-    λ items calls last chain k key v. from_any g.K.MaybeBounded.order g.met.K.PartialEnum.lawful g.S.SetMut.has g.V.PartialEq.eq k key v items last calls chain
+    λ items last calls chain k key v. from_any g.K.MaybeBounded.order g.met.K.PartialEnum.lawful g.S.SetMut.has g.V.PartialEq.eq k key v items last calls chain
