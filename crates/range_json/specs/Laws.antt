@@ -1,5 +1,7 @@
 -- What the laws say: what is written has no fault, and what is read there equals it.
 use Rattle.std.specs.Prelude.{◌≡◌, List, None, Bool, IsTrue}
+use Rattle.std.specs.BTreeSet.{BTreeSet, IsEmpty}
+use Rattle.std.specs.declared.cmp.Ordering.{Ordering}
 use Rattle.std.specs.declared.cmp.Ordering.TheVariants.{Equal}
 use Rattle.serde_json.specs.Data.{Data}
 use Rattle.range_keys.specs.Order.{KeyOrder}
@@ -9,10 +11,13 @@ use Rattle.range_store.specs.declared.storage.Item.{Item}
 use Rattle.range_map.specs.ListOrder.{same_list}
 use Rattle.range_map.specs.Stored.{IsStored}
 use Rattle.range_sets.specs.KeySets.{IsStoredSet}
+use Rattle.range_sets.specs.Pairs.{HasNoEmptySet}
 use Rattle.range_sets.specs.SetOrder.{same_ranges}
 use Rattle.range_json.specs.Shapes.{range_shape, set_shape, map_shape}
 use Rattle.range_json.specs.Faults.{range_fault, set_fault, IsRangeRead, IsSetRead}
 use Rattle.range_json.specs.MapFaults.{IsMapFault, IsMapRead}
+use Rattle.range_json.specs.MultimapFaults.{IsMultimapFault, IsMultimapRead}
+use Rattle.range_json.specs.ValueSets.{values_shape, same_values, IsValueSet}
 use Rattle.range_json.specs.Values.{IsRangeValue, AreRangeValues, AreItemValues}
 use Rattle.range_json.specs.declared.error.JsonError.{JsonError}
 
@@ -62,3 +67,20 @@ module _ {K V : Type 0} (order : KeyOrder K) (same : V → V → Bool) (key_read
         → AreItemValues key_is_value value_is_value items → IsStored order same items
         → MapIsRead (map_shape key_shape value_shape items) others
         → IsTrue (same_list order same others items)
+
+module _ {K V : Type 0} (order : KeyOrder K) (cmp : V → V → Ordering) (same : V → V → Bool)
+    (key_reads value_reads : Data → Bool) (key_is_read : Data → K → Type 0) (value_is_read : Data → V → Type 0)
+    (key_shape : K → Data) (value_shape : V → Data) (key_is_value : K → Type 0) (value_is_value : V → Type 0) where
+  abbrev pub WrittenMultimapsHaveNoFault : Type 0
+  WrittenMultimapsHaveNoFault = (items : List (Item (AnyRange K) (BTreeSet V)))
+      → AreItemValues key_is_value (IsValueSet cmp value_is_value) items
+      → HasNoEmptySet IsEmpty items → IsStored order (same_values same) items → (e : JsonError)
+      → ¬ IsMultimapFault order key_reads value_reads key_is_read value_is_read cmp (map_shape key_shape (values_shape value_shape) items) e
+
+  -- equal as `==` compares multimaps
+  abbrev pub WrittenMultimapsAreReadEqual : Type 0
+  WrittenMultimapsAreReadEqual = (items others : List (Item (AnyRange K) (BTreeSet V)))
+      → AreItemValues key_is_value (IsValueSet cmp value_is_value) items
+      → IsStored order (same_values same) items
+      → IsMultimapRead order key_reads value_reads key_is_read value_is_read cmp same (map_shape key_shape (values_shape value_shape) items) others
+      → IsTrue (same_list order (same_values same) others items)

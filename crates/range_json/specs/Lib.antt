@@ -4,6 +4,7 @@ pub mod Values
 pub mod ValueSets
 pub mod Faults
 pub mod MapFaults
+pub mod MultimapFaults
 pub mod ReadBack
 pub mod Laws
 pub mod SetReadBack

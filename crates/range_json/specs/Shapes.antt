@@ -12,6 +12,10 @@ use Rattle.range_store.specs.declared.storage.Item.{Item}
 abbrev pub pair_shape : Data → Data → Data
 pair_shape d e = array (item d (item e no_items))
 
+-- an object whose members are the list and the number 2
+abbrev pub versioned_shape : List Data → Data
+versioned_shape ds = object (member (codes "items") (array (items_of ds)) (member (codes "version") (number (unsigned 2)) no_members))
+
 module _ {K : Type 0} (key_shape : K → Data) where
   abbrev pub bound_shape : Bound K → Data
   bound_shape (Included k) = object (member (codes "Included") (key_shape k) no_members)
@@ -24,11 +28,9 @@ module _ {K : Type 0} (key_shape : K → Data) where
   abbrev pub set_shape : List (Item (AnyRange K) (Unit {0})) → Data
   set_shape items = array (items_of (map range_shape (item_ranges items)))
 
-  -- an object whose members are the list of pairs and the number 2
+  -- the pairs of each range and its value
   abbrev pub map_shape : {V : Type 0} → (V → Data) → List (Item (AnyRange K) V) → Data
-  map_shape value_shape items =
-      let pairs = items_of (map (λ i. pair_shape (range_shape i.key) (value_shape i.value)) items) in
-      object (member (codes "items") (array pairs) (member (codes "version") (number (unsigned 2)) no_members))
+  map_shape value_shape items = versioned_shape (map (λ i. pair_shape (range_shape i.key) (value_shape i.value)) items)
 
 -- the two elements of an array of two
 abbrev pub pair_of_items : Items → Option (Data × Data)

@@ -1,6 +1,7 @@
 -- A set of values as a JSON array: what it is written as, which arrays are read, and what is read there.
 use Rattle.std.specs.Prelude.{◌≡◌, List, [], ◌∷◌, map, Option, Some, None, Bool, false}
 use Rattle.std.specs.BTreeSet.{BTreeSet, IsOrdered, IsFromIterResult}
+use Rattle.std.specs.Cmp.Lexicographic.{pointwise}
 use Rattle.std.specs.List.{AllByRecursion, AllZip, list_all}
 use Rattle.std.specs.declared.cmp.Ordering.{Ordering}
 use Rattle.serde_json.specs.Data.{Data, array}
@@ -29,6 +30,10 @@ module _ {V : Type 0} where
   -- the array of the values, in ascending order
   abbrev pub values_shape : (V → Data) → BTreeSet V → Data
   values_shape value_shape s = array (items_of (map value_shape s.keys))
+
+  -- whether the sets have equal values
+  abbrev pub same_values : (V → V → Bool) → BTreeSet V → BTreeSet V → Bool
+  same_values same s t = pointwise same s.keys t.keys
 
   -- a sorted set of values that the type really has
   abbrev pub IsValueSet : (V → V → Ordering) → (V → Type 0) → BTreeSet V → Type 0

@@ -2,6 +2,7 @@
 ghost use Rattle.range_json.specs.Laws.{WrittenRangesHaveNoFault, WrittenRangesAreReadEqual};
 ghost use Rattle.range_json.specs.Laws.{WrittenSetsHaveNoFault, WrittenSetsAreReadEqual};
 ghost use Rattle.range_json.specs.Laws.{WrittenMapsHaveNoFault, WrittenMapsAreReadEqual};
+ghost use Rattle.range_json.specs.Laws.{WrittenMultimapsHaveNoFault, WrittenMultimapsAreReadEqual};
 ghost use Rattle.range_json.specs.Laws.{ReadMapsHaveNoFault};
 
 use crate::json::{Json, ReadsBack};
@@ -25,6 +26,14 @@ pub fn maps_are_read_back<K: ReadsBack + PartialEnum, V: ReadsBack>()
         K.shape V.shape K.is_value V.is_value }
     ensures equal { WrittenMapsAreReadEqual K.order V.eq K.reads V.reads K.is_read V.is_read
         K.shape V.shape K.is_value V.is_value }
+{}
+
+/// A written multimap has no fault, and what is read there equals it, as `==` compares multimaps.
+pub fn multimaps_are_read_back<K: ReadsBack + PartialEnum, V: ReadsBack + Ord>()
+    ensures sound { WrittenMultimapsHaveNoFault K.order V.cmp V.eq K.reads V.reads K.is_read
+        V.is_read K.shape V.shape K.is_value V.is_value }
+    ensures equal { WrittenMultimapsAreReadEqual K.order V.cmp V.eq K.reads V.reads K.is_read
+        V.is_read K.shape V.shape K.is_value V.is_value }
 {}
 
 /// A JSON value that is read as a map has no fault.

@@ -9,6 +9,7 @@ mod error;
 pub mod json;
 mod laws;
 mod map;
+mod multimap;
 mod plain;
 mod range;
 mod set;

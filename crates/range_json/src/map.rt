@@ -12,16 +12,16 @@ use crate::element::{element_from_json, insert_element};
 use crate::error::JsonError;
 use crate::json::Json;
 use crate::range::range_to_json;
-use crate::version::elements_of_map;
+use crate::version::{elements_of_map, versioned};
 use range_algebra::any::AnyRange;
 use range_keys::traits::{Measure, PartialEnum};
 use range_map::map::RangeMap;
 use range_store::storage::{Item, Storage};
-use serde_json::{Map, Value};
+use serde_json::Value;
 use std::alloc::{AllocError, Global};
 
 /// A range and its value, as an array of two.
-fn pair_to_json<K: Json, V: Json>(
+pub(crate) fn pair_to_json<K: Json, V: Json>(
     alloc: Global,
     range: &AnyRange<K>,
     value: &V,
@@ -56,10 +56,7 @@ pub fn map_to_json<K: Json + PartialEnum, V: Json + Eq, C: Storage<Item<AnyRange
     while let Some((range, value)) = items.next() {
         written.push(pair_to_json(alloc, range, value)?)?;
     }
-    let mut members = Map::new(alloc);
-    serde_json::put(&mut members, alloc, "items", Value::Array(written))?;
-    serde_json::put(&mut members, alloc, "version", Value::from(2u64))?;
-    Ok(Value::Object(members))
+    versioned(alloc, written)
 }
 
 /// A map that binds the keys of each range in the array to the value beside it.

@@ -2,10 +2,22 @@
 ghost use Rattle.std.specs.Prelude.{◌≡◌, Ok, Err, IfOk, IfErr, map};
 ghost use Rattle.serde_json.specs.View.{view, members_view};
 ghost use Rattle.range_json.specs.MapFaults.{are_known, map_elements};
+ghost use Rattle.range_json.specs.Shapes.{versioned_shape};
 
 use crate::array::elements_of_array;
 use crate::error::JsonError;
 use serde_json::{Map, Value};
+use std::alloc::{AllocError, Global};
+
+/// The elements, with the number of the version.
+pub(crate) fn versioned(alloc: Global, elements: Vec<Value>) -> Result<Value, AllocError>
+    ensures { IfOk result (λ v. view v ≡ versioned_shape (map view elements.items)) }
+{
+    let mut members = Map::new(alloc);
+    serde_json::put(&mut members, alloc, "items", Value::Array(elements))?;
+    serde_json::put(&mut members, alloc, "version", Value::from(2u64))?;
+    Ok(Value::Object(members))
+}
 
 /// Whether no member has another name than `version` and `items`.
 fn has_known_members(members: &Map<String, Value>) -> bool
