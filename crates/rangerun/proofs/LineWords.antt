@@ -5,7 +5,7 @@ use Rattle.btree_range_map.specs.AnyRange.{AnyRange}
 use Rattle.btree_range_map.specs.Command.TheVariants.{Insert, InsertDisconnected, Remove, Update, Get, Contains, Intersects, Count}
 use Rattle.rangerun.specs.declared.tag.Tag.{Tag}
 use Rattle.rangerun.specs.declared.command_line.CommandLine.{CommandLine}
-use Rattle.rangerun.specs.declared.command_line.CommandLine.TheVariants.{Run, Show, Gaps, Len, Levels}
+use Rattle.rangerun.specs.declared.command_line.CommandLine.TheVariants.{Run, Show, Gaps, Len, Levels, Save}
 use Rattle.rangerun.specs.Grammar.{SpellsKey, SpellsRange, SpellsBinding, SpellsUpdate, SpellsFields, SpellsLine, StandsAlone, word_text}
 use Rattle.rangerun.specs.Text.{Lacks, IsSplitAt}
 use Rattle.rangerun.proofs.Spelled.{lacks_nil, lacks_more, has_byte, split_unique}
@@ -106,13 +106,14 @@ module _ {K : Type 0} (IsKey : K → Type 0) (as_number : K → ℤ) where
   pub none_named : (text fields : List ℕ) → ((word : Word) → text ≢ text_of word) → (known : CommandLine K) → SpellsFields IsKey as_number fields known → text ≡ word_text known → ⊥
   none_named text fields none known spelled e = let found = has_fields fields known spelled in none found.word (e ∙ found.begins_with)
 
-  pub none_alone : (text : List ℕ) → text ≢ codes "count" → text ≢ codes "show" → text ≢ codes "gaps" → text ≢ codes "len" → text ≢ codes "levels" → (known : CommandLine K) → StandsAlone known → text ≡ word_text known → ⊥
-  none_alone text count show gaps len levels (Run Count) alone e = count e
-  none_alone text count show gaps len levels Show alone e = show e
-  none_alone text count show gaps len levels Gaps alone e = gaps e
-  none_alone text count show gaps len levels Len alone e = len e
-  none_alone text count show gaps len levels Levels alone e = levels e
-  none_alone text count show gaps len levels known alone e = absurd alone
+  pub none_alone : (text : List ℕ) → text ≢ codes "count" → text ≢ codes "show" → text ≢ codes "gaps" → text ≢ codes "len" → text ≢ codes "levels" → text ≢ codes "save" → (known : CommandLine K) → StandsAlone known → text ≡ word_text known → ⊥
+  none_alone text count show gaps len levels save (Run Count) alone e = count e
+  none_alone text count show gaps len levels save Show alone e = show e
+  none_alone text count show gaps len levels save Gaps alone e = gaps e
+  none_alone text count show gaps len levels save Len alone e = len e
+  none_alone text count show gaps len levels save Levels alone e = levels e
+  none_alone text count show gaps len levels save Save alone e = save e
+  none_alone text count show gaps len levels save known alone e = absurd alone
 
   alone_lacks : (known : CommandLine K) → StandsAlone known → Lacks 32 (word_text known)
   alone_lacks (Run Count) alone = lacks_space (codes "count") refl
@@ -120,6 +121,7 @@ module _ {K : Type 0} (IsKey : K → Type 0) (as_number : K → ℤ) where
   alone_lacks Gaps alone = lacks_space (codes "gaps") refl
   alone_lacks Len alone = lacks_space (codes "len") refl
   alone_lacks Levels alone = lacks_space (codes "levels") refl
+  alone_lacks Save alone = lacks_space (codes "save") refl
   alone_lacks known alone = absurd alone
 
   -- a line with a space spells what its word and its fields do

@@ -1,17 +1,19 @@
 -- How far a loop that writes answers has come.
-use Rattle.std.proofs.Common.{arith, ◌≡◌, ◌≢◌, ℕ, ℤ, length, List, [], ◌∷◌, ◌++◌, ap, refl, sym, subst, ◌∙◌, append_assoc}
-use Rattle.std.specs.Prelude.{Option, None, Some, IfSome, IfNone, Result, Ok, Err, OnOk}
+use Rattle.std.proofs.Common.{arith, ◌≡◌, ◌≢◌, ℕ, ℤ, length, List, [], ◌∷◌, ◌++◌, inr, ap, refl, sym, subst, ◌∙◌, append_assoc}
+use Rattle.std.specs.Prelude.{Bool, Option, None, Some, IfSome, IfNone, Result, Ok, Err, OnOk}
 use Rattle.std.specs.Io.KnownBytes.{Appends, Keeps}
 use Rattle.std.specs.Io.BufRead.{first_line, drop_through, take_through}
 use Rattle.std.specs.Str.{IsUtf8}
+use Rattle.serde_json.specs.Data.{Data}
 use Rattle.btree_range_map.specs.AnyRange.{AnyRange}
 use Rattle.btree_range_map.specs.Item.{Item}
 use Rattle.btree_range_map.specs.Order.{KeyOrder}
 use Rattle.rangerun.specs.declared.command_line.CommandLine.{CommandLine}
 use Rattle.rangerun.specs.Grammar.{SpellsLine}
 use Rattle.rangerun.specs.Replies.{SpellsEach, SpellsLines, Writes}
+use Rattle.rangerun.specs.Saving.{load_line}
 use Rattle.rangerun.specs.Text.{line_content}
-use Rattle.rangerun.specs.Conversation.{Conversation, IsRead, Answers}
+use Rattle.rangerun.specs.Conversation.{Conversation, IsRead, Answers, AnswersLine}
 use Rattle.rangerun.specs.Conversation.Conversation.{Ended, Answered}
 
 append_nil : (xs : List ℕ) → xs ++ [] ≡ xs
@@ -73,14 +75,25 @@ module _ {X : Type 0} (SpellsOne : X → List ℕ → Type 0) where
   none_are_lines none [] text empty e = e
   none_are_lines none (x ∷ rest) text empty e = absurd (omega (arith, empty))
 
-module _ {K : Type 0} (order : KeyOrder K) (as_number : K → ℤ) where
+module _ {K : Type 0} (order : KeyOrder K) (as_number : K → ℤ) (shape : K → Data) (reads : Data → Bool) (is_read : Data → K → Type 0) where
+  pub reads_line : (line : List ℕ) (command : Option (CommandLine K)) → IfSome command (SpellsLine order.is_key as_number line)
+      → IfNone command ((known : CommandLine K) → SpellsLine order.is_key as_number line known → ⊥) → IsRead order as_number shape reads is_read line command
+  reads_line line None found none = none
+  reads_line line (Some known) found none = found
+
+  -- a line that loads no text is answered as its command is
+  pub answers_known : (items next : List (Item (AnyRange K) ℤ)) (line : List ℕ) (command : Option (CommandLine K)) (before now : Option (List ℕ))
+      → ((json : List ℕ) → line ≢ load_line json) → IsRead order as_number shape reads is_read line command
+      → Writes before now (λ text. Answers order as_number shape reads is_read items command text next) → Writes before now (λ text. AnswersLine order as_number shape reads is_read items line text next)
+  answers_known items next line command before now none read (text, answer, more) = (text, inr (none, command, read, answer), more)
+
   -- the lines of the input before those that are left are answered
   pub record HasAnswered (input : List ℕ) (left before now : Option (List ℕ)) (items : List (Item (AnyRange K) ℤ)) : Type 0 where
     pub remaining : List ℕ
     pub left_is : left ≡ Some remaining
     pub written : List ℕ
     pub appended : Appends before now written
-    pub goes_on : (more rest : List ℕ) → Conversation order as_number items remaining more rest → Conversation order as_number [] input (written ++ more) rest
+    pub goes_on : (more rest : List ℕ) → Conversation order as_number shape reads is_read items remaining more rest → Conversation order as_number shape reads is_read [] input (written ++ more) rest
 
   pub answered_none : (input known : Option (List ℕ)) (items : List (Item (AnyRange K) ℤ)) → items ≡ [] → IfSome input (λ bytes. HasAnswered bytes input known known items)
   answered_none None known items empty = tt
@@ -89,38 +102,34 @@ module _ {K : Type 0} (order : KeyOrder K) (as_number : K → ℤ) where
     left_is = refl;
     written = [];
     appended = appends_none known;
-    goes_on = λ more rest held. subst (λ list. Conversation order as_number list bytes more rest) empty held;
+    goes_on = λ more rest held. subst (λ list. Conversation order as_number shape reads is_read list bytes more rest) empty held;
   }
 
-  pub is_read : (line : List ℕ) (command : Option (CommandLine K)) → IfSome command (SpellsLine order.is_key as_number line) → IfNone command ((known : CommandLine K) → SpellsLine order.is_key as_number line known → ⊥) → IsRead order as_number line command
-  is_read line None found none = none
-  is_read line (Some known) found none = found
-
-  pub answered_more : (input : List ℕ) (left later before now next : Option (List ℕ)) (items changed : List (Item (AnyRange K) ℤ)) (line : List ℕ) (command : Option (CommandLine K))
+  pub answered_more : (input : List ℕ) (left later before now next : Option (List ℕ)) (items changed : List (Item (AnyRange K) ℤ)) (line : List ℕ)
       → (answered : HasAnswered input left before now items) → answered.remaining ≢ [] → later ≡ Some (drop_through 10 answered.remaining) → line ≡ first_line answered.remaining
-      → IsUtf8 line → IsRead order as_number line command → Writes now next (λ text. Answers order as_number items command text changed) → HasAnswered input later before next changed
-  answered_more input left later before now next items changed line command answered some later_is line_is is_text read (text, answer, more) = record {
+      → IsUtf8 line → Writes now next (λ text. AnswersLine order as_number shape reads is_read items line text changed) → HasAnswered input later before next changed
+  answered_more input left later before now next items changed line answered some later_is line_is is_text (text, answer, more) = record {
     remaining = drop_through 10 answered.remaining;
     left_is = later_is;
     written = answered.written ++ text;
     appended = appends_then before now next answered.written text answered.appended more;
-    goes_on = λ others rest held. subst (λ all. Conversation order as_number [] input all rest) (sym (append_assoc answered.written text others))
-        (answered.goes_on (text ++ others) rest (Answered items changed answered.remaining (text ++ others) text others rest command some (subst IsUtf8 line_is is_text) (subst (λ l. IsRead order as_number l command) line_is read) answer held refl));
+    goes_on = λ others rest held. subst (λ all. Conversation order as_number shape reads is_read [] input all rest) (sym (append_assoc answered.written text others))
+        (answered.goes_on (text ++ others) rest (Answered items changed answered.remaining (text ++ others) text others rest some (subst IsUtf8 line_is is_text) (subst (λ l. AnswersLine order as_number shape reads is_read items l text changed) line_is answer) held refl));
   }
 
   -- what is written answers the lines before those that are left
-  pub answered_so_far : (input : List ℕ) (left before now : Option (List ℕ)) (items : List (Item (AnyRange K) ℤ)) → (answered : HasAnswered input left before now items) → Writes before now (λ text. Conversation order as_number [] input text answered.remaining)
+  pub answered_so_far : (input : List ℕ) (left before now : Option (List ℕ)) (items : List (Item (AnyRange K) ℤ)) → (answered : HasAnswered input left before now items) → Writes before now (λ text. Conversation order as_number shape reads is_read [] input text answered.remaining)
   answered_so_far input left before now items answered =
-      (answered.written, subst (λ text. Conversation order as_number [] input text answered.remaining) (append_nil answered.written) (answered.goes_on [] answered.remaining (Ended items answered.remaining)), answered.appended)
+      (answered.written, subst (λ text. Conversation order as_number shape reads is_read [] input text answered.remaining) (append_nil answered.written) (answered.goes_on [] answered.remaining (Ended items answered.remaining)), answered.appended)
 
-  pub answered_all : (input : List ℕ) (left before now : Option (List ℕ)) (items : List (Item (AnyRange K) ℤ)) → (answered : HasAnswered input left before now items) → answered.remaining ≡ [] → Writes before now (λ text. Conversation order as_number [] input text [])
-  answered_all input left before now items answered ended = subst (λ rest. Writes before now (λ text. Conversation order as_number [] input text rest)) ended (answered_so_far input left before now items answered)
+  pub answered_all : (input : List ℕ) (left before now : Option (List ℕ)) (items : List (Item (AnyRange K) ℤ)) → (answered : HasAnswered input left before now items) → answered.remaining ≡ [] → Writes before now (λ text. Conversation order as_number shape reads is_read [] input text [])
+  answered_all input left before now items answered ended = subst (λ rest. Writes before now (λ text. Conversation order as_number shape reads is_read [] input text rest)) ended (answered_so_far input left before now items answered)
 
-module _ {K : Type 0} (order : KeyOrder K) (as_number : K → ℤ) where
-  pub stopped_at : (input left before now : Option (List ℕ)) (items : List (Item (AnyRange K) ℤ)) → IfSome input (λ bytes. HasAnswered order as_number bytes left before now items)
-      → IfSome input (λ bytes. (rest : List ℕ) × Writes before now (λ text. Conversation order as_number [] bytes text rest))
+module _ {K : Type 0} (order : KeyOrder K) (as_number : K → ℤ) (shape : K → Data) (reads : Data → Bool) (is_read : Data → K → Type 0) where
+  pub stopped_at : (input left before now : Option (List ℕ)) (items : List (Item (AnyRange K) ℤ)) → IfSome input (λ bytes. HasAnswered order as_number shape reads is_read bytes left before now items)
+      → IfSome input (λ bytes. (rest : List ℕ) × Writes before now (λ text. Conversation order as_number shape reads is_read [] bytes text rest))
   stopped_at None left before now items answered = tt
-  stopped_at (Some bytes) left before now items answered = (answered.remaining, answered_so_far order as_number bytes left before now items answered)
+  stopped_at (Some bytes) left before now items answered = (answered.remaining, answered_so_far order as_number shape reads is_read bytes left before now items answered)
 
 pub if_some_as : {A : Type 0} (o : Option A) (P Q : A → Type 0) → ((x : A) → o ≡ Some x → P x → Q x) → IfSome o P → IfSome o Q
 if_some_as None P Q follows held = tt

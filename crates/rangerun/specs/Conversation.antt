@@ -1,21 +1,23 @@
 -- What a map answers to lines of text, from the first to the last.
-use Rattle.std.specs.Prelude.{◌≡◌, ◌≢◌, ℕ, ℤ, Option, None, Some, List, [], ◌++◌, codes}
+use Rattle.std.specs.Prelude.{◌≡◌, ◌≢◌, ◌⊎◌, ℕ, ℤ, Bool, Option, None, Some, List, [], ◌++◌, codes}
 use Rattle.std.specs.Io.BufRead.{first_line, drop_through}
 use Rattle.std.specs.Str.{IsUtf8}
 use Rattle.std.specs.Ordering.{int_eq}
+use Rattle.serde_json.specs.Data.{Data}
 use Rattle.btree_range_map.specs.AnyRange.{AnyRange}
 use Rattle.btree_range_map.specs.Item.{Item}
 use Rattle.btree_range_map.specs.Order.{KeyOrder}
 use Rattle.btree_range_map.specs.Reply.{Reply}
 use Rattle.btree_range_map.specs.Runs.{IsStep}
 use Rattle.rangerun.specs.declared.command_line.CommandLine.{CommandLine}
-use Rattle.rangerun.specs.declared.command_line.CommandLine.TheVariants.{Run, Show, Gaps, Len, Levels}
+use Rattle.rangerun.specs.declared.command_line.CommandLine.TheVariants.{Run, Show, Gaps, Len, Levels, Save}
 use Rattle.rangerun.specs.Grammar.{SpellsLine}
 use Rattle.rangerun.specs.Replies.{SpellsReply, SpellsAll, SpellsGaps, SpellsLen, SpellsLevels}
+use Rattle.rangerun.specs.Saving.{load_line, SpellsSaved, AnswersLoad}
 use Rattle.rangerun.specs.Tags.{IsAnswerOf}
 
--- of keys, each with its number
-module _ {K : Type 0} (order : KeyOrder K) (as_number : K → ℤ) where
+-- of keys, each with its number, with the JSON value that it is written as, and with those that it is read of
+module _ {K : Type 0} (order : KeyOrder K) (as_number : K → ℤ) (shape : K → Data) (reads : Data → Bool) (is_read : Data → K → Type 0) where
   -- the command that the line spells, or none where it spells none
   abbrev pub IsRead : List ℕ → Option (CommandLine K) → Type 0
   IsRead line None = (known : CommandLine K) → SpellsLine order.is_key as_number line known → ⊥
@@ -28,11 +30,19 @@ module _ {K : Type 0} (order : KeyOrder K) (as_number : K → ℤ) where
   Answers items (Some Gaps) text next = SpellsGaps order as_number items text × (next ≡ items)
   Answers items (Some Len) text next = SpellsLen order as_number items text × (next ≡ items)
   Answers items (Some Levels) text next = SpellsLevels items text × (next ≡ items)
+  Answers items (Some Save) text next = SpellsSaved shape items text × (next ≡ items)
   Answers items (Some (Run command)) text next = (reply : Reply K ℤ ℤ) × IsStep order int_eq IsAnswerOf items command reply next × SpellsReply order as_number reply text
+
+  -- the text that may answer a line: one that loads a text, or any other
+  abbrev pub AnswersLine : List (Item (AnyRange K) ℤ) → List ℕ → List ℕ → List (Item (AnyRange K) ℤ) → Type 0
+  AnswersLine items line text next =
+      ((json : List ℕ) × (line ≡ load_line json) × AnswersLoad order reads is_read items json text next)
+      ⊎ (((json : List ℕ) → line ≢ load_line json)
+      × (command : Option (CommandLine K)) × IsRead line command × Answers items command text next)
 
   -- the text that may answer the lines of the input before the rest of it, over the stored list: one answer for each line, in order; each line is text
   pub data Conversation : List (Item (AnyRange K) ℤ) → List ℕ → List ℕ → List ℕ → Type 0 where
     Ended : (items : List (Item (AnyRange K) ℤ)) (input : List ℕ) → Conversation items input [] input
-    Answered : (items next : List (Item (AnyRange K) ℤ)) (input text answer more rest : List ℕ) (command : Option (CommandLine K))
-        → input ≢ [] → IsUtf8 (first_line input) → IsRead (first_line input) command → Answers items command answer next → Conversation next (drop_through 10 input) more rest → text ≡ answer ++ more
+    Answered : (items next : List (Item (AnyRange K) ℤ)) (input text answer more rest : List ℕ)
+        → input ≢ [] → IsUtf8 (first_line input) → AnswersLine items (first_line input) answer next → Conversation next (drop_through 10 input) more rest → text ≡ answer ++ more
         → Conversation items input text rest

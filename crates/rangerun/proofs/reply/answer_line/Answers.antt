@@ -1,20 +1,16 @@
-use Rattle.std.proofs.Common.{rules}
+use Rattle.btree_range_map.specs.Holding.{box_items}
+use Rattle.rangerun.proofs.Progress.{on_ok_as, reads_line, answers_known}
 use Rattle.rangerun.proofs.reply.answer_line.Goals as goal
 
 pub returns-in-None : goal.returns-in-None
-returns-in-None g c = search rules
-
-pub returns-in-Some-Show : goal.returns-in-Some-Show
-returns-in-Some-Show g c = search rules
-
-pub returns-in-Some-Gaps : goal.returns-in-Some-Gaps
-returns-in-Some-Gaps g c = search rules
-
-pub returns-in-Some-Len : goal.returns-in-Some-Len
-returns-in-Some-Len g c = search rules
-
-pub returns-in-Some-Levels : goal.returns-in-Some-Levels
-returns-in-Some-Levels g c = search rules
-
-pub returns-in-Some-Run : goal.returns-in-Some-Run
-returns-in-Some-Run g c = search rules
+returns-in-None g c =
+    let order = g.K.MaybeBounded.order in
+    let as_number = g.K.SpelledKey.as_number in
+    let shape = g.K.Json.shape in
+    let reads = g.K.Json.reads in
+    let is_read = g.K.Json.is_read in
+    let line = c.args.line.now in
+    let read = reads_line order as_number shape reads is_read line c.parse.result c.parse.ensures.found c.parse.ensures.none in
+    on_ok_as c.answer_known.result _ _
+    (answers_known order as_number shape reads is_read (box_items c.args.map.now) (box_items c.answer_known.new.map) line c.parse.result (g.W.Write.contents c.args.out.now) (g.W.Write.contents c.answer_known.new.out) c.in-None.ensures read)
+    c.answer_known.ensures

@@ -1,0 +1,15 @@
+use Rattle.std.proofs.Common.{◌≡◌, subst, sym, ap, ◌∙◌}
+use Rattle.std.specs.Prelude.{string_bytes, false}
+use Rattle.serde_json.specs.View.{view}
+use Rattle.serde_json.specs.Written.{compact_text, has_float}
+use Rattle.btree_range_map.specs.Holding.{box_items}
+use Rattle.btree_range_map.specs.Keys.{signed_shape}
+use Rattle.btree_range_map.specs.Shapes.{map_shape}
+use Rattle.rangerun.proofs.Saved.{map_has_no_float, if_ok_as}
+use Rattle.rangerun.proofs.saving.map_text.Goals as goal
+
+pub returns : goal.returns
+returns g c =
+    let written = c.in_ok-value.ensures.written in
+    let none = ap has_float written ∙ map_has_no_float g.K.Json.shape g.met.K.SpelledKey.has_no_float (box_items c.args.map.now) in
+    if_ok_as c.to_string.result _ _ (λ text known. known none ∙ ap compact_text written) c.to_string.ensures.text
