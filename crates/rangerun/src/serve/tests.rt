@@ -152,6 +152,42 @@ const CONVERSATIONS: &[(&str, &str, &str)] = &[
         "update\nupdate 0..5\nupdate 0..5 set\nupdate 0..5 clear \nupdate 0..5 fail 1\nupdate 0..5 fail 1 2 3\nupdate 0..5 fill +1\nupdate clear\nupdate 0..5 put 1\n",
         "bad line\nbad line\nbad line\nbad line\nbad line\nbad line\nbad line\nbad line\nbad line\n",
     ),
+    (
+        "i32",
+        "insert 0..5 1\ninsert 10..=12 2\nsave\nload [\nload {}\nload [1]\ncount\nload [[[\"Unbounded\",\"Unbounded\"],7]]\nshow\n",
+        "ok\nok\n{\"items\":[[[{\"Included\":0},{\"Excluded\":5}],1],[[{\"Included\":10},{\"Included\":12}],2]],\"version\":2}\nbad json\njson 12\njson 6 0\n2\nok\n-2147483648..=2147483647 7\n",
+    ),
+    ("i32", "save\n", "{\"items\":[],\"version\":2}\n"),
+    (
+        "i32",
+        "load {}\nload {\"version\":3,\"items\":[]}\nload {\"version\":2,\"items\":[],\"x\":0}\nload {\"version\":2}\nload {\"version\":2,\"items\":[1]}\nload 7\n",
+        "json 12\njson 12\njson 12\njson 5\njson 6 0\njson 5\n",
+    ),
+    (
+        "i32",
+        "load [[[{\"Included\":0},{\"Excluded\":5}],1]]\nsave\n",
+        "ok\n{\"items\":[[[{\"Included\":0},{\"Excluded\":5}],1]],\"version\":2}\n",
+    ),
+    (
+        "i32",
+        "insert 3..4 9\nload\nload \nload  []\ncount\ninsert 3..4 9\nloads []\nsave \nload [] x\nload \u{7f}\nload []\r\nshow\n",
+        "ok\nbad line\nbad json\nok\n0\nok\nbad line\nbad line\nbad json\nbad json\nok\nempty\n",
+    ),
+    (
+        "i32",
+        "load [[[\"Unbounded\",\"Unbounded\"],1],[[\"Unbounded\",\"Unbounded\"],1]]\nload [[[{\"Included\":0,\"Excluded\":1},\"Unbounded\"],1]]\nload [[[\"Unbounded\",{\"Included\":\"x\"}],\"x\"]]\nload [[[\"Unbounded\"],1],7]\nload [[[\"Unbounded\",\"Unbounded\"],1,2]]\nload [[[\"Unbounded\",\"Unbounded\"],\"x\"]]\n",
+        "json 11 1\njson 8 0\njson 9 0\njson 7 0\njson 6 0\njson 10 0\n",
+    ),
+    (
+        "i32",
+        "insert 0..3 4\nload [[[{\"Included\":8},{\"Excluded\":3}],1],[[\"Unbounded\",\"Unbounded\"],2]]\ncount\nget 5\n",
+        "ok\nok\n1\n2\n",
+    ),
+    (
+        "u8",
+        "load [[[{\"Included\":300},\"Unbounded\"],1]]\nload [[[{\"Included\":250},\"Unbounded\"],1]]\nlen\n",
+        "json 9 0\nok\n6\n",
+    ),
 ];
 
 #[test]
@@ -303,13 +339,23 @@ fn stops_where_a_stream_fails(rt: HostRuntime) -> Result<(), AllocError> {
     Ok(())
 }
 
-const REFUSALS: [&[u8]; 2] = [
+const REFUSALS: [&[u8]; 4] = [
     b"insert 0..9 1\ninsert 3..5 2\ncount\n",
     b"insert 0..9 1\nupdate 3..5 set 2\ncount\n",
+    b"insert 0..9 1\nload []\ncount\n",
+    b"insert 0..9 1\nload {}\ncount\n",
 ];
 
 /// What may be answered where an allocation is refused, first where none is.
-const ANSWERS: [&[u8]; 3] = [b"ok\nok\n3\n", b"memory\nok\n1\n", b"ok\nmemory\n1\n"];
+const ANSWERS: [&[u8]; 7] = [
+    b"ok\nok\n3\n",
+    b"memory\nok\n1\n",
+    b"ok\nmemory\n1\n",
+    b"ok\nok\n0\n",
+    b"memory\nok\n0\n",
+    b"ok\njson 12\n1\n",
+    b"memory\njson 12\n0\n",
+];
 
 fn is_answer(replies: &[u8]) -> bool {
     for answer in ANSWERS {
@@ -333,5 +379,165 @@ fn goes_on_after_a_refusal(rt: HostRuntime) -> Result<(), AllocError> {
     for script in REFUSALS {
         assert!(rt; goes_on(rt.alloc(), &words, script), "at {script:?}");
     }
+    Ok(())
+}
+
+/// A script that begins with `front` and ends with `end`; between them `again` stands so many times,
+/// then `back` as often. It is answered by `replies`, `answered` times over.
+struct Repeating {
+    front: &'static [u8],
+    again: &'static [u8],
+    back: &'static [u8],
+    times: usize,
+    end: &'static [u8],
+    replies: &'static [u8],
+    answered: usize,
+}
+
+const REPEATING: &[Repeating] = &[
+    Repeating {
+        front: b"",
+        again: b"insert 0..9 1\ntry 3..5 2\nget 4\nload []\ncount\n",
+        back: b"",
+        times: 250,
+        end: b"",
+        replies: b"ok\nconnected 3..=4 2\n1\nok\n0\n",
+        answered: 250,
+    },
+    Repeating {
+        front: b"load ",
+        again: b"[",
+        back: b"]",
+        times: 200,
+        end: b"\n",
+        replies: b"bad json\n",
+        answered: 1,
+    },
+    Repeating {
+        front: b"load ",
+        again: b" ",
+        back: b"",
+        times: 20_000,
+        end: b"[]",
+        replies: b"ok\n",
+        answered: 1,
+    },
+    Repeating {
+        front: b"get ",
+        again: b"0",
+        back: b"",
+        times: 1_000,
+        end: b"1\n",
+        replies: b"none\n",
+        answered: 1,
+    },
+    Repeating {
+        front: b"get ",
+        again: b"9",
+        back: b"",
+        times: 1_000,
+        end: b"\n",
+        replies: b"bad line\n",
+        answered: 1,
+    },
+];
+
+fn push_times(text: &mut Vec<u8>, part: &[u8], times: usize) -> Result<(), AllocError> {
+    for _ in 0..times {
+        text.extend_from_slice(part)?;
+    }
+    Ok(())
+}
+
+fn repeating_script(alloc: Global, row: &Repeating) -> Result<Vec<u8>, AllocError> {
+    let mut script = Vec::new(alloc);
+    push_times(&mut script, row.front, 1)?;
+    push_times(&mut script, row.again, row.times)?;
+    push_times(&mut script, row.back, row.times)?;
+    push_times(&mut script, row.end, 1)?;
+    Ok(script)
+}
+
+fn expect_repeating(rt: &impl Abort, alloc: Global, row: &Repeating) -> Result<(), AllocError> {
+    let script = repeating_script(alloc, row)?;
+    let mut replies = Vec::new(alloc);
+    push_times(&mut replies, row.replies, row.answered)?;
+    let told = Told {
+        status: 0,
+        out: &replies,
+        err: b"",
+    };
+    expect_served(rt, alloc, "i32", &script, told)
+}
+
+#[test]
+fn answers_long_scripts_and_lines(rt: HostRuntime) -> Result<(), AllocError> {
+    for row in REPEATING {
+        expect_repeating(&rt, rt.alloc(), row)?;
+    }
+    Ok(())
+}
+
+const MAP_TEXT: &[u8] =
+    b"[[[{\"Included\":0},{\"Excluded\":5}],1],[[{\"Included\":5},{\"Excluded\":9}],2]]";
+
+fn cut_script(alloc: Global, end: usize) -> Result<Vec<u8>, AllocError> {
+    let mut script = Vec::new(alloc);
+    script.extend_from_slice(b"insert 7..8 3\nload ")?;
+    script.extend_from_slice(&MAP_TEXT[..end.min(MAP_TEXT.len())])?;
+    script.extend_from_slice(b"\nshow\n")?;
+    Ok(script)
+}
+
+/// A text that is cut anywhere is no JSON, and leaves the map as it was.
+#[test]
+fn loads_no_cut_text(rt: HostRuntime) -> Result<(), AllocError> {
+    for end in 1..MAP_TEXT.len() {
+        let script = cut_script(rt.alloc(), end)?;
+        let told = Told {
+            status: 0,
+            out: b"ok\nbad json\n7..=7 3\n",
+            err: b"",
+        };
+        expect_served(&rt, rt.alloc(), "i32", &script, told)?;
+    }
+    Ok(())
+}
+
+/// A writer that hands on nothing before it is flushed.
+#[derive(Drop)]
+struct Late {
+    held: Vec<u8>,
+    flushed: Vec<u8>,
+}
+
+impl Write for Late {
+    fn write(&mut self, bytes: &[u8]) -> io::Result<usize> {
+        self.held.extend_from_slice(bytes)?;
+        Ok(bytes.len())
+    }
+
+    fn flush(&mut self) -> io::Result<()> {
+        self.flushed.append(&mut self.held)?;
+        Ok(())
+    }
+}
+
+fn flushes_every_reply(alloc: Global, words: &[String]) -> bool {
+    let script: &[u8] = b"insert 0..5 1\nshow\nsave\n";
+    let mut out = Late {
+        held: Vec::new(alloc),
+        flushed: Vec::new(alloc),
+    };
+    let status = serve(alloc, words, script, &mut out, &mut Vec::new(alloc));
+    let replies: &[u8] =
+        b"ok\n0..=4 1\n{\"items\":[[[{\"Included\":0},{\"Excluded\":5}],1]],\"version\":2}\n";
+    status == 0 && out.flushed.as_slice() == replies
+}
+
+#[test]
+fn the_last_flush_hands_on_every_reply(rt: HostRuntime) -> Result<(), AllocError> {
+    let words = [String::from_str(rt.alloc(), "i32")?];
+    assert!(rt; flushes_every_reply(rt.alloc(), &words));
     Ok(())
 }

@@ -1,10 +1,6 @@
-use Rattle.std.proofs.Common.{◌≡◌, subst, sym, ap, ◌∙◌}
-use Rattle.std.specs.Prelude.{string_bytes, false}
-use Rattle.serde_json.specs.View.{view}
+use Rattle.std.proofs.Common.{ap, ◌∙◌}
 use Rattle.serde_json.specs.Written.{compact_text, has_float}
 use Rattle.btree_range_map.specs.Holding.{box_items}
-use Rattle.btree_range_map.specs.Keys.{signed_shape}
-use Rattle.btree_range_map.specs.Shapes.{map_shape}
 use Rattle.rangerun.proofs.Saved.{map_has_no_float, if_ok_as}
 use Rattle.rangerun.proofs.saving.map_text.Goals as goal
 
