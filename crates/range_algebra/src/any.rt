@@ -41,7 +41,9 @@ use std::ops::{Bound, RangeBounds};
 /// ```
 #[derive(Drop)]
 pub struct AnyRange<T> {
+    /// Where the keys start.
     pub start: Bound<T>,
+    /// Where the keys end.
     pub end: Bound<T>,
 }
 

@@ -24,12 +24,14 @@ impl Model for Steps {
 }
 
 impl Steps {
+    /// A count of no steps. Allocates nothing.
     pub fn new() -> Self
         ensures { result ≡ 0 }
     {
         Steps { count: 0 }
     }
 
+    /// How many steps were counted.
     pub fn count(&self) -> u64
         ensures { result ≡ self.now }
     {
@@ -47,11 +49,14 @@ impl Steps {
 /// A key beside its value.
 #[derive(Clone, PartialEq, Eq, Drop)]
 pub struct Item<K, V> {
+    /// What the items are ordered by: in a map the range.
     pub key: K,
+    /// What is stored with it.
     pub value: V,
 }
 
 impl<K, V> Item<K, V> {
+    /// The key beside the value. Allocates nothing.
     pub fn new(key: K, value: V) -> Self
         ensures key { result.key ≡ key }
         ensures value { result.value ≡ value }
@@ -59,6 +64,7 @@ impl<K, V> Item<K, V> {
         Item { key, value }
     }
 
+    /// The key and the value, borrowed.
     pub fn as_pair(&self) -> (&K, &V)
         ensures key { result.0.now ≡ self.now.key }
         ensures value { result.1.now ≡ self.now.value }
@@ -66,6 +72,7 @@ impl<K, V> Item<K, V> {
         (&self.key, &self.value)
     }
 
+    /// The key and the value, moved out.
     pub fn into_pair(self) -> (K, V)
         ensures { result ≡ (self.key, self.value) }
     {
@@ -81,17 +88,20 @@ pub trait Probe<T> {
     /// How many steps were counted.
     ghost steps_taken: { Self → ℕ };
 
+    /// What the probe answers of the item. Counts one step.
     fn ask(&mut self, item: &T) -> bool
         ensures answer { result ≡ test self.old item.now }
         ensures test_kept { (x : T) → test self.new x ≡ test self.old x }
         ensures counted { steps_taken self.new ≡ one_step_after (steps_taken self.old) };
 
+    /// The steps that were counted so far.
     fn steps(&self) -> &Steps
         ensures { result.now ≡ steps_taken self.now };
 }
 
 /// An ordered container: a list of items, and capacity for more.
 pub trait Storage<T>: Drop {
+    /// Where an item stands. A change of the container may make it useless.
     type Position: Copy;
 
     /// The items in order.
@@ -114,26 +124,33 @@ pub trait Storage<T>: Drop {
 
     ghost most_asks: { Self → ℕ };
 
+    /// A container without an item. Allocates nothing.
     fn new(alloc: Global) -> Self
         ensures { items result ≡ [] };
 
+    /// How many items there are. Costs the same however many.
     fn len(&self) -> usize
         ensures { result ≡ length (items self.now) };
 
+    /// The position of the first item, or none where there is no item.
     fn first(&self) -> Option<Self::Position>
         ensures { IsAt (is_good self.now) (rank self.now) (length (items self.now)) result 0 };
 
+    /// The position of the last item, or none where there is no item.
     fn last(&self) -> Option<Self::Position>
         ensures { MatchOption result (items self.now ≡ []) (λ p. is_good self.now p × (rank self.now p + 1 ≡ length (items self.now))) };
 
+    /// The position after this one, or none after the last item.
     fn next(&self, p: Self::Position) -> Option<Self::Position>
         requires { is_good self.now p }
         ensures { IsAt (is_good self.now) (rank self.now) (length (items self.now)) result (rank self.now p + 1) };
 
+    /// The position before this one, or none before the first item.
     fn prev(&self, p: Self::Position) -> Option<Self::Position>
         requires { is_good self.now p }
         ensures { MatchOption result (rank self.now p ≡ 0) (λ q. is_good self.now q × (rank self.now q + 1 ≡ rank self.now p)) };
 
+    /// The item at a position.
     fn get(&self, p: Self::Position) -> &T
         requires { is_good self.now p }
         ensures { result.now ≡ slice_index_or (items self.now) (rank self.now p) result.now };
@@ -144,6 +161,7 @@ pub trait Storage<T>: Drop {
         ensures* writes_back { sem 𝓛 (Lends Self.row T.row self.entry result (with_item self.old p)) }
         ensures value { result.now ≡ slice_index_or (items self.old) (rank self.old p) result.now };
 
+    /// Puts the item at the position, and returns the one that stood there. Allocates nothing.
     fn replace(&mut self, p: Self::Position, item: T) -> T
         requires { is_good self.old p }
         ensures before { result ≡ slice_index_or (items self.old) (rank self.old p) result }
@@ -151,18 +169,29 @@ pub trait Storage<T>: Drop {
         ensures space { room self.old ≤ room self.new }
         ensures positions { (q : Self.Position) → is_good self.old q → is_good self.new q × (rank self.new q ≡ rank self.old q) };
 
+    /// The position of the last item that the probe answers true for, or none.
+    ///
+    /// The items for which it does have to stand before all others. Allocates nothing. How many
+    /// items a vector and a B-tree ask grows as the logarithm of their number.
     fn search<P: Probe<T>>(&self, probe: &mut P) -> Option<Self::Position>
         requires { IsPartitionedBy (P.test probe.old) (items self.now) }
         ensures found { MatchOption result (IsFrontOf (P.test probe.old) (items self.now) 0) (λ p. is_good self.now p × IsFrontOf (P.test probe.old) (items self.now) (rank self.now p + 1)) }
         ensures test_kept { (x : T) → P.test probe.new x ≡ P.test probe.old x }
         ensures asked { AddsSteps (P.steps_taken probe.old) (P.steps_taken probe.new) (least_asks self.now) (most_asks self.now) };
 
+    /// Makes capacity for so many further items.
+    ///
+    /// Fails where an allocation does; the items are as they were in any case.
     fn reserve(&mut self, n: usize) -> Result<(), AllocError>
         ensures list { items self.new ≡ items self.old }
         ensures ok { OnOk result (n ≤ room self.new) }
         ensures space { room self.old ≤ room self.new }
         ensures positions { (q : Self.Position) → is_good self.old q → is_good self.new q × (rank self.new q ≡ rank self.old q) };
 
+    /// Puts the item before the one at the position, or after all others, and returns its position.
+    ///
+    /// Takes from the capacity, and never fails. A vector moves all items after it, a B-tree
+    /// changes nodes on the way to its root.
     fn insert_at(&mut self, before: Option<Self::Position>, item: T) -> Self::Position
         requires good { ForSome before (λ p. is_good self.old p) }
         requires has_room { 1 ≤ room self.old }
@@ -170,6 +199,9 @@ pub trait Storage<T>: Drop {
         ensures space { room self.old ≡ room self.new + 1 }
         ensures position { is_good self.new result × (rank self.new result ≡ place_before (λ q. rank self.old q) (length (items self.old)) before) };
 
+    /// Takes the item at the position out, and returns it with the position of the one after it.
+    ///
+    /// Never fails. A vector moves all items after it, a B-tree changes nodes up to its root.
     fn remove_at(&mut self, p: Self::Position) -> (T, Option<Self::Position>)
         requires { is_good self.old p }
         ensures removed { result.0 ≡ slice_index_or (items self.old) (rank self.old p) result.0 }
@@ -177,14 +209,19 @@ pub trait Storage<T>: Drop {
         ensures space { room self.old ≤ room self.new }
         ensures following { IsAt (is_good self.new) (rank self.new) (length (items self.new)) result.1 (rank self.old p) };
 
+    /// Takes the first item out, or returns none where there is no item.
     fn pop_first(&mut self) -> Option<T>
         ensures list { MatchOption result ((items self.old ≡ []) × (items self.new ≡ [])) (λ x. items self.old ≡ x ∷ items self.new) }
         ensures space { room self.old ≤ room self.new };
 
+    /// Takes the last item out, or returns none where there is no item.
     fn pop_last(&mut self) -> Option<T>
         ensures list { MatchOption result ((items self.old ≡ []) × (items self.new ≡ [])) (λ x. items self.old ≡ items self.new ++ x ∷ []) }
         ensures space { room self.old ≤ room self.new };
 
+    /// A container of clones of the items, in order.
+    ///
+    /// Allocates for them and for each clone; fails where an allocation does.
     fn clone(&self) -> Result<Self, AllocError>
     where
         T: Clone + Eq,

@@ -11,10 +11,12 @@ use std::ops::{Bound, RangeBounds};
 /// The keys above a start: those of `RangeFromExcluded::new(3)` are 4, 5 and so on.
 #[derive(Drop)]
 pub struct RangeFromExcluded<T> {
+    /// The start, which the range does not hold.
     pub start: T,
 }
 
 impl<T> RangeFromExcluded<T> {
+    /// The range above the start. Allocates nothing.
     pub const fn new(start: T) -> RangeFromExcluded<T>
         ensures { result.start ≡ start }
     {
@@ -61,11 +63,14 @@ impl<T: Measure> IntoRange for RangeFromExcluded<T> {
 /// The keys above a start and below an end: those of `RangeFromExcludedTo::new(3, 6)` are 4 and 5.
 #[derive(Drop)]
 pub struct RangeFromExcludedTo<T> {
+    /// The start, which the range does not hold.
     pub start: T,
+    /// The end, which the range does not hold.
     pub end: T,
 }
 
 impl<T> RangeFromExcludedTo<T> {
+    /// The range above the start and below the end. Allocates nothing.
     pub const fn new(start: T, end: T) -> RangeFromExcludedTo<T>
         ensures start { result.start ≡ start }
         ensures end { result.end ≡ end }
@@ -114,11 +119,14 @@ impl<T: Measure> IntoRange for RangeFromExcludedTo<T> {
 /// and 6.
 #[derive(Drop)]
 pub struct RangeFromExcludedToIncluded<T> {
+    /// The start, which the range does not hold.
     pub start: T,
+    /// The end, which the range holds.
     pub end: T,
 }
 
 impl<T> RangeFromExcludedToIncluded<T> {
+    /// The range above the start up to the end, which it holds. Allocates nothing.
     pub const fn new(start: T, end: T) -> RangeFromExcludedToIncluded<T>
         ensures start { result.start ≡ start }
         ensures end { result.end ≡ end }
