@@ -74,7 +74,7 @@ module _ (rules : Rules) where
   LeadsTo p [] q = p ≡ q
   LeadsTo p (c ∷ text) q = (s : ℕ) × HasRule rules p c s × LeadsTo s text q
 
-  -- such a path leads from a start state to an accepting one
+  -- such a path exists from a state where a text may start to one where it may end
   abbrev pub Accepts : List ℕ → Type 0
   Accepts text = (p : ℕ) × (q : ℕ) × IsStart rules p × LeadsTo p text q × IsAccepting rules q
 

@@ -37,8 +37,8 @@ impl Moves {
         Ok(reached)
     }
 
-    /// Whether rules lead along the characters of the text from a start state to an accepting one.
-    /// The empty text is accepted where a start state accepts.
+    /// Whether the text can be read from a start state on, one rule a character, so that it ends
+    /// in an accepting state. The empty text is accepted where a start state accepts.
     ///
     /// Makes one step a character, from all states that were reached. Allocates.
     pub fn accepts(&self, text: &str) -> Result<bool, MapError>
