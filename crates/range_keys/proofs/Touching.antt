@@ -9,7 +9,7 @@ use Rattle.std.proofs.Common.{sym, ap, subst, ◌∙◌, inl, inr}
 use Rattle.range_keys.specs.Order.{KeyOrder, IsLawful, Tells, SameAnswer}
 use Rattle.range_keys.specs.PositionOrder.{position_total}
 use Rattle.range_keys.specs.Position.{start_position, end_position, position_cmp, side_cmp, at_told}
-use Rattle.range_keys.specs.Directed.{directed_value, directed_position, are_adjacent, tells, bound_ordering, ordering_to}
+use Rattle.range_keys.specs.Directed.{directed_value, directed_position, are_adjacent, tells, ordering_to}
 use Rattle.range_keys.specs.Touching.{IsOverKeys, LiesBelow, SomeBoundBetween, FlagsTellGaps}
 use Rattle.range_keys.specs.declared.inner.position.Side.{Side}
 use Rattle.range_keys.specs.declared.inner.position.Side.TheVariants.{Before, At, After}
