@@ -1,20 +1,18 @@
 -- Over complete keys a range whose start is not past its end holds a key.
 use Rattle.std.proofs.Common.{◌≡◌, refl, ap, Option, Some, None, false, IsSome, ◌⊎◌, inl, inr}
-use Rattle.std.specs.declared.ops.Bound.{Bound}
-use Rattle.std.specs.declared.ops.Bound.TheVariants.{Included, Excluded, Unbounded}
 use Rattle.std.specs.declared.cmp.Ordering.{Ordering}
 use Rattle.std.specs.declared.cmp.Ordering.TheVariants.{Less, Equal, Greater}
-use Rattle.std.specs.Ordering.{ordering_then, is_gt}
+use Rattle.std.specs.Ordering.{is_gt}
 use Rattle.std.specs.Cmp.{tied_itself}
 use Rattle.range_keys.specs.Order.{KeyOrder, IsLawful, IsComplete, Below, Tells}
-use Rattle.range_keys.specs.Position.{start_position, end_position, position_cmp, at_told}
+use Rattle.range_keys.specs.Position.{start_position, end_position, position_cmp}
 use Rattle.range_keys.specs.declared.inner.position.Position.{Position}
 use Rattle.range_keys.specs.declared.inner.position.Position.TheVariants.{MinusInfinity, Beside, PlusInfinity}
 use Rattle.range_keys.specs.declared.inner.position.Side.TheVariants.{Before, At, After}
 use Rattle.range_keys.specs.PositionOrder.{position_total}
 use Rattle.range_keys.proofs.Orderings.{less_then_greater, not_greater_unless_greater}
 use Rattle.range_keys.proofs.BoundPositions.{IsStart, IsEnd, starts_lie_at_starts, ends_lie_at_ends}
-use Rattle.range_algebra.specs.Range.{Holds, IsKeyless, IsEmptyRange, IsKnownBound, IsKnownRange}
+use Rattle.range_algebra.specs.Range.{Holds, IsKeyless, IsEmptyRange, IsKnownRange}
 use Rattle.range_algebra.specs.declared.any.AnyRange.{AnyRange}
 use Rattle.range_algebra.proofs.Holding.{holds_by_position}
 

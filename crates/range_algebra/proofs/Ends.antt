@@ -1,10 +1,9 @@
 -- The keys that a range's bounds name are its least and its greatest.
-use Rattle.std.proofs.Common.{◌≡◌, refl, sym, ap, subst, ◌∙◌, Option, Some, None, false, IsSome, IfSome, IfNone, inl, inr}
+use Rattle.std.proofs.Common.{◌≡◌, refl, sym, ap, subst, ◌∙◌, Option, Some, None, IfSome, IfNone, inl, inr}
 use Rattle.std.specs.declared.ops.Bound.{Bound}
 use Rattle.std.specs.declared.ops.Bound.TheVariants.{Included, Excluded, Unbounded}
-use Rattle.std.specs.declared.cmp.Ordering.{Ordering}
-use Rattle.std.specs.declared.cmp.Ordering.TheVariants.{Less, Equal, Greater}
-use Rattle.std.specs.Ordering.{ordering_then, is_gt}
+use Rattle.std.specs.declared.cmp.Ordering.TheVariants.{Equal}
+use Rattle.std.specs.Ordering.{is_gt}
 use Rattle.std.specs.Cmp.{alike_right}
 use Rattle.range_keys.specs.Order.{KeyOrder, IsLawful, IsComplete, Below, NotAbove, Tells, SameAnswer}
 use Rattle.range_keys.specs.Position.{start_position, end_position, position_cmp}

@@ -4,9 +4,9 @@ use Rattle.std.specs.declared.ops.Bound.{Bound}
 use Rattle.std.specs.declared.ops.Bound.TheVariants.{Included, Excluded, Unbounded}
 use Rattle.std.specs.declared.cmp.Ordering.{Ordering}
 use Rattle.std.specs.declared.cmp.Ordering.TheVariants.{Less, Equal, Greater}
-use Rattle.std.specs.Ordering.{ordering_then, ordering_reverse, is_gt, is_le, is_lt}
+use Rattle.std.specs.Ordering.{ordering_reverse, is_gt, is_le, is_lt}
 use Rattle.std.specs.Range.Bound.{is_from_start, is_up_to_end, bounds_contain}
-use Rattle.std.specs.Cmp.{alike_right, tied_itself, upto}
+use Rattle.std.specs.Cmp.{alike_right, upto}
 use Rattle.range_keys.specs.Order.{KeyOrder, IsLawful, Below, NotAbove, Tells}
 use Rattle.range_keys.specs.Position.{start_position, end_position, position_cmp, at_told}
 use Rattle.range_keys.specs.PositionOrder.{position_total}

@@ -5,7 +5,7 @@ use Rattle.std.specs.declared.ops.Bound.TheVariants.{Included, Excluded, Unbound
 use Rattle.std.specs.declared.cmp.Ordering.{Ordering}
 use Rattle.std.specs.declared.cmp.Ordering.TheVariants.{Less, Equal, Greater}
 use Rattle.std.specs.Ordering.{is_gt, is_lt, is_eq, ordering_reverse, ordering_then}
-use Rattle.std.specs.Cmp.{upto, tied_back, tied_itself, Equal-is}
+use Rattle.std.specs.Cmp.{upto, tied_back, Equal-is}
 use Rattle.range_keys.specs.Order.{KeyOrder, IsLawful, IsComplete, Below, NotAbove}
 use Rattle.range_keys.specs.Position.{start_position, end_position, position_cmp}
 use Rattle.range_keys.specs.PositionOrder.{position_total}
@@ -19,7 +19,7 @@ use Rattle.range_algebra.specs.Range.{StartHolds, EndHolds, Holds, IsKnownBound,
 use Rattle.range_algebra.specs.declared.any.AnyRange.{AnyRange}
 use Rattle.range_algebra.specs.declared.ordering.RangeOrdering.TheVariants.{Before, Intersecting, After}
 use Rattle.range_algebra.specs.Compared.{range_ordering, is_before, is_after, inverted, start_is_at, starts_at_end}
-use Rattle.range_algebra.proofs.Holding.{start_holds, holds_by_position, empty_is_keyless, below_up, up_below}
+use Rattle.range_algebra.proofs.Holding.{start_holds, holds_by_position, empty_is_keyless}
 use Rattle.range_algebra.proofs.Completeness.{nonempty_holds}
 use Rattle.range_algebra.proofs.Canonical.{same_is_equal}
 use Rattle.range_algebra.proofs.Meeting.{not_greater}

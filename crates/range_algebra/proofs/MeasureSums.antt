@@ -3,9 +3,8 @@ use Rattle.std.proofs.Common.{◌≡◌, ℕ, ◌+◌, ◌-◌, ◌<◌, ◌≤�
 use Rattle.std.specs.Option.{IsSomeAnd}
 use Rattle.std.specs.declared.ops.Bound.{Bound}
 use Rattle.std.specs.declared.ops.Bound.TheVariants.{Included, Excluded, Unbounded}
-use Rattle.std.specs.declared.cmp.Ordering.{Ordering}
-use Rattle.std.specs.declared.cmp.Ordering.TheVariants.{Less, Equal, Greater}
-use Rattle.std.specs.Ordering.{ordering_then, is_gt}
+use Rattle.std.specs.declared.cmp.Ordering.TheVariants.{Less, Equal}
+use Rattle.std.specs.Ordering.{is_gt}
 use Rattle.std.specs.Cmp.{tied_itself, tied_back}
 use Rattle.range_keys.specs.Order.{KeyOrder, IsLawful, IsMeasure, Below, NotAbove, Tells}
 use Rattle.range_keys.specs.Counted.{IsCountedMeasure, counted_lawful}

@@ -4,7 +4,7 @@ use Rattle.std.specs.declared.ops.Bound.{Bound}
 use Rattle.std.specs.declared.ops.Bound.TheVariants.{Included, Excluded, Unbounded}
 use Rattle.std.specs.declared.cmp.Ordering.{Ordering}
 use Rattle.std.specs.declared.cmp.Ordering.TheVariants.{Less, Equal, Greater}
-use Rattle.std.specs.Ordering.{ordering_then, is_gt}
+use Rattle.std.specs.Ordering.{is_gt}
 use Rattle.std.specs.Option.{IsSomeAnd}
 use Rattle.std.specs.Cmp.{tied_itself}
 use Rattle.range_keys.specs.Order.{KeyOrder, IsLawful, Below, NotAbove}

@@ -1,11 +1,10 @@
 -- How many keys there are of a kind.
-use Rattle.std.proofs.Common.{◌≡◌, ℕ, zero, suc, ◌+◌, ◌<◌, ◌≤◌, List, [], ◌∷◌, ◌++◌, length, ◌⊎◌, inl, inr, ◌↔◌, false, refl, sym, ap, subst, ◌∙◌, arith, length-append}
+use Rattle.std.proofs.Common.{◌≡◌, ℕ, zero, suc, ◌+◌, ◌<◌, ◌≤◌, List, [], ◌∷◌, ◌++◌, length, ◌⊎◌, inl, inr, ◌↔◌, refl, sym, ap, subst, ◌∙◌, arith, length-append}
 use Rattle.std.specs.List.{AllByRecursion}
 use Rattle.std.specs.declared.cmp.Ordering.{Ordering}
 use Rattle.std.specs.declared.cmp.Ordering.TheVariants.{Less, Equal, Greater}
 use Rattle.std.specs.Ordering.{nat_cmp, MatchOrdering, is_gt}
 use Rattle.std.specs.Cmp.{IsTotalOrder, tied_itself, tied_back, alike_right, ranks, ranked, nat_cmp_is}
-use Rattle.std.proofs.lemmas.Bool.Decides.{nat_tests}
 use Rattle.range_keys.specs.Order.{KeyOrder, Below, NotAbove}
 use Rattle.range_keys.specs.Counted.{IsCounted, not_above_is, is_not_above}
 use Rattle.range_algebra.specs.Numbers.{Lists, AreRising, IsNumberOfKeys}

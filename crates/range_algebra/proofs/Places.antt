@@ -1,10 +1,9 @@
 -- What lies below what, by the laws of the keys.
-use Rattle.std.proofs.Common.{◌≡◌, refl, ap, ◌↔◌, Option, Some, None, false}
+use Rattle.std.proofs.Common.{◌≡◌, refl, ap, ◌↔◌, Option, Some, None}
 use Rattle.std.specs.declared.ops.Bound.{Bound}
 use Rattle.std.specs.declared.ops.Bound.TheVariants.{Included, Excluded, Unbounded}
-use Rattle.std.specs.declared.cmp.Ordering.{Ordering}
-use Rattle.std.specs.declared.cmp.Ordering.TheVariants.{Less, Equal, Greater}
-use Rattle.std.specs.Ordering.{ordering_then, is_gt}
+use Rattle.std.specs.declared.cmp.Ordering.TheVariants.{Equal}
+use Rattle.std.specs.Ordering.{is_gt}
 use Rattle.std.specs.Cmp.{tied_itself}
 use Rattle.range_keys.specs.Order.{KeyOrder, IsLawful, Below, NotAbove, Tells, SameAnswer}
 use Rattle.range_keys.specs.Position.{start_position, end_position, position_cmp, at_told}
@@ -12,7 +11,7 @@ use Rattle.range_keys.specs.PositionOrder.{position_total}
 use Rattle.range_keys.specs.declared.inner.position.Position.{Position}
 use Rattle.range_keys.specs.declared.inner.position.Position.TheVariants.{MinusInfinity, Beside, PlusInfinity}
 use Rattle.range_keys.specs.declared.inner.position.Side.TheVariants.{Before, At, After}
-use Rattle.range_keys.proofs.Orderings.{any_then_equal, equal_then_any, less_then_any, less_unless_greater, less_unless_less, not_greater_unless_greater}
+use Rattle.range_keys.proofs.Orderings.{any_then_equal, less_unless_greater, less_unless_less, not_greater_unless_greater}
 use Rattle.range_keys.proofs.BoundPositions.{IsStart, IsEnd, starts_lie_at_starts, ends_lie_at_ends}
 use Rattle.range_algebra.specs.declared.any.AnyRange.{AnyRange}
 use Rattle.range_algebra.specs.Range.{Holds, IsKnownBound, IsKnownRange}

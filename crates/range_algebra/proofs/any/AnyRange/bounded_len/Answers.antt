@@ -1,5 +1,4 @@
-use Rattle.std.proofs.Common.{rules, ◌≡◌, subst, sym, arith}
-use Rattle.std.proofs.lemmas.Grind.{common_steps}
+use Rattle.std.proofs.Common.{rules, ◌≡◌, subst, sym}
 use Rattle.std.specs.Option.{IsSomeAnd}
 use Rattle.std.specs.Range.Bound.{bound_map}
 use Rattle.range_keys.specs.Position.{key_value}
