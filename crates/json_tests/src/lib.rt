@@ -6,6 +6,8 @@ mod keys;
 #[cfg(test)]
 mod maps;
 #[cfg(test)]
+mod multimaps;
+#[cfg(test)]
 mod sets;
 #[cfg(test)]
 mod support;

@@ -1,6 +1,8 @@
 //! Maps, read in either shape and written.
 
-use crate::support::{Answer, Entry, InTree, InVector, is_written, parsed, play, read};
+use crate::support::{
+    Answer, Ends, Entry, InTree, InVector, is_written, parsed, play, read, stores,
+};
 use range_algebra::any::AnyRange;
 use range_json::json::{JsonError, map_from_json};
 use range_map::map::{MapError, RangeMap};
@@ -212,30 +214,34 @@ fn maps(rt: HostRuntime) -> Result<(), Fail> {
 const WRITTEN: &str =
     r#"{"items":[[["Unbounded",{"Excluded":0}],1],[[{"Excluded":0},{"Included":7}],2]],"version":2}"#;
 
+static STORED: &[(Ends, i64)] = &[
+    ((Unbounded, Excluded(0)), 1),
+    ((Excluded(0), Included(7)), 2),
+];
+
 fn bind<C: Storage<Entry>>(map: &mut RangeMap<i32, i64, C>) -> Result<(), MapError> {
     map.insert(AnyRange::new(Unbounded, Excluded(0)), 1)?;
     map.insert(AnyRange::new(Excluded(0), Included(7)), 2)
 }
 
-/// Whether a map is written with the bounds that it stores, or else an allocation failed.
+/// Whether a map is written with the bounds that it stores, or else an allocation failed; and
+/// stores what it stored, either way.
 fn is_written_or_refused<C: Storage<Entry>>(alloc: Global) -> bool {
     let mut map = RangeMap::<i32, i64, C>::new(alloc);
     if bind(&mut map).is_err() {
         return true;
     }
-    match is_written(alloc, &map, WRITTEN) {
-        Ok(same) => same,
-        Err(_) => map.get(7).copied() == Some(2),
-    }
+    let written = is_written(alloc, &map, WRITTEN).unwrap_or(true);
+    written && stores(&map, STORED)
 }
 
-/// Whether a map is read, or else memory was refused.
+/// Whether a map is read, bounds as they are spelled, or else an allocation failed.
 fn is_read_or_refused<C: Storage<Entry>>(alloc: Global) -> bool {
     let Some(value) = parsed(alloc, WRITTEN) else {
         return true;
     };
     match read::<C>(alloc, &value) {
-        Ok(map) => map.get(7).copied() == Some(2) && map.get(0).is_none(),
+        Ok(map) => stores(&map, STORED),
         Err(error) => error == JsonError::Memory,
     }
 }

@@ -1,12 +1,13 @@
 //! Sets and single ranges, read and written.
 
-use crate::support::{parsed, text_of};
+use crate::support::{Ends, has_ends, parsed, text_of};
 use range_algebra::any::AnyRange;
 use range_json::json::{JsonError, range_from_json, range_to_json, set_from_json, set_to_json};
 use range_sets::set::RangeSet;
 use range_store::storage::Item;
 use range_store::vec_storage::VecStorage;
 use std::alloc::{AllocError, Global};
+use std::ops::Bound::{Excluded, Included, Unbounded};
 use std::test::Fail;
 
 type Numbers = RangeSet<i32, VecStorage<Item<AnyRange<i32>, ()>>>;
@@ -60,17 +61,34 @@ fn sets(rt: HostRuntime) -> Result<(), Fail> {
     Ok(())
 }
 
-/// Whether a set is read and written, or else memory was refused.
+static HELD: &[Ends] = &[(Unbounded, Excluded(0)), (Excluded(0), Included(7))];
+
+/// Whether a set stores just these ranges.
+fn set_stores(set: &Numbers, rows: &[Ends]) -> bool {
+    let mut left = set.iter();
+    for row in rows {
+        match left.next() {
+            Some(range) if has_ends(range, row) => (),
+            _ => return false,
+        }
+    }
+    left.next().is_none()
+}
+
+const HELD_TEXT: &str = r#"[["Unbounded",{"Excluded":0}],[{"Excluded":0},{"Included":7}]]"#;
+
+/// Whether a set is read and written, bounds as they are spelled, or else an allocation failed;
+/// and stores what it stored, either way.
 fn set_is_done_or_refused(alloc: Global) -> bool {
-    let Some(value) = parsed(alloc, r#"[[{"Included":0},{"Excluded":9}]]"#) else {
+    let Some(value) = parsed(alloc, HELD_TEXT) else {
         return true;
     };
     let outcome: Result<Numbers, JsonError> = set_from_json(alloc, &value);
     match outcome {
-        Ok(set) => match set_to_json(alloc, &set) {
-            Ok(again) => again == value,
-            Err(AllocError) => set.contains(8),
-        },
+        Ok(set) => {
+            let same = set_to_json(alloc, &set).map_or(true, |again| again == value);
+            same && set_stores(&set, HELD)
+        }
         Err(error) => error == JsonError::Memory,
     }
 }
@@ -110,4 +128,25 @@ fn ranges(rt: HostRuntime) -> Result<(), Fail> {
         assert!(rt; reads_range(rt.alloc(), text, *fault)?);
     }
     Ok(())
+}
+
+/// Whether a range is read and written, bounds as they are spelled, or else an allocation failed;
+/// and is what it was, either way.
+fn range_is_done_or_refused(alloc: Global) -> bool {
+    let Some(value) = parsed(alloc, r#"[{"Excluded":-3},{"Included":3}]"#) else {
+        return true;
+    };
+    let outcome: Result<AnyRange<i32>, JsonError> = range_from_json(alloc, &value);
+    match outcome {
+        Ok(range) => {
+            let same = range_to_json(alloc, &range).map_or(true, |again| again == value);
+            same && has_ends(&range, &(Excluded(-3), Included(3)))
+        }
+        Err(error) => error == JsonError::Memory,
+    }
+}
+
+#[test]
+fn a_range_is_read_and_written_where_memory_is_granted(rt: HostRuntime) {
+    assert!(rt; range_is_done_or_refused(rt.alloc()));
 }

@@ -8,6 +8,7 @@ use range_store::storage::{Item, Storage};
 use range_store::vec_storage::VecStorage;
 use serde_json::Value;
 use std::alloc::{AllocError, Global};
+use std::ops::Bound;
 use std::process::Abort;
 use std::test::Fail;
 
@@ -16,6 +17,26 @@ pub type Entry = Item<AnyRange<i32>, i64>;
 pub type InVector = VecStorage<Entry>;
 
 pub type InTree = BoxStorage<Entry>;
+
+/// A stored range by its two bounds, as they are spelled.
+pub type Ends = (Bound<i32>, Bound<i32>);
+
+/// Whether a range has just these bounds.
+pub fn has_ends(range: &AnyRange<i32>, ends: &Ends) -> bool {
+    range.start == ends.0 && range.end == ends.1
+}
+
+/// Whether a map stores just these ranges and values.
+pub fn stores<C: Storage<Entry>>(map: &RangeMap<i32, i64, C>, rows: &[(Ends, i64)]) -> bool {
+    let mut left = map.iter();
+    for row in rows {
+        match left.next() {
+            Some((range, value)) if has_ends(range, &row.0) && *value == row.1 => (),
+            _ => return false,
+        }
+    }
+    left.next().is_none()
+}
 
 /// What a text is read as.
 #[derive(Clone, Copy)]
