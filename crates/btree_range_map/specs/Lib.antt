@@ -61,8 +61,12 @@ pub use Rattle.range_sets.specs.SetTexts
 pub use Rattle.range_sets.specs.Tagged
 pub use Rattle.range_json.specs.Faults
 pub use Rattle.range_json.specs.Keys
+pub use Rattle.range_json.specs.Laws
 pub use Rattle.range_json.specs.MapFaults
+pub use Rattle.range_json.specs.MultimapFaults
 pub use Rattle.range_json.specs.Shapes
+pub use Rattle.range_json.specs.Values
+pub use Rattle.range_json.specs.ValueSets
 -- The types that contracts name.
 pub use Rattle.range_algebra.specs.declared.any.AnyRange
 pub use Rattle.range_store.specs.declared.btree.BoxStorage
