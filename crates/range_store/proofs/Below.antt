@@ -36,9 +36,6 @@ module _ (least most : ℕ) (s : Slab Node) (d n : ℕ) (inner : 0 < d) (shaped 
   pub size_known : (i : ℕ) → i ≤ length (items_of (get s n)) → get_or (sizes_of (get s n)) i 0 ≡ length (numbers s d (get_or (children_of (get s n)) i 0))
   size_known i within = size_is (numbers s d) (children_of (get s n)) (sizes_of (get s n)) shaped.node.sized i (omega (arith, children_length))
 
-  pub child_known : (i : ℕ) → i < length (children_of (get s n)) → IsChild s d (get_or (children_of (get s n)) i 0)
-  child_known i within = Shaped-is_child s d _ inner (shaped.children i 0 within)
-
   -- the lists of the children, and how many items stand before the list at i
   pub lists_length : length (map (numbers s d) (children_of (get s n))) ≡ length (items_of (get s n)) + 1
   lists_length = length-map (children_of (get s n)) (numbers s d) ∙ children_length
@@ -58,7 +55,7 @@ module _ (least most : ℕ) (s : Slab Node) (d n : ℕ) (inner : 0 < d) (shaped 
       let second = length-append (get_or lists i []) (get_or (items_of (get s n)) i 0 ∷ []) in
       omega (arith, ap length more, first, second, ap length kid)
 
-  -- the rest of a rank that lies behind all items is within the last child
+  -- the rest of a rank that lies after all items is within the last child
   pub rest_in_last : (rank rest : ℕ) → rank ≤ length (numbers s (suc d) n) → length (before (items_of (get s n)) (map (numbers s d) (children_of (get s n))) (length (items_of (get s n)))) + rest ≡ rank → rest ≤ length (numbers s d (get_or (children_of (get s n)) (length (items_of (get s n))) 0))
   rest_in_last rank rest within place =
       let i = length (items_of (get s n)) in

@@ -17,7 +17,7 @@ use Rattle.range_store.specs.declared.btree.node.TheConstants.{MOST, LEAST}
 use Rattle.range_store.specs.Nodes.{weave, rest_of, before, after, items_of, children_of, sizes_of, numbers, ShapedBut, IsLast}
 use Rattle.range_store.specs.Falling.{Falls}
 use Rattle.range_store.specs.Listed.{Stored}
-use Rattle.range_store.proofs.Front.{count-yes, count-no, count-append, answer, falls_parts}
+use Rattle.range_store.proofs.Front.{count-yes, count-no, count-append, true_or_false, falls_parts}
 use Rattle.range_store.proofs.Below.{children_length, lists_length, weave_numbers, numbers_at, length-before_more}
 use Rattle.range_store.specs.Occurrences.{occurrences, occurrences-append, occurrences-cons}
 
@@ -39,7 +39,7 @@ module _ (p : ℕ → Bool) where
   count-rest_of (x ∷ xs) (j ∷ ks) same =
       let later = count-rest_of xs ks (omega arith) in
       let both = count-append p j (rest_of xs ks) in
-      elim (answer p (p x)) [
+      elim (true_or_false p (p x)) [
         | inl holds ↦ omega (arith, count-yes p x xs holds, count-yes p x (j ++ rest_of xs ks) holds, both, later)
         | inr fails ↦ omega (arith, count-no p x xs fails, count-no p x (j ++ rest_of xs ks) fails, both, later)
       ]
@@ -56,7 +56,7 @@ module _ (p : ℕ → Bool) where
   falls_weave xs (k ∷ ks) (inl none) falls = absurd (omega (arith, none))
   falls_weave xs (k ∷ ks) (inr many) falls = falls_rest_of xs ks (omega (arith, many)) (falls_parts p k (rest_of xs ks) falls).back
 
-  -- the list behind the items that pass holds the rest of what passes
+  -- the list after the items that pass holds the rest of what passes
   pub count-weave : (xs : List ℕ) (ks : List (List ℕ)) → length ks ≡ length xs + 1 → Falls p (weave xs ks) → count_by p (weave xs ks) ≡ length (before xs ks (count_by p xs)) + count_by p (get_or ks (count_by p xs) [])
   unfolding Falls
   count-weave xs [] many falls = absurd (omega arith)
@@ -67,7 +67,7 @@ module _ (p : ℕ → Bool) where
       let tail = weave xs (j ∷ ks) in
       let parts = falls_parts p k (x ∷ tail) falls in
       let whole = count-append p k (x ∷ tail) in
-      elim (answer p (p x)) [
+      elim (true_or_false p (p x)) [
         | inl holds ↦
             let later = count-weave xs (j ∷ ks) (omega arith) parts.back.1 in
             let one = count-yes p x xs holds in

@@ -1,12 +1,9 @@
--- Edits just behind a front.
+-- Edits just after a front.
 use Rattle.std.proofs.Common.{◌≡◌, ℕ, ◌+◌, ◌-◌, ◌<◌, ◌≤◌, List, [], ◌∷◌, ◌++◌, length, take, drop, get_or, refl, ap, sym, ◌∙◌, arith, length-append, append_assoc, take-append-drop}
-use Rattle.std.specs.List.{insert, remove}
+use Rattle.std.specs.List.{remove}
 use Rattle.std.proofs.lemmas.List.{take_at, drop_at, drop_more, length-take-le, drop-drop, take-set, drop-set}
 use Rattle.std.proofs.Math.ListN.{set}
 use Rattle.std.proofs.lemmas.List.Edits.{remove-append_right}
-
-pub insert_behind : {T : Type 0} (front back : List T) (x : T) (place : ℕ) → length front ≡ place → insert (front ++ back) place x ≡ front ++ x ∷ back
-insert_behind front back x place e = rw (take_at front back place e, drop_at front back place e) refl
 
 pub remove_behind : {T : Type 0} (front back : List T) (x : T) (place : ℕ) → length front ≡ place → remove (front ++ x ∷ back) place ≡ front ++ back
 remove_behind front back x place e =
@@ -22,12 +19,6 @@ removed_one before now new place i r d was done same within =
     let after = remove_behind (take place before) (drop (place + i + 1) before) (get_or before (place + i) d) place front in
     let next : place + (i + 1) ≡ place + i + 1 = omega arith in
     rw (done, same, was, more, after, next) refl
-
--- an item is put before a place
-pub put_before : {T : Type 0} (before new : List T) (place r : ℕ) (x : T) → new ≡ insert before r x → r ≡ place → new ≡ take place before ++ x ∷ drop (place + (0 - 0)) before
-put_before before new place r x done same =
-    let none : place + (0 - 0) ≡ place = omega arith in
-    rw none (done ∙ ap (λ n. insert before n x) same)
 
 pub set_parts : {T : Type 0} (xs : List T) (i : ℕ) (y : T) → i < length xs → set xs i y ≡ take i xs ++ y ∷ drop (i + 1) xs
 set_parts xs i y within = sym (take-append-drop i (set xs i y)) ∙ (ap (λ ys. ys ++ drop i (set xs i y)) (take-set xs i y) ∙ ap (λ ys. take i xs ++ ys) (drop-set xs i y within))

@@ -7,7 +7,7 @@ use Rattle.slab.specs.Slab.{Slab, get}
 use Rattle.range_store.specs.Falling.{Falls, passes}
 use Rattle.range_store.specs.Listed.{Stored, listed, some_cases, stored_head, stored_tail, listed-cons, length-listed}
 use Rattle.range_store.specs.Places.{IsFrontOf}
-use Rattle.range_store.proofs.Front.{count-yes, count-no, answer, passing}
+use Rattle.range_store.proofs.Front.{count-yes, count-no, true_or_false, passing}
 
 module _ {T : Type 0} (s : Slab T) (test : T → Bool) where
   -- where no item passes, none is counted
@@ -41,7 +41,7 @@ module _ {T : Type 0} (s : Slab T) (test : T → Bool) where
   front_passes (n ∷ ns) stored falls k d less =
       let head = some_cases (get s n) (stored_head s n ns stored) in
       let later = front_passes ns (stored_tail s n ns stored) falls.1 in
-      rw (listed-cons s n head.0 ns head.1) (elim (answer (passes s test) (passes s test n)) [
+      rw (listed-cons s n head.0 ns head.1) (elim (true_or_false (passes s test) (passes s test n)) [
         | inl holds ↦ yes_front head.0 (listed s ns) (count_by (passes s test) ns) later (sym (passing s test n head.0 head.1) ∙ holds) k d (omega (arith, less, count-yes (passes s test) n ns holds))
         | inr fails ↦ absurd (omega (arith, less, count-no (passes s test) n ns fails, falls.0 fails))
       ])
@@ -62,7 +62,7 @@ module _ {T : Type 0} (s : Slab T) (test : T → Bool) where
       let whole = listed-cons s n head.0 ns head.1 in
       let later = back_fails ns (stored_tail s n ns stored) falls.1 in
       let inside : k < 1 + length (listed s ns) = omega (arith, within, ap length whole) in
-      rw whole (elim (answer (passes s test) (passes s test n)) [
+      rw whole (elim (true_or_false (passes s test) (passes s test n)) [
         | inl holds ↦ yes_back head.0 (listed s ns) (count_by (passes s test) ns) later k d (omega (arith, le, count-yes (passes s test) n ns holds)) inside
         | inr fails ↦ no_back head.0 (listed s ns) (count_by (passes s test) ns) later (falls.0 fails) (sym (passing s test n head.0 head.1) ∙ fails) k d inside
       ])

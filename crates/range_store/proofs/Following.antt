@@ -42,7 +42,7 @@ module _ (s : Slab Node) (d n i rest rank : ℕ) (inner : 0 < d) (shaped : Shape
   long : length (numbers s (suc d) n) ≡ length (before (items_of (get s n)) lists i) + (length (numbers s d kid) + length (after (items_of (get s n)) lists i))
   long = omega (arith, ap length (numbers_at 1 MOST s d n inner shaped i within), length-append (before (items_of (get s n)) lists i) (numbers s d kid ++ after (items_of (get s n)) lists i), length-append (numbers s d kid) (after (items_of (get s n)) lists i))
 
-  -- below the same child, or at the item behind it
+  -- below the same child, or at the item after it
   pub following_below : (later found : Option Found) → rest < length (numbers s d (get_or (children_of (get s n)) i 0)) → IsNumberAt (numbers s d (get_or (children_of (get s n)) i 0)) (rest + 1) later → MatchOption later (IsNumberAt (items_of (get s n)) i found) (λ f. found ≡ Some f) → IsNumberAt (numbers s (suc d) n) (rank + 1) found
   following_below (Some f) found less at same =
       rw same (omega (arith, long, place, at.0), at.1 ∙ sym (rank_in_child 1 MOST s d n i (rest + 1) (rank + 1) inner shaped within (omega (arith, place)) at.0))
@@ -58,7 +58,7 @@ module _ (s : Slab Node) (d n i rest rank : ℕ) (inner : 0 < d) (shaped : Shape
       let low : rank + 1 < length (numbers s (suc d) n) = omega (arith, more, ap length whole, parted, place, less, none) in
       (low, at.1 ∙ sym (rank_at_item 1 MOST s d n i (rest + 1) (rank + 1) inner shaped within (omega (arith, place)) (omega (arith, less, none)) low))
 
-  -- behind an item of the node itself: the first one below the next child
+  -- after an item of the node itself: the first one below the next child
   pub following_behind : (found : Found) → rest ≡ length (numbers s d (get_or (children_of (get s n)) i 0)) → i < length (items_of (get s n)) → 0 < length (numbers s d (get_or (children_of (get s n)) (i + 1) 0)) → found.number ≡ get_or (numbers s d (get_or (children_of (get s n)) (i + 1) 0)) 0 0 → IsNumberAt (numbers s (suc d) n) (rank + 1) (Some found)
   following_behind found end low some at =
       let more = length-before_more 1 MOST s d n inner shaped i low in

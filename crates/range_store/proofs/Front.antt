@@ -18,9 +18,9 @@ module _ (p : ℕ → Bool) where
   pub count-no : (x : ℕ) (xs : List ℕ) → p x ≡ false → count_by p (x ∷ xs) ≡ count_by p xs
   count-no x xs fails = count-cons x xs ∙ rw fails (omega arith)
 
-  pub answer : (b : Bool) → (b ≡ true) ⊎ (b ≡ false)
-  answer true = inl refl
-  answer false = inr refl
+  pub true_or_false : (b : Bool) → (b ≡ true) ⊎ (b ≡ false)
+  true_or_false true = inl refl
+  true_or_false false = inr refl
 
   pub falls_true : (xs : List ℕ) (i : ℕ) → Falls p xs → i < length xs → p (get_or xs i 0) ≡ true → i + 1 ≤ count_by p xs
   unfolding Falls
@@ -28,7 +28,7 @@ module _ (p : ℕ → Bool) where
   falls_true (x ∷ xs) zero falls within holds = omega (arith, count-yes x xs holds)
   falls_true (x ∷ xs) (suc i) falls within holds =
       let later = falls_true xs i falls.1 (omega arith) holds in
-      elim (answer (p x)) [
+      elim (true_or_false (p x)) [
         | inl here ↦ omega (arith, later, count-yes x xs here)
         | inr none ↦ absurd (omega (arith, later, falls.0 none))
       ]
@@ -39,7 +39,7 @@ module _ (p : ℕ → Bool) where
   falls_false (x ∷ xs) zero falls within fails = omega (arith, count-no x xs fails, falls.0 fails)
   falls_false (x ∷ xs) (suc i) falls within fails =
       let later = falls_false xs i falls.1 (omega arith) fails in
-      elim (answer (p x)) [
+      elim (true_or_false (p x)) [
         | inl here ↦ omega (arith, later, count-yes x xs here)
         | inr none ↦ omega (arith, count-no x xs none, falls.0 none)
       ]
@@ -62,7 +62,7 @@ module _ (p : ℕ → Bool) where
         front = ((λ fails. omega (arith, falls.0 fails, count-append xs ys)), later.front);
         back = later.back;
         none = λ less.
-            elim (answer (p x)) [
+            elim (true_or_false (p x)) [
               | inl here ↦ later.none (omega (arith, less, count-yes x xs here))
               | inr fails ↦ omega (arith, falls.0 fails, count-append xs ys)
             ];
@@ -124,17 +124,6 @@ halving_fails p xs low high first now falls less fails h =
 
 pub passing : {T : Type 0} (items : Slab T) (test : T → Bool) (k : ℕ) (x : T) → get items k ≡ Some x → passes items test k ≡ test x
 passing items test k x found = rw found refl
-
--- a halving that has ended asked at least once, and found the place
-pub halved_steps : (p : ℕ → Bool) (xs : List ℕ) (low high first now : ℕ) → Halving p xs low high first now → 0 < length xs → high ≤ low → AddsSteps first now 1 HALVINGS
-halved_steps p xs low high first now h some done = record {
-  at_most = omega (arith, h.left.2);
-  at_least = begun_steps h.begun;
-}
-  where
-    begun_steps : (min (first + 1) greatest_count ≤ now) ⊎ (high - low ≡ length xs) → min (first + 1) greatest_count ≤ now
-    begun_steps (inl asked) = asked
-    begun_steps (inr none) = absurd (omega arith)
 
 -- the steps of a search in so many nodes, and in one more
 pub steps_more : (first second third many : ℕ) → AddsSteps first second many (HALVINGS * many) → AddsSteps second third 1 HALVINGS → AddsSteps first third (many + 1) (HALVINGS * (many + 1))

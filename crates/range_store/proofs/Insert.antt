@@ -15,8 +15,8 @@ use Rattle.range_store.proofs.Replace.{used_is, used_parts, occurrences_parts, p
 use Rattle.range_store.proofs.Room.{sizes, sizes-append, numbers_size, used_le_but, HasTreeRoom-child, wider}
 use Rattle.range_store.specs.Occurrences.{occurrences, occurrences-cons, occurrences_itself}
 
-pub ready : (r s : Slab Node) (d n rank item : ℕ) → ShapedBut 1 MOST r d n → Owned r (suc d) n → rank ≤ length (numbers r (suc d) n) → HasTreeRoom r (suc d) n 1 → Replaces (MOST + 1) r s d n None (insert (numbers r (suc d) n) rank item) → IsReady s d n
-ready r s d n rank item shaped owned within room first =
+pub grown_is_ready : (r s : Slab Node) (d n rank item : ℕ) → ShapedBut 1 MOST r d n → Owned r (suc d) n → rank ≤ length (numbers r (suc d) n) → HasTreeRoom r (suc d) n 1 → Replaces (MOST + 1) r s d n None (insert (numbers r (suc d) n) rank item) → IsReady s d n
+grown_is_ready r s d n rank item shaped owned within room first =
     let one = All-head (ShapedBut 1 (MOST + 1) s d) n [] (first.shape 1 (omega arith) shaped.node.enough) in
     let longer = ap length (sym (append-nil (numbers s (suc d) n)) ∙ first.listed) ∙ length-insert (numbers r (suc d) n) rank item within in
     let single = append-nil (used s (suc d) n) in
@@ -26,8 +26,8 @@ ready r s d n rank item shaped owned within room first =
       room = λ over. omega (arith, over, used_le_but 1 (MOST + 1) s d n one, longer, first.len, ap length single, room.filled, first.capacity);
     }
 
-pub finish : (r s t : Slab Node) (d n : ℕ) (split : Option Split) (list : List ℕ) → IsSome (get r n) → Replaces (MOST + 1) r s d n None list → Replaces MOST s t d n split (numbers s (suc d) n) → Replaces MOST r t d n split list
-finish r s t d n split list present first second = Replaces-then MOST r s t d n split list present first second (more split)
+pub grown_then_cut : (r s t : Slab Node) (d n : ℕ) (split : Option Split) (list : List ℕ) → IsSome (get r n) → Replaces (MOST + 1) r s d n None list → Replaces MOST s t d n split (numbers s (suc d) n) → Replaces MOST r t d n split list
+grown_then_cut r s t d n split list present first second = Replaces-then MOST r s t d n split list present first second (more split)
   where
     more : (cut : Option Split) (least : ℕ) → least ≤ LEAST → EnoughFor least cut (length (items_of (get r n))) → EnoughFor least cut (length (items_of (get s n)))
     more None least small enough = (All-head (ShapedBut least (MOST + 1) s d) n [] (first.shape least small enough)).node.enough

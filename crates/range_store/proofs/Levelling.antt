@@ -13,7 +13,8 @@ use Rattle.range_store.specs.Occurrences.{occurrences, occurrences-cons, occurre
 use Rattle.range_store.proofs.Replace.{used_is, used_parts, occurrences_parts, parts, here_le, Shaped-from_but}
 use Rattle.range_store.proofs.Pooling.{pooled_numbers, pooled, pooled_shape}
 use Rattle.range_store.proofs.Below.{Shaped-is_child}
-use Rattle.range_store.proofs.Sizes.{set_parts, remove_behind_set, set_two, sizes_length, resized, counts_listed}
+use Rattle.range_store.proofs.Sizes.{remove_behind_set, set_two, sizes_length, resized, counts_listed}
+use Rattle.range_store.proofs.Edits.{set_parts}
 use Rattle.range_store.proofs.Segment.{Segment, rewoven, lists_new, numbers_old, numbers_new, children_shaped, Reweaves-then, Replaces-woven}
 
 -- the two children, before anything is written

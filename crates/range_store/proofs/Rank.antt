@@ -47,7 +47,7 @@ module _ (least most : ℕ) (s : Slab Node) (d n i rest rank : ℕ) (inner : 0 <
   pub rank_in_child : rest < length (numbers s d kid) → get_or (numbers s (suc d) n) rank 0 ≡ get_or (numbers s d kid) rest 0
   rank_in_child less = at_rank ∙ get_or_append_left (numbers s d kid) (after xs lists i) 0 rest less
 
-  -- at the item behind the child
+  -- at the item after the child
   pub item_behind : rest ≡ length (numbers s d kid) → rank < length (numbers s (suc d) n) → i < length xs
   item_behind end less =
       let none : length xs ≤ i → length (after xs lists i) ≡ 0 = λ le. ap length (ap (λ zs. rest_of zs (drop (i + 1) lists)) (drop_all i xs le) ∙ ap (rest_of []) (drop_all (i + 1) lists (omega (arith, lists_length least most s d n inner shaped)))) in
@@ -90,7 +90,7 @@ pub tree_nodes : (s : Slab Node) (levels root : ℕ) → IsTree s levels root �
 tree_nodes s zero root tree = omega (arith, tree.len, ap length (used_none s root))
 tree_nodes s (suc d) root tree = omega (arith, tree.len, used_le_but 1 MOST s d root tree.shaped, tree.shaped.node.enough)
 
--- a tree that is empty leaves all room free
+-- an empty tree leaves all capacity free
 pub first_room : (s : Slab Node) (levels root : ℕ) → levels ≡ 0 → IsTree s levels root → length (numbers s levels root) + 1 ≤ LEAST * s.capacity → slab_len s + 1 ≤ s.capacity
 first_room s zero root none tree room = omega (arith, tree.len, ap length (used_none s root), room)
 first_room s (suc d) root none tree room = absurd (omega arith)

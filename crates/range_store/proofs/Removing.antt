@@ -12,7 +12,8 @@ use Rattle.range_store.specs.Nodes.{before, rest_of, front_of, items_of, childre
 use Rattle.range_store.specs.Occurrences.{occurrences}
 use Rattle.range_store.proofs.Frame.{AgreeAt-left}
 use Rattle.range_store.proofs.Insert.{kid_apart}
-use Rattle.range_store.proofs.Sizes.{set_parts, size_is, sizes_length, resized, leaf_sized}
+use Rattle.range_store.proofs.Sizes.{size_is, sizes_length, resized, leaf_sized}
+use Rattle.range_store.proofs.Edits.{set_parts}
 use Rattle.range_store.proofs.Replace.{parts, Shaped-but, numbers_leaf}
 use Rattle.range_store.proofs.Room.{numbers_size}
 use Rattle.range_store.proofs.Segment.{Segment, rewoven, lists_new, numbers_old, numbers_new, agree_middle, same_left, same_right, Reweaves-then, Owned-after, but_same, written_woven}
@@ -33,7 +34,7 @@ module _ {X : Type 0} where
   remove_last (x ∷ y ∷ k) zero d last = absurd (omega arith)
   remove_last (x ∷ y ∷ k) (suc j) d last = ap (λ zs. x ∷ zs) (remove_last (y ∷ k) j d (omega arith))
 
-  -- the element behind the middle part goes, and the last one of that part comes in its place
+  -- the element after the middle part goes, and the last one of that part comes in its place
   pub remove_behind : (f k : List X) (x : X) (r : List X) (j : ℕ) (d : X) → j + 1 ≡ length k → remove (f ++ (k ++ (x ∷ r))) (length f + length k) ≡ f ++ (remove k j ++ (get_or k j d ∷ r))
   remove_behind f k x r j d last =
       let offset : length f + length k - length f ≡ length k = omega arith in
@@ -233,7 +234,7 @@ plain_step s0 s1 s2 (suc e) n i rest rank g less items =
     ∙ ap (remove (f ++ (numbers s0 (suc e) kid ++ b))) (at_front s0 s1 s2 e n i rest rank list (drop i xs) g items' refl shorter)
     ∙ ap (λ zs. remove zs rank) (sym (list_old s0 s1 s2 e n i list (drop i xs) less')))
 
--- where the item stands behind the child, whose last item comes in its place
+-- where the item stands after the child, whose last item comes in its place
 pub swap_step : (s0 s1 s2 : Slab Node) (below n i rest rank : ℕ) → Step s0 s1 s2 below n i rest rank (remove (numbers s0 (suc (below - 1)) (get_or (children_of (get s0 n)) i 0)) (rest - 1)) → rest ≡ length (numbers s0 below (get_or (children_of (get s0 n)) i 0)) → 0 < rest → i < length (items_of (get s0 n)) → items_of (get s2 n) ≡ set (items_of (get s1 n)) i (get_or (numbers s0 (suc (below - 1)) (get_or (children_of (get s0 n)) i 0)) (rest - 1) 0) → Mendable s0 s2 below n i rank
 swap_step s0 s1 s2 zero n i rest rank g end some inside items = absurd (omega (arith, g.inner))
 swap_step s0 s1 s2 (suc e) n i rest rank g end some inside items =

@@ -1,4 +1,4 @@
--- A tree has a node for each LEAST of its items at most, so room that is counted in items serves its nodes.
+-- A tree has a node for each LEAST of its items at most, so capacity that is counted in items serves its nodes.
 use Rattle.std.proofs.Common.{◌≡◌, ℕ, zero, suc, ◌+◌, ◌-◌, ◌*◌, ◌<◌, ◌≤◌, List, [], ◌∷◌, ◌++◌, length, get_or, take, drop, map, ap, ◌∙◌, arith, IsSome}
 use Rattle.std.specs.List.{All, flat_map, sum, sum_by}
 use Rattle.std.proofs.lemmas.List.{length-append, length-map, map-append, nil_from_length}
@@ -50,7 +50,7 @@ pub used_le_but : (least most : ℕ) (s : Slab Node) (d n : ℕ) → ShapedBut l
 used_le_but least most s d n shaped =
     omega (arith, ap length (used_is s d n), numbers_size least most s d n shaped, children_le s d (children_of (get s n)) shaped.children)
 
--- room below a node is room below each of its children
+-- capacity below a node is capacity below each of its children
 pub HasTreeRoom-child : (most : ℕ) (s : Slab Node) (d n i more : ℕ) → 0 < d → i ≤ length (items_of (get s n)) → ShapedBut 1 most s d n → HasTreeRoom s (suc d) n more → HasTreeRoom s d (get_or (children_of (get s n)) i 0) more
 HasTreeRoom-child most s d n i more inner within shaped room =
     let ks = children_of (get s n) in

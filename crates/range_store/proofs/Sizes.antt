@@ -1,5 +1,5 @@
 -- The sizes that a node keeps of its children are the lengths of their lists.
-use Rattle.std.proofs.Common.{◌≡◌, ℕ, zero, suc, ◌+◌, ◌<◌, List, [], ◌∷◌, ◌++◌, length, get_or, take, drop, map, refl, sym, ap, ◌∙◌, add-one, arith}
+use Rattle.std.proofs.Common.{◌≡◌, ℕ, zero, suc, ◌<◌, List, [], ◌∷◌, ◌++◌, length, get_or, take, drop, map, refl, sym, ap, ◌∙◌, arith}
 use Rattle.std.specs.List.{All, sum, sum_by, remove}
 use Rattle.std.proofs.Math.ListN.{set}
 use Rattle.std.proofs.lemmas.List.{length-map, get_or-map, map-append, take-map, drop-map, nil_from_length}
@@ -11,18 +11,13 @@ use Rattle.range_store.specs.Nodes.{count_of, counts, numbers}
 
 module _ {X : Type 0} where
   -- a list with another element at j
-  pub set_parts : (xs : List X) (j : ℕ) (y : X) → j < length xs → set xs j y ≡ take j xs ++ (y ∷ drop (j + 1) xs)
-  set_parts [] j y within = absurd (omega arith)
-  set_parts (x ∷ xs) zero y within = refl
-  set_parts (x ∷ xs) (suc j) y within = rw add-one (ap (λ zs. x ∷ zs) (rw add-one at (set_parts xs j y (omega arith))))
-
-  -- and then without the one behind it
+  -- and then without the one after it
   pub remove_behind_set : (xs : List X) (j : ℕ) (y : X) → j < length xs → remove (set xs j y) (suc j) ≡ take j xs ++ (y ∷ drop (suc (suc j)) xs)
   remove_behind_set [] j y within = absurd (omega arith)
   remove_behind_set (x ∷ xs) zero y within = refl
   remove_behind_set (x ∷ xs) (suc j) y within = ap (λ zs. x ∷ zs) (remove_behind_set xs j y (omega arith))
 
-  -- and then with another one behind it
+  -- and then with another one after it
   pub set_two : (xs : List X) (j : ℕ) (y z : X) → suc j < length xs → set (set xs j y) (suc j) z ≡ take j xs ++ (y ∷ z ∷ drop (suc (suc j)) xs)
   set_two [] j y z within = absurd (omega arith)
   set_two (x ∷ []) j y z within = absurd (omega arith)

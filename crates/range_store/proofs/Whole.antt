@@ -1,5 +1,5 @@
 -- An insertion into a whole tree: the first item, one below the root, and one that cuts the root.
-use Rattle.std.proofs.Common.{◌≡◌, ℕ, zero, suc, ◌+◌, ◌-◌, ◌*◌, ◌<◌, ◌≤◌, List, [], ◌∷◌, ◌++◌, length, map, refl, sym, ap, ◌∙◌, inl, inr, add-one, arith, Some, None, IsSome}
+use Rattle.std.proofs.Common.{◌≡◌, ℕ, zero, suc, ◌+◌, ◌-◌, ◌*◌, ◌<◌, ◌≤◌, List, [], ◌∷◌, ◌++◌, length, map, refl, sym, ap, ◌∙◌, inl, inr, add-one, arith, Some, IsSome}
 use Rattle.std.specs.List.{All, flat_map, insert}
 use Rattle.std.proofs.lemmas.List.{append-nil, length-append}
 use Rattle.std.proofs.lemmas.List.Edits.{length-insert}
@@ -49,19 +49,6 @@ module _ (s t : Slab Node) (root n item : ℕ) (tree : IsTree s zero root) (stor
     len = omega (arith, ap length (used_leaf t n childless), stored.len, tree.len, ap length (used_none s root));
   }
 
-module _ (s t : Slab Node) (d root : ℕ) (list : List ℕ) (tree : IsTree s (suc d) root) (step : Replaces MOST s t d root None list) where
-  pub kept_numbers : numbers t (suc d) root ≡ list
-  kept_numbers = sym (append-nil (numbers t (suc d) root)) ∙ step.listed
-
-  pub kept_tree : IsTree t (suc d) root
-  kept_tree =
-      let single = append-nil (used t (suc d) root) in
-      record {
-        shaped = All-head (ShapedBut 1 MOST t d) root [] (step.shape 1 (omega arith) tree.shaped.node.enough);
-        once = λ k. omega (arith, step.owned k, tree.once k, ap (occurrences k) single);
-        len = omega (arith, step.len, tree.len, ap length single);
-      }
-
 module _ (s t u : Slab Node) (d root n : ℕ) (split : Split) (list : List ℕ) (tree : IsTree s (suc d) root) (step : Replaces MOST s t d root (Some split) list) (stored : Stores t u n (split.middle ∷ []) (root ∷ split.right ∷ []) (counts t (root ∷ split.right ∷ [])) (length list)) where
   abbrev ts : List ℕ
   ts = root ∷ split.right ∷ []
@@ -108,7 +95,7 @@ first_step s t zero root n rank item none within tree stored =
     )
 first_step s t (suc d) root n rank item none within tree stored = absurd (omega arith)
 
--- after a cut of the root there is room for a new one
+-- after a cut of the root there is capacity for a new one
 pub taller_room : (s t : Slab Node) (levels root rank item : ℕ) (split : Split) → 0 < levels → rank ≤ length (numbers s levels root) → length (numbers s levels root) + 1 ≤ LEAST * s.capacity → IsTree s levels root → Replaces MOST s t (levels - 1) root (Some split) (insert (numbers s (suc (levels - 1)) root) rank item) → HasRoomFor t 1
 taller_room s t zero root rank item split some within room tree step = absurd (omega arith)
 taller_room s t (suc d) root rank item split some within room tree step' =

@@ -133,7 +133,7 @@ pub record Replaces (most : ℕ) (old new : Slab Node) (d n : ℕ) (split : Opti
 abbrev pub counts : Slab Node → List ℕ → List ℕ
 counts s ns = map (λ k. count_of (get s k)) ns
 
--- the items of n behind the one at `half` went to a new node, which has so many items below it
+-- the items of n after the one at `half` went to a new node, which has so many items below it
 pub record Divides (old new : Slab Node) (n half moved : ℕ) (split : Split) : Type 0 where
   pub middle : split.middle ≡ slice_index (items_of (get old n)) half
   pub fresh : get old split.right ≡ None
@@ -151,7 +151,7 @@ pub record Divides (old new : Slab Node) (n half moved : ℕ) (split : Split) : 
   pub len : slab_len new ≡ slab_len old + 1
   pub capacity : new.capacity ≡ old.capacity
 
--- with the nodes outside the subtree there is room for the nodes that it needs for so many more items
+-- with the nodes outside the subtree there is capacity for the nodes that it needs for so many more items
 pub record HasTreeRoom (s : Slab Node) (d n more : ℕ) : Type 0 where
   pub filled : LEAST * slab_len s + (length (numbers s d n) + more) + 1 ≤ LEAST * s.capacity + LEAST * length (used s d n) + LEAST
   pub few : LEAST * slab_len s + (length (numbers s d n) + more) + 1 ≤ LEAST * s.capacity + LEAST * length (used s d n) + length (items_of (get s n))
@@ -262,7 +262,7 @@ pub record IsMendable (s : Slab Node) (low n i : ℕ) : Type 0 where
   pub child : ShapedBut (LEAST - 1) MOST s low (slice_index (children_of (get s n)) i)
   pub behind : All (Shaped s (suc low)) (drop (i + 1) (children_of (get s n)))
 
--- a node over `suc low` levels, of whose children one of the two at j and behind it may lack an item
+-- a node over `suc low` levels, of whose children one of the two at j and after it may lack an item
 pub record IsLevelled (s : Slab Node) (low n j : ℕ) : Type 0 where
   pub node : IsNode 1 MOST s (suc low) n
   pub owned : Owned s (suc (suc low)) n

@@ -7,7 +7,7 @@ use Rattle.range_store.specs.declared.btree.node.TheConstants.{MOST}
 use Rattle.range_store.specs.Nodes.{numbers, items_of, children_of, tops, ShapedBut, Replaces}
 use Rattle.range_store.proofs.Below.{sizes_many}
 use Rattle.range_store.proofs.Replace.{EnoughFor-any}
-use Rattle.range_store.proofs.Insert.{ready, finish, length-attached, leaf_step, leaf_within, kids_many, kid_owned, kid_apart, kid_smaller, kid_room, kid_shaped, but_from_shaped, inner_grown}
+use Rattle.range_store.proofs.Insert.{grown_is_ready, grown_then_cut, length-attached, leaf_step, leaf_within, kids_many, kid_owned, kid_apart, kid_smaller, kid_room, kid_shaped, but_from_shaped, inner_grown}
 use Rattle.range_store.proofs.btree.insertion.+insert_below.Goals as goal
 use Rattle.range_store.proofs.btree.insertion.+insert_below.Goals.{After-put_item, After-insert_below-split, After-attach}
 
@@ -19,14 +19,14 @@ cut_overfull-split-requires t c =
     let r = c.args.nodes.now in
     let s = c.put_item.new.nodes in
     let step = leaf_step r s c.args.below c.args.number c.args.rank c.args.item c.if-below-eq0.true c.requires.shaped c.requires.within c.put_item.ensures.rewritten c.put_item.ensures.items c.put_item.ensures.children c.put_item.ensures.sizes c.put_item.ensures.count in
-    ready r s c.args.below c.args.number c.args.rank c.args.item c.requires.shaped c.requires.owned c.requires.within c.requires.room step
+    grown_is_ready r s c.args.below c.args.number c.args.rank c.args.item c.requires.shaped c.requires.owned c.requires.within c.requires.room step
 
 pub returns-then-below-eq0-clause-replaces : goal.returns-then-below-eq0-clause-replaces
 returns-then-below-eq0-clause-replaces t c =
     let r = c.args.nodes.now in
     let s = c.put_item.new.nodes in
     let step = leaf_step r s c.args.below c.args.number c.args.rank c.args.item c.if-below-eq0.true c.requires.shaped c.requires.within c.put_item.ensures.rewritten c.put_item.ensures.items c.put_item.ensures.children c.put_item.ensures.sizes c.put_item.ensures.count in
-    finish r s c.cut_overfull-split.new.nodes c.args.below c.args.number c.cut_overfull-split.result _ c.requires.shaped.node.present step c.cut_overfull-split.ensures.replaces
+    grown_then_cut r s c.cut_overfull-split.new.nodes c.args.below c.args.number c.cut_overfull-split.result _ c.requires.shaped.node.present step c.cut_overfull-split.ensures.replaces
 
 pub insert_below-split-requires : goal.insert_below-split-requires
 insert_below-split-requires t c =
@@ -94,11 +94,11 @@ step t c same =
 
 pub cut_overfull-cut-requires : goal.cut_overfull-cut-requires
 cut_overfull-cut-requires t c =
-    ready c.args.nodes.now c.attach.new.nodes c.args.below c.args.number c.args.rank c.args.item c.requires.shaped c.requires.owned c.requires.within c.requires.room (step t (goal.at.cut_overfull-cut-requires t c).After-attach (kept t (goal.at.cut_overfull-cut-requires t c).After-insert_below-split))
+    grown_is_ready c.args.nodes.now c.attach.new.nodes c.args.below c.args.number c.args.rank c.args.item c.requires.shaped c.requires.owned c.requires.within c.requires.room (step t (goal.at.cut_overfull-cut-requires t c).After-attach (kept t (goal.at.cut_overfull-cut-requires t c).After-insert_below-split))
 
 pub returns-clause-replaces : goal.returns-clause-replaces
 returns-clause-replaces t c =
-    finish c.args.nodes.now c.attach.new.nodes c.cut_overfull-cut.new.nodes c.args.below c.args.number c.cut_overfull-cut.result _ c.requires.shaped.node.present (step t (goal.at.returns-clause-replaces t c).After-attach (kept t (goal.at.returns-clause-replaces t c).After-insert_below-split)) c.cut_overfull-cut.ensures.replaces
+    grown_then_cut c.args.nodes.now c.attach.new.nodes c.cut_overfull-cut.new.nodes c.args.below c.args.number c.cut_overfull-cut.result _ c.requires.shaped.node.present (step t (goal.at.returns-clause-replaces t c).After-attach (kept t (goal.at.returns-clause-replaces t c).After-insert_below-split)) c.cut_overfull-cut.ensures.replaces
 
 pub returns-then-below-eq0-clause-left_whole : goal.returns-then-below-eq0-clause-left_whole
 returns-then-below-eq0-clause-left_whole t c spare =

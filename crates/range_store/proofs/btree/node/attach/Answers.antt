@@ -2,7 +2,7 @@ use Rattle.std.proofs.Common.{◌∙◌, arith}
 use Rattle.std.proofs.lemmas.Grind.{common_steps}
 use Rattle.slab.specs.Slab.{get}
 use Rattle.range_store.specs.Nodes.{sizes_of, count_of}
-use Rattle.range_store.proofs.Sizes.{set_parts}
+use Rattle.range_store.proofs.Edits.{set_parts}
 use Rattle.range_store.proofs.btree.node.attach.Goals as goal
 
 pub returns-in-None-clause-sizes : goal.returns-in-None-clause-sizes

@@ -287,7 +287,7 @@ returns-then-place-size_at-clause-following t c =
     let later = rw (level, kid) at c.remove_below-item.ensures.following in
     following_below s below n i c.descend-place.result.rest c.args.rank inner c.requires.shaped index c.descend-place.ensures.rank c.remove_below-item.result.following c.found_or_behind-following.result (rw kid at less) later (rw (c.count_off.ensures.items, same) at c.found_or_behind-following.ensures)
 
--- what stands behind the child, where the item to go does
+-- what stands after the child, where the item to go does
 behind : (t : ℕ) (c : After-size_at t) → 0 < c.args.below → c.size_at.result ≤ c.descend-place.result.rest → (c.descend-place.result.rest ≡ length (numbers c.args.nodes.now c.args.below (get_or (children_of (get c.args.nodes.now c.args.number)) c.descend-place.result.index 0))) × (c.descend-place.result.index < length (items_of (get c.args.nodes.now c.args.number)))
 behind t c inner full =
     let s = c.args.nodes.now in
