@@ -1,0 +1,312 @@
+//! Calls of maps.
+
+use crate::outcome::{Outcome, done, refused};
+use crate::ranges::{Size, built, is_spelled, key, part};
+use btree_range_map::btree::BoxStorage;
+use btree_range_map::generic::RangeMap;
+use btree_range_map::generic::map::{Command, MapError, NotInserted, Reply, UpdateError, run};
+use btree_range_map::storage::{Item, Storage, VecStorage};
+use btree_range_map::{AnyRange, json};
+use serde_json::Value;
+use std::alloc::{AllocError, Global};
+
+pub type Entry = Item<AnyRange<i32>, String>;
+
+pub type Vector = VecStorage<Entry>;
+
+pub type Tree = BoxStorage<Entry>;
+
+type Map<C> = RangeMap<i32, String, C>;
+
+/// A call of a map, at its middle range.
+#[derive(Clone, Copy)]
+pub enum MapCall {
+    /// Between two stored ranges.
+    InsertFree,
+    /// Inside a stored range.
+    InsertInside,
+    /// From inside a stored range to inside the next.
+    InsertAcross,
+    InsertDisconnected,
+    /// Inside a stored range.
+    Remove,
+    /// Binds what is free from inside a stored range on to beyond the next.
+    Update,
+    Clone,
+    /// An insertion, and a removal inside a stored range.
+    Run,
+    Write,
+    Read,
+}
+
+/// What a new binding is bound to.
+const NEW: &str = "new";
+
+/// What the range of a place is bound to. All others are bound to a text that takes no memory.
+fn text(place: u16, size: Size) -> &'static str {
+    if place == size.middle() { "middle" } else { "" }
+}
+
+fn insert<C: Storage<Entry>>(
+    map: &mut Map<C>,
+    range: AnyRange<i32>,
+    text: String,
+) -> Result<(), MapError> {
+    map.insert(range, text)
+}
+
+fn bind<C: Storage<Entry>>(
+    alloc: Global,
+    map: &mut Map<C>,
+    range: AnyRange<i32>,
+    text: &str,
+) -> Result<(), MapError> {
+    insert(map, range, String::from_str(alloc, text)?)
+}
+
+/// Stores the ranges one after the other. Answers the place of the first that was refused.
+fn fill<C: Storage<Entry>>(alloc: Global, map: &mut Map<C>, size: Size) -> Result<(), u16> {
+    for place in 0..size.count {
+        let Ok(()) = bind(alloc, map, built(place), text(place, size)) else {
+            return Err(place);
+        };
+    }
+    Ok(())
+}
+
+/// Whether the map stores just the ranges of the first places.
+fn is_filled<C: Storage<Entry>>(map: &Map<C>, places: u16, size: Size) -> bool {
+    let mut stored = map.iter();
+    for place in 0..places {
+        let Some((range, value)) = stored.next() else {
+            return false;
+        };
+        if !is_spelled(range, built(place)) || value.as_str() != text(place, size) {
+            return false;
+        }
+    }
+    stored.next().is_none()
+}
+
+fn is_bound<C: Storage<Entry>>(map: &Map<C>, key: i32, text: &str) -> bool {
+    match map.get(key) {
+        Some(value) => value.as_str() == text,
+        None => false,
+    }
+}
+
+/// The outcome of a change: how many ranges more there are after it, and what a key is bound to.
+fn changed<C: Storage<Entry>>(
+    map: &Map<C>,
+    size: Size,
+    outcome: Result<(), MapError>,
+    more: u8,
+    bound: (i32, &str),
+) -> Outcome {
+    match outcome {
+        Ok(()) => {
+            let count = usize::from(size.count) + usize::from(more);
+            done(map.range_count() == count && is_bound(map, bound.0, bound.1))
+        }
+        Err(MapError::Memory) => refused(is_filled(map, size.count, size)),
+    }
+}
+
+fn insertion<C: Storage<Entry>>(
+    alloc: Global,
+    map: &mut Map<C>,
+    size: Size,
+    range: AnyRange<i32>,
+    more: u8,
+    new: u8,
+) -> Outcome {
+    let outcome = bind(alloc, map, range, NEW);
+    changed(map, size, outcome, more, (key(size.middle(), new), NEW))
+}
+
+fn insert_disconnected<C: Storage<Entry>>(
+    map: &mut Map<C>,
+    range: AnyRange<i32>,
+    text: String,
+) -> Result<(), NotInserted<i32, String>> {
+    map.insert_disconnected(range, text)
+}
+
+/// A refused insertion has to hand back the range and the text.
+fn disconnected<C: Storage<Entry>>(alloc: Global, map: &mut Map<C>, size: Size) -> Outcome {
+    let range = part(size.middle(), 6, 8);
+    let Ok(text) = String::from_str(alloc, NEW) else {
+        return Outcome::Early;
+    };
+    match insert_disconnected(map, range, text) {
+        Ok(()) => changed(map, size, Ok(()), 1, (key(size.middle(), 6), NEW)),
+        Err(NotInserted::Memory(given, text)) => refused(
+            is_spelled(&given, range) && text.as_str() == NEW && is_filled(map, size.count, size),
+        ),
+        Err(NotInserted::Connected(_, _)) => Outcome::Wrong,
+    }
+}
+
+fn remove<C: Storage<Entry>>(map: &mut Map<C>, range: AnyRange<i32>) -> Result<(), MapError> {
+    map.remove(range)
+}
+
+fn removal<C: Storage<Entry>>(map: &mut Map<C>, size: Size) -> Outcome {
+    let outcome = remove(map, part(size.middle(), 1, 3));
+    changed(map, size, outcome, 1, (key(size.middle(), 0), "middle"))
+}
+
+/// A clone of what is bound, and a new text where nothing is.
+fn bound_or_new(alloc: Global, bound: Option<&String>) -> Result<Option<String>, AllocError> {
+    match bound {
+        Some(text) => Ok(Some(text.clone()?)),
+        None => Ok(Some(String::from_str(alloc, NEW)?)),
+    }
+}
+
+fn fill_free<C: Storage<Entry>>(
+    alloc: Global,
+    map: &mut Map<C>,
+    range: AnyRange<i32>,
+) -> Result<(), UpdateError<AllocError>> {
+    map.update(range, |bound| bound_or_new(alloc, bound))
+}
+
+fn update<C: Storage<Entry>>(alloc: Global, map: &mut Map<C>, size: Size) -> Outcome {
+    let middle = size.middle();
+    let outcome = match fill_free(alloc, map, part(middle, 3, 25)) {
+        Ok(()) => Ok(()),
+        Err(_) => Err(MapError::Memory),
+    };
+    changed(map, size, outcome, 2, (key(middle, 6), NEW))
+}
+
+fn cloning<C: Storage<Entry>>(map: &Map<C>, size: Size) -> Outcome {
+    match map.clone() {
+        Ok(other) => done(is_filled(&other, size.count, size)),
+        Err(AllocError) => refused(is_filled(map, size.count, size)),
+    }
+}
+
+fn unasked(_tag: &(), _bound: Option<&String>) -> Result<Option<String>, AllocError> {
+    Err(AllocError)
+}
+
+fn commands(alloc: Global, size: Size) -> Result<Vec<Command<i32, String, ()>>, AllocError> {
+    let middle = size.middle();
+    Ok(vec![in alloc;
+        Command::Insert(part(middle, 6, 8), String::from_str(alloc, NEW)?),
+        Command::Remove(part(middle, 1, 3)),
+    ]?)
+}
+
+fn replies<C: Storage<Entry>>(
+    alloc: Global,
+    map: &mut Map<C>,
+    commands: Vec<Command<i32, String, ()>>,
+) -> Result<Vec<Reply<i32, String, AllocError>>, MapError> {
+    run(alloc, map, commands, &unasked)
+}
+
+/// Whether a command was done, and `None` where it was neither done nor refused.
+fn is_done(reply: &Reply<i32, String, AllocError>) -> Option<bool> {
+    match reply {
+        Reply::Done => Some(true),
+        Reply::Memory => Some(false),
+        _ => None,
+    }
+}
+
+/// Whether just those of the two commands were done that say so.
+fn is_each_whole<C: Storage<Entry>>(
+    map: &Map<C>,
+    size: Size,
+    replies: &[Reply<i32, String, AllocError>],
+) -> bool {
+    let inserted = map.contains_key(key(size.middle(), 6));
+    let removed = !map.contains_key(key(size.middle(), 1));
+    let count = usize::from(size.count) + usize::from(inserted) + usize::from(removed);
+    replies.len() == 2
+        && replies.first().and_then(is_done) == Some(inserted)
+        && replies.last().and_then(is_done) == Some(removed)
+        && map.range_count() == count
+}
+
+fn running<C: Storage<Entry>>(alloc: Global, map: &mut Map<C>, size: Size) -> Outcome {
+    let Ok(commands) = commands(alloc, size) else {
+        return Outcome::Early;
+    };
+    match replies(alloc, map, commands) {
+        Ok(replies) => {
+            let whole = is_each_whole(map, size, replies.as_slice());
+            if map.range_count() == usize::from(size.count) + 2 {
+                done(whole)
+            } else {
+                refused(whole)
+            }
+        }
+        Err(MapError::Memory) => refused(is_filled(map, size.count, size)),
+    }
+}
+
+fn read<C: Storage<Entry>>(alloc: Global, value: &Value) -> Result<Map<C>, json::JsonError> {
+    json::map_from_json(alloc, value)
+}
+
+fn written<C: Storage<Entry>>(alloc: Global, map: &Map<C>) -> Result<Value, AllocError> {
+    json::map_to_json(alloc, map)
+}
+
+/// The outcome of reading what the map is written as.
+fn reading<C: Storage<Entry>>(alloc: Global, value: &Value, size: Size) -> Outcome {
+    match read::<C>(alloc, value) {
+        Ok(map) => done(is_filled(&map, size.count, size)),
+        Err(json::JsonError::Memory) => Outcome::Kept,
+        Err(_) => Outcome::Wrong,
+    }
+}
+
+fn writing<C: Storage<Entry>>(alloc: Global, map: &Map<C>, size: Size, reads: bool) -> Outcome {
+    match written(alloc, map) {
+        Ok(value) => {
+            if reads {
+                reading::<C>(alloc, &value, size)
+            } else {
+                done(is_filled(map, size.count, size))
+            }
+        }
+        Err(AllocError) => {
+            if reads {
+                Outcome::Early
+            } else {
+                refused(is_filled(map, size.count, size))
+            }
+        }
+    }
+}
+
+fn call<C: Storage<Entry>>(alloc: Global, map: &mut Map<C>, size: Size, call: MapCall) -> Outcome {
+    let middle = size.middle();
+    match call {
+        MapCall::InsertFree => insertion(alloc, map, size, part(middle, 6, 8), 1, 6),
+        MapCall::InsertInside => insertion(alloc, map, size, part(middle, 1, 3), 2, 1),
+        MapCall::InsertAcross => insertion(alloc, map, size, part(middle, 3, 12), 1, 3),
+        MapCall::InsertDisconnected => disconnected(alloc, map, size),
+        MapCall::Remove => removal(map, size),
+        MapCall::Update => update(alloc, map, size),
+        MapCall::Clone => cloning(map, size),
+        MapCall::Run => running(alloc, map, size),
+        MapCall::Write => writing(alloc, map, size, false),
+        MapCall::Read => writing(alloc, map, size, true),
+    }
+}
+
+/// Builds a map and makes the call.
+pub fn outcome<C: Storage<Entry>>(alloc: Global, size: Size, what: MapCall) -> Outcome {
+    let mut map: Map<C> = RangeMap::new(alloc);
+    match fill(alloc, &mut map, size) {
+        Ok(()) => call(alloc, &mut map, size, what),
+        Err(place) if is_filled(&map, place, size) => Outcome::Early,
+        Err(_) => Outcome::Wrong,
+    }
+}

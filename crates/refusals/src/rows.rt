@@ -1,0 +1,126 @@
+//! The calls, each over both containers and over trees of one, two and three levels.
+
+use crate::automata::{self, AutomatonCall};
+use crate::maps::{self, MapCall};
+use crate::multimaps::{self, MultimapCall};
+use crate::outcome::Outcome;
+use crate::ranges::Size;
+use crate::sets::{self, SetCall};
+use std::alloc::Global;
+use std::collections::{BTreeSet, HashSet};
+
+/// A call of some type. Multimaps have one of two types of sets.
+#[derive(Clone, Copy)]
+pub enum Call {
+    Map(MapCall),
+    Set(SetCall),
+    Ordered(MultimapCall),
+    Hashed(MultimapCall),
+    Automaton(AutomatonCall),
+}
+
+pub static CALLS: &[(&str, Call)] = &[
+    ("map: insert between ranges", Call::Map(MapCall::InsertFree)),
+    (
+        "map: insert inside a range",
+        Call::Map(MapCall::InsertInside),
+    ),
+    (
+        "map: insert across ranges",
+        Call::Map(MapCall::InsertAcross),
+    ),
+    (
+        "map: insert_disconnected",
+        Call::Map(MapCall::InsertDisconnected),
+    ),
+    ("map: remove", Call::Map(MapCall::Remove)),
+    ("map: update", Call::Map(MapCall::Update)),
+    ("map: clone", Call::Map(MapCall::Clone)),
+    ("map: run", Call::Map(MapCall::Run)),
+    ("map: map_to_json", Call::Map(MapCall::Write)),
+    ("map: map_from_json", Call::Map(MapCall::Read)),
+    ("set: insert", Call::Set(SetCall::Insert)),
+    ("set: remove", Call::Set(SetCall::Remove)),
+    ("set: extend", Call::Set(SetCall::Extend)),
+    ("set: from_iter", Call::Set(SetCall::FromIter)),
+    ("set: complement", Call::Set(SetCall::Complement)),
+    ("set: clone", Call::Set(SetCall::Clone)),
+    ("set: set_to_json", Call::Set(SetCall::Write)),
+    ("set: set_from_json", Call::Set(SetCall::Read)),
+    ("set: range_to_json", Call::Set(SetCall::WriteRange)),
+    ("set: range_from_json", Call::Set(SetCall::ReadRange)),
+    (
+        "multimap of BTreeSet: insert",
+        Call::Ordered(MultimapCall::Insert),
+    ),
+    (
+        "multimap of BTreeSet: remove",
+        Call::Ordered(MultimapCall::Remove),
+    ),
+    (
+        "multimap of BTreeSet: clone",
+        Call::Ordered(MultimapCall::Clone),
+    ),
+    (
+        "multimap of HashSet: insert",
+        Call::Hashed(MultimapCall::Insert),
+    ),
+    (
+        "multimap of HashSet: remove",
+        Call::Hashed(MultimapCall::Remove),
+    ),
+    (
+        "multimap of HashSet: clone",
+        Call::Hashed(MultimapCall::Clone),
+    ),
+    ("rules: add", Call::Automaton(AutomatonCall::Add)),
+    (
+        "rules: add for a new state",
+        Call::Automaton(AutomatonCall::AddState),
+    ),
+    ("rules: start", Call::Automaton(AutomatonCall::Start)),
+    ("rules: accept", Call::Automaton(AutomatonCall::Accept)),
+    ("moves: step", Call::Automaton(AutomatonCall::Step)),
+    ("moves: accepts", Call::Automaton(AutomatonCall::Accepts)),
+];
+
+/// How many ranges are stored: such trees have one, two and three levels.
+pub const SIZES: [u16; 3] = [4, 16, 64];
+
+fn over_vector(alloc: Global, call: Call, size: Size) -> Outcome {
+    match call {
+        Call::Map(call) => maps::outcome::<maps::Vector>(alloc, size, call),
+        Call::Set(call) => sets::outcome::<sets::Vector>(alloc, size, call),
+        Call::Ordered(call) => {
+            multimaps::outcome::<BTreeSet<i32>, multimaps::Vector<BTreeSet<i32>>>(alloc, size, call)
+        }
+        Call::Hashed(call) => {
+            multimaps::outcome::<HashSet<i32>, multimaps::Vector<HashSet<i32>>>(alloc, size, call)
+        }
+        Call::Automaton(call) => automata::outcome(alloc, size, call),
+    }
+}
+
+fn over_tree(alloc: Global, call: Call, size: Size) -> Outcome {
+    match call {
+        Call::Map(call) => maps::outcome::<maps::Tree>(alloc, size, call),
+        Call::Set(call) => sets::outcome::<sets::Tree>(alloc, size, call),
+        Call::Ordered(call) => {
+            multimaps::outcome::<BTreeSet<i32>, multimaps::Tree<BTreeSet<i32>>>(alloc, size, call)
+        }
+        Call::Hashed(call) => {
+            multimaps::outcome::<HashSet<i32>, multimaps::Tree<HashSet<i32>>>(alloc, size, call)
+        }
+        Call::Automaton(call) => automata::outcome(alloc, size, call),
+    }
+}
+
+/// Makes the call once so many ranges are stored, over a tree or over a vector.
+pub fn outcome(alloc: Global, call: Call, count: u16, tree: bool) -> Outcome {
+    let size = Size { count };
+    if tree {
+        over_tree(alloc, call, size)
+    } else {
+        over_vector(alloc, call, size)
+    }
+}

@@ -1,0 +1,236 @@
+//! Calls of sets, and of ranges as JSON.
+
+use crate::outcome::{Outcome, done, refused};
+use crate::ranges::{Size, built, is_spelled, key, part};
+use btree_range_map::AnyRange;
+use btree_range_map::btree::BoxStorage;
+use btree_range_map::generic::RangeSet;
+use btree_range_map::generic::map::MapError;
+use btree_range_map::json::{self, JsonError};
+use btree_range_map::storage::{Item, Storage, VecStorage};
+use serde_json::Value;
+use std::alloc::{AllocError, Global};
+
+pub type Entry = Item<AnyRange<i32>, ()>;
+
+pub type Vector = VecStorage<Entry>;
+
+pub type Tree = BoxStorage<Entry>;
+
+type Set<C> = RangeSet<i32, C>;
+
+/// A call of a set, at its middle range.
+#[derive(Clone, Copy)]
+pub enum SetCall {
+    /// Between two stored ranges.
+    Insert,
+    /// Inside a stored range.
+    Remove,
+    /// By three ranges, each between two stored ones.
+    Extend,
+    FromIter,
+    Complement,
+    Clone,
+    Write,
+    Read,
+    WriteRange,
+    ReadRange,
+}
+
+/// By how many ranges a set is extended.
+const MORE: u16 = 3;
+
+fn between(place: u16) -> AnyRange<i32> {
+    part(place, 6, 8)
+}
+
+fn insert<C: Storage<Entry>>(set: &mut Set<C>, range: AnyRange<i32>) -> Result<(), MapError> {
+    set.insert(range)
+}
+
+/// Stores the ranges one after the other. Answers the place of the first that was refused.
+fn fill<C: Storage<Entry>>(set: &mut Set<C>, size: Size) -> Result<(), u16> {
+    for place in 0..size.count {
+        let Ok(()) = insert(set, built(place)) else {
+            return Err(place);
+        };
+    }
+    Ok(())
+}
+
+/// Whether the set stores just the ranges of the first places, and between them so many others.
+fn is_filled<C: Storage<Entry>>(set: &Set<C>, places: u16, others: u16) -> bool {
+    let mut stored = set.iter();
+    for place in 0..places {
+        if !stored
+            .next()
+            .is_some_and(|range| is_spelled(range, built(place)))
+        {
+            return false;
+        }
+        if place < others
+            && !stored
+                .next()
+                .is_some_and(|range| is_spelled(range, between(place)))
+        {
+            return false;
+        }
+    }
+    stored.next().is_none()
+}
+
+/// The outcome of a change: how many ranges more there are after it, and a key that it concerns.
+fn changed<C: Storage<Entry>>(
+    set: &Set<C>,
+    size: Size,
+    outcome: Result<(), MapError>,
+    held: (i32, bool),
+) -> Outcome {
+    match outcome {
+        Ok(()) => {
+            let count = usize::from(size.count) + 1;
+            done(set.range_count() == count && set.contains(held.0) == held.1)
+        }
+        Err(MapError::Memory) => refused(is_filled(set, size.count, 0)),
+    }
+}
+
+fn remove<C: Storage<Entry>>(set: &mut Set<C>, range: AnyRange<i32>) -> Result<(), MapError> {
+    set.remove(range)
+}
+
+fn extend<C: Storage<Entry>>(set: &mut Set<C>) -> Result<(), MapError> {
+    set.extend([between(0), between(1), between(2)])
+}
+
+/// A refused extension has to keep the ranges before the one at which it was refused.
+fn extension<C: Storage<Entry>>(set: &mut Set<C>, size: Size) -> Outcome {
+    match extend(set) {
+        Ok(()) => done(is_filled(set, size.count, MORE)),
+        Err(MapError::Memory) => {
+            let mut whole = false;
+            for others in 0..MORE {
+                whole = whole || is_filled(set, size.count, others);
+            }
+            refused(whole)
+        }
+    }
+}
+
+fn gathered<C: Storage<Entry>>(alloc: Global) -> Result<Set<C>, MapError> {
+    RangeSet::from_iter(alloc, [built(1), built(0), built(2), built(1)])
+}
+
+fn gathering<C: Storage<Entry>>(alloc: Global) -> Outcome {
+    match gathered::<C>(alloc) {
+        Ok(set) => done(is_filled(&set, 3, 0)),
+        Err(MapError::Memory) => Outcome::Kept,
+    }
+}
+
+fn complemented<C: Storage<Entry>>(set: &Set<C>) -> Result<Set<C>, MapError> {
+    set.complement()
+}
+
+fn complementing<C: Storage<Entry>>(set: &Set<C>, size: Size) -> Outcome {
+    match complemented(set) {
+        Ok(others) => done(
+            others.range_count() == usize::from(size.count) + 1
+                && others.contains(-1)
+                && !others.contains(key(size.middle(), 0)),
+        ),
+        Err(MapError::Memory) => refused(is_filled(set, size.count, 0)),
+    }
+}
+
+fn cloning<C: Storage<Entry>>(set: &Set<C>, size: Size) -> Outcome {
+    match set.clone() {
+        Ok(other) => done(is_filled(&other, size.count, 0)),
+        Err(AllocError) => refused(is_filled(set, size.count, 0)),
+    }
+}
+
+fn written<C: Storage<Entry>>(alloc: Global, set: &Set<C>) -> Result<Value, AllocError> {
+    json::set_to_json(alloc, set)
+}
+
+fn read<C: Storage<Entry>>(alloc: Global, value: &Value) -> Result<Set<C>, JsonError> {
+    json::set_from_json(alloc, value)
+}
+
+fn writing<C: Storage<Entry>>(alloc: Global, set: &Set<C>, size: Size) -> Outcome {
+    match written(alloc, set) {
+        Ok(_) => Outcome::Done,
+        Err(AllocError) => refused(is_filled(set, size.count, 0)),
+    }
+}
+
+/// The outcome of reading what the set is written as.
+fn reading<C: Storage<Entry>>(alloc: Global, set: &Set<C>, size: Size) -> Outcome {
+    let Ok(value) = written(alloc, set) else {
+        return Outcome::Early;
+    };
+    match read::<C>(alloc, &value) {
+        Ok(set) => done(is_filled(&set, size.count, 0)),
+        Err(JsonError::Memory) => Outcome::Kept,
+        Err(_) => Outcome::Wrong,
+    }
+}
+
+fn written_range(alloc: Global) -> Result<Value, AllocError> {
+    json::range_to_json(alloc, &built(1))
+}
+
+fn read_range(alloc: Global, value: &Value) -> Result<AnyRange<i32>, JsonError> {
+    json::range_from_json(alloc, value)
+}
+
+fn writing_range(alloc: Global) -> Outcome {
+    match written_range(alloc) {
+        Ok(_) => Outcome::Done,
+        Err(AllocError) => Outcome::Kept,
+    }
+}
+
+fn reading_range(alloc: Global) -> Outcome {
+    let Ok(value) = written_range(alloc) else {
+        return Outcome::Early;
+    };
+    match read_range(alloc, &value) {
+        Ok(range) => done(is_spelled(&range, built(1))),
+        Err(JsonError::Memory) => Outcome::Kept,
+        Err(_) => Outcome::Wrong,
+    }
+}
+
+fn call<C: Storage<Entry>>(alloc: Global, set: &mut Set<C>, size: Size, call: SetCall) -> Outcome {
+    let middle = size.middle();
+    match call {
+        SetCall::Insert => {
+            let outcome = insert(set, between(middle));
+            changed(set, size, outcome, (key(middle, 6), true))
+        }
+        SetCall::Remove => {
+            let outcome = remove(set, part(middle, 1, 3));
+            changed(set, size, outcome, (key(middle, 1), false))
+        }
+        SetCall::Extend => extension(set, size),
+        SetCall::FromIter => gathering::<C>(alloc),
+        SetCall::Complement => complementing(set, size),
+        SetCall::Clone => cloning(set, size),
+        SetCall::Write => writing(alloc, set, size),
+        SetCall::Read => reading(alloc, set, size),
+        SetCall::WriteRange => writing_range(alloc),
+        SetCall::ReadRange => reading_range(alloc),
+    }
+}
+
+/// Builds a set and makes the call.
+pub fn outcome<C: Storage<Entry>>(alloc: Global, size: Size, what: SetCall) -> Outcome {
+    let mut set: Set<C> = RangeSet::new(alloc);
+    match fill(&mut set, size) {
+        Ok(()) => call(alloc, &mut set, size, what),
+        Err(place) if is_filled(&set, place, 0) => Outcome::Early,
+        Err(_) => Outcome::Wrong,
+    }
+}
