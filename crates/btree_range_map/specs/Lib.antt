@@ -28,6 +28,7 @@ pub use Rattle.range_store.specs.Depth
 pub use Rattle.range_store.specs.Holding
 pub use Rattle.range_store.specs.Places
 pub use Rattle.range_map.specs.Answers
+pub use Rattle.range_map.specs.Askable
 pub use Rattle.range_map.specs.Bindings
 pub use Rattle.range_map.specs.Coarse
 pub use Rattle.range_map.specs.Copies
@@ -50,6 +51,7 @@ pub use Rattle.range_map.specs.Texts as MapTexts
 pub use Rattle.range_sets.specs.Calls
 pub use Rattle.range_sets.specs.Complements
 pub use Rattle.range_sets.specs.CountedRuns
+pub use Rattle.range_sets.specs.EqualClones
 pub use Rattle.range_sets.specs.Extending
 pub use Rattle.range_sets.specs.History
 pub use Rattle.range_sets.specs.KeySets
