@@ -26,7 +26,7 @@ impl<T: Measure + Bounded> AnyRange<T> {
     /// range.
     ///
     /// ```
-    /// assert_eq!(AnyRange::new(Bound::Included(10u8), Bound::Unbounded).len(), 246);
+    /// assert!(rt; AnyRange::new(Bound::Included(10u8), Bound::Unbounded).len() == 246);
     /// ```
     pub fn len(&self) -> u128
         ensures measure { range_measure T.order T.len T.distance self.now ≡ Some result }
@@ -46,7 +46,8 @@ impl<T: Measure> AnyRange<T> {
     /// allocates nothing.
     ///
     /// ```
-    /// assert_eq!(AnyRange::new(Bound::Excluded(2u64), Bound::Included(5)).bounded_len(), Some(3));
+    /// let above: AnyRange<u64> = AnyRange::new(Bound::Excluded(2), Bound::Included(5));
+    /// assert!(rt; above.bounded_len() == Some(3));
     /// ```
     pub fn bounded_len(&self) -> Option<u128>
         ensures measure { result ≡ range_measure T.order T.len T.distance self.now }

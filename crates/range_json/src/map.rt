@@ -39,10 +39,8 @@ pub(crate) fn pair_to_json<K: Json, V: Json>(
 /// number 2 as `version`. Allocates; fails where an allocation fails.
 ///
 /// ```
-/// let mut map: RangeMap<u8, i64, VecStorage<_>> = RangeMap::new(alloc);
-/// map.insert(0..5, 1)?;
-/// let value = map_to_json(alloc, &map)?;
-/// // {"items":[[[{"Included":0},{"Excluded":5}],1]],"version":2}
+/// let text = written(rt.alloc())?.to_string(rt.alloc())?; // of a map that binds 0..5 to 1
+/// assert!(rt; text.as_str() == r#"{"items":[[[{"Included":0},{"Excluded":5}],1]],"version":2}"#);
 /// ```
 pub fn map_to_json<K: Json + PartialEnum, V: Json + Eq, C: Storage<Item<AnyRange<K>, V>>>(
     alloc: Global,

@@ -47,10 +47,9 @@ use std::ops::Bound;
 /// contract sees the container, and its items as `C.items`.
 ///
 /// ```
-/// let mut map: RangeMap<u8, i64, VecStorage<_>> = RangeMap::new(rt.alloc());
+/// let mut map: RangeMap<i32, i64> = RangeMap::new(rt.alloc()); // in the default container
 /// map.insert(0..=5, 1)?;
-/// map.insert(4u8, 0)?;
-/// assert_eq!(rt; map.range_count(), 3);
+/// map.insert(4, 0)?; // 0..4, 4 and 5 are stored
 /// ```
 #[derive(Drop)]
 pub struct RangeMap<K: PartialEnum, V: Eq, C: Storage<Item<AnyRange<K>, V>>> {
@@ -71,6 +70,11 @@ impl<K: PartialEnum, V: Eq, C: Storage<Item<AnyRange<K>, V>>> Model for RangeMap
 
 impl<K: PartialEnum, V: Eq + Drop, C: Storage<Item<AnyRange<K>, V>>> RangeMap<K, V, C> {
     /// A map that binds no key. Allocates nothing.
+    ///
+    /// ```
+    /// let mut map: RangeMap<i32, i64> = RangeMap::new(rt.alloc()); // in the default container
+    /// assert!(rt; map.is_empty());
+    /// ```
     pub fn new(alloc: Global) -> Self
         ensures { C.items result ≡ [] }
     {
@@ -92,6 +96,11 @@ impl<K: PartialEnum, V: Eq + Drop, C: Storage<Item<AnyRange<K>, V>>> RangeMap<K,
     ///
     /// Over keys that tell their neighbours and ends no list of ranges that binds the same has
     /// fewer.
+    ///
+    /// ```
+    /// // of a map that binds 0..=5 to 1, but 4 to 0
+    /// assert!(rt; map.range_count() == 3); // 0..4, 4 and 5
+    /// ```
     pub fn range_count(&self) -> usize
         ensures value { result ≡ length (C.items self.now) }
         ensures least { IsComplete K.order → IsLeastCount K.order V.eq (C.items self.now) result }
@@ -103,6 +112,11 @@ impl<K: PartialEnum, V: Eq + Drop, C: Storage<Item<AnyRange<K>, V>>> RangeMap<K,
     /// The value to which the key is bound, or none.
     ///
     /// Costs one search and one comparison more. Allocates nothing.
+    ///
+    /// ```
+    /// // of a map that binds 0..=5 to 1, but 4 to 0
+    /// assert!(rt; map.get(4).copied() == Some(0));
+    /// ```
     pub fn get(&self, key: K) -> Option<&V>
         ensures value { Binds K.order V.eq (C.items self.now) key (option_copied result) }
         ensures stored { IfSome result (λ v. IsStoredFor K.order (C.items self.now) key v.now) }
@@ -115,6 +129,13 @@ impl<K: PartialEnum, V: Eq + Drop, C: Storage<Item<AnyRange<K>, V>>> RangeMap<K,
     ///
     /// A step is one range that the search asks, or one comparison of the key with a stored range.
     /// The empty map takes none.
+    ///
+    /// ```
+    /// // of a map that binds 0..=5 to 1, but not 4
+    /// let mut steps = Steps::new();
+    /// assert!(rt; map.get_counted(4, &mut steps).is_none());
+    /// assert!(rt; steps.count() <= 4); // at most 3 a level, and one
+    /// ```
     pub fn get_counted(&self, key: K, steps: &mut Steps) -> Option<&V>
         ensures value { Binds K.order V.eq (C.items self.now) key (option_copied result) }
         ensures stored { IfSome result (λ v. IsStoredFor K.order (C.items self.now) key v.now) }
@@ -138,6 +159,13 @@ impl<K: PartialEnum, V: Eq + Drop, C: Storage<Item<AnyRange<K>, V>>> RangeMap<K,
     }
 
     /// The stored ranges with their values, in ascending order, from both ends. Allocates nothing.
+    ///
+    /// ```
+    /// // of a map that binds 0..=5 to 1, but 4 to 0
+    /// for (range, value) in map.iter() {
+    ///     assert!(rt; *value == 1 || range.len() == 1);
+    /// }
+    /// ```
     pub fn iter(&self) -> Iter<'_, K, V, C>
         ensures items { result ≡ C.items self.now }
         ensures form { IsStored K.order V.eq result }

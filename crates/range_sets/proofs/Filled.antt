@@ -9,7 +9,7 @@ use Rattle.range_algebra.specs.declared.any.AnyRange.{AnyRange}
 use Rattle.range_store.specs.declared.storage.Item.{Item}
 use Rattle.range_map.specs.Frames.{GaveWayTo, IsNewItem}
 use Rattle.range_sets.specs.Pairs.{HasNoEmptySet}
-use Rattle.range_sets.proofs.Histories.{is_greater}
+use Rattle.range_keys.proofs.Orderings.{greater_or_not}
 
 module _ {K : Type 0} (order : KeyOrder K) {S : Type 0} (same : S → S → Bool) (is_void : S → Type 0) (void_equal : (s t : S) → IsTrue (same s t) → is_void s → is_void t) where
   abbrev IsFull : Item (AnyRange K) S → Type 0
@@ -35,7 +35,7 @@ module _ {K : Type 0} (order : KeyOrder K) {S : Type 0} (same : S → S → Bool
       → (result ≡ Ok false → next ≡ items) → (result ≡ Ok true → ¬ IsEmptyRange order r → GaveWayTo order same items next r s) → OnErr result (next ≡ items) → (IsEmptyRange order r → next ≡ items) → HasNoEmptySet is_void next
   inserted_full items next r s (Err e) full before met way refused empty = subst (HasNoEmptySet is_void) (sym refused) before
   inserted_full items next r s (Ok false) full before met way refused empty = subst (HasNoEmptySet is_void) (sym (met refl)) before
-  inserted_full items next r s (Ok true) full before met way refused empty = elim (is_greater (position_cmp order.cmp (start_position order r.start) (end_position order r.end))) [
+  inserted_full items next r s (Ok true) full before met way refused empty = elim (greater_or_not (position_cmp order.cmp (start_position order r.start) (end_position order r.end))) [
     | inl none ↦ subst (HasNoEmptySet is_void) (sym (empty none)) before
     | inr some ↦ given_way_full items next r s full before (way refl some)
   ]

@@ -25,6 +25,11 @@ fn known_items<K: PartialEnum, V, C: Storage<Item<AnyRange<K>, V>>>(stored: &C)
 
 impl<K: PartialEnum, V: Eq + Drop, C: Storage<Item<AnyRange<K>, V>>> RangeMap<K, V, C> {
     /// A map that binds no key. Allocates nothing.
+    ///
+    /// ```
+    /// let mut map: RangeMap<i32, i64> = RangeMap::default(rt.alloc());
+    /// map.insert(0..=5, 1)?;
+    /// ```
     pub fn default(alloc: Global) -> Self
         ensures { C.items result ≡ [] }
     {
@@ -37,6 +42,11 @@ impl<K: PartialEnum + Clone, V: Eq + Clone, C: Storage<Item<AnyRange<K>, V>>> Ra
     ///
     /// Allocates its items and each clone; fails where an allocation does. Costs a clone
     /// and a step for each stored range.
+    ///
+    /// ```
+    /// let copy = map.clone()?;
+    /// assert!(rt; copy == map && copy.cmp(&map) == Ordering::Equal);
+    /// ```
     pub fn clone(&self) -> Result<Self, AllocError>
         requires keys { ClonesAreEqual K.is_clone K.eq }
         requires values { ClonesAreEqual V.is_clone V.eq }

@@ -126,6 +126,13 @@ impl<K: PartialEnum, V: Eq + Drop, C: Storage<Item<AnyRange<K>, V>>> RangeMap<K,
     /// Then the two bind every key alike; over keys that tell their neighbours and ends, as
     /// integers and characters, it does exactly where they do. Allocates nothing. Costs one step
     /// for each stored range.
+    ///
+    /// ```
+    /// map.insert(0..=5, 1)?;
+    /// let mut vector: generic::RangeMap<i32, i64, VecStorage<_>> = generic::RangeMap::new(alloc);
+    /// vector.insert(0..6, 1)?;
+    /// assert!(rt; map.eq_across(&vector) && map.cmp_across(&vector) == Ordering::Equal);
+    /// ```
     pub fn eq_across<D: Storage<Item<AnyRange<K>, V>>>(&self, other: &RangeMap<K, V, D>) -> bool
         ensures value { result ≡ same_list K.order V.eq (C.items self.now) (D.items other.now) }
         ensures bound { IsTrue result → BindAlike K.order V.eq (C.items self.now) (D.items other.now) }
@@ -144,6 +151,13 @@ impl<K: PartialEnum, V: Ord + Drop, C: Storage<Item<AnyRange<K>, V>>> RangeMap<K
     /// Over keys that tell their neighbours and ends, as integers and characters, maps that bind
     /// every key alike, and no others, are `Equal`, and compare alike with every map. Takes no
     /// memory. Costs one step for each stored range.
+    ///
+    /// ```
+    /// map.insert(0..=5, 1)?;
+    /// let mut vector: generic::RangeMap<i32, i64, VecStorage<_>> = generic::RangeMap::new(alloc);
+    /// vector.insert(0..6, 1)?;
+    /// assert!(rt; map.eq_across(&vector) && map.cmp_across(&vector) == Ordering::Equal);
+    /// ```
     pub fn cmp_across<D: Storage<Item<AnyRange<K>, V>>>(
         &self,
         other: &RangeMap<K, V, D>,

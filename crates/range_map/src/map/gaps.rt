@@ -104,9 +104,8 @@ impl<K: PartialEnum, V: Eq + Drop, C: Storage<Item<AnyRange<K>, V>>> RangeMap<K,
     /// of it. An iteration over all gaps takes one step for each stored range. Allocates nothing.
     ///
     /// ```
-    /// let mut gaps = map.gaps(); // of a map over bytes that binds `..10` and `20..`
-    /// let gap = gaps.next().unwrap().cloned()?; // equal to `10..20`
-    /// assert!(rt; gaps.next().is_none());
+    /// // of a map that binds 0..=5 to 1, but 4 to 0
+    /// assert!(rt; map.gaps().next().is_some()); // ..0, and then from 6 on
     /// ```
     pub fn gaps(&self) -> Gaps<'_, K, V, C>
         ensures gaps { AreGaps K.order (C.items self.now) result }

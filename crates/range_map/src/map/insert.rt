@@ -25,6 +25,11 @@ impl<K: Measure + Clone, V: Eq + Clone, C: Storage<Item<AnyRange<K>, V>>> RangeM
     /// of a bound or a value where a stored range with another value is cut. After an error the map
     /// is as it was. Costs one search, and a step for each stored range that the range meets or
     /// touches.
+    ///
+    /// ```
+    /// map.insert(0..=5, 1)?;
+    /// map.insert(4, 0)?; // 0..4, 4 and 5 are stored
+    /// ```
     pub fn insert<R: IntoRange<Item = K>>(&mut self, range: R, value: V) -> Result<(), MapError>
         requires keys { ClonesAreEqual K.is_clone K.eq }
         requires values { ClonesAreEqual V.is_clone V.eq }
@@ -48,6 +53,11 @@ impl<K: Measure + Clone, V: Eq + Clone, C: Storage<Item<AnyRange<K>, V>>> RangeM
     ///
     /// A step is one range that the search asks, or one comparison of the range with a stored one.
     /// An empty range takes none.
+    ///
+    /// ```
+    /// let mut steps = Steps::new();
+    /// map.insert_counted(0..=5, 1, &mut steps)?;
+    /// ```
     pub fn insert_counted<R: IntoRange<Item = K>>(
         &mut self,
         range: R,

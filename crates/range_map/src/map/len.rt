@@ -35,8 +35,8 @@ impl<K: Measure + Bounded, V: Eq + Drop, C: Storage<Item<AnyRange<K>, V>>> Range
     /// distance for each stored range. Allocates nothing.
     ///
     /// ```
-    /// map.insert(0.., 1)?; // of a map over bytes
-    /// assert_eq!(rt; map.len(), 256);
+    /// // of a map that binds 0..=5 to 1, but 4 to 0
+    /// assert!(rt; map.len() == 6);
     /// ```
     pub fn len(&self) -> u128
         ensures measure { list_measure K.order K.len K.distance (item_ranges (C.items self.now)) ≡ Some result }
@@ -51,6 +51,11 @@ impl<K: Measure, V: Eq + Drop, C: Storage<Item<AnyRange<K>, V>>> RangeMap<K, V, 
     /// unbounded towards an end that the key type does not tell.
     ///
     /// Costs a step and a distance for each stored range. Allocates nothing.
+    ///
+    /// ```
+    /// // of a map that binds 0..=5 to 1, but 4 to 0
+    /// assert!(rt; map.bounded_len() == Some(6));
+    /// ```
     pub fn bounded_len(&self) -> Option<u128>
         ensures measure { result ≡ list_measure K.order K.len K.distance (item_ranges (C.items self.now)) }
         ensures untold { IsNone result ↔ Any (λ i. HasUntoldEnd K.order i.key) (C.items self.now) }

@@ -14,6 +14,11 @@ impl<K: PartialEnum, V: Eq + Drop> RangeMap<K, V, BoxStorage<Item<AnyRange<K>, V
     /// How many levels of nodes the tree has in which the ranges are kept: 0 for a map without any.
     ///
     /// A look-up reads one node on each level. Allocates nothing.
+    ///
+    /// ```
+    /// // of a map that binds 0..=5 to 1, but 4 to 0
+    /// assert!(rt; map.levels() == 1);
+    /// ```
     pub fn levels(&self) -> usize
         ensures value { result ≡ level_count self.now }
         ensures empty { length (box_items self.now) ≡ 0 → result ≡ 0 }

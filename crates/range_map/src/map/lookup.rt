@@ -17,6 +17,11 @@ use range_store::storage::{Item, Steps, Storage};
 
 impl<K: PartialEnum, V: Eq + Drop, C: Storage<Item<AnyRange<K>, V>>> RangeMap<K, V, C> {
     /// Whether no range is stored. Allocates nothing.
+    ///
+    /// ```
+    /// let mut map: RangeMap<i32, i64> = RangeMap::new(rt.alloc()); // in the default container
+    /// assert!(rt; map.is_empty());
+    /// ```
     pub fn is_empty(&self) -> bool
         ensures { IsTrue result ↔ C.items self.now ≡ [] }
     {
@@ -26,6 +31,11 @@ impl<K: PartialEnum, V: Eq + Drop, C: Storage<Item<AnyRange<K>, V>>> RangeMap<K,
     /// Whether the key is bound.
     ///
     /// Costs one search and one comparison more. Allocates nothing.
+    ///
+    /// ```
+    /// // of a map that binds 0..=5 to 1, but 4 to 0
+    /// assert!(rt; map.contains_key(5) && !map.contains_key(6));
+    /// ```
     pub fn contains_key(&self, key: K) -> bool
         ensures { IsTrue result ↔ IsBound K.order (C.items self.now) key }
     {
@@ -34,6 +44,12 @@ impl<K: PartialEnum, V: Eq + Drop, C: Storage<Item<AnyRange<K>, V>>> RangeMap<K,
     }
 
     /// Whether the key is bound; adds the steps that it takes, as `get_counted` does.
+    ///
+    /// ```
+    /// // of a map that binds 0..=5 to 1, but not 4
+    /// let mut steps = Steps::new();
+    /// assert!(rt; map.contains_key_counted(5, &mut steps));
+    /// ```
     pub fn contains_key_counted(&self, key: K, steps: &mut Steps) -> bool
         ensures value { IsTrue result ↔ IsBound K.order (C.items self.now) key }
         ensures counted { AddsSteps steps.old steps.new (C.least_asks self.now) (C.most_asks self.now + 1) }
@@ -48,6 +64,11 @@ impl<K: Measure, V: Eq + Drop, C: Storage<Item<AnyRange<K>, V>>> RangeMap<K, V, 
     ///
     /// It does wherever one of its keys is bound; over keys that leave no gap, nowhere else.
     /// Costs one search and one comparison more. Allocates nothing.
+    ///
+    /// ```
+    /// // of a map that binds 0..=5 to 1, but 4 to 0
+    /// assert!(rt; map.intersects(5..9) && !map.intersects(6..9));
+    /// ```
     pub fn intersects<R: AsRange<Item = K>>(&self, range: R) -> bool
         ensures meets { IsTrue result ↔ (¬ IsEmptyRange K.order (R.range range)) × MeetsSome K.order (C.items self.now) (R.range range) }
         ensures bound { BindsKeyOf K.order (C.items self.now) (R.range range) → IsTrue result }
@@ -61,6 +82,12 @@ impl<K: Measure, V: Eq + Drop, C: Storage<Item<AnyRange<K>, V>>> RangeMap<K, V, 
     ///
     /// A step is one range that the search asks, or one comparison of the range with a stored one.
     /// An empty range and the empty map take none.
+    ///
+    /// ```
+    /// // of a map that binds 0..=5 to 1, but not 4
+    /// let mut steps = Steps::new();
+    /// assert!(rt; map.intersects_counted(5..9, &mut steps));
+    /// ```
     pub fn intersects_counted<R: AsRange<Item = K>>(&self, range: R, steps: &mut Steps) -> bool
         ensures meets { IsTrue result ↔ (¬ IsEmptyRange K.order (R.range range)) × MeetsSome K.order (C.items self.now) (R.range range) }
         ensures bound { BindsKeyOf K.order (C.items self.now) (R.range range) → IsTrue result }

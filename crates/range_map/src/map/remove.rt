@@ -26,6 +26,12 @@ impl<K: Measure + Clone, V: Eq + Clone, C: Storage<Item<AnyRange<K>, V>>> RangeM
     /// Allocates a clone of each bound at which it cuts a stored range; and where one stored
     /// range becomes two, a clone of its value and what the container needs. After an error the
     /// map is as it was. Costs one search, and a step for each stored range that the range meets.
+    ///
+    /// ```
+    /// map.insert(0..=5, 1)?;
+    /// map.remove(1..)?;
+    /// assert!(rt; map.len() == 1); // 0 is left
+    /// ```
     pub fn remove<R: AsRange<Item = K>>(&mut self, range: R) -> Result<(), MapError>
         requires keys { ClonesAreEqual K.is_clone K.eq }
         requires values { ClonesAreEqual V.is_clone V.eq }
@@ -51,6 +57,12 @@ impl<K: Measure + Clone, V: Eq + Clone, C: Storage<Item<AnyRange<K>, V>>> RangeM
     ///
     /// A step is one range that the search asks, or one comparison of the range with a stored one.
     /// An empty range takes none.
+    ///
+    /// ```
+    /// let mut steps = Steps::new();
+    /// map.insert_counted(0..=5, 1, &mut steps)?;
+    /// map.remove_counted(4, &mut steps)?;
+    /// ```
     pub fn remove_counted<R: AsRange<Item = K>>(
         &mut self,
         range: R,

@@ -118,8 +118,12 @@ impl<K: Measure + Clone, V: Eq + Clone, C: Storage<Item<AnyRange<K>, V>>> RangeM
     /// touches.
     ///
     /// ```
-    /// // Counts one more for each key of the range.
-    /// map.update(0..10, |count| Ok::<_, Infallible>(Some(count.copied().unwrap_or(0) + 1)))?;
+    /// map.insert(0..5, 1)?;
+    /// let filled = |old: Option<&i64>| -> Result<Option<i64>, u8> {
+    ///     Ok(Some(old.copied().unwrap_or(7)))
+    /// };
+    /// assert!(rt; map.update(3..9, filled).is_ok());
+    /// assert!(rt; map.get(4).copied() == Some(1) && map.get(5).copied() == Some(7));
     /// ```
     pub fn update<R: AsRange<Item = K>, E: Drop, F: Fn(Option<&V>) -> Result<Option<V>, E>>(
         &mut self,

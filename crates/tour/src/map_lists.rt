@@ -1,0 +1,26 @@
+//! The examples of the calls that compare maps.
+
+use btree_range_map::storage::VecStorage;
+use btree_range_map::{RangeMap, generic};
+use std::cmp::Ordering;
+use std::test::Fail;
+
+#[test]
+fn copied_and_compared(rt: HostRuntime) -> Result<(), Fail> {
+    let mut map: RangeMap<i32, i64> = RangeMap::new(rt.alloc());
+    map.insert(0..=5, 1)?;
+    let copy = map.clone()?;
+    assert!(rt; copy == map && copy.cmp(&map) == Ordering::Equal);
+    Ok(())
+}
+
+#[test]
+fn compared_across(rt: HostRuntime) -> Result<(), Fail> {
+    let alloc = rt.alloc();
+    let mut map: RangeMap<i32, i64> = RangeMap::new(alloc);
+    map.insert(0..=5, 1)?;
+    let mut vector: generic::RangeMap<i32, i64, VecStorage<_>> = generic::RangeMap::new(alloc);
+    vector.insert(0..6, 1)?;
+    assert!(rt; map.eq_across(&vector) && map.cmp_across(&vector) == Ordering::Equal);
+    Ok(())
+}
