@@ -33,13 +33,8 @@ use std::collections::BTreeSet;
 /// The multimap as `map_to_json` writes a map, each set as the array of its values, in ascending
 /// order. Allocates; fails where an allocation fails.
 ///
-/// ```
-/// let mut names: RangeMultiMap<u8, BTreeSet<i64>, VecStorage<_>> = RangeMultiMap::new(alloc);
-/// names.insert(0..5, 7)?;
-/// names.insert(0..5, 3)?;
-/// let value = multimap_to_json(alloc, &names)?;
-/// // {"items":[[[{"Included":0},{"Excluded":5}],[3,7]]],"version":2}
-/// ```
+/// The keys of `0..5` with the values 3 and 7 are written as
+/// `{"items":[[[{"Included":0},{"Excluded":5}],[3,7]]],"version":2}`.
 pub fn multimap_to_json<
     K: Json + PartialEnum,
     V: Json + Ord + Clone,
