@@ -9,6 +9,7 @@ pub use Rattle.range_keys.specs.Position
 pub use Rattle.range_keys.specs.PositionOrder
 pub use Rattle.range_keys.specs.Signed
 pub use Rattle.range_keys.specs.Unsigned
+pub use Rattle.range_keys.specs.Untold
 pub use Rattle.range_algebra.specs.Clones
 pub use Rattle.range_algebra.specs.Combined
 pub use Rattle.range_algebra.specs.Compared
@@ -55,6 +56,7 @@ pub use Rattle.range_sets.specs.EqualClones
 pub use Rattle.range_sets.specs.Extending
 pub use Rattle.range_sets.specs.History
 pub use Rattle.range_sets.specs.KeySets
+pub use Rattle.range_sets.specs.LastCommands
 pub use Rattle.range_sets.specs.Members
 pub use Rattle.range_sets.specs.Pairs
 pub use Rattle.range_sets.specs.Runs
@@ -70,10 +72,21 @@ pub use Rattle.range_json.specs.Shapes
 pub use Rattle.range_json.specs.Values
 pub use Rattle.range_json.specs.ValueSets
 -- The types that contracts name.
+pub use Rattle.range_keys.specs.declared.bound.BoundOrdering
+pub use Rattle.range_keys.specs.declared.bound.Directed as DirectedBound
 pub use Rattle.range_algebra.specs.declared.any.AnyRange
+pub use Rattle.range_algebra.specs.declared.ordering.RangeOrdering
+pub use Rattle.range_algebra.specs.declared.range.parts.Difference
+pub use Rattle.range_algebra.specs.declared.range.parts.Product
+pub use Rattle.range_algebra.specs.declared.range.parts.ProductArg
 pub use Rattle.range_store.specs.declared.btree.BoxStorage
 pub use Rattle.range_store.specs.declared.storage.Item
+pub use Rattle.range_map.specs.declared.error.MapError
+pub use Rattle.range_map.specs.declared.error.NotInserted
+pub use Rattle.range_map.specs.declared.error.UpdateError
 pub use Rattle.range_sets.specs.declared.command.Command
 pub use Rattle.range_sets.specs.declared.command.Reply
 pub use Rattle.range_json.specs.declared.error.JsonError
 pub use Rattle.range_json.specs.declared.error.ReadError
+-- The least and the greatest number of items of a node.
+pub use Rattle.range_store.specs.declared.btree.node.TheConstants as NodeConstants

@@ -1,2 +1,0 @@
--- Keys of the tests.
-pub mod Untold

@@ -72,6 +72,8 @@ fn empty_ranges_change_nothing(rt: HostRuntime) -> Result<(), Fail> {
         Step::Insert(half_open(5, 5), 2),
         Step::Count(1),
         Step::Get(5, Some(1)),
+        Step::InsertDisconnected(half_open(8, 3), 1, false),
+        Step::Count(1),
     ];
     play(&rt, rt.alloc(), &steps)
 }

@@ -3,7 +3,7 @@
 ghost use Rattle.std.specs.Prelude.{◌≡◌, refl};
 ghost use Rattle.std.specs.Ordering.{int_cmp, on, eq_by_cmp, as_partial_cmp};
 ghost use Rattle.std.specs.Cmp.{int_cmp_total, on_total, eq_by_cmp_equiv, partial_equiv_from_equiv, partial_order_from_total};
-ghost use Rattle.map_tests.specs.Untold.{untold_order, untold_lawful, untold_measured};
+ghost use Rattle.range_keys.specs.Untold.{untold_order, untold_lawful, untold_measured};
 ghost use Rattle.map_tests.specs.declared.tallied.Tallied.{Tallied};
 
 use range_algebra::any::AnyRange;

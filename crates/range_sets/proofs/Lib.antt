@@ -8,7 +8,6 @@ pub mod Enclosing
 pub mod FewRanges
 pub mod Filled
 pub mod Filling
-pub mod Histories
 pub mod Likeness
 pub mod Matching
 pub mod Membership

@@ -5,6 +5,7 @@ pub mod EqualClones
 pub mod Extending
 pub mod History
 pub mod KeySets
+pub mod LastCommands
 pub mod ListedMembers
 pub mod Members
 pub mod Pairs

@@ -21,6 +21,11 @@ impl<T: Measure + Clone, C: Storage<Item<AnyRange<T>, ()>>> RangeSet<T, C> {
     /// Allocates where one range more is stored and the container has no capacity for it. After an
     /// error the set is as it was. Costs one search, and a step for each stored range that the
     /// range meets or touches.
+    ///
+    /// ```
+    /// let mut set: RangeSet<i32> = RangeSet::default(rt.alloc()); // in the default container
+    /// set.insert(0..=5)?;
+    /// ```
     pub fn insert<R: IntoRange<Item = T>>(&mut self, range: R) -> Result<(), MapError>
         requires { ClonesAreEqual T.is_clone T.eq }
         ensures added { OnOk result
@@ -46,6 +51,11 @@ impl<T: Measure + Clone, C: Storage<Item<AnyRange<T>, ()>>> RangeSet<T, C> {
     ///
     /// A step is one range that the search asks, or one comparison of the range with a stored one.
     /// An empty range takes none.
+    ///
+    /// ```
+    /// let mut steps = Steps::new();
+    /// set.insert_counted(2..4, &mut steps)?; // 0..6 is stored
+    /// ```
     pub fn insert_counted<R: IntoRange<Item = T>>(
         &mut self,
         range: R,
@@ -82,6 +92,12 @@ impl<T: Measure + Clone, C: Storage<Item<AnyRange<T>, ()>>> RangeSet<T, C> {
     /// Allocates a clone of each bound at which it cuts a stored range, and what the
     /// container needs where one stored range becomes two. After an error the set is as it was.
     /// Costs one search, and a step for each stored range that the range meets.
+    ///
+    /// ```
+    /// set.extend([0..10, 20..30, 10..15])?; // 0..15 and 20..30 are stored
+    /// set.remove(3u8)?;
+    /// assert!(rt; set.len() == 24);
+    /// ```
     pub fn remove<R: AsRange<Item = T>>(&mut self, range: R) -> Result<(), MapError>
         requires { ClonesAreEqual T.is_clone T.eq }
         ensures removed { OnOk result
@@ -111,6 +127,12 @@ impl<T: Measure + Clone, C: Storage<Item<AnyRange<T>, ()>>> RangeSet<T, C> {
     ///
     /// A step is one range that the search asks, or one comparison of the range with a stored one.
     /// An empty range takes none.
+    ///
+    /// ```
+    /// let mut steps = Steps::new();
+    /// set.insert_counted(2..4, &mut steps)?; // 0..6 is stored
+    /// set.remove_counted(4, &mut steps)?;
+    /// ```
     pub fn remove_counted<R: AsRange<Item = T>>(
         &mut self,
         range: R,

@@ -15,6 +15,11 @@ impl<T: PartialEnum + Clone, C: Storage<Item<AnyRange<T>, ()>>> RangeSet<T, C> {
     ///
     /// Allocates its ranges and each clone of a key; fails where an allocation is refused. Costs
     /// a clone and a step for each stored range.
+    ///
+    /// ```
+    /// let copy = set.clone()?;
+    /// assert!(rt; copy == set && copy.cmp(&set) == Ordering::Equal);
+    /// ```
     pub fn clone(&self) -> Result<Self, AllocError>
         requires { ClonesAreEqual T.is_clone T.eq }
         ensures equal { IfOk result

@@ -24,6 +24,13 @@ impl<T: PartialEnum, C: Storage<Item<AnyRange<T>, ()>>> RangeSet<T, C> {
     /// Then the two hold the same keys; over keys that tell their neighbours and ends, as integers
     /// and characters, it does exactly where they do. Allocates nothing. Costs one step for each
     /// stored range.
+    ///
+    /// ```
+    /// let copy = set.clone()?;
+    /// assert!(rt; copy == set && copy.cmp(&set) == Ordering::Equal);
+    /// // likewise where the two are over different containers
+    /// assert!(rt; copy.eq_across(&set) && copy.cmp_across(&set) == Ordering::Equal);
+    /// ```
     pub fn eq_across<D: Storage<Item<AnyRange<T>, ()>>>(&self, other: &RangeSet<T, D>) -> bool
         ensures value { result ≡ same_ranges T.order (C.items self.now) (D.items other.now) }
         ensures bound { IsTrue result → HoldAlike T.order (C.items self.now) (D.items other.now) }
@@ -38,6 +45,13 @@ impl<T: PartialEnum, C: Storage<Item<AnyRange<T>, ()>>> RangeSet<T, C> {
     /// Over keys that tell their neighbours and ends, as integers and characters, sets that hold
     /// the same keys, and no others, are `Equal`, and compare alike with every set. Takes no
     /// memory. Costs one step for each stored range.
+    ///
+    /// ```
+    /// let copy = set.clone()?;
+    /// assert!(rt; copy == set && copy.cmp(&set) == Ordering::Equal);
+    /// // likewise where the two are over different containers
+    /// assert!(rt; copy.eq_across(&set) && copy.cmp_across(&set) == Ordering::Equal);
+    /// ```
     pub fn cmp_across<D: Storage<Item<AnyRange<T>, ()>>>(&self, other: &RangeSet<T, D>) -> Ordering
         ensures value { result ≡ ranges_cmp T.order (C.items self.now) (D.items other.now) }
         ensures same { IsComplete T.order → result ≡ Equal

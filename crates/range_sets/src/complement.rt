@@ -19,9 +19,10 @@ impl<T: Measure + Clone, C: Storage<Item<AnyRange<T>, ()>>> RangeSet<T, C> {
     /// refused. Costs a step for each stored range, and no search.
     ///
     /// ```
-    /// let mut set: RangeSet<u8, VecStorage<_>> = RangeSet::new(rt.alloc());
-    /// set.insert(10..)?;
-    /// assert_eq!(rt; set.complement()?.len(), 10);
+    /// set.extend([0..10, 20..30, 10..15])?; // 0..15 and 20..30 are stored
+    /// set.remove(3u8)?;
+    /// let others = set.complement()?; // just the keys that are not in the set
+    /// assert!(rt; others.len() == 232);
     /// ```
     pub fn complement(&self) -> Result<Self, MapError>
         requires { ClonesAreEqual T.is_clone T.eq }

@@ -18,6 +18,11 @@ impl<T: Measure + Clone, C: Storage<Item<AnyRange<T>, ()>>> RangeSet<T, C> {
     ///
     /// Where an allocation fails for a range, the keys of all ranges before it stay added, and no
     /// other key. Costs an insertion for each range.
+    ///
+    /// ```
+    /// let mut set: RangeSet<u8> = RangeSet::new(rt.alloc());
+    /// set.extend([0..10, 20..30, 10..15])?; // 0..15 and 20..30 are stored
+    /// ```
     pub fn extend<R: IntoRange<Item = T>, I: IntoIterator<Item = R>>(
         &mut self,
         ranges: I,
@@ -42,6 +47,12 @@ impl<T: Measure + Clone, C: Storage<Item<AnyRange<T>, ()>>> RangeSet<T, C> {
     /// A set of just the keys of the ranges that the iterator gives.
     ///
     /// Fails where an allocation does. Costs an insertion for each range.
+    ///
+    /// ```
+    /// let mut set: RangeSet<i32> = RangeSet::from_iter(rt.alloc(), [0..2, 4..6])?;
+    /// let mut steps = Steps::new();
+    /// set.insert_counted(2..4, &mut steps)?; // 0..6 is stored
+    /// ```
     pub fn from_iter<R: IntoRange<Item = T>, I: IntoIterator<Item = R>>(
         alloc: Global,
         ranges: I,

@@ -17,6 +17,12 @@ impl<T: Measure + Bounded, C: Storage<Item<AnyRange<T>, ()>>> RangeSet<T, C> {
     /// the number of keys in the set.
     ///
     /// Costs a step and a distance for each stored range. Allocates nothing.
+    ///
+    /// ```
+    /// set.extend([0..10, 20..30, 10..15])?; // 0..15 and 20..30 are stored
+    /// set.remove(3u8)?;
+    /// assert!(rt; set.len() == 24);
+    /// ```
     pub fn len(&self) -> u128
         ensures measure { list_measure T.order T.len T.distance (item_ranges (C.items self.now))
             ≡ Some result }
@@ -32,6 +38,11 @@ impl<T: Measure, C: Storage<Item<AnyRange<T>, ()>>> RangeSet<T, C> {
     /// unbounded towards an end that the key type does not tell.
     ///
     /// Costs a step and a distance for each stored range. Allocates nothing.
+    ///
+    /// ```
+    /// // of a set of the keys 0..=5
+    /// assert!(rt; set.bounded_len() == Some(6));
+    /// ```
     pub fn bounded_len(&self) -> Option<u128>
         ensures measure { result
             ≡ list_measure T.order T.len T.distance (item_ranges (C.items self.now)) }

@@ -36,13 +36,11 @@ pub type Iter<'a, K, S, C> = map::Iter<'a, K, S, C>;
 /// `HashSet<V>`. A contract sees the container, and its items as `C.items`.
 ///
 /// ```
-/// let mut names: RangeMultiMap<u8, BTreeSet<i64>, VecStorage<_>> = RangeMultiMap::new(rt.alloc());
-/// names.insert(0..=9, 1)?;
-/// names.insert(5..=12, 2)?;
-/// names.remove(0..=2, &1)?;
-/// assert_eq!(rt; names.range_count(), 3);
-/// assert!(rt; names.contains(5u8, &1) && names.contains(5u8, &2));
-/// assert!(rt; names.get(2u8).is_none());
+/// let mut classes: RangeMultiMap<char, BTreeSet<u8>> = RangeMultiMap::new(rt.alloc());
+/// classes.insert('0'..='9', 1)?; // digits
+/// classes.insert('a'..='z', 2)?; // letters
+/// classes.insert('a'..='f', 1)?; // hexadecimal digits, too
+/// assert!(rt; classes.contains('c', &1) && classes.contains('c', &2));
 /// ```
 #[derive(Drop)]
 pub struct RangeMultiMap<K: PartialEnum, S: MaybeEmpty, C: Storage<Item<AnyRange<K>, S>>> {
@@ -63,6 +61,10 @@ impl<K: PartialEnum, S: MaybeEmpty, C: Storage<Item<AnyRange<K>, S>>> Model
 
 impl<K: PartialEnum, S: MaybeEmpty, C: Storage<Item<AnyRange<K>, S>>> RangeMultiMap<K, S, C> {
     /// A multimap without a pair. Allocates nothing.
+    ///
+    /// ```
+    /// let mut classes: RangeMultiMap<char, BTreeSet<u8>> = RangeMultiMap::new(rt.alloc());
+    /// ```
     pub fn new(alloc: Global) -> Self
         ensures { C.items result ≡ [] }
     {
@@ -73,6 +75,11 @@ impl<K: PartialEnum, S: MaybeEmpty, C: Storage<Item<AnyRange<K>, S>>> RangeMulti
     }
 
     /// A multimap without a pair. Allocates nothing.
+    ///
+    /// ```
+    /// let mut classes: Classes = RangeMultiMap::default(rt.alloc()); // in the default container
+    /// classes.insert('0'..='9', 1)?;
+    /// ```
     pub fn default(alloc: Global) -> Self
         ensures { C.items result ≡ [] }
     {
@@ -92,6 +99,11 @@ impl<K: PartialEnum, S: MaybeEmpty, C: Storage<Item<AnyRange<K>, S>>> RangeMulti
     ///
     /// Over keys that tell their neighbours and ends no list of ranges with sets that says the same
     /// has fewer.
+    ///
+    /// ```
+    /// classes.remove('0'..='z', &1)?;
+    /// assert!(rt; classes.range_count() == 1); // 'a'..='z' has {2}
+    /// ```
     pub fn range_count(&self) -> usize
         ensures value { result ≡ length (C.items self.now) }
         ensures least { IsComplete K.order → IsLeastCount K.order S.eq (C.items self.now) result }
@@ -100,6 +112,11 @@ impl<K: PartialEnum, S: MaybeEmpty, C: Storage<Item<AnyRange<K>, S>>> RangeMulti
     }
 
     /// Whether no range is stored. Allocates nothing.
+    ///
+    /// ```
+    /// // of a multimap that gives '0'..='9' the value 1
+    /// assert!(rt; !classes.is_empty());
+    /// ```
     pub fn is_empty(&self) -> bool
         ensures { IsTrue result ↔ C.items self.now ≡ [] }
     {
@@ -107,6 +124,11 @@ impl<K: PartialEnum, S: MaybeEmpty, C: Storage<Item<AnyRange<K>, S>>> RangeMulti
     }
 
     /// The stored ranges with their sets, in ascending order, from both ends. Allocates nothing.
+    ///
+    /// ```
+    /// // of a multimap that gives '0'..='9' the value 1
+    /// assert!(rt; classes.iter().next().is_some()); // '0'..='9' with {1}
+    /// ```
     pub fn iter(&self) -> Iter<'_, K, S, C>
         ensures items { result ≡ C.items self.now }
         ensures form { IsStored K.order S.eq result }
@@ -119,6 +141,11 @@ impl<K: PartialEnum, S: MaybeEmpty, C: Storage<Item<AnyRange<K>, S>>> RangeMulti
     /// The set of the key's values, or none where it has none.
     ///
     /// Costs one search and one comparison more. Allocates nothing.
+    ///
+    /// ```
+    /// // of a multimap that gives '0'..='9' the value 1
+    /// assert!(rt; classes.get('0').is_some()); // {1}
+    /// ```
     pub fn get<V: Eq + Clone>(&self, key: K) -> Option<&S>
     where
         S: SetMut<V>,
@@ -136,6 +163,13 @@ impl<K: PartialEnum, S: MaybeEmpty, C: Storage<Item<AnyRange<K>, S>>> RangeMulti
     /// Whether the key has a value that equals the given one.
     ///
     /// Costs one search, one comparison more, and a look into one set. Allocates nothing.
+    ///
+    /// ```
+    /// classes.insert('0'..='9', 1)?; // digits
+    /// classes.insert('a'..='z', 2)?; // letters
+    /// classes.insert('a'..='f', 1)?; // hexadecimal digits, too
+    /// assert!(rt; classes.contains('c', &1) && classes.contains('c', &2));
+    /// ```
     pub fn contains<V: Eq + Clone>(&self, key: K, value: &V) -> bool
     where
         S: SetMut<V>,

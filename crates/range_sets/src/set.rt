@@ -25,6 +25,13 @@ pub type Gaps<'a, T, C> = map::Gaps<'a, T, (), C>;
 /// starts, with a place between.
 ///
 /// A contract sees the container, and the stored ranges as `C.items`.
+///
+/// ```
+/// let mut set: RangeSet<u8> = RangeSet::new(rt.alloc());
+/// set.extend([0..10, 20..30, 10..15])?; // 0..15 and 20..30 are stored
+/// set.remove(3u8)?;
+/// assert!(rt; set.len() == 24);
+/// ```
 #[derive(Drop)]
 pub struct RangeSet<T: PartialEnum, C: Storage<Item<AnyRange<T>, ()>>> {
     pub(crate) map: RangeMap<T, (), C>,
@@ -39,6 +46,11 @@ impl<T: PartialEnum, C: Storage<Item<AnyRange<T>, ()>>> Model for RangeSet<T, C>
 
 impl<T: PartialEnum, C: Storage<Item<AnyRange<T>, ()>>> RangeSet<T, C> {
     /// A set without a key. Allocates nothing.
+    ///
+    /// ```
+    /// let mut set: RangeSet<u8> = RangeSet::new(rt.alloc());
+    /// set.extend([0..10, 20..30, 10..15])?; // 0..15 and 20..30 are stored
+    /// ```
     pub fn new(alloc: Global) -> Self
         ensures { C.items result ≡ [] }
     {
@@ -49,6 +61,10 @@ impl<T: PartialEnum, C: Storage<Item<AnyRange<T>, ()>>> RangeSet<T, C> {
     }
 
     /// A set without a key. Allocates nothing.
+    ///
+    /// ```
+    /// let mut set: RangeSet<i32> = RangeSet::default(rt.alloc()); // in the default container
+    /// ```
     pub fn default(alloc: Global) -> Self
         ensures { C.items result ≡ [] }
     {
@@ -66,6 +82,11 @@ impl<T: PartialEnum, C: Storage<Item<AnyRange<T>, ()>>> RangeSet<T, C> {
     ///
     /// Over keys that tell their neighbours and ends no list of ranges that holds the same keys has
     /// fewer.
+    ///
+    /// ```
+    /// // of a set of the keys 0..=5
+    /// assert!(rt; set.range_count() == 1);
+    /// ```
     pub fn range_count(&self) -> usize
         ensures value { result ≡ length (C.items self.now) }
         ensures least { IsComplete T.order → IsLeastCount T.order (C.items self.now) result }
@@ -74,6 +95,11 @@ impl<T: PartialEnum, C: Storage<Item<AnyRange<T>, ()>>> RangeSet<T, C> {
     }
 
     /// Whether no range is stored. Allocates nothing.
+    ///
+    /// ```
+    /// // of a set of the keys 0..=5
+    /// assert!(rt; !set.is_empty());
+    /// ```
     pub fn is_empty(&self) -> bool
         ensures { IsTrue result ↔ C.items self.now ≡ [] }
     {
@@ -83,6 +109,11 @@ impl<T: PartialEnum, C: Storage<Item<AnyRange<T>, ()>>> RangeSet<T, C> {
     /// Whether the key is in the set.
     ///
     /// Costs one search and one comparison more. Allocates nothing.
+    ///
+    /// ```
+    /// // of a set of the keys 0..=5
+    /// assert!(rt; set.contains(5));
+    /// ```
     pub fn contains(&self, key: T) -> bool
         ensures { IsTrue result ↔ HoldsKey T.order (C.items self.now) key }
     {
@@ -94,6 +125,13 @@ impl<T: PartialEnum, C: Storage<Item<AnyRange<T>, ()>>> RangeSet<T, C> {
     ///
     /// A step is one range that the search asks, or one comparison of the key with a stored range.
     /// The empty set takes none.
+    ///
+    /// ```
+    /// let mut steps = Steps::new();
+    /// set.insert_counted(2..4, &mut steps)?; // 0..6 is stored
+    /// set.remove_counted(4, &mut steps)?;
+    /// assert!(rt; set.contains_counted(5, &mut steps));
+    /// ```
     pub fn contains_counted(&self, key: T, steps: &mut Steps) -> bool
         ensures value { IsTrue result ↔ HoldsKey T.order (C.items self.now) key }
         ensures counted { AddsSteps steps.old steps.new (C.least_asks self.now)
@@ -104,6 +142,11 @@ impl<T: PartialEnum, C: Storage<Item<AnyRange<T>, ()>>> RangeSet<T, C> {
     }
 
     /// The stored ranges, in ascending order. Allocates nothing.
+    ///
+    /// ```
+    /// // of a set of the keys 0..=5
+    /// assert!(rt; set.iter().next().is_some()); // 0..=5
+    /// ```
     pub fn iter(&self) -> Iter<'_, T, C>
         ensures ranges { result ≡ item_ranges (C.items self.now) }
         ensures form { IsStoredSet T.order (C.items self.now) }
@@ -116,6 +159,11 @@ impl<T: PartialEnum, C: Storage<Item<AnyRange<T>, ()>>> RangeSet<T, C> {
     /// empty.
     ///
     /// Allocates nothing. An iteration over all gaps takes one step for each stored range.
+    ///
+    /// ```
+    /// // of a set of the keys 0..=5
+    /// assert!(rt; set.gaps().next().is_some()); // ..0, and then from 6 on
+    /// ```
     pub fn gaps(&self) -> Gaps<'_, T, C>
         ensures gaps { AreGaps T.order (C.items self.now) result }
         ensures once { (k : T) → T.order.is_key k
@@ -131,6 +179,11 @@ impl<T: Measure, C: Storage<Item<AnyRange<T>, ()>>> RangeSet<T, C> {
     ///
     /// It does wherever one of its keys is in the set; over keys that leave no gap, nowhere else.
     /// Costs one search and one comparison more. Allocates nothing.
+    ///
+    /// ```
+    /// // of a set of the keys 0..=5
+    /// assert!(rt; !set.intersects(6..8));
+    /// ```
     pub fn intersects<R: AsRange<Item = T>>(&self, range: R) -> bool
         ensures meets { IsTrue result
             ↔ (¬ IsEmptyRange T.order (R.range range))

@@ -10,9 +10,13 @@ mod map_lists;
 #[cfg(test)]
 mod maps;
 #[cfg(test)]
+mod multimap_calls;
+#[cfg(test)]
 mod multimaps;
 #[cfg(test)]
 mod ranges;
+#[cfg(test)]
+mod set_calls;
 #[cfg(test)]
 mod sets;
 

@@ -27,7 +27,7 @@ impl<K: PartialEnum, V: Eq + Drop, C: Storage<Item<AnyRange<K>, V>>> RangeMap<K,
     /// A map that binds no key. Allocates nothing.
     ///
     /// ```
-    /// let mut map: RangeMap<i32, i64> = RangeMap::default(rt.alloc());
+    /// let mut map: RangeMap<i32, i64> = RangeMap::default(alloc); // in the default container
     /// map.insert(0..=5, 1)?;
     /// ```
     pub fn default(alloc: Global) -> Self

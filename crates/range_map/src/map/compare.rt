@@ -128,7 +128,7 @@ impl<K: PartialEnum, V: Eq + Drop, C: Storage<Item<AnyRange<K>, V>>> RangeMap<K,
     /// for each stored range.
     ///
     /// ```
-    /// map.insert(0..=5, 1)?;
+    /// // of a map that binds 0..=5 to 1
     /// let mut vector: generic::RangeMap<i32, i64, VecStorage<_>> = generic::RangeMap::new(alloc);
     /// vector.insert(0..6, 1)?;
     /// assert!(rt; map.eq_across(&vector) && map.cmp_across(&vector) == Ordering::Equal);
@@ -153,7 +153,7 @@ impl<K: PartialEnum, V: Ord + Drop, C: Storage<Item<AnyRange<K>, V>>> RangeMap<K
     /// memory. Costs one step for each stored range.
     ///
     /// ```
-    /// map.insert(0..=5, 1)?;
+    /// // of a map that binds 0..=5 to 1
     /// let mut vector: generic::RangeMap<i32, i64, VecStorage<_>> = generic::RangeMap::new(alloc);
     /// vector.insert(0..6, 1)?;
     /// assert!(rt; map.eq_across(&vector) && map.cmp_across(&vector) == Ordering::Equal);

@@ -104,7 +104,7 @@ impl<K: PartialEnum, V: Eq + Drop, C: Storage<Item<AnyRange<K>, V>>> RangeMap<K,
     /// of it. An iteration over all gaps takes one step for each stored range. Allocates nothing.
     ///
     /// ```
-    /// // of a map that binds 0..=5 to 1, but 4 to 0
+    /// // of a map that binds 0..=5 to 1
     /// assert!(rt; map.gaps().next().is_some()); // ..0, and then from 6 on
     /// ```
     pub fn gaps(&self) -> Gaps<'_, K, V, C>

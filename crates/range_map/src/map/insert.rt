@@ -28,7 +28,7 @@ impl<K: Measure + Clone, V: Eq + Clone, C: Storage<Item<AnyRange<K>, V>>> RangeM
     ///
     /// ```
     /// map.insert(0..=5, 1)?;
-    /// map.insert(4, 0)?; // 0..4, 4 and 5 are stored
+    /// map.insert(4, 0)?; // a key alone
     /// ```
     pub fn insert<R: IntoRange<Item = K>>(&mut self, range: R, value: V) -> Result<(), MapError>
         requires keys { ClonesAreEqual K.is_clone K.eq }

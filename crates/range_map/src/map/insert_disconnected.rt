@@ -130,7 +130,6 @@ impl<K: Measure, V: Eq + Drop, C: Storage<Item<AnyRange<K>, V>>> RangeMap<K, V, 
     /// ```
     /// assert!(rt; map.insert_disconnected(0..5, 1).is_ok());
     /// assert!(rt; map.insert_disconnected(5..9, 2).is_err()); // it touches 0..5
-    /// assert!(rt; map.insert_disconnected(6..9, 2).is_ok());
     /// ```
     pub fn insert_disconnected<R: IntoRange<Item = K>>(
         &mut self,

@@ -35,8 +35,10 @@ impl<K: Measure + Bounded, V: Eq + Drop, C: Storage<Item<AnyRange<K>, V>>> Range
     /// distance for each stored range. Allocates nothing.
     ///
     /// ```
-    /// // of a map that binds 0..=5 to 1, but 4 to 0
-    /// assert!(rt; map.len() == 6);
+    /// let mut map: RangeMap<i32, i64> = RangeMap::new(rt.alloc());
+    /// map.insert(0..=5, 1)?;
+    /// map.insert(4, 0)?; // a key alone
+    /// println!(rt; "{} keys in {} ranges", map.len(), map.range_count())?;
     /// ```
     pub fn len(&self) -> u128
         ensures measure { list_measure K.order K.len K.distance (item_ranges (C.items self.now)) ≡ Some result }
@@ -53,7 +55,7 @@ impl<K: Measure, V: Eq + Drop, C: Storage<Item<AnyRange<K>, V>>> RangeMap<K, V, 
     /// Costs a step and a distance for each stored range. Allocates nothing.
     ///
     /// ```
-    /// // of a map that binds 0..=5 to 1, but 4 to 0
+    /// // of a map that binds 0..=5 to 1
     /// assert!(rt; map.bounded_len() == Some(6));
     /// ```
     pub fn bounded_len(&self) -> Option<u128>

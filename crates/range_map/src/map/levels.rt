@@ -16,7 +16,7 @@ impl<K: PartialEnum, V: Eq + Drop> RangeMap<K, V, BoxStorage<Item<AnyRange<K>, V
     /// A look-up reads one node on each level. Allocates nothing.
     ///
     /// ```
-    /// // of a map that binds 0..=5 to 1, but 4 to 0
+    /// // of a map that binds 0..=5 to 1
     /// assert!(rt; map.levels() == 1);
     /// ```
     pub fn levels(&self) -> usize

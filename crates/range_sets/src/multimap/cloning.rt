@@ -21,6 +21,11 @@ impl<K: PartialEnum + Clone, S: MaybeEmpty, C: Storage<Item<AnyRange<K>, S>>> Ra
     ///
     /// Allocates for its ranges and for each clone of a key or a set; fails where that is refused.
     /// Costs a clone and a step for each stored range.
+    ///
+    /// ```
+    /// let copy = classes.clone()?;
+    /// assert!(rt; copy == classes);
+    /// ```
     pub fn clone<V: Eq + Clone>(&self) -> Result<Self, AllocError>
     where
         S: SetMut<V>,

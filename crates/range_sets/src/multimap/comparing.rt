@@ -17,6 +17,12 @@ impl<K: PartialEnum, S: MaybeEmpty, C: Storage<Item<AnyRange<K>, S>>> RangeMulti
     /// Then every key has the same values in both; over keys that tell their neighbours and ends,
     /// as integers and characters, it does exactly where they have. Allocates nothing. Costs one
     /// step and one comparison of two sets for each stored range.
+    ///
+    /// ```
+    /// let copy = classes.clone()?;
+    /// assert!(rt; copy == classes);
+    /// assert!(rt; copy.eq_across(&classes)); // likewise over different containers
+    /// ```
     pub fn eq_across<D: Storage<Item<AnyRange<K>, S>>>(
         &self,
         other: &RangeMultiMap<K, S, D>,

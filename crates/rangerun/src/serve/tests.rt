@@ -405,12 +405,12 @@ const REPEATING: &[Repeating] = &[
         answered: 250,
     },
     Repeating {
-        front: b"load ",
+        front: b"insert 7..8 3\nload ",
         again: b"[",
         back: b"]",
         times: 200,
-        end: b"\n",
-        replies: b"bad json\n",
+        end: b"\nshow\n",
+        replies: b"ok\nbad json\n7..=7 3\n",
         answered: 1,
     },
     Repeating {

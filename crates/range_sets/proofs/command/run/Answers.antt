@@ -1,7 +1,6 @@
-use Rattle.range_map.specs.Bindings.{Binds}
+use Rattle.range_sets.specs.LastCommands.{last_command_decides}
 use Rattle.range_sets.specs.Tagged.{MayAnswerTo}
 use Rattle.range_sets.proofs.CountedRuns.{if_ok_then, uncounted, few_after}
-use Rattle.range_sets.proofs.Histories.{run_binds}
 use Rattle.range_sets.proofs.command.run.Goals as goal
 
 pub returns-clause-chain : goal.returns-clause-chain
@@ -15,7 +14,7 @@ returns-clause-history g c =
     let may = MayAnswerTo g.F.Fn c.args.f.now in
     let items = g.C.Storage.items c.args.map.now in
     if_ok_then c.run_steps.result (returns-clause-chain g c) (λ replies run k key b h.
-    run_binds order g.met.K.PartialEnum.lawful g.V.PartialEq.eq g.met.V.Eq.laws may k key items (g.C.Storage.items c.run_steps.new.map) (λ u. Binds order g.V.PartialEq.eq items k u) c.args.commands.items replies.items b (λ u t. t) run h)
+    last_command_decides order g.met.K.PartialEnum.lawful g.V.PartialEq.eq g.met.V.Eq.laws may k key items (g.C.Storage.items c.run_steps.new.map) c.args.commands.items replies.items run b h)
 
 pub returns-clause-few : goal.returns-clause-few
 returns-clause-few g c = λ none.

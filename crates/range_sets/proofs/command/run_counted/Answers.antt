@@ -1,11 +1,10 @@
 use Rattle.std.proofs.Common.{◌+◌, ◌*◌, length, arith}
 use Rattle.range_store.specs.Holding.{box_items}
-use Rattle.range_map.specs.Bindings.{Binds}
 use Rattle.range_map.specs.Depths.{greatest_level}
+use Rattle.range_sets.specs.LastCommands.{last_command_decides}
 use Rattle.range_sets.specs.Tagged.{MayAnswerTo}
 use Rattle.range_sets.proofs.CountedRuns.{if_ok_then, uncounted, few_after, run_most, run_least, few_asks, some_asks}
 use Rattle.range_map.proofs.Depths.{greatest_level_is}
-use Rattle.range_sets.proofs.Histories.{run_binds}
 use Rattle.range_sets.proofs.command.run_counted.Goals as goal
 
 pub returns-clause-chain : goal.returns-clause-chain
@@ -17,7 +16,7 @@ returns-clause-history g c =
     let order = g.K.MaybeBounded.order in
     let items = box_items c.args.map.now in
     if_ok_then c.run_steps.result (returns-clause-chain g c) (λ replies run k key b h.
-    run_binds order g.met.K.PartialEnum.lawful g.V.PartialEq.eq g.met.V.Eq.laws (MayAnswerTo g.F.Fn c.args.f.now) k key items (box_items c.run_steps.new.map) (λ u. Binds order g.V.PartialEq.eq items k u) c.args.commands.items replies.items b (λ u t. t) run h)
+    last_command_decides order g.met.K.PartialEnum.lawful g.V.PartialEq.eq g.met.V.Eq.laws (MayAnswerTo g.F.Fn c.args.f.now) k key items (box_items c.run_steps.new.map) c.args.commands.items replies.items run b h)
 
 pub returns-clause-few : goal.returns-clause-few
 returns-clause-few g c = λ none.

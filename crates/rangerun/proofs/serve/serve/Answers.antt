@@ -10,3 +10,6 @@ returns-in-u8-clause-served g c = grind (arith, common_steps)
 
 pub returns-in-u8-clause-usage : goal.returns-in-u8-clause-usage
 returns-in-u8-clause-usage g c = grind (arith, common_steps)
+
+pub returns-in-u8-clause-run : goal.returns-in-u8-clause-run
+returns-in-u8-clause-run g c = grind (arith, common_steps)

@@ -6,6 +6,7 @@ use Rattle.btree_range_map.specs.Holding.{box_items}
 use Rattle.rangerun.specs.Replies.{Writes}
 use Rattle.rangerun.specs.Conversation.{Conversation}
 use Rattle.rangerun.proofs.Progress.{HasAnswered, answered_more, answered_all, if_some_as, stopped_at, line_of, none_of_none, first_line_of}
+use Rattle.rangerun.proofs.Runs.{answers_runs}
 use Rattle.rangerun.proofs.serve.serve_lines.Goals as goal
 
 pub returns-then-count-eq0-clause-ended : goal.returns-then-count-eq0-clause-ended
@@ -41,6 +42,10 @@ returns-then-count-eq0-clause-answered g c =
     if_some_as (g.R.Read.remaining c.args.input.now) (λ bytes. HasAnswered order as_number shape reads is_read bytes left before now items) (λ bytes. Writes before now (λ text. Conversation order as_number shape reads is_read [] bytes text []))
     (λ bytes known answered. answered_all order as_number shape reads is_read bytes left before now items answered (subst IsAtEnd answered.left_is (c.in-Ok.ensures.end c.if-count-eq0.true)))
     c.loop.invariant
+
+pub returns-then-count-eq0-clause-run : goal.returns-then-count-eq0-clause-run
+returns-then-count-eq0-clause-run g c =
+    answers_runs g.K.MaybeBounded.order g.K.SpelledKey.as_number g.K.Json.shape g.K.Json.reads g.K.Json.is_read g.met.K.PartialEnum.lawful (g.R.Read.remaining c.args.input.now) (g.W.Write.contents c.args.out.now) (g.W.Write.contents c.loop.out) [] (returns-then-count-eq0-clause-answered g c)
 
 pub loop-preserved : goal.loop-preserved
 loop-preserved g c =

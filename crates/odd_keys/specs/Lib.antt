@@ -1,0 +1,6 @@
+pub mod Blinds
+pub mod Classes
+pub mod Fractions
+pub mod Halves
+pub mod Nevers
+pub mod Onlys

@@ -1,0 +1,11 @@
+//! Tests over keys and values that are lawful and unlike numbers.
+#![tactic(auto)]
+
+pub mod blind;
+pub mod fraction;
+pub mod half;
+pub mod loose;
+pub mod never;
+pub mod only;
+#[cfg(test)]
+mod tests;

@@ -1,0 +1,65 @@
+-- The commands among the lines of a conversation are runs.
+use Rattle.std.proofs.Common.{◌≡◌, ℕ, ℤ, Bool, List, [], ◌∷◌, ◌++◌, inl, inr, refl}
+use Rattle.std.specs.Prelude.{Option, None, Some, IfSome}
+use Rattle.std.proofs.lemmas.Cmp.{int_eq_equiv}
+use Rattle.std.specs.Io.BufRead.{first_line, drop_through}
+use Rattle.std.specs.Ordering.{int_eq}
+use Rattle.serde_json.specs.Data.{Data}
+use Rattle.btree_range_map.specs.AnyRange.{AnyRange}
+use Rattle.btree_range_map.specs.Command.{Command}
+use Rattle.btree_range_map.specs.Item.{Item}
+use Rattle.btree_range_map.specs.LastCommands.{last_command_decides}
+use Rattle.btree_range_map.specs.Order.{KeyOrder, IsLawful}
+use Rattle.btree_range_map.specs.Reply.{Reply}
+use Rattle.btree_range_map.specs.Runs.{IsStep, IsRun}
+use Rattle.rangerun.specs.declared.command_line.CommandLine.TheVariants.{Run, Show, Gaps, Len, Levels, Save}
+use Rattle.rangerun.specs.declared.tag.Tag.{Tag}
+use Rattle.rangerun.specs.Conversation.{Conversation, AnswersLine}
+use Rattle.rangerun.specs.Conversation.Conversation.{Ended, Answered}
+use Rattle.rangerun.specs.Replies.{Writes}
+use Rattle.rangerun.specs.Runs.{Commands, no_commands, with_line, AreOneRun, AreRuns, AnswersRuns}
+use Rattle.rangerun.specs.Tags.{IsAnswerOf}
+
+module _ {K : Type 0} (order : KeyOrder K) where
+  -- a run that goes one step on
+  one_more : (items middle last : List (Item (AnyRange K) ℤ)) (commands : List (Command K ℤ Tag)) (replies : List (Reply K ℤ ℤ)) (command : Command K ℤ Tag) (reply : Reply K ℤ ℤ) → IsRun order int_eq IsAnswerOf items commands replies middle → IsStep order int_eq IsAnswerOf middle command reply last → IsRun order int_eq IsAnswerOf items (commands ++ command ∷ []) (replies ++ reply ∷ []) last
+  one_more items middle last [] [] command reply run step = (last, rw run at step, refl)
+  one_more items middle last [] (r ∷ replies) command reply run step = absurd run
+  one_more items middle last (c ∷ commands) [] command reply run step = absurd run
+  one_more items middle last (c ∷ commands) (r ∷ replies) command reply run step = (run.0, run.1, one_more run.0 middle last commands replies command reply run.2 step)
+
+module _ {K : Type 0} (order : KeyOrder K) (as_number : K → ℤ) (shape : K → Data) (reads : Data → Bool) (is_read : Data → K → Type 0) where
+  abbrev IsChain : Commands K → List (Item (AnyRange K) ℤ) → Type 0
+  IsChain done last = IsRun order int_eq IsAnswerOf done.first done.commands done.replies last
+
+  stays : (done : Commands K) (items next : List (Item (AnyRange K) ℤ)) → next ≡ items → IsChain done items → IsChain done next
+  stays done items next same chain = rw same chain
+
+  chain_after : (done : Commands K) (items : List (Item (AnyRange K) ℤ)) (line answer : List ℕ) (next : List (Item (AnyRange K) ℤ)) (said : AnswersLine order as_number shape reads is_read items line answer next) → IsChain done items → IsChain (with_line order as_number shape reads is_read done items line answer next said) next
+  chain_after done items line answer next (inl (json, is, inl loaded)) chain = refl
+  chain_after done items line answer next (inl (json, is, inr (cause, why, text_is, same))) chain = stays done items next same chain
+  chain_after done items line answer next (inr (none, None, read, (text_is, same))) chain = stays done items next same chain
+  chain_after done items line answer next (inr (none, Some Show, read, (text_is, same))) chain = stays done items next same chain
+  chain_after done items line answer next (inr (none, Some Gaps, read, (text_is, same))) chain = stays done items next same chain
+  chain_after done items line answer next (inr (none, Some Len, read, (text_is, same))) chain = stays done items next same chain
+  chain_after done items line answer next (inr (none, Some Levels, read, (text_is, same))) chain = stays done items next same chain
+  chain_after done items line answer next (inr (none, Some Save, read, (text_is, same))) chain = stays done items next same chain
+  chain_after done items line answer next (inr (none, Some (Run command), read, (reply, step, text_is))) chain = one_more order done.first items next done.commands done.replies command reply chain step
+
+  module _ (lawful : IsLawful order) where
+    one_run : (done : Commands K) (items : List (Item (AnyRange K) ℤ)) → IsChain done items → AreOneRun order done items
+    one_run done items chain = record {
+      chain = chain;
+      history = λ k key b h. last_command_decides order lawful int_eq int_eq_equiv IsAnswerOf k key done.first items done.commands done.replies chain b h;
+    }
+
+    runs : (done : Commands K) (items : List (Item (AnyRange K) ℤ)) (input text rest : List ℕ) → IsChain done items → (talk : Conversation order as_number shape reads is_read items input text rest) → AreRuns order as_number shape reads is_read done items input text rest talk
+    runs done items input text rest chain (Ended _ _) = one_run done items chain
+    runs done items input text rest chain (Answered _ next _ _ answer more _ some is_text said talk is) =
+        (one_run done items chain, runs (with_line order as_number shape reads is_read done items (first_line input) answer next said) next (drop_through 10 input) more rest (chain_after done items (first_line input) answer next said chain) talk)
+
+    -- so what answers known input answers it by runs
+    pub answers_runs : (input before after : Option (List ℕ)) (rest : List ℕ) → IfSome input (λ bytes. Writes before after (λ text. Conversation order as_number shape reads is_read [] bytes text rest))
+        → IfSome input (λ bytes. Writes before after (λ text. AnswersRuns order as_number shape reads is_read bytes text rest))
+    answers_runs None before after rest answered = tt
+    answers_runs (Some bytes) before after rest (text, talk, appended) = (text, (talk, runs (no_commands []) [] bytes text rest refl talk), appended)
