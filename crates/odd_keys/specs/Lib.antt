@@ -2,5 +2,4 @@ pub mod Blinds
 pub mod Classes
 pub mod Fractions
 pub mod Halves
-pub mod Nevers
 pub mod Onlys

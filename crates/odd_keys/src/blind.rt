@@ -1,23 +1,30 @@
-//! Integers that tell no neighbour and no end.
+//! Keys that tell no neighbour and no end.
 
 ghost use Rattle.std.specs.Prelude.{refl};
 ghost use Rattle.btree_range_map.specs.Untold.{untold_order, untold_lawful, untold_measured};
 ghost use Rattle.odd_keys.specs.Blinds.{blind_cmp, blind_total};
 
 use btree_range_map::range::traits::{MaybeBounded, Measure, PartialEnum};
+use std::convert::Infallible;
 
-/// An integer with an order and nothing else: no neighbour, no end, no size.
+/// A key with the order of the value within and nothing else: no neighbour, no end, no size.
 #[derive(Clone, Copy, PartialEq, Eq, PartialOrd, Ord, Debug)]
-pub struct Blind(pub i32);
+pub struct Blind<T>(pub T);
 
-impl MaybeBounded for Blind {
-    ghost order = { untold_order blind_cmp };
+/// A key that there is not.
+///
+/// Written as a type of its own it would have functions that nobody can call, such as `known`;
+/// those of [`Blind`] are called at other types.
+pub type Never = Blind<Infallible>;
 
-    fn min() -> Option<Blind> {
+impl<T: Ord + Copy> MaybeBounded for Blind<T> {
+    ghost order = { untold_order (blind_cmp T.cmp) };
+
+    fn min() -> Option<Blind<T>> {
         None
     }
 
-    fn max() -> Option<Blind> {
+    fn max() -> Option<Blind<T>> {
         None
     }
 
@@ -26,19 +33,19 @@ impl MaybeBounded for Blind {
     ghost order_is_cmp = { λ a b. refl };
 }
 
-impl PartialEnum for Blind {
-    fn succ(&self) -> Option<Blind> {
+impl<T: Ord + Copy> PartialEnum for Blind<T> {
+    fn succ(&self) -> Option<Blind<T>> {
         None
     }
 
-    fn pred(&self) -> Option<Blind> {
+    fn pred(&self) -> Option<Blind<T>> {
         None
     }
 
-    ghost lawful = { untold_lawful blind_cmp blind_total };
+    ghost lawful = { untold_lawful (blind_cmp T.cmp) (blind_total T.total) };
 }
 
-impl Measure for Blind {
+impl<T: Ord + Copy> Measure for Blind<T> {
     ghost len = { λ _. 0 };
 
     ghost distance = { λ _ _. 0 };
@@ -47,9 +54,9 @@ impl Measure for Blind {
         0
     }
 
-    fn distance(&self, _other: &Blind) -> u128 {
+    fn distance(&self, _other: &Blind<T>) -> u128 {
         0
     }
 
-    ghost measured = { untold_measured blind_cmp blind_total };
+    ghost measured = { untold_measured (blind_cmp T.cmp) (blind_total T.total) };
 }

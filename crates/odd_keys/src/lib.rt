@@ -5,7 +5,6 @@ pub mod blind;
 pub mod fraction;
 pub mod half;
 pub mod loose;
-pub mod never;
 pub mod only;
 #[cfg(test)]
 mod tests;

@@ -1,10 +1,9 @@
 //! Maps over either container: rows that call a map or look at it.
 ghost use Rattle.btree_range_map.specs.Range.{ClonesAreEqual};
 
-use crate::blind::Blind;
+use crate::blind::{Blind, Never};
 use crate::fraction::Fraction;
 use crate::loose::Loose;
-use crate::never::Never;
 use btree_range_map::btree::BoxStorage;
 use btree_range_map::generic::RangeMap;
 use btree_range_map::storage::{Item, Storage, VecStorage};
@@ -90,7 +89,7 @@ fn hold_in_both<K: Measure + Copy, V: Eq + Copy>(
     Ok(over_vector && over_tree)
 }
 
-static BLIND_INTEGERS: &[Step<Blind, i64>] = &[
+static BLIND_INTEGERS: &[Step<Blind<i32>, i64>] = &[
     Step::Insert(Included(Blind(0)), Included(Blind(5)), 1),
     Step::Insert(Included(Blind(6)), Included(Blind(9)), 1),
     Step::Count(2),
