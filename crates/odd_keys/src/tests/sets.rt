@@ -5,24 +5,56 @@ use crate::half::Half;
 use crate::only::Only;
 use btree_range_map::btree::BoxStorage;
 use btree_range_map::generic::RangeSet;
-use btree_range_map::range::traits::Bounded;
+use btree_range_map::range::traits::{Bounded, PartialEnum};
 use btree_range_map::storage::{Item, Storage, VecStorage};
 use btree_range_map::{AnyRange, MapError, Measure};
 use std::alloc::Global;
 use std::ops::Bound::{self, Included, Unbounded};
+use std::process::Abort;
 use std::test::Fail;
 
 /// An insertion into a set, or what has to hold of the set then.
 #[derive(Drop)]
 enum Step<K> {
     Insert(Bound<K>, Bound<K>),
-    /// How many ranges are stored, and how many keys they hold, of equal ones the first alone.
-    Size(usize, u128),
+    /// How many ranges are stored.
+    Count(usize),
+    /// How many keys are held, of equal ones the first alone.
+    Len(u128),
     Holds(K, bool),
     /// How many ranges the complement has.
     Complement(usize),
     /// The set equals the one of this range.
     Equals(Bound<K>, Bound<K>),
+}
+
+fn new_set<K: PartialEnum, C: Storage<Item<AnyRange<K>, ()>>>(alloc: Global) -> RangeSet<K, C> {
+    RangeSet::new(alloc)
+}
+
+fn insert<K: Measure + Copy, C: Storage<Item<AnyRange<K>, ()>>>(
+    set: &mut RangeSet<K, C>,
+    start: Bound<K>,
+    end: Bound<K>,
+) -> Result<bool, MapError>
+    requires { ClonesAreEqual K.is_clone K.eq }
+{
+    set.insert(AnyRange::new(start, end))?;
+    Ok(true)
+}
+
+fn range_count<K: PartialEnum, C: Storage<Item<AnyRange<K>, ()>>>(set: &RangeSet<K, C>) -> usize {
+    set.range_count()
+}
+
+fn key_count<K: Measure + Bounded, C: Storage<Item<AnyRange<K>, ()>>>(
+    set: &RangeSet<K, C>,
+) -> u128 {
+    set.len()
+}
+
+fn holds<K: PartialEnum, C: Storage<Item<AnyRange<K>, ()>>>(set: &RangeSet<K, C>, key: K) -> bool {
+    set.contains(key)
 }
 
 fn ranges_between<K: Measure + Copy, C: Storage<Item<AnyRange<K>, ()>>>(
@@ -31,28 +63,19 @@ fn ranges_between<K: Measure + Copy, C: Storage<Item<AnyRange<K>, ()>>>(
     requires { ClonesAreEqual K.is_clone K.eq }
 {
     let others = set.complement()?;
-    Ok(others.range_count())
-}
-
-fn set_of<K: Measure + Copy, C: Storage<Item<AnyRange<K>, ()>>>(
-    alloc: Global,
-    range: AnyRange<K>,
-) -> Result<RangeSet<K, C>, MapError>
-    requires { ClonesAreEqual K.is_clone K.eq }
-{
-    let mut set: RangeSet<K, C> = RangeSet::new(alloc);
-    set.insert(range)?;
-    Ok(set)
+    Ok(range_count(&others))
 }
 
 fn equals<K: Measure + Copy, C: Storage<Item<AnyRange<K>, ()>>>(
     alloc: Global,
     set: &RangeSet<K, C>,
-    range: AnyRange<K>,
+    start: Bound<K>,
+    end: Bound<K>,
 ) -> Result<bool, MapError>
     requires { ClonesAreEqual K.is_clone K.eq }
 {
-    let other: RangeSet<K, C> = set_of(alloc, range)?;
+    let mut other = new_set(alloc);
+    insert(&mut other, start, end)?;
     Ok(*set == other)
 }
 
@@ -65,14 +88,12 @@ fn goes<K: Measure + Bounded + Copy, C: Storage<Item<AnyRange<K>, ()>>>(
     requires { ClonesAreEqual K.is_clone K.eq }
 {
     match step {
-        Step::Insert(start, end) => {
-            set.insert(AnyRange::new(*start, *end))?;
-            Ok(true)
-        }
-        Step::Size(count, len) => Ok(set.range_count() == *count && set.len() == *len),
-        Step::Holds(key, held) => Ok(set.contains(*key) == *held),
+        Step::Insert(start, end) => insert(set, *start, *end),
+        Step::Count(count) => Ok(range_count(set) == *count),
+        Step::Len(len) => Ok(key_count(set) == *len),
+        Step::Holds(key, held) => Ok(holds(set, *key) == *held),
         Step::Complement(count) => Ok(ranges_between(set)? == *count),
-        Step::Equals(start, end) => equals(alloc, set, AnyRange::new(*start, *end)),
+        Step::Equals(start, end) => equals(alloc, set, *start, *end),
     }
 }
 
@@ -83,7 +104,7 @@ fn hold<K: Measure + Bounded + Copy, C: Storage<Item<AnyRange<K>, ()>>>(
 ) -> Result<bool, MapError>
     requires { ClonesAreEqual K.is_clone K.eq }
 {
-    let mut set: RangeSet<K, C> = RangeSet::new(alloc);
+    let mut set: RangeSet<K, C> = new_set(alloc);
     for step in steps {
         if !goes(alloc, &mut set, step)? {
             return Ok(false);
@@ -92,44 +113,55 @@ fn hold<K: Measure + Bounded + Copy, C: Storage<Item<AnyRange<K>, ()>>>(
     Ok(true)
 }
 
-/// Whether every step holds, over a vector and over a tree.
-fn hold_in_both<K: Measure + Bounded + Copy>(
+/// Takes the steps on a set over a vector and on one over a tree. Each has to hold.
+fn play<R: Abort, K: Measure + Bounded + Copy>(
+    rt: &R,
     alloc: Global,
     steps: &[Step<K>],
-) -> Result<bool, MapError>
+) -> Result<(), Fail>
     requires { ClonesAreEqual K.is_clone K.eq }
 {
-    let over_vector = hold::<K, VecStorage<Item<AnyRange<K>, ()>>>(alloc, steps)?;
-    let over_tree = hold::<K, BoxStorage<Item<AnyRange<K>, ()>>>(alloc, steps)?;
-    Ok(over_vector && over_tree)
+    assert!(rt;
+        hold::<K, VecStorage<Item<AnyRange<K>, ()>>>(alloc, steps)?,
+        "over a vector"
+    );
+    assert!(rt;
+        hold::<K, BoxStorage<Item<AnyRange<K>, ()>>>(alloc, steps)?,
+        "over a tree"
+    );
+    Ok(())
 }
 
 static ONE_KEY: &[Step<Only>] = &[
     Step::Insert(Unbounded, Unbounded),
-    Step::Size(1, 1),
+    Step::Count(1),
+    Step::Len(1),
     Step::Complement(0),
     Step::Equals(Included(Only), Included(Only)),
 ];
 
 #[test]
 fn one_key_is_all_keys(rt: HostRuntime) -> Result<(), Fail> {
-    assert!(rt; hold_in_both(rt.alloc(), ONE_KEY)?);
-    Ok(())
+    play(&rt, rt.alloc(), ONE_KEY)
 }
 
 static HALVES: &[Step<Half>] = &[
     Step::Insert(Included(Half(0)), Included(Half(3))),
     Step::Insert(Included(Half(5)), Included(Half(4))),
-    Step::Size(1, 3),
+    Step::Count(1),
+    Step::Len(3),
     Step::Holds(Half(1), true),
     Step::Holds(Half(6), false),
 ];
 
-static ALL_HALVES: &[Step<Half>] = &[Step::Insert(Unbounded, Unbounded), Step::Size(1, 128)];
+static ALL_HALVES: &[Step<Half>] = &[
+    Step::Insert(Unbounded, Unbounded),
+    Step::Count(1),
+    Step::Len(128),
+];
 
 #[test]
 fn keys_with_one_half_are_one_key(rt: HostRuntime) -> Result<(), Fail> {
-    assert!(rt; hold_in_both(rt.alloc(), HALVES)?);
-    assert!(rt; hold_in_both(rt.alloc(), ALL_HALVES)?);
-    Ok(())
+    play(&rt, rt.alloc(), HALVES)?;
+    play(&rt, rt.alloc(), ALL_HALVES)
 }
