@@ -57,13 +57,14 @@ fn holds<K: PartialEnum, C: Storage<Item<AnyRange<K>, ()>>>(set: &RangeSet<K, C>
     set.contains(key)
 }
 
-fn ranges_between<K: Measure + Copy, C: Storage<Item<AnyRange<K>, ()>>>(
+fn complement_has<K: Measure + Copy, C: Storage<Item<AnyRange<K>, ()>>>(
     set: &RangeSet<K, C>,
-) -> Result<usize, MapError>
+    count: usize,
+) -> Result<bool, MapError>
     requires { ClonesAreEqual K.is_clone K.eq }
 {
     let others = set.complement()?;
-    Ok(range_count(&others))
+    Ok(range_count(&others) == count)
 }
 
 fn equals<K: Measure + Copy, C: Storage<Item<AnyRange<K>, ()>>>(
@@ -92,7 +93,7 @@ fn goes<K: Measure + Bounded + Copy, C: Storage<Item<AnyRange<K>, ()>>>(
         Step::Count(count) => Ok(range_count(set) == *count),
         Step::Len(len) => Ok(key_count(set) == *len),
         Step::Holds(key, held) => Ok(holds(set, *key) == *held),
-        Step::Complement(count) => Ok(ranges_between(set)? == *count),
+        Step::Complement(count) => complement_has(set, *count),
         Step::Equals(start, end) => equals(alloc, set, *start, *end),
     }
 }
