@@ -16,6 +16,12 @@ use range_store::storage::Item;
 /// that touches an item is not before it.
 ///
 /// Costs one comparison for each halving of the list. Allocates nothing.
+///
+/// ```
+/// // of two items, of the key 0 alone and of the key 3 alone
+/// assert!(rt; binary_search(&items, &(1..2), false) == Some(0)); // 1..2 is before 3
+/// assert!(rt; binary_search(&items, &(1..3), true) == Some(1)); // 1..3 touches 3
+/// ```
 pub fn binary_search<T: Measure, V, U: AsRange<Item = T>>(
     items: &[Item<AnyRange<T>, V>],
     element: &U,

@@ -159,6 +159,13 @@ fn answer_counted<
 /// Answers one command, with no memory beyond what the call itself takes.
 ///
 /// An update asks `f` with its tag: `f` is the closure of all updates, told apart by their tags.
+///
+/// ```
+/// // of a map that binds 0..=5 to 1, where `bound_to(tag, old)` is `Ok(Some(*tag))`
+/// let reply = answer(&mut map, Command::Update((3..9).into_range(), 7), &bound_to);
+/// assert!(rt; reply == Reply::Done);
+/// assert!(rt; map.get(8).copied() == Some(7));
+/// ```
 pub fn answer<
     K: Measure + Clone,
     V: Eq + Clone,
@@ -218,6 +225,11 @@ fn run_steps<
 /// Reserves capacity for all replies first: where that fails, nothing is done. A command that is
 /// refused later gets the reply `Memory`, `Connected` or `Closure`, changes nothing, and the others
 /// follow. An update asks `f` with its tag.
+///
+/// ```
+/// let commands = vec![in alloc; Command::Update((3..9).into_range(), 7), Command::Get(8)]?;
+/// let replies = run(alloc, map, commands, &bound_to)?; // `Done` and `Value(Some(7))`
+/// ```
 pub fn run<
     K: Measure + Clone,
     V: Eq + Clone,
@@ -253,6 +265,11 @@ pub fn run<
 ///
 /// An insertion, a removal and a look-up take the steps of their counted calls, and no other
 /// command takes any.
+///
+/// ```
+/// let commands = vec![in alloc; Command::Insert((3..9).into_range(), 7), Command::Get(8)]?;
+/// let replies = run_counted(alloc, map, commands, &bound_to, steps)?; // `Done`, `Value(Some(7))`
+/// ```
 pub fn run_counted<
     K: Measure + Clone,
     V: Eq + Clone,
