@@ -2,7 +2,8 @@
 //!
 //! With no input each call is made once, with enough memory. Two numbers as input name one trial and
 //! how many allocations come before it: the more there are, the earlier in the trial comes the one
-//! that `rt try --fail-alloc N` refuses.
+//! that `rt try --fail-alloc N` refuses. A second line of the output then has how many allocations
+//! after the trial were not refused, so that a trial that succeeds tells how many there are in it.
 #![tactic(auto)]
 
 mod automata;
@@ -26,6 +27,9 @@ struct Trial {
     before: u32,
 }
 
+/// How many allocations come after a trial at most.
+const AFTER: u32 = 10_000;
+
 /// Two numbers.
 fn parsed(line: &str) -> Option<Trial> {
     let (number, before) = line.split_once(' ')?;
@@ -35,14 +39,14 @@ fn parsed(line: &str) -> Option<Trial> {
     })
 }
 
-/// Allocates so often. Answers whether no allocation failed.
-fn spend(alloc: Global, count: u32) -> bool {
-    for _ in 0..count {
+/// Allocates so often, or until an allocation fails. Answers how often it did not fail.
+fn spend(alloc: Global, count: u32) -> u32 {
+    for spent in 0..count {
         if Box::new(alloc, 0u8).is_err() {
-            return false;
+            return spent;
         }
     }
-    true
+    count
 }
 
 /// What the call is named, and how it ends. Six trials have one call: over a vector and over a tree
@@ -53,11 +57,8 @@ fn outcome_of(alloc: Global, number: usize) -> Option<(&'static str, Outcome)> {
     Some((name, rows::outcome(alloc, call, count, number % 2 == 1)))
 }
 
-fn tried(rt: &HostRuntime, trial: Trial) -> io::Result<()> {
-    if !spend(rt.alloc(), trial.before) {
-        return println!(rt; "spent");
-    }
-    match outcome_of(rt.alloc(), trial.number) {
+fn tried(rt: &HostRuntime, number: usize) -> io::Result<()> {
+    match outcome_of(rt.alloc(), number) {
         Some((name, outcome)) => println!(rt; "{} {name}", outcome.name()),
         None => println!(rt; "none"),
     }
@@ -66,16 +67,25 @@ fn tried(rt: &HostRuntime, trial: Trial) -> io::Result<()> {
 /// Makes each call over each container of each size, with enough memory.
 fn all(rt: &HostRuntime) -> io::Result<()> {
     for number in 0..6 * CALLS.len() {
-        tried(rt, Trial { number, before: 0 })?;
+        tried(rt, number)?;
     }
     Ok(())
+}
+
+/// Makes a trial between two rows of allocations.
+fn refusing(rt: &HostRuntime, trial: Trial) -> io::Result<()> {
+    if spend(rt.alloc(), trial.before) < trial.before {
+        return println!(rt; "spent");
+    }
+    tried(rt, trial.number)?;
+    println!(rt; "{}", spend(rt.alloc(), AFTER))
 }
 
 fn run(rt: &HostRuntime) -> io::Result<()> {
     match rt.lines(rt.alloc()).next() {
         None => all(rt),
         Some(line) => match parsed(line?.as_str()) {
-            Some(trial) => tried(rt, trial),
+            Some(trial) => refusing(rt, trial),
             None => println!(rt; "a line has two numbers"),
         },
     }
