@@ -1,8 +1,9 @@
 -- Lists with items between them.
-use Rattle.std.proofs.Common.{◌≡◌, ℕ, ◌+◌, ◌-◌, ◌<◌, ◌≤◌, List, [], ◌∷◌, ◌++◌, length, get_or, take, drop, refl, sym, ap, ◌∙◌, arith}
-use Rattle.std.specs.List.{insert}
-use Rattle.std.proofs.lemmas.List.{append_assoc, append-nil, length-take-le, take-append-drop, drop_more, take_more}
+use Rattle.std.proofs.Common.{◌≡◌, ◌⊎◌, ℕ, suc, ◌+◌, ◌-◌, ◌<◌, ◌≤◌, List, [], ◌∷◌, ◌++◌, length, get_or, take, drop, refl, sym, ap, ◌∙◌, inl, inr, add-zero, add-one, arith}
+use Rattle.std.specs.List.{insert, sum_by}
+use Rattle.std.proofs.lemmas.List.{append_assoc, append-nil, length-append, length-take-le, take-append-drop, drop_more, take_more}
 use Rattle.std.proofs.lemmas.List.Edits.{insert-append_left, insert-append_right}
+use Rattle.std.proofs.lemmas.List.Sums.{sum_by-cons}
 use Rattle.range_store.specs.Nodes.{rest_of, weave, front_of, before, after}
 
 module _ {X : Type 0} where
@@ -87,3 +88,37 @@ module _ {X : Type 0} where
       insert-append_right f (k ++ r) (length f) (length f + rest) y refl (omega arith)
       ∙ ap (λ n. f ++ insert (k ++ r) n y) offset
       ∙ ap (λ zs. f ++ zs) (insert-append_left k r rest y within)
+
+module _ {X : Type 0} where
+  -- the parts round the element at i
+  pub parts : (ks : List X) (i : ℕ) (d : X) → i < length ks → ks ≡ take i ks ++ (get_or ks i d ∷ drop (i + 1) ks)
+  parts ks i d within = sym (ap (λ zs. take i ks ++ zs) (sym (drop_more ks i d within)) ∙ take-append-drop i ks)
+
+  parts_at : (ks : List X) (h : ℕ) (d : X) → h < length ks → ks ≡ take h ks ++ (get_or ks h d ∷ drop (suc h) ks)
+  parts_at ks h d within = rw add-one at (parts ks h d within)
+
+  list_parts_at : (ks : List (List X)) (h : ℕ) (d : List X) → h < length ks → ks ≡ take h ks ++ (get_or ks h d ∷ drop (suc h) ks)
+  list_parts_at ks h d within = rw add-one at (sym (ap (λ zs. take h ks ++ zs) (sym (drop_more ks h d within)) ∙ take-append-drop h ks))
+
+  -- a woven list cut in two round the item at h
+  pub weave_halves : (xs : List X) (ks : List (List X)) (h : ℕ) (d : X) → h < length xs → (length ks ≡ 0) ⊎ (length ks ≡ length xs + 1) → weave xs ks ≡ weave (take h xs) (take (suc h) ks) ++ (get_or xs h d ∷ weave (drop (suc h) xs) (drop (suc h) ks))
+  weave_halves xs [] h d within fits = parts_at xs h d within
+  weave_halves xs (k ∷ ks) h d within (inl none) = absurd (omega (arith, none))
+  weave_halves xs (k ∷ ks) h d within (inr many) =
+      let lt : h < length ks = omega (arith, many) in
+      let cut = weave_cut (take h xs) (get_or xs h d) (drop (suc h) xs) k (take h ks) (get_or ks h []) (drop (suc h) ks) (length-take-le h xs (omega arith) ∙ sym (length-take-le h ks (omega arith))) in
+      let tail : drop h ks ≡ get_or ks h [] ∷ drop (suc h) ks = rw add-one at (drop_more ks h [] lt) in
+      ap (λ zs. weave zs (k ∷ ks)) (parts_at xs h d within)
+      ∙ ap (λ zs. weave (take h xs ++ (get_or xs h d ∷ drop (suc h) xs)) (k ∷ zs)) (list_parts_at ks h [] lt)
+      ∙ cut ∙ ap (λ zs. weave (take h xs) (k ∷ take h ks) ++ (get_or xs h d ∷ weave (drop (suc h) xs) zs)) (sym tail)
+
+  length-rest_of : (xs : List X) (ks : List (List X)) → length ks ≡ length xs → length (rest_of xs ks) ≡ length xs + sum_by length ks
+  length-rest_of [] [] same = refl
+  length-rest_of [] (k ∷ ks) same = absurd (omega arith)
+  length-rest_of (x ∷ xs) [] same = absurd (omega arith)
+  length-rest_of (x ∷ xs) (k ∷ ks) same = omega (arith, length-append k (rest_of xs ks), length-rest_of xs ks (omega arith), sum_by-cons (length {A = X}) k ks)
+
+  pub length-weave : (xs : List X) (ks : List (List X)) → (length ks ≡ 0) ⊎ (length ks ≡ length xs + 1) → length (weave xs ks) ≡ length xs + sum_by length ks
+  length-weave xs [] fits = sym (add-zero (length xs))
+  length-weave xs (k ∷ ks) (inl none) = absurd (omega (arith, none))
+  length-weave xs (k ∷ ks) (inr many) = omega (arith, length-append k (rest_of xs ks), length-rest_of xs ks (omega (arith, many)), sum_by-cons (length {A = X}) k ks)

@@ -33,7 +33,7 @@ pub record Divides (old new : Slab Node) (n half : ℕ) (xs ks : List ℕ) (spli
 -- so many items stand before a gap below n or, if it was cut, below the node after it
 abbrev pub GapAmong : Slab Node → ℕ → ℕ → Option Split → Bool → Gap → ℕ → Type 0
 GapAmong s d n split false gap rank = IsGap s d n gap × (place s d n gap ≡ rank)
-GapAmong s d n None true gap rank = Empty {0}
+GapAmong s d n None true gap rank = ⊥
 GapAmong s d n (Some split) true gap rank =
     IsGap s d split.right gap × (length (numbers s (suc d) n) + 1 + place s d split.right gap ≡ rank)
 

@@ -3,7 +3,7 @@ use Rattle.std.specs.Prelude.{◌≡◌, ℕ, zero, suc, ◌+◌, ◌-◌, ◌*�
 use Rattle.slab.specs.Slab.{Slab}
 use Rattle.range_store.specs.declared.btree.node.Node.{Node}
 use Rattle.range_store.specs.declared.btree.node.TheConstants.{LEAST}
-use Rattle.range_store.specs.declared.btree.tree.NumberTree.{NumberTree}
+use Rattle.range_store.specs.declared.btree.number_tree.NumberTree.{NumberTree}
 use Rattle.range_store.specs.declared.btree.way.Gap.{Gap}
 use Rattle.range_store.specs.declared.btree.way.Found.{Found}
 use Rattle.range_store.specs.Nodes.{numbers}

@@ -7,10 +7,11 @@ ghost use Rattle.slab.specs.Slab.{slab_len};
 ghost use Rattle.range_store.specs.Depth.{HasLevels};
 ghost use Rattle.range_store.specs.Listed.{listed, IsStorage};
 ghost use Rattle.range_store.specs.Places.{place_before};
-ghost use Rattle.range_store.specs.Trees.{tree_numbers, tree_room};
+ghost use Rattle.range_store.specs.Trees.{tree_numbers, tree_room, IsTreeGap, gap_or_end};
 
 mod insertion;
 mod node;
+mod number_tree;
 mod removal;
 mod searching;
 mod tree;
@@ -18,7 +19,7 @@ mod way;
 
 pub use crate::btree::node::{LEAST, MOST};
 use crate::btree::searching::HALVINGS;
-use crate::btree::tree::NumberTree;
+use crate::btree::number_tree::NumberTree;
 use crate::btree::way::{Found, Gap};
 use crate::storage::{Probe, Storage};
 use slab::Slab;
@@ -69,7 +70,11 @@ impl<T> BoxStorage<T> {
     }
 
     // The gap before an item, or at the end of the list.
-    fn gap_at(&self, before: Option<BoxPosition>) -> Option<Gap> {
+    fn gap_at(&self, before: Option<BoxPosition>) -> Option<Gap>
+        requires { ForSome before (λ p. IsGood self.now p.found) }
+        ensures gap { ForSome result (IsTreeGap self.now.tree) }
+        ensures place { gap_or_end self.now.tree result ≡ place_before (λ q. box_rank self.now q.found) (length (box_items self.now)) before }
+    {
         match before {
             Some(p) => self.tree.gap_before(p.found.gap),
             None => self.tree.end(),
@@ -159,7 +164,13 @@ impl<T: Drop> Storage<T> for BoxStorage<T> {
         self.tree.reserve(self.items.len(), n)
     }
 
-    fn insert_at(&mut self, before: Option<BoxPosition>, item: T) -> BoxPosition {
+    fn insert_at(&mut self, before: Option<BoxPosition>, item: T) -> BoxPosition
+        requires good { ForSome before (λ p. IsGood self.old p.found) }
+        requires has_room { 1 ≤ min (self.old.items.capacity - slab_len self.old.items) (tree_room self.old.tree) }
+        ensures list { box_items self.new ≡ insert (box_items self.old) (place_before (λ q. box_rank self.old q.found) (length (box_items self.old)) before) item }
+        ensures space { min (self.old.items.capacity - slab_len self.old.items) (tree_room self.old.tree) ≡ min (self.new.items.capacity - slab_len self.new.items) (tree_room self.new.tree) + 1 }
+        ensures position { IsGood self.new result.found × (box_rank self.new result.found ≡ place_before (λ q. box_rank self.old q.found) (length (box_items self.old)) before) }
+    {
         let gap = self.gap_at(before);
         let number = self.items.insert_reserved(item);
         let gap = self.tree.insert(gap, number);

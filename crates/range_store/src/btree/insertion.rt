@@ -1,6 +1,6 @@
 //! The insertion of an item at a gap below a node, with the cuts that it causes.
 ghost use Rattle.std.specs.Prelude.{◌≡◌, ◌⊎◌, ℕ, suc, ◌+◌, ◌-◌, ◌*◌, ◌<◌, ◌≤◌, ◌^◌, length, insert, None, Some};
-ghost use Rattle.slab.specs.Slab.{get, HasRoomFor};
+ghost use Rattle.slab.specs.Slab.{get, HasRoomFor, ContainsKey};
 ghost use Rattle.range_store.specs.Nodes.{numbers, items_of, children_of, with_child, ShapedBut, Replaces, Owned, HasTreeRoom, IsTree};
 ghost use Rattle.range_store.specs.Gaps.{IsGap, place, IsSeat, seat_place};
 ghost use Rattle.range_store.specs.Contents.{IsContent, Settles, Divides, GapAmong};

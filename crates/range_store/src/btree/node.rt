@@ -2,6 +2,7 @@
 ghost use Rattle.std.specs.Prelude.{◌≡◌, ◌⊎◌, ℕ, ◌+◌, ◌-◌, ◌*◌, ◌<◌, ◌≤◌, List, [], ◌∷◌, ◌++◌, length, take, drop, slice_index, slice_set, insert, remove, None};
 ghost use Rattle.slab.specs.Slab.{get, HasRoomFor, ContainsKey};
 ghost use Rattle.range_store.specs.Nodes.{items_of, children_of, with_child, Writes, Stores};
+ghost use Rattle.range_store.specs.Gaps.{IsLast};
 
 use arrayvec::ArrayVec;
 use slab::Slab;
@@ -95,6 +96,17 @@ pub fn child_at(nodes: &Slab<Node>, number: usize, index: usize) -> usize
     nodes[number].children.as_slice()[index]
 }
 
+// The number before a place of a list, if there is one.
+pub fn last_of(list: &[usize], place: usize) -> Option<usize>
+    requires within { place ≤ length list.now }
+    ensures { IsLast list.now place result }
+{
+    if place == 0 {
+        return None;
+    }
+    Some(list[place - 1])
+}
+
 // Puts an item before the one at `index` of a node that is not full, and, if there is one, a child
 // after the one at `index`.
 pub fn put(nodes: &mut Slab<Node>, number: usize, index: usize, item: usize, child: Option<usize>)
@@ -161,6 +173,7 @@ pub fn joined(nodes: &Slab<Node>, left: usize, middle: usize, right: usize) -> W
 
 // A node of the first `half` items, and of the children before and between them.
 pub fn first_part(wide: &Wide, half: usize) -> Node
+    requires small { half ≤ WIDE_ITEMS }
     requires items { length (take half wide.now.items.items) ≤ MOST }
     requires children { length (take (half + 1) wide.now.children.items) ≤ MOST + 1 }
     ensures items { result.items.items ≡ take half wide.now.items.items }
@@ -174,6 +187,7 @@ pub fn first_part(wide: &Wide, half: usize) -> Node
 
 // A node of the items after the one at `half`, and of their children.
 pub fn second_part(wide: &Wide, half: usize) -> Node
+    requires small { half ≤ WIDE_ITEMS }
     requires items { length (drop (half + 1) wide.now.items.items) ≤ MOST }
     requires children { length (drop (half + 1) wide.now.children.items) ≤ MOST + 1 }
     ensures items { result.items.items ≡ drop (half + 1) wide.now.items.items }

@@ -6,7 +6,7 @@ ghost use Rattle.range_store.specs.Listed.{Stored};
 ghost use Rattle.range_store.specs.Nodes.{numbers, ShapedBut};
 ghost use Rattle.range_store.specs.Gaps.{IsGap, place, IsLast};
 
-use crate::btree::node::{MOST, Node, child_at};
+use crate::btree::node::{MOST, Node, child_at, last_of};
 use crate::btree::way::{DEEPEST, Gap, seen_above};
 use crate::storage::Probe;
 use slab::Slab;
@@ -43,17 +43,6 @@ pub fn halve<T, P: Probe<T>>(list: &[usize], items: &Slab<T>, probe: &mut P) -> 
 pub struct Passed {
     pub gap: Gap,
     pub last: Option<usize>,
-}
-
-// The number before a place of a list, if there is one.
-pub fn last_of(list: &[usize], place: usize) -> Option<usize>
-    requires within { place ≤ length list.now }
-    ensures { IsLast list.now place result }
-{
-    if place == 0 {
-        return None;
-    }
-    Some(list[place - 1])
 }
 
 // Which items below a node pass, by one way down to a leaf.

@@ -1,4 +1,4 @@
-//! A list of numbers as a B-tree.
+//! The calls of a list of numbers that is kept as a B-tree.
 ghost use Rattle.std.specs.Prelude.{◌≡◌, ℕ, ◌+◌, ◌-◌, ◌*◌, ◌<◌, ◌≤◌, ◌^◌, [], length, slice_index, insert, remove, OnOk, IfOk, MatchOption, count_by, None, Some};
 ghost use Rattle.std.specs.Option.{ForSome};
 ghost use Rattle.range_store.specs.Counting.{AddsSteps};
@@ -6,9 +6,9 @@ ghost use Rattle.range_store.specs.Depth.{HasLevels};
 ghost use Rattle.range_store.specs.Falling.{Falls, passes};
 ghost use Rattle.range_store.specs.Gaps.{IsLast};
 ghost use Rattle.range_store.specs.Listed.{Stored};
-ghost use Rattle.range_store.specs.Nodes.{IsRoomy};
 ghost use Rattle.range_store.specs.Trees.{tree_numbers, tree_room, IsTreeGap, tree_place, IsAt, place_before, gap_or_end};
 
+use crate::btree::number_tree::NumberTree;
 use crate::btree::insertion::{Inserted, insert_below};
 use crate::btree::node::{LEAST, MOST, Node, item_at, leaf_of, node_over, store};
 use crate::btree::removal::{Settled, remove_below, set_before, settle};
@@ -19,15 +19,6 @@ use crate::btree::way::{
 use crate::storage::Probe;
 use slab::Slab;
 use std::alloc::{AllocError, Global};
-
-/// A list of numbers as a B-tree.
-#[derive(Drop)]
-pub struct NumberTree {
-    nodes: Slab<Node>,
-    root: usize,
-    levels: usize,
-    ghost whole: { IsRoomy nodes levels root },
-}
 
 impl NumberTree {
     pub fn new(alloc: Global) -> Self

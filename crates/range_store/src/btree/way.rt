@@ -2,9 +2,9 @@
 ghost use Rattle.std.specs.Prelude.{◌≡◌, ℕ, suc, ◌+◌, ◌-◌, ◌*◌, ◌%◌, ◌/◌, ◌^◌, ◌<◌, ◌≤◌, length, slice_index, MatchOption};
 ghost use Rattle.slab.specs.Slab.{get};
 ghost use Rattle.range_store.specs.Nodes.{numbers, items_of, ShapedBut};
-ghost use Rattle.range_store.specs.Gaps.{turn, inside, IsGap, place, IsFound};
+ghost use Rattle.range_store.specs.Gaps.{turn, inside, IsGap, place, IsFound, IsLast};
 
-use crate::btree::node::{MOST, Node, child_at, item_at, item_count};
+use crate::btree::node::{MOST, Node, child_at, item_at, item_count, last_of};
 use slab::Slab;
 
 // A way has a digit for each level: the child through which it goes, from the lowest digit on.
@@ -178,19 +178,18 @@ pub fn following(nodes: &Slab<Node>, below: usize, number: usize, gap: Gap) -> O
 pub fn item_before(nodes: &Slab<Node>, below: usize, number: usize, gap: Gap) -> Option<usize>
     requires shaped { ShapedBut 1 MOST nodes.now below number }
     requires gap { IsGap nodes.now below number gap }
-    ensures { MatchOption result (place nodes.now below number gap ≡ 0) (λ x. (0 < place nodes.now below number gap) × (x ≡ slice_index (numbers nodes.now (suc below) number) (place nodes.now below number gap - 1))) }
+    ensures { IsLast (numbers nodes.now (suc below) number) (place nodes.now below number gap) result }
 {
-    let index = seat(below, gap);
-    if below > 0 {
-        let child = child_at(nodes, number, index);
-        if let Some(item) = item_before(nodes, below - 1, child, seen_inside(gap)) {
-            return Some(item);
-        }
+    if below == 0 {
+        return last_of(nodes[number].items.as_slice(), gap.index);
     }
-    if index > 0 {
-        return Some(item_at(nodes, number, index - 1));
+    let index = first_turn(gap);
+    let child = child_at(nodes, number, index);
+    let inner = item_before(nodes, below - 1, child, seen_inside(gap));
+    if inner.is_some() {
+        return inner;
     }
-    None
+    last_of(nodes[number].items.as_slice(), index)
 }
 
 // The gap before the item before a gap below a node.
@@ -200,24 +199,24 @@ pub fn gap_before(nodes: &Slab<Node>, below: usize, number: usize, gap: Gap) -> 
     requires gap { IsGap nodes.now below number gap }
     ensures { MatchOption result (place nodes.now below number gap ≡ 0) (λ h. IsGap nodes.now below number h × (place nodes.now below number h + 1 ≡ place nodes.now below number gap)) }
 {
-    let index = seat(below, gap);
-    if below > 0 {
-        let child = child_at(nodes, number, index);
-        if let Some(earlier) = gap_before(nodes, below - 1, child, seen_inside(gap)) {
-            return Some(seen_above(earlier, index));
-        }
-        if index == 0 {
+    if below == 0 {
+        if gap.index == 0 {
             return None;
         }
-        let last = child_at(nodes, number, index - 1);
-        return Some(seen_above(end_gap(nodes, below - 1, last), index - 1));
-    }
-    if index > 0 {
         return Some(Gap {
             leaf: number,
             way: 0,
-            index: index - 1,
+            index: gap.index - 1,
         });
     }
-    None
+    let index = first_turn(gap);
+    let child = child_at(nodes, number, index);
+    if let Some(earlier) = gap_before(nodes, below - 1, child, seen_inside(gap)) {
+        return Some(seen_above(earlier, index));
+    }
+    if index == 0 {
+        return None;
+    }
+    let last = child_at(nodes, number, index - 1);
+    Some(seen_above(end_gap(nodes, below - 1, last), index - 1))
 }

@@ -1,7 +1,0 @@
-use Rattle.std.proofs.Common.{arith}
-use Rattle.range_store.specs.Holding.{box_length}
-use Rattle.range_store.proofs.Positions.{popped_first}
-use Rattle.range_store.proofs.btree.BoxStorageStorage.pop_first.Goals as goal
-
-pub returns-else-len-eq0-clause-list : goal.returns-else-len-eq0-clause-list
-returns-else-len-eq0-clause-list g c = popped_first _ _ c.take.result.0 (omega (arith, box_length c.args.self.now, c.len.ensures)) c.take.ensures.removed c.take.ensures.list
