@@ -135,6 +135,8 @@ pub fn overfull(
     requires present { ContainsKey nodes.now number }
     requires within { index ≤ length (items_of (get nodes.now number)) }
     requires children { child ≡ None ⊎ (length (children_of (get nodes.now number)) ≡ length (items_of (get nodes.now number)) + 1) }
+    requires fits { length (items_of (get nodes.now number)) ≤ MOST }
+    requires few { length (children_of (get nodes.now number)) ≤ MOST + 1 }
     ensures items { result.items.items ≡ insert (items_of (get nodes.now number)) index item }
     ensures children { result.children.items ≡ with_child (children_of (get nodes.now number)) (index + 1) child }
 {
