@@ -34,7 +34,7 @@ pub returns-then-seat-le-HALF-clause-settles : goal.returns-then-seat-le-HALF-cl
 returns-then-seat-le-HALF-clause-settles c =
     let long = length-insert (items_of (get c.args.nodes.now c.args.number)) c.args.index c.args.item c.requires.within in
     let full : length (insert (items_of (get c.args.nodes.now c.args.number)) c.args.index c.args.item) ≡ MOST + 1 = omega (arith, long, c.item_count.ensures, c.if-item_count-lt-MOST.false, c.requires.fits) in
-    cut_settles c.args.nodes.now c.divide-split.new.nodes c.args.below c.args.number (insert (items_of (get c.args.nodes.now c.args.number)) c.args.index c.args.item) (with_child (children_of (get c.args.nodes.now c.args.number)) (c.args.index + 1) c.args.child) c.requires.content HALF c.divide-split.result c.divide-split.ensures (omega (arith, full)) (omega arith) (omega arith) (omega (arith, full)) (omega (arith, full))
+    cut_settles c.args.nodes.now c.divide-split.new.nodes c.args.below c.args.number (insert (items_of (get c.args.nodes.now c.args.number)) c.args.index c.args.item) (with_child (children_of (get c.args.nodes.now c.args.number)) (c.args.index + 1) c.args.child) c.requires.content HALF c.divide-split.result (rw (c.overfull-wide.ensures.items, c.overfull-wide.ensures.children) at c.divide-split.ensures) (omega (arith, full)) (omega arith) (omega arith) (omega (arith, full)) (omega (arith, full))
 
 pub returns-then-seat-le-HALF-clause-gap : goal.returns-then-seat-le-HALF-clause-gap
 returns-then-seat-le-HALF-clause-gap c =
@@ -43,8 +43,8 @@ returns-then-seat-le-HALF-clause-gap c =
     let long = length-insert (items_of (get s c.args.number)) c.args.index c.args.item c.requires.within in
     let low : HALF < length (insert (items_of (get c.args.nodes.now c.args.number)) c.args.index c.args.item) = omega (arith, long, c.item_count.ensures, c.if-item_count-lt-MOST.false) in
     let left = seat_left s HALF (insert (items_of (get c.args.nodes.now c.args.number)) c.args.index c.args.item) (with_child (children_of (get c.args.nodes.now c.args.number)) (c.args.index + 1) c.args.child) c.args.seat c.args.inner low c.args.below c.requires.content.branches c.if-seat-le-HALF.true c.requires.seat in
-    let holds = left_holds c.args.nodes.now c.divide-split.new.nodes c.args.below c.args.number (insert (items_of (get c.args.nodes.now c.args.number)) c.args.index c.args.item) (with_child (children_of (get c.args.nodes.now c.args.number)) (c.args.index + 1) c.args.child) c.requires.content HALF c.divide-split.result c.divide-split.ensures low in
-    let agree = left_agree c.args.nodes.now c.divide-split.new.nodes c.args.below c.args.number (insert (items_of (get c.args.nodes.now c.args.number)) c.args.index c.args.item) (with_child (children_of (get c.args.nodes.now c.args.number)) (c.args.index + 1) c.args.child) c.requires.content HALF c.divide-split.result c.divide-split.ensures low in
+    let holds = left_holds c.args.nodes.now c.divide-split.new.nodes c.args.below c.args.number (insert (items_of (get c.args.nodes.now c.args.number)) c.args.index c.args.item) (with_child (children_of (get c.args.nodes.now c.args.number)) (c.args.index + 1) c.args.child) c.requires.content HALF c.divide-split.result (rw (c.overfull-wide.ensures.items, c.overfull-wide.ensures.children) at c.divide-split.ensures) low in
+    let agree = left_agree c.args.nodes.now c.divide-split.new.nodes c.args.below c.args.number (insert (items_of (get c.args.nodes.now c.args.number)) c.args.index c.args.item) (with_child (children_of (get c.args.nodes.now c.args.number)) (c.args.index + 1) c.args.child) c.requires.content HALF c.divide-split.result (rw (c.overfull-wide.ensures.items, c.overfull-wide.ensures.children) at c.divide-split.ensures) low in
     let gap = seat_written s t c.args.number (take HALF (insert (items_of (get c.args.nodes.now c.args.number)) c.args.index c.args.item)) (take (HALF + 1) (with_child (children_of (get c.args.nodes.now c.args.number)) (c.args.index + 1) c.args.child)) c.args.seat c.args.inner c.gap_at-then-seat-le-HALF.result c.args.below holds agree c.gap_at-then-seat-le-HALF.ensures.leaf c.gap_at-then-seat-le-HALF.ensures.turn c.gap_at-then-seat-le-HALF.ensures.inside left.0 in
     (gap.0, gap.1 ∙ left.1)
 
@@ -59,7 +59,7 @@ pub returns-clause-settles : goal.returns-clause-settles
 returns-clause-settles c =
     let long = length-insert (items_of (get c.args.nodes.now c.args.number)) c.args.index c.args.item c.requires.within in
     let full : length (insert (items_of (get c.args.nodes.now c.args.number)) c.args.index c.args.item) ≡ MOST + 1 = omega (arith, long, c.item_count.ensures, c.if-item_count-lt-MOST.false, c.requires.fits) in
-    cut_settles c.args.nodes.now c.divide-split.new.nodes c.args.below c.args.number (insert (items_of (get c.args.nodes.now c.args.number)) c.args.index c.args.item) (with_child (children_of (get c.args.nodes.now c.args.number)) (c.args.index + 1) c.args.child) c.requires.content HALF c.divide-split.result c.divide-split.ensures (omega (arith, full)) (omega arith) (omega arith) (omega (arith, full)) (omega (arith, full))
+    cut_settles c.args.nodes.now c.divide-split.new.nodes c.args.below c.args.number (insert (items_of (get c.args.nodes.now c.args.number)) c.args.index c.args.item) (with_child (children_of (get c.args.nodes.now c.args.number)) (c.args.index + 1) c.args.child) c.requires.content HALF c.divide-split.result (rw (c.overfull-wide.ensures.items, c.overfull-wide.ensures.children) at c.divide-split.ensures) (omega (arith, full)) (omega arith) (omega arith) (omega (arith, full)) (omega (arith, full))
 
 pub returns-clause-gap : goal.returns-clause-gap
 returns-clause-gap c =
@@ -68,7 +68,7 @@ returns-clause-gap c =
     let long = length-insert (items_of (get s c.args.number)) c.args.index c.args.item c.requires.within in
     let low : HALF < length (insert (items_of (get c.args.nodes.now c.args.number)) c.args.index c.args.item) = omega (arith, long, c.item_count.ensures, c.if-item_count-lt-MOST.false) in
     let right = seat_right s HALF (insert (items_of (get c.args.nodes.now c.args.number)) c.args.index c.args.item) (with_child (children_of (get c.args.nodes.now c.args.number)) (c.args.index + 1) c.args.child) c.args.seat c.args.inner low c.args.below c.requires.content.branches (omega (arith, c.if-seat-le-HALF.false)) c.requires.seat in
-    let holds = right_holds c.args.nodes.now c.divide-split.new.nodes c.args.below c.args.number (insert (items_of (get c.args.nodes.now c.args.number)) c.args.index c.args.item) (with_child (children_of (get c.args.nodes.now c.args.number)) (c.args.index + 1) c.args.child) c.requires.content HALF c.divide-split.result c.divide-split.ensures low in
-    let agree = right_agree c.args.nodes.now c.divide-split.new.nodes c.args.below c.args.number (insert (items_of (get c.args.nodes.now c.args.number)) c.args.index c.args.item) (with_child (children_of (get c.args.nodes.now c.args.number)) (c.args.index + 1) c.args.child) c.requires.content HALF c.divide-split.result c.divide-split.ensures low in
+    let holds = right_holds c.args.nodes.now c.divide-split.new.nodes c.args.below c.args.number (insert (items_of (get c.args.nodes.now c.args.number)) c.args.index c.args.item) (with_child (children_of (get c.args.nodes.now c.args.number)) (c.args.index + 1) c.args.child) c.requires.content HALF c.divide-split.result (rw (c.overfull-wide.ensures.items, c.overfull-wide.ensures.children) at c.divide-split.ensures) low in
+    let agree = right_agree c.args.nodes.now c.divide-split.new.nodes c.args.below c.args.number (insert (items_of (get c.args.nodes.now c.args.number)) c.args.index c.args.item) (with_child (children_of (get c.args.nodes.now c.args.number)) (c.args.index + 1) c.args.child) c.requires.content HALF c.divide-split.result (rw (c.overfull-wide.ensures.items, c.overfull-wide.ensures.children) at c.divide-split.ensures) low in
     let gap = seat_written s t c.divide-split.result.right (drop (HALF + 1) (insert (items_of (get c.args.nodes.now c.args.number)) c.args.index c.args.item)) (drop (HALF + 1) (with_child (children_of (get c.args.nodes.now c.args.number)) (c.args.index + 1) c.args.child)) (c.args.seat - HALF - 1) c.args.inner c.gap_at-2.result c.args.below holds agree c.gap_at-2.ensures.leaf c.gap_at-2.ensures.turn c.gap_at-2.ensures.inside right.0 in
-    (gap.0, omega (arith, gap.1, right.1, ap length (left_numbers c.args.nodes.now c.divide-split.new.nodes c.args.below c.args.number (insert (items_of (get c.args.nodes.now c.args.number)) c.args.index c.args.item) (with_child (children_of (get c.args.nodes.now c.args.number)) (c.args.index + 1) c.args.child) c.requires.content HALF c.divide-split.result c.divide-split.ensures low)))
+    (gap.0, omega (arith, gap.1, right.1, ap length (left_numbers c.args.nodes.now c.divide-split.new.nodes c.args.below c.args.number (insert (items_of (get c.args.nodes.now c.args.number)) c.args.index c.args.item) (with_child (children_of (get c.args.nodes.now c.args.number)) (c.args.index + 1) c.args.child) c.requires.content HALF c.divide-split.result (rw (c.overfull-wide.ensures.items, c.overfull-wide.ensures.children) at c.divide-split.ensures) low)))
