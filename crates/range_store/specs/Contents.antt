@@ -1,14 +1,12 @@
 -- What a node is to hold, before it is written, and what the slab is once it was.
-use Rattle.std.specs.Prelude.{◌≡◌, ℕ, zero, suc, ◌+◌, ◌<◌, ◌≤◌, Bool, true, false, List, [], ◌∷◌, ◌++◌, length, map, take, drop, Option, Some, None, IsSome, slice_index}
+use Rattle.std.specs.Prelude.{◌≡◌, ℕ, zero, suc, ◌+◌, ◌<◌, ◌≤◌, List, [], ◌∷◌, ◌++◌, length, map, take, drop, Option, Some, None, IsSome, slice_index}
 use Rattle.std.specs.List.{All, flat_map}
 use Rattle.slab.specs.Slab.{Slab, get}
 use Rattle.range_store.specs.Occurrences.{occurrences}
 use Rattle.range_store.specs.declared.btree.node.Node.{Node}
 use Rattle.range_store.specs.declared.btree.node.Split.{Split}
 use Rattle.range_store.specs.declared.btree.node.TheConstants.{MOST, LEAST}
-use Rattle.range_store.specs.declared.btree.way.Gap.{Gap}
 use Rattle.range_store.specs.Nodes.{weave, numbers, used, child_count, Shaped, ShapedBut, here, Moves, tops, separators, EnoughFor, Writes, Stores}
-use Rattle.range_store.specs.Gaps.{IsGap, place}
 
 -- the node n, over d levels, may be written with these items and children
 pub record IsContent (s : Slab Node) (d n : ℕ) (xs ks : List ℕ) : Type 0 where
@@ -29,13 +27,6 @@ pub record Divides (old new : Slab Node) (n half : ℕ) (xs ks : List ℕ) (spli
   pub between : Slab Node
   pub first : Writes old between n (take half xs) (take (half + 1) ks)
   pub second : Stores between new split.right (drop (half + 1) xs) (drop (half + 1) ks)
-
--- so many items stand before a gap below n or, if it was cut, below the node after it
-abbrev pub GapAmong : Slab Node → ℕ → ℕ → Option Split → Bool → Gap → ℕ → Type 0
-GapAmong s d n split false gap rank = IsGap s d n gap × (place s d n gap ≡ rank)
-GapAmong s d n None true gap rank = ⊥
-GapAmong s d n (Some split) true gap rank =
-    IsGap s d split.right gap × (length (numbers s (suc d) n) + 1 + place s d split.right gap ≡ rank)
 
 -- the subtree of n has another list, and the same nodes
 pub record IsRewritten (old new : Slab Node) (d n : ℕ) (list : List ℕ) : Type 0 where

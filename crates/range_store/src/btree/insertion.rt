@@ -1,9 +1,9 @@
 //! The insertion of an item at a gap below a node, with the cuts that it causes.
 ghost use Rattle.std.specs.Prelude.{◌≡◌, ◌⊎◌, ℕ, suc, ◌+◌, ◌-◌, ◌*◌, ◌<◌, ◌≤◌, ◌^◌, length, insert, None, Some};
 ghost use Rattle.slab.specs.Slab.{get, HasRoomFor, ContainsKey};
-ghost use Rattle.range_store.specs.Nodes.{numbers, items_of, children_of, with_child, ShapedBut, Replaces, Owned, HasTreeRoom, IsTree};
+ghost use Rattle.range_store.specs.Nodes.{numbers, items_of, children_of, with_child, tops, separators, ShapedBut, Replaces, Owned, HasTreeRoom, IsTree};
 ghost use Rattle.range_store.specs.Gaps.{IsGap, place, IsSeat, seat_place};
-ghost use Rattle.range_store.specs.Contents.{IsContent, Settles, Divides, GapAmong};
+ghost use Rattle.range_store.specs.Contents.{IsContent, Settles, Divides};
 
 use crate::btree::node::{
     HALF, MOST, Node, Split, child_at, first_part, item_count, overfull, put, second_part, store,
@@ -12,12 +12,12 @@ use crate::btree::node::{
 use crate::btree::way::{DEEPEST, Gap, first_turn, gap_at, seen_above, seen_inside};
 use slab::Slab;
 
-// The cut that an insertion below a node caused, and the gap after the item: in the node itself, or
-// in the one after it.
+// The cut that an insertion below a node caused, and the gap after the item. It lies below the node
+// itself (`side` is 0) or below the one after it (1).
 #[derive(Clone, Copy)]
 pub struct Inserted {
     pub split: Option<Split>,
-    pub in_right: bool,
+    pub side: usize,
     pub gap: Gap,
 }
 
@@ -57,13 +57,14 @@ pub fn put_or_cut(
     requires seat { IsSeat nodes.old below (insert (items_of (get nodes.old number)) index item) (with_child (children_of (get nodes.old number)) (index + 1) child) seat inner }
     ensures settles { Settles nodes.old nodes.new below number (insert (items_of (get nodes.old number)) index item) (with_child (children_of (get nodes.old number)) (index + 1) child) result.split }
     ensures left_whole { length (items_of (get nodes.old number)) < MOST → result.split ≡ None }
-    ensures gap { GapAmong nodes.new below number result.split result.in_right result.gap (seat_place nodes.old below (insert (items_of (get nodes.old number)) index item) (with_child (children_of (get nodes.old number)) (index + 1) child) seat inner) }
+    ensures gap { IsSeat nodes.new (suc below) (separators result.split) (tops number result.split) result.side result.gap }
+    ensures place { seat_place nodes.new (suc below) (separators result.split) (tops number result.split) result.side result.gap ≡ seat_place nodes.old below (insert (items_of (get nodes.old number)) index item) (with_child (children_of (get nodes.old number)) (index + 1) child) seat inner }
 {
     if item_count(nodes, number) < MOST {
         put(nodes, number, index, item, child);
         return Inserted {
             split: None,
-            in_right: false,
+            side: 0,
             gap: gap_at(below, number, seat, inner),
         };
     }
@@ -72,13 +73,13 @@ pub fn put_or_cut(
     if seat <= HALF {
         return Inserted {
             split: Some(split),
-            in_right: false,
+            side: 0,
             gap: gap_at(below, number, seat, inner),
         };
     }
     Inserted {
         split: Some(split),
-        in_right: true,
+        side: 1,
         gap: gap_at(below, split.right, seat - HALF - 1, inner),
     }
 }
@@ -98,7 +99,8 @@ pub fn insert_below(
     requires room { HasTreeRoom nodes.old (suc below) number 1 }
     ensures replaces { Replaces nodes.old nodes.new below number result.split (insert (numbers nodes.old (suc below) number) (place nodes.old below number gap) item) }
     ensures left_whole { length (items_of (get nodes.old number)) < MOST → result.split ≡ None }
-    ensures gap { GapAmong nodes.new below number result.split result.in_right result.gap (place nodes.old below number gap + 1) }
+    ensures gap { IsSeat nodes.new (suc below) (separators result.split) (tops number result.split) result.side result.gap }
+    ensures place { seat_place nodes.new (suc below) (separators result.split) (tops number result.split) result.side result.gap ≡ place nodes.old below number gap + 1 }
 {
     if below == 0 {
         return put_or_cut(nodes, below, number, gap.index, item, None, gap.index + 1, gap);
@@ -109,11 +111,11 @@ pub fn insert_below(
     match inserted.split {
         None => Inserted {
             split: None,
-            in_right: false,
+            side: 0,
             gap: seen_above(inserted.gap, index),
         },
         Some(Split { middle, right }) => {
-            let seat = if inserted.in_right { index + 1 } else { index };
+            let seat = index + inserted.side;
             put_or_cut(nodes, below, number, index, middle, Some(right), seat, inserted.gap)
         }
     }

@@ -143,7 +143,7 @@ impl NumberTree {
             Some(split) => {
                 self.root = store(&mut self.nodes, node_over(self.root, split));
                 self.levels += 1;
-                seen_above(inserted.gap, if inserted.in_right { 1 } else { 0 })
+                seen_above(inserted.gap, inserted.side)
             }
         }
     }

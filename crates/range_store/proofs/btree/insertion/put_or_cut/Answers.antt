@@ -1,11 +1,11 @@
-use Rattle.std.proofs.Common.{◌≡◌, ◌+◌, ◌-◌, ◌≤◌, ◌<◌, length, take, drop, sym, ap, ◌∙◌, arith}
+use Rattle.std.proofs.Common.{◌≡◌, ◌+◌, ◌-◌, ◌≤◌, ◌<◌, length, take, drop, sym, ap, ◌∙◌, arith, Some, None}
 use Rattle.std.specs.List.{insert}
 use Rattle.std.proofs.lemmas.List.Edits.{length-insert}
 use Rattle.slab.specs.Slab.{get}
 use Rattle.range_store.specs.declared.btree.node.TheConstants.{MOST, LEAST, HALF}
 use Rattle.range_store.specs.Nodes.{items_of, children_of, with_child}
 use Rattle.range_store.proofs.Contents.{written_settles, written_holds, written_agree, cut_settles, left_holds, right_holds, left_agree, right_agree, left_numbers}
-use Rattle.range_store.proofs.Seats.{seat_written, seat_left, seat_right, seat_small, seat_way}
+use Rattle.range_store.proofs.Seats.{seat_written, seat_left, seat_right, seat_small, seat_way, seat_alone, seat_beside}
 use Rattle.range_store.proofs.btree.insertion.put_or_cut.Goals as goal
 
 pub gap_at-requires-clause-seat : goal.gap_at-requires-clause-seat
@@ -25,7 +25,19 @@ returns-then-item_count-lt-MOST-clause-gap c =
     let t = c.put.new.nodes in
     let holds = written_holds s t c.args.below c.args.number (insert (items_of (get c.args.nodes.now c.args.number)) c.args.index c.args.item) (with_child (children_of (get c.args.nodes.now c.args.number)) (c.args.index + 1) c.args.child) c.requires.content c.put.ensures in
     let agree = written_agree s t c.args.below c.args.number (insert (items_of (get c.args.nodes.now c.args.number)) c.args.index c.args.item) (with_child (children_of (get c.args.nodes.now c.args.number)) (c.args.index + 1) c.args.child) c.requires.content c.put.ensures in
-    seat_written s t c.args.number (insert (items_of (get c.args.nodes.now c.args.number)) c.args.index c.args.item) (with_child (children_of (get c.args.nodes.now c.args.number)) (c.args.index + 1) c.args.child) c.args.seat c.args.inner c.gap_at.result c.args.below holds agree c.gap_at.ensures.leaf c.gap_at.ensures.turn c.gap_at.ensures.inside c.requires.seat
+    let gap = seat_written s t c.args.number (insert (items_of (get c.args.nodes.now c.args.number)) c.args.index c.args.item) (with_child (children_of (get c.args.nodes.now c.args.number)) (c.args.index + 1) c.args.child) c.args.seat c.args.inner c.gap_at.result c.args.below holds agree c.gap_at.ensures.leaf c.gap_at.ensures.turn c.gap_at.ensures.inside c.requires.seat in
+    let alone = seat_alone t c.args.below c.args.number c.gap_at.result None gap.0 in
+    alone.0
+
+pub returns-then-item_count-lt-MOST-clause-place : goal.returns-then-item_count-lt-MOST-clause-place
+returns-then-item_count-lt-MOST-clause-place c =
+    let s = c.args.nodes.now in
+    let t = c.put.new.nodes in
+    let holds = written_holds s t c.args.below c.args.number (insert (items_of (get c.args.nodes.now c.args.number)) c.args.index c.args.item) (with_child (children_of (get c.args.nodes.now c.args.number)) (c.args.index + 1) c.args.child) c.requires.content c.put.ensures in
+    let agree = written_agree s t c.args.below c.args.number (insert (items_of (get c.args.nodes.now c.args.number)) c.args.index c.args.item) (with_child (children_of (get c.args.nodes.now c.args.number)) (c.args.index + 1) c.args.child) c.requires.content c.put.ensures in
+    let gap = seat_written s t c.args.number (insert (items_of (get c.args.nodes.now c.args.number)) c.args.index c.args.item) (with_child (children_of (get c.args.nodes.now c.args.number)) (c.args.index + 1) c.args.child) c.args.seat c.args.inner c.gap_at.result c.args.below holds agree c.gap_at.ensures.leaf c.gap_at.ensures.turn c.gap_at.ensures.inside c.requires.seat in
+    let alone = seat_alone t c.args.below c.args.number c.gap_at.result None gap.0 in
+    alone.1 ∙ gap.1
 
 pub gap_at-requires-then-seat-le-HALF-clause-way : goal.gap_at-requires-then-seat-le-HALF-clause-way
 gap_at-requires-then-seat-le-HALF-clause-way c = λ some. seat_way c.args.nodes.now c.args.below (insert (items_of (get c.args.nodes.now c.args.number)) c.args.index c.args.item) (with_child (children_of (get c.args.nodes.now c.args.number)) (c.args.index + 1) c.args.child) c.args.seat c.args.inner c.requires.deep some c.requires.seat
@@ -42,11 +54,27 @@ returns-then-seat-le-HALF-clause-gap c =
     let t = c.divide-split.new.nodes in
     let long = length-insert (items_of (get s c.args.number)) c.args.index c.args.item c.requires.within in
     let low : HALF < length (insert (items_of (get c.args.nodes.now c.args.number)) c.args.index c.args.item) = omega (arith, long, c.item_count.ensures, c.if-item_count-lt-MOST.false) in
+    let cut = (rw (c.overfull-wide.ensures.items, c.overfull-wide.ensures.children) at c.divide-split.ensures) in
     let left = seat_left s HALF (insert (items_of (get c.args.nodes.now c.args.number)) c.args.index c.args.item) (with_child (children_of (get c.args.nodes.now c.args.number)) (c.args.index + 1) c.args.child) c.args.seat c.args.inner low c.args.below c.requires.content.branches c.if-seat-le-HALF.true c.requires.seat in
-    let holds = left_holds c.args.nodes.now c.divide-split.new.nodes c.args.below c.args.number (insert (items_of (get c.args.nodes.now c.args.number)) c.args.index c.args.item) (with_child (children_of (get c.args.nodes.now c.args.number)) (c.args.index + 1) c.args.child) c.requires.content HALF c.divide-split.result (rw (c.overfull-wide.ensures.items, c.overfull-wide.ensures.children) at c.divide-split.ensures) low in
-    let agree = left_agree c.args.nodes.now c.divide-split.new.nodes c.args.below c.args.number (insert (items_of (get c.args.nodes.now c.args.number)) c.args.index c.args.item) (with_child (children_of (get c.args.nodes.now c.args.number)) (c.args.index + 1) c.args.child) c.requires.content HALF c.divide-split.result (rw (c.overfull-wide.ensures.items, c.overfull-wide.ensures.children) at c.divide-split.ensures) low in
+    let holds = left_holds c.args.nodes.now c.divide-split.new.nodes c.args.below c.args.number (insert (items_of (get c.args.nodes.now c.args.number)) c.args.index c.args.item) (with_child (children_of (get c.args.nodes.now c.args.number)) (c.args.index + 1) c.args.child) c.requires.content HALF c.divide-split.result cut low in
+    let agree = left_agree c.args.nodes.now c.divide-split.new.nodes c.args.below c.args.number (insert (items_of (get c.args.nodes.now c.args.number)) c.args.index c.args.item) (with_child (children_of (get c.args.nodes.now c.args.number)) (c.args.index + 1) c.args.child) c.requires.content HALF c.divide-split.result cut low in
     let gap = seat_written s t c.args.number (take HALF (insert (items_of (get c.args.nodes.now c.args.number)) c.args.index c.args.item)) (take (HALF + 1) (with_child (children_of (get c.args.nodes.now c.args.number)) (c.args.index + 1) c.args.child)) c.args.seat c.args.inner c.gap_at-then-seat-le-HALF.result c.args.below holds agree c.gap_at-then-seat-le-HALF.ensures.leaf c.gap_at-then-seat-le-HALF.ensures.turn c.gap_at-then-seat-le-HALF.ensures.inside left.0 in
-    (gap.0, gap.1 ∙ left.1)
+    let alone = seat_alone t c.args.below c.args.number c.gap_at-then-seat-le-HALF.result (Some c.divide-split.result) gap.0 in
+    alone.0
+
+pub returns-then-seat-le-HALF-clause-place : goal.returns-then-seat-le-HALF-clause-place
+returns-then-seat-le-HALF-clause-place c =
+    let s = c.args.nodes.now in
+    let t = c.divide-split.new.nodes in
+    let long = length-insert (items_of (get s c.args.number)) c.args.index c.args.item c.requires.within in
+    let low : HALF < length (insert (items_of (get c.args.nodes.now c.args.number)) c.args.index c.args.item) = omega (arith, long, c.item_count.ensures, c.if-item_count-lt-MOST.false) in
+    let cut = (rw (c.overfull-wide.ensures.items, c.overfull-wide.ensures.children) at c.divide-split.ensures) in
+    let left = seat_left s HALF (insert (items_of (get c.args.nodes.now c.args.number)) c.args.index c.args.item) (with_child (children_of (get c.args.nodes.now c.args.number)) (c.args.index + 1) c.args.child) c.args.seat c.args.inner low c.args.below c.requires.content.branches c.if-seat-le-HALF.true c.requires.seat in
+    let holds = left_holds c.args.nodes.now c.divide-split.new.nodes c.args.below c.args.number (insert (items_of (get c.args.nodes.now c.args.number)) c.args.index c.args.item) (with_child (children_of (get c.args.nodes.now c.args.number)) (c.args.index + 1) c.args.child) c.requires.content HALF c.divide-split.result cut low in
+    let agree = left_agree c.args.nodes.now c.divide-split.new.nodes c.args.below c.args.number (insert (items_of (get c.args.nodes.now c.args.number)) c.args.index c.args.item) (with_child (children_of (get c.args.nodes.now c.args.number)) (c.args.index + 1) c.args.child) c.requires.content HALF c.divide-split.result cut low in
+    let gap = seat_written s t c.args.number (take HALF (insert (items_of (get c.args.nodes.now c.args.number)) c.args.index c.args.item)) (take (HALF + 1) (with_child (children_of (get c.args.nodes.now c.args.number)) (c.args.index + 1) c.args.child)) c.args.seat c.args.inner c.gap_at-then-seat-le-HALF.result c.args.below holds agree c.gap_at-then-seat-le-HALF.ensures.leaf c.gap_at-then-seat-le-HALF.ensures.turn c.gap_at-then-seat-le-HALF.ensures.inside left.0 in
+    let alone = seat_alone t c.args.below c.args.number c.gap_at-then-seat-le-HALF.result (Some c.divide-split.result) gap.0 in
+    alone.1 ∙ gap.1 ∙ left.1
 
 pub gap_at-requires-2-clause-seat : goal.gap_at-requires-2-clause-seat
 gap_at-requires-2-clause-seat c =
@@ -67,8 +95,25 @@ returns-clause-gap c =
     let t = c.divide-split.new.nodes in
     let long = length-insert (items_of (get s c.args.number)) c.args.index c.args.item c.requires.within in
     let low : HALF < length (insert (items_of (get c.args.nodes.now c.args.number)) c.args.index c.args.item) = omega (arith, long, c.item_count.ensures, c.if-item_count-lt-MOST.false) in
+    let cut = (rw (c.overfull-wide.ensures.items, c.overfull-wide.ensures.children) at c.divide-split.ensures) in
     let right = seat_right s HALF (insert (items_of (get c.args.nodes.now c.args.number)) c.args.index c.args.item) (with_child (children_of (get c.args.nodes.now c.args.number)) (c.args.index + 1) c.args.child) c.args.seat c.args.inner low c.args.below c.requires.content.branches (omega (arith, c.if-seat-le-HALF.false)) c.requires.seat in
-    let holds = right_holds c.args.nodes.now c.divide-split.new.nodes c.args.below c.args.number (insert (items_of (get c.args.nodes.now c.args.number)) c.args.index c.args.item) (with_child (children_of (get c.args.nodes.now c.args.number)) (c.args.index + 1) c.args.child) c.requires.content HALF c.divide-split.result (rw (c.overfull-wide.ensures.items, c.overfull-wide.ensures.children) at c.divide-split.ensures) low in
-    let agree = right_agree c.args.nodes.now c.divide-split.new.nodes c.args.below c.args.number (insert (items_of (get c.args.nodes.now c.args.number)) c.args.index c.args.item) (with_child (children_of (get c.args.nodes.now c.args.number)) (c.args.index + 1) c.args.child) c.requires.content HALF c.divide-split.result (rw (c.overfull-wide.ensures.items, c.overfull-wide.ensures.children) at c.divide-split.ensures) low in
+    let holds = right_holds c.args.nodes.now c.divide-split.new.nodes c.args.below c.args.number (insert (items_of (get c.args.nodes.now c.args.number)) c.args.index c.args.item) (with_child (children_of (get c.args.nodes.now c.args.number)) (c.args.index + 1) c.args.child) c.requires.content HALF c.divide-split.result cut low in
+    let agree = right_agree c.args.nodes.now c.divide-split.new.nodes c.args.below c.args.number (insert (items_of (get c.args.nodes.now c.args.number)) c.args.index c.args.item) (with_child (children_of (get c.args.nodes.now c.args.number)) (c.args.index + 1) c.args.child) c.requires.content HALF c.divide-split.result cut low in
     let gap = seat_written s t c.divide-split.result.right (drop (HALF + 1) (insert (items_of (get c.args.nodes.now c.args.number)) c.args.index c.args.item)) (drop (HALF + 1) (with_child (children_of (get c.args.nodes.now c.args.number)) (c.args.index + 1) c.args.child)) (c.args.seat - HALF - 1) c.args.inner c.gap_at-2.result c.args.below holds agree c.gap_at-2.ensures.leaf c.gap_at-2.ensures.turn c.gap_at-2.ensures.inside right.0 in
-    (gap.0, omega (arith, gap.1, right.1, ap length (left_numbers c.args.nodes.now c.divide-split.new.nodes c.args.below c.args.number (insert (items_of (get c.args.nodes.now c.args.number)) c.args.index c.args.item) (with_child (children_of (get c.args.nodes.now c.args.number)) (c.args.index + 1) c.args.child) c.requires.content HALF c.divide-split.result (rw (c.overfull-wide.ensures.items, c.overfull-wide.ensures.children) at c.divide-split.ensures) low)))
+    let beside = seat_beside t c.args.below c.args.number c.gap_at-2.result c.divide-split.result gap.0 in
+    beside.0
+
+pub returns-clause-place : goal.returns-clause-place
+returns-clause-place c =
+    let s = c.args.nodes.now in
+    let t = c.divide-split.new.nodes in
+    let long = length-insert (items_of (get s c.args.number)) c.args.index c.args.item c.requires.within in
+    let low : HALF < length (insert (items_of (get c.args.nodes.now c.args.number)) c.args.index c.args.item) = omega (arith, long, c.item_count.ensures, c.if-item_count-lt-MOST.false) in
+    let cut = (rw (c.overfull-wide.ensures.items, c.overfull-wide.ensures.children) at c.divide-split.ensures) in
+    let right = seat_right s HALF (insert (items_of (get c.args.nodes.now c.args.number)) c.args.index c.args.item) (with_child (children_of (get c.args.nodes.now c.args.number)) (c.args.index + 1) c.args.child) c.args.seat c.args.inner low c.args.below c.requires.content.branches (omega (arith, c.if-seat-le-HALF.false)) c.requires.seat in
+    let holds = right_holds c.args.nodes.now c.divide-split.new.nodes c.args.below c.args.number (insert (items_of (get c.args.nodes.now c.args.number)) c.args.index c.args.item) (with_child (children_of (get c.args.nodes.now c.args.number)) (c.args.index + 1) c.args.child) c.requires.content HALF c.divide-split.result cut low in
+    let agree = right_agree c.args.nodes.now c.divide-split.new.nodes c.args.below c.args.number (insert (items_of (get c.args.nodes.now c.args.number)) c.args.index c.args.item) (with_child (children_of (get c.args.nodes.now c.args.number)) (c.args.index + 1) c.args.child) c.requires.content HALF c.divide-split.result cut low in
+    let gap = seat_written s t c.divide-split.result.right (drop (HALF + 1) (insert (items_of (get c.args.nodes.now c.args.number)) c.args.index c.args.item)) (drop (HALF + 1) (with_child (children_of (get c.args.nodes.now c.args.number)) (c.args.index + 1) c.args.child)) (c.args.seat - HALF - 1) c.args.inner c.gap_at-2.result c.args.below holds agree c.gap_at-2.ensures.leaf c.gap_at-2.ensures.turn c.gap_at-2.ensures.inside right.0 in
+    let beside = seat_beside t c.args.below c.args.number c.gap_at-2.result c.divide-split.result gap.0 in
+    omega (arith, beside.1, gap.1, right.1, ap length (left_numbers c.args.nodes.now c.divide-split.new.nodes c.args.below c.args.number (insert (items_of (get c.args.nodes.now c.args.number)) c.args.index c.args.item) (with_child (children_of (get c.args.nodes.now c.args.number)) (c.args.index + 1) c.args.child) c.requires.content HALF c.divide-split.result cut low))
+
