@@ -39,7 +39,7 @@ pub used_leaf : (s : Slab Node) (n : ℕ) → length (children_of (get s n)) ≡
 unfolding used
 used_leaf s n none = rw (nil_from_length (children_of (get s n)) none) refl
 
-child_count_inner : (d k : ℕ) → 0 < d → child_count d k ≡ k + 1
+pub child_count_inner : (d k : ℕ) → 0 < d → child_count d k ≡ k + 1
 child_count_inner zero k inner = absurd (omega arith)
 child_count_inner (suc d) k inner = refl
 

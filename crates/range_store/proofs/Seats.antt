@@ -132,3 +132,11 @@ module _ (s : Slab Node) (d : ℕ) (us ts vs xs seps ys : List ℕ) (i j : ℕ) 
       let first : take (i + j) (map f us ++ (map f ts ++ map f vs)) ≡ map f us ++ take j (map f ts) = take-append-add (map f us) (map f ts ++ map f vs) (i + j) j (omega (arith, us_many)) ∙ ap (λ zs. map f us ++ zs) (take-append-le j (map f ts) (map f vs) (omega (arith, ts_many, seat.0, more))) in
       let sums : sum_by length (take (i + j) (map f us ++ (map f ts ++ map f vs))) ≡ sum_by length (map f us) + sum_by length (take j (map f ts)) = ap (sum_by length) first ∙ sum_by-append (length {A = ℕ}) (map f us) (take j (map f ts)) in
       ((omega (arith, length-append us (ts ++ vs), length-append ts vs, many, seat.0), rw kid seat.1), rw (kid, lists) (omega (arith, all, inner, sums)))
+
+pub seat_side : (s : Slab Node) (d : ℕ) (xs ks : List ℕ) (i : ℕ) (g : Gap) → IsSeat s (suc d) xs ks i g → i < length ks
+unfolding IsSeat
+seat_side s d xs ks i g seat = seat.0
+
+pub seat_inside : (s : Slab Node) (d : ℕ) (xs ks : List ℕ) (i : ℕ) (g : Gap) → IsSeat s (suc d) xs ks i g → IsGap s d (get_or ks i 0) g
+unfolding IsSeat
+seat_inside s d xs ks i g seat = seat.1

@@ -114,9 +114,9 @@ pub fn insert_below(
             side: 0,
             gap: seen_above(inserted.gap, index),
         },
-        Some(Split { middle, right }) => {
+        Some(cut) => {
             let seat = index + inserted.side;
-            put_or_cut(nodes, below, number, index, middle, Some(right), seat, inserted.gap)
+            put_or_cut(nodes, below, number, index, cut.middle, Some(cut.right), seat, inserted.gap)
         }
     }
 }
