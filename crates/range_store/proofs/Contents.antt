@@ -11,7 +11,7 @@ use Rattle.range_store.specs.declared.btree.node.TheConstants.{MOST, LEAST}
 use Rattle.range_store.specs.Nodes.{weave, items_of, children_of, child_count, numbers, used, Shaped, ShapedBut, here, Moves, Writes, Stores}
 use Rattle.range_store.specs.Contents.{IsContent, Settles, Divides}
 use Rattle.range_store.specs.Occurrences.{occurrences, occurrences-append, occurrences-cons}
-use Rattle.range_store.proofs.Frame.{AgreeAt, SameChildren, same_children}
+use Rattle.range_store.proofs.Frame.{AgreeAt, AgreeAt-left, AgreeAt-right, SameChildren, same_children}
 use Rattle.range_store.proofs.Below.{weave_numbers, used_is, child_count_cases}
 use Rattle.range_store.proofs.Moves.{here_some, here_le, occurrences_self, SameNodes, Moves-like, Moves-then, Writes-moves, Stores-moves}
 use Rattle.range_store.proofs.Weave.{weave_halves}
@@ -74,103 +74,104 @@ module _ (s t : Slab Node) (d n : ℕ) (xs ks : List ℕ) (content : IsContent s
       shape = λ least small enough. All-cons (ShapedBut least MOST t d) n [] (held_shape s t d n xs ks written_holds least enough fits content.branches content.shaped) (All-nil _);
     }
 
-  module _ (half : ℕ) (split : Split) (cut : Divides s t n half xs ks split) (low : half < length xs) where
-    abbrev us : List ℕ
-    us = take (half + 1) ks
+-- the items before and after the one at `half`, in two nodes
+module _ (s t : Slab Node) (d n r half : ℕ) (xs ks : List ℕ) (content : IsContent s d n xs ks) (low : half < length xs) (left : Holds s t d n (take half xs) (take (half + 1) ks)) (right : Holds s t d r (drop (half + 1) xs) (drop (half + 1) ks)) where
+  abbrev us : List ℕ
+  us = take (half + 1) ks
 
-    abbrev vs : List ℕ
-    vs = drop (half + 1) ks
+  abbrev vs : List ℕ
+  vs = drop (half + 1) ks
 
-    both : flat_map (used s d) ks ≡ flat_map (used s d) us ++ flat_map (used s d) vs
-    both = ap (flat_map (used s d)) (sym (take-append-drop (half + 1) ks)) ∙ flat_map-append (used s d) us vs
+  lists_fit : (length (map (numbers s d) ks) ≡ 0) ⊎ (length (map (numbers s d) ks) ≡ length xs + 1)
+  lists_fit = child_count_cases d (length xs) (length (map (numbers s d) ks)) (length-map ks (numbers s d) ∙ content.branches)
 
-    occur_both : (k : ℕ) → occurrences k (flat_map (used s d) ks) ≡ occurrences k (flat_map (used s d) us) + occurrences k (flat_map (used s d) vs)
-    occur_both k = ap (occurrences k) both ∙ occurrences-append k (flat_map (used s d) us) (flat_map (used s d) vs)
+  pub left_numbers : numbers t (suc d) n ≡ weave (take half xs) (map (numbers s d) us)
+  left_numbers = held_numbers s t d n (take half xs) us left
 
-    agree : AgreeAt s t (flat_map (used s d) ks)
-    agree k among =
-        let kept : get cut.between k ≡ get s k = cut.first.others k (content_apart k among) in
-        let was : here s k ≡ 1 = content_there k among in
-        cut.second.others k (λ same. let none : here cut.between k ≡ 0 = rw (same, cut.second.fresh) refl in let now : here cut.between k ≡ here s k = rw kept refl in omega (arith, none, now, was))
-        ∙ kept
+  right_numbers : numbers t (suc d) r ≡ weave (drop (half + 1) xs) (map (numbers s d) vs)
+  right_numbers = held_numbers s t d r (drop (half + 1) xs) vs right
 
-    pub left_agree : AgreeAt s t (flat_map (used s d) us)
-    left_agree k among = agree k (omega (arith, among, occur_both k))
+  pub halves_listed : (middle : ℕ) → middle ≡ get_or xs half 0 → numbers t (suc d) n ++ (middle ∷ (numbers t (suc d) r ++ [])) ≡ weave xs (map (numbers s d) ks)
+  halves_listed middle is =
+      let next : suc half ≡ half + 1 = omega arith in
+      let halves = rw next at (weave_halves xs (map (numbers s d) ks) half 0 low lists_fit) in
+      ap (λ zs. numbers t (suc d) n ++ (middle ∷ zs)) (append-nil (numbers t (suc d) r))
+      ∙ sym (halves ∙ rw (take-map (numbers s d) (half + 1) ks, drop-map (numbers s d) (half + 1) ks, ← is, ← left_numbers, ← right_numbers) refl)
 
-    pub right_agree : AgreeAt s t (flat_map (used s d) vs)
-    right_agree k among = agree k (omega (arith, among, occur_both k))
+  left_used : used t (suc d) n ≡ n ∷ flat_map (used s d) us
+  left_used = held_used s t d n (take half xs) us left
 
-    same_left : SameChildren s t d us
-    same_left = same_children s t d us left_agree
+  right_used : used t (suc d) r ≡ r ∷ flat_map (used s d) vs
+  right_used = held_used s t d r (drop (half + 1) xs) vs right
 
-    same_right : SameChildren s t d vs
-    same_right = same_children s t d vs right_agree
+  pub halves_nodes : SameNodes (r ∷ n ∷ flat_map (used s d) ks) (used t (suc d) n ++ (used t (suc d) r ++ []))
+  halves_nodes =
+      let both : flat_map (used s d) ks ≡ flat_map (used s d) us ++ flat_map (used s d) vs = ap (flat_map (used s d)) (sym (take-append-drop (half + 1) ks)) ∙ flat_map-append (used s d) us vs in
+      rw (left_used, right_used) (record {
+        occur = λ k. omega (arith, occurrences-cons k r (n ∷ flat_map (used s d) ks), occurrences-cons k n (flat_map (used s d) ks), ap (occurrences k) both, occurrences-append k (flat_map (used s d) us) (flat_map (used s d) vs), occurrences-append k (n ∷ flat_map (used s d) us) (r ∷ (flat_map (used s d) vs ++ [])), occurrences-cons k n (flat_map (used s d) us), occurrences-cons k r (flat_map (used s d) vs ++ []), ap (occurrences k) (append-nil (flat_map (used s d) vs)));
+        len = omega (arith, ap length both, length-append (flat_map (used s d) us) (flat_map (used s d) vs), length-append (n ∷ flat_map (used s d) us) (r ∷ (flat_map (used s d) vs ++ [])), ap length (append-nil (flat_map (used s d) vs)));
+      })
 
-    n_kept : get t n ≡ get cut.between n
-    n_kept = cut.second.others n (λ same. let none : here cut.between n ≡ 0 = rw (same, cut.second.fresh) refl in omega (arith, none, here_some cut.between n cut.first.present))
+  branches_left : length us ≡ child_count d half
+  branches_left = child_count_part d (length xs) (length ks) half (length us) content.branches
+      (λ none. omega (arith, length-append us vs, ap length (take-append-drop (half + 1) ks), none))
+      (λ some. length-take-le (half + 1) ks (omega (arith, some, low)))
 
-    pub left_holds : Holds s t d n (take half xs) us
-    left_holds = record { present = rw n_kept cut.first.present; items_are = rw n_kept cut.first.items_are; children_are = rw n_kept cut.first.children_are; same = same_left }
+  branches_right : length vs ≡ child_count d (length xs - half - 1)
+  branches_right = child_count_part d (length xs) (length ks) (length xs - half - 1) (length vs) content.branches
+      (λ none. omega (arith, length-drop (half + 1) ks, none))
+      (λ some. omega (arith, length-drop (half + 1) ks, some, low))
 
-    pub right_holds : Holds s t d split.right (drop (half + 1) xs) vs
-    right_holds = record { present = cut.second.present; items_are = cut.second.items_are; children_are = cut.second.children_are; same = same_right }
+  left_length : length (take half xs) ≡ half
+  left_length = length-take-le half xs (omega (arith, low))
 
-    lists_fit : (length (map (numbers s d) ks) ≡ 0) ⊎ (length (map (numbers s d) ks) ≡ length xs + 1)
-    lists_fit = child_count_cases d (length xs) (length (map (numbers s d) ks)) (length-map ks (numbers s d) ∙ content.branches)
+  right_length : length (drop (half + 1) xs) ≡ length xs - half - 1
+  right_length = omega (arith, length-drop (half + 1) xs, low)
 
-    pub left_numbers : numbers t (suc d) n ≡ weave (take half xs) (map (numbers s d) us)
-    left_numbers = held_numbers s t d n (take half xs) us left_holds
+  pub halves_shape : LEAST ≤ half → half ≤ MOST → half + 1 + LEAST ≤ length xs → length xs ≤ half + 1 + MOST → (least : ℕ) → least ≤ LEAST → All (ShapedBut least MOST t d) (n ∷ r ∷ [])
+  halves_shape least_left most_left least_right most_right least small =
+      All-cons (ShapedBut least MOST t d) n (r ∷ [])
+      (held_shape s t d n (take half xs) us left least (omega (arith, left_length, least_left, small)) (omega (arith, left_length, most_left)) (branches_left ∙ ap (child_count d) (sym left_length)) (All-take (Shaped s d) (half + 1) ks content.shaped))
+      (All-cons (ShapedBut least MOST t d) r []
+      (held_shape s t d r (drop (half + 1) xs) vs right least (omega (arith, right_length, least_right, small)) (omega (arith, right_length, most_right)) (branches_right ∙ ap (child_count d) (sym right_length)) (All-drop (Shaped s d) (half + 1) ks content.shaped))
+      (All-nil _))
 
-    right_numbers : numbers t (suc d) split.right ≡ weave (drop (half + 1) xs) (map (numbers s d) vs)
-    right_numbers = held_numbers s t d split.right (drop (half + 1) xs) vs right_holds
+-- they are parts of the children
+pub part_agree : (s t : Slab Node) (d half : ℕ) (ks : List ℕ) → AgreeAt s t (flat_map (used s d) ks) → AgreeAt s t (flat_map (used s d) (take half ks)) × AgreeAt s t (flat_map (used s d) (drop half ks))
+part_agree s t d half ks agree =
+    let both : flat_map (used s d) ks ≡ flat_map (used s d) (take half ks) ++ flat_map (used s d) (drop half ks) = ap (flat_map (used s d)) (sym (take-append-drop half ks)) ∙ flat_map-append (used s d) (take half ks) (drop half ks) in
+    let parts = subst (AgreeAt s t) both agree in
+    (AgreeAt-left s t (flat_map (used s d) (take half ks)) (flat_map (used s d) (drop half ks)) parts, AgreeAt-right s t (flat_map (used s d) (take half ks)) (flat_map (used s d) (drop half ks)) parts)
 
-    cut_listed : numbers t (suc d) n ++ (split.middle ∷ numbers t (suc d) split.right) ≡ weave xs (map (numbers s d) ks)
-    cut_listed =
-        let next : suc half ≡ half + 1 = omega arith in
-        let halves = rw next at (weave_halves xs (map (numbers s d) ks) half 0 low lists_fit) in
-        sym (halves ∙ rw (take-map (numbers s d) (half + 1) ks, drop-map (numbers s d) (half + 1) ks, ← cut.middle, ← left_numbers, ← right_numbers) refl)
+module _ (s t : Slab Node) (d n half : ℕ) (xs ks : List ℕ) (split : Split) (content : IsContent s d n xs ks) (cut : Divides s t n half xs ks split) (low : half < length xs) where
+  pub cut_agree : AgreeAt s t (flat_map (used s d) ks)
+  cut_agree k among =
+      let kept : get cut.between k ≡ get s k = cut.first.others k (content_apart s t d n xs ks content k among) in
+      let was : here s k ≡ 1 = content_there s t d n xs ks content k among in
+      cut.second.others k (λ same. let none : here cut.between k ≡ 0 = rw (same, cut.second.fresh) refl in let now : here cut.between k ≡ here s k = rw kept refl in omega (arith, none, now, was))
+      ∙ kept
 
-    left_used : used t (suc d) n ≡ n ∷ flat_map (used s d) us
-    left_used = held_used s t d n (take half xs) us left_holds
+  n_kept : get t n ≡ get cut.between n
+  n_kept = cut.second.others n (λ same. let none : here cut.between n ≡ 0 = rw (same, cut.second.fresh) refl in omega (arith, none, here_some cut.between n cut.first.present))
 
-    right_used : used t (suc d) split.right ≡ split.right ∷ flat_map (used s d) vs
-    right_used = held_used s t d split.right (drop (half + 1) xs) vs right_holds
+  pub left_holds : Holds s t d n (take half xs) (take (half + 1) ks)
+  left_holds = record { present = rw n_kept cut.first.present; items_are = rw n_kept cut.first.items_are; children_are = rw n_kept cut.first.children_are; same = same_children s t d (take (half + 1) ks) (part_agree s t d (half + 1) ks cut_agree).0 }
 
-    branches_left : length us ≡ child_count d half
-    branches_left = child_count_part d (length xs) (length ks) half (length us) content.branches
-        (λ none. omega (arith, length-append us vs, ap length (take-append-drop (half + 1) ks), none))
-        (λ some. length-take-le (half + 1) ks (omega (arith, some, low)))
+  pub right_holds : Holds s t d split.right (drop (half + 1) xs) (drop (half + 1) ks)
+  right_holds = record { present = cut.second.present; items_are = cut.second.items_are; children_are = cut.second.children_are; same = same_children s t d (drop (half + 1) ks) (part_agree s t d (half + 1) ks cut_agree).1 }
 
-    branches_right : length vs ≡ child_count d (length xs - half - 1)
-    branches_right = child_count_part d (length xs) (length ks) (length xs - half - 1) (length vs) content.branches
-        (λ none. omega (arith, length-drop (half + 1) ks, none))
-        (λ some. omega (arith, length-drop (half + 1) ks, some, low))
+  moved : Moves s t (n ∷ flat_map (used s d) ks) (used t (suc d) n ++ (used t (suc d) split.right ++ []))
+  moved =
+      let U = flat_map (used s d) ks in
+      let first = Writes-moves s cut.between n (take half xs) (take (half + 1) ks) (flat_map (used s d) ks) cut.first in
+      let second = Stores-moves cut.between t split.right (drop (half + 1) xs) (drop (half + 1) ks) (n ∷ flat_map (used s d) ks) cut.second in
+      Moves-like s t (n ∷ U) (n ∷ U) (split.right ∷ n ∷ U) (used t (suc d) n ++ (used t (suc d) split.right ++ [])) (record { occur = λ k. refl; len = refl })
+      (halves_nodes s t d n split.right half xs ks content low left_holds right_holds)
+      (Moves-then s cut.between t (n ∷ U) (n ∷ U) (split.right ∷ n ∷ U) first second)
 
-    left_length : length (take half xs) ≡ half
-    left_length = length-take-le half xs (omega (arith, low))
-
-    right_length : length (drop (half + 1) xs) ≡ length xs - half - 1
-    right_length = omega (arith, length-drop (half + 1) xs, low)
-
-    moved : Moves s t (n ∷ flat_map (used s d) ks) (used t (suc d) n ++ (used t (suc d) split.right ++ []))
-    moved =
-        let first = Writes-moves s cut.between n (take half xs) us (flat_map (used s d) ks) cut.first in
-        let second = Stores-moves cut.between t split.right (drop (half + 1) xs) vs (n ∷ flat_map (used s d) ks) cut.second in
-        let all = Moves-then s cut.between t (n ∷ flat_map (used s d) ks) (n ∷ flat_map (used s d) ks) (split.right ∷ n ∷ flat_map (used s d) ks) first second in
-        Moves-like s t (n ∷ flat_map (used s d) ks) (n ∷ flat_map (used s d) ks) (split.right ∷ n ∷ flat_map (used s d) ks) (used t (suc d) n ++ (used t (suc d) split.right ++ [])) (record { occur = λ k. refl; len = refl })
-        (rw (left_used, right_used) (record {
-          occur = λ k. omega (arith, occurrences-cons k split.right (n ∷ flat_map (used s d) ks), occurrences-cons k n (flat_map (used s d) ks), occur_both k, occurrences-append k (n ∷ flat_map (used s d) us) (split.right ∷ (flat_map (used s d) vs ++ [])), occurrences-cons k n (flat_map (used s d) us), occurrences-cons k split.right (flat_map (used s d) vs ++ []), ap (occurrences k) (append-nil (flat_map (used s d) vs)));
-          len = omega (arith, ap length both, length-append (flat_map (used s d) us) (flat_map (used s d) vs), length-append (n ∷ flat_map (used s d) us) (split.right ∷ (flat_map (used s d) vs ++ [])), ap length (append-nil (flat_map (used s d) vs)));
-        }))
-        all
-
-    pub cut_settles : LEAST ≤ half → half ≤ MOST → half + 1 + LEAST ≤ length xs → length xs ≤ half + 1 + MOST → Settles s t d n xs ks (Some split)
-    cut_settles least_left most_left least_right most_right = record {
-      listed = ap (λ zs. numbers t (suc d) n ++ (split.middle ∷ zs)) (append-nil (numbers t (suc d) split.right)) ∙ cut_listed;
-      moved = moved;
-      shape = λ least small enough. All-cons (ShapedBut least MOST t d) n (split.right ∷ [])
-          (held_shape s t d n (take half xs) us left_holds least (omega (arith, left_length, least_left, small)) (omega (arith, left_length, most_left)) (branches_left ∙ ap (child_count d) (sym left_length)) (All-take (Shaped s d) (half + 1) ks content.shaped))
-          (All-cons (ShapedBut least MOST t d) split.right []
-          (held_shape s t d split.right (drop (half + 1) xs) vs right_holds least (omega (arith, right_length, least_right, small)) (omega (arith, right_length, most_right)) (branches_right ∙ ap (child_count d) (sym right_length)) (All-drop (Shaped s d) (half + 1) ks content.shaped))
-          (All-nil _));
-    }
+  pub cut_settles : LEAST ≤ half → half ≤ MOST → half + 1 + LEAST ≤ length xs → length xs ≤ half + 1 + MOST → Settles s t d n xs ks (Some split)
+  cut_settles least_left most_left least_right most_right = record {
+    listed = halves_listed s t d n split.right half xs ks content low left_holds right_holds split.middle cut.middle;
+    moved = moved;
+    shape = λ least small enough. halves_shape s t d n split.right half xs ks content low left_holds right_holds least_left most_left least_right most_right least small;
+  }

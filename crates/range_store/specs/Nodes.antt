@@ -126,6 +126,10 @@ abbrev pub separators : Option Split → List ℕ
 separators None = []
 separators (Some split) = split.middle ∷ []
 
+abbrev pub rights : Option Split → List ℕ
+rights None = []
+rights (Some split) = split.right ∷ []
+
 -- the children with another one at a place, if there is another
 abbrev pub with_child : List ℕ → ℕ → Option ℕ → List ℕ
 with_child ks i None = ks

@@ -12,10 +12,10 @@ use crate::btree::node::{
 use crate::btree::way::{DEEPEST, Gap, first_turn, gap_at, seen_above, seen_inside};
 use slab::Slab;
 
-// The cut that an insertion below a node caused, and the gap after the item. It lies below the node
-// itself (`side` is 0) or below the one after it (1).
+// What became of a node: it stands alone, or is the first of two; and a gap below it (`side` is 0) or
+// below the second (1).
 #[derive(Clone, Copy)]
-pub struct Inserted {
+pub struct Parts {
     pub split: Option<Split>,
     pub side: usize,
     pub gap: Gap,
@@ -46,7 +46,7 @@ pub fn put_or_cut(
     child: Option<usize>,
     seat: usize,
     inner: Gap,
-) -> Inserted
+) -> Parts
     requires present { ContainsKey nodes.old number }
     requires within { index ≤ length (items_of (get nodes.old number)) }
     requires fits { length (items_of (get nodes.old number)) ≤ MOST }
@@ -62,7 +62,7 @@ pub fn put_or_cut(
 {
     if item_count(nodes, number) < MOST {
         put(nodes, number, index, item, child);
-        return Inserted {
+        return Parts {
             split: None,
             side: 0,
             gap: gap_at(below, number, seat, inner),
@@ -71,13 +71,13 @@ pub fn put_or_cut(
     let wide = overfull(nodes, number, index, item, child);
     let split = divide(nodes, number, &wide);
     if seat <= HALF {
-        return Inserted {
+        return Parts {
             split: Some(split),
             side: 0,
             gap: gap_at(below, number, seat, inner),
         };
     }
-    Inserted {
+    Parts {
         split: Some(split),
         side: 1,
         gap: gap_at(below, split.right, seat - HALF - 1, inner),
@@ -91,7 +91,7 @@ pub fn insert_below(
     number: usize,
     gap: Gap,
     item: usize,
-) -> Inserted
+) -> Parts
     requires shaped { ShapedBut 1 MOST nodes.old below number }
     requires owned { Owned nodes.old (suc below) number }
     requires gap { IsGap nodes.old below number gap }
@@ -109,7 +109,7 @@ pub fn insert_below(
     let child = child_at(nodes, number, index);
     let inserted = insert_below(nodes, below - 1, child, seen_inside(gap), item);
     match inserted.split {
-        None => Inserted {
+        None => Parts {
             split: None,
             side: 0,
             gap: seen_above(inserted.gap, index),

@@ -1,7 +1,7 @@
 //! A node of the tree, and the small steps that read or write one.
 ghost use Rattle.std.specs.Prelude.{◌≡◌, ◌⊎◌, ℕ, ◌+◌, ◌-◌, ◌*◌, ◌<◌, ◌≤◌, List, [], ◌∷◌, ◌++◌, length, take, drop, slice_index, slice_set, insert, remove, None};
 ghost use Rattle.slab.specs.Slab.{get, HasRoomFor, ContainsKey};
-ghost use Rattle.range_store.specs.Nodes.{items_of, children_of, with_child, Writes, Stores};
+ghost use Rattle.range_store.specs.Nodes.{items_of, children_of, with_child, separators, rights, Writes, Stores};
 ghost use Rattle.range_store.specs.Gaps.{IsLast};
 
 use arrayvec::ArrayVec;
@@ -162,8 +162,8 @@ pub fn joined(nodes: &Slab<Node>, left: usize, middle: usize, right: usize) -> W
     let Node { items, children } = &nodes[right];
     let first = &nodes[left];
     let mut wide = Wide {
-        items: prefix(&first.items, MOST),
-        children: prefix(&first.children, CHILD_PLACES),
+        items: prefix(&first.items, first.items.len()),
+        children: prefix(&first.children, first.children.len()),
     };
     wide.items.push(middle);
     wide.items.try_extend_from_slice(items.as_slice()).unwrap();
@@ -259,14 +259,23 @@ pub fn set_item(nodes: &mut Slab<Node>, number: usize, index: usize, item: usize
     nodes[number].items.as_mut_slice()[index] = item;
 }
 
-// Takes the item at `index` out of a node, and the child after it.
-pub fn detach(nodes: &mut Slab<Node>, number: usize, index: usize)
+// Puts what became of the children at `index` and after it, of which the first is `left`, in their
+// place.
+pub fn set_pair(nodes: &mut Slab<Node>, number: usize, index: usize, split: Option<Split>)
     requires present { ContainsKey nodes.old number }
     requires item { index < length (items_of (get nodes.old number)) }
     requires child { index + 1 < length (children_of (get nodes.old number)) }
-    ensures { Writes nodes.old nodes.new number (remove (items_of (get nodes.old number)) index) (remove (children_of (get nodes.old number)) (index + 1)) }
+    ensures { Writes nodes.old nodes.new number (take index (items_of (get nodes.old number)) ++ (separators split ++ drop (index + 1) (items_of (get nodes.old number)))) (take (index + 1) (children_of (get nodes.old number)) ++ (rights split ++ drop (index + 2) (children_of (get nodes.old number)))) }
 {
     let node = &mut nodes[number];
-    node.items.remove(index);
-    node.children.remove(index + 1);
+    match split {
+        None => {
+            node.items.remove(index);
+            node.children.remove(index + 1);
+        }
+        Some(Split { middle, right }) => {
+            node.items.as_mut_slice()[index] = middle;
+            node.children.as_mut_slice()[index + 1] = right;
+        }
+    }
 }

@@ -1,19 +1,69 @@
 //! The removal of an item below a node, with the mending of nodes that it leaves short.
-ghost use Rattle.std.specs.Prelude.{◌≡◌, ◌⊎◌, ℕ, suc, ◌+◌, ◌-◌, ◌*◌, ◌<◌, ◌≤◌, ◌^◌, length, slice_index, slice_set, remove, Bool, true, false};
+ghost use Rattle.std.specs.Prelude.{◌≡◌, ◌⊎◌, ℕ, suc, ◌+◌, ◌-◌, ◌*◌, ◌<◌, ◌≤◌, ◌^◌, ◌∷◌, ◌++◌, length, slice_index, slice_set, remove, Bool, true, false, IsSome};
 ghost use Rattle.std.specs.List.{All};
 ghost use Rattle.slab.specs.Slab.{get, ContainsKey};
-ghost use Rattle.range_store.specs.Nodes.{numbers, items_of, children_of, ShapedBut, Owned, Shrinks, IsMendable, IsLevelled, IsTree, IsLooseTree, IsLender, child_size};
-ghost use Rattle.range_store.specs.Gaps.{IsGap, place, seat_place};
-ghost use Rattle.range_store.specs.Contents.{IsRewritten};
+ghost use Rattle.range_store.specs.Nodes.{numbers, items_of, children_of, separators, tops, ShapedBut, Owned, Shrinks, IsMendable, IsLevelled, IsTree, IsLooseTree, IsLender, child_size};
+ghost use Rattle.range_store.specs.Gaps.{IsGap, place, IsSeat, seat_place};
+ghost use Rattle.range_store.specs.Contents.{IsPair, Rejoins, IsRewritten};
 
+use crate::btree::insertion::Parts;
 use crate::btree::node::{
-    LEAST, MOST, Node, Wide, child_at, detach, first_part, item_at, item_count, joined, second_part,
-    set_item, take_item, write,
+    LEAST, MOST, Node, Split, child_at, first_part, item_at, item_count, joined, second_part,
+    set_item, set_pair, take_item, write,
 };
 use crate::btree::way::{
     DEEPEST, Gap, first_turn, gap_at, seat, seen_above, seen_inside,
 };
 use slab::Slab;
+
+// Makes one node of two and the item between them if there are few items, else gives both as many.
+// Tells where the gap at a seat among all of them comes to lie.
+pub fn rejoin(
+    nodes: &mut Slab<Node>,
+    low: usize,
+    left: usize,
+    middle: usize,
+    right: usize,
+    seat: usize,
+    inner: Gap,
+) -> Parts
+    requires pair { IsPair nodes.old low left right }
+    requires deep { low < DEEPEST }
+    requires seat { IsSeat nodes.old low (items_of (get nodes.old left) ++ middle ∷ items_of (get nodes.old right)) (children_of (get nodes.old left) ++ children_of (get nodes.old right)) seat inner }
+    ensures rejoins { Rejoins nodes.old nodes.new low left middle right result.split }
+    ensures shared { LEAST + LEAST < length (items_of (get nodes.old left)) + 1 + length (items_of (get nodes.old right)) → IsSome result.split }
+    ensures gap { IsSeat nodes.new (suc low) (separators result.split) (tops left result.split) result.side result.gap }
+    ensures place { seat_place nodes.new (suc low) (separators result.split) (tops left result.split) result.side result.gap ≡ seat_place nodes.old low (items_of (get nodes.old left) ++ middle ∷ items_of (get nodes.old right)) (children_of (get nodes.old left) ++ children_of (get nodes.old right)) seat inner }
+{
+    let wide = joined(nodes, left, middle, right);
+    let many = wide.items.len();
+    if many <= LEAST + LEAST {
+        write(nodes, left, first_part(&wide, many));
+        let _ = nodes.remove(right);
+        return Parts {
+            split: None,
+            side: 0,
+            gap: gap_at(low, left, seat, inner),
+        };
+    }
+    let half = many / 2;
+    let middle = wide.items.as_slice()[half];
+    write(nodes, left, first_part(&wide, half));
+    write(nodes, right, second_part(&wide, half));
+    let split = Some(Split { middle, right });
+    if seat <= half {
+        return Parts {
+            split,
+            side: 0,
+            gap: gap_at(low, left, seat, inner),
+        };
+    }
+    Parts {
+        split,
+        side: 1,
+        gap: gap_at(low, right, seat - half - 1, inner),
+    }
+}
 
 // Levels the child at `index` with the one after it: they become one, or two with as many items.
 // Tells where a gap below one of them, the child at `turn`, comes to lie.
@@ -36,26 +86,12 @@ pub fn level(
 {
     let left = child_at(nodes, number, index);
     let right = child_at(nodes, number, index + 1);
-    let mut place = seat(low, gap);
-    if turn > index {
-        place += item_count(nodes, left) + 1;
-    }
-    let wide = joined(nodes, left, item_at(nodes, number, index), right);
-    let many = wide.items.len();
-    if many <= LEAST + LEAST {
-        write(nodes, left, first_part(&wide, many));
-        let _ = nodes.remove(right);
-        detach(nodes, number, index);
-        return seen_above(gap_at(low, left, place, seen_inside(gap)), index);
-    }
-    let half = many / 2;
-    write(nodes, left, first_part(&wide, half));
-    write(nodes, right, second_part(&wide, half));
-    set_item(nodes, number, index, wide.items.as_slice()[half]);
-    if place <= half {
-        return seen_above(gap_at(low, left, place, seen_inside(gap)), index);
-    }
-    seen_above(gap_at(low, right, place - half - 1, seen_inside(gap)), index + 1)
+    let middle = item_at(nodes, number, index);
+    let before = if turn > index { item_count(nodes, left) + 1 } else { 0 };
+    let seat = before + seat(low, gap);
+    let parts = rejoin(nodes, low, left, middle, right, seat, seen_inside(gap));
+    set_pair(nodes, number, index, parts.split);
+    seen_above(parts.gap, index + parts.side)
 }
 
 // Where the pair begins with which a short child is levelled: a neighbour with an item to spare is

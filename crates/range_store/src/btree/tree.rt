@@ -9,7 +9,7 @@ ghost use Rattle.range_store.specs.Listed.{Stored};
 ghost use Rattle.range_store.specs.Trees.{tree_numbers, tree_room, IsTreeGap, tree_place, IsAt, place_before, gap_or_end};
 
 use crate::btree::number_tree::NumberTree;
-use crate::btree::insertion::{Inserted, insert_below};
+use crate::btree::insertion::insert_below;
 use crate::btree::node::{LEAST, MOST, Node, item_at, leaf_of, node_over, store};
 use crate::btree::removal::{Settled, remove_below, set_before, settle};
 use crate::btree::searching::{HALVINGS, Passed, search_below};
