@@ -33,7 +33,7 @@ module _ (s t : Slab Node) (b n : ℕ) (us ms vs ts : List ℕ) (run : Runs s t 
   abbrev rest : List ℕ
   rest = n ∷ (flat_map (used s b) us ++ flat_map (used s b) vs)
 
-  used_old : used s (suc b) n ≡ n ∷ (flat_map (used s b) us ++ (flat_map (used s b) ms ++ flat_map (used s b) vs))
+  pub used_old : used s (suc b) n ≡ n ∷ (flat_map (used s b) us ++ (flat_map (used s b) ms ++ flat_map (used s b) vs))
   used_old =
       used_is s b n ∙ ap (λ zs. n ∷ flat_map (used s b) zs) run.children
       ∙ ap (λ zs. n ∷ zs) (flat_map-append (used s b) us (ms ++ vs) ∙ ap (λ zs. flat_map (used s b) us ++ zs) (flat_map-append (used s b) ms vs))

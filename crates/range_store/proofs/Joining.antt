@@ -10,12 +10,13 @@ use Rattle.range_store.specs.declared.btree.node.Split.{Split}
 use Rattle.range_store.specs.declared.btree.node.TheConstants.{MOST, LEAST}
 use Rattle.range_store.specs.declared.btree.way.Gap.{Gap}
 use Rattle.range_store.specs.Nodes.{weave, before, items_of, children_of, child_count, numbers, used, Shaped, ShapedBut, here, Moves, Writes, Removes}
-use Rattle.range_store.specs.Gaps.{turn, inside, IsGap, place, IsSeat, seat_place}
+use Rattle.range_store.specs.Gaps.{turn, inside, seat_of, IsGap, place, IsSeat, seat_place}
 use Rattle.range_store.specs.Contents.{IsContent, IsPair, Rejoins}
 use Rattle.range_store.specs.Occurrences.{occurrences, occurrences-append, occurrences-cons, occurrences_itself}
 use Rattle.range_store.proofs.Weave.{weave_cut}
 use Rattle.range_store.proofs.Frame.{AgreeAt, same_below, same_but, same_children}
-use Rattle.range_store.proofs.Below.{weave_numbers, used_is, Shaped-from_but}
+use Rattle.range_store.proofs.Below.{weave_numbers, used_is, numbers_leaf, Shaped-from_but}
+use Rattle.range_store.proofs.Room.{numbers_size}
 use Rattle.range_store.proofs.Moves.{here_le, here_some, SameNodes, Moves-like, Moves-then, Writes-moves, Removes-moves}
 use Rattle.range_store.proofs.Contents.{Holds, held_numbers, held_used, held_shape, written_holds, written_agree, content_apart, halves_listed, halves_nodes, halves_shape, part_agree}
 use Rattle.range_store.proofs.Seats.{seat_run}
@@ -160,3 +161,32 @@ module _ (s : Slab Node) (d l x r : ℕ) (pair : IsPair s d l r) where
       where
         swapped' : SameNodes (l ∷ r ∷ F) (r ∷ l ∷ F)
         swapped' = record { occur = λ k. omega (arith, occurrences-cons k l (r ∷ F), occurrences-cons k r F, occurrences-cons k r (l ∷ F), occurrences-cons k l F); len = refl }
+
+-- the seat of a gap among the items of both, from that in the left or in the right one
+module _ (s : Slab Node) (l x r : ℕ) (g : Gap) where
+  abbrev all_items : List ℕ
+  all_items = items_of (get s l) ++ (x ∷ items_of (get s r))
+
+  abbrev all_children : List ℕ
+  all_children = children_of (get s l) ++ children_of (get s r)
+
+  pub seat_from_left : (d : ℕ) → IsPair s d l r → IsGap s d l g → IsSeat s d all_items all_children (seat_of d g) (inside g) × (seat_place s d all_items all_children (seat_of d g) (inside g) ≡ place s d l g)
+  unfolding IsGap place IsSeat seat_place
+  seat_from_left zero pair is = (omega (arith, is.2, length-append (items_of (get s l)) (x ∷ items_of (get s r))), refl)
+  seat_from_left (suc e) pair is =
+      let run = seat_run s e [] (children_of (get s l)) (children_of (get s r)) [] (items_of (get s l)) (x ∷ items_of (get s r)) 0 (turn g) (inside g) refl refl pair.left.node.branches is in
+      let start : 0 + turn g ≡ turn g = omega arith in
+      let run' = rw start at run in
+      (run'.0, run'.1 ∙ omega arith)
+
+  pub seat_from_right : (d : ℕ) → IsPair s d l r → IsGap s d r g → IsSeat s d all_items all_children (length (items_of (get s l)) + 1 + seat_of d g) (inside g) × (seat_place s d all_items all_children (length (items_of (get s l)) + 1 + seat_of d g) (inside g) ≡ length (numbers s (suc d) l) + 1 + place s d r g)
+  unfolding IsGap place IsSeat seat_place
+  seat_from_right zero pair is =
+      (omega (arith, is.2, length-append (items_of (get s l)) (x ∷ items_of (get s r))), omega (arith, ap length (numbers_leaf s l pair.left.node.branches)))
+  seat_from_right (suc e) pair is =
+      let xs = items_of (get s l) in
+      let ys = items_of (get s r) in
+      let run = seat_run s e (children_of (get s l)) (children_of (get s r)) [] (xs ++ x ∷ []) ys [] (length xs + 1) (turn g) (inside g) pair.left.node.branches (length-append xs (x ∷ [])) pair.right.node.branches is in
+      let items : (xs ++ x ∷ []) ++ (ys ++ []) ≡ xs ++ (x ∷ ys) = ap (λ zs. (xs ++ x ∷ []) ++ zs) (append-nil ys) ∙ append_assoc xs (x ∷ []) ys in
+      let run' = rw (items, append-nil (children_of (get s r))) at run in
+      (run'.0, omega (arith, run'.1, numbers_size (LEAST - 1) MOST s (suc e) l pair.left))

@@ -14,6 +14,11 @@ turn gap = gap.way % WIDTH
 abbrev pub inside : Gap → Gap
 inside gap = record gap { way = gap.way / WIDTH }
 
+-- where a gap lies in the node that it is seen from: in the list of a leaf, or below the child at this index
+abbrev pub seat_of : ℕ → Gap → ℕ
+seat_of zero gap = gap.index
+seat_of (suc d) gap = turn gap
+
 -- the way leads from the node n, over d levels, to a leaf with such a gap
 unfoldable pub IsGap : Slab Node → ℕ → ℕ → Gap → Type 0
 IsGap s zero n gap = (gap.leaf ≡ n) × (gap.way ≡ 0) × (gap.index ≤ length (items_of (get s n)))

@@ -259,23 +259,42 @@ pub fn set_item(nodes: &mut Slab<Node>, number: usize, index: usize, item: usize
     nodes[number].items.as_mut_slice()[index] = item;
 }
 
-// Puts what became of the children at `index` and after it, of which the first is `left`, in their
-// place.
+// Takes the item at `index` out of a node, and the child after it.
+fn detach(nodes: &mut Slab<Node>, number: usize, index: usize)
+    requires present { ContainsKey nodes.old number }
+    requires item { index < length (items_of (get nodes.old number)) }
+    requires child { index + 1 < length (children_of (get nodes.old number)) }
+    ensures { Writes nodes.old nodes.new number (remove (items_of (get nodes.old number)) index) (remove (children_of (get nodes.old number)) (index + 1)) }
+{
+    let _many = item_count(nodes, number);
+    let node = &mut nodes[number];
+    node.items.remove(index);
+    node.children.remove(index + 1);
+}
+
+// Puts another item and another child after it in the place of those at `index` and after it.
+fn set_border(nodes: &mut Slab<Node>, number: usize, index: usize, border: Split)
+    requires present { ContainsKey nodes.old number }
+    requires item { index < length (items_of (get nodes.old number)) }
+    requires child { index + 1 < length (children_of (get nodes.old number)) }
+    ensures { Writes nodes.old nodes.new number (slice_set (items_of (get nodes.old number)) index border.middle) (slice_set (children_of (get nodes.old number)) (index + 1) border.right) }
+{
+    let _many = item_count(nodes, number);
+    let node = &mut nodes[number];
+    node.items.as_mut_slice()[index] = border.middle;
+    node.children.as_mut_slice()[index + 1] = border.right;
+}
+
+// Puts what became of the children at `index` and after it, of which the first stays, in their
+// place, with the item between the two if there are two.
 pub fn set_pair(nodes: &mut Slab<Node>, number: usize, index: usize, split: Option<Split>)
     requires present { ContainsKey nodes.old number }
     requires item { index < length (items_of (get nodes.old number)) }
     requires child { index + 1 < length (children_of (get nodes.old number)) }
     ensures { Writes nodes.old nodes.new number (take index (items_of (get nodes.old number)) ++ (separators split ++ drop (index + 1) (items_of (get nodes.old number)))) (take (index + 1) (children_of (get nodes.old number)) ++ (rights split ++ drop (index + 2) (children_of (get nodes.old number)))) }
 {
-    let node = &mut nodes[number];
     match split {
-        None => {
-            node.items.remove(index);
-            node.children.remove(index + 1);
-        }
-        Some(Split { middle, right }) => {
-            node.items.as_mut_slice()[index] = middle;
-            node.children.as_mut_slice()[index + 1] = right;
-        }
+        None => detach(nodes, number, index),
+        Some(border) => set_border(nodes, number, index, border),
     }
 }

@@ -3,7 +3,7 @@ ghost use Rattle.std.specs.Prelude.{◌≡◌, ◌⊎◌, ℕ, suc, ◌+◌, ◌
 ghost use Rattle.std.specs.List.{All};
 ghost use Rattle.slab.specs.Slab.{get, ContainsKey};
 ghost use Rattle.range_store.specs.Nodes.{numbers, items_of, children_of, separators, tops, ShapedBut, Owned, Shrinks, IsMendable, IsLevelled, IsTree, IsLooseTree, IsLender, child_size};
-ghost use Rattle.range_store.specs.Gaps.{IsGap, place, IsSeat, seat_place};
+ghost use Rattle.range_store.specs.Gaps.{IsGap, place, seat_of, IsSeat, seat_place};
 ghost use Rattle.range_store.specs.Contents.{IsPair, Rejoins, IsRewritten};
 
 use crate::btree::insertion::Parts;
@@ -65,6 +65,21 @@ pub fn rejoin(
     }
 }
 
+// The seat of a gap among the items of two neighbours, from that in the first (`side` is 0) or the
+// second.
+pub fn seat_in_pair(nodes: &Slab<Node>, low: usize, left: usize, side: usize, gap: Gap) -> usize
+    requires present { ContainsKey nodes.now left }
+    requires fits { length (items_of (get nodes.now left)) ≤ MOST }
+    requires small { seat_of low gap ≤ MOST }
+    ensures left { side ≡ 0 → result ≡ seat_of low gap }
+    ensures right { 0 < side → result ≡ length (items_of (get nodes.now left)) + 1 + seat_of low gap }
+{
+    if side == 0 {
+        return seat(low, gap);
+    }
+    item_count(nodes, left) + 1 + seat(low, gap)
+}
+
 // Levels the child at `index` with the one after it: they become one, or two with as many items.
 // Tells where a gap below one of them, the child at `turn`, comes to lie.
 pub fn level(
@@ -87,8 +102,7 @@ pub fn level(
     let left = child_at(nodes, number, index);
     let right = child_at(nodes, number, index + 1);
     let middle = item_at(nodes, number, index);
-    let before = if turn > index { item_count(nodes, left) + 1 } else { 0 };
-    let seat = before + seat(low, gap);
+    let seat = seat_in_pair(nodes, low, left, turn - index, gap);
     let parts = rejoin(nodes, low, left, middle, right, seat, seen_inside(gap));
     set_pair(nodes, number, index, parts.split);
     seen_above(parts.gap, index + parts.side)

@@ -2,7 +2,7 @@
 ghost use Rattle.std.specs.Prelude.{◌≡◌, ℕ, suc, ◌+◌, ◌-◌, ◌*◌, ◌%◌, ◌/◌, ◌^◌, ◌<◌, ◌≤◌, length, slice_index, MatchOption};
 ghost use Rattle.slab.specs.Slab.{get};
 ghost use Rattle.range_store.specs.Nodes.{numbers, items_of, ShapedBut};
-ghost use Rattle.range_store.specs.Gaps.{turn, inside, IsGap, place, IsFound, IsLast};
+ghost use Rattle.range_store.specs.Gaps.{turn, inside, seat_of, IsGap, place, IsFound, IsLast};
 
 use crate::btree::node::{MOST, Node, child_at, item_at, item_count, last_of};
 use slab::Slab;
@@ -80,8 +80,7 @@ pub fn gap_at(below: usize, number: usize, seat: usize, inner: Gap) -> Gap
 
 // The seat of a gap in the node that it is seen from.
 pub fn seat(below: usize, gap: Gap) -> usize
-    ensures leaf { below ≡ 0 → result ≡ gap.index }
-    ensures inner { 0 < below → result ≡ turn gap }
+    ensures { result ≡ seat_of below gap }
 {
     if below == 0 {
         gap.index

@@ -1,0 +1,153 @@
+-- A node after two of its children were levelled.
+use Rattle.std.proofs.Common.{◌≡◌, ◌⊎◌, ℕ, suc, ◌+◌, ◌-◌, ◌<◌, ◌≤◌, List, [], ◌∷◌, ◌++◌, length, get_or, take, drop, map, refl, sym, ap, ◌∙◌, inl, inr, subst, arith, Option, Some, None}
+use Rattle.std.specs.List.{All, flat_map, sum_by}
+use Rattle.std.proofs.lemmas.List.{append-nil, append_assoc, length-append, length-map, length-take-le, length-drop, take_more, take-map, drop-map, drop_more}
+use Rattle.std.proofs.lemmas.List.Elements.{All-cons, All-nil}
+use Rattle.slab.specs.Slab.{Slab, get}
+use Rattle.range_store.specs.declared.btree.node.Node.{Node}
+use Rattle.range_store.specs.declared.btree.node.Split.{Split}
+use Rattle.range_store.specs.declared.btree.node.TheConstants.{MOST, LEAST}
+use Rattle.range_store.specs.declared.btree.way.Gap.{Gap}
+use Rattle.range_store.specs.Nodes.{weave, rest_of, front_of, before, items_of, children_of, numbers, used, Shaped, ShapedBut, Moves, Writes, tops, separators, rights, Shrinks, IsLevelled}
+use Rattle.range_store.specs.Gaps.{turn, inside, IsGap, place, IsSeat, seat_place}
+use Rattle.range_store.specs.Contents.{IsContent, IsPair, Rejoins}
+use Rattle.range_store.specs.Occurrences.{occurrences, occurrences-append, occurrences-cons}
+use Rattle.range_store.proofs.Weave.{parts, weave_splice}
+use Rattle.range_store.proofs.Below.{weave_numbers, used_is}
+use Rattle.range_store.proofs.Moves.{Moves-then, Writes-moves}
+use Rattle.range_store.proofs.Contents.{held_numbers, held_used, held_shape, written_holds, written_agree}
+use Rattle.range_store.proofs.Growing.{Runs, run_kept, run_moved, run_content, run_lists, same_before, used_old}
+use Rattle.range_store.proofs.Seats.{length-before, seat_run, seat_written}
+
+-- the parts round the two children at j and after it
+pair_parts : (ks : List ℕ) (j : ℕ) → j + 1 < length ks → ks ≡ take j ks ++ (get_or ks j 0 ∷ get_or ks (j + 1) 0 ∷ drop (j + 2) ks)
+pair_parts ks j low =
+    let far : j + 1 + 1 ≡ j + 2 = omega arith in
+    parts ks j 0 (omega arith) ∙ ap (λ zs. take j ks ++ (get_or ks j 0 ∷ zs)) (drop_more ks (j + 1) 0 low ∙ ap (λ m. get_or ks (j + 1) 0 ∷ drop m ks) far)
+
+module _ (s : Slab Node) (low n j : ℕ) (levelled : IsLevelled s low n j) where
+  abbrev xs : List ℕ
+  xs = items_of (get s n)
+
+  abbrev ks : List ℕ
+  ks = children_of (get s n)
+
+  abbrev l : ℕ
+  l = get_or (children_of (get s n)) j 0
+
+  abbrev r : ℕ
+  r = get_or (children_of (get s n)) (j + 1) 0
+
+  abbrev x : ℕ
+  x = get_or (items_of (get s n)) j 0
+
+  abbrev us : List ℕ
+  us = take j (children_of (get s n))
+
+  abbrev vs : List ℕ
+  vs = drop (j + 2) (children_of (get s n))
+
+  many : length ks ≡ length xs + 1
+  many = levelled.node.branches
+
+  ks_parts : ks ≡ us ++ (l ∷ r ∷ vs)
+  ks_parts = pair_parts ks j (omega (arith, many, levelled.within))
+
+  xs_parts : xs ≡ take j xs ++ (x ∷ drop (j + 1) xs)
+  xs_parts = parts xs j 0 levelled.within
+
+  us_many : length us ≡ j
+  us_many = length-take-le j ks (omega (arith, many, levelled.within))
+
+  front_many : length (take j xs) ≡ j
+  front_many = length-take-le j xs (omega (arith, levelled.within))
+
+  same_run : Runs s s (suc low) n us (l ∷ r ∷ []) vs (l ∷ r ∷ [])
+  same_run = record { present = levelled.node.present; owned = levelled.owned; children = ks_parts; moved = record { owned = λ k. refl; outside = λ k unused present. refl; len = refl; capacity = refl } }
+
+  pub pair_of : IsPair s low l r
+  pair_of = record {
+    left = levelled.left;
+    right = levelled.right;
+    owned = λ k. omega (arith, levelled.owned k, ap (occurrences k) (used_old s s (suc low) n us (l ∷ r ∷ []) vs (l ∷ r ∷ []) same_run), occurrences-cons k n (flat_map (used s (suc low)) us ++ (flat_map (used s (suc low)) (l ∷ r ∷ []) ++ flat_map (used s (suc low)) vs)), occurrences-append k (flat_map (used s (suc low)) us) (flat_map (used s (suc low)) (l ∷ r ∷ []) ++ flat_map (used s (suc low)) vs), occurrences-append k (flat_map (used s (suc low)) (l ∷ r ∷ [])) (flat_map (used s (suc low)) vs), occurrences-append k (used s (suc low) l) (used s (suc low) r ++ []), occurrences-append k (used s (suc low) l) (used s (suc low) r), ap (occurrences k) (append-nil (used s (suc low) r)));
+    enough = levelled.enough;
+    fits = levelled.fits;
+  }
+
+  module _ (t : Slab Node) (split : Option Split) (rejoins : Rejoins s t low l x r split) where
+    pair_run : Runs s t (suc low) n us (l ∷ r ∷ []) vs (tops l split)
+    pair_run = record {
+      present = levelled.node.present;
+      owned = levelled.owned;
+      children = ks_parts;
+      moved = subst (λ zs. Moves s t (used s (suc low) l ++ zs) (flat_map (used t (suc low)) (tops l split))) (sym (append-nil (used s (suc low) r))) rejoins.moved;
+    }
+
+    pub pair_kept : get t n ≡ get s n
+    pair_kept = run_kept s t (suc low) n us (l ∷ r ∷ []) vs (tops l split) pair_run
+
+    abbrev new_xs : List ℕ
+    new_xs = take j (items_of (get s n)) ++ (separators split ++ drop (j + 1) (items_of (get s n)))
+
+    abbrev new_ks : List ℕ
+    new_ks = take j (children_of (get s n)) ++ (tops (get_or (children_of (get s n)) j 0) split ++ drop (j + 2) (children_of (get s n)))
+
+    tops_many : (cut : Option Split) → length (tops l cut) ≡ length (separators cut) + 1
+    tops_many None = refl
+    tops_many (Some cut) = refl
+
+    few : (cut : Option Split) → length (separators cut) ≤ 1
+    few None = omega arith
+    few (Some cut) = omega arith
+
+    pub new_length : length new_xs + 1 ≡ length xs + length (separators split)
+    new_length = omega (arith, length-append (take j xs) (separators split ++ drop (j + 1) xs), length-append (separators split) (drop (j + 1) xs), front_many, length-drop (j + 1) xs, levelled.within)
+
+    new_content : IsContent t (suc low) n new_xs new_ks
+    new_content =
+        run_content s t (suc low) n us (l ∷ r ∷ []) vs (tops l split) pair_run new_xs
+        (omega (arith, new_length, length-append us (tops l split ++ vs), length-append (tops l split) vs, tops_many split, us_many, length-drop (j + 2) ks, many, levelled.within))
+        levelled.before rejoins.shaped levelled.behind
+
+    woven : (cut : Option Split) → weave (take j xs ++ (separators cut ++ drop (j + 1) xs)) (map (numbers s (suc low)) us ++ (map (numbers t (suc low)) (tops l cut) ++ map (numbers s (suc low)) vs)) ≡ front_of (take j xs) (map (numbers s (suc low)) us) ++ (weave (separators cut) (map (numbers t (suc low)) (tops l cut)) ++ rest_of (drop (j + 1) xs) (map (numbers s (suc low)) vs))
+    woven None = weave_splice (take j xs) [] (drop (j + 1) xs) (map (numbers s (suc low)) us) (numbers t (suc low) l) [] (map (numbers s (suc low)) vs) (omega (arith, front_many, us_many, length-map us (numbers s (suc low)))) refl
+    woven (Some cut) = weave_splice (take j xs) (cut.middle ∷ []) (drop (j + 1) xs) (map (numbers s (suc low)) us) (numbers t (suc low) l) (numbers t (suc low) cut.right ∷ []) (map (numbers s (suc low)) vs) (omega (arith, front_many, us_many, length-map us (numbers s (suc low)))) refl
+
+    woven_old : numbers s (suc (suc low)) n ≡ front_of (take j xs) (map (numbers s (suc low)) us) ++ ((numbers s (suc low) l ++ (x ∷ numbers s (suc low) r)) ++ rest_of (drop (j + 1) xs) (map (numbers s (suc low)) vs))
+    woven_old =
+        weave_numbers s (suc low) n
+        ∙ ap (λ zs. weave zs (map (numbers s (suc low)) ks)) xs_parts
+        ∙ ap (λ zs. weave (take j xs ++ (x ∷ drop (j + 1) xs)) (map (numbers s (suc low)) zs)) ks_parts
+        ∙ ap (weave (take j xs ++ (x ∷ drop (j + 1) xs))) (run_lists s s (suc low) n us (l ∷ r ∷ []) vs (l ∷ r ∷ []) same_run)
+        ∙ weave_splice (take j xs) (x ∷ []) (drop (j + 1) xs) (map (numbers s (suc low)) us) (numbers s (suc low) l) (numbers s (suc low) r ∷ []) (map (numbers s (suc low)) vs) (omega (arith, front_many, us_many, length-map us (numbers s (suc low)))) refl
+        ∙ ap (λ zs. front_of (take j xs) (map (numbers s (suc low)) us) ++ ((numbers s (suc low) l ++ (x ∷ zs)) ++ rest_of (drop (j + 1) xs) (map (numbers s (suc low)) vs))) (append-nil (numbers s (suc low) r))
+
+    new_listed : weave new_xs (map (numbers t (suc low)) new_ks) ≡ numbers s (suc (suc low)) n
+    new_listed =
+        ap (weave new_xs) (run_lists s t (suc low) n us (l ∷ r ∷ []) vs (tops l split) pair_run)
+        ∙ woven split ∙ rw rejoins.listed refl ∙ sym woven_old
+
+    -- what `set_pair` writes
+    pub pair_children : (cut : Option Split) → take (j + 1) ks ++ (rights cut ++ vs) ≡ us ++ (tops l cut ++ vs)
+    pair_children None = ap (λ zs. zs ++ vs) (take_more ks j 0 (omega (arith, many, levelled.within))) ∙ append_assoc us (l ∷ []) vs
+    pair_children (Some cut) = ap (λ zs. zs ++ (cut.right ∷ vs)) (take_more ks j 0 (omega (arith, many, levelled.within))) ∙ append_assoc us (l ∷ []) (cut.right ∷ vs)
+
+    module _ (u : Slab Node) (written : Writes t u n new_xs new_ks) where
+      pub levelled_shrinks : Shrinks s u (suc low) n (numbers s (suc (suc low)) n)
+      levelled_shrinks =
+          let holds = written_holds t u (suc low) n new_xs new_ks new_content written in
+          record {
+            listed = held_numbers t u (suc low) n new_xs new_ks holds ∙ new_listed;
+            moved = subst (λ zs. Moves s u (used s (suc (suc low)) n) zs) (sym (held_used t u (suc low) n new_xs new_ks holds)) (Moves-then s t u (used s (suc (suc low)) n) (n ∷ flat_map (used t (suc low)) new_ks) (n ∷ flat_map (used t (suc low)) new_ks) (run_moved s t (suc low) n us (l ∷ r ∷ []) vs (tops l split) pair_run) (Writes-moves t u n new_xs new_ks (flat_map (used t (suc low)) new_ks) written));
+            shape = λ least more. held_shape t u (suc low) n new_xs new_ks holds least (omega (arith, new_length, more)) (omega (arith, new_length, few split, levelled.node.fits)) new_content.branches new_content.shaped;
+          }
+
+      pub levelled_gap : (side : ℕ) (g h : Gap) → turn h ≡ j + side → inside h ≡ g → IsSeat t (suc low) (separators split) (tops l split) side g → IsGap u (suc low) n h × (place u (suc low) n h ≡ length (before xs (map (numbers s (suc low)) ks) j) + seat_place t (suc low) (separators split) (tops l split) side g)
+      levelled_gap side g h at into seat =
+          let run = seat_run t low us (tops l split) vs (take j xs) (separators split) (drop (j + 1) xs) j side g us_many front_many (tops_many split) seat in
+          let holds = written_holds t u (suc low) n new_xs new_ks new_content written in
+          let agree = written_agree t u (suc low) n new_xs new_ks new_content written in
+          let gap = seat_written t u n new_xs new_ks (j + side) g h (suc low) holds agree (λ none. absurd (omega (arith, none))) (λ some. at) (λ some. into) run.0 in
+          let front = length-before xs (map (numbers s (suc low)) ks) j (omega (arith, levelled.within)) (omega (arith, many, levelled.within, length-map ks (numbers s (suc low)))) in
+          let same : map (numbers t (suc low)) us ≡ take j (map (numbers s (suc low)) ks) = (same_before s t (suc low) n us (l ∷ r ∷ []) vs (tops l split) pair_run).numbers_same ∙ sym (take-map (numbers s (suc low)) j ks) in
+          (gap.0, omega (arith, gap.1, run.1, front, ap (sum_by length) same))
