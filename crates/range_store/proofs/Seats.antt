@@ -140,3 +140,7 @@ seat_side s d xs ks i g seat = seat.0
 pub seat_inside : (s : Slab Node) (d : ℕ) (xs ks : List ℕ) (i : ℕ) (g : Gap) → IsSeat s (suc d) xs ks i g → IsGap s d (get_or ks i 0) g
 unfolding IsSeat
 seat_inside s d xs ks i g seat = seat.1
+
+pub seat_place_inner : (s : Slab Node) (d : ℕ) (xs ks : List ℕ) (i : ℕ) (g : Gap) → seat_place s (suc d) xs ks i g ≡ length (before xs (map (numbers s (suc d)) ks) i) + place s d (get_or ks i 0) g
+unfolding seat_place
+seat_place_inner s d xs ks i g = refl
