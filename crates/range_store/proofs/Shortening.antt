@@ -73,13 +73,16 @@ module _ (s t : Slab Node) (b n i : ℕ) (list : List ℕ) (inner : b ≢ 0) (sh
 
   pub kid_listed : numbers t (suc b) n ≡ before xs lists i ++ (list ++ after xs lists i)
   kid_listed =
-      let woven = weave_splice (take i xs) [] (drop i xs) (map (numbers s b) us) list [] (map (numbers s b) vs) (omega (arith, length-take-le i xs low, length-take-le i ks (omega (arith, many)), length-map us (numbers s b))) refl in
+      let L = map (numbers s b) us in
+      let R = map (numbers s b) vs in
+      let woven = weave_splice (take i xs) [] (drop i xs) L (numbers t b kid) [] R (omega (arith, length-take-le i xs low, length-take-le i ks (omega (arith, many)), length-map us (numbers s b))) refl in
+      let middle = ap (λ zs. front_of (take i xs) L ++ (zs ++ rest_of (drop i xs) R)) (append-nil (numbers t b kid) ∙ listed) in
+      let sides : front_of (take i xs) (map (numbers s b) us) ++ (list ++ rest_of (drop i xs) (map (numbers s b) vs)) ≡ before xs lists i ++ (list ++ after xs lists i) = rw (← take-map (numbers s b) i ks, ← drop-map (numbers s b) (i + 1) ks) refl in
       weave_numbers t b n
       ∙ ap (λ zs. weave zs (map (numbers t b) (children_of (get t n)))) (ap items_of kid_kept ∙ sym (take-append-drop i xs))
       ∙ ap (λ zs. weave (take i xs ++ drop i xs) (map (numbers t b) zs)) (ap children_of kid_kept ∙ ks_parts)
       ∙ ap (weave (take i xs ++ drop i xs)) (run_lists s t b n us (kid ∷ []) vs (kid ∷ []) kid_run)
-      ∙ rw listed (woven ∙ ap (λ zs. front_of (take i xs) (map (numbers s b) us) ++ (zs ++ rest_of (drop i xs) (map (numbers s b) vs))) (append-nil list))
-      ∙ rw (take-map (numbers s b) i ks, drop-map (numbers s b) (i + 1) ks) refl
+      ∙ woven ∙ middle ∙ sides
 
   -- what stands before the child
   pub kid_front : length (before (items_of (get t n)) (map (numbers t b) (children_of (get t n))) i) ≡ length (before xs lists i)

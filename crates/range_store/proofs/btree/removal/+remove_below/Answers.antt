@@ -62,7 +62,7 @@ mend-requires-clause-gap t c =
     let child = rw (c.child_at-child.ensures, c.first_turn-index.ensures, c.seen_inside.ensures) at c.remove_below-inner.ensures.shrinks in
     let listed = rw back at child.listed in
     let moved = rw back at child.moved in
-    let gap = rw (c.child_at-child.ensures, c.first_turn-index.ensures, c.seen_inside.ensures) at c.remove_below-inner.ensures.gap in
+    let gap = rw (c.child_at-child.ensures, c.first_turn-index.ensures) at c.remove_below-inner.ensures.gap in
     rw (c.first_turn-index.ensures, kid_kept c.args.nodes.now c.remove_below-inner.new.nodes c.args.below c.args.number i _ c.if-below-eq0.false c.requires.shaped c.requires.owned low listed moved) gap
 
 pub returns-clause-shrinks : goal.returns-clause-shrinks
