@@ -1,5 +1,6 @@
 -- What a slab of nodes means: the numbers of the items in order, the nodes in use, and the shape.
 use Rattle.std.specs.Prelude.{◌≡◌, ◌≢◌, ◌⊎◌, ℕ, zero, suc, ◌+◌, ◌-◌, ◌*◌, ◌^◌, ◌<◌, ◌≤◌, List, [], ◌∷◌, ◌++◌, length, map, take, drop, Option, Some, None, IsSome, is_some, cond, slice_index}
+use Rattle.std.specs.Coded.{×_prop, Unit-prop}
 use Rattle.std.specs.List.{All, flat_map, insert}
 use Rattle.slab.specs.Slab.{Slab, get, slab_len}
 use Rattle.range_store.specs.Occurrences.{occurrences}
@@ -211,3 +212,18 @@ pub record IsRoomy (s : Slab Node) (levels root : ℕ) : Type 0 where
   pub tree : IsTree s levels root
   pub fits : length (numbers s levels root) ≤ LEAST * s.capacity
   pub counted : length (numbers s levels root) < 2 ^ 64
+
+-- these facts have one proof each
+unfoldable pub Shaped-prop : (s : Slab Node) (d n : ℕ) → IsProp (Shaped s d n)
+Shaped-prop s zero n = Unit-prop
+Shaped-prop s (suc d) n = ×_prop (hlevel) (hlevel (Shaped-prop s d))
+
+pub ShapedBut-prop : (least most : ℕ) (s : Slab Node) (d n : ℕ) → IsProp (ShapedBut least most s d n)
+ShapedBut-prop least most s d n = hlevel (Shaped-prop s d)
+
+pub IsRoot-prop : (s : Slab Node) (d n : ℕ) → IsProp (IsRoot s d n)
+IsRoot-prop s zero n = Unit-prop
+IsRoot-prop s (suc d) n = ShapedBut-prop 1 MOST s d n
+
+pub IsRoomy-prop : (s : Slab Node) (levels root : ℕ) → IsProp (IsRoomy s levels root)
+IsRoomy-prop s levels root = hlevel (IsRoot-prop s levels root)

@@ -1,5 +1,5 @@
 //! A list of numbers, kept as a B-tree.
-ghost use Rattle.range_store.specs.Nodes.{IsRoomy};
+ghost use Rattle.range_store.specs.Nodes.{IsRoomy, IsRoomy-prop};
 
 use crate::btree::node::Node;
 use slab::Slab;
@@ -10,5 +10,5 @@ pub struct NumberTree {
     pub nodes: Slab<Node>,
     pub root: usize,
     pub levels: usize,
-    ghost whole: { IsRoomy nodes levels root },
+    ghost whole: { IsRoomy nodes levels root } by { IsRoomy-prop nodes levels root },
 }

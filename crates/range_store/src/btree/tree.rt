@@ -6,7 +6,7 @@ ghost use Rattle.range_store.specs.Depth.{HasLevels};
 ghost use Rattle.range_store.specs.Falling.{Falls, passes};
 ghost use Rattle.range_store.specs.Gaps.{IsLast};
 ghost use Rattle.range_store.specs.Listed.{Stored};
-ghost use Rattle.range_store.specs.Trees.{tree_numbers, tree_room, IsTreeGap, tree_place, IsAt, place_before, gap_or_end};
+ghost use Rattle.range_store.specs.Trees.{tree_numbers, tree_room, IsTreeGap, tree_place, IsAt, gap_or_end};
 
 use crate::btree::number_tree::NumberTree;
 use crate::btree::insertion::insert_below;
