@@ -1,6 +1,8 @@
 -- What a slab of nodes means: the numbers of the items in order, the nodes in use, and the shape.
 use Rattle.std.specs.Prelude.{◌≡◌, ◌≢◌, ◌⊎◌, ℕ, zero, suc, ◌+◌, ◌-◌, ◌*◌, ◌^◌, ◌<◌, ◌≤◌, List, [], ◌∷◌, ◌++◌, length, map, take, drop, Option, Some, None, IsSome, is_some, cond, slice_index}
-use Rattle.std.specs.Coded.{×_prop, Unit-prop}
+use Rattle.std.specs.Coded.{×_prop, Unit-prop, le_prop}
+use Rattle.std.proofs.Math.Nat.{ℕ_set}
+use mathlib.Core.Bool.{Bool-set}
 use Rattle.std.specs.List.{All, flat_map, insert}
 use Rattle.slab.specs.Slab.{Slab, get, slab_len}
 use Rattle.range_store.specs.Occurrences.{occurrences}
@@ -214,16 +216,23 @@ pub record IsRoomy (s : Slab Node) (levels root : ℕ) : Type 0 where
   pub counted : length (numbers s levels root) < 2 ^ 64
 
 -- these facts have one proof each
-unfoldable pub Shaped-prop : (s : Slab Node) (d n : ℕ) → IsProp (Shaped s d n)
+IsNode-prop : (least most : ℕ) (s : Slab Node) (d n : ℕ) → IsProp (IsNode least most s d n)
+IsNode-prop least most s d n = hlevel (le_prop, ℕ_set, Bool-set)
+
+All_of-prop : (P : ℕ → Type 0) → ((n : ℕ) → IsProp (P n)) → (ns : List ℕ) → IsProp (All P ns)
+All_of-prop P each ns = hlevel each
+
+pub Shaped-prop : (s : Slab Node) (d n : ℕ) → IsProp (Shaped s d n)
+unfolding Shaped
 Shaped-prop s zero n = Unit-prop
-Shaped-prop s (suc d) n = ×_prop (hlevel) (hlevel (Shaped-prop s d))
+Shaped-prop s (suc d) n = ×_prop (IsNode-prop LEAST MOST s d n) (All_of-prop (Shaped s d) (Shaped-prop s d) (children_of (get s n)))
 
 pub ShapedBut-prop : (least most : ℕ) (s : Slab Node) (d n : ℕ) → IsProp (ShapedBut least most s d n)
-ShapedBut-prop least most s d n = hlevel (Shaped-prop s d)
+ShapedBut-prop least most s d n = hlevel (IsNode-prop least most s d n, All_of-prop (Shaped s d) (Shaped-prop s d) (children_of (get s n)))
 
 pub IsRoot-prop : (s : Slab Node) (d n : ℕ) → IsProp (IsRoot s d n)
 IsRoot-prop s zero n = Unit-prop
 IsRoot-prop s (suc d) n = ShapedBut-prop 1 MOST s d n
 
 pub IsRoomy-prop : (s : Slab Node) (levels root : ℕ) → IsProp (IsRoomy s levels root)
-IsRoomy-prop s levels root = hlevel (IsRoot-prop s levels root)
+IsRoomy-prop s levels root = hlevel (IsRoot-prop s levels root, le_prop, ℕ_set)

@@ -16,9 +16,9 @@ abbrev pub tree_room : NumberTree → ℕ
 tree_room t = LEAST * t.nodes.capacity - length (tree_numbers t)
 
 -- an empty tree has no gap
-pub record IsTreeGap (t : NumberTree) (gap : Gap) : Type 0 where
+pub record IsTreeGap (t : NumberTree) (point : Gap) : Type 0 where
   pub some : 0 < t.levels
-  pub gap : IsGap t.nodes (t.levels - 1) t.root gap
+  pub gap : IsGap t.nodes (t.levels - 1) t.root point
 
 abbrev pub tree_place : NumberTree → Gap → ℕ
 tree_place t gap = place t.nodes (t.levels - 1) t.root gap

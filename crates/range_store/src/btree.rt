@@ -6,7 +6,7 @@ ghost use Rattle.std.proofs.Common.{refl};
 ghost use Rattle.slab.specs.Slab.{slab_len};
 ghost use Rattle.range_store.specs.Depth.{HasLevels};
 ghost use Rattle.range_store.specs.Listed.{listed, IsStorage};
-ghost use Rattle.range_store.specs.Places.{place_before};
+ghost use Rattle.range_store.specs.Places.{place_before, IsAt};
 ghost use Rattle.range_store.specs.Trees.{tree_numbers, tree_room, IsTreeGap, gap_or_end};
 
 mod insertion;
@@ -60,7 +60,7 @@ impl<T> BoxStorage<T> {
         requires { IsGood self.old p }
         ensures removed { result.0 ≡ slice_index_or (box_items self.old) (box_rank self.old p) result.0 }
         ensures list { box_items self.new ≡ remove (box_items self.old) (box_rank self.old p) }
-        ensures following { MatchOption result.1 (length (tree_numbers self.new.tree) ≡ box_rank self.old p) (λ q. IsGood self.new q.found × (box_rank self.new q.found ≡ box_rank self.old p)) }
+        ensures following { IsAt (λ q. IsGood self.new q.found) (λ q. box_rank self.new q.found) (length (box_items self.new)) result.1 (box_rank self.old p) }
         ensures items_space { self.old.items.capacity - slab_len self.old.items ≤ self.new.items.capacity - slab_len self.new.items }
         ensures tree_space { tree_room self.old.tree ≤ tree_room self.new.tree }
     {
@@ -173,6 +173,7 @@ impl<T: Drop> Storage<T> for BoxStorage<T> {
     {
         let gap = self.gap_at(before);
         let number = self.items.insert_reserved(item);
+        let _many = self.items.len();
         let gap = self.tree.insert(gap, number);
         BoxPosition {
             found: Found { number, gap },
