@@ -1,13 +1,8 @@
-use Rattle.std.proofs.Common.{rules, ◌≡◌, ℕ, ◌+◌, ◌-◌, ◌*◌, ◌<◌, ◌≤◌, ◌^◌, [], length, slice_index, insert, remove, OnOk, IfOk, MatchOption, count_by, None, Some, ◌/◌, ◌%◌, Bool, true, false, nat_eq, nat_lt, List, ◌∷◌, ◌++◌, slice_index_or, slice_set, bit_and, bit_or, Fits, w8, w32, w64, Bor, MutBor}
-use Rattle.std.specs.Option.{ForSome}
-use Rattle.range_store.specs.Counting.{AddsSteps}
-use Rattle.range_store.specs.Depth.{HasLevels}
-use Rattle.range_store.specs.Falling.{Falls, passes}
-use Rattle.range_store.specs.Gaps.{IsLast}
-use Rattle.range_store.specs.Listed.{Stored}
-use Rattle.range_store.specs.Trees.{tree_numbers, tree_room, IsTreeGap, tree_place, IsAt, gap_or_end}
+use Rattle.std.proofs.Common.{length, ap, arith}
+use Rattle.range_store.proofs.Rank.{IsTree-none, numbers_none}
 use Rattle.range_store.proofs.btree.number_tree.NumberTree.new.Goals as goal
 
--- src/btree/tree.rt:24:5
 pub invariant_of-result : goal.invariant_of-result
-invariant_of-result c = ?
+invariant_of-result c =
+    let none = ap length (numbers_none c.new.result 0) in
+    record { whole = record { tree = IsTree-none c.new.result 0 c.new.ensures.empty; fits = omega (arith, none); counted = omega (arith, none) } }
