@@ -1,5 +1,5 @@
 -- A whole tree after an insertion: of the first item, below the root, and with a cut of the root.
-use Rattle.std.proofs.Common.{◌≡◌, ℕ, zero, suc, ◌+◌, ◌-◌, ◌*◌, ◌<◌, ◌≤◌, List, [], ◌∷◌, ◌++◌, length, map, refl, sym, ap, ◌∙◌, inl, inr, arith, None, Some, subst}
+use Rattle.std.proofs.Common.{◌≡◌, ℕ, zero, suc, ◌+◌, ◌-◌, ◌*◌, ◌^◌, ◌<◌, ◌≤◌, List, [], ◌∷◌, ◌++◌, length, map, refl, sym, ap, ◌∙◌, inl, inr, arith, None, Some, subst}
 use Rattle.std.specs.List.{All, flat_map, insert}
 use Rattle.std.proofs.lemmas.List.{append-nil, length-append}
 use Rattle.std.proofs.lemmas.List.Edits.{length-insert}
@@ -56,14 +56,19 @@ one_more s (suc d) root some tree room =
     let level : suc d - 1 ≡ d = omega arith in
     rw level (record { filled = omega (arith, tree.len, room); few = omega (arith, tree.len, room, tree.shaped.node.enough) })
 
--- what a tree is after an insertion, and where a gap lies
-pub record IsPlanted (s : Slab Node) (levels root : ℕ) (list : List ℕ) (g : Gap) (rank : ℕ) : Type 0 where
+-- a tree with this list
+pub record IsPlanted (s : Slab Node) (levels root : ℕ) (list : List ℕ) : Type 0 where
   pub tree : IsTree s levels root
   pub numbers_are : numbers s levels root ≡ list
-  pub gap : IsGap s (levels - 1) root g
-  pub place_is : place s (levels - 1) root g ≡ rank
 
-module _ (s t : Slab Node) (d root side : ℕ) (list : List ℕ) (g : Gap) (tree : IsTree s (suc d) root) (step : Replaces s t d root None list) where
+pub planted_roomy : (s : Slab Node) (levels root : ℕ) (list : List ℕ) → IsPlanted s levels root list → length list ≤ LEAST * s.capacity → length list < 2 ^ 64 → IsRoomy s levels root
+planted_roomy s levels root list planted fits counted = record {
+  tree = planted.tree;
+  fits = omega (arith, ap length planted.numbers_are, fits);
+  counted = omega (arith, ap length planted.numbers_are, counted);
+}
+
+module _ (s t : Slab Node) (d root : ℕ) (list : List ℕ) (tree : IsTree s (suc d) root) (step : Replaces s t d root None list) where
   whole : used t (suc d) root ++ [] ≡ used t (suc d) root
   whole = append-nil (used t (suc d) root)
 
@@ -74,22 +79,16 @@ module _ (s t : Slab Node) (d root side : ℕ) (list : List ℕ) (g : Gap) (tree
     len = omega (arith, step.moved.len, tree.len, ap length whole);
   }
 
-  kept_seat : IsSeat t (suc d) [] (root ∷ []) side g → IsGap t d root g × (place t d root g ≡ seat_place t (suc d) [] (root ∷ []) side g)
-  unfolding IsSeat seat_place
-  kept_seat seat = let first : side ≡ 0 = omega (arith, seat.0) in (rw first at seat.1, rw first refl)
-
-pub kept_root : (s t : Slab Node) (levels root side : ℕ) (list : List ℕ) (g : Gap) → 0 < levels → IsTree s levels root → Replaces s t (levels - 1) root None list → IsSeat t (suc (levels - 1)) [] (root ∷ []) side g → IsPlanted t levels root list g (seat_place t (suc (levels - 1)) [] (root ∷ []) side g)
-kept_root s t zero root side list g some tree step seat = absurd (omega arith)
-kept_root s t (suc d) root side list g some tree step' seat' =
+pub kept_root : (s t : Slab Node) (levels root : ℕ) (list : List ℕ) → 0 < levels → IsTree s levels root → Replaces s t (levels - 1) root None list → IsPlanted t levels root list
+kept_root s t zero root list some tree step = absurd (omega arith)
+kept_root s t (suc d) root list some tree step' =
     let level : suc d - 1 ≡ d = omega arith in
     let step = rw level at step' in
-    let gap = kept_seat s t d root side list g tree step (rw level at seat') in
-    record {
-      tree = kept_tree s t d root side list g tree step;
-      numbers_are = sym (append-nil (numbers t (suc d) root)) ∙ step.listed;
-      gap = rw level gap.0;
-      place_is = rw level gap.1;
-    }
+    record { tree = kept_tree s t d root list tree step; numbers_are = sym (append-nil (numbers t (suc d) root)) ∙ step.listed }
+
+pub kept_gap : (t : Slab Node) (d root side : ℕ) (g : Gap) → IsSeat t (suc d) [] (root ∷ []) side g → IsGap t d root g × (place t d root g ≡ seat_place t (suc d) [] (root ∷ []) side g)
+unfolding IsSeat seat_place
+kept_gap t d root side g seat = let first : side ≡ 0 = omega (arith, seat.0) in (rw first at seat.1, rw first (omega arith))
 
 module _ (s t u : Slab Node) (d root n : ℕ) (split : Split) (list : List ℕ) (tree : IsTree s (suc d) root) (step : Replaces s t d root (Some split) list) (stored : Stores t u n (split.middle ∷ []) (root ∷ split.right ∷ [])) where
   abbrev ts : List ℕ
@@ -124,20 +123,21 @@ module _ (s t u : Slab Node) (d root n : ℕ) (split : Split) (list : List ℕ) 
   taller_seat side g h at within seat =
       seat_written t u n (split.middle ∷ []) ts side g h (suc d) holds agree (λ no. absurd (omega (arith, no))) (λ some. at) (λ some. within) seat
 
-pub taller_root : (s t u : Slab Node) (levels root n side : ℕ) (split : Split) (list : List ℕ) (g h : Gap) → 0 < levels → IsTree s levels root → Replaces s t (levels - 1) root (Some split) list → Stores t u n (split.middle ∷ []) (root ∷ split.right ∷ []) → turn h ≡ side → inside h ≡ g → IsSeat t (suc (levels - 1)) (split.middle ∷ []) (root ∷ split.right ∷ []) side g → IsPlanted u (levels + 1) n list h (seat_place t (suc (levels - 1)) (split.middle ∷ []) (root ∷ split.right ∷ []) side g)
-taller_root s t u zero root n side split list g h some tree step stored at within seat = absurd (omega arith)
-taller_root s t u (suc d) root n side split list g h some tree step' stored at within seat' =
+pub taller_root : (s t u : Slab Node) (levels root n : ℕ) (split : Split) (list : List ℕ) → 0 < levels → IsTree s levels root → Replaces s t (levels - 1) root (Some split) list → Stores t u n (split.middle ∷ []) (root ∷ split.right ∷ []) → IsPlanted u (levels + 1) n list
+taller_root s t u zero root n split list some tree step stored = absurd (omega arith)
+taller_root s t u (suc d) root n split list some tree step' stored =
     let level : suc d - 1 ≡ d = omega arith in
     let more : suc d + 1 ≡ suc (suc d) = omega arith in
-    let lower : suc (suc d) - 1 ≡ suc d = omega arith in
     let step = rw level at step' in
-    let gap = taller_seat s t u d root n split list tree step stored side g h at within (rw level at seat') in
-    rw (more, level) (record {
-      tree = taller_tree s t u d root n split list tree step stored;
-      numbers_are = taller_numbers s t u d root n split list tree step stored;
-      gap = rw lower gap.0;
-      place_is = rw lower gap.1;
-    })
+    rw more (record { tree = taller_tree s t u d root n split list tree step stored; numbers_are = taller_numbers s t u d root n split list tree step stored })
+
+pub taller_gap : (s t u : Slab Node) (levels root n side : ℕ) (split : Split) (list : List ℕ) (g h : Gap) → 0 < levels → IsTree s levels root → Replaces s t (levels - 1) root (Some split) list → Stores t u n (split.middle ∷ []) (root ∷ split.right ∷ []) → turn h ≡ side → inside h ≡ g → IsSeat t (suc (levels - 1)) (split.middle ∷ []) (root ∷ split.right ∷ []) side g → IsGap u (levels + 1 - 1) n h × (place u (levels + 1 - 1) n h ≡ seat_place t (suc (levels - 1)) (split.middle ∷ []) (root ∷ split.right ∷ []) side g)
+taller_gap s t u zero root n side split list g h some tree step stored at within seat = absurd (omega arith)
+taller_gap s t u (suc d) root n side split list g h some tree step' stored at within seat' =
+    let level : suc d - 1 ≡ d = omega arith in
+    let lower : suc d + 1 - 1 ≡ suc d = omega arith in
+    let step = rw level at step' in
+    rw (level, lower) (taller_seat s t u d root n split list tree step stored side g h at within (rw level at seat'))
 
 -- after a cut of the root there is capacity for a new one
 pub taller_room : (s t : Slab Node) (levels root : ℕ) (split : Split) (list : List ℕ) → 0 < levels → length list ≤ LEAST * s.capacity → IsTree s levels root → Replaces s t (levels - 1) root (Some split) list → HasRoomFor t 1
