@@ -1,8 +1,7 @@
-use Rattle.std.proofs.Common.{◌≡◌, ℕ, suc, ◌+◌, ◌-◌, ◌<◌, ◌≤◌, length, get_or, map, refl, sym, ap, ◌∙◌, arith, true}
-use Rattle.std.proofs.Math.ListN.{set}
+use Rattle.std.proofs.Common.{◌≡◌, ◌+◌, ◌-◌, length, get_or, map, refl, sym, ◌∙◌, arith}
 use Rattle.slab.specs.Slab.{get}
 use Rattle.range_store.specs.Nodes.{items_of, children_of, numbers, before}
-use Rattle.range_store.specs.Gaps.{turn, inside, IsGap, place}
+use Rattle.range_store.specs.Gaps.{turn, inside, place}
 use Rattle.range_store.proofs.Gaps.{leaf_place}
 use Rattle.range_store.proofs.Growing.{kid_owned}
 use Rattle.range_store.proofs.Setting.{rewritten_above, kept_above, rewritten_here, kept_here, place_here}
