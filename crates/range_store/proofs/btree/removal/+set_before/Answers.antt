@@ -88,5 +88,4 @@ returns-clause-kept t c =
     let none = c.set_before.ensures.none c.if-set_before.false in
     let next : turn c.args.gap - 1 + 1 ≡ turn c.args.gap = omega (arith, c.first_turn-index.ensures, c.if-index-eq0.false) in
     let low = below_turn c.args.nodes.now c.args.below c.args.number c.if-below-eq0.false c.requires.shaped c.args.gap c.requires.gap in
-    let written = rw (none.1, c.first_turn-index.ensures) at c.set_item.ensures in
-    kept_here c.args.nodes.now c.set_item.new.nodes c.args.below c.args.number (turn c.args.gap - 1) c.args.item c.if-below-eq0.false c.requires.shaped c.requires.owned (omega (arith, low, next)) written c.args.gap c.requires.gap
+    kept_here c.args.nodes.now c.set_item.new.nodes c.args.below c.args.number (turn c.args.gap - 1) c.args.item c.if-below-eq0.false c.requires.shaped c.requires.owned (omega (arith, low, next)) (rw (none.1, c.first_turn-index.ensures) at c.set_item.ensures) c.args.gap c.requires.gap
