@@ -5,7 +5,7 @@ use Rattle.std.specs.List.{remove}
 use Rattle.std.specs.Option.{ForSome}
 use Rattle.std.proofs.lemmas.List.{nil_from_length}
 use Rattle.range_store.specs.Gaps.{IsLast}
-use Rattle.range_store.specs.Holding.{box_items, box_length, box_rank, good_in_range, IsGood}
+use Rattle.range_store.specs.Holding.{box_items, box_length, box_rank, IsGood}
 use Rattle.range_store.specs.Places.{place_before, IsAt}
 use Rattle.range_store.specs.Trees.{tree_numbers, tree_place, gap_or_end, IsTreeGap}
 use Rattle.range_store.specs.Trees as trees
