@@ -8,7 +8,7 @@ use Rattle.range_store.specs.declared.btree.node.Node.{Node}
 use Rattle.range_store.specs.declared.btree.node.TheConstants.{MOST, LEAST}
 use Rattle.range_store.specs.declared.btree.way.TheConstants.{WIDTH}
 use Rattle.range_store.specs.declared.btree.way.Gap.{Gap}
-use Rattle.range_store.specs.Nodes.{items_of, children_of, numbers, before, ShapedBut}
+use Rattle.range_store.specs.Nodes.{items_of, children_of, numbers, before, after, ShapedBut}
 use Rattle.range_store.specs.Gaps.{turn, inside, IsGap, place}
 use Rattle.range_store.proofs.Below.{wider, numbers_leaf, numbers_at}
 use Rattle.range_store.proofs.Edits.{set_parts, remove_parts, remove_behind}
@@ -48,14 +48,14 @@ leaf_item s zero n g least most shaped low is =
     let within : g.index < length (items_of (get s n)) = rw is.0 at low in
     rw (is.0, all) (refl, within)
 leaf_item s (suc d) n g least most shaped low is =
-    let i : ℕ = turn g in
     let kid = get_or (children_of (get s n)) (turn g) 0 in
     let within : turn g ≤ length (items_of (get s n)) = omega (arith, is.0, shaped.node.branches) in
     let below = leaf_item s d kid (inside g) LEAST MOST (kid_shaped least most s d n (turn g) shaped within) low is.1 in
     let whole = numbers_at least most s (suc d) n (omega arith) shaped (turn g) within in
-    let less : length (before (items_of (get s n)) (map (numbers s (suc d)) (children_of (get s n))) (turn g)) + place s d kid (inside g) < length (numbers s (suc (suc d)) n) =
-    omega (arith, below.1, ap length whole, length-append (before (items_of (get s n)) (map (numbers s (suc d)) (children_of (get s n))) (turn g)) _, length-append (numbers s (suc d) kid) _) in
-    (rank_in_child least most s (suc d) n (turn g) (place s d kid (inside g)) _ (omega arith) shaped within refl below.1 ∙ below.0, less)
+    let front = before (items_of (get s n)) (map (numbers s (suc d)) (children_of (get s n))) (turn g) in
+    let rest = after (items_of (get s n)) (map (numbers s (suc d)) (children_of (get s n))) (turn g) in
+    let less : length front + place s d kid (inside g) < length (numbers s (suc (suc d)) n) = omega (arith, below.1, ap length whole, length-append front (numbers s (suc d) kid ++ rest), length-append (numbers s (suc d) kid) rest) in
+    (rank_in_child least most s (suc d) n (turn g) (place s d kid (inside g)) (length front + place s d kid (inside g)) (omega arith) shaped within refl below.1 ∙ below.0, less)
 
 -- an item that takes its predecessor's place, and then goes
 module _ (xs : List ℕ) (q : ℕ) (within : q + 1 < length xs) where
