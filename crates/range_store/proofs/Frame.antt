@@ -5,7 +5,7 @@ use Rattle.std.proofs.lemmas.List.Elements.{All-nil, All-cons, All-head, All-tai
 use Rattle.slab.specs.Slab.{Slab, get}
 use Rattle.range_store.specs.declared.btree.node.Node.{Node}
 use Rattle.range_store.specs.declared.btree.node.TheConstants.{MOST, LEAST}
-use Rattle.range_store.specs.Nodes.{children_of, numbers, used, Shaped, ShapedBut, IsNode}
+use Rattle.range_store.specs.Nodes.{children_of, numbers, used, Shaped, IsNode}
 use Rattle.range_store.specs.Occurrences.{occurrences, occurrences-append, occurrences_here}
 
 -- the slabs agree at each of these nodes
@@ -58,10 +58,3 @@ same_below s t (suc d) n agree =
 
 pub same_children : (s t : Slab Node) (d : ℕ) (ns : List ℕ) → AgreeAt s t (flat_map (used s d) ns) → SameChildren s t d ns
 same_children s t d ns agree = same_children_from s t d (same_below s t d) ns agree
-
-pub same_but : (least most : ℕ) (s t : Slab Node) (d n : ℕ) → AgreeAt s t (used s (suc d) n) → ShapedBut least most s d n → ShapedBut least most t d n
-unfolding used
-same_but least most s t d n agree shaped =
-    let here : get t n ≡ get s n = agree n (occurrences_here n (flat_map (used s d) (children_of (get s n)))) in
-    let children = same_children s t d (children_of (get s n)) (AgreeAt-right s t (n ∷ []) (flat_map (used s d) (children_of (get s n))) agree) in
-    record { node = IsNode-same least most s t d n here shaped.node; children = rw here (children.shaped_same shaped.children) }

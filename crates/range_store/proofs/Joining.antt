@@ -14,7 +14,7 @@ use Rattle.range_store.specs.Gaps.{turn, inside, seat_of, IsGap, place, IsSeat, 
 use Rattle.range_store.specs.Contents.{IsContent, IsPair, Rejoins}
 use Rattle.range_store.specs.Occurrences.{occurrences, occurrences-append, occurrences-cons, occurrences_itself}
 use Rattle.range_store.proofs.Weave.{weave_cut}
-use Rattle.range_store.proofs.Frame.{AgreeAt, same_below, same_but, same_children}
+use Rattle.range_store.proofs.Frame.{AgreeAt, same_below, same_children}
 use Rattle.range_store.proofs.Below.{weave_numbers, used_is, numbers_leaf, Shaped-from_but}
 use Rattle.range_store.proofs.Room.{numbers_size}
 use Rattle.range_store.proofs.Moves.{here_le, here_some, SameNodes, Moves-like, Moves-then, Writes-moves, Removes-moves}

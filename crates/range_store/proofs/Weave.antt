@@ -34,24 +34,6 @@ module _ {X : Type 0} where
   weave_cut xs y ys k ks l ls same =
       ap (λ zs. k ++ zs) (rest_of-append xs (y ∷ ys) ks (l ∷ ls) same) ∙ sym (append_assoc k (rest_of xs ks) (y ∷ weave ys (l ∷ ls)))
 
-  -- an item into the list k
-  pub weave-insert : (xs ys : List X) (ks : List (List X)) (k : List X) (ls : List (List X)) (rest : ℕ) (y : X) → length xs ≡ length ks → rest ≤ length k → weave (xs ++ ys) (ks ++ insert k rest y ∷ ls) ≡ insert (weave (xs ++ ys) (ks ++ k ∷ ls)) (length (front_of xs ks) + rest) y
-  weave-insert xs ys ks k ls rest y same within =
-      let right = insert-append_right (front_of xs ks) (k ++ rest_of ys ls) (length (front_of xs ks)) (length (front_of xs ks) + rest) y refl (omega arith) in
-      let offset : length (front_of xs ks) + rest - length (front_of xs ks) ≡ rest = omega arith in
-      let left = insert-append_left k (rest_of ys ls) rest y within in
-      weave_split xs ys ks (insert k rest y) ls same
-      ∙ sym (ap (λ zs. insert zs (length (front_of xs ks) + rest) y) (weave_split xs ys ks k ls same)
-      ∙ right ∙ ap (λ n. front_of xs ks ++ insert (k ++ rest_of ys ls) n y) offset ∙ ap (λ zs. front_of xs ks ++ zs) left)
-
-  -- an item into the list k, which is cut in two
-  pub weave-insert_cut : (xs ys : List X) (ks : List (List X)) (k : List X) (ls : List (List X)) (rest : ℕ) (y : X) (left : List X) (m : X) (right : List X) → length xs ≡ length ks → rest ≤ length k → insert k rest y ≡ left ++ m ∷ right → weave (xs ++ m ∷ ys) (ks ++ left ∷ right ∷ ls) ≡ insert (weave (xs ++ ys) (ks ++ k ∷ ls)) (length (front_of xs ks) + rest) y
-  weave-insert_cut xs ys ks k ls rest y left m right same within cut =
-      weave_split xs (m ∷ ys) ks left (right ∷ ls) same
-      ∙ ap (λ zs. front_of xs ks ++ zs) (sym (append_assoc left (m ∷ right) (rest_of ys ls)) ∙ ap (λ zs. zs ++ rest_of ys ls) (sym cut))
-      ∙ sym (weave_split xs ys ks (insert k rest y) ls same)
-      ∙ weave-insert xs ys ks k ls rest y same within
-
   pub front_of-append : (xs ys : List X) (ks ls : List (List X)) → length xs ≡ length ks → front_of (xs ++ ys) (ks ++ ls) ≡ front_of xs ks ++ front_of ys ls
   front_of-append [] ys [] ls same = refl
   front_of-append [] ys (k ∷ ks) ls same = absurd (omega arith)

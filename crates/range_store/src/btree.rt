@@ -18,8 +18,8 @@ mod tree;
 mod way;
 
 pub use crate::btree::node::{LEAST, MOST};
-use crate::btree::searching::HALVINGS;
 use crate::btree::number_tree::NumberTree;
+use crate::btree::searching::HALVINGS;
 use crate::btree::way::{Found, Gap};
 use crate::storage::{Probe, Storage};
 use slab::Slab;
