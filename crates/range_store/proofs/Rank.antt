@@ -5,10 +5,9 @@ use Rattle.std.proofs.lemmas.Bool.{cases_lt}
 use Rattle.slab.specs.Slab.{Slab, get, slab_len}
 use Rattle.range_store.specs.declared.btree.node.Node.{Node}
 use Rattle.range_store.specs.declared.btree.node.TheConstants.{MOST, LEAST}
-use Rattle.range_store.specs.Nodes.{rest_of, before, after, items_of, children_of, count_of, numbers, used, ShapedBut, IsRoot, IsTree, here}
-use Rattle.range_store.proofs.Below.{children_length, lists_length, numbers_at, IsChild, Shaped-is_child}
+use Rattle.range_store.specs.Nodes.{rest_of, before, after, items_of, children_of, numbers, used, ShapedBut, IsRoot, IsTree, here}
+use Rattle.range_store.proofs.Below.{children_length, lists_length, numbers_at, Shaped-but, numbers_leaf}
 use Rattle.range_store.proofs.Frame.{same_below, same_children, IsNode-same}
-use Rattle.range_store.proofs.Replace.{numbers_leaf}
 use Rattle.range_store.proofs.Room.{used_le_but}
 use Rattle.range_store.specs.Occurrences.{occurrences, occurrences-nil}
 
@@ -82,10 +81,6 @@ IsTree-none s root empty = record {
   len = let nothing : slab_len s ≡ 0 = rw empty refl in omega (arith, nothing, ap length (used_none s root));
 }
 
-pub tree_len : (s : Slab Node) (levels root : ℕ) → 0 < levels → IsTree s levels root → count_of (get s root) ≡ length (numbers s levels root)
-tree_len s zero root some tree = absurd (omega arith)
-tree_len s (suc d) root some tree = tree.shaped.node.counted
-
 pub tree_nodes : (s : Slab Node) (levels root : ℕ) → IsTree s levels root → slab_len s ≤ length (numbers s levels root)
 tree_nodes s zero root tree = omega (arith, tree.len, ap length (used_none s root))
 tree_nodes s (suc d) root tree = omega (arith, tree.len, used_le_but 1 MOST s d root tree.shaped, tree.shaped.node.enough)
@@ -99,9 +94,9 @@ pub tree_present : (s : Slab Node) (levels root : ℕ) → 0 < levels → IsTree
 tree_present s zero root some tree = absurd (omega arith)
 tree_present s (suc d) root some tree = tree.shaped.node.present
 
-pub kid_known : (least most : ℕ) (s : Slab Node) (d n i : ℕ) → 0 < d → ShapedBut least most s d n → i ≤ length (items_of (get s n)) → IsChild s d (get_or (children_of (get s n)) i 0)
-kid_known least most s d n i inner shaped within =
-    Shaped-is_child s d _ inner (shaped.children i 0 (omega (arith, children_length least most s d n inner shaped)))
+pub kid_shaped : (least most : ℕ) (s : Slab Node) (d n i : ℕ) → ShapedBut least most s (suc d) n → i ≤ length (items_of (get s n)) → ShapedBut LEAST MOST s d (get_or (children_of (get s n)) i 0)
+kid_shaped least most s d n i shaped within =
+    Shaped-but s d _ (shaped.children i 0 (omega (arith, shaped.node.branches)))
 
 pub leaf_numbers : (s : Slab Node) (below n : ℕ) → below ≡ 0 → ShapedBut 1 MOST s below n → numbers s (suc below) n ≡ items_of (get s n)
 leaf_numbers s zero n leaf shaped = numbers_leaf s n shaped.node.branches
@@ -117,7 +112,7 @@ module _ (s t : Slab Node) (same : (k : ℕ) → get t k ≡ get s k) (len : sla
 
   pub but_kept : (least most d n : ℕ) → ShapedBut least most s d n → ShapedBut least most t d n
   but_kept least most d n shaped = record {
-    node = IsNode-same least most s t d n (same n) (numbers_kept (suc d) n) (same_children s t d (children_of (get s n)) (λ k among. same k)).numbers_same shaped.node;
+    node = IsNode-same least most s t d n (same n) shaped.node;
     children = rw (same n) ((same_children s t d (children_of (get s n)) (λ k among. same k)).shaped_same shaped.children);
   }
 
