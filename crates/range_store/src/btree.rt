@@ -1,13 +1,10 @@
 //! A container kept as a B-tree.
-ghost use Rattle.std.specs.Prelude.{◌≡◌, ℕ, ◌+◌, ◌-◌, ◌*◌, ◌^◌, ◌<◌, ◌≤◌, List, length, insert, remove, slice_index_or, slice_set, min, MatchOption, OnOk, All, Option, Some, None};
-ghost use Rattle.std.specs.List.{AllZip};
+ghost use Rattle.std.specs.Prelude.{◌≡◌, ◌+◌, ◌-◌, ◌*◌, ◌^◌, ◌<◌, ◌≤◌, length, insert, remove, slice_index_or, MatchOption, Some, None};
 ghost use Rattle.std.specs.Option.{ForSome};
 ghost use Rattle.std.proofs.Common.{refl};
-ghost use Rattle.slab.specs.Slab.{slab_len};
 ghost use Rattle.range_store.specs.Depth.{HasLevels};
-ghost use Rattle.range_store.specs.Listed.{listed, IsStorage};
-ghost use Rattle.range_store.specs.Places.{place_before, IsAt};
-ghost use Rattle.range_store.specs.Trees.{tree_numbers, tree_room, IsTreeGap, gap_or_end};
+ghost use Rattle.range_store.specs.Listed.{IsStorage};
+ghost use Rattle.range_store.specs.Trees.{tree_numbers, IsTreeGap, gap_or_end};
 
 mod insertion;
 mod node;
