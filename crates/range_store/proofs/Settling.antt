@@ -15,6 +15,7 @@ use Rattle.range_store.proofs.Moves.{here_some}
 use Rattle.range_store.proofs.Rank.{numbers_none, used_none}
 use Rattle.range_store.specs.declared.btree.way.Gap.{Gap}
 use Rattle.range_store.specs.Gaps.{turn, inside, IsGap, place}
+use Rattle.range_store.specs.Contents.{IsRewritten}
 
 -- the tree after an item went below its root
 pub loosened : (s t : Slab Node) (levels root : ℕ) (list : List ℕ) → 0 < levels → IsTree s levels root → Shrinks s t (levels - 1) root list → IsLooseTree t levels root
@@ -125,3 +126,16 @@ lowered_gap s t (suc (suc e)) root g more loose empty gone is' =
 
 pub tree_owned : (s : Slab Node) (levels root : ℕ) → IsTree s levels root → (k : ℕ) → occurrences k (used s levels root) ≤ here s k
 tree_owned s levels root tree k = omega (arith, tree.once k)
+
+-- the tree after an item was put in the place of another
+pub rewritten_tree : (s t : Slab Node) (levels root : ℕ) (list : List ℕ) → 0 < levels → IsTree s levels root → IsRewritten s t (levels - 1) root list → IsTree t levels root × (numbers t levels root ≡ list)
+rewritten_tree s t zero root list some tree step = absurd (omega arith)
+rewritten_tree s t (suc d) root list some tree step' =
+    let level : suc d - 1 ≡ d = omega arith in
+    let step = rw level at step' in
+    let whole : IsTree t (suc d) root = record {
+      shaped = step.shape 1 tree.shaped;
+      once = λ k. omega (arith, step.moved.owned k, tree.once k);
+      len = omega (arith, step.moved.len, tree.len);
+    } in
+    (whole, step.listed)

@@ -1,9 +1,9 @@
 -- What becomes of a node when an item went below one of its children.
-use Rattle.std.proofs.Common.{◌≡◌, ◌≢◌, ℕ, zero, suc, ◌+◌, ◌-◌, ◌<◌, ◌≤◌, List, [], ◌∷◌, ◌++◌, length, get_or, take, drop, map, refl, sym, ap, ◌∙◌, subst, arith}
+use Rattle.std.proofs.Common.{◌≡◌, ◌≢◌, ℕ, suc, ◌+◌, ◌-◌, ◌<◌, ◌≤◌, List, [], ◌∷◌, ◌++◌, length, get_or, take, drop, map, refl, sym, ap, ◌∙◌, subst, arith}
 use Rattle.std.specs.List.{All, flat_map, sum_by, remove}
 use Rattle.std.proofs.lemmas.List.{append-nil, length-map, length-take-le, take-map, drop-map, take-append-drop, nil_from_length}
 use Rattle.std.proofs.lemmas.List.Edits.{remove-append_left, remove-append_right, length-remove}
-use Rattle.std.proofs.lemmas.List.Elements.{All-take, All-drop}
+use Rattle.std.proofs.lemmas.List.Elements.{All-append, All-cons, All-take, All-drop}
 use Rattle.slab.specs.Slab.{Slab, get}
 use Rattle.range_store.specs.declared.btree.node.Node.{Node}
 use Rattle.range_store.specs.declared.btree.node.TheConstants.{MOST, LEAST}
@@ -91,6 +91,12 @@ module _ (s t : Slab Node) (b n i : ℕ) (list : List ℕ) (inner : b ≢ 0) (sh
       let first = length-before xs (map (numbers t b) ks) i low (omega (arith, many, length-map ks (numbers t b))) in
       let second = length-before xs lists i low (omega (arith, many, length-map ks (numbers s b))) in
       rw kid_kept (omega (arith, first, second, ap (sum_by length) (take-map (numbers t b) i ks ∙ same)))
+
+  pub kid_children : Shaped t b kid → All (Shaped t b) (children_of (get t n))
+  kid_children shape =
+      let before = (same_before s t b n us (kid ∷ []) vs (kid ∷ []) kid_run).shaped_same (All-take (Shaped s b) i ks shaped.children) in
+      let behind = (same_after s t b n us (kid ∷ []) vs (kid ∷ []) kid_run).shaped_same (All-drop (Shaped s b) (i + 1) ks shaped.children) in
+      rw kid_kept (subst (All (Shaped t b)) (sym ks_parts) (All-append (Shaped t b) us (kid ∷ vs) before (All-cons (Shaped t b) kid vs shape behind)))
 
   level : suc (b - 1) ≡ b
   level = omega arith

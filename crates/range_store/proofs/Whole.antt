@@ -12,7 +12,9 @@ use Rattle.range_store.specs.declared.btree.number_tree.NumberTree.{NumberTree}
 use Rattle.range_store.specs.declared.btree.way.Gap.{Gap}
 use Rattle.range_store.specs.Trees.{tree_numbers, IsTreeGap, tree_place, gap_or_end}
 use Rattle.range_store.specs.Nodes.{numbers, ShapedBut, IsTree, IsRoomy}
+use Rattle.range_store.proofs.Gaps.{place_within}
 use Rattle.range_store.proofs.Levels.{tree_lower}
+use Rattle.range_store.proofs.Rank.{root_shaped}
 
 -- so many levels as a way has digits are enough for all numbers that a `usize` counts
 pub deep : (s : Slab Node) (levels root : ℕ) → IsRoomy s levels root → levels - 1 < DEEPEST
@@ -42,3 +44,9 @@ module _ (t : NumberTree) where
   none_given (Some h) last ends same = absurd (cc)
   none_given None (Some h) ends same = absurd (cc)
   none_given None None ends same = (refl, ends)
+
+-- no gap lies past the end
+pub gap_within : (t : NumberTree) (g : Gap) → IsTreeGap t g → tree_place t g ≤ length (tree_numbers t)
+gap_within t g is =
+    let level : suc (t.levels - 1) ≡ t.levels = omega (arith, is.some) in
+    rw level at (place_within t.nodes (t.levels - 1) t.root g 1 MOST (root_shaped t.nodes t.levels t.root is.some t.whole.tree) is.gap)
