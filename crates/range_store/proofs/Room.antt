@@ -39,10 +39,6 @@ used_le s (suc d) n shaped =
 pub children_le : (s : Slab Node) (d : ℕ) (ns : List ℕ) → All (Shaped s d) ns → LEAST * length (flat_map (used s d) ns) ≤ sizes s d ns
 children_le s d ns shaped = children_le_from s d (used_le s d) ns shaped
 
-pub used_le_but : (least most : ℕ) (s : Slab Node) (d n : ℕ) → ShapedBut least most s d n → LEAST * length (used s (suc d) n) + length (items_of (get s n)) ≤ length (numbers s (suc d) n) + LEAST
-used_le_but least most s d n shaped =
-    omega (arith, ap length (used_is s d n), numbers_size least most s d n shaped, children_le s d (children_of (get s n)) shaped.children)
-
 -- capacity below a node is capacity below each of its children
 pub HasTreeRoom-child : (most : ℕ) (s : Slab Node) (d n i more : ℕ) → 0 < d → i ≤ length (items_of (get s n)) → ShapedBut 1 most s d n → HasTreeRoom s (suc d) n more → HasTreeRoom s d (get_or (children_of (get s n)) i 0) more
 HasTreeRoom-child most s d n i more inner within shaped room =
@@ -64,7 +60,3 @@ HasTreeRoom-child most s d n i more inner within shaped room =
     few_from : (b m : ℕ) → LEAST * slab_len s + (length (numbers s b m) + more) + 1 ≤ LEAST * s.capacity + LEAST * length (used s b m) + LEAST → Shaped s b m → 0 < b → LEAST * slab_len s + (length (numbers s b m) + more) + 1 ≤ LEAST * s.capacity + LEAST * length (used s b m) + length (items_of (get s m))
     few_from zero m kept known some = absurd (omega arith)
     few_from (suc b) m kept known some = omega (arith, kept, (Shaped-but s b m known).node.enough)
-
-pub children_present : (s : Slab Node) (d k : ℕ) (ns : List ℕ) → length ns ≡ child_count d k → All (Shaped s d) ns → All (λ c. IsSome (get s c)) ns
-children_present s zero k ns none shaped = rw (nil_from_length ns none) (All-nil (λ c. IsSome (get s c)))
-children_present s (suc d) k ns some shaped = All-weaker (Shaped s (suc d)) (λ c. IsSome (get s c)) (λ c h. (Shaped-but s d c h).node.present) ns shaped
