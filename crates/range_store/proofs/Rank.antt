@@ -1,12 +1,12 @@
 -- What stands at a rank, and what is known of a whole tree.
-use Rattle.std.proofs.Common.{◌≡◌, ℕ, zero, suc, ◌+◌, ◌-◌, ◌*◌, ◌<◌, ◌≤◌, List, [], ◌∷◌, ◌++◌, length, get_or, drop, map, refl, sym, ap, ◌∙◌, inl, inr, arith, IsSome}
+use Rattle.std.proofs.Common.{◌≡◌, ℕ, zero, suc, ◌+◌, ◌-◌, ◌*◌, ◌<◌, ◌≤◌, List, [], ◌∷◌, ◌++◌, length, get_or, drop, map, refl, sym, ap, ◌∙◌, inl, inr, arith}
 use Rattle.std.proofs.lemmas.List.{length-append, length-drop, drop_more, drop_all, get_or-append-add, get_or_append_left, get_or-append_right}
 use Rattle.std.proofs.lemmas.Bool.{cases_lt}
 use Rattle.slab.specs.Slab.{Slab, get, slab_len}
 use Rattle.range_store.specs.declared.btree.node.Node.{Node}
 use Rattle.range_store.specs.declared.btree.node.TheConstants.{MOST, LEAST}
 use Rattle.range_store.specs.Nodes.{rest_of, before, after, items_of, children_of, numbers, used, ShapedBut, IsRoot, IsTree, here}
-use Rattle.range_store.proofs.Below.{children_length, lists_length, numbers_at, Shaped-but, numbers_leaf}
+use Rattle.range_store.proofs.Below.{lists_length, numbers_at, Shaped-but}
 use Rattle.range_store.proofs.Frame.{same_below, same_children, IsNode-same}
 use Rattle.range_store.specs.Occurrences.{occurrences, occurrences-nil}
 

@@ -1,14 +1,14 @@
 -- A tree has a node for each LEAST of its items at most, so capacity that is counted in items serves its nodes.
-use Rattle.std.proofs.Common.{◌≡◌, ℕ, zero, suc, ◌+◌, ◌-◌, ◌*◌, ◌<◌, ◌≤◌, List, [], ◌∷◌, ◌++◌, length, get_or, take, drop, map, ap, ◌∙◌, arith, IsSome}
+use Rattle.std.proofs.Common.{◌≡◌, ℕ, zero, suc, ◌+◌, ◌*◌, ◌<◌, ◌≤◌, List, [], ◌∷◌, ◌++◌, length, get_or, take, drop, map, ap, ◌∙◌, arith}
 use Rattle.std.specs.List.{All, flat_map, sum_by}
-use Rattle.std.proofs.lemmas.List.{length-append, length-map, map-append, nil_from_length}
+use Rattle.std.proofs.lemmas.List.{length-append, length-map, map-append}
 use Rattle.std.proofs.lemmas.List.Concat.{flat_map-append}
 use Rattle.std.proofs.lemmas.List.Sums.{sum_by-cons, sum_by-append}
-use Rattle.std.proofs.lemmas.List.Elements.{All-nil, All-head, All-tail, All-take, All-drop, All-weaker}
+use Rattle.std.proofs.lemmas.List.Elements.{All-head, All-tail, All-take, All-drop}
 use Rattle.slab.specs.Slab.{Slab, get, slab_len}
 use Rattle.range_store.specs.declared.btree.node.Node.{Node}
 use Rattle.range_store.specs.declared.btree.node.TheConstants.{LEAST, MOST}
-use Rattle.range_store.specs.Nodes.{items_of, children_of, child_count, numbers, used, Shaped, ShapedBut, HasTreeRoom}
+use Rattle.range_store.specs.Nodes.{items_of, children_of, numbers, used, Shaped, ShapedBut, HasTreeRoom}
 use Rattle.range_store.proofs.Below.{weave_numbers, children_length, child_count_cases, used_is, Shaped-but}
 use Rattle.range_store.proofs.Weave.{length-weave, parts}
 

@@ -1,5 +1,5 @@
 -- What a `BoxStorage` holds, and what it is once an item was written.
-use Rattle.std.specs.Prelude.{◌≡◌, ℕ, ◌+◌, ◌-◌, ◌*◌, ◌<◌, ◌^◌, List, length, Option, slice_index, slice_set, min}
+use Rattle.std.specs.Prelude.{◌≡◌, ℕ, ◌-◌, ◌*◌, ◌<◌, ◌^◌, List, length, Option, slice_index, slice_set, min}
 use Rattle.std.proofs.Common.{refl, ap, arith}
 use Rattle.slab.specs.Slab.{slab_len, with_value}
 use Rattle.range_store.specs.Depth.{HasLevels}
