@@ -1,7 +1,7 @@
 -- The ways to gaps, and what stands at one.
-use Rattle.std.proofs.Common.{◌≡◌, ℕ, zero, suc, ◌+◌, ◌-◌, ◌*◌, ◌/◌, ◌%◌, ◌^◌, ◌<◌, ◌≤◌, List, [], ◌∷◌, ◌++◌, length, get_or, take, drop, map, refl, sym, ap, ◌∙◌, inl, inr, arith}
+use Rattle.std.proofs.Common.{◌≡◌, ℕ, zero, suc, ◌+◌, ◌^◌, ◌<◌, ◌≤◌, List, [], ◌∷◌, ◌++◌, length, get_or, map, refl, ap, arith}
 use Rattle.std.proofs.Math.Nat.{pow-suc, pow-le-pow_right}
-use Rattle.std.proofs.lemmas.List.{length-append, get_or-map}
+use Rattle.std.proofs.lemmas.List.{length-append}
 use Rattle.std.specs.List.{flat_map}
 use Rattle.slab.specs.Slab.{Slab, get}
 use Rattle.range_store.specs.declared.btree.node.Node.{Node}
@@ -9,11 +9,11 @@ use Rattle.range_store.specs.declared.btree.node.TheConstants.{MOST, LEAST}
 use Rattle.range_store.specs.declared.btree.way.Gap.{Gap}
 use Rattle.range_store.specs.declared.btree.way.TheConstants.{WIDTH, DEEPEST}
 use Rattle.range_store.specs.Nodes.{items_of, children_of, numbers, used, before, after, ShapedBut}
-use Rattle.range_store.specs.Gaps.{turn, inside, IsGap, place, IsSeat, seat_place}
-use Rattle.range_store.proofs.Frame.{AgreeAt, AgreeAt-right, SameChildren, same_children}
-use Rattle.range_store.proofs.Below.{numbers_at, used_is, numbers_leaf, lists_length}
+use Rattle.range_store.specs.Gaps.{turn, inside, IsGap, place}
+use Rattle.range_store.proofs.Frame.{AgreeAt, AgreeAt-right, same_children}
+use Rattle.range_store.proofs.Below.{numbers_at, numbers_leaf}
 use Rattle.range_store.proofs.Rank.{kid_shaped}
-use Rattle.range_store.specs.Occurrences.{occurrences, occurrences-append, occurrences-cons, occurrences_here}
+use Rattle.range_store.specs.Occurrences.{occurrences, occurrences-append, occurrences_here}
 
 -- the digits of a way are no more than the levels
 way_fits : (s : Slab Node) (d n : ℕ) (g : Gap) → IsGap s d n g → g.way < WIDTH ^ d

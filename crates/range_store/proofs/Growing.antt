@@ -1,11 +1,11 @@
 -- What becomes of a node when the subtree of one of its children became one or two.
-use Rattle.std.proofs.Common.{◌≡◌, ◌≢◌, ℕ, zero, suc, ◌+◌, ◌-◌, ◌*◌, ◌<◌, ◌≤◌, List, [], ◌∷◌, ◌++◌, length, get_or, take, drop, map, refl, sym, ap, ◌∙◌, subst, arith, Option, Some, None, IsSome}
+use Rattle.std.proofs.Common.{◌≡◌, ◌≢◌, ℕ, suc, ◌+◌, ◌-◌, ◌<◌, ◌≤◌, List, [], ◌∷◌, ◌++◌, length, get_or, take, drop, map, refl, sym, ap, ◌∙◌, subst, arith, Option, Some, None, IsSome}
 use Rattle.std.specs.List.{All, flat_map, sum_by, insert}
 use Rattle.std.proofs.lemmas.List.{append-nil, append_assoc, length-append, length-map, map-append, length-take-le, length-drop, take-append-drop, take_more, take-map, drop-map}
 use Rattle.std.proofs.lemmas.List.Concat.{flat_map-append}
 use Rattle.std.proofs.lemmas.List.Elements.{All-append, All-take, All-drop, All-weaker}
 use Rattle.std.proofs.lemmas.List.Edits.{length-insert}
-use Rattle.slab.specs.Slab.{Slab, get, slab_len, HasRoomFor}
+use Rattle.slab.specs.Slab.{Slab, get, HasRoomFor}
 use Rattle.range_store.specs.declared.btree.node.Node.{Node}
 use Rattle.range_store.specs.declared.btree.node.Split.{Split}
 use Rattle.range_store.specs.declared.btree.node.TheConstants.{MOST, LEAST}
@@ -14,8 +14,8 @@ use Rattle.range_store.specs.Contents.{IsContent, Settles}
 use Rattle.range_store.specs.Occurrences.{occurrences, occurrences-append, occurrences-cons, occurrences_itself}
 use Rattle.range_store.proofs.Weave.{parts, weave_splice, insert_middle, length-weave}
 use Rattle.range_store.proofs.Frame.{AgreeAt, AgreeAt-left, AgreeAt-right, SameChildren, same_children}
-use Rattle.range_store.proofs.Below.{children_length, numbers_at, lists_length, used_is, Shaped-from_but, Shaped-but, child_count_cases, child_count_inner}
-use Rattle.range_store.proofs.Moves.{here_some, here_le, SameNodes, Moves-like, Moves-then, Moves-beside, Moves-agree}
+use Rattle.range_store.proofs.Below.{children_length, numbers_at, used_is, Shaped-from_but, Shaped-but, child_count_cases, child_count_inner}
+use Rattle.range_store.proofs.Moves.{Moves-like, Moves-then, Moves-beside, Moves-agree}
 use Rattle.range_store.proofs.Room.{children_le}
 use Rattle.range_store.proofs.Seats.{length-before, seat_run, seat_side, seat_written}
 use Rattle.range_store.proofs.Contents.{written_settles, written_holds, written_agree}

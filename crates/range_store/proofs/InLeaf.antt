@@ -1,5 +1,5 @@
 -- A gap within its leaf.
-use Rattle.std.proofs.Common.{◌≡◌, ℕ, zero, suc, ◌+◌, ◌-◌, ◌/◌, ◌%◌, ◌<◌, ◌≤◌, List, [], ◌∷◌, ◌++◌, length, take, drop, get_or, map, refl, sym, ap, ◌∙◌, arith, IsSome, append_assoc}
+use Rattle.std.proofs.Common.{◌≡◌, ℕ, zero, suc, ◌+◌, ◌/◌, ◌%◌, ◌<◌, ◌≤◌, List, [], ◌∷◌, ◌++◌, length, take, drop, get_or, map, refl, sym, ap, ◌∙◌, arith, IsSome, append_assoc}
 use Rattle.std.specs.List.{remove}
 use Rattle.std.proofs.Math.ListN.{set}
 use Rattle.std.proofs.lemmas.List.{length-append, length-take-le, drop_more, get_or-append-add}
@@ -12,7 +12,6 @@ use Rattle.range_store.specs.Nodes.{items_of, children_of, numbers, before, afte
 use Rattle.range_store.specs.Gaps.{turn, inside, IsGap, place}
 use Rattle.range_store.proofs.Below.{wider, numbers_leaf, numbers_at}
 use Rattle.range_store.proofs.Edits.{set_parts, remove_parts, remove_behind}
-use Rattle.range_store.proofs.Gaps.{turn_within, gap_inside, place_inside}
 use Rattle.range_store.proofs.Rank.{kid_shaped, rank_in_child}
 
 -- what stands before it there stands before it below the node

@@ -1,7 +1,7 @@
 -- Two neighbours and the item between them, as one.
-use Rattle.std.proofs.Common.{◌≡◌, ◌≢◌, ◌⊎◌, ℕ, zero, suc, ◌+◌, ◌-◌, ◌*◌, ◌<◌, ◌≤◌, List, [], ◌∷◌, ◌++◌, length, get_or, take, drop, map, refl, sym, ap, ◌∙◌, inl, inr, subst, arith, Option, Some, None, IsSome}
-use Rattle.std.specs.List.{All, flat_map, sum_by}
-use Rattle.std.proofs.lemmas.List.{append-nil, append_assoc, length-append, length-map, map-append, nil_from_length}
+use Rattle.std.proofs.Common.{◌≡◌, ◌≢◌, ℕ, zero, suc, ◌+◌, ◌-◌, ◌<◌, ◌≤◌, List, [], ◌∷◌, ◌++◌, length, get_or, take, drop, map, refl, sym, ap, ◌∙◌, arith, Some, None}
+use Rattle.std.specs.List.{flat_map}
+use Rattle.std.proofs.lemmas.List.{append-nil, append_assoc, length-append, length-map, map-append}
 use Rattle.std.proofs.lemmas.List.Concat.{flat_map-append}
 use Rattle.std.proofs.lemmas.List.Elements.{All-append, All-cons, All-nil, All-weaker}
 use Rattle.slab.specs.Slab.{Slab, get, slab_len, Updates}
@@ -9,16 +9,16 @@ use Rattle.range_store.specs.declared.btree.node.Node.{Node}
 use Rattle.range_store.specs.declared.btree.node.Split.{Split}
 use Rattle.range_store.specs.declared.btree.node.TheConstants.{MOST, LEAST}
 use Rattle.range_store.specs.declared.btree.way.Gap.{Gap}
-use Rattle.range_store.specs.Nodes.{weave, before, items_of, children_of, child_count, numbers, used, Shaped, ShapedBut, here, Moves, Writes, Removes}
+use Rattle.range_store.specs.Nodes.{weave, items_of, children_of, child_count, numbers, used, Shaped, ShapedBut, here, Writes, Removes}
 use Rattle.range_store.specs.Gaps.{turn, inside, seat_of, IsGap, place, IsSeat, seat_place}
 use Rattle.range_store.specs.Contents.{IsContent, IsPair, Rejoins}
 use Rattle.range_store.specs.Occurrences.{occurrences, occurrences-append, occurrences-cons, occurrences_itself}
 use Rattle.range_store.proofs.Weave.{weave_cut}
-use Rattle.range_store.proofs.Frame.{AgreeAt, same_below, same_children}
+use Rattle.range_store.proofs.Frame.{AgreeAt, same_children}
 use Rattle.range_store.proofs.Below.{weave_numbers, used_is, numbers_leaf, Shaped-from_but}
 use Rattle.range_store.proofs.Room.{numbers_size}
-use Rattle.range_store.proofs.Moves.{here_le, here_some, SameNodes, Moves-like, Moves-then, Writes-moves, Removes-moves}
-use Rattle.range_store.proofs.Contents.{Holds, held_numbers, held_used, held_shape, written_holds, written_agree, content_apart, halves_listed, halves_nodes, halves_shape, part_agree}
+use Rattle.range_store.proofs.Moves.{here_le, SameNodes, Moves-like, Moves-then, Writes-moves, Removes-moves}
+use Rattle.range_store.proofs.Contents.{Holds, held_numbers, held_used, held_shape, content_apart, halves_listed, halves_nodes, halves_shape, part_agree}
 use Rattle.range_store.proofs.Seats.{seat_run}
 
 weave_join : (xs : List ℕ) (x : ℕ) (ys : List ℕ) (ks ls : List (List ℕ)) (d : ℕ) → length ks ≡ child_count d (length xs) → length ls ≡ child_count d (length ys) → weave (xs ++ x ∷ ys) (ks ++ ls) ≡ weave xs ks ++ (x ∷ weave ys ls)

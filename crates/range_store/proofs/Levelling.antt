@@ -1,19 +1,17 @@
 -- A node after two of its children were levelled.
-use Rattle.std.proofs.Common.{◌≡◌, ◌⊎◌, ℕ, suc, ◌+◌, ◌-◌, ◌<◌, ◌≤◌, List, [], ◌∷◌, ◌++◌, length, get_or, take, drop, map, refl, sym, ap, ◌∙◌, inl, inr, subst, arith, Option, Some, None}
-use Rattle.std.specs.List.{All, flat_map, sum_by}
-use Rattle.std.proofs.lemmas.List.{append-nil, append_assoc, length-append, length-map, length-take-le, length-drop, take_more, take-map, drop-map, drop_more}
-use Rattle.std.proofs.lemmas.List.Elements.{All-cons, All-nil}
+use Rattle.std.proofs.Common.{◌≡◌, ℕ, suc, ◌+◌, ◌<◌, ◌≤◌, List, [], ◌∷◌, ◌++◌, length, get_or, take, drop, map, refl, sym, ap, ◌∙◌, subst, arith, Option, Some, None}
+use Rattle.std.specs.List.{flat_map, sum_by}
+use Rattle.std.proofs.lemmas.List.{append-nil, append_assoc, length-append, length-map, length-take-le, length-drop, take_more, take-map, drop_more}
 use Rattle.slab.specs.Slab.{Slab, get}
 use Rattle.range_store.specs.declared.btree.node.Node.{Node}
 use Rattle.range_store.specs.declared.btree.node.Split.{Split}
-use Rattle.range_store.specs.declared.btree.node.TheConstants.{MOST, LEAST}
 use Rattle.range_store.specs.declared.btree.way.Gap.{Gap}
-use Rattle.range_store.specs.Nodes.{weave, rest_of, front_of, before, items_of, children_of, numbers, used, Shaped, ShapedBut, Moves, Writes, tops, separators, rights, Shrinks, IsLevelled}
+use Rattle.range_store.specs.Nodes.{weave, rest_of, front_of, before, items_of, children_of, numbers, used, Moves, Writes, tops, separators, rights, Shrinks, IsLevelled}
 use Rattle.range_store.specs.Gaps.{turn, inside, IsGap, place, IsSeat, seat_place}
 use Rattle.range_store.specs.Contents.{IsContent, IsPair, Rejoins}
 use Rattle.range_store.specs.Occurrences.{occurrences, occurrences-append, occurrences-cons}
 use Rattle.range_store.proofs.Weave.{parts, weave_splice}
-use Rattle.range_store.proofs.Below.{weave_numbers, used_is}
+use Rattle.range_store.proofs.Below.{weave_numbers}
 use Rattle.range_store.proofs.Moves.{Moves-then, Writes-moves}
 use Rattle.range_store.proofs.Contents.{held_numbers, held_used, held_shape, written_holds, written_agree}
 use Rattle.range_store.proofs.Growing.{Runs, run_kept, run_moved, run_content, run_lists, same_before, used_old}

@@ -1,5 +1,5 @@
 -- A gap below one of two children that are levelled.
-use Rattle.std.proofs.Common.{◌≡◌, ◌⊎◌, ℕ, zero, suc, ◌+◌, ◌-◌, ◌<◌, ◌≤◌, List, [], ◌∷◌, ◌++◌, length, get_or, take, map, refl, sym, ap, ◌∙◌, inl, inr, arith, add-one, Option, Some, None, IsSome}
+use Rattle.std.proofs.Common.{◌≡◌, ◌⊎◌, ℕ, zero, suc, ◌+◌, ◌-◌, ◌<◌, ◌≤◌, List, [], ◌∷◌, ◌++◌, length, get_or, take, map, refl, ap, ◌∙◌, inl, inr, arith, Option, Some, None, IsSome}
 use Rattle.std.specs.List.{sum_by}
 use Rattle.std.proofs.lemmas.List.{length-map, get_or-map, take_more}
 use Rattle.std.proofs.lemmas.List.Sums.{sum_by-cons, sum_by-append}
@@ -9,7 +9,7 @@ use Rattle.range_store.specs.declared.btree.node.Split.{Split}
 use Rattle.range_store.specs.declared.btree.node.TheConstants.{MOST, LEAST}
 use Rattle.range_store.specs.declared.btree.way.Gap.{Gap}
 use Rattle.range_store.specs.Nodes.{items_of, children_of, numbers, before, tops, separators, ShapedBut, IsLevelled}
-use Rattle.range_store.specs.Gaps.{turn, inside, seat_of, IsGap, place, IsSeat, seat_place}
+use Rattle.range_store.specs.Gaps.{inside, seat_of, IsGap, IsSeat, seat_place}
 use Rattle.range_store.proofs.Gaps.{leaf_index, turn_within}
 use Rattle.range_store.proofs.Seats.{length-before}
 use Rattle.range_store.proofs.Joining.{seat_from_left, seat_from_right}

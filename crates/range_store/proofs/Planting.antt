@@ -1,8 +1,7 @@
 -- A whole tree after an insertion: of the first item, below the root, and with a cut of the root.
-use Rattle.std.proofs.Common.{◌≡◌, ℕ, zero, suc, ◌+◌, ◌-◌, ◌*◌, ◌^◌, ◌<◌, ◌≤◌, List, [], ◌∷◌, ◌++◌, length, map, refl, sym, ap, ◌∙◌, inl, inr, arith, None, Some, subst}
-use Rattle.std.specs.List.{All, flat_map, insert}
+use Rattle.std.proofs.Common.{◌≡◌, ℕ, zero, suc, ◌+◌, ◌-◌, ◌*◌, ◌^◌, ◌<◌, ◌≤◌, List, [], ◌∷◌, ◌++◌, length, refl, sym, ap, ◌∙◌, inl, inr, arith, None, Some}
+use Rattle.std.specs.List.{All, flat_map}
 use Rattle.std.proofs.lemmas.List.{append-nil, length-append}
-use Rattle.std.proofs.lemmas.List.Edits.{length-insert}
 use Rattle.std.proofs.lemmas.List.Elements.{All-nil, All-head, All-tail, All-weaker}
 use Rattle.std.proofs.lemmas.Bool.{cases_eq}
 use Rattle.slab.specs.Slab.{Slab, get, HasRoomFor}
@@ -10,14 +9,14 @@ use Rattle.range_store.specs.declared.btree.node.Node.{Node}
 use Rattle.range_store.specs.declared.btree.node.Split.{Split}
 use Rattle.range_store.specs.declared.btree.node.TheConstants.{MOST, LEAST}
 use Rattle.range_store.specs.declared.btree.way.Gap.{Gap}
-use Rattle.range_store.specs.Nodes.{weave, children_of, items_of, numbers, used, Shaped, ShapedBut, IsTree, IsRoomy, HasTreeRoom, here, Replaces, Stores, tops, separators}
+use Rattle.range_store.specs.Nodes.{children_of, numbers, used, Shaped, ShapedBut, IsTree, IsRoomy, HasTreeRoom, here, Replaces, Stores}
 use Rattle.range_store.specs.Gaps.{turn, inside, IsGap, place, IsSeat, seat_place}
 use Rattle.range_store.specs.Occurrences.{occurrences, occurrences-cons, occurrences-nil, occurrences_itself, occurrences_other}
-use Rattle.range_store.proofs.Below.{numbers_leaf, used_is, used_leaf, Shaped-from_but}
+use Rattle.range_store.proofs.Below.{numbers_leaf, used_leaf, Shaped-from_but}
 use Rattle.range_store.proofs.Contents.{Holds, held_numbers, held_used, held_shape}
 use Rattle.range_store.proofs.Frame.{AgreeAt, same_children}
 use Rattle.range_store.proofs.Moves.{here_some}
-use Rattle.range_store.proofs.Rank.{numbers_none, used_none}
+use Rattle.range_store.proofs.Rank.{used_none}
 use Rattle.range_store.proofs.Room.{used_le}
 use Rattle.range_store.proofs.Seats.{seat_written}
 

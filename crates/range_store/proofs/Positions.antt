@@ -5,10 +5,8 @@ use Rattle.std.specs.List.{remove}
 use Rattle.std.specs.Option.{ForSome}
 use Rattle.std.proofs.lemmas.List.{nil_from_length}
 use Rattle.range_store.specs.Gaps.{IsLast}
-use Rattle.range_store.specs.Holding.{box_items, box_length, box_rank, IsGood}
-use Rattle.range_store.specs.Places.{place_before, IsAt}
-use Rattle.range_store.specs.Trees.{tree_numbers, tree_place, gap_or_end, IsTreeGap}
-use Rattle.range_store.specs.Trees as trees
+use Rattle.range_store.specs.Holding.{box_items, box_length, box_rank, box_place, IsBoxAt, IsGood}
+use Rattle.range_store.specs.Trees.{tree_numbers, tree_place, gap_or_end, IsAt, IsTreeGap}
 use Rattle.range_store.specs.declared.btree.BoxPosition.{BoxPosition}
 use Rattle.range_store.specs.declared.btree.BoxStorage.{BoxStorage}
 use Rattle.range_store.specs.declared.btree.number_tree.NumberTree.{NumberTree}
@@ -48,7 +46,7 @@ module _ {T : Type 0} (s : BoxStorage T) where
       let same : tree_place s.tree found.gap - 1 ≡ rank = omega (arith, place) in
       (record { gap = gap; some = omega (arith, place); within = omega (arith, place, within); number_is = rw same number }, same)
 
-  pub position_at : (rank : ℕ) (found : Option Found) (p : Option BoxPosition) → MatchOption p (found ≡ None) (λ q. found ≡ Some q.found) → trees.IsAt s.tree found rank → IsAt (λ q. IsGood s q.found) (λ q. box_rank s q.found) (length (box_items s)) p rank
+  pub position_at : (rank : ℕ) (found : Option Found) (p : Option BoxPosition) → MatchOption p (found ≡ None) (λ q. found ≡ Some q.found) → IsAt s.tree found rank → IsBoxAt s p rank
   position_at rank found None none at = rw none at at ∙ sym (box_length s)
   position_at rank found (Some q) some at =
       let at' = rw some at at in
@@ -66,7 +64,7 @@ module _ {T : Type 0} (s : BoxStorage T) where
   position_before gap found p is_gap within position at =
       position_last (tree_place s.tree gap) found p within position (match_weaker found _ _ _ _ (λ none. none) (λ f h. (rw h.0 is_gap, rw h.0 refl, (rw h.0 h.1, rw h.0 h.2))) at)
 
-  pub place_within : (before : Option BoxPosition) → ForSome before (λ p. IsGood s p.found) → place_before (λ q. box_rank s q.found) (length (box_items s)) before ≤ length (tree_numbers s.tree)
+  pub place_within : (before : Option BoxPosition) → ForSome before (λ p. IsGood s p.found) → box_place s before ≤ length (tree_numbers s.tree)
   place_within None good = omega (arith, box_length s)
   place_within (Some p) good = let here = good p refl in omega (arith, here.within)
 

@@ -1,14 +1,14 @@
 -- A tree has a node for each LEAST of its items at most, so capacity that is counted in items serves its nodes.
-use Rattle.std.proofs.Common.{◌≡◌, ℕ, zero, suc, ◌+◌, ◌-◌, ◌*◌, ◌<◌, ◌≤◌, List, [], ◌∷◌, ◌++◌, length, get_or, take, drop, map, ap, ◌∙◌, arith, IsSome}
+use Rattle.std.proofs.Common.{◌≡◌, ℕ, zero, suc, ◌+◌, ◌*◌, ◌<◌, ◌≤◌, List, [], ◌∷◌, ◌++◌, length, get_or, take, drop, map, ap, ◌∙◌, arith}
 use Rattle.std.specs.List.{All, flat_map, sum_by}
-use Rattle.std.proofs.lemmas.List.{length-append, length-map, map-append, nil_from_length}
+use Rattle.std.proofs.lemmas.List.{length-append, length-map, map-append}
 use Rattle.std.proofs.lemmas.List.Concat.{flat_map-append}
 use Rattle.std.proofs.lemmas.List.Sums.{sum_by-cons, sum_by-append}
-use Rattle.std.proofs.lemmas.List.Elements.{All-nil, All-head, All-tail, All-take, All-drop, All-weaker}
+use Rattle.std.proofs.lemmas.List.Elements.{All-head, All-tail, All-take, All-drop}
 use Rattle.slab.specs.Slab.{Slab, get, slab_len}
 use Rattle.range_store.specs.declared.btree.node.Node.{Node}
 use Rattle.range_store.specs.declared.btree.node.TheConstants.{LEAST, MOST}
-use Rattle.range_store.specs.Nodes.{items_of, children_of, child_count, numbers, used, Shaped, ShapedBut, HasTreeRoom}
+use Rattle.range_store.specs.Nodes.{items_of, children_of, numbers, used, Shaped, ShapedBut, HasTreeRoom}
 use Rattle.range_store.proofs.Below.{weave_numbers, children_length, child_count_cases, used_is, Shaped-but}
 use Rattle.range_store.proofs.Weave.{length-weave, parts}
 
@@ -39,10 +39,6 @@ used_le s (suc d) n shaped =
 pub children_le : (s : Slab Node) (d : ℕ) (ns : List ℕ) → All (Shaped s d) ns → LEAST * length (flat_map (used s d) ns) ≤ sizes s d ns
 children_le s d ns shaped = children_le_from s d (used_le s d) ns shaped
 
-pub used_le_but : (least most : ℕ) (s : Slab Node) (d n : ℕ) → ShapedBut least most s d n → LEAST * length (used s (suc d) n) + length (items_of (get s n)) ≤ length (numbers s (suc d) n) + LEAST
-used_le_but least most s d n shaped =
-    omega (arith, ap length (used_is s d n), numbers_size least most s d n shaped, children_le s d (children_of (get s n)) shaped.children)
-
 -- capacity below a node is capacity below each of its children
 pub HasTreeRoom-child : (most : ℕ) (s : Slab Node) (d n i more : ℕ) → 0 < d → i ≤ length (items_of (get s n)) → ShapedBut 1 most s d n → HasTreeRoom s (suc d) n more → HasTreeRoom s d (get_or (children_of (get s n)) i 0) more
 HasTreeRoom-child most s d n i more inner within shaped room =
@@ -64,7 +60,3 @@ HasTreeRoom-child most s d n i more inner within shaped room =
     few_from : (b m : ℕ) → LEAST * slab_len s + (length (numbers s b m) + more) + 1 ≤ LEAST * s.capacity + LEAST * length (used s b m) + LEAST → Shaped s b m → 0 < b → LEAST * slab_len s + (length (numbers s b m) + more) + 1 ≤ LEAST * s.capacity + LEAST * length (used s b m) + length (items_of (get s m))
     few_from zero m kept known some = absurd (omega arith)
     few_from (suc b) m kept known some = omega (arith, kept, (Shaped-but s b m known).node.enough)
-
-pub children_present : (s : Slab Node) (d k : ℕ) (ns : List ℕ) → length ns ≡ child_count d k → All (Shaped s d) ns → All (λ c. IsSome (get s c)) ns
-children_present s zero k ns none shaped = rw (nil_from_length ns none) (All-nil (λ c. IsSome (get s c)))
-children_present s (suc d) k ns some shaped = All-weaker (Shaped s (suc d)) (λ c. IsSome (get s c)) (λ c h. (Shaped-but s d c h).node.present) ns shaped

@@ -1,16 +1,16 @@
 -- Gaps in a node that is to be written, by their seats.
-use Rattle.std.proofs.Common.{◌≡◌, ◌≢◌, ◌⊎◌, ℕ, zero, suc, ◌+◌, ◌-◌, ◌^◌, ◌<◌, ◌≤◌, List, [], ◌∷◌, ◌++◌, length, get_or, take, drop, map, refl, sym, ap, ◌∙◌, inl, inr, arith, Option, Some, None, take-add, take-take, take_all, get_or-take, get_or-drop}
-use Rattle.std.specs.List.{All, flat_map, sum_by}
+use Rattle.std.proofs.Common.{◌≡◌, ◌≢◌, ℕ, zero, suc, ◌+◌, ◌-◌, ◌^◌, ◌<◌, ◌≤◌, List, [], ◌∷◌, ◌++◌, length, get_or, take, drop, map, refl, sym, ap, ◌∙◌, inr, arith, Option, Some, None, take-add, take-take, take_all, get_or-take, get_or-drop}
+use Rattle.std.specs.List.{flat_map, sum_by}
 use Rattle.std.proofs.lemmas.List.{length-append, length-map, length-take-le, length-drop, take-map, drop-map, map-append, nil_from_length, get_or-append-add, get_or_append_left, take-append-le}
 use Rattle.std.proofs.lemmas.List.Sums.{sum_by-cons, sum_by-append}
-use Rattle.slab.specs.Slab.{Slab, get}
+use Rattle.slab.specs.Slab.{Slab}
 use Rattle.range_store.specs.declared.btree.node.Node.{Node}
 use Rattle.range_store.specs.declared.btree.node.Split.{Split}
 use Rattle.range_store.specs.declared.btree.way.Gap.{Gap}
 use Rattle.range_store.specs.declared.btree.way.TheConstants.{DEEPEST}
-use Rattle.range_store.specs.Nodes.{weave, front_of, before, items_of, children_of, child_count, numbers, used, tops, separators}
+use Rattle.range_store.specs.Nodes.{weave, front_of, before, child_count, numbers, used, tops, separators}
 use Rattle.range_store.specs.Gaps.{turn, inside, IsGap, place, IsSeat, seat_place}
-use Rattle.range_store.proofs.Gaps.{SameGap, same_gap, agree_kid, way_small}
+use Rattle.range_store.proofs.Gaps.{same_gap, agree_kid, way_small}
 use Rattle.range_store.proofs.Frame.{AgreeAt}
 use Rattle.range_store.proofs.Contents.{Holds}
 use Rattle.range_store.proofs.Weave.{length-weave}

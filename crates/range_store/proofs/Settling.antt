@@ -17,19 +17,7 @@ use Rattle.range_store.specs.declared.btree.way.Gap.{Gap}
 use Rattle.range_store.specs.Gaps.{turn, inside, IsGap, place}
 use Rattle.range_store.specs.Contents.{IsRewritten}
 
--- the tree after an item went below its root
-pub loosened : (s t : Slab Node) (levels root : ℕ) (list : List ℕ) → 0 < levels → IsTree s levels root → Shrinks s t (levels - 1) root list → IsLooseTree t levels root
-loosened s t zero root list some tree step = absurd (omega arith)
-loosened s t (suc d) root list some tree step' =
-    let level : suc d - 1 ≡ d = omega arith in
-    let step = rw level at step' in
-    record {
-      some = some;
-      shaped = rw level (step.shape 0 tree.shaped.node.enough);
-      once = λ k. omega (arith, step.moved.owned k, tree.once k);
-      len = omega (arith, step.moved.len, tree.len);
-    }
-
+-- the numbers after an item went below the root
 pub loosened_numbers : (s t : Slab Node) (levels root : ℕ) (list : List ℕ) → 0 < levels → Shrinks s t (levels - 1) root list → numbers t levels root ≡ list
 loosened_numbers s t levels root list some step = let level : suc (levels - 1) ≡ levels = omega arith in rw level at step.listed
 

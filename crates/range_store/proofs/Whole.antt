@@ -1,17 +1,17 @@
 -- What is known of a whole tree of numbers.
 use Rattle.std.specs.Prelude.{MatchOption}
 use Rattle.std.specs.Option.{ForSome, option_or}
-use Rattle.std.proofs.Common.{◌≡◌, [], Option, Some, None, ℕ, zero, suc, ◌+◌, ◌-◌, ◌*◌, ◌^◌, ◌<◌, ◌≤◌, length, refl, sym, ap, ◌∙◌, inl, inr, arith}
+use Rattle.std.proofs.Common.{◌≡◌, [], Option, Some, None, ℕ, zero, suc, ◌+◌, ◌-◌, ◌^◌, ◌<◌, ◌≤◌, length, refl, ap, inl, inr, arith}
 use Rattle.std.proofs.Math.Nat.{pow-le-pow_right}
 use Rattle.std.proofs.lemmas.Bool.{cases_lt}
-use Rattle.slab.specs.Slab.{Slab, get}
+use Rattle.slab.specs.Slab.{Slab}
 use Rattle.range_store.specs.declared.btree.node.Node.{Node}
 use Rattle.range_store.specs.declared.btree.node.TheConstants.{MOST, LEAST}
 use Rattle.range_store.specs.declared.btree.way.TheConstants.{DEEPEST}
 use Rattle.range_store.specs.declared.btree.number_tree.NumberTree.{NumberTree}
 use Rattle.range_store.specs.declared.btree.way.Gap.{Gap}
 use Rattle.range_store.specs.Trees.{tree_numbers, IsTreeGap, tree_place, gap_or_end}
-use Rattle.range_store.specs.Nodes.{numbers, ShapedBut, IsTree, IsRoomy}
+use Rattle.range_store.specs.Nodes.{IsRoomy}
 use Rattle.range_store.proofs.Gaps.{place_within}
 use Rattle.range_store.proofs.Levels.{tree_lower}
 use Rattle.range_store.proofs.Rank.{root_shaped}

@@ -1,5 +1,5 @@
 -- What a node is to hold, before it is written, and what the slab is once it was.
-use Rattle.std.specs.Prelude.{◌≡◌, ℕ, zero, suc, ◌+◌, ◌-◌, ◌<◌, ◌≤◌, List, [], ◌∷◌, ◌++◌, length, map, take, drop, Option, Some, None, IsSome, slice_index}
+use Rattle.std.specs.Prelude.{◌≡◌, ℕ, suc, ◌+◌, ◌-◌, ◌≤◌, List, ◌∷◌, ◌++◌, length, map, take, drop, Option, IsSome, slice_index}
 use Rattle.std.specs.List.{All, flat_map}
 use Rattle.slab.specs.Slab.{Slab, get}
 use Rattle.range_store.specs.Occurrences.{occurrences}

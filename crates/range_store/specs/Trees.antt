@@ -1,7 +1,5 @@
 -- A tree of numbers as its callers see it: the numbers in order, how many more are sure to fit, and its gaps.
-use Rattle.std.specs.Prelude.{◌≡◌, ℕ, zero, suc, ◌+◌, ◌-◌, ◌*◌, ◌^◌, ◌<◌, ◌≤◌, List, length, Option, Some, None, slice_index}
-use Rattle.slab.specs.Slab.{Slab}
-use Rattle.range_store.specs.declared.btree.node.Node.{Node}
+use Rattle.std.specs.Prelude.{◌≡◌, ℕ, ◌+◌, ◌-◌, ◌*◌, ◌<◌, List, length, Option, Some, None, slice_index}
 use Rattle.range_store.specs.declared.btree.node.TheConstants.{LEAST}
 use Rattle.range_store.specs.declared.btree.number_tree.NumberTree.{NumberTree}
 use Rattle.range_store.specs.declared.btree.way.Gap.{Gap}

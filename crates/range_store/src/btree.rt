@@ -1,13 +1,10 @@
 //! A container kept as a B-tree.
-ghost use Rattle.std.specs.Prelude.{◌≡◌, ℕ, ◌+◌, ◌-◌, ◌*◌, ◌^◌, ◌<◌, ◌≤◌, List, length, insert, remove, slice_index_or, slice_set, min, MatchOption, OnOk, All, Option, Some, None};
-ghost use Rattle.std.specs.List.{AllZip};
+ghost use Rattle.std.specs.Prelude.{◌≡◌, ◌+◌, ◌-◌, ◌*◌, ◌^◌, ◌<◌, ◌≤◌, length, insert, remove, slice_index_or, MatchOption, Some, None};
 ghost use Rattle.std.specs.Option.{ForSome};
 ghost use Rattle.std.proofs.Common.{refl};
-ghost use Rattle.slab.specs.Slab.{slab_len};
 ghost use Rattle.range_store.specs.Depth.{HasLevels};
-ghost use Rattle.range_store.specs.Listed.{listed, IsStorage};
-ghost use Rattle.range_store.specs.Places.{place_before, IsAt};
-ghost use Rattle.range_store.specs.Trees.{tree_numbers, tree_room, IsTreeGap, gap_or_end};
+ghost use Rattle.range_store.specs.Listed.{IsStorage};
+ghost use Rattle.range_store.specs.Trees.{tree_numbers, IsTreeGap, gap_or_end};
 
 mod insertion;
 mod node;
@@ -43,7 +40,7 @@ pub struct BoxStorage<T> {
 }
 
 impl<T> BoxStorage<T> {
-    ghost use Rattle.range_store.specs.Holding.{box_items, box_rank, level_count, IsGood};
+    ghost use Rattle.range_store.specs.Holding.{box_items, box_rank, box_room, box_place, level_count, IsBoxAt, IsGood};
 
     /// How many levels of nodes the tree has: 0 if it is empty.
     pub fn levels(&self) -> usize
@@ -60,9 +57,8 @@ impl<T> BoxStorage<T> {
         requires { IsGood self.old p }
         ensures removed { result.0 ≡ slice_index_or (box_items self.old) (box_rank self.old p) result.0 }
         ensures list { box_items self.new ≡ remove (box_items self.old) (box_rank self.old p) }
-        ensures following { IsAt (λ q. IsGood self.new q.found) (λ q. box_rank self.new q.found) (length (box_items self.new)) result.1 (box_rank self.old p) }
-        ensures items_space { self.old.items.capacity - slab_len self.old.items ≤ self.new.items.capacity - slab_len self.new.items }
-        ensures tree_space { tree_room self.old.tree ≤ tree_room self.new.tree }
+        ensures following { IsBoxAt self.new result.1 (box_rank self.old p) }
+        ensures space { box_room self.old ≤ box_room self.new }
     {
         let following = self.tree.remove(p.gap);
         let item = self.items.remove(p.number);
@@ -73,7 +69,7 @@ impl<T> BoxStorage<T> {
     fn gap_at(&self, before: Option<BoxPosition>) -> Option<Gap>
         requires { ForSome before (λ p. IsGood self.now p.found) }
         ensures gap { ForSome result (IsTreeGap self.now.tree) }
-        ensures place { gap_or_end self.now.tree result ≡ place_before (λ q. box_rank self.now q.found) (length (box_items self.now)) before }
+        ensures place { gap_or_end self.now.tree result ≡ box_place self.now before }
     {
         match before {
             Some(p) => self.tree.gap_before(p.found.gap),
@@ -94,13 +90,13 @@ fn position(found: Option<Found>) -> Option<BoxPosition>
 
 impl<T: Drop> Storage<T> for BoxStorage<T> {
     ghost use Rattle.range_store.specs.declared.btree.searching.TheConstants.{HALVINGS};
-    ghost use Rattle.range_store.specs.Holding.{box_items, box_rank, IsGood, with_stored, items_with_stored, room_with_stored, good_in_range, items_fit, none_asked_of_empty};
+    ghost use Rattle.range_store.specs.Holding.{box_items, box_rank, box_room, box_place, IsGood, with_stored, items_with_stored, room_with_stored, good_in_range, items_fit, none_asked_of_empty};
 
     type Position = BoxPosition;
 
     ghost items = { λ s. box_items s };
 
-    ghost room = { λ s. min (s.items.capacity - slab_len s.items) (tree_room s.tree) };
+    ghost room = { λ s. box_room s };
 
     ghost is_good = { λ s p. IsGood s p.found };
 
@@ -166,10 +162,10 @@ impl<T: Drop> Storage<T> for BoxStorage<T> {
 
     fn insert_at(&mut self, before: Option<BoxPosition>, item: T) -> BoxPosition
         requires good { ForSome before (λ p. IsGood self.old p.found) }
-        requires has_room { 1 ≤ min (self.old.items.capacity - slab_len self.old.items) (tree_room self.old.tree) }
-        ensures list { box_items self.new ≡ insert (box_items self.old) (place_before (λ q. box_rank self.old q.found) (length (box_items self.old)) before) item }
-        ensures space { min (self.old.items.capacity - slab_len self.old.items) (tree_room self.old.tree) ≡ min (self.new.items.capacity - slab_len self.new.items) (tree_room self.new.tree) + 1 }
-        ensures position { IsGood self.new result.found × (box_rank self.new result.found ≡ place_before (λ q. box_rank self.old q.found) (length (box_items self.old)) before) }
+        requires has_room { 1 ≤ box_room self.old }
+        ensures list { box_items self.new ≡ insert (box_items self.old) (box_place self.old before) item }
+        ensures space { box_room self.old ≡ box_room self.new + 1 }
+        ensures position { IsGood self.new result.found × (box_rank self.new result.found ≡ box_place self.old before) }
     {
         let gap = self.gap_at(before);
         let number = self.items.insert_reserved(item);

@@ -6,8 +6,8 @@ ghost use Rattle.range_store.specs.Gaps.{IsGap, place, IsSeat, seat_place};
 ghost use Rattle.range_store.specs.Contents.{IsContent, Settles, Divides};
 
 use crate::btree::node::{
-    HALF, MOST, Node, Split, child_at, first_part, item_count, overfull, put, second_part, store,
-    write, Wide,
+    HALF, MOST, Node, Split, Wide, child_at, first_part, item_count, overfull, put, second_part,
+    store, write,
 };
 use crate::btree::way::{DEEPEST, Gap, first_turn, gap_at, seen_above, seen_inside};
 use slab::Slab;
@@ -103,7 +103,16 @@ pub fn insert_below(
     ensures place { seat_place nodes.new (suc below) (separators result.split) (tops number result.split) result.side result.gap ≡ place nodes.old below number gap + 1 }
 {
     if below == 0 {
-        return put_or_cut(nodes, below, number, gap.index, item, None, gap.index + 1, gap);
+        return put_or_cut(
+            nodes,
+            below,
+            number,
+            gap.index,
+            item,
+            None,
+            gap.index + 1,
+            gap,
+        );
     }
     let index = first_turn(gap);
     let child = child_at(nodes, number, index);
@@ -116,7 +125,16 @@ pub fn insert_below(
         },
         Some(cut) => {
             let seat = index + inserted.side;
-            put_or_cut(nodes, below, number, index, cut.middle, Some(cut.right), seat, inserted.gap)
+            put_or_cut(
+                nodes,
+                below,
+                number,
+                index,
+                cut.middle,
+                Some(cut.right),
+                seat,
+                inserted.gap,
+            )
         }
     }
 }

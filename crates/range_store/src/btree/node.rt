@@ -51,7 +51,11 @@ fn prefix<const FROM: usize, const TO: usize>(
     requires { length (take count list.now.items) ≤ TO }
     ensures { result.items ≡ take count list.now.items }
 {
-    let end = if count < list.len() { count } else { list.len() };
+    let end = if count < list.len() {
+        count
+    } else {
+        list.len()
+    };
     let mut copy = ArrayVec::new();
     copy.try_extend_from_slice(&list.as_slice()[..end]).unwrap();
     copy

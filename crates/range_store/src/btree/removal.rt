@@ -11,9 +11,7 @@ use crate::btree::node::{
     LEAST, MOST, Node, Split, child_at, first_part, item_at, item_count, joined, second_part,
     set_item, set_pair, take_item, write,
 };
-use crate::btree::way::{
-    DEEPEST, Gap, first_turn, gap_at, seat, seen_above, seen_inside,
-};
+use crate::btree::way::{DEEPEST, Gap, first_turn, gap_at, seat, seen_above, seen_inside};
 use slab::Slab;
 
 // Makes one node of two and the item between them if there are few items, else gives both as many.
@@ -182,7 +180,13 @@ pub fn remove_below(nodes: &mut Slab<Node>, below: usize, number: usize, gap: Ga
 
 // Puts another item in the place of the one before a gap at the beginning of a leaf, if there is one
 // below the node.
-pub fn set_before(nodes: &mut Slab<Node>, below: usize, number: usize, gap: Gap, item: usize) -> bool
+pub fn set_before(
+    nodes: &mut Slab<Node>,
+    below: usize,
+    number: usize,
+    gap: Gap,
+    item: usize,
+) -> bool
     requires shaped { ShapedBut 1 MOST nodes.old below number }
     requires owned { Owned nodes.old (suc below) number }
     requires gap { IsGap nodes.old below number gap }

@@ -78,6 +78,10 @@ pub fn search_below<T, P: Probe<T>>(
     let passed = search_below(nodes, items, below - 1, child, probe);
     Passed {
         gap: seen_above(passed.gap, index),
-        last: if passed.last.is_some() { passed.last } else { here },
+        last: if passed.last.is_some() {
+            passed.last
+        } else {
+            here
+        },
     }
 }

@@ -8,9 +8,9 @@ ghost use Rattle.range_store.specs.Gaps.{IsLast};
 ghost use Rattle.range_store.specs.Listed.{Stored};
 ghost use Rattle.range_store.specs.Trees.{tree_numbers, tree_room, IsTreeGap, tree_place, IsAt, gap_or_end};
 
-use crate::btree::number_tree::NumberTree;
 use crate::btree::insertion::insert_below;
 use crate::btree::node::{LEAST, MOST, Node, item_at, leaf_of, node_over, store};
+use crate::btree::number_tree::NumberTree;
 use crate::btree::removal::{Settled, remove_below, set_before, settle};
 use crate::btree::searching::{HALVINGS, Passed, search_below};
 use crate::btree::way::{
@@ -201,7 +201,13 @@ impl NumberTree {
         if self.levels == 0 {
             return None;
         }
-        let Passed { gap, last } = search_below(&self.nodes, items, self.levels - 1, self.root, probe);
+        let Passed { gap, last } = search_below(
+            &self.nodes,
+            items,
+            self.levels - 1,
+            self.root,
+            probe,
+        );
         let number = last?;
         Some(Found { number, gap })
     }

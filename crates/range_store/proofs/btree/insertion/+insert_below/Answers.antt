@@ -1,11 +1,10 @@
-use Rattle.std.proofs.Common.{◌≡◌, ℕ, suc, ◌+◌, ◌-◌, ◌<◌, ◌≤◌, List, length, get_or, map, refl, sym, ap, ◌∙◌, arith, inr, Option, Some, None}
-use Rattle.std.specs.List.{insert, flat_map}
+use Rattle.std.proofs.Common.{◌+◌, ◌-◌, get_or, ◌∙◌, arith, inr, Some, None}
+use Rattle.std.specs.List.{insert}
 use Rattle.std.proofs.lemmas.List.Edits.{length-insert}
 use Rattle.slab.specs.Slab.{get}
 use Rattle.range_store.specs.declared.btree.node.TheConstants.{MOST}
-use Rattle.range_store.specs.declared.btree.node.Split.{Split}
-use Rattle.range_store.specs.Nodes.{items_of, children_of, numbers, used, before, with_child}
-use Rattle.range_store.specs.Gaps.{turn, inside, IsGap, place}
+use Rattle.range_store.specs.Nodes.{items_of, children_of}
+use Rattle.range_store.specs.Gaps.{turn, inside, place}
 use Rattle.range_store.proofs.Gaps.{way_small, leaf_index, leaf_place}
 use Rattle.range_store.proofs.Below.{children_length}
 use Rattle.range_store.proofs.Room.{HasTreeRoom-child}
@@ -216,4 +215,3 @@ returns-in-Some-clause-place t c =
     let up = (grown_seat c.args.nodes.now c.insert_below-inserted.new.nodes c.args.below c.args.number i rest c.args.item (Some c.in-Some.cut) c.if-below-eq0.false c.requires.shaped c.requires.owned low within child c.insert_below-inserted.result.side c.insert_below-inserted.result.gap seat).1 in
     let here = rw (c.first_turn-index.ensures, ← items, ← children) at c.put_or_cut-in-Some.ensures.place in
     here ∙ omega (arith, up, at, below_here c.args.nodes.now c.args.below c.args.number c.if-below-eq0.false c.requires.shaped c.args.gap)
-

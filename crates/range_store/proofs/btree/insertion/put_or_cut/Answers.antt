@@ -1,8 +1,8 @@
-use Rattle.std.proofs.Common.{◌≡◌, ◌+◌, ◌-◌, ◌≤◌, ◌<◌, length, take, drop, sym, ap, ◌∙◌, arith, Some, None}
+use Rattle.std.proofs.Common.{◌≡◌, ◌+◌, ◌-◌, ◌<◌, length, take, drop, ap, ◌∙◌, arith, Some, None}
 use Rattle.std.specs.List.{insert}
 use Rattle.std.proofs.lemmas.List.Edits.{length-insert}
 use Rattle.slab.specs.Slab.{get}
-use Rattle.range_store.specs.declared.btree.node.TheConstants.{MOST, LEAST, HALF}
+use Rattle.range_store.specs.declared.btree.node.TheConstants.{MOST, HALF}
 use Rattle.range_store.specs.Nodes.{items_of, children_of, with_child}
 use Rattle.range_store.proofs.Contents.{written_settles, written_holds, written_agree, cut_settles, left_holds, right_holds, cut_agree, part_agree, left_numbers}
 use Rattle.range_store.proofs.Seats.{seat_written, seat_left, seat_right, seat_small, seat_way, seat_alone, seat_beside}
@@ -116,4 +116,3 @@ returns-clause-place c =
     let gap = seat_written s t c.divide-split.result.right (drop (HALF + 1) (insert (items_of (get c.args.nodes.now c.args.number)) c.args.index c.args.item)) (drop (HALF + 1) (with_child (children_of (get c.args.nodes.now c.args.number)) (c.args.index + 1) c.args.child)) (c.args.seat - HALF - 1) c.args.inner c.gap_at-2.result c.args.below holds agree c.gap_at-2.ensures.leaf c.gap_at-2.ensures.turn c.gap_at-2.ensures.inside right.0 in
     let beside = seat_beside t c.args.below c.args.number c.gap_at-2.result c.divide-split.result gap.0 in
     omega (arith, beside.1, gap.1, right.1, ap length (left_numbers c.args.nodes.now c.divide-split.new.nodes c.args.below c.args.number c.divide-split.result.right HALF (insert (items_of (get c.args.nodes.now c.args.number)) c.args.index c.args.item) (with_child (children_of (get c.args.nodes.now c.args.number)) (c.args.index + 1) c.args.child) c.requires.content low (left_holds c.args.nodes.now c.divide-split.new.nodes c.args.below c.args.number HALF (insert (items_of (get c.args.nodes.now c.args.number)) c.args.index c.args.item) (with_child (children_of (get c.args.nodes.now c.args.number)) (c.args.index + 1) c.args.child) c.divide-split.result c.requires.content cut low) holds))
-

@@ -1,4 +1,4 @@
-use Rattle.std.proofs.Common.{◌≡◌, ◌+◌, ◌∷◌, ◌++◌, length, take, drop, sym, ap, ◌∙◌, arith}
+use Rattle.std.proofs.Common.{◌≡◌, ◌+◌, ◌∷◌, ◌++◌, take, drop, ap, ◌∙◌, arith}
 use Rattle.slab.specs.Slab.{get}
 use Rattle.range_store.specs.Nodes.{items_of, children_of}
 use Rattle.range_store.proofs.Edits.{remove_parts, set_parts}

@@ -1,10 +1,9 @@
-use Rattle.std.proofs.Common.{◌≡◌, ℕ, suc, ◌+◌, ◌-◌, ◌<◌, ◌≤◌, length, get_or, map, refl, sym, ap, ◌∙◌, arith}
-use Rattle.std.specs.List.{remove}
+use Rattle.std.proofs.Common.{◌≡◌, ◌+◌, ◌-◌, length, get_or, map, refl, ap, ◌∙◌, arith}
 use Rattle.std.proofs.lemmas.List.Edits.{length-remove}
 use Rattle.slab.specs.Slab.{get}
 use Rattle.range_store.specs.declared.btree.node.TheConstants.{MOST, LEAST}
 use Rattle.range_store.specs.Nodes.{items_of, children_of, numbers, before}
-use Rattle.range_store.specs.Gaps.{turn, inside, IsGap, place}
+use Rattle.range_store.specs.Gaps.{turn, inside, place}
 use Rattle.range_store.proofs.Gaps.{leaf_gap, leaf_index, leaf_place}
 use Rattle.range_store.proofs.Growing.{kid_owned}
 use Rattle.range_store.proofs.Rank.{kid_shaped}
@@ -100,4 +99,3 @@ returns-clause-place t c =
     let kid = rw (kid_kept c.args.nodes.now c.remove_below-inner.new.nodes c.args.below c.args.number i _ c.if-below-eq0.false c.requires.shaped c.requires.owned low listed moved) at seat in
     let front' = rw (kid_kept c.args.nodes.now c.remove_below-inner.new.nodes c.args.below c.args.number i _ c.if-below-eq0.false c.requires.shaped c.requires.owned low listed moved) at front in
     omega (arith, kid, front', at, below_here c.args.nodes.now c.args.below c.args.number c.if-below-eq0.false c.requires.shaped c.args.gap)
-

@@ -1,8 +1,4 @@
-use Rattle.std.proofs.Common.{◌≡◌, ◌⊎◌, ℕ, suc, ◌+◌, ◌-◌, ◌<◌, ◌≤◌, length, get_or, map, refl, sym, ap, ◌∙◌, inl, inr, arith, Option, Some, None, IsSome}
-use Rattle.slab.specs.Slab.{get}
-use Rattle.range_store.specs.declared.btree.node.TheConstants.{MOST, LEAST}
-use Rattle.range_store.specs.Nodes.{items_of, children_of, separators, numbers, before}
-use Rattle.range_store.specs.Gaps.{turn, inside, seat_of, IsGap, IsSeat, place, seat_place}
+use Rattle.std.proofs.Common.{length, ap, arith}
 use Rattle.range_store.proofs.Gaps.{way_small}
 use Rattle.range_store.proofs.Pairs.{pair_seat, seat_of_small, tops_small, separators_some}
 use Rattle.range_store.proofs.Levelling.{pair_of, pair_kept, pair_children, new_length, levelled_shrinks, levelled_gap}
@@ -78,4 +74,3 @@ returns-clause-place c =
     let at = rw (c.child_at-left.ensures, c.child_at-right.ensures, c.item_at-middle.ensures, c.seen_inside.ensures) at c.rejoin-parts.ensures.place in
     let seats = pair_seat c.args.nodes.now c.args.low c.args.number c.args.index c.requires.levelled c.args.turn c.args.gap c.seat_in_pair-seat.result c.requires.near c.requires.gap c.seat_in_pair-seat.ensures.left (rw c.child_at-left.ensures at c.seat_in_pair-seat.ensures.right) in
     omega (arith, gap.1, at, seats.1)
-

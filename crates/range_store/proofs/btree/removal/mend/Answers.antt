@@ -1,6 +1,6 @@
-use Rattle.std.proofs.Common.{◌≡◌, ◌+◌, ◌<◌, ◌≤◌, length, get_or, refl, sym, ap, ◌∙◌, inl, inr, arith}
+use Rattle.std.proofs.Common.{◌<◌, ◌≤◌, length, sym, ◌∙◌, inl, inr, arith}
 use Rattle.slab.specs.Slab.{get}
-use Rattle.range_store.specs.declared.btree.node.TheConstants.{MOST, LEAST}
+use Rattle.range_store.specs.declared.btree.node.TheConstants.{LEAST}
 use Rattle.range_store.specs.Nodes.{items_of}
 use Rattle.range_store.proofs.Gaps.{way_small, gap_above, place_above}
 use Rattle.range_store.proofs.Seats.{seat_place_inner}
@@ -36,7 +36,7 @@ level-requires-clause-levelled c =
     pair_levelled c.args.nodes.now c.args.low c.args.number c.args.index c.requires.mendable c.pair_start-first.result c.pair_start-first.ensures.inside c.pair_start-first.ensures.near (rw c.child_at-child.ensures at short)
 
 pub level-requires-clause-near : goal.level-requires-clause-near
-level-requires-clause-near c = elim c.pair_start-first.ensures.near [ | inl same ↦ inl (sym same) | inr next ↦ inr (sym next) ]
+level-requires-clause-near c = elim c.pair_start-first.ensures.near [ inl same ↦ inl (sym same) | inr next ↦ inr (sym next) ]
 
 pub returns-clause-lent : goal.returns-clause-lent
 returns-clause-lent c =

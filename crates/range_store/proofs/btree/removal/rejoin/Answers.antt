@@ -1,8 +1,7 @@
-use Rattle.std.proofs.Common.{◌≡◌, ℕ, ◌+◌, ◌-◌, ◌/◌, ◌<◌, ◌≤◌, ◌∷◌, ◌++◌, length, get_or, take, drop, refl, sym, ap, ◌∙◌, arith, take_all, Some, None}
-use Rattle.std.proofs.lemmas.List.{length-append, length-map}
+use Rattle.std.proofs.Common.{◌≡◌, ◌+◌, ◌-◌, ◌/◌, ◌<◌, ◌≤◌, ◌∷◌, ◌++◌, length, get_or, take, drop, refl, ap, ◌∙◌, arith, take_all, Some, None}
 use Rattle.slab.specs.Slab.{get}
-use Rattle.range_store.specs.declared.btree.node.TheConstants.{MOST, LEAST}
-use Rattle.range_store.specs.Nodes.{items_of, children_of, Writes}
+use Rattle.range_store.specs.declared.btree.node.TheConstants.{LEAST}
+use Rattle.range_store.specs.Nodes.{items_of, children_of}
 use Rattle.range_store.proofs.Below.{child_count_most}
 use Rattle.range_store.proofs.Contents.{part_agree, left_numbers}
 use Rattle.range_store.proofs.Joining.{pair_content, pair_length, pair_removes, united_holds, united_agree, united_rejoins, shared_left, shared_right, shared_agree, shared_rejoins}
@@ -150,4 +149,3 @@ returns-clause-place c =
     let gap = seat_written c.args.nodes.now c.write-3.new.nodes c.args.right (drop (half + 1) (items_of (get c.args.nodes.now c.args.left) ++ c.args.middle ∷ items_of (get c.args.nodes.now c.args.right))) (drop (half + 1) (children_of (get c.args.nodes.now c.args.left) ++ children_of (get c.args.nodes.now c.args.right))) (c.args.seat - half - 1) c.args.inner c.gap_at-2.result c.args.low (shared_right c.args.nodes.now c.args.low c.args.left c.args.middle c.args.right c.requires.pair c.write-2.new.nodes c.write-3.new.nodes half low first second) agree c.gap_at-2.ensures.leaf c.gap_at-2.ensures.turn c.gap_at-2.ensures.inside right.0 in
     let beside = seat_beside c.write-3.new.nodes c.args.low c.args.left c.gap_at-2.result (record { middle = get_or c.as_slice.result.now half 0; right = c.args.right }) gap.0 in
     omega (arith, beside.1, gap.1, right.1, ap length (left_numbers c.args.nodes.now c.write-3.new.nodes c.args.low c.args.left c.args.right half (items_of (get c.args.nodes.now c.args.left) ++ c.args.middle ∷ items_of (get c.args.nodes.now c.args.right)) (children_of (get c.args.nodes.now c.args.left) ++ children_of (get c.args.nodes.now c.args.right)) (pair_content c.args.nodes.now c.args.low c.args.left c.args.middle c.args.right c.requires.pair) low (shared_left c.args.nodes.now c.args.low c.args.left c.args.middle c.args.right c.requires.pair c.write-2.new.nodes c.write-3.new.nodes half low first second) (shared_right c.args.nodes.now c.args.low c.args.left c.args.middle c.args.right c.requires.pair c.write-2.new.nodes c.write-3.new.nodes half low first second)))
-

@@ -1,14 +1,14 @@
-use Rattle.std.proofs.Common.{◌≡◌, ℕ, suc, ◌+◌, ◌-◌, ◌*◌, ◌<◌, ◌≤◌, length, get_or, map, refl, sym, ap, ◌∙◌, arith, count_by}
+use Rattle.std.proofs.Common.{◌≡◌, ◌-◌, ◌≤◌, length, map, refl, sym, ap, ◌∙◌, arith, count_by}
 use Rattle.std.proofs.lemmas.List.Sums.{count_by-le-length}
 use Rattle.slab.specs.Slab.{get}
 use Rattle.range_store.specs.declared.btree.node.TheConstants.{MOST}
 use Rattle.range_store.specs.Falling.{passes}
 use Rattle.range_store.specs.Nodes.{items_of, children_of, numbers, before}
-use Rattle.range_store.specs.Gaps.{turn, inside, IsGap, place, IsLast}
+use Rattle.range_store.specs.Gaps.{place}
 use Rattle.range_store.proofs.Below.{numbers_leaf}
 use Rattle.range_store.proofs.Gaps.{leaf_gap, leaf_place, way_small}
 use Rattle.range_store.proofs.Searching.{node_stored, node_falls, kid_stored, kid_falls, search_step}
-use Rattle.range_store.proofs.Ways.{level, child_within, below_kid, below_gap, below_place, below_most, last_above, last_here, none_before, items_known}
+use Rattle.range_store.proofs.Ways.{level, below_kid, below_gap, below_place, below_most, last_above, last_here, none_before, items_known}
 use Rattle.range_store.proofs.btree.searching.+search_below.Goals as goal
 
 pub halve-index-requires-clause-stored : goal.halve-index-requires-clause-stored
@@ -119,4 +119,3 @@ returns-else-is_some-clause-last g t c =
     let none = none_before _ _ _ (λ some. grind (arith, c.is_some.ensures, c.if-is_some.false, some)) last in
     let same : place c.args.nodes.now c.args.below c.args.number c.seen_above.result ≡ length (before (items_of (get c.args.nodes.now c.args.number)) (map (numbers c.args.nodes.now c.args.below) (children_of (get c.args.nodes.now c.args.number))) c.halve-index.result) = omega (arith, at, none) in
     rw same (last_here c.args.nodes.now c.args.below c.args.number c.if-below-eq0.false c.requires.shaped c.halve-index.result c.last_of-here.result low (rw items at c.last_of-here.ensures))
-

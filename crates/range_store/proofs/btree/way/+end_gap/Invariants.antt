@@ -1,4 +1,3 @@
-use Rattle.std.proofs.Common.{ℕ}
 use Rattle.range_store.proofs.btree.way.+end_gap.Given as goal
 
 abbrev pub decreases-end_gap : goal.decreases-end_gap

@@ -1,10 +1,6 @@
-use Rattle.std.proofs.Common.{◌≡◌, ℕ, suc, ◌+◌, ◌-◌, ◌<◌, ◌≤◌, length, get_or, refl, sym, ap, ◌∙◌, arith}
-use Rattle.slab.specs.Slab.{get}
-use Rattle.range_store.specs.Nodes.{items_of, children_of, numbers}
-use Rattle.range_store.specs.Gaps.{turn, inside, IsGap, place, IsFound}
-use Rattle.range_store.proofs.Below.{numbers_leaf}
-use Rattle.range_store.proofs.Gaps.{leaf_gap, leaf_place, leaf_index, way_small}
-use Rattle.range_store.proofs.Ways.{level, child_within, below_kid, below_turn, below_inside, below_gap, below_place, below_most, found_above, found_between, past_last}
+use Rattle.std.proofs.Common.{◌-◌, refl, arith}
+use Rattle.range_store.proofs.Gaps.{leaf_gap, leaf_place, way_small}
+use Rattle.range_store.proofs.Ways.{below_kid, below_gap, below_place}
 use Rattle.range_store.proofs.btree.way.+first_gap.Goals as goal
 
 pub returns-then-below-eq0-clause-gap : goal.returns-then-below-eq0-clause-gap

@@ -1,4 +1,3 @@
-use Rattle.std.proofs.Common.{ℕ}
 use Rattle.range_store.proofs.btree.way.+first_gap.Given as goal
 
 abbrev pub decreases-first_gap : goal.decreases-first_gap

@@ -1,10 +1,9 @@
-use Rattle.std.proofs.Common.{◌≡◌, ℕ, suc, ◌+◌, ◌-◌, ◌<◌, ◌≤◌, length, get_or, refl, sym, ap, ◌∙◌, arith, Option, Some, None}
+use Rattle.std.proofs.Common.{◌+◌, ◌-◌, ◌<◌, length, refl, ◌∙◌, arith}
 use Rattle.slab.specs.Slab.{get}
-use Rattle.range_store.specs.Nodes.{items_of, children_of, numbers}
-use Rattle.range_store.specs.Gaps.{turn, inside, IsGap, place, IsFound}
-use Rattle.range_store.proofs.Below.{numbers_leaf}
-use Rattle.range_store.proofs.Gaps.{leaf_gap, leaf_place, leaf_index, way_small}
-use Rattle.range_store.proofs.Ways.{level, child_within, below_kid, below_turn, below_inside, below_gap, below_place, below_here, below_most, found_above, found_between, past_last, leaf_found}
+use Rattle.range_store.specs.Nodes.{items_of}
+use Rattle.range_store.specs.Gaps.{turn}
+use Rattle.range_store.proofs.Gaps.{way_small}
+use Rattle.range_store.proofs.Ways.{level, child_within, below_kid, below_turn, below_inside, below_here, found_above, found_between, past_last}
 use Rattle.range_store.proofs.btree.way.+following.Goals as goal
 
 -- the child through which the way goes, and the gap below it

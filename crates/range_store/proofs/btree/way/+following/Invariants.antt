@@ -1,4 +1,3 @@
-use Rattle.std.proofs.Common.{ℕ}
 use Rattle.range_store.proofs.btree.way.+following.Given as goal
 
 abbrev pub decreases-following : goal.decreases-following

@@ -1,10 +1,9 @@
-use Rattle.std.proofs.Common.{◌≡◌, ℕ, suc, ◌+◌, ◌-◌, ◌<◌, ◌≤◌, length, get_or, map, refl, sym, ap, ◌∙◌, arith, Option, Some, None}
+use Rattle.std.proofs.Common.{◌≡◌, ◌+◌, ◌-◌, ◌<◌, length, map, refl, ◌∙◌, arith}
 use Rattle.slab.specs.Slab.{get}
 use Rattle.range_store.specs.Nodes.{items_of, children_of, numbers, before}
-use Rattle.range_store.specs.Gaps.{turn, inside, IsGap, place, IsFound, IsLast}
-use Rattle.range_store.proofs.Below.{numbers_leaf}
+use Rattle.range_store.specs.Gaps.{turn}
 use Rattle.range_store.proofs.Gaps.{leaf_gap, leaf_place, leaf_index, way_small}
-use Rattle.range_store.proofs.Ways.{level, child_within, below_kid, below_turn, below_inside, below_gap, below_place, below_here, below_most, before_next}
+use Rattle.range_store.proofs.Ways.{level, child_within, below_kid, below_turn, below_inside, below_gap, below_place, below_here, before_next}
 use Rattle.range_store.proofs.btree.way.+gap_before.Goals as goal
 
 pub child_at-child-requires-clause-within : goal.child_at-child-requires-clause-within

@@ -1,4 +1,3 @@
-use Rattle.std.proofs.Common.{ℕ}
 use Rattle.range_store.proofs.btree.way.+gap_before.Given as goal
 
 abbrev pub decreases-gap_before : goal.decreases-gap_before

@@ -1,10 +1,10 @@
-use Rattle.std.proofs.Common.{◌≡◌, ℕ, suc, ◌+◌, ◌-◌, ◌<◌, ◌≤◌, length, get_or, map, refl, sym, ap, ◌∙◌, arith, Option, Some, None}
+use Rattle.std.proofs.Common.{◌≡◌, length, map, sym, ap, ◌∙◌, arith}
 use Rattle.slab.specs.Slab.{get}
 use Rattle.range_store.specs.Nodes.{items_of, children_of, numbers, before}
-use Rattle.range_store.specs.Gaps.{turn, inside, IsGap, place, IsFound, IsLast}
+use Rattle.range_store.specs.Gaps.{turn, inside, place}
 use Rattle.range_store.proofs.Below.{numbers_leaf}
-use Rattle.range_store.proofs.Gaps.{leaf_gap, leaf_place, leaf_index, way_small}
-use Rattle.range_store.proofs.Ways.{level, child_within, below_kid, below_turn, below_inside, below_gap, below_place, below_here, below_most, last_above, last_here, none_before, items_known}
+use Rattle.range_store.proofs.Gaps.{leaf_place, leaf_index}
+use Rattle.range_store.proofs.Ways.{child_within, below_kid, below_turn, below_inside, below_here, below_most, last_above, last_here, none_before, items_known}
 use Rattle.range_store.proofs.btree.way.+item_before.Goals as goal
 
 pub last_of-requires : goal.last_of-requires

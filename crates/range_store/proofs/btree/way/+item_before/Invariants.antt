@@ -1,4 +1,3 @@
-use Rattle.std.proofs.Common.{ℕ}
 use Rattle.range_store.proofs.btree.way.+item_before.Given as goal
 
 abbrev pub decreases-item_before : goal.decreases-item_before

@@ -1,10 +1,7 @@
-use Rattle.std.proofs.Common.{◌≡◌, ℕ, suc, ◌+◌, ◌-◌, ◌<◌, ◌≤◌, length, get_or, refl, sym, ap, ◌∙◌, arith, Option, Some, None}
-use Rattle.slab.specs.Slab.{get}
-use Rattle.range_store.specs.Nodes.{items_of, children_of, numbers}
-use Rattle.range_store.specs.Gaps.{turn, inside, IsGap, place, IsFound}
+use Rattle.std.proofs.Common.{length, refl, ap, arith}
 use Rattle.range_store.proofs.Below.{numbers_leaf}
-use Rattle.range_store.proofs.Gaps.{leaf_gap, leaf_place, leaf_index, way_small}
-use Rattle.range_store.proofs.Ways.{level, child_within, below_kid, below_turn, below_inside, below_gap, below_place, below_here, below_most, found_above, found_between, past_last, leaf_found}
+use Rattle.range_store.proofs.Gaps.{leaf_place, leaf_index}
+use Rattle.range_store.proofs.Ways.{leaf_found}
 use Rattle.range_store.proofs.btree.way.following_in_leaf.Goals as goal
 
 pub returns-then-gap-item_count : goal.returns-then-gap-item_count

@@ -1,10 +1,10 @@
-use Rattle.std.proofs.Common.{◌≡◌, ℕ, suc, ◌+◌, ◌-◌, ◌*◌, ◌<◌, ◌≤◌, [], ◌∷◌, length, refl, sym, ap, ◌∙◌, arith, None, Some}
+use Rattle.std.proofs.Common.{◌≡◌, suc, ◌+◌, ◌-◌, ◌≤◌, [], ◌∷◌, length, refl, sym, ap, ◌∙◌, arith, None}
 use Rattle.std.specs.List.{insert}
 use Rattle.std.proofs.lemmas.List.Edits.{length-insert}
 use Rattle.range_store.specs.Nodes.{numbers, IsTree}
 use Rattle.range_store.specs.Gaps.{IsGap, place, seat_place}
 use Rattle.range_store.specs.Trees.{tree_numbers, IsTreeGap, tree_place, gap_or_end}
-use Rattle.range_store.specs.declared.btree.node.TheConstants.{MOST, LEAST}
+use Rattle.range_store.specs.declared.btree.node.TheConstants.{MOST}
 use Rattle.range_store.proofs.Gaps.{leaf_gap, leaf_place, place_within, way_small}
 use Rattle.range_store.proofs.Levels.{empty_levels, levels_le}
 use Rattle.range_store.proofs.Planting.{first_tree, one_more, kept_root, kept_gap, taller_root, taller_gap, taller_room, IsPlanted, planted_roomy}

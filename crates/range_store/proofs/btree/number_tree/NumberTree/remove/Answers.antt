@@ -1,4 +1,4 @@
-use Rattle.std.proofs.Common.{◌≡◌, ℕ, suc, ◌+◌, ◌-◌, ◌<◌, ◌≤◌, ◌∙◌, List, length, get_or, Bool, true, false, refl, ap, sym, arith}
+use Rattle.std.proofs.Common.{◌≡◌, ℕ, suc, ◌+◌, ◌-◌, ◌<◌, ◌∙◌, List, length, get_or, Bool, true, false, refl, ap, sym, arith}
 use Rattle.std.specs.List.{remove}
 use Rattle.std.proofs.Math.ListN.{set}
 use Rattle.std.proofs.lemmas.List.Edits.{length-remove}
@@ -123,8 +123,7 @@ returns-clause-following c =
     let less = length-remove (tree_numbers c.args.self.now) (tree_place c.args.self.now c.args.gap - 1) (omega (arith, c.requires.some, gap_within c.args.self.now c.args.gap c.requires.gap)) in
     let known = rw c.in_ok-gap-2.was at c.remove_in_leaf-2.ensures.gap in
     let next : tree_place c.args.self.now c.args.gap - 1 + 1 ≡ tree_place c.args.self.now c.args.gap = omega (arith, c.requires.some) in
-    let item = next_here (tree_numbers c.args.self.now) (tree_place c.args.self.now c.args.gap - 1) (omega (arith, next, (successor a).1)) ∙ ap (λ m. get_or (tree_numbers c.args.self.now) m 0) next in
-    (
+    let item = next_here (tree_numbers c.args.self.now) (tree_place c.args.self.now c.args.gap - 1) (omega (arith, next, (successor a).1)) ∙ ap (λ m. get_or (tree_numbers c.args.self.now) m 0) next in (
       known.0,
       omega (arith, known.1, (further a).1, next),
       omega (arith, ap length list, less, (successor a).1),

@@ -1,4 +1,4 @@
-use Rattle.std.proofs.Common.{ap, count_by, refl, ◌∙◌}
+use Rattle.std.proofs.Common.{ap, count_by}
 use Rattle.range_store.specs.Falling.{passes}
 use Rattle.range_store.proofs.Rank.{numbers_none}
 use Rattle.range_store.proofs.Whole.{deep}
