@@ -154,8 +154,8 @@ impl<K: PartialEnum, V: Ord + Drop, C: Storage<Item<AnyRange<K>, V>>> RangeMap<K
     /// order, each range before its value.
     ///
     /// Over keys that tell their neighbours and ends, as integers and characters, maps that bind
-    /// every key alike, and no others, are `Equal`, and compare alike with every map. Takes no
-    /// memory. Costs one step for each stored range.
+    /// every key alike, and no others, are `Equal`, and compare alike with every map.
+    /// Allocates nothing. Costs one step for each stored range.
     ///
     /// ```
     /// // of a map that binds 0..=5 to 1
