@@ -30,6 +30,15 @@ appends_then (Some xs) None c x y p q = absurd p
 appends_then (Some xs) (Some ys) None x y p q = absurd q
 appends_then (Some xs) (Some ys) (Some zs) x y p q = q ∙ ap (λ l. l ++ y) p ∙ append_assoc xs x y
 
+pub appends_keeps : (a b c : Option (List ℕ)) (x : List ℕ) → Appends a b x → Keeps b c → Appends a c x
+appends_keeps None b c x p q = tt
+appends_keeps (Some xs) None c x p q = absurd p
+appends_keeps (Some xs) (Some ys) None x p q = absurd q
+appends_keeps (Some xs) (Some ys) (Some zs) x p q = q ∙ p
+
+pub writes_keeps : (a b c : Option (List ℕ)) (Fits : List ℕ → Type 0) → Writes a b Fits → Keeps b c → Writes a c Fits
+writes_keeps a b c Fits (text, fits, appended) kept = (text, fits, appends_keeps a b c text appended kept)
+
 pub on_ok_as : {A E : Type 0} (r : Result A E) (P Q : Type 0) → (P → Q) → OnOk r P → OnOk r Q
 on_ok_as (Ok x) P Q follows p = follows p
 on_ok_as (Err e) P Q follows p = tt
@@ -58,6 +67,14 @@ module _ {X : Type 0} (SpellsOne : X → List ℕ → Type 0) where
   pub shown_first : (x : X) (others : List X) (before now next : Option (List ℕ)) → Writes before now (SpellsOne x) → Writes now next (SpellsEach SpellsOne others) → Writes before next (SpellsEach SpellsOne (x ∷ others))
   shown_first x others before now next (line, spelled, first) (lines, rest, more) = (line ++ lines, (line, lines, spelled, rest, refl), appends_then before now next line lines first more)
 
+  pub each_are_lines : (none : List ℕ) (all : List X) (text : List ℕ) → length all ≢ 0 → SpellsEach SpellsOne all text → SpellsLines SpellsOne none all text
+  each_are_lines none [] text some spelled = absurd (some refl)
+  each_are_lines none (x ∷ rest) text some spelled = spelled
+
+  pub none_are_lines : (none : List ℕ) (all : List X) (text : List ℕ) → length all ≡ 0 → text ≡ none → SpellsLines SpellsOne none all text
+  none_are_lines none [] text empty e = e
+  none_are_lines none (x ∷ rest) text empty e = absurd (omega (arith, empty))
+
 module _ {K : Type 0} (order : KeyOrder K) (as_number : K → ℤ) (shape : K → Data) (reads : Data → Bool) (is_read : Data → K → Type 0) where
   pub reads_line : (line : List ℕ) (command : Option (CommandLine K)) → IfSome command (SpellsLine order.is_key as_number line)
       → IfNone command ((known : CommandLine K) → SpellsLine order.is_key as_number line known → ⊥) → IsRead order as_number shape reads is_read line command
@@ -77,6 +94,15 @@ module _ {K : Type 0} (order : KeyOrder K) (as_number : K → ℤ) (shape : K �
     pub written : List ℕ
     pub appended : Appends before now written
     pub goes_on : (more rest : List ℕ) → Conversation order as_number shape reads is_read items remaining more rest → Conversation order as_number shape reads is_read [] input (written ++ more) rest
+
+  pub answered_none : (input known : Option (List ℕ)) (items : List (Item (AnyRange K) ℤ)) → items ≡ [] → IfSome input (λ bytes. HasAnswered bytes input known known items)
+  answered_none None known items empty = tt
+  answered_none (Some bytes) known items empty = record {
+    remaining = bytes;
+    left_is = refl;
+    written = [];
+    appended = appends_none known;
+    goes_on = λ more rest held. subst (λ list. Conversation order as_number shape reads is_read list bytes more rest) empty held;
   }
 
   pub answered_more : (input : List ℕ) (left later before now next : Option (List ℕ)) (items changed : List (Item (AnyRange K) ℤ)) (line : List ℕ)
