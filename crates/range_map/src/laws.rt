@@ -18,8 +18,8 @@ pub fn coarse_lists_are_unique<K: PartialEnum, V: Eq>()
         → AreAlike K.order V.eq items others }
 {}
 
-/// No list with the same bindings, disjoint or not, is shorter than a canonical one, and a canonical
-/// one is disjoint. Over every lawful key.
+/// No list with the same bindings, disjoint or not, is shorter than a canonical one, and a
+/// canonical one is disjoint. Over every lawful key.
 pub fn coarse_lists_are_shortest<K: PartialEnum, V: Eq>()
     ensures shortest { (items others : List (Item (AnyRange K) V)) → IsCoarse K.order V.eq items
         → BindAlike K.order V.eq items others → length items ≤ length others }
