@@ -1,4 +1,4 @@
-//! Tests over keys and values that are lawful and unlike numbers.
+//! Keys and values that are lawful and unlike numbers.
 #![tactic(auto)]
 
 pub mod blind;
@@ -6,5 +6,3 @@ pub mod fraction;
 pub mod half;
 pub mod loose;
 pub mod only;
-#[cfg(test)]
-mod tests;

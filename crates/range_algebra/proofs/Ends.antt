@@ -175,9 +175,3 @@ module _ {K : Type 0} (order : KeyOrder K) (lawful : IsLawful order) where
 
   pub last_none : (r : AnyRange K) → IsComplete order → IsKnownRange order r → (p : Option K) → SameAnswer order (end_key order r.end) p → IfNone p (HasNoGreatest order r)
   last_none r complete known p h = last_none_by r complete known p h
-
-  pub empty_no_least : (r : AnyRange K) → IsEmptyRange order r → HasNoLeast order r
-  empty_no_least r e k key h = empty_is_keyless order lawful r e k key h.0
-
-  pub empty_no_greatest : (r : AnyRange K) → IsEmptyRange order r → HasNoGreatest order r
-  empty_no_greatest r e k key h = empty_is_keyless order lawful r e k key h.0

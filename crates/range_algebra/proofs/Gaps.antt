@@ -18,9 +18,6 @@ not_greater_less Equal h = refl
 not_greater_less Greater h = h
 
 module _ {K : Type 0} (order : KeyOrder K) (lawful : IsLawful order) (len : K → ℕ) (distance : K → K → ℕ) (measured : IsMeasure order len distance) where
-  PLe : Position K → Position K → Type 0
-  PLe p q = Le (position_cmp order.cmp) p q
-
   -- at a key or just behind it
   unfoldable pub IsPlace : Position K → Type 0
   IsPlace MinusInfinity = ⊥

@@ -44,49 +44,6 @@ module _ {K : Type 0} (order : KeyOrder K) (total : IsTotalOrder order.cmp) wher
   length_both : (xs ys : List K) (m n : ℕ) → length xs ≡ m → length ys ≡ n → length (xs ++ ys) ≡ m + n
   length_both xs ys m n e f = omega (arith, length-append xs ys)
 
-  not_both : (a b : K) → Below order a b → Below order b a → ⊥
-  not_both a b l l' = let e = total.trans a b a l l' in let f = tied_itself total a in let g : Less ≡ Equal = sym e ∙ f in cc
-
-  above_first : (x : K) (xs : List K) (k : K) → AllByRecursion (Below order x) xs → Lists order xs k → Below order x k
-  above_first x [] k all h = absurd h
-  above_first x (y ∷ xs) k all (inl e) = sym (alike_right total y k x e) ∙ all.0
-  above_first x (y ∷ xs) k all (inr h) = above_first x xs k all.1 h
-
-  same_first : (x y : K) (xs ys : List K) → AreRising order (x ∷ xs) → AreRising order (y ∷ ys) → Lists order (y ∷ ys) x → Lists order (x ∷ xs) y → order.cmp x y ≡ Equal
-  same_first x y xs ys rising rising' (inl e) h = tied_back total y x e
-  same_first x y xs ys rising rising' (inr g) (inl e) = e
-  same_first x y xs ys rising rising' (inr g) (inr h) = absurd (not_both x y (above_first x xs y rising.0 h) (above_first y ys x rising'.0 g))
-
-  -- what is listed behind the first is listed behind a first that equals it
-  behind_first : (x y : K) (xs ys : List K) (k : K) → AreRising order (x ∷ xs) → order.cmp x y ≡ Equal → Lists order xs k → Lists order (y ∷ ys) k → Lists order ys k
-  behind_first x y xs ys k rising e h (inr g) = g
-  behind_first x y xs ys k rising e h (inl f) =
-      let l = above_first x xs k rising.0 h in
-      let i : order.cmp x k ≡ Equal = total.congr x y k e ∙ f in
-      let j : Less ≡ Equal = sym l ∙ i in
-      cc
-
-  SameKeys : List K → List K → Type 0
-  SameKeys xs ys = (k : K) → order.is_key k → Lists order xs k ↔ Lists order ys k
-
-  same_length : (xs ys : List K) → AllByRecursion order.is_key xs → AllByRecursion order.is_key ys → AreRising order xs → AreRising order ys → SameKeys xs ys → length xs ≡ length ys
-  unfolding SameKeys
-  same_length [] [] all all' rising rising' same = refl
-  same_length [] (y ∷ ys) all all' rising rising' same = absurd ((same y all'.0).1 (inl (tied_itself total y)))
-  same_length (x ∷ xs) [] all all' rising rising' same = absurd ((same x all.0).0 (inl (tied_itself total x)))
-  same_length (x ∷ xs) (y ∷ ys) all all' rising rising' same =
-      let e = same_first x y xs ys rising rising' ((same x all.0).0 (inl (tied_itself total x))) ((same y all'.0).1 (inl (tied_itself total y))) in
-      ap suc (same_length xs ys all.1 all'.1 rising.1 rising'.1 (λ k key. (
-        λ h. behind_first x y xs ys k rising e h ((same k key).0 (inr h)),
-        λ h. behind_first y x ys xs k rising' (tied_back total x y e) h ((same k key).1 (inr h)),
-      )))
-
-  -- there is one number of keys
-  pub number_unique : (P : K → Type 0) (m n : ℕ) → IsNumberOfKeys order P m → IsNumberOfKeys order P n → m ≡ n
-  unfolding SameKeys
-  number_unique P m n g h =
-      sym g.many ∙ same_length g.keys h.keys g.in_type h.in_type g.rising h.rising (λ k key. let i = g.listed k key in let j = h.listed k key in (λ l. j.0 (i.1 l), λ l. i.0 (j.1 l))) ∙ h.many
-
   -- there is no key of a kind that no key is of
   pub number_none : (P : K → Type 0) → ((k : K) → order.is_key k → ¬ P k) → IsNumberOfKeys order P 0
   number_none P none = record { keys = []; in_type = tt; rising = tt; listed = λ k key. (none k key, λ h. absurd h); many = refl }

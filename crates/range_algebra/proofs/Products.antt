@@ -55,10 +55,6 @@ module _ {K : Type 0} (order : KeyOrder K) (lawful : IsLawful order) where
       not_le cmp total (end_position order b) (start_position order i) (λ le.
       lt_not_le cmp total (start_position order i) (past order (end_position order b)) ((reaches order lawful i b known' known).0 le) (eq_le cmp total (past order (end_position order b)) (start_position order i) at))
 
-  not_empty : (s e : Bound K) → is_gt (position_cmp order.cmp (start_position order s) (end_position order e)) ≡ false → PLe (start_position order s) (end_position order e)
-  unfolding PLe
-  not_empty s e h = h
-
   unless_some : (r x : AnyRange K) (d : Bool) → is_empty_range order r ≡ d → (if d then None else Some r) ≡ Some x → is_empty_range order r ≡ false
   unless_some r x true e h = absurd (cc)
   unless_some r x false e h = e

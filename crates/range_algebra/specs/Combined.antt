@@ -23,6 +23,3 @@ module _ {K : Type 0} (order : KeyOrder K) where
 
   abbrev pub common : AnyRange K → AnyRange K → AnyRange K
   common r s = record { start = later_start r.start s.start; end = earlier_end r.end s.end }
-
-  abbrev pub hull : AnyRange K → AnyRange K → AnyRange K
-  hull r s = record { start = earlier_start r.start s.start; end = later_end r.end s.end }

@@ -116,9 +116,9 @@ module _ {K V : Type 0} (order : KeyOrder K) (lawful : IsLawful order) (same : V
       let last = chain_right cmp total same equal (item_lower order) (item_upper order) (λ j. j.value) xs (x ∷ []) chain in
       let good = goods xs (every_left (λ i. IsKnownRange order i.key) xs (x ∷ []) known) (chain_left cmp total same equal (item_lower order) (item_upper order) (λ j. j.value) xs (x ∷ []) chain) in
       let apart = apart_from_last xs x whole in
-      let empty : frame.run ≡ [] = no_item (JoinsOrMeets order same x.key x.value) frame.front frame.run frame.behind (subst (λ is. Every (λ i. ¬ JoinsOrMeets order same x.key x.value i) is) frame.before apart) frame.concerned in
+      let empty : frame.run ≡ [] = no_item (JoinsOrMeets order same x.key x.value) frame.front frame.run frame.behind (subst (λ is. Every (λ i. ¬ JoinsOrMeets order same x.key x.value i) is) frame.before apart) frame.such.concerned in
       let split : xs ≡ frame.front ++ frame.behind = frame.before ∙ ap (λ is. frame.front ++ is ++ frame.behind) empty ∙ ap (λ is. is ++ frame.behind) (append-nil frame.front) in
-      let after : new ≡ frame.front ++ x ∷ frame.behind = frame.after ∙ ap (λ is. frame.front ++ is ++ frame.behind) (frame.whole empty) ∙ one_between frame.front x frame.behind in
+      let after : new ≡ frame.front ++ x ∷ frame.behind = frame.after ∙ ap (λ is. frame.front ++ is ++ frame.behind) (frame.such.whole empty) ∙ one_between frame.front x frame.behind in
       let behind : frame.behind ≡ [] = none_behind frame.front frame.behind x (every_right (λ i. IsKnownRange order i.key × Lt cmp (item_lower order i) (item_upper order i)) frame.front frame.behind (subst Goods split good)) last.0 (every_right (λ i. LeadsTo i x) frame.front frame.behind (subst (λ is. Every (λ i. LeadsTo i x) is) split leads)) (subst (Chained order lawful same equal) after (stored_chain order lawful same equal new stored)) in
       after ∙ ap (λ is. frame.front ++ x ∷ is) behind ∙ ap (λ is. is ++ x ∷ []) (sym (split ∙ ap (λ is. frame.front ++ is) behind ∙ append-nil frame.front))
 

@@ -33,9 +33,6 @@ module _ {V : Type 0} (cmp : V → V → Ordering) (reads : Data → Bool) (is_r
     pub read : AllZip is_read (map view vs) values
     pub set : IsFromIterResult cmp values s
 
-  pub values_begun : (s : BTreeSet V) → IsEmpty s → IsOrdered cmp s → AreValuesSoRead [] s
-  values_begun s none ordered = record { sound = refl; values = []; read = tt; set = (λ q. ap (list_any (eq_by_cmp cmp q)) none, ordered) }
-
   module _ (total : IsTotalOrder cmp) where
     pub values_more : (vs : List Value) (v : Value) (old new : BTreeSet V) (x : V) → AreValuesSoRead vs old → is_read (view v) x → IsTrue (reads (view v)) → Updates cmp old new x true → IsOrdered cmp new → AreValuesSoRead (vs ++ v ∷ []) new
     values_more vs v old new x h read fine updates ordered =

@@ -13,23 +13,6 @@ module _ {X : Type 0} (shape : X → Data) where
   abbrev pub HasWritten : List X → List X → List Value → Type 0
   HasWritten all left written = map view written ++ map shape left ≡ map shape all
 
-  pub written_none : (all : List X) (written : List Value) → written ≡ [] → HasWritten all all written
-  written_none all written e = rw e refl
-
-  moved : (written : List Value) (v : Value) (rest : List Data) → map view (written ++ v ∷ []) ++ rest ≡ map view written ++ view v ∷ rest
-  moved [] v rest = refl
-  moved (w ∷ written) v rest = ap (λ ds. view w ∷ ds) (moved written v rest)
-
-  pub written_more : (all left : List X) (x : X) (written : List Value) (v : Value) → HasWritten all (x ∷ left) written → view v ≡ shape x → HasWritten all left (written ++ v ∷ [])
-  written_more all left x written v h e = moved written v (map shape left) ∙ ap (λ d. map view written ++ d ∷ map shape left) e ∙ h
-
-  none_left : (ds : List Data) → ds ++ [] ≡ ds
-  none_left [] = refl
-  none_left (d ∷ ds) = ap (λ es. d ∷ es) (none_left ds)
-
-  pub written_all : (all : List X) (written : List Value) → HasWritten all [] written → map view written ≡ map shape all
-  written_all all written h = sym (none_left (map view written)) ∙ h
-
 -- all that a loop has written are values, where what is left are
 abbrev pub AreValuesSoFar : {X : Type 0} → (X → Type 0) → List X → List X → Type 0
 AreValuesSoFar P all left = AllByRecursion P left → AllByRecursion P all

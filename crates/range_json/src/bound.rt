@@ -38,7 +38,8 @@ pub(crate) fn bound_to_json<K: Json>(alloc: Global, bound: &Bound<K>) -> Result<
 fn key_from_json<K: Json>(alloc: Global, value: &Value, index: usize) -> Result<K, JsonError>
     ensures read { IfOk result (K.is_read (view value.now)) }
     ensures sound { OnOk result (key_fault K.reads index (view value.now) ≡ None) }
-    ensures fault { IfErr result (λ e. (e ≡ Memory) ⊎ (key_fault K.reads index (view value.now) ≡ Some e)) }
+    ensures fault { IfErr result
+        (λ e. (e ≡ Memory) ⊎ (key_fault K.reads index (view value.now) ≡ Some e)) }
 {
     match K::from_json(alloc, value) {
         Ok(key) => Ok(key),
@@ -67,7 +68,8 @@ pub(crate) fn bound_from_json<K: Json>(
 ) -> Result<Bound<K>, JsonError>
     ensures read { IfOk result (IsBoundRead K.is_read (view value.now)) }
     ensures sound { OnOk result (bound_fault K.reads index (view value.now) ≡ None) }
-    ensures fault { IfErr result (λ e. (e ≡ Memory) ⊎ (bound_fault K.reads index (view value.now) ≡ Some e)) }
+    ensures fault { IfErr result
+        (λ e. (e ≡ Memory) ⊎ (bound_fault K.reads index (view value.now) ≡ Some e)) }
 {
     if let Some(text) = value.as_str() {
         return if text == "Unbounded" {

@@ -25,7 +25,8 @@ use std::alloc::Global;
 fn value_from_json<V: Json>(alloc: Global, value: &Value, index: usize) -> Result<V, JsonError>
     ensures read { IfOk result (V.is_read (view value.now)) }
     ensures sound { OnOk result (value_fault V.reads index (view value.now) ≡ None) }
-    ensures fault { IfErr result (λ e. (e ≡ Memory) ⊎ (value_fault V.reads index (view value.now) ≡ Some e)) }
+    ensures fault { IfErr result
+        (λ e. (e ≡ Memory) ⊎ (value_fault V.reads index (view value.now) ≡ Some e)) }
 {
     match V::from_json(alloc, value) {
         Ok(value) => Ok(value),
@@ -42,7 +43,8 @@ pub(crate) fn element_from_json<K: Json, V: Json>(
 ) -> Result<Item<AnyRange<K>, V>, JsonError>
     ensures read { IfOk result (IsElementRead K.is_read V.is_read (view value.now)) }
     ensures sound { OnOk result (element_fault K.reads V.reads index (view value.now) ≡ None) }
-    ensures fault { IfErr result (λ e. (e ≡ Memory) ⊎ (element_fault K.reads V.reads index (view value.now) ≡ Some e)) }
+    ensures fault { IfErr result
+        (λ e. (e ≡ Memory) ⊎ (element_fault K.reads V.reads index (view value.now) ≡ Some e)) }
 {
     match pair(value) {
         Some((range, value)) => Ok(Item {
@@ -61,13 +63,23 @@ pub(crate) fn insert_element<K: Measure + Clone, V: Eq + Clone, C: Storage<Item<
 ) -> Result<(), JsonError>
     requires { ClonesAreEqual K.is_clone K.eq }
     ensures known { IsKnownRange K.order element.key }
-    ensures apart { OnOk result (¬ ((¬ IsEmptyRange K.order element.key) × MeetsSome K.order (C.items map.old) element.key)) }
-    ensures bound { OnOk result (IsBoundAfter K.order V.eq (C.items map.old) (C.items map.new) element.key element.value) }
-    ensures meets { OnOk result ((¬ IsEmptyRange K.order element.key) → MeetAlso K.order (C.items map.old) (C.items map.new) element.key) }
-    ensures frame { OnOk result ((¬ IsEmptyRange K.order element.key) → GaveWayTo K.order V.eq (C.items map.old) (C.items map.new) element.key element.value) }
+    ensures apart { OnOk result
+        (¬ ((¬ IsEmptyRange K.order element.key)
+        × MeetsSome K.order (C.items map.old) element.key)) }
+    ensures bound { OnOk result
+        (IsBoundAfter K.order V.eq (C.items map.old) (C.items map.new) element.key element.value) }
+    ensures meets { OnOk result
+        ((¬ IsEmptyRange K.order element.key)
+        → MeetAlso K.order (C.items map.old) (C.items map.new) element.key) }
+    ensures frame { OnOk result
+        ((¬ IsEmptyRange K.order element.key)
+        → GaveWayTo K.order V.eq (C.items map.old) (C.items map.new) element.key element.value) }
     ensures form { IsStored K.order V.eq (C.items map.new) }
     ensures empty_unchanged { IsEmptyRange K.order element.key → C.items map.new ≡ C.items map.old }
-    ensures met { IfErr result (λ e. (e ≡ Memory) ⊎ ((e ≡ Meets index) × (¬ IsEmptyRange K.order element.key) × MeetsSome K.order (C.items map.old) element.key)) }
+    ensures met { IfErr result
+        (λ e. (e ≡ Memory)
+        ⊎ ((e ≡ Meets index) × (¬ IsEmptyRange K.order element.key)
+        × MeetsSome K.order (C.items map.old) element.key)) }
 {
     let Item { key, value } = element;
     inner::known(&key);

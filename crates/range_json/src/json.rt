@@ -48,7 +48,9 @@ pub trait Json: Sized + Drop {
 pub trait ReadsBack: Json + Eq {
     ghost reads_written: { (x : Self) → Self.is_value x → IsTrue (Self.reads (Self.shape x)) };
 
-    ghost reads_back: { (x y : Self) → Self.is_value x → Self.is_read (Self.shape x) y → IsTrue (Self.eq x y) };
+    ghost reads_back: { (x y : Self) → Self.is_value x → Self.is_read (Self.shape x) y
+        → IsTrue (Self.eq x y) };
 
-    ghost one_reading: { (d : Data) (x y : Self) → Self.is_read d x → Self.is_read d y → IsTrue (Self.eq x y) };
+    ghost one_reading: { (d : Data) (x y : Self) → Self.is_read d x → Self.is_read d y
+        → IsTrue (Self.eq x y) };
 }

@@ -26,7 +26,8 @@ pub(crate) fn pair_to_json<K: Json, V: Json>(
     range: &AnyRange<K>,
     value: &V,
 ) -> Result<Value, AllocError>
-    ensures written { IfOk result (λ v. view v ≡ pair_shape (range_shape K.shape range.now) (V.shape value.now)) }
+    ensures written { IfOk result
+        (λ v. view v ≡ pair_shape (range_shape K.shape range.now) (V.shape value.now)) }
     ensures values { OnOk result (IsRangeValue K.is_value range.now × V.is_value value.now) }
 {
     let mut both = Vec::with_capacity(alloc, 2)?;
@@ -75,9 +76,13 @@ pub fn map_from_json<
     C: Storage<Item<AnyRange<K>, V>>,
 >(alloc: Global, value: &Value) -> Result<RangeMap<K, V, C>, JsonError>
     requires { ClonesAreEqual K.is_clone K.eq }
-    ensures read { IfOk result (λ map. IsMapRead K.order K.reads V.reads K.is_read V.is_read V.eq (view value.now) (C.items map)) }
+    ensures read { IfOk result
+        (λ map. IsMapRead K.order K.reads V.reads K.is_read V.is_read V.eq (view value.now)
+        (C.items map)) }
     ensures form { IfOk result (λ map. IsStored K.order V.eq (C.items map)) }
-    ensures fault { IfErr result (λ e. (e ≡ Memory) ⊎ IsMapFault K.order K.reads V.reads K.is_read V.is_read (view value.now) e) }
+    ensures fault { IfErr result
+        (λ e. (e ≡ Memory)
+        ⊎ IsMapFault K.order K.reads V.reads K.is_read V.is_read (view value.now) e) }
 {
     let elements = elements_of_map(value)?;
     let mut map = RangeMap::new(alloc);

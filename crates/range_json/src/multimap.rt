@@ -40,8 +40,10 @@ pub fn multimap_to_json<
     V: Json + Ord + Clone,
     C: Storage<Item<AnyRange<K>, BTreeSet<V>>>,
 >(alloc: Global, multimap: &RangeMultiMap<K, BTreeSet<V>, C>) -> Result<Value, AllocError>
-    ensures written { IfOk result (λ v. view v ≡ map_shape K.shape (values_shape V.shape) (C.items multimap.now)) }
-    ensures values { OnOk result (AreItemValues K.is_value (IsValueSet V.cmp V.is_value) (C.items multimap.now)) }
+    ensures written { IfOk result
+        (λ v. view v ≡ map_shape K.shape (values_shape V.shape) (C.items multimap.now)) }
+    ensures values { OnOk result
+        (AreItemValues K.is_value (IsValueSet V.cmp V.is_value) (C.items multimap.now)) }
 {
     let mut written = Vec::with_capacity(alloc, multimap.range_count())?;
     let mut items = multimap.iter();
@@ -57,10 +59,14 @@ fn element_with_values<K: Json, V: Json + Ord + Clone>(
     value: &Value,
     index: usize,
 ) -> Result<Item<AnyRange<K>, BTreeSet<V>>, JsonError>
-    ensures read { IfOk result (IsElementRead K.is_read (AreValuesRead V.cmp V.is_read) (view value.now)) }
+    ensures read { IfOk result
+        (IsElementRead K.is_read (AreValuesRead V.cmp V.is_read) (view value.now)) }
     ensures nonempty { IfOk result (λ x. ¬ IsEmpty x.value) }
-    ensures sound { OnOk result (element_fault K.reads (reads_some_values V.reads) index (view value.now) ≡ None) }
-    ensures fault { IfErr result (λ e. (e ≡ Memory) ⊎ (element_fault K.reads (reads_some_values V.reads) index (view value.now) ≡ Some e)) }
+    ensures sound { OnOk result
+        (element_fault K.reads (reads_some_values V.reads) index (view value.now) ≡ None) }
+    ensures fault { IfErr result
+        (λ e. (e ≡ Memory)
+        ⊎ (element_fault K.reads (reads_some_values V.reads) index (view value.now) ≡ Some e)) }
 {
     let element = element_from_json::<K, BTreeSet<V>>(alloc, value, index)?;
     if element.value.is_empty() {
@@ -78,13 +84,26 @@ fn insert_values<K: Measure + Clone, S: MaybeEmpty, C: Storage<Item<AnyRange<K>,
     requires keys { ClonesAreEqual K.is_clone K.eq }
     requires nonempty { ¬ S.is_void element.value }
     ensures known { IsKnownRange K.order element.key }
-    ensures apart { OnOk result (¬ ((¬ IsEmptyRange K.order element.key) × MeetsSome K.order (C.items multimap.old) element.key)) }
-    ensures bound { OnOk result (IsBoundAfter K.order S.eq (C.items multimap.old) (C.items multimap.new) element.key element.value) }
-    ensures meets { OnOk result ((¬ IsEmptyRange K.order element.key) → MeetAlso K.order (C.items multimap.old) (C.items multimap.new) element.key) }
-    ensures frame { OnOk result ((¬ IsEmptyRange K.order element.key) → GaveWayTo K.order S.eq (C.items multimap.old) (C.items multimap.new) element.key element.value) }
+    ensures apart { OnOk result
+        (¬ ((¬ IsEmptyRange K.order element.key)
+        × MeetsSome K.order (C.items multimap.old) element.key)) }
+    ensures bound { OnOk result
+        (IsBoundAfter K.order S.eq (C.items multimap.old) (C.items multimap.new) element.key
+        element.value) }
+    ensures meets { OnOk result
+        ((¬ IsEmptyRange K.order element.key)
+        → MeetAlso K.order (C.items multimap.old) (C.items multimap.new) element.key) }
+    ensures frame { OnOk result
+        ((¬ IsEmptyRange K.order element.key)
+        → GaveWayTo K.order S.eq (C.items multimap.old) (C.items multimap.new) element.key
+        element.value) }
     ensures form { IsStored K.order S.eq (C.items multimap.new) }
-    ensures empty_unchanged { IsEmptyRange K.order element.key → C.items multimap.new ≡ C.items multimap.old }
-    ensures met { IfErr result (λ e. (e ≡ Memory) ⊎ ((e ≡ Meets index) × (¬ IsEmptyRange K.order element.key) × MeetsSome K.order (C.items multimap.old) element.key)) }
+    ensures empty_unchanged { IsEmptyRange K.order element.key
+        → C.items multimap.new ≡ C.items multimap.old }
+    ensures met { IfErr result
+        (λ e. (e ≡ Memory)
+        ⊎ ((e ≡ Meets index) × (¬ IsEmptyRange K.order element.key)
+        × MeetsSome K.order (C.items multimap.old) element.key)) }
 {
     let Item { key, value } = element;
     inner::known(&key);
@@ -111,10 +130,14 @@ pub fn multimap_from_json<
     C: Storage<Item<AnyRange<K>, BTreeSet<V>>>,
 >(alloc: Global, value: &Value) -> Result<RangeMultiMap<K, BTreeSet<V>, C>, JsonError>
     requires { ClonesAreEqual K.is_clone K.eq }
-    ensures read { IfOk result (λ map. IsMultimapRead K.order K.reads V.reads K.is_read V.is_read V.cmp V.eq (view value.now) (C.items map)) }
+    ensures read { IfOk result
+        (λ map. IsMultimapRead K.order K.reads V.reads K.is_read V.is_read V.cmp V.eq
+        (view value.now) (C.items map)) }
     ensures form { IfOk result (λ map. IsStored K.order (same_values V.eq) (C.items map)) }
     ensures nonempty { IfOk result (λ map. HasNoEmptySet IsEmpty (C.items map)) }
-    ensures fault { IfErr result (λ e. (e ≡ Memory) ⊎ IsMultimapFault K.order K.reads V.reads K.is_read V.is_read V.cmp (view value.now) e) }
+    ensures fault { IfErr result
+        (λ e. (e ≡ Memory)
+        ⊎ IsMultimapFault K.order K.reads V.reads K.is_read V.is_read V.cmp (view value.now) e) }
 {
     let elements = elements_of_map(value)?;
     let mut multimap = RangeMultiMap::new(alloc);

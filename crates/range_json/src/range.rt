@@ -44,7 +44,8 @@ pub(crate) fn element_range<K: Json>(
 ) -> Result<AnyRange<K>, JsonError>
     ensures read { IfOk result (IsRangeRead K.is_read (view value.now)) }
     ensures sound { OnOk result (range_fault K.reads index (view value.now) ≡ None) }
-    ensures fault { IfErr result (λ e. (e ≡ Memory) ⊎ (range_fault K.reads index (view value.now) ≡ Some e)) }
+    ensures fault { IfErr result
+        (λ e. (e ≡ Memory) ⊎ (range_fault K.reads index (view value.now) ≡ Some e)) }
 {
     match pair(value) {
         Some((start, end)) => Ok(AnyRange {
@@ -64,7 +65,8 @@ pub(crate) fn element_range<K: Json>(
 pub fn range_from_json<K: Json>(alloc: Global, value: &Value) -> Result<AnyRange<K>, JsonError>
     ensures read { IfOk result (IsRangeRead K.is_read (view value.now)) }
     ensures sound { OnOk result (range_fault K.reads 0 (view value.now) ≡ None) }
-    ensures fault { IfErr result (λ e. (e ≡ Memory) ⊎ (range_fault K.reads 0 (view value.now) ≡ Some e)) }
+    ensures fault { IfErr result
+        (λ e. (e ≡ Memory) ⊎ (range_fault K.reads 0 (view value.now) ≡ Some e)) }
 {
     element_range(alloc, value, 0)
 }

@@ -53,7 +53,8 @@ pub fn set_from_json<T: Json + Measure + Clone, C: Storage<Item<AnyRange<T>, ()>
     ensures read { IfOk result (λ set. IsSetRead T.is_read T.order (view value.now) (C.items set)) }
     ensures form { IfOk result (λ set. IsStoredSet T.order (C.items set)) }
     ensures sound { OnOk result (set_fault T.reads (view value.now) ≡ None) }
-    ensures fault { IfErr result (λ e. (e ≡ Memory) ⊎ (set_fault T.reads (view value.now) ≡ Some e)) }
+    ensures fault { IfErr result
+        (λ e. (e ≡ Memory) ⊎ (set_fault T.reads (view value.now) ≡ Some e)) }
 {
     let elements = elements_of_array(value)?;
     let mut set = RangeSet::new(alloc);

@@ -15,7 +15,8 @@ use std::alloc::{AllocError, Global};
 /// A whole number from `-top - 1` to `top`.
 fn signed_from_json(value: &Value, top: i64) -> Result<i64, ReadError>
     requires { pos 0 ≤ℤ top }
-    ensures { MatchResult result (λ z. signed_of (unsigned_abs top) (view value.now) ≡ Some z) (λ e. (e ≡ Refused) × (signed_of (unsigned_abs top) (view value.now) ≡ None)) }
+    ensures { MatchResult result (λ z. signed_of (unsigned_abs top) (view value.now) ≡ Some z)
+        (λ e. (e ≡ Refused) × (signed_of (unsigned_abs top) (view value.now) ≡ None)) }
 {
     match value.as_i64() {
         Some(number) if -top - 1 <= number && number <= top => Ok(number),
@@ -124,9 +125,11 @@ impl Json for i64 {
 }
 
 impl ReadsBack for i64 {
-    ghost reads_written = { λ x h. told_some (signed_back 9_223_372_036_854_775_807 (lit< tt) x h) };
+    ghost reads_written = { λ x h. told_some
+        (signed_back 9_223_372_036_854_775_807 (lit< tt) x h) };
 
-    ghost reads_back = { λ x y h e. same_integer (signed_back 9_223_372_036_854_775_807 (lit< tt) x h) e };
+    ghost reads_back = { λ x y h e. same_integer
+        (signed_back 9_223_372_036_854_775_807 (lit< tt) x h) e };
 
     ghost one_reading = { λ d x y e h. same_integer e h };
 }

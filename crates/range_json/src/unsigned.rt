@@ -12,7 +12,8 @@ use std::alloc::{AllocError, Global};
 
 /// A whole number from 0 to `top`.
 fn unsigned_from_json(value: &Value, top: u64) -> Result<u64, ReadError>
-    ensures { MatchResult result (λ n. unsigned_of top (view value.now) ≡ Some n) (λ e. (e ≡ Refused) × (unsigned_of top (view value.now) ≡ None)) }
+    ensures { MatchResult result (λ n. unsigned_of top (view value.now) ≡ Some n)
+        (λ e. (e ≡ Refused) × (unsigned_of top (view value.now) ≡ None)) }
 {
     match value.as_u64() {
         Some(number) if number <= top => Ok(number),

@@ -47,7 +47,8 @@ impl<V: Json + Ord> Json for BTreeSet<V> {
 impl<V: ReadsBack + Ord> ReadsBack for BTreeSet<V> {
     ghost reads_written = { set_written V.shape V.reads V.is_value V.reads_written V.cmp };
 
-    ghost reads_back = { set_back V.cmp V.total V.eq V.matches_eq V.is_read V.shape V.is_value V.reads_back };
+    ghost reads_back = { set_back V.cmp V.total V.eq V.matches_eq V.is_read V.shape V.is_value
+        V.reads_back };
 
     ghost one_reading = { one_set V.cmp V.total V.eq V.matches_eq V.is_read V.one_reading };
 }

@@ -19,7 +19,6 @@ use Rattle.range_algebra.specs.Cuts.{past, upper}
 use Rattle.range_map.specs.Edits.{turned_bound}
 use Rattle.range_algebra.proofs.Places.{reaches, turned, turned_known, unbounded_start, unbounded_end}
 use Rattle.range_map.proofs.Forms.{places}
-use Rattle.range_map.proofs.Listed.{less_test}
 
 module _ {K : Type 0} (order : KeyOrder K) (lawful : IsLawful order) where
   -- bounds of one kind with equal values have equal places past them
@@ -100,6 +99,3 @@ module _ {K : Type 0} (order : KeyOrder K) (lawful : IsLawful order) where
         λ h. le_lt_trans cmp total (upper order r) (start_position order s) (upper order i) (eq_le cmp total (upper order r) (start_position order s) at) (reach.0 (test.0 h)),
         λ l. test.1 (reach.1 (le_lt_trans cmp total (start_position order s) (upper order r) (upper order i) (eq_ge cmp total (upper order r) (start_position order s) at) l)),
       )
-
-pub less_is : (b : Bool) (o : Ordering) → b ≡ is_lt o → IsTrue b ↔ o ≡ Less
-less_is b o e = rw e (less_test o)

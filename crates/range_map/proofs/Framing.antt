@@ -202,10 +202,7 @@ module _ {K : Type 0} (order : KeyOrder K) (lawful : IsLawful order) {V : Type 0
       behind = [];
       before = sym (append-nil (items ++ []) ∙ append-nil items);
       after = sym (append-nil (items ++ []) ∙ append-nil items);
-      concerned = tt;
-      few = omega arith;
-      whole = λ e. refl;
-      made = tt;
+      such = record { concerned = tt; few = omega arith; whole = λ e. refl; made = tt };
     }
 
     pub cut_way : (new : List (Item (AnyRange K) V)) (left right : Option (Item (AnyRange K) V)) → 0 < w.count →
@@ -223,10 +220,12 @@ module _ {K : Type 0} (order : KeyOrder K) (lawful : IsLawful order) {V : Type 0
           behind = drop (place + w.count) items;
           before = parts items place ∙ (ap (λ ys. take place items ++ ys) (parts_of items place w.count) ∙ sym (append_assoc (take place items) met (drop (place + w.count) items)));
           after = list ∙ rw (append-nil (take place items ++ option_items left)) (ap (λ ys. ys ++ drop (place + w.count) items) (append_assoc (take place items) (option_items left) (option_items right)));
-          concerned = all_meet;
-          few = omega (arith, some, size, few_left, few_right, length-append (option_items left) (option_items right));
-          whole = λ e. absurd (run_some items place w.count window.in_range some e);
-          made = every_append _ (option_items left) (option_items right) made_left made_right;
+          such = record {
+            concerned = all_meet;
+            few = omega (arith, some, size, few_left, few_right, length-append (option_items left) (option_items right));
+            whole = λ e. absurd (run_some items place w.count window.in_range some e);
+            made = every_append _ (option_items left) (option_items right) made_left made_right;
+          };
         }
 
     pub gave_way : (new : List (Item (AnyRange K) V)) (v : V) (m : Item (AnyRange K) V) (at end : ℕ) (left right : Option (Item (AnyRange K) V)) (start finish : Option (Bound K)) →
@@ -258,12 +257,14 @@ module _ {K : Type 0} (order : KeyOrder K) (lawful : IsLawful order) {V : Type 0
           behind = drop end items;
           before = parts items place ∙ (ap (λ ys. ys ++ drop place items) on_left.split ∙ (ap (λ ys. (take at items ++ on_left.extra) ++ ys) (middle ∙ ap (λ ys. met ++ ys) on_right.split) ∙ reassociate (take at items) on_left.extra met on_right.extra (drop end items)));
           after = list ∙ reassociate_pieces (take at items) (option_items left) (option_items (Some m)) (option_items right) (drop end items);
-          concerned = every_append _ (on_left.extra ++ met) on_right.extra (every_append _ on_left.extra met (every_weaker _ _ on_left.extra (λ i h. inr (inl h.0, h.1)) on_left.touched) (every_weaker _ _ met (λ i h. inl h) meets)) (every_weaker _ _ on_right.extra (λ i h. inr (inr h.0, h.1)) on_right.touched);
-          few = omega (arith, few, size, length-append (on_left.extra ++ met) on_right.extra, length-append on_left.extra met, length-append (option_items left ++ option_items (Some m)) (option_items right), length-append (option_items left) (option_items (Some m)));
-          whole = λ e. let l = on_left.whole (none_left (on_left.extra ++ met) on_right.extra e) in let k = on_right.whole (none_right on_left.extra (met ++ on_right.extra) (sym regroup ∙ e)) in let none : w.count ≡ 0 = sym size ∙ ap length (none_right on_left.extra met (none_left (on_left.extra ++ met) on_right.extra e)) in let item = item_is m r v (starts ∙ ap (λ o. unwrap_or o r.start) l.1) (ends ∙ ap (λ o. unwrap_or o r.end) k.1) (own_value none) in rw (l.0, k.0) (ap (λ y. y ∷ []) item);
-          one = λ all.
-              let on_left_none = no_rest (on_left.extra ++ met) r v left (every_left (λ i. IsTrue (same i.value v)) (on_left.extra ++ met) on_right.extra all) on_left.made on_left.apart in
-              let on_right_none = no_rest (met ++ on_right.extra) r v right (every_right (λ i. IsTrue (same i.value v)) on_left.extra (met ++ on_right.extra) (rw regroup at all)) on_right.made on_right.apart in
-              omega (arith, on_left_none, on_right_none, length-append (option_items left ++ option_items (Some m)) (option_items right), length-append (option_items left) (option_items (Some m)));
-          made = every_append _ (option_items left ++ option_items (Some m)) (option_items right) (every_append _ (option_items left) (option_items (Some m)) made_left (own, tt)) made_right;
+          such = record {
+            concerned = every_append _ (on_left.extra ++ met) on_right.extra (every_append _ on_left.extra met (every_weaker _ _ on_left.extra (λ i h. inr (inl h.0, h.1)) on_left.touched) (every_weaker _ _ met (λ i h. inl h) meets)) (every_weaker _ _ on_right.extra (λ i h. inr (inr h.0, h.1)) on_right.touched);
+            few = omega (arith, few, size, length-append (on_left.extra ++ met) on_right.extra, length-append on_left.extra met, length-append (option_items left ++ option_items (Some m)) (option_items right), length-append (option_items left) (option_items (Some m)));
+            whole = λ e. let l = on_left.whole (none_left (on_left.extra ++ met) on_right.extra e) in let k = on_right.whole (none_right on_left.extra (met ++ on_right.extra) (sym regroup ∙ e)) in let none : w.count ≡ 0 = sym size ∙ ap length (none_right on_left.extra met (none_left (on_left.extra ++ met) on_right.extra e)) in let item = item_is m r v (starts ∙ ap (λ o. unwrap_or o r.start) l.1) (ends ∙ ap (λ o. unwrap_or o r.end) k.1) (own_value none) in rw (l.0, k.0) (ap (λ y. y ∷ []) item);
+            one = λ all.
+                let on_left_none = no_rest (on_left.extra ++ met) r v left (every_left (λ i. IsTrue (same i.value v)) (on_left.extra ++ met) on_right.extra all) on_left.made on_left.apart in
+                let on_right_none = no_rest (met ++ on_right.extra) r v right (every_right (λ i. IsTrue (same i.value v)) on_left.extra (met ++ on_right.extra) (rw regroup at all)) on_right.made on_right.apart in
+                omega (arith, on_left_none, on_right_none, length-append (option_items left ++ option_items (Some m)) (option_items right), length-append (option_items left) (option_items (Some m)));
+            made = every_append _ (option_items left ++ option_items (Some m)) (option_items right) (every_append _ (option_items left) (option_items (Some m)) made_left (own, tt)) made_right;
+          };
         }

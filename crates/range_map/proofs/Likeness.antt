@@ -28,6 +28,7 @@ use Rattle.range_map.specs.Pieces.{later, earlier, IsCommonPart, LiesIn, IsFreeP
 use Rattle.range_map.specs.Ranges.{Overlap}
 use Rattle.range_map.proofs.Cutting.{PLe, any_over, later_over, earlier_under, pick}
 use Rattle.range_map.proofs.Forms.{not_both}
+use Rattle.range_map.proofs.Merging.{way_follows}
 
 equal_of : (o : Ordering) → IsTrue (is_eq o) → o ≡ Equal
 equal_of Less h = cc
@@ -158,23 +159,19 @@ module _ {K : Type 0} (order : KeyOrder K) (lawful : IsLawful order) where
 
       pub updated_too : (new : List (Item (AnyRange K) V)) → IsUpdated order same calls f items new s → IsUpdated order same calls f items new r
       updated_too new h = record {
-        answers = h.answers;
-        pieces = record {
-          each = every_weaker (λ p. IsPiece order items s p.key p.value) (λ p. IsPiece order items r p.key p.value) (map piece_of h.answers) (λ p t. piece_too items s r starts_alike ends_alike p.key p.value t) h.pieces.each;
-          rising = h.pieces.rising;
-          all = λ part binding known piece. h.pieces.all part binding known (piece_too items r s (same_start order lawful r.start s.start start) (same_end order lawful r.end s.end end) part binding piece);
+        answered = record {
+          answers = h.answered.answers;
+          pieces = record {
+            each = every_weaker (λ p. IsPiece order items s p.key p.value) (λ p. IsPiece order items r p.key p.value) (map piece_of h.answered.answers) (λ p t. piece_too items s r starts_alike ends_alike p.key p.value t) h.answered.pieces.each;
+            rising = h.answered.pieces.rising;
+            all = λ part binding known piece. h.answered.pieces.all part binding known (piece_too items r s (same_start order lawful r.start s.start start) (same_end order lawful r.end s.end end) part binding piece);
+          };
+          given = h.answered.given;
+          held = λ k key in_r. h.answered.held k key (holds_too r s (same_start order lawful r.start s.start start) (same_end order lawful r.end s.end end) k key in_r);
+          others = λ k key out. h.answered.others k key (λ in_s. out (holds_too s r starts_alike ends_alike k key in_s));
         };
-        given = h.given;
-        held = λ k key in_r. h.held k key (holds_too r s (same_start order lawful r.start s.start start) (same_end order lawful r.end s.end end) k key in_r);
-        others = λ k key out. h.others k key (λ in_s. out (holds_too s r starts_alike ends_alike k key in_s));
-        frame = record {
-          front = h.frame.front;
-          run = h.frame.run;
-          others = h.frame.others;
-          behind = h.frame.behind;
-          before = h.frame.before;
-          after = h.frame.after;
-          concerned = every_weaker _ _ h.frame.run (λ i t. concerned_too same h.frame.others i t) h.frame.concerned;
-          valued = h.frame.valued;
-        };
+        frame = way_follows (λ run others way. record {
+          concerned = every_weaker _ _ run (λ i t. concerned_too same others i t) way.concerned;
+          valued = way.valued;
+        }) h.frame;
       }

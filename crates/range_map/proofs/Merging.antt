@@ -12,7 +12,7 @@ use Rattle.range_algebra.specs.Range.{IsKnownRange}
 use Rattle.range_algebra.specs.declared.any.AnyRange.{AnyRange}
 use Rattle.range_algebra.proofs.Places.{reaches}
 use Rattle.range_store.specs.declared.storage.Item.{Item}
-use Rattle.range_map.specs.Frames.{IsMergedInto, StandOrMerge}
+use Rattle.range_map.specs.Frames.{IsMergedInto, StandOrMerge, RunGaveWay}
 use Rattle.range_map.specs.ItemCuts.{item_lower, item_upper}
 use Rattle.range_map.specs.Lookups.{IsConnectedTo}
 use Rattle.range_map.specs.Ranges.{Overlap}
@@ -68,6 +68,18 @@ module _ {K : Type 0} (order : KeyOrder K) (lawful : IsLawful order) where
         let front = every_with _ _ IsAlone done before (every_left _ done (x ∷ rest) all) (λ i h f. alone_before i f (le_lt_trans cmp total (item_upper order i) (item_lower order x) (lower order r) h.0 starts)) in
         let behind = every_with _ _ IsAlone rest after own.1 (λ i h f. alone_after i f (lt_le_trans cmp total (upper order r) (item_upper order x) (item_lower order i) ends h)) in
         rw list (every_append IsAlone done (x ∷ rest) front (alone_around own.0, behind))
+
+-- what holds of a run that gave way may be said otherwise
+pub way_follows : {T : Type 0} {items new : List T} {P Q : List T → List T → Type 0} → ((run others : List T) → P run others → Q run others) → RunGaveWay items new P → RunGaveWay items new Q
+way_follows follows way = record {
+  front = way.front;
+  run = way.run;
+  others = way.others;
+  behind = way.behind;
+  before = way.before;
+  after = way.after;
+  such = follows way.run way.others way.such;
+}
 
 module _ {K : Type 0} (order : KeyOrder K) {V : Type 0} (same : V → V → Bool) (r : AnyRange K) where
   merged_within : (front list behind : List (Item (AnyRange K) V)) (i : Item (AnyRange K) V) → IsMergedInto order same list r i → IsMergedInto order same (front ++ list ++ behind) r i

@@ -89,8 +89,8 @@ module _ {K : Type 0} (order : KeyOrder K) (lawful : IsLawful order) {V : Type 0
   -- what is answered piece by piece is answered key by key
   pub update_rebinds : (items next : List (Item (AnyRange K) V)) (r : AnyRange K) → IsUpdated order same calls f items next r → AreRebound order same (MayAnswer calls f) items next r
   update_rebinds items next r done = record {
-    held = λ k key held. rebound_at order lawful k key same equal (MayAnswer calls f) items next r done.answers done.pieces.each done.given (done.held k key held);
-    others = done.others;
+    held = λ k key held. rebound_at order lawful k key same equal (MayAnswer calls f) items next r done.answered.answers done.answered.pieces.each done.answered.given (done.answered.held k key held);
+    others = done.answered.others;
   }
 
   -- an empty range has no key to be bound anew

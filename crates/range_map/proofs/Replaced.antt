@@ -77,8 +77,10 @@ module _ {K : Type 0} (order : KeyOrder K) (lawful : IsLawful order) {V : Type 0
           behind = tail;
           before = parts items place ∙ (ap (λ ys. ys ++ drop place items) left.split ∙ (ap (λ ys. (front ++ left.extra) ++ ys) (parts_of items place count ∙ ap (λ ys. met ++ ys) right.split) ∙ reassociate front left.extra met right.extra tail));
           after = changed ∙ reassociate_pieces front rest body beyond tail;
-          concerned = every_append _ (left.extra ++ met) right.extra (every_append _ left.extra met (every_weaker _ _ left.extra (λ i h. inr (inl (h.0, within_pieces rest body beyond (λ j. j.key.start ≡ i.key.start) i known known_body (took_start i h.1)))) left.touched) (every_weaker _ _ met (λ i h. inl h) meets)) (every_weaker _ _ right.extra (λ i h. inr (inr (h.0, within_pieces rest body beyond (λ j. j.key.end ≡ i.key.end) i known known_body h.1))) right.touched);
-          valued = every_append _ (rest ++ body) beyond (every_append _ rest body on_left own) on_right;
+          such = record {
+            concerned = every_append _ (left.extra ++ met) right.extra (every_append _ left.extra met (every_weaker _ _ left.extra (λ i h. inr (inl (h.0, within_pieces rest body beyond (λ j. j.key.start ≡ i.key.start) i known known_body (took_start i h.1)))) left.touched) (every_weaker _ _ met (λ i h. inl h) meets)) (every_weaker _ _ right.extra (λ i h. inr (inr (h.0, within_pieces rest body beyond (λ j. j.key.end ≡ i.key.end) i known known_body h.1))) right.touched);
+            valued = every_append _ (rest ++ body) beyond (every_append _ rest body on_left own) on_right;
+          };
         };
       }
 

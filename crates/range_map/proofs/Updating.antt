@@ -24,7 +24,7 @@ use Rattle.range_map.specs.Replaced.{IsReplaced}
 use Rattle.range_map.proofs.Cutting.{PLe, PLt, Lo, Hi, IsFull, IsInside, IsRight, any_use, any_over, every_with, later_over, earlier_under, pick, cut_none, cut_more, cut_all, a_piece}
 use Rattle.range_map.proofs.Extents.{end_le}
 use Rattle.range_map.proofs.Forms.{Chained}
-use Rattle.range_map.proofs.Merging.{rest_stands}
+use Rattle.range_map.proofs.Merging.{rest_stands, way_follows}
 
 module _ {K : Type 0} (order : KeyOrder K) {V : Type 0} (same : V → V → Bool) (equal : IsEquivalence same) {F E : Type 0} (calls : Shared F (Option (Bor V) × Unit {0}) (Result (Option V) E)) (f : F) (items new : List (Item (AnyRange K) V)) (r : AnyRange K) where
   turned : (a b : V) → IsTrue (same a b) → IsTrue (same b a)
@@ -36,29 +36,25 @@ module _ {K : Type 0} (order : KeyOrder K) {V : Type 0} (same : V → V → Bool
   -- what was gathered stands in the place of the range
   pub by_middle : (middle : List (Item (AnyRange K) V)) → IsGathered order same calls f items r middle → IsReplaced order same items new middle r → IsUpdated order same calls f items new r
   by_middle middle h put = record {
-    answers = h.answers;
-    pieces = h.pieces;
-    given = h.given;
-    held = λ k key in_r. any_over (λ a. Holds order a.key k × ((b : Option V) → Binds order same middle k b ↔ IsAsAnswered same a.answer b)) (λ a. Holds order a.key k × ((b : Option V) → Binds order same new k b ↔ IsAsAnswered same a.answer b)) h.answers (λ a t. (t.0, λ b. let own = put.held k key in_r b in (λ g. (t.1 b).0 (own.0 g), λ g. own.1 ((t.1 b).1 g)))) (h.held k key in_r);
-    others = put.others;
-    frame = record {
-      front = put.frame.front;
-      run = put.frame.run;
-      others = put.frame.others;
-      behind = put.frame.behind;
-      before = put.frame.before;
-      after = put.frame.after;
-      concerned = put.frame.concerned;
-      valued = every_weaker (λ j. HasValue order same put.frame.run j.value ⊎ HasValue order same middle j.value) (λ j. HasValue order same put.frame.run j.value ⊎ IsGivenBy same h.answers j.value) put.frame.others (λ j t. elim t [
+    answered = record {
+      answers = h.answers;
+      pieces = h.pieces;
+      given = h.given;
+      held = λ k key in_r. any_over (λ a. Holds order a.key k × ((b : Option V) → Binds order same middle k b ↔ IsAsAnswered same a.answer b)) (λ a. Holds order a.key k × ((b : Option V) → Binds order same new k b ↔ IsAsAnswered same a.answer b)) h.answers (λ a t. (t.0, λ b. let own = put.held k key in_r b in (λ g. (t.1 b).0 (own.0 g), λ g. own.1 ((t.1 b).1 g)))) (h.held k key in_r);
+      others = put.others;
+    };
+    frame = way_follows (λ run others way. record {
+      concerned = way.concerned;
+      valued = every_weaker (λ j. HasValue order same run j.value ⊎ HasValue order same middle j.value) (λ j. HasValue order same run j.value ⊎ IsGivenBy same h.answers j.value) others (λ j t. elim t [
         | inl old ↦ inl old
         | inr own ↦ inr (any_use (λ i. IsTrue (same j.value i.value)) (λ i. Any (λ a. a.answer ≡ Some i.value) h.answers) middle own h.valued (λ i alike from. given_by h.answers i j.value alike from))
-      ]) put.frame.valued;
-    };
+      ]) way.valued;
+    }) put.frame;
   }
 
   -- what an update does not meet stands or is merged
   pub updated_stands : IsUpdated order same calls f items new r → StandOrMerge order same items new r
-  updated_stands h = rw (h.frame.before, h.frame.after) (rest_stands order same r h.frame.front h.frame.run h.frame.others h.frame.behind h.frame.concerned)
+  updated_stands h = rw (h.frame.before, h.frame.after) (rest_stands order same r h.frame.front h.frame.run h.frame.others h.frame.behind h.frame.such.concerned)
 
   abbrev one_answer : V → Option V → List (Answered K V)
   one_answer v answer = record { key = r; value = Some v; answer = answer } ∷ []
@@ -69,31 +65,29 @@ module _ {K : Type 0} (order : KeyOrder K) {V : Type 0} (same : V → V → Bool
 
   module _ (old : V) where
     inserted_frame : (v : V) → Every (λ i. IsConnectedTo order i.key r → Overlap order i.key r) items → GaveWayTo order same items new r v → GaveWay order same items new r (IsGivenBy same (one_answer old (Some v)))
-    inserted_frame v alone h = record {
-      front = h.front;
-      run = h.run;
-      others = h.others;
-      behind = h.behind;
-      before = h.before;
-      after = h.after;
-      concerned = every_with (JoinsOrMeets order same r v) _ (λ i. Overlap order i.key r ⊎ IsMergedInto order same h.others r i) h.run h.concerned (every_right _ h.front h.run (every_left _ (h.front ++ h.run) h.behind (rw h.before at alone))) (λ i t a. inl (meets_alone i v t a));
-      valued = every_weaker (IsNewItem order same h.run r v) (λ j. HasValue order same h.run j.value ⊎ IsGivenBy same (one_answer old (Some v)) j.value) h.others (λ j t. elim t.value [
-        | inl own ↦ inr (inl (turned j.value v own))
-        | inr other ↦ inl other
-      ]) h.made;
-    }
+    inserted_frame v alone h =
+        let met = every_right _ h.front h.run (every_left _ (h.front ++ h.run) h.behind (rw h.before at alone)) in
+        record {
+          front = h.front;
+          run = h.run;
+          others = h.others;
+          behind = h.behind;
+          before = h.before;
+          after = h.after;
+          such = record {
+            concerned = every_with (JoinsOrMeets order same r v) _ (λ i. Overlap order i.key r ⊎ IsMergedInto order same h.others r i) h.run h.such.concerned met (λ i t a. inl (meets_alone i v t a));
+            valued = every_weaker (IsNewItem order same h.run r v) (λ j. HasValue order same h.run j.value ⊎ IsGivenBy same (one_answer old (Some v)) j.value) h.others (λ j t. elim t.value [
+              | inl own ↦ inr (inl (turned j.value v own))
+              | inr other ↦ inl other
+            ]) h.such.made;
+          };
+        }
 
     removed_frame : WasCutOut order same items new r → GaveWay order same items new r (IsGivenBy same (one_answer old None))
-    removed_frame h = record {
-      front = h.front;
-      run = h.run;
-      others = h.others;
-      behind = h.behind;
-      before = h.before;
-      after = h.after;
-      concerned = every_weaker _ _ h.run (λ i t. inl t) h.concerned;
-      valued = every_weaker (IsPart order same h.run r) (λ j. HasValue order same h.run j.value ⊎ IsGivenBy same (one_answer old None) j.value) h.others (λ j t. inl t.value) h.made;
-    }
+    removed_frame = way_follows (λ run others way. record {
+      concerned = every_weaker _ _ run (λ i t. inl t) way.concerned;
+      valued = every_weaker (IsPart order same run r) (λ j. HasValue order same run j.value ⊎ IsGivenBy same (one_answer old None) j.value) others (λ j t. inl t.value) way.made;
+    })
 
     some_of : (v : V) (k : K) (b : Option V) → Binds order same new k b ↔ IsSomeOf order same v b → Binds order same new k b ↔ IsAsAnswered same (Some v) b
     some_of v k None h = h
@@ -101,21 +95,25 @@ module _ {K : Type 0} (order : KeyOrder K) {V : Type 0} (same : V → V → Bool
 
     pub by_insertion : (v : V) → Every (λ i. IsConnectedTo order i.key r → Overlap order i.key r) items → AreAnswersTo order items r (one_answer old (Some v)) → MayAnswer calls f (Some old) (Ok (Some v)) → IsInserted order same items new r v → IsUpdated order same calls f items new r
     by_insertion v alone pieces says h = record {
-      answers = one_answer old (Some v);
-      pieces = pieces;
-      given = (says, tt);
-      held = λ k key in_r. inl (in_r, λ b. some_of v k b (h.bound.held k key in_r b));
-      others = h.bound.others;
+      answered = record {
+        answers = one_answer old (Some v);
+        pieces = pieces;
+        given = (says, tt);
+        held = λ k key in_r. inl (in_r, λ b. some_of v k b (h.bound.held k key in_r b));
+        others = h.bound.others;
+      };
       frame = inserted_frame v alone h.frame;
     }
 
     pub by_removal : AreAnswersTo order items r (one_answer old None) → MayAnswer calls f (Some old) (Ok None) → IsRemoved order same items new r → IsUpdated order same calls f items new r
     by_removal pieces says h = record {
-      answers = one_answer old None;
-      pieces = pieces;
-      given = (says, tt);
-      held = λ k key in_r. inl (in_r, λ b. h.unbound.held k key in_r b);
-      others = h.unbound.others;
+      answered = record {
+        answers = one_answer old None;
+        pieces = pieces;
+        given = (says, tt);
+        held = λ k key in_r. inl (in_r, λ b. h.unbound.held k key in_r b);
+        others = h.unbound.others;
+      };
       frame = removed_frame h.frame;
     }
 

@@ -31,14 +31,3 @@ module _ {K V : Type 0} (key_text : K → Option (List ℕ)) (value_text : V →
       let wrote : HasWritten took g parts.0 h = (subst (λ o. DisplaysOnOk took g r o h) parts.2 displays) before.4.plain ok in
       let whole : text ≡ (before.0 ++ parts.0) ++ parts.1 = before.3 ∙ ap (λ (l : List ℕ). before.0 ++ l) parts.4 ∙ sym (append_assoc before.0 parts.0 parts.1) in
       (before.0 ++ parts.0, parts.1, parts.3, whole, has_written_append took f before.0 g parts.0 h before.4 wrote)
-
-  all_shown : (all : List (Item (AnyRange K) V)) (o : Option (List ℕ)) (f g : Formatter W) (r : Result (Unit {0}) Error) → items_text key_text value_text all ≡ o → HasShown all [] f g → DisplaysOnOk took f r o g
-  all_shown all None f g r e shown = tt
-  all_shown all (Some text) f g r e shown = λ plain ok.
-      let found = shown text e plain in
-      let last : found.1 ≡ [] = (let is = found.2 in cc) in
-      let whole : found.0 ≡ text = sym (append-nil found.0) ∙ ap (λ (l : List ℕ). found.0 ++ l) (sym last) ∙ sym found.3 in
-      has_written_of_eq took f found.0 text g whole found.4
-
-  pub shown_all : (all : List (Item (AnyRange K) V)) (f g : Formatter W) (r : Result (Unit {0}) Error) → HasShown all [] f g → DisplaysOnOk took f r (items_text key_text value_text all) g
-  shown_all all f g r shown = all_shown all (items_text key_text value_text all) f g r refl shown

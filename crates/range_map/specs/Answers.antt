@@ -52,22 +52,32 @@ abbrev pub AreAnswersTo : {K V : Type 0} → KeyOrder K → List (Item (AnyRange
 AreAnswersTo order items r answers = ArePieces order items r (map piece_of answers)
 
 module _ {K : Type 0} (order : KeyOrder K) {V : Type 0} (same : V → V → Bool) where
-  module _ {F E : Type 0} (calls : Shared F (Option (Bor V) × Unit {0}) (Result (Option V) E)) (f : F) where
-    -- each key of the range is bound as the answer to its piece says, and each other key as before
-    pub record IsUpdated (items new : List (Item (AnyRange K) V)) (r : AnyRange K) : Type 0 where
+  -- over what the closure may answer to a value, or to none
+  module _ {E : Type 0} (may : Option V → Result (Option V) E → Type 0) where
+    -- there is one answer for each piece, and each key of the range is bound as the answer to its piece says, each other key as before
+    pub record IsAnswered (items new : List (Item (AnyRange K) V)) (r : AnyRange K) : Type 0 where
       pub answers : List (Answered K V)
       pub pieces : AreAnswersTo order items r answers
-      pub given : Every (λ a. MayAnswer calls f a.value (Ok a.answer)) answers
+      pub given : Every (λ a. may a.value (Ok a.answer)) answers
       pub held : (k : K) → order.is_key k → Holds order r k → Any (λ a. Holds order a.key k × ((b : Option V) → Binds order same new k b ↔ IsAsAnswered same a.answer b)) answers
       pub others : (k : K) → order.is_key k → ¬ Holds order r k → (b : Option V) → Binds order same new k b ↔ Binds order same items k b
-      pub frame : GaveWay order same items new r (IsGivenBy same answers)
 
-    -- f may answer an error to the value of a piece
-    pub record FailsAt (items : List (Item (AnyRange K) V)) (r : AnyRange K) (e : E) : Type 0 where
+    -- the closure may answer an error to the value of a piece
+    pub record MayFail (items : List (Item (AnyRange K) V)) (r : AnyRange K) (e : E) : Type 0 where
       pub piece : AnyRange K
       pub value : Option V
       pub is_piece : IsPiece order items r piece value
-      pub says : MayAnswer calls f value (Err e)
+      pub says : may value (Err e)
+
+  module _ {F E : Type 0} (calls : Shared F (Option (Bor V) × Unit {0}) (Result (Option V) E)) (f : F) where
+    -- each key of the range is bound as an answer of f says, and what the range does not concern stands
+    pub record IsUpdated (items new : List (Item (AnyRange K) V)) (r : AnyRange K) : Type 0 where
+      pub answered : IsAnswered (MayAnswer calls f) items new r
+      pub frame : GaveWay order same items new r (IsGivenBy same answered.answers)
+
+    -- f may answer an error to the value of a piece
+    abbrev pub FailsAt : List (Item (AnyRange K) V) → AnyRange K → E → Type 0
+    FailsAt = MayFail (MayAnswer calls f)
 
     -- a list in stored form within the range, which binds its keys as the answers to its pieces say
     pub record IsGathered (items : List (Item (AnyRange K) V)) (r : AnyRange K) (middle : List (Item (AnyRange K) V)) : Type 0 where

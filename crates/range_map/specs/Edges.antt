@@ -81,6 +81,13 @@ module _ {K : Type 0} (order : KeyOrder K) {V : Type 0} (same : V → V → Bool
       pub known : Every (λ i. IsKnownRange order i.key) (option_items rest)
       pub known_end : IsKnownBound order (unwrap_or finish r.end)
 
+-- the bounds that a run joins, and the list before the run and after it
+pub record IsOpened {K V : Type 0} (items new : List (Item (AnyRange K) V)) (bounds : Option (Bound K) × Option (Bound K)) (at from upto end : ℕ) (before after : Option (Item (AnyRange K) V)) (start finish : Option (Bound K)) : Type 0 where
+  pub start_is : bounds.0 ≡ start
+  pub end_is : bounds.1 ≡ finish
+  pub front : take from new ≡ take at items ++ option_items before
+  pub behind : drop upto new ≡ option_items after ++ drop end items
+
 module _ {K P : Type 0} where
   -- how many items an edge adds to those that give way
   abbrev pub joined_count : Edge K P → ℕ
@@ -129,6 +136,10 @@ module _ {K P : Type 0} where
     IsRightShape is_good rank items (Cut p b) upto end rest finish = is_good p × (rank p ≡ upto) × (end ≡ upto + 1) × (finish ≡ None) × ((x : Item (AnyRange K) V) × (x ≡ slice_index_or items upto x) × (rest ≡ Some (with_start x b)))
     IsRightShape is_good rank items (Joined p) upto end rest finish = is_good p × (rank p + 1 ≡ upto) × (upto ≡ end) × (rest ≡ None) × ((x : Item (AnyRange K) V) × (x ≡ slice_index_or items (rank p) x) × (finish ≡ Some x.key.end))
 
+    -- the items beside a run are edited as the edges say
+    abbrev pub AreOpened : (P → Type 0) → (P → ℕ) → List (Item (AnyRange K) V) → List (Item (AnyRange K) V) → Edge K P → Edge K P → Option (Bound K) × Option (Bound K) → Type 0
+    AreOpened is_good rank items new left right bounds = (at from upto end : ℕ) (before after : Option (Item (AnyRange K) V)) (start finish : Option (Bound K)) → IsLeftShape is_good rank items left at from before start → IsRightShape is_good rank items right upto end after finish → from + joined_count left + joined_count right ≤ upto → IsOpened items new bounds at from upto end before after start finish
+
     -- `put` stands in the place of the run, between what the edges leave of the items beside it
     abbrev pub IsSpliced : (P → Type 0) → (P → ℕ) → List (Item (AnyRange K) V) → List (Item (AnyRange K) V) → Edge K P → Edge K P → Cursor P → (Option (Bound K) → Option (Bound K) → List (Item (AnyRange K) V)) → Type 0
     IsSpliced is_good rank items new left right run put = (at end : ℕ) (before after : Option (Item (AnyRange K) V)) (start finish : Option (Bound K)) → let from = place_before rank (length items) run.at in IsLeftShape is_good rank items left at from before start → IsRightShape is_good rank items right (from + run.left) end after finish → joined_count left + joined_count right ≤ run.left → new ≡ take at items ++ option_items before ++ put start finish ++ option_items after ++ drop end items
@@ -141,11 +152,11 @@ IsDivided {K} {V} items new place parts middle = (d : Item (AnyRange K) V) → l
 abbrev pub joined_item : {K V : Type 0} → Item (AnyRange K) V → Option (Bound K) → Option (Bound K) → Item (AnyRange K) V
 joined_item i start finish = record { key = record { start = unwrap_or start i.key.start; end = unwrap_or finish i.key.end }; value = i.value }
 
-module _ {K : Type 0} (order : KeyOrder K) {V : Type 0} (same : V → V → Bool) {P : Type 0} (is_good : P → Type 0) (rank : P → ℕ) (items : List (Item (AnyRange K) V)) (r : AnyRange K) (v : V) (w : Window P) where
+module _ {K : Type 0} (order : KeyOrder K) {V : Type 0} (same : V → V → Bool) {P : Type 0} {S : Type 0} (is_good : S → P → Type 0) (rank : S → P → ℕ) (items : S → List (Item (AnyRange K) V)) (stored : S) (r : AnyRange K) (v : V) (w : Window P) where
   -- the item just before the window, if the range touches it and has an equal value
   abbrev pub IsJoinedBefore : Option P → Type 0
-  IsJoinedBefore found = let place = place_before rank (length items) w.from in MatchOption found (TouchesNoneBefore order same items place r v) (λ q. is_good q × (rank q + 1 ≡ place) × TouchesBefore order same items place r v)
+  IsJoinedBefore found = let place = place_before (rank stored) (length (items stored)) w.from in MatchOption found (TouchesNoneBefore order same (items stored) place r v) (λ q. is_good stored q × (rank stored q + 1 ≡ place) × TouchesBefore order same (items stored) place r v)
 
   -- the item just after it, if the range touches it and has an equal value
   abbrev pub IsJoinedAfter : Option P → Type 0
-  IsJoinedAfter found = let end = place_before rank (length items) w.from + w.count in MatchOption found (TouchesNoneAfter order same items end r v) (λ q. is_good q × (rank q ≡ end) × TouchesAfter order same items end r v)
+  IsJoinedAfter found = let end = place_before (rank stored) (length (items stored)) w.from + w.count in MatchOption found (TouchesNoneAfter order same (items stored) end r v) (λ q. is_good stored q × (rank stored q ≡ end) × TouchesAfter order same (items stored) end r v)

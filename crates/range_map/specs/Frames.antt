@@ -10,6 +10,16 @@ use Rattle.range_map.specs.Edits.{turned_bound}
 use Rattle.range_algebra.specs.Relations.{Touches}
 use Rattle.range_map.specs.Ranges.{Overlap}
 
+-- a run of the list gave way to others, as the relation says, and all else stands as before
+pub record RunGaveWay {T : Type 0} (items new : List T) (AreSuch : List T → List T → Type 0) : Type 0 where
+  pub front : List T
+  pub run : List T
+  pub others : List T
+  pub behind : List T
+  pub before : items ≡ front ++ run ++ behind
+  pub after : new ≡ front ++ others ++ behind
+  pub such : AreSuch run others
+
 module _ {K : Type 0} (order : KeyOrder K) {V : Type 0} where
   -- the start is that of the range or of a run's item, or begins just after the range
   abbrev pub IsStartOf : List (Item (AnyRange K) V) → AnyRange K → Bound K → Type 0
@@ -34,16 +44,14 @@ module _ {K : Type 0} (order : KeyOrder K) {V : Type 0} where
     abbrev pub HasValue : List (Item (AnyRange K) V) → V → Type 0
     HasValue run v = Any (λ i. IsTrue (same_value v i.value)) run
 
-    -- a run of items, each of which meets the range or is merged, gave way to others, whose values are such or equal one of the run's, and all else stands as before
-    pub record GaveWay (items new : List (Item (AnyRange K) V)) (r : AnyRange K) (IsSuch : V → Type 0) : Type 0 where
-      pub front : List (Item (AnyRange K) V)
-      pub run : List (Item (AnyRange K) V)
-      pub others : List (Item (AnyRange K) V)
-      pub behind : List (Item (AnyRange K) V)
-      pub before : items ≡ front ++ run ++ behind
-      pub after : new ≡ front ++ others ++ behind
+    -- each item of the run meets the range or is merged, and the value of each other one is such or equals one of the run's
+    pub record IsMergedRun (r : AnyRange K) (IsSuch : V → Type 0) (run others : List (Item (AnyRange K) V)) : Type 0 where
       pub concerned : Every (λ i. Overlap order i.key r ⊎ IsMergedInto others r i) run
       pub valued : Every (λ j. HasValue run j.value ⊎ IsSuch j.value) others
+
+    -- such a run gave way to others
+    abbrev pub GaveWay : List (Item (AnyRange K) V) → List (Item (AnyRange K) V) → AnyRange K → (V → Type 0) → Type 0
+    GaveWay items new r IsSuch = RunGaveWay items new (IsMergedRun r IsSuch)
 
     -- the item meets the range, or touches it with an equal value
     abbrev pub JoinsOrMeets : AnyRange K → V → Item (AnyRange K) V → Type 0
@@ -55,20 +63,17 @@ module _ {K : Type 0} (order : KeyOrder K) {V : Type 0} where
       pub end : IsEndOf run r j.key.end
       pub value : IsTrue (same_value j.value v) ⊎ HasValue run j.value
 
-    -- a run of items, each of which meets the range or touches it with an equal value, gave way to others, to one where the run's values all equal v, and all else
-    -- stands as before
-    pub record GaveWayTo (items new : List (Item (AnyRange K) V)) (r : AnyRange K) (v : V) : Type 0 where
-      pub front : List (Item (AnyRange K) V)
-      pub run : List (Item (AnyRange K) V)
-      pub others : List (Item (AnyRange K) V)
-      pub behind : List (Item (AnyRange K) V)
-      pub before : items ≡ front ++ run ++ behind
-      pub after : new ≡ front ++ others ++ behind
+    -- each item of the run meets the range or touches it with an equal value, and there is one other where the run's values all equal v
+    pub record IsBoundRun (r : AnyRange K) (v : V) (run others : List (Item (AnyRange K) V)) : Type 0 where
       pub concerned : Every (JoinsOrMeets r v) run
       pub few : length others ≤ length run + 2
       pub whole : run ≡ [] → others ≡ record { key = r; value = v } ∷ []
       pub one : Every (λ i. IsTrue (same_value i.value v)) run → length others ≤ 1
       pub made : Every (IsNewItem run r v) others
+
+    -- such a run gave way to others
+    abbrev pub GaveWayTo : List (Item (AnyRange K) V) → List (Item (AnyRange K) V) → AnyRange K → V → Type 0
+    GaveWayTo items new r v = RunGaveWay items new (IsBoundRun r v)
 
     -- the bounds and the value of what is left of an item that the range cuts
     pub record IsPart (run : List (Item (AnyRange K) V)) (r : AnyRange K) (j : Item (AnyRange K) V) : Type 0 where
@@ -76,15 +81,13 @@ module _ {K : Type 0} (order : KeyOrder K) {V : Type 0} where
       pub end : IsEndOf run r j.key.end
       pub value : HasValue run j.value
 
-    -- a run of items, each of which meets the range, gave way to its parts outside the range, and all else stands as before
-    pub record WasCutOut (items new : List (Item (AnyRange K) V)) (r : AnyRange K) : Type 0 where
-      pub front : List (Item (AnyRange K) V)
-      pub run : List (Item (AnyRange K) V)
-      pub others : List (Item (AnyRange K) V)
-      pub behind : List (Item (AnyRange K) V)
-      pub before : items ≡ front ++ run ++ behind
-      pub after : new ≡ front ++ others ++ behind
+    -- each item of the run meets the range, and the others are its parts outside the range
+    pub record IsCutRun (r : AnyRange K) (run others : List (Item (AnyRange K) V)) : Type 0 where
       pub concerned : Every (λ i. Overlap order i.key r) run
       pub few : length others ≤ length run + 1
       pub whole : run ≡ [] → others ≡ []
       pub made : Every (IsPart run r) others
+
+    -- such a run gave way to its parts
+    abbrev pub WasCutOut : List (Item (AnyRange K) V) → List (Item (AnyRange K) V) → AnyRange K → Type 0
+    WasCutOut items new r = RunGaveWay items new (IsCutRun r)

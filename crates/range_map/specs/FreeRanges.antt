@@ -1,9 +1,12 @@
 -- The gaps of a list: what its ranges leave free of all keys.
 use Rattle.std.specs.Prelude.{◌≡◌, List, [], ◌∷◌, ◌++◌, ◌⊎◌, Option, Some, None, if◌then◌else◌}
+use Rattle.std.specs.Borrow.{Bor}
+use Rattle.std.specs.Option.{option_map}
 use Rattle.std.specs.declared.cmp.Ordering.TheVariants.{Equal}
 use Rattle.std.specs.declared.ops.Bound.{Bound}
 use Rattle.std.specs.declared.ops.Bound.TheVariants.{Unbounded}
 use Rattle.range_keys.specs.Order.{KeyOrder}
+use Rattle.range_keys.specs.Position.{bound_of}
 use Rattle.range_algebra.specs.Compared.{inverted, starts_past_end}
 use Rattle.range_algebra.specs.Intervals.{Any, Every}
 use Rattle.range_algebra.specs.Range.{Holds, IsKnownRange}
@@ -43,3 +46,7 @@ module _ {K : Type 0} (order : KeyOrder K) where
   abbrev pub free_from : {V : Type 0} → Option (Bound K) → List (Item (AnyRange K) V) → List (AnyRange K)
   free_from start [] = between start (Some Unbounded)
   free_from start (i ∷ rest) = between start (inverted i.key.start) ++ free_from (inverted i.key.end) rest
+
+  -- the same, where the start refers to a key
+  abbrev pub free_after : {V : Type 0} → Option (Bound (Bor K)) → List (Item (AnyRange K) V) → List (AnyRange K)
+  free_after start = free_from (option_map bound_of start)

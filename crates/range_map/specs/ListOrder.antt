@@ -3,6 +3,7 @@ use Rattle.std.specs.Prelude.{◌≡◌, ℕ, ◌++◌, refl, Bool, IsTrue, List
 use Rattle.std.specs.declared.cmp.Ordering.{Ordering}
 use Rattle.std.specs.declared.cmp.Ordering.TheVariants.{Equal}
 use Rattle.std.specs.Hash.{slice, items_Alike}
+use Rattle.std.specs.List.{fold}
 use Rattle.std.specs.Ordering.{eq_by_cmp, on, then_cmp}
 use Rattle.std.specs.Cmp.{IsEquivalence, IsTotalOrder, on_equiv, and_equiv, on_total, then_total, eq_by_cmp_equiv, both_tied, first_so, second_so}
 use Rattle.std.specs.Cmp.Lexicographic.{pointwise, slice_cmp, lists_equiv, lists_total, lists_ties}
@@ -41,6 +42,10 @@ module _ {K : Type 0} (order : KeyOrder K) {V : Type 0} where
   -- the number of items, and then each
   abbrev pub list_input : (K → List (List ℕ)) → (V → List (List ℕ)) → List (Item (AnyRange K) V) → List (List ℕ)
   list_input key_input value_input = slice (item_input key_input value_input)
+
+  -- the state of a hasher has become what every stored list that binds every key as this one does makes of it
+  abbrev pub HashAlike : {H : Type 0} → (V → V → Bool) → (K → List (List ℕ)) → (V → List (List ℕ)) → (H → List ℕ → H) → List (Item (AnyRange K) V) → H → H → Type 0
+  HashAlike same_value key_input value_input write items old new = (others : List (Item (AnyRange K) V)) → IsStored order same_value others → BindAlike order same_value items others → new ≡ fold write old (list_input key_input value_input others)
 
   module _ (lawful : IsLawful order) where
     pub lists_equivalence : (same_value : V → V → Bool) → IsEquivalence same_value → IsEquivalence (same_list same_value)

@@ -62,11 +62,11 @@ module _ {K : Type 0} (order : KeyOrder K) {V : Type 0} (same : V → V → Bool
     pub few : length (option_items rest) ≤ length (option_items last)
     pub ends : upto + length (option_items last) ≡ place + count + joined_count edge
 
-module _ {K : Type 0} (order : KeyOrder K) {V : Type 0} (same : V → V → Bool) {P : Type 0} (is_good : P → Type 0) (rank : P → ℕ) (items : List (Item (AnyRange K) V)) (r : AnyRange K) (v : V) (w : Window P) where
+module _ {K : Type 0} (order : KeyOrder K) {V : Type 0} (same : V → V → Bool) {P : Type 0} {S : Type 0} (is_good : S → P → Type 0) (rank : S → P → ℕ) (items : S → List (Item (AnyRange K) V)) (stored : S) (r : AnyRange K) (v : V) (w : Window P) where
   -- what becomes of the items before a window, and where the run starts
   abbrev pub IsPlannedBefore : Option P → Edge K P → Option P → Type 0
-  IsPlannedBefore first edge from = (lawful : IsLawful order) → (equal : IsEquivalence same) → IsLeftPlan order same lawful equal is_good rank items r v (place_before rank (length items) w.from) w.count first edge from
+  IsPlannedBefore first edge from = (lawful : IsLawful order) → (equal : IsEquivalence same) → IsLeftPlan order same lawful equal (is_good stored) (rank stored) (items stored) r v (place_before (rank stored) (length (items stored)) w.from) w.count first edge from
 
   -- what becomes of the items after it
   abbrev pub IsPlannedAfter : Option P → Edge K P → Type 0
-  IsPlannedAfter last edge = (lawful : IsLawful order) → (equal : IsEquivalence same) → IsRightPlan order same lawful equal is_good rank items r v (place_before rank (length items) w.from) w.count last edge
+  IsPlannedAfter last edge = (lawful : IsLawful order) → (equal : IsEquivalence same) → IsRightPlan order same lawful equal (is_good stored) (rank stored) (items stored) r v (place_before (rank stored) (length (items stored)) w.from) w.count last edge

@@ -21,11 +21,11 @@ module _ {K : Type 0} (order : KeyOrder K) {V : Type 0} {P : Type 0} (is_good : 
   ReachesAfter None = (x : Item (AnyRange K) V) → 0 < count → x ≡ slice_index_or items (place + count - 1) x → Le (position_cmp order.cmp) (item_upper order x) (upper order r)
   ReachesAfter (Some p) = is_good p × (rank p + 1 ≡ place + count) × (0 < count) × ((x : Item (AnyRange K) V) → x ≡ slice_index_or items (place + count - 1) x → Lt (position_cmp order.cmp) (upper order r) (item_upper order x))
 
-module _ {K : Type 0} (order : KeyOrder K) {V : Type 0} {P : Type 0} (is_good : P → Type 0) (rank : P → ℕ) (items : List (Item (AnyRange K) V)) (r : AnyRange K) (w : Window P) where
+module _ {K : Type 0} (order : KeyOrder K) {V : Type 0} {P : Type 0} {S : Type 0} (is_good : S → P → Type 0) (rank : S → P → ℕ) (items : S → List (Item (AnyRange K) V)) (stored : S) (r : AnyRange K) (w : Window P) where
   -- the first item of the window, if it starts before the range
   abbrev pub IsFirstReaching : Option P → Type 0
-  IsFirstReaching first = ReachesBefore order is_good rank items r (place_before rank (length items) w.from) w.count first
+  IsFirstReaching first = ReachesBefore order (is_good stored) (rank stored) (items stored) r (place_before (rank stored) (length (items stored)) w.from) w.count first
 
   -- the last item of the window, if it ends after the range
   abbrev pub IsLastReaching : Option P → Type 0
-  IsLastReaching last = ReachesAfter order is_good rank items r (place_before rank (length items) w.from) w.count last
+  IsLastReaching last = ReachesAfter order (is_good stored) (rank stored) (items stored) r (place_before (rank stored) (length (items stored)) w.from) w.count last

@@ -72,11 +72,11 @@ module _ {K : Type 0} (order : KeyOrder K) {V : Type 0} (same : V → V → Bool
       ((m : Item (AnyRange K) V) × (previous ≡ Some m) × (position_cmp order.cmp (item_upper order m) (upper order r) ≡ Equal) × IsRightPlan order same lawful equal is_good rank items r m.value place count last edge)
       ⊎ (((m : Item (AnyRange K) V) → previous ≡ Some m → Lt (position_cmp order.cmp) (item_upper order m) (upper order r)) × IsRightCutting last edge)
 
-module _ {K : Type 0} (order : KeyOrder K) {V : Type 0} (same : V → V → Bool) {P : Type 0} (is_good : P → Type 0) (rank : P → ℕ) (items : List (Item (AnyRange K) V)) (r : AnyRange K) (w : Window P) where
+module _ {K : Type 0} (order : KeyOrder K) {V : Type 0} (same : V → V → Bool) {P : Type 0} {S : Type 0} (is_good : S → P → Type 0) (rank : S → P → ℕ) (items : S → List (Item (AnyRange K) V)) (stored : S) (r : AnyRange K) (w : Window P) where
   -- the item that the first of a run is to join, where there is one
   abbrev pub IsJoiningFirst : Option (Item (AnyRange K) V) → Option P → Option P → Type 0
-  IsJoiningFirst next first found = let place = place_before rank (length items) w.from in (lawful : IsLawful order) → (equal : IsEquivalence same) → (b : Bound K) (from : Option P) → IsKnownBound order b → SameBound order (turned_bound r.start) b → IsAt is_good rank (length items) from (place + length (option_items first)) → IsLeftSeam order same lawful equal is_good rank items r place w.count next first (seam_edge found first b) (option_or found from)
+  IsJoiningFirst next first found = let place = place_before (rank stored) (length (items stored)) w.from in (lawful : IsLawful order) → (equal : IsEquivalence same) → (b : Bound K) (from : Option P) → IsKnownBound order b → SameBound order (turned_bound r.start) b → IsAt (is_good stored) (rank stored) (length (items stored)) from (place + length (option_items first)) → IsLeftSeam order same lawful equal (is_good stored) (rank stored) (items stored) r place w.count next first (seam_edge found first b) (option_or found from)
 
   -- the item that the last of a run is to join, where there is one
   abbrev pub IsJoiningLast : Option (Item (AnyRange K) V) → Option P → Option P → Type 0
-  IsJoiningLast previous last found = let place = place_before rank (length items) w.from in (lawful : IsLawful order) → (equal : IsEquivalence same) → (b : Bound K) → IsKnownBound order b → SameBound order (turned_bound r.end) b → IsRightSeam order same lawful equal is_good rank items r place w.count previous last (seam_edge found last b)
+  IsJoiningLast previous last found = let place = place_before (rank stored) (length (items stored)) w.from in (lawful : IsLawful order) → (equal : IsEquivalence same) → (b : Bound K) → IsKnownBound order b → SameBound order (turned_bound r.end) b → IsRightSeam order same lawful equal (is_good stored) (rank stored) (items stored) r place w.count previous last (seam_edge found last b)

@@ -57,9 +57,9 @@ module _ {K : Type 0} (order : KeyOrder K) {V : Type 0} where
     pub meets : (d : Item (AnyRange K) V) → 0 < w.count → Lt (position_cmp order.cmp) (item_lower order (slice_index_or items (place + w.count - 1) d)) (upper order r)
     pub behind : Every (λ i. Le (position_cmp order.cmp) (upper order r) (item_lower order i)) (drop (place + w.count) items)
 
-  -- the items that meet the range, as the window says where they are
-  abbrev pub IsWindowOf : {P : Type 0} → (P → Type 0) → (P → ℕ) → List (Item (AnyRange K) V) → AnyRange K → Window P → Type 0
-  IsWindowOf is_good rank items r w = IsWindow is_good rank items r w (place_before rank (length items) w.from)
+  -- the items of a container that meet the range, as the window says where they are
+  abbrev pub IsWindowOf : {S P : Type 0} → (S → P → Type 0) → (S → P → ℕ) → (S → List (Item (AnyRange K) V)) → S → AnyRange K → Window P → Type 0
+  IsWindowOf is_good rank items stored r w = IsWindow (is_good stored) (rank stored) (items stored) r w (place_before (rank stored) (length (items stored)) w.from)
 
   module _ (same : V → V → Bool) where
     -- what is left of an item below a range

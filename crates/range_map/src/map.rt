@@ -141,7 +141,8 @@ impl<K: PartialEnum, V: Eq + Drop, C: Storage<Item<AnyRange<K>, V>>> RangeMap<K,
     pub fn get_counted(&self, key: K, steps: &mut Steps) -> Option<&V>
         ensures value { Binds K.order V.eq (C.items self.now) key (option_copied result) }
         ensures stored { IfSome result (λ v. IsStoredFor K.order (C.items self.now) key v.now) }
-        ensures counted { AddsSteps steps.old steps.new (C.least_asks self.now) (C.most_asks self.now + 1) }
+        ensures counted { AddsSteps steps.old steps.new (C.least_asks self.now)
+            (C.most_asks self.now + 1) }
         ensures none { C.items self.now ≡ [] → AddsSteps steps.old steps.new 0 0 }
     {
         key.known();

@@ -29,7 +29,9 @@ pub fn binary_search<T: Measure, V, U: AsRange<Item = T>>(
 ) -> Option<usize>
     requires nonempty { AllByRecursion (λ i. ¬ IsEmptyRange T.order i.key) items.now }
     requires rising { EachNext (λ i j. LiesBefore T.order i.key j.key) items.now }
-    ensures { MatchOption result (All (λ i. ElementIsBefore T.order (U.range element.now) connected i.key) items.now) (λ at. IsLastNotAfter T.order (U.range element.now) connected items.now at) }
+    ensures { MatchOption result
+        (All (λ i. ElementIsBefore T.order (U.range element.now) connected i.key) items.now)
+        (λ at. IsLastNotAfter T.order (U.range element.now) connected items.now at) }
 {
     inner::known_range(element);
     let mut low = 0;

@@ -7,9 +7,8 @@ use Rattle.range_keys.specs.Order.{KeyOrder}
 use Rattle.range_algebra.specs.Intervals.{Every}
 use Rattle.range_algebra.specs.declared.any.AnyRange.{AnyRange}
 use Rattle.range_store.specs.declared.storage.Item.{Item}
-use Rattle.range_map.specs.Answers.{Answered, MayAnswer, IsUpdated, FailsAt}
+use Rattle.range_map.specs.Answers.{Answered, MayAnswer, IsAnswered, IsUpdated, MayFail, FailsAt}
 use Rattle.range_map.specs.Rebinding.{IsRebound, AreRebound}
-use Rattle.range_sets.specs.Runs.{IsAnswered, MayFail}
 
 module _ {K : Type 0} (order : KeyOrder K) {V : Type 0} (same : V → V → Bool) {F E : Type 0} (calls : Shared F (Option (Bor V) × Unit {0}) (Result (Option V) E)) (f : F) (may : Option V → Result (Option V) E → Type 0) (told : (value : Option V) (a : Result (Option V) E) → MayAnswer calls f value a → may value a) where
   all_told : (answers : List (Answered K V)) → Every (λ a. MayAnswer calls f a.value (Ok a.answer)) answers → Every (λ a. may a.value (Ok a.answer)) answers
@@ -20,7 +19,7 @@ module _ {K : Type 0} (order : KeyOrder K) {V : Type 0} (same : V → V → Bool
   -- what a closure may answer is what its calls may
   pub answered_as : {calls : Shared F (Option (Bor V) × Unit {0}) (Result (Option V) E)} {f : F} (items next : List (Item (AnyRange K) V)) (r : AnyRange K) → IsUpdated order same calls f items next r
       → ((value : Option V) (a : Result (Option V) E) → MayAnswer calls f value a → may value a) → IsAnswered order same may items next r
-  answered_as {calls} {f} items next r done told = record { answers = done.answers; pieces = done.pieces; given = all_told order same calls f may told done.answers done.given; held = done.held; others = done.others }
+  answered_as {calls} {f} items next r done told = let old = done.answered in record { answers = old.answers; pieces = old.pieces; given = all_told order same calls f may told old.answers old.given; held = old.held; others = old.others }
 
   rebound_key : {calls : Shared F (Option (Bor V) × Unit {0}) (Result (Option V) E)} {f : F} (items next : List (Item (AnyRange K) V)) (k : K) → IsRebound order same (MayAnswer calls f) items next k
       → ((value : Option V) (a : Result (Option V) E) → MayAnswer calls f value a → may value a) → IsRebound order same may items next k

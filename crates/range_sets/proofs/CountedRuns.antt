@@ -200,5 +200,5 @@ module _ {X : Type 0} where
   some_asks s some =
       elim (some_or_none s.tree.levels) [
         | inl high ↦ omega (arith, high)
-        | inr none ↦ let over : length (box_items s) + 1 ≤ (MOST + 1) ^ 0 = rw none at ((box_levels s).most some) in absurd (omega (arith, over, some))
+        | inr none ↦ let one : (MOST + 1) ^ s.tree.levels ≡ 1 = ap (λ m. (MOST + 1) ^ m) none in absurd (omega (arith, (box_levels s).most some, one, some))
       ]

@@ -26,7 +26,7 @@ module _ {K : Type 0} (order : KeyOrder K) {S : Type 0} (same : S → S → Bool
   given_way_full items next r s full before way =
       let all : Every IsFull (way.front ++ way.run ++ way.behind) = subst (Every IsFull) way.before before in
       let first = every_left IsFull (way.front ++ way.run) way.behind all in
-      let others = every_weaker (IsNewItem order same way.run r s) IsFull way.others (new_full way.run r s full (every_right IsFull way.front way.run first)) way.made in
+      let others = every_weaker (IsNewItem order same way.run r s) IsFull way.others (new_full way.run r s full (every_right IsFull way.front way.run first)) way.such.made in
       let front = every_append IsFull way.front way.others (every_left IsFull way.front way.run first) others in
       subst (Every IsFull) (sym way.after) (every_append IsFull (way.front ++ way.others) way.behind front (every_right IsFull (way.front ++ way.run) way.behind all))
 

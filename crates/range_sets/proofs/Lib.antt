@@ -12,6 +12,5 @@ pub mod Likeness
 pub mod Matching
 pub mod Membership
 pub mod Pairing
-pub mod Ranges
 pub mod Replies
 pub mod Showing

@@ -16,7 +16,7 @@ use Rattle.range_map.specs.ListOrder.{same_list, list_cmp, list_input, item_inpu
 use Rattle.range_map.proofs.StoredLists.{same_keys}
 use Rattle.range_sets.specs.KeySets.{HoldAlike}
 use Rattle.range_sets.specs.SetOrder.{same_ranges, ranges_cmp, ranges_input}
-use Rattle.range_sets.proofs.Ranges.{ranges_length}
+use Rattle.range_sets.proofs.Counting.{ranges_length}
 
 and_true : (b : Bool) → (b && true) ≡ b
 and_true true = refl

@@ -21,12 +21,6 @@ use Rattle.range_map.specs.Ranges.{Overlap}
 use Rattle.range_map.proofs.FreeParts.{Pairs, IsFull}
 
 module _ {K : Type 0} (order : KeyOrder K) (lawful : IsLawful order) where
-  abbrev PLe : Position K → Position K → Type 0
-  PLe p q = Le (position_cmp order.cmp) p q
-
-  abbrev PLt : Position K → Position K → Type 0
-  PLt p q = Lt (position_cmp order.cmp) p q
-
   abbrev Start : AnyRange K → Position K
   Start r = start_position order r.start
 

@@ -191,7 +191,7 @@ module _ {K : Type 0} (order : KeyOrder K) {S : Type 0} (same : S → S → Bool
         let frame = done.frame in
         let parts = front_of (frame.front ++ frame.run) frame.behind (rw frame.before at full) in
         let first = front_of frame.front frame.run parts.0 in
-        rw frame.after (back_to (frame.front ++ frame.others) frame.behind (back_to frame.front frame.others first.0 (all_full frame.run frame.others done.answers first.1 done.given frame.valued)) parts.1)
+        rw frame.after (back_to (frame.front ++ frame.others) frame.behind (back_to frame.front frame.others first.0 (all_full frame.run frame.others done.answered.answers first.1 done.answered.given frame.such.valued)) parts.1)
   ]
 
 module _ {K : Type 0} (order : KeyOrder K) {S : Type 0} (same : S → S → Bool) (equal : IsEquivalence same) (is_void : S → Type 0) (void_equal : (s t : S) → IsTrue (same s t) → is_void s → is_void t) {F E : Type 0} (calls : Shared F (Option (Bor S) × Unit {0}) (Result (Option S) E)) (f : F) (items next : List (Item (AnyRange K) S)) (r : AnyRange K) where

@@ -43,8 +43,8 @@ impl<T: PartialEnum, C: Storage<Item<AnyRange<T>, ()>>> RangeSet<T, C> {
     /// How a set over any container compares, by the stored ranges in dictionary order.
     ///
     /// Over keys that tell their neighbours and ends, as integers and characters, sets that hold
-    /// the same keys, and no others, are `Equal`, and compare alike with every set. Takes no
-    /// memory. Costs one step for each stored range.
+    /// the same keys, and no others, are `Equal`, and compare alike with every set.
+    /// Allocates nothing. Costs one step for each stored range.
     ///
     /// ```
     /// let copy = set.clone()?;

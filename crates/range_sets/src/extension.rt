@@ -28,7 +28,8 @@ impl<T: Measure + Clone, C: Storage<Item<AnyRange<T>, ()>>> RangeSet<T, C> {
         ranges: I,
     ) -> Result<(), MapError>
         requires clones { ClonesAreEqual T.is_clone T.eq }
-        requires ends { IsFiniteIterable I.into_iter_gives I.IntoIter.can_next I.IntoIter.remaining ranges }
+        requires ends { IsFiniteIterable I.into_iter_gives I.IntoIter.can_next I.IntoIter.remaining
+            ranges }
         ensures added { OnOk result
             (AfterAll I.into_iter_gives I.IntoIter.next_gives R.range ranges
             (HoldsAllAlso T.order (C.items self.old) (C.items self.new))) }
@@ -58,7 +59,8 @@ impl<T: Measure + Clone, C: Storage<Item<AnyRange<T>, ()>>> RangeSet<T, C> {
         ranges: I,
     ) -> Result<Self, MapError>
         requires clones { ClonesAreEqual T.is_clone T.eq }
-        requires ends { IsFiniteIterable I.into_iter_gives I.IntoIter.can_next I.IntoIter.remaining ranges }
+        requires ends { IsFiniteIterable I.into_iter_gives I.IntoIter.can_next I.IntoIter.remaining
+            ranges }
         ensures held { IfOk result
             (λ set. AfterAll I.into_iter_gives I.IntoIter.next_gives R.range ranges
             (HoldsAllOf T.order (C.items set))) }

@@ -4,7 +4,6 @@ use Rattle.std.specs.List.{All, AllZip}
 use Rattle.std.proofs.lemmas.List.Sums.{sum_by-cons}
 use Rattle.std.proofs.lemmas.List.Elements.{All-head, All-tail}
 use Rattle.slab.specs.Slab.{Slab, get, slab_len, IsSlotClone, IsSlabClone}
-use Rattle.range_store.specs.Nodes.{Ranked}
 use Rattle.range_store.specs.Listed.{Stored, listed, IsStorage, some_cases, stored_head, stored_tail, listed-cons}
 
 module _ {X : Type 0} where
@@ -55,7 +54,7 @@ module _ {T : Type 0} (R : T → T → Type 0) where
     pub copied_same : ((x y : T) → R x y → y ≡ x) → (k : ℕ) → get t k ≡ get s k
     copied_same equal k = slot_same equal (get s k) (get t k) (clone_at s.slots t.slots k copied.slots)
 
-    pub copied_storage : (old new : Ranked) → new.numbers ≡ old.numbers → IsStorage s old → IsStorage t new
+    pub copied_storage : (old new : List ℕ) → new ≡ old → IsStorage s old → IsStorage t new
     copied_storage old new same whole = record {
       once = λ k. let here : ◌≡◌ {A = ℕ} (cond (is_some (get t k)) 1 0) (cond (is_some (get s k)) 1 0) = rw (copied_some k) refl in rw same (whole.once k ∙ sym here);
       len = rw same (copied_len ∙ whole.len);

@@ -1,5 +1,5 @@
 -- Edits just after a front.
-use Rattle.std.proofs.Common.{◌≡◌, ℕ, ◌+◌, ◌-◌, ◌<◌, ◌≤◌, List, [], ◌∷◌, ◌++◌, length, take, drop, get_or, refl, ap, sym, ◌∙◌, arith, length-append, append_assoc, take-append-drop}
+use Rattle.std.proofs.Common.{◌≡◌, ℕ, ◌+◌, ◌-◌, ◌<◌, ◌≤◌, List, [], ◌∷◌, ◌++◌, length, take, drop, get_or, refl, ap, sym, ◌∙◌, add-one, arith, length-append, append_assoc, take-append-drop}
 use Rattle.std.specs.List.{remove}
 use Rattle.std.proofs.lemmas.List.{take_at, drop_at, drop_more, length-take-le, drop-drop, take-set, drop-set}
 use Rattle.std.proofs.Math.ListN.{set}
@@ -22,6 +22,9 @@ removed_one before now new place i r d was done same within =
 
 pub set_parts : {T : Type 0} (xs : List T) (i : ℕ) (y : T) → i < length xs → set xs i y ≡ take i xs ++ y ∷ drop (i + 1) xs
 set_parts xs i y within = sym (take-append-drop i (set xs i y)) ∙ (ap (λ ys. ys ++ drop i (set xs i y)) (take-set xs i y) ∙ ap (λ ys. take i xs ++ ys) (drop-set xs i y within))
+
+pub remove_parts : {T : Type 0} (xs : List T) (i : ℕ) → remove xs i ≡ take i xs ++ drop (i + 1) xs
+remove_parts xs i = ap (λ m. take i xs ++ drop m xs) (sym (add-one i))
 
 -- an item is put in the place of another
 pub put_over : {T : Type 0} (before new : List T) (place r left : ℕ) (x : T) → new ≡ set before r x → r ≡ place → place < length before → 0 < left → new ≡ take place before ++ x ∷ drop (place + (left - (left - 1))) before

@@ -40,9 +40,9 @@ same_children_from s t d below (n ∷ ns) agree =
       shaped_same = λ h. All-cons (Shaped t d) n ns (first.shaped_same (All-head (Shaped s d) n ns h)) (later.shaped_same (All-tail (Shaped s d) n ns h));
     }
 
-pub IsNode-same : (least most : ℕ) (s t : Slab Node) (d n : ℕ) → get t n ≡ get s n → numbers t (suc d) n ≡ numbers s (suc d) n → map (numbers t d) (children_of (get s n)) ≡ map (numbers s d) (children_of (get s n)) → IsNode least most s d n → IsNode least most t d n
-IsNode-same least most s t d n here same lists node =
-    record { present = rw here node.present; enough = rw here node.enough; fits = rw here node.fits; branches = rw here node.branches; counted = rw (here, same) node.counted; sized = rw (here, lists) node.sized }
+pub IsNode-same : (least most : ℕ) (s t : Slab Node) (d n : ℕ) → get t n ≡ get s n → IsNode least most s d n → IsNode least most t d n
+IsNode-same least most s t d n here node =
+    record { present = rw here node.present; enough = rw here node.enough; fits = rw here node.fits; branches = rw here node.branches }
 
 pub same_below : (s t : Slab Node) (d n : ℕ) → AgreeAt s t (used s d n) → SameBelow s t d n
 unfolding numbers used Shaped
@@ -50,11 +50,10 @@ same_below s t zero n agree = record { numbers_same = refl; used_same = refl; sh
 same_below s t (suc d) n agree =
     let here : get t n ≡ get s n = agree n (occurrences_here n (flat_map (used s d) (children_of (get s n)))) in
     let children = same_children_from s t d (same_below s t d) (children_of (get s n)) (AgreeAt-right s t (n ∷ []) (flat_map (used s d) (children_of (get s n))) agree) in
-    let numbers_eq : numbers t (suc d) n ≡ numbers s (suc d) n = rw (here, children.numbers_same) in
     record {
-      numbers_same = numbers_eq;
+      numbers_same = rw (here, children.numbers_same);
       used_same = rw (here, children.used_same);
-      shaped_same = λ h. (IsNode-same LEAST MOST s t d n here numbers_eq children.numbers_same h.0, rw here (children.shaped_same h.1));
+      shaped_same = λ h. (IsNode-same LEAST MOST s t d n here h.0, rw here (children.shaped_same h.1));
     }
 
 pub same_children : (s t : Slab Node) (d : ℕ) (ns : List ℕ) → AgreeAt s t (flat_map (used s d) ns) → SameChildren s t d ns

@@ -1,10 +1,10 @@
 -- A test that falls once along a list.
-use Rattle.std.proofs.Common.{◌≡◌, ◌⊎◌, ℕ, zero, suc, ◌+◌, ◌-◌, ◌/◌, ◌*◌, ◌^◌, ◌<◌, ◌≤◌, Bool, true, false, cond, List, [], ◌∷◌, ◌++◌, length, get_or, refl, ◌∙◌, inl, inr, arith, count_by, Some, min}
+use Rattle.std.proofs.Common.{◌≡◌, ◌⊎◌, ℕ, zero, suc, ◌+◌, ◌-◌, ◌/◌, ◌^◌, ◌<◌, ◌≤◌, Bool, true, false, cond, List, [], ◌∷◌, ◌++◌, length, get_or, refl, ◌∙◌, inl, inr, arith, count_by, Some, min}
 use Rattle.std.proofs.Math.Nat.{pow-suc}
 use Rattle.std.proofs.lemmas.List.Sums.{sum_by-cons, sum_by-append}
 use Rattle.range_store.specs.declared.btree.node.TheConstants.{MOST}
 use Rattle.range_store.specs.declared.btree.searching.TheConstants.{HALVINGS}
-use Rattle.range_store.specs.Counting.{one_step_after, greatest_count, AddsSteps}
+use Rattle.range_store.specs.Counting.{one_step_after, greatest_count}
 use Rattle.slab.specs.Slab.{Slab, get}
 use Rattle.range_store.specs.Falling.{Falls, passes}
 
@@ -124,13 +124,3 @@ halving_fails p xs low high first now falls less fails h =
 
 pub passing : {T : Type 0} (items : Slab T) (test : T → Bool) (k : ℕ) (x : T) → get items k ≡ Some x → passes items test k ≡ test x
 passing items test k x found = rw found refl
-
--- the steps of a search in so many nodes, and in one more
-pub steps_more : (first second third many : ℕ) → AddsSteps first second many (HALVINGS * many) → AddsSteps second third 1 HALVINGS → AddsSteps first third (many + 1) (HALVINGS * (many + 1))
-steps_more first second third many earlier here = record {
-  at_most = omega (arith, here.at_most, earlier.at_most);
-  at_least = omega (arith, here.at_least, earlier.at_least);
-}
-
-pub no_steps : (first : ℕ) → AddsSteps first first 0 (HALVINGS * 0)
-no_steps first = record { at_most = omega arith; at_least = omega arith }

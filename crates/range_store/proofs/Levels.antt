@@ -10,7 +10,7 @@ use Rattle.range_store.specs.declared.btree.node.Node.{Node}
 use Rattle.range_store.specs.declared.btree.node.TheConstants.{MOST, LEAST}
 use Rattle.range_store.specs.Depth.{HasLevels}
 use Rattle.range_store.specs.Nodes.{children_of, numbers, Shaped, ShapedBut, IsTree}
-use Rattle.range_store.proofs.Replace.{Shaped-but}
+use Rattle.range_store.proofs.Below.{Shaped-but}
 use Rattle.range_store.proofs.Room.{sizes, numbers_size}
 use Rattle.range_store.proofs.Rank.{numbers_none}
 

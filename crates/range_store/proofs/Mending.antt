@@ -6,11 +6,10 @@ use Rattle.std.proofs.lemmas.List.Elements.{All-cons, All-head, All-tail, All-ap
 use Rattle.slab.specs.Slab.{Slab, get}
 use Rattle.range_store.specs.declared.btree.node.Node.{Node}
 use Rattle.range_store.specs.declared.btree.node.TheConstants.{MOST, LEAST}
-use Rattle.range_store.specs.Nodes.{items_of, children_of, numbers, Shaped, ShapedBut, Shrinks, IsMendable, IsLevelled, child_size}
-use Rattle.range_store.proofs.Below.{Shaped-is_child}
-use Rattle.range_store.proofs.Replace.{parts, Shaped-from_but, Shaped-but}
-use Rattle.range_store.proofs.Room.{wider}
-use Rattle.range_store.proofs.Segment.{Reweaves-same}
+use Rattle.range_store.specs.Nodes.{items_of, children_of, numbers, used, Shaped, ShapedBut, Shrinks, IsMendable, IsLevelled, child_size}
+use Rattle.range_store.proofs.Below.{Shaped-from_but, Shaped-but, wider}
+use Rattle.range_store.proofs.Moves.{Moves-none}
+use Rattle.range_store.proofs.Weave.{parts}
 
 module _ {X : Type 0} (P : X → Type 0) where
   All-left : (xs ys : List X) → All P (xs ++ ys) → All P xs
@@ -44,7 +43,7 @@ module _ (s : Slab Node) (low n i : ℕ) (m : IsMendable s low n i) where
   kids = parts ks i 0 (omega (arith, many, m.within))
 
   present_of : (c : ℕ) → Shaped s (suc low) c → IsSome (get s c)
-  present_of c shaped = (Shaped-is_child s (suc low) c (omega arith) shaped).present
+  present_of c shaped = (Shaped-but s low c shaped).node.present
 
   pub all_present : All (λ c. IsSome (get s c)) ks
   all_present =
@@ -53,15 +52,15 @@ module _ (s : Slab Node) (low n i : ℕ) (m : IsMendable s low n i) where
   pub stays_mended : LEAST ≤ length (items_of (get s kid)) → Shrinks s s (suc low) n (numbers s (suc (suc low)) n)
   stays_mended enough =
       let here = Shaped-from_but s low kid (record {
-        node = record { present = m.child.node.present; enough = enough; fits = m.child.node.fits; branches = m.child.node.branches; counted = m.child.node.counted; sized = m.child.node.sized };
+        node = record { present = m.child.node.present; enough = enough; fits = m.child.node.fits; branches = m.child.node.branches };
         children = m.child.children;
       }) in
       let children = subst (All P) (sym kids) (All-append P (take i ks) (kid ∷ drop (i + 1) ks) m.before (All-cons P kid (drop (i + 1) ks) here m.behind)) in
       record {
         listed = refl;
-        woven = Reweaves-same s (suc (suc low)) (n ∷ []);
+        moved = Moves-none s (used s (suc (suc low)) n);
         shape = λ least more. record {
-          node = record { present = m.node.present; enough = omega arith; fits = m.node.fits; branches = m.node.branches; counted = m.node.counted; sized = m.node.sized };
+          node = record { present = m.node.present; enough = omega arith; fits = m.node.fits; branches = m.node.branches };
           children = children;
         };
       }

@@ -1,15 +1,13 @@
 -- What stands at a rank, and what is known of a whole tree.
-use Rattle.std.proofs.Common.{◌≡◌, ℕ, zero, suc, ◌+◌, ◌-◌, ◌*◌, ◌<◌, ◌≤◌, List, [], ◌∷◌, ◌++◌, length, get_or, drop, map, refl, sym, ap, ◌∙◌, inl, inr, arith, IsSome}
+use Rattle.std.proofs.Common.{◌≡◌, ℕ, zero, suc, ◌+◌, ◌-◌, ◌*◌, ◌<◌, ◌≤◌, List, [], ◌∷◌, ◌++◌, length, get_or, drop, map, refl, sym, ap, ◌∙◌, inl, inr, arith}
 use Rattle.std.proofs.lemmas.List.{length-append, length-drop, drop_more, drop_all, get_or-append-add, get_or_append_left, get_or-append_right}
 use Rattle.std.proofs.lemmas.Bool.{cases_lt}
 use Rattle.slab.specs.Slab.{Slab, get, slab_len}
 use Rattle.range_store.specs.declared.btree.node.Node.{Node}
 use Rattle.range_store.specs.declared.btree.node.TheConstants.{MOST, LEAST}
-use Rattle.range_store.specs.Nodes.{rest_of, before, after, items_of, children_of, count_of, numbers, used, ShapedBut, IsRoot, IsTree, here}
-use Rattle.range_store.proofs.Below.{children_length, lists_length, numbers_at, IsChild, Shaped-is_child}
+use Rattle.range_store.specs.Nodes.{rest_of, before, after, items_of, children_of, numbers, used, ShapedBut, IsRoot, IsTree, here}
+use Rattle.range_store.proofs.Below.{lists_length, numbers_at, Shaped-but}
 use Rattle.range_store.proofs.Frame.{same_below, same_children, IsNode-same}
-use Rattle.range_store.proofs.Replace.{numbers_leaf}
-use Rattle.range_store.proofs.Room.{used_le_but}
 use Rattle.range_store.specs.Occurrences.{occurrences, occurrences-nil}
 
 pub numbers_none : (s : Slab Node) (n : ℕ) → numbers s zero n ≡ []
@@ -66,11 +64,6 @@ module _ (least most : ℕ) (s : Slab Node) (d n i rest rank : ℕ) (inner : 0 <
       at_rank ∙ get_or-append_right (numbers s d kid) (after xs lists i) (length (numbers s d kid)) rest 0 refl (omega arith)
       ∙ ap (λ m. get_or (after xs lists i) m 0) zero_at ∙ head ∙ first
 
--- a tree with a number has a level
-pub levels_some : (s : Slab Node) (levels root rank : ℕ) → rank < length (numbers s levels root) → 0 < levels
-levels_some s zero root rank less = absurd (omega (arith, ap length (numbers_none s root)))
-levels_some s (suc d) root rank less = omega arith
-
 pub root_shaped : (s : Slab Node) (levels root : ℕ) → 0 < levels → IsTree s levels root → ShapedBut 1 MOST s (levels - 1) root
 root_shaped s zero root some tree = absurd (omega arith)
 root_shaped s (suc d) root some tree = let same : suc d - 1 ≡ d = omega arith in rw same tree.shaped
@@ -82,30 +75,14 @@ IsTree-none s root empty = record {
   len = let nothing : slab_len s ≡ 0 = rw empty refl in omega (arith, nothing, ap length (used_none s root));
 }
 
-pub tree_len : (s : Slab Node) (levels root : ℕ) → 0 < levels → IsTree s levels root → count_of (get s root) ≡ length (numbers s levels root)
-tree_len s zero root some tree = absurd (omega arith)
-tree_len s (suc d) root some tree = tree.shaped.node.counted
-
-pub tree_nodes : (s : Slab Node) (levels root : ℕ) → IsTree s levels root → slab_len s ≤ length (numbers s levels root)
-tree_nodes s zero root tree = omega (arith, tree.len, ap length (used_none s root))
-tree_nodes s (suc d) root tree = omega (arith, tree.len, used_le_but 1 MOST s d root tree.shaped, tree.shaped.node.enough)
-
 -- an empty tree leaves all capacity free
 pub first_room : (s : Slab Node) (levels root : ℕ) → levels ≡ 0 → IsTree s levels root → length (numbers s levels root) + 1 ≤ LEAST * s.capacity → slab_len s + 1 ≤ s.capacity
 first_room s zero root none tree room = omega (arith, tree.len, ap length (used_none s root), room)
 first_room s (suc d) root none tree room = absurd (omega arith)
 
-pub tree_present : (s : Slab Node) (levels root : ℕ) → 0 < levels → IsTree s levels root → IsSome (get s root)
-tree_present s zero root some tree = absurd (omega arith)
-tree_present s (suc d) root some tree = tree.shaped.node.present
-
-pub kid_known : (least most : ℕ) (s : Slab Node) (d n i : ℕ) → 0 < d → ShapedBut least most s d n → i ≤ length (items_of (get s n)) → IsChild s d (get_or (children_of (get s n)) i 0)
-kid_known least most s d n i inner shaped within =
-    Shaped-is_child s d _ inner (shaped.children i 0 (omega (arith, children_length least most s d n inner shaped)))
-
-pub leaf_numbers : (s : Slab Node) (below n : ℕ) → below ≡ 0 → ShapedBut 1 MOST s below n → numbers s (suc below) n ≡ items_of (get s n)
-leaf_numbers s zero n leaf shaped = numbers_leaf s n shaped.node.branches
-leaf_numbers s (suc e) n leaf shaped = absurd (omega arith)
+pub kid_shaped : (least most : ℕ) (s : Slab Node) (d n i : ℕ) → ShapedBut least most s (suc d) n → i ≤ length (items_of (get s n)) → ShapedBut LEAST MOST s d (get_or (children_of (get s n)) i 0)
+kid_shaped least most s d n i shaped within =
+    Shaped-but s d _ (shaped.children i 0 (omega (arith, shaped.node.branches)))
 
 -- the tree is the same in a slab with the same nodes
 module _ (s t : Slab Node) (same : (k : ℕ) → get t k ≡ get s k) (len : slab_len t ≡ slab_len s) where
@@ -117,7 +94,7 @@ module _ (s t : Slab Node) (same : (k : ℕ) → get t k ≡ get s k) (len : sla
 
   pub but_kept : (least most d n : ℕ) → ShapedBut least most s d n → ShapedBut least most t d n
   but_kept least most d n shaped = record {
-    node = IsNode-same least most s t d n (same n) (numbers_kept (suc d) n) (same_children s t d (children_of (get s n)) (λ k among. same k)).numbers_same shaped.node;
+    node = IsNode-same least most s t d n (same n) shaped.node;
     children = rw (same n) ((same_children s t d (children_of (get s n)) (λ k among. same k)).shaped_same shaped.children);
   }
 

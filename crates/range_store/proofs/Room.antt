@@ -1,18 +1,16 @@
 -- A tree has a node for each LEAST of its items at most, so capacity that is counted in items serves its nodes.
-use Rattle.std.proofs.Common.{◌≡◌, ℕ, zero, suc, ◌+◌, ◌-◌, ◌*◌, ◌<◌, ◌≤◌, List, [], ◌∷◌, ◌++◌, length, get_or, take, drop, map, ap, ◌∙◌, arith, IsSome}
-use Rattle.std.specs.List.{All, flat_map, sum, sum_by}
-use Rattle.std.proofs.lemmas.List.{length-append, length-map, map-append, nil_from_length}
+use Rattle.std.proofs.Common.{◌≡◌, ℕ, zero, suc, ◌+◌, ◌*◌, ◌<◌, ◌≤◌, List, [], ◌∷◌, ◌++◌, length, get_or, take, drop, map, ap, ◌∙◌, arith}
+use Rattle.std.specs.List.{All, flat_map, sum_by}
+use Rattle.std.proofs.lemmas.List.{length-append, length-map, map-append}
 use Rattle.std.proofs.lemmas.List.Concat.{flat_map-append}
-use Rattle.std.proofs.lemmas.List.Sums.{sum_by-cons, sum_by-append, sum_by-take-drop}
-use Rattle.std.proofs.lemmas.List.Elements.{All-nil, All-head, All-tail, All-take, All-drop, All-weaker}
+use Rattle.std.proofs.lemmas.List.Sums.{sum_by-cons, sum_by-append}
+use Rattle.std.proofs.lemmas.List.Elements.{All-head, All-tail, All-take, All-drop}
 use Rattle.slab.specs.Slab.{Slab, get, slab_len}
 use Rattle.range_store.specs.declared.btree.node.Node.{Node}
-use Rattle.range_store.specs.declared.btree.node.TheConstants.{MOST, LEAST, HALF}
-use Rattle.range_store.specs.Nodes.{items_of, children_of, sizes_of, count_of, child_count, numbers, used, Shaped, ShapedBut, HasTreeRoom, IsReady, IsCuttable}
-use Rattle.range_store.proofs.Below.{weave_numbers, children_length, Shaped-is_child}
-use Rattle.range_store.proofs.Cut.{length-weave, child_count_cases}
-use Rattle.range_store.proofs.Sizes.{sum_sizes}
-use Rattle.range_store.proofs.Replace.{used_is, parts, Shaped-but}
+use Rattle.range_store.specs.declared.btree.node.TheConstants.{LEAST, MOST}
+use Rattle.range_store.specs.Nodes.{items_of, children_of, numbers, used, Shaped, ShapedBut, HasTreeRoom}
+use Rattle.range_store.proofs.Below.{weave_numbers, children_length, child_count_cases, used_is, Shaped-but}
+use Rattle.range_store.proofs.Weave.{length-weave, parts}
 
 -- how many items stand below these nodes
 abbrev pub sizes : Slab Node → ℕ → List ℕ → ℕ
@@ -25,11 +23,6 @@ pub numbers_size : (least most : ℕ) (s : Slab Node) (d n : ℕ) → ShapedBut 
 numbers_size least most s d n shaped =
     ap length (weave_numbers s d n)
     ∙ length-weave (items_of (get s n)) (map (numbers s d) (children_of (get s n))) (child_count_cases d _ _ (length-map (children_of (get s n)) (numbers s d) ∙ shaped.node.branches))
-
--- the items of a node and those below its children are all that it counts
-pub sizes_below : (least most : ℕ) (s : Slab Node) (d n : ℕ) → ShapedBut least most s d n → count_of (get s n) ≡ length (items_of (get s n)) + sum (sizes_of (get s n))
-sizes_below least most s d n shaped =
-    omega (arith, shaped.node.counted, numbers_size least most s d n shaped, sum_sizes (numbers s d) (children_of (get s n)) (sizes_of (get s n)) shaped.node.sized)
 
 children_le_from : (s : Slab Node) (d : ℕ) → ((n : ℕ) → Shaped s d n → LEAST * length (used s d n) ≤ length (numbers s d n)) → (ns : List ℕ) → All (Shaped s d) ns → LEAST * length (flat_map (used s d) ns) ≤ sizes s d ns
 children_le_from s d below [] shaped = omega arith
@@ -45,10 +38,6 @@ used_le s (suc d) n shaped =
 
 pub children_le : (s : Slab Node) (d : ℕ) (ns : List ℕ) → All (Shaped s d) ns → LEAST * length (flat_map (used s d) ns) ≤ sizes s d ns
 children_le s d ns shaped = children_le_from s d (used_le s d) ns shaped
-
-pub used_le_but : (least most : ℕ) (s : Slab Node) (d n : ℕ) → ShapedBut least most s d n → LEAST * length (used s (suc d) n) + length (items_of (get s n)) ≤ length (numbers s (suc d) n) + LEAST
-used_le_but least most s d n shaped =
-    omega (arith, ap length (used_is s d n), numbers_size least most s d n shaped, children_le s d (children_of (get s n)) shaped.children)
 
 -- capacity below a node is capacity below each of its children
 pub HasTreeRoom-child : (most : ℕ) (s : Slab Node) (d n i more : ℕ) → 0 < d → i ≤ length (items_of (get s n)) → ShapedBut 1 most s d n → HasTreeRoom s (suc d) n more → HasTreeRoom s d (get_or (children_of (get s n)) i 0) more
@@ -71,31 +60,3 @@ HasTreeRoom-child most s d n i more inner within shaped room =
     few_from : (b m : ℕ) → LEAST * slab_len s + (length (numbers s b m) + more) + 1 ≤ LEAST * s.capacity + LEAST * length (used s b m) + LEAST → Shaped s b m → 0 < b → LEAST * slab_len s + (length (numbers s b m) + more) + 1 ≤ LEAST * s.capacity + LEAST * length (used s b m) + length (items_of (get s m))
     few_from zero m kept known some = absurd (omega arith)
     few_from (suc b) m kept known some = omega (arith, kept, (Shaped-but s b m known).node.enough)
-
--- the items of the second part are fewer than all
-pub moved_below : (top : ℕ) (s : Slab Node) (d n half : ℕ) → ShapedBut 0 top s d n → half < length (items_of (get s n)) → (sum (drop (half + 1) (sizes_of (get s n))) + (length (items_of (get s n)) - half - 1) < count_of (get s n))
-moved_below top s d n half shaped within =
-    let parts = sum_by-take-drop (λ k. k) (sizes_of (get s n)) (half + 1) in
-    omega (arith, sizes_below 0 top s d n shaped, parts, within)
-
-pub children_present : (s : Slab Node) (d k : ℕ) (ns : List ℕ) → length ns ≡ child_count d k → All (Shaped s d) ns → All (λ c. IsSome (get s c)) ns
-children_present s zero k ns none shaped = rw (nil_from_length ns none) (All-nil (λ c. IsSome (get s c)))
-children_present s (suc d) k ns some shaped = All-weaker (Shaped s (suc d)) (λ c. IsSome (get s c)) (λ c h. (Shaped-is_child s (suc d) c (omega arith) h).present) ns shaped
-
--- the bounds on a node may be wider
-pub wider : (low least most top : ℕ) (s : Slab Node) (d n : ℕ) → low ≤ least → most ≤ top → ShapedBut least most s d n → ShapedBut low top s d n
-wider low least most top s d n le le' shaped = record {
-  node = record { present = shaped.node.present; enough = omega (arith, shaped.node.enough); fits = omega (arith, shaped.node.fits); branches = shaped.node.branches; counted = shaped.node.counted; sized = shaped.node.sized };
-  children = shaped.children;
-}
-
-pub cuttable : (s : Slab Node) (d n : ℕ) → IsReady s d n → MOST < length (items_of (get s n)) → IsCuttable s d n HALF
-cuttable s d n ready over = record {
-  shaped = wider 0 0 (MOST + 1) (MOST + LEAST) s d n (omega arith) (omega arith) ready.shaped;
-  owned = ready.owned;
-  least_left = omega arith;
-  most_left = omega arith;
-  least_right = omega (arith, over);
-  most_right = omega (arith, ready.shaped.node.fits);
-  room = ready.room over;
-}

@@ -7,28 +7,17 @@ use Rattle.slab.specs.Slab.{Slab, get, slab_len, Updates}
 use Rattle.range_store.specs.declared.btree.node.Node.{Node}
 use Rattle.range_store.specs.declared.btree.node.TheConstants.{MOST, LEAST}
 use Rattle.range_store.specs.Occurrences.{occurrences, occurrences-cons, occurrences-nil, occurrences_itself, occurrences_other}
-use Rattle.range_store.specs.Nodes.{weave, items_of, children_of, numbers, used, here, Shaped, IsTree, IsLooseTree, Shrinks}
-use Rattle.range_store.proofs.Below.{weave_numbers}
+use Rattle.range_store.specs.Nodes.{weave, before, items_of, children_of, numbers, used, here, Shaped, IsTree, IsLooseTree, Shrinks}
+use Rattle.range_store.proofs.Below.{weave_numbers, used_is, used_leaf, numbers_leaf, Shaped-but, wider}
 use Rattle.range_store.proofs.Frame.{same_below, SameBelow}
+use Rattle.range_store.proofs.Gaps.{SameGap, same_gap, gap_inside, turn_within, place_inside}
+use Rattle.range_store.proofs.Moves.{here_some}
 use Rattle.range_store.proofs.Rank.{numbers_none, used_none}
-use Rattle.range_store.proofs.Replace.{used_is, used_leaf, numbers_leaf, here_some, Shaped-but}
-use Rattle.range_store.proofs.Room.{wider}
+use Rattle.range_store.specs.declared.btree.way.Gap.{Gap}
+use Rattle.range_store.specs.Gaps.{turn, inside, IsGap, place}
+use Rattle.range_store.specs.Contents.{IsRewritten}
 
--- the tree after an item went below its root
-pub loosened : (s t : Slab Node) (levels root : ℕ) (list : List ℕ) → 0 < levels → IsTree s levels root → Shrinks s t (levels - 1) root list → IsLooseTree t levels root
-loosened s t zero root list some tree step = absurd (omega arith)
-loosened s t (suc d) root list some tree step' =
-    let level : suc d - 1 ≡ d = omega arith in
-    let step = rw level at step' in
-    let old = append-nil (used s (suc d) root) in
-    let new = append-nil (used t (suc d) root) in
-    record {
-      some = some;
-      shaped = rw level (step.shape 0 tree.shaped.node.enough);
-      once = λ k. omega (arith, step.woven.owned k, tree.once k, ap (occurrences k) old, ap (occurrences k) new);
-      len = omega (arith, step.woven.len, tree.len, ap length old, ap length new);
-    }
-
+-- the numbers after an item went below the root
 pub loosened_numbers : (s t : Slab Node) (levels root : ℕ) (list : List ℕ) → 0 < levels → Shrinks s t (levels - 1) root list → numbers t levels root ≡ list
 loosened_numbers s t levels root list some step = let level : suc (levels - 1) ≡ levels = omega arith in rw level at step.listed
 
@@ -40,7 +29,7 @@ stays_root s (suc d) root loose full =
     let shaped = rw level at loose.shaped in
     record {
       shaped = record {
-        node = record { present = shaped.node.present; enough = full; fits = shaped.node.fits; branches = shaped.node.branches; counted = shaped.node.counted; sized = shaped.node.sized };
+        node = record { present = shaped.node.present; enough = full; fits = shaped.node.fits; branches = shaped.node.branches };
         children = shaped.children;
       };
       once = loose.once;
@@ -101,5 +90,40 @@ lowered s t (suc (suc e)) root more loose empty gone len =
     let list : numbers t (suc e) kid ≡ numbers s (suc (suc e)) root = same.numbers_same ∙ sym (weave_numbers s (suc e) root ∙ ap (λ zs. weave zs (map (numbers s (suc e)) (children_of (get s root)))) (nil_from_length (items_of (get s root)) empty) ∙ ap (λ zs. weave [] (map (numbers s (suc e)) zs)) one ∙ append-nil (numbers s (suc e) kid)) in
     rw level (tree, list)
 
+-- a gap below the only child of the root
+pub lowered_gap : (s t : Slab Node) (levels root : ℕ) (g : Gap) → levels ≢ 1 → IsLooseTree s levels root → length (items_of (get s root)) ≡ 0 → Updates s t root None → IsGap s (levels - 1) root g → IsGap t (levels - 1 - 1) (get_or (children_of (get s root)) 0 0) (inside g) × (place t (levels - 1 - 1) (get_or (children_of (get s root)) 0 0) (inside g) ≡ place s (levels - 1) root g)
+lowered_gap s t zero root g more loose empty gone is = absurd (omega (arith, loose.some))
+lowered_gap s t (suc zero) root g more loose empty gone is = absurd (more refl)
+lowered_gap s t (suc (suc e)) root g more loose empty gone is' =
+    let level : suc (suc e) - 1 ≡ suc e = omega arith in
+    let lower : suc e - 1 ≡ e = omega arith in
+    let shaped = rw level at loose.shaped in
+    let is = rw level at is' in
+    let ks = children_of (get s root) in
+    let kid = get_or ks 0 0 in
+    let one : ks ≡ kid ∷ [] = single ks (omega (arith, shaped.node.branches, empty)) in
+    let first : turn g ≡ 0 = omega (arith, turn_within s e root g is, shaped.node.branches, empty) in
+    let used_all : used s (suc (suc e)) root ≡ root ∷ used s (suc e) kid = used_is s (suc e) root ∙ ap (λ zs. root ∷ flat_map (used s (suc e)) zs) one ∙ ap (λ zs. root ∷ zs) (append-nil (used s (suc e) kid)) in
+    let present = here_some s root shaped.node.present in
+    let occurs : (k : ℕ) → occurrences k (root ∷ []) + occurrences k (used s (suc e) kid) ≡ here s k = λ k. omega (arith, loose.once k, ap (occurrences k) used_all, occurrences-cons k root (used s (suc e) kid)) in
+    let below : IsGap s e kid (inside g) = rw first at (gap_inside s e root g is) in
+    let same : SameGap s t e kid (inside g) = same_gap s t e kid (inside g) (λ k among. gone.others k (λ at. let itself : occurrences k (root ∷ []) ≡ 1 = rw (← at) (occurrences_itself k) in let was : here s k ≡ 1 = rw at present in omega (arith, occurs k, itself, was))) below in
+    let here' = rw first at (place_inside s e root g) in
+    let start : length (before (items_of (get s root)) (map (numbers s (suc e)) ks) 0) ≡ 0 = refl in
+    rw (level, lower) (same.gap below, omega (arith, same.place, here', start))
+
 pub tree_owned : (s : Slab Node) (levels root : ℕ) → IsTree s levels root → (k : ℕ) → occurrences k (used s levels root) ≤ here s k
 tree_owned s levels root tree k = omega (arith, tree.once k)
+
+-- the tree after an item was put in the place of another
+pub rewritten_tree : (s t : Slab Node) (levels root : ℕ) (list : List ℕ) → 0 < levels → IsTree s levels root → IsRewritten s t (levels - 1) root list → IsTree t levels root × (numbers t levels root ≡ list)
+rewritten_tree s t zero root list some tree step = absurd (omega arith)
+rewritten_tree s t (suc d) root list some tree step' =
+    let level : suc d - 1 ≡ d = omega arith in
+    let step = rw level at step' in
+    let whole : IsTree t (suc d) root = record {
+      shaped = step.shape 1 tree.shaped;
+      once = λ k. omega (arith, step.moved.owned k, tree.once k);
+      len = omega (arith, step.moved.len, tree.len);
+    } in
+    (whole, step.listed)

@@ -1,8 +1,9 @@
 -- Lists with items between them.
-use Rattle.std.proofs.Common.{◌≡◌, ℕ, ◌+◌, ◌-◌, ◌<◌, ◌≤◌, List, [], ◌∷◌, ◌++◌, length, get_or, take, drop, refl, sym, ap, ◌∙◌, arith}
-use Rattle.std.specs.List.{insert}
-use Rattle.std.proofs.lemmas.List.{append_assoc, append-nil, length-take-le, take-append-drop, drop_more, take_more}
+use Rattle.std.proofs.Common.{◌≡◌, ◌⊎◌, ℕ, suc, ◌+◌, ◌-◌, ◌<◌, ◌≤◌, List, [], ◌∷◌, ◌++◌, length, get_or, take, drop, refl, sym, ap, ◌∙◌, inl, inr, add-zero, add-one, arith}
+use Rattle.std.specs.List.{insert, sum_by}
+use Rattle.std.proofs.lemmas.List.{append_assoc, append-nil, length-append, length-take-le, take-append-drop, drop_more, take_more}
 use Rattle.std.proofs.lemmas.List.Edits.{insert-append_left, insert-append_right}
+use Rattle.std.proofs.lemmas.List.Sums.{sum_by-cons}
 use Rattle.range_store.specs.Nodes.{rest_of, weave, front_of, before, after}
 
 module _ {X : Type 0} where
@@ -32,24 +33,6 @@ module _ {X : Type 0} where
   pub weave_cut : (xs : List X) (y : X) (ys : List X) (k : List X) (ks : List (List X)) (l : List X) (ls : List (List X)) → length xs ≡ length ks → weave (xs ++ y ∷ ys) ((k ∷ ks) ++ (l ∷ ls)) ≡ weave xs (k ∷ ks) ++ (y ∷ weave ys (l ∷ ls))
   weave_cut xs y ys k ks l ls same =
       ap (λ zs. k ++ zs) (rest_of-append xs (y ∷ ys) ks (l ∷ ls) same) ∙ sym (append_assoc k (rest_of xs ks) (y ∷ weave ys (l ∷ ls)))
-
-  -- an item into the list k
-  pub weave-insert : (xs ys : List X) (ks : List (List X)) (k : List X) (ls : List (List X)) (rest : ℕ) (y : X) → length xs ≡ length ks → rest ≤ length k → weave (xs ++ ys) (ks ++ insert k rest y ∷ ls) ≡ insert (weave (xs ++ ys) (ks ++ k ∷ ls)) (length (front_of xs ks) + rest) y
-  weave-insert xs ys ks k ls rest y same within =
-      let right = insert-append_right (front_of xs ks) (k ++ rest_of ys ls) (length (front_of xs ks)) (length (front_of xs ks) + rest) y refl (omega arith) in
-      let offset : length (front_of xs ks) + rest - length (front_of xs ks) ≡ rest = omega arith in
-      let left = insert-append_left k (rest_of ys ls) rest y within in
-      weave_split xs ys ks (insert k rest y) ls same
-      ∙ sym (ap (λ zs. insert zs (length (front_of xs ks) + rest) y) (weave_split xs ys ks k ls same)
-      ∙ right ∙ ap (λ n. front_of xs ks ++ insert (k ++ rest_of ys ls) n y) offset ∙ ap (λ zs. front_of xs ks ++ zs) left)
-
-  -- an item into the list k, which is cut in two
-  pub weave-insert_cut : (xs ys : List X) (ks : List (List X)) (k : List X) (ls : List (List X)) (rest : ℕ) (y : X) (left : List X) (m : X) (right : List X) → length xs ≡ length ks → rest ≤ length k → insert k rest y ≡ left ++ m ∷ right → weave (xs ++ m ∷ ys) (ks ++ left ∷ right ∷ ls) ≡ insert (weave (xs ++ ys) (ks ++ k ∷ ls)) (length (front_of xs ks) + rest) y
-  weave-insert_cut xs ys ks k ls rest y left m right same within cut =
-      weave_split xs (m ∷ ys) ks left (right ∷ ls) same
-      ∙ ap (λ zs. front_of xs ks ++ zs) (sym (append_assoc left (m ∷ right) (rest_of ys ls)) ∙ ap (λ zs. zs ++ rest_of ys ls) (sym cut))
-      ∙ sym (weave_split xs ys ks (insert k rest y) ls same)
-      ∙ weave-insert xs ys ks k ls rest y same within
 
   pub front_of-append : (xs ys : List X) (ks ls : List (List X)) → length xs ≡ length ks → front_of (xs ++ ys) (ks ++ ls) ≡ front_of xs ks ++ front_of ys ls
   front_of-append [] ys [] ls same = refl
@@ -87,3 +70,37 @@ module _ {X : Type 0} where
       insert-append_right f (k ++ r) (length f) (length f + rest) y refl (omega arith)
       ∙ ap (λ n. f ++ insert (k ++ r) n y) offset
       ∙ ap (λ zs. f ++ zs) (insert-append_left k r rest y within)
+
+module _ {X : Type 0} where
+  -- the parts round the element at i
+  pub parts : (ks : List X) (i : ℕ) (d : X) → i < length ks → ks ≡ take i ks ++ (get_or ks i d ∷ drop (i + 1) ks)
+  parts ks i d within = sym (ap (λ zs. take i ks ++ zs) (sym (drop_more ks i d within)) ∙ take-append-drop i ks)
+
+  parts_at : (ks : List X) (h : ℕ) (d : X) → h < length ks → ks ≡ take h ks ++ (get_or ks h d ∷ drop (suc h) ks)
+  parts_at ks h d within = rw add-one at (parts ks h d within)
+
+  list_parts_at : (ks : List (List X)) (h : ℕ) (d : List X) → h < length ks → ks ≡ take h ks ++ (get_or ks h d ∷ drop (suc h) ks)
+  list_parts_at ks h d within = rw add-one at (sym (ap (λ zs. take h ks ++ zs) (sym (drop_more ks h d within)) ∙ take-append-drop h ks))
+
+  -- a woven list cut in two round the item at h
+  pub weave_halves : (xs : List X) (ks : List (List X)) (h : ℕ) (d : X) → h < length xs → (length ks ≡ 0) ⊎ (length ks ≡ length xs + 1) → weave xs ks ≡ weave (take h xs) (take (suc h) ks) ++ (get_or xs h d ∷ weave (drop (suc h) xs) (drop (suc h) ks))
+  weave_halves xs [] h d within fits = parts_at xs h d within
+  weave_halves xs (k ∷ ks) h d within (inl none) = absurd (omega (arith, none))
+  weave_halves xs (k ∷ ks) h d within (inr many) =
+      let lt : h < length ks = omega (arith, many) in
+      let cut = weave_cut (take h xs) (get_or xs h d) (drop (suc h) xs) k (take h ks) (get_or ks h []) (drop (suc h) ks) (length-take-le h xs (omega arith) ∙ sym (length-take-le h ks (omega arith))) in
+      let tail : drop h ks ≡ get_or ks h [] ∷ drop (suc h) ks = rw add-one at (drop_more ks h [] lt) in
+      ap (λ zs. weave zs (k ∷ ks)) (parts_at xs h d within)
+      ∙ ap (λ zs. weave (take h xs ++ (get_or xs h d ∷ drop (suc h) xs)) (k ∷ zs)) (list_parts_at ks h [] lt)
+      ∙ cut ∙ ap (λ zs. weave (take h xs) (k ∷ take h ks) ++ (get_or xs h d ∷ weave (drop (suc h) xs) zs)) (sym tail)
+
+  length-rest_of : (xs : List X) (ks : List (List X)) → length ks ≡ length xs → length (rest_of xs ks) ≡ length xs + sum_by length ks
+  length-rest_of [] [] same = refl
+  length-rest_of [] (k ∷ ks) same = absurd (omega arith)
+  length-rest_of (x ∷ xs) [] same = absurd (omega arith)
+  length-rest_of (x ∷ xs) (k ∷ ks) same = omega (arith, length-append k (rest_of xs ks), length-rest_of xs ks (omega arith), sum_by-cons (length {A = X}) k ks)
+
+  pub length-weave : (xs : List X) (ks : List (List X)) → (length ks ≡ 0) ⊎ (length ks ≡ length xs + 1) → length (weave xs ks) ≡ length xs + sum_by length ks
+  length-weave xs [] fits = sym (add-zero (length xs))
+  length-weave xs (k ∷ ks) (inl none) = absurd (omega (arith, none))
+  length-weave xs (k ∷ ks) (inr many) = omega (arith, length-append k (rest_of xs ks), length-rest_of xs ks (omega (arith, many)), sum_by-cons (length {A = X}) k ks)

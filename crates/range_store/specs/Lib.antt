@@ -1,9 +1,12 @@
+pub mod Contents
 pub mod Counting
 pub mod Depth
 pub mod Falling
+pub mod Gaps
 pub mod Holding
 pub mod Lending
 pub mod Listed
 pub mod Nodes
 pub mod Occurrences
 pub mod Places
+pub mod Trees

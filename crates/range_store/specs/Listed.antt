@@ -8,7 +8,6 @@ use Rattle.std.proofs.lemmas.Option.{none-some}
 use Rattle.std.proofs.lemmas.List.Sums.{sum_by-set}
 use Rattle.slab.specs.Slab.{Slab, get, slab_len, with_value}
 use Rattle.range_store.specs.Occurrences.{occurrences, occurrences-cons, occurrences_here, occurrences_itself, occurrences_at}
-use Rattle.range_store.specs.Nodes.{Ranked}
 
 -- each number has an item
 abbrev pub Stored : {T : Type 0} → Slab T → List ℕ → Type 0
@@ -20,10 +19,10 @@ module _ {T : Type 0} where
   listed items xs = filter_map (get items) xs
 
   -- each item stands under just one number of the tree
-  pub record IsStorage (items : Slab T) (tree : Ranked) : Type 0 where
-    pub once : (k : ℕ) → occurrences k tree.numbers ≡ cond (is_some (get items k)) 1 0
-    pub len : slab_len items ≡ length tree.numbers
-    pub fits : length tree.numbers < 2 ^ 64
+  pub record IsStorage (items : Slab T) (tree : List ℕ) : Type 0 where
+    pub once : (k : ℕ) → occurrences k tree ≡ cond (is_some (get items k)) 1 0
+    pub len : slab_len items ≡ length tree
+    pub fits : length tree < 2 ^ 64
 
   pub some_cases : (o : Option T) → IsSome o → (x : T) × (o ≡ Some x)
   some_cases (Some x) h = (x, refl)
@@ -50,7 +49,7 @@ module _ {T : Type 0} where
       let head = some_cases (get s n) (stored_head s n xs stored) in
       omega (arith, ap length (listed-cons s n head.0 xs head.1), length-listed s xs (stored_tail s n xs stored))
 
-  pub storage_stored : (s : Slab T) (tree : Ranked) → IsStorage s tree → Stored s tree.numbers
+  pub storage_stored : (s : Slab T) (tree : List ℕ) → IsStorage s tree → Stored s tree
   storage_stored s tree whole k among = let e = whole.once k in grind (arith, e)
 
   pub some_within : (s : Slab T) (n : ℕ) → IsSome (get s n) → n < length s.slots
@@ -88,29 +87,29 @@ module _ {T : Type 0} where
       listed-cons (with_value s n x) m head.0 xs found ∙ ap (λ zs. head.0 ∷ zs) later ∙ sym (ap (λ zs. set zs (suc r) x) (listed-cons s m head.0 xs head.1))
 
   -- the number at a rank, or one that is not in use
-  abbrev pub number_or_none : Slab T → Ranked → ℕ → ℕ
-  number_or_none s tree r = slice_index_or tree.numbers r (length s.slots)
+  abbrev pub number_or_none : Slab T → List ℕ → ℕ → ℕ
+  number_or_none s tree r = slice_index_or tree r (length s.slots)
 
-  module _ (s : Slab T) (tree : Ranked) (whole : IsStorage s tree) (r : ℕ) (x : T) where
+  module _ (s : Slab T) (tree : List ℕ) (whole : IsStorage s tree) (r : ℕ) (x : T) where
     abbrev n : ℕ
     n = number_or_none s tree r
 
-    stored : Stored s tree.numbers
+    stored : Stored s tree
     stored = storage_stored s tree whole
 
     -- where there is a rank, its item is present
-    known : r < length tree.numbers → get_or tree.numbers r 0 ≡ n
-    known within = get_or_default tree.numbers r 0 (length s.slots) within
+    known : r < length tree → get_or tree r 0 ≡ n
+    known within = get_or_default tree r 0 (length s.slots) within
 
-    here : r < length tree.numbers → IsSome (get s n)
-    here within = stored n (rw known at (occurrences_at tree.numbers r within))
+    here : r < length tree → IsSome (get s n)
+    here within = stored n (rw known at (occurrences_at tree r within))
 
-    past : length tree.numbers ≤ r → set s.slots n (Some x) ≡ s.slots
-    past over = set_past s.slots n (Some x) (let e : n ≡ length s.slots = get_or_past tree.numbers r (length s.slots) over in omega (arith, e))
+    past : length tree ≤ r → set s.slots n (Some x) ≡ s.slots
+    past over = set_past s.slots n (Some x) (let e : n ≡ length s.slots = get_or_past tree r (length s.slots) over in omega (arith, e))
 
     still_some : (k : ℕ) → is_some (get (with_value s n x) k) ≡ is_some (get s k)
     still_some k =
-        elim (cases_lt r (length tree.numbers)) [
+        elim (cases_lt r (length tree)) [
           | inl within ↦
               elim (cases_eq k n) [
                 | inl same ↦ rw (same, get_same s n x (here within)) (let was = some_cases (get s n) (here within) in rw was.1 refl)
@@ -121,7 +120,7 @@ module _ {T : Type 0} where
 
     pub still_len : slab_len (with_value s n x) ≡ slab_len s
     still_len =
-        elim (cases_lt r (length tree.numbers)) [
+        elim (cases_lt r (length tree)) [
           | inl within ↦
               let was = some_cases (get s n) (here within) in
               let one : ◌≡◌ {A = ℕ} (cond (is_some (get_or s.slots n None)) 1 0) 1 = rw was.1 refl in
@@ -137,9 +136,9 @@ module _ {T : Type 0} where
       fits = whole.fits;
     }
 
-    pub listed-with : listed (with_value s n x) tree.numbers ≡ slice_set (listed s tree.numbers) r x
+    pub listed-with : listed (with_value s n x) tree ≡ slice_set (listed s tree) r x
     listed-with =
-        elim (cases_lt r (length tree.numbers)) [
-          | inl within ↦ listed-set s tree.numbers r n x stored (λ k. let e = whole.once k in grind (arith, e)) within (known within)
-          | inr over ↦ rw (past over) (sym (set_past (listed s tree.numbers) r x (omega (arith, length-listed s tree.numbers stored))))
+        elim (cases_lt r (length tree)) [
+          | inl within ↦ listed-set s tree r n x stored (λ k. let e = whole.once k in grind (arith, e)) within (known within)
+          | inr over ↦ rw (past over) (sym (set_past (listed s tree) r x (omega (arith, length-listed s tree stored))))
         ]

@@ -1,37 +1,32 @@
 //! A container kept as a B-tree.
-ghost use Rattle.std.specs.Prelude.{◌≡◌, ℕ, ◌+◌, ◌-◌, ◌*◌, ◌^◌, ◌<◌, ◌≤◌, List, length, insert, remove, slice_index_or, slice_set, min, MatchOption, OnOk, All, Some, None};
-ghost use Rattle.std.specs.List.{AllZip};
+ghost use Rattle.std.specs.Prelude.{◌≡◌, ◌+◌, ◌-◌, ◌*◌, ◌^◌, ◌<◌, ◌≤◌, length, insert, remove, slice_index_or, MatchOption, Some, None};
 ghost use Rattle.std.specs.Option.{ForSome};
 ghost use Rattle.std.proofs.Common.{refl};
-ghost use Rattle.slab.specs.Slab.{slab_len};
 ghost use Rattle.range_store.specs.Depth.{HasLevels};
-ghost use Rattle.range_store.specs.Listed.{listed, IsStorage};
-ghost use Rattle.range_store.specs.Places.{place_before};
+ghost use Rattle.range_store.specs.Listed.{IsStorage};
+ghost use Rattle.range_store.specs.Trees.{tree_numbers, IsTreeGap, gap_or_end};
 
 mod insertion;
 mod node;
-mod place;
+mod number_tree;
 mod removal;
 mod searching;
 mod tree;
+mod way;
 
 pub use crate::btree::node::{LEAST, MOST};
-use crate::btree::place::{Found, Spot};
-use crate::btree::removal::Removed;
-use crate::btree::searching::{HALVINGS, Passed};
-use crate::btree::tree::NumberTree;
+use crate::btree::number_tree::NumberTree;
+use crate::btree::searching::HALVINGS;
+use crate::btree::way::{Found, Gap};
 use crate::storage::{Probe, Storage};
 use slab::Slab;
 use std::alloc::{AllocError, Global};
 use std::mem;
 
-/// A rank in a `BoxStorage`, beside the number that its item has there.
+/// Where an item of a `BoxStorage` stands: its number there, and the way to the gap after it.
 #[derive(Clone, Copy)]
 pub struct BoxPosition {
-    rank: usize,
-    number: usize,
-    // Where the number was found, which saves the next step a descent while it still stands there.
-    spot: Spot,
+    found: Found,
 }
 
 /// Items in a B-tree: insertion, removal and search take steps in the logarithm of their number.
@@ -40,12 +35,12 @@ pub struct BoxStorage<T> {
     items: Slab<T>,
     tree: NumberTree,
     alloc: Global,
-    ghost whole: { IsStorage items tree },
-    ghost levelled: { HasLevels (length tree.numbers) tree.levels },
+    ghost whole: { IsStorage items (tree_numbers tree) },
+    ghost levelled: { HasLevels (length (tree_numbers tree)) tree.levels },
 }
 
 impl<T> BoxStorage<T> {
-    ghost use Rattle.range_store.specs.Holding.{box_items, level_count, IsGood};
+    ghost use Rattle.range_store.specs.Holding.{box_items, box_rank, box_room, box_place, level_count, IsBoxAt, IsGood};
 
     /// How many levels of nodes the tree has: 0 if it is empty.
     pub fn levels(&self) -> usize
@@ -57,73 +52,57 @@ impl<T> BoxStorage<T> {
         self.tree.levels()
     }
 
-    // The position of a rank, if there is an item.
-    fn at(&self, rank: usize) -> Option<BoxPosition>
-        ensures { MatchOption result (length self.now.tree.numbers ≤ rank) (λ p. IsGood self.now p.rank p.number × (p.rank ≡ rank)) }
+    // Takes the item at a position out, and tells the position of the one that followed it.
+    fn take(&mut self, p: Found) -> (T, Option<BoxPosition>)
+        requires { IsGood self.old p }
+        ensures removed { result.0 ≡ slice_index_or (box_items self.old) (box_rank self.old p) result.0 }
+        ensures list { box_items self.new ≡ remove (box_items self.old) (box_rank self.old p) }
+        ensures following { IsBoxAt self.new result.1 (box_rank self.old p) }
+        ensures space { box_room self.old ≤ box_room self.new }
     {
-        if rank < self.tree.len() {
-            let Found { number, spot } = self.tree.find(rank);
-            Some(BoxPosition { rank, number, spot })
-        } else {
-            None
-        }
+        let following = self.tree.remove(p.gap);
+        let item = self.items.remove(p.number);
+        (item, position(following))
     }
 
-    // The rank at which an item comes to stand before a position, or last.
-    fn rank_before(&self, before: Option<BoxPosition>) -> usize
-        requires { ForSome before (λ p. IsGood self.now p.rank p.number) }
-        ensures value { result ≡ place_before (λ q. q.rank) (length (box_items self.now)) before }
-        ensures within { result ≤ length self.now.tree.numbers }
+    // The gap before an item, or at the end of the list.
+    fn gap_at(&self, before: Option<BoxPosition>) -> Option<Gap>
+        requires { ForSome before (λ p. IsGood self.now p.found) }
+        ensures gap { ForSome result (IsTreeGap self.now.tree) }
+        ensures place { gap_or_end self.now.tree result ≡ box_place self.now before }
     {
         match before {
-            Some(p) => p.rank,
-            None => self.tree.len(),
+            Some(p) => self.tree.gap_before(p.found.gap),
+            None => self.tree.end(),
         }
-    }
-
-    // Takes the item at a rank out, and tells the position of the one that followed it.
-    fn take(&mut self, rank: usize) -> (T, Option<BoxPosition>)
-        requires { rank < length self.old.tree.numbers }
-        ensures removed { result.0 ≡ slice_index_or (box_items self.old) rank result.0 }
-        ensures list { box_items self.new ≡ remove (box_items self.old) rank }
-        ensures following { MatchOption result.1 (length self.new.tree.numbers ≤ rank) (λ p. IsGood self.new p.rank p.number × (p.rank ≡ rank)) }
-        ensures items_space { self.old.items.capacity - slab_len self.old.items ≤ self.new.items.capacity - slab_len self.new.items }
-        ensures tree_space { self.old.tree.room ≤ self.new.tree.room }
-    {
-        let Removed {
-            item: number,
-            following,
-        } = self.tree.remove(rank);
-        let item = self.items.remove(number);
-        (item, found_position(rank, following))
     }
 }
 
-// The position of what was found at a rank.
-fn found_position(rank: usize, found: Option<Found>) -> Option<BoxPosition>
-    ensures { MatchOption result (found ≡ None) (λ p. (found ≡ Some (record { number = p.number; spot = p.spot })) × (p.rank ≡ rank)) }
+// The position of what was found.
+fn position(found: Option<Found>) -> Option<BoxPosition>
+    ensures { MatchOption result (found ≡ None) (λ p. found ≡ Some p.found) }
 {
     match found {
         None => None,
-        Some(Found { number, spot }) => Some(BoxPosition { rank, number, spot }),
+        Some(found) => Some(BoxPosition { found }),
     }
 }
 
 impl<T: Drop> Storage<T> for BoxStorage<T> {
     ghost use Rattle.range_store.specs.declared.btree.searching.TheConstants.{HALVINGS};
-    ghost use Rattle.range_store.specs.Holding.{box_items, IsGood, with_stored, items_with_stored, room_with_stored, good_in_range, items_fit, none_asked_of_empty};
+    ghost use Rattle.range_store.specs.Holding.{box_items, box_rank, box_room, box_place, IsGood, with_stored, items_with_stored, room_with_stored, good_in_range, items_fit, none_asked_of_empty};
 
     type Position = BoxPosition;
 
     ghost items = { λ s. box_items s };
 
-    ghost room = { λ s. min (s.items.capacity - slab_len s.items) s.tree.room };
+    ghost room = { λ s. box_room s };
 
-    ghost is_good = { λ s p. IsGood s p.rank p.number };
+    ghost is_good = { λ s p. IsGood s p.found };
 
-    ghost rank = { λ s p. p.rank };
+    ghost rank = { λ s p. box_rank s p.found };
 
-    ghost with_item = { λ s p x. with_stored s p.rank x };
+    ghost with_item = { λ s p x. with_stored s (box_rank s p.found) x };
 
     ghost least_asks = { λ s. s.tree.levels };
 
@@ -138,105 +117,77 @@ impl<T: Drop> Storage<T> for BoxStorage<T> {
     }
 
     fn len(&self) -> usize {
-        self.tree.len()
+        self.items.len()
     }
 
     fn first(&self) -> Option<BoxPosition> {
-        self.at(0)
+        let start = self.tree.start()?;
+        position(self.tree.following(start))
     }
 
     fn last(&self) -> Option<BoxPosition> {
-        let len = self.tree.len();
-        if len == 0 { None } else { self.at(len - 1) }
+        let end = self.tree.end()?;
+        position(self.tree.preceding(end))
     }
 
     fn next(&self, p: BoxPosition) -> Option<BoxPosition> {
-        match self.tree.behind(p.spot, p.number) {
-            Some(Found { number, spot }) => Some(BoxPosition {
-                rank: p.rank + 1,
-                number,
-                spot,
-            }),
-            None => self.at(p.rank + 1),
-        }
+        position(self.tree.following(p.found.gap))
     }
 
     fn prev(&self, p: BoxPosition) -> Option<BoxPosition> {
-        if p.rank == 0 {
-            return None;
-        }
-        match self.tree.before(p.spot, p.number) {
-            Some(Found { number, spot }) => Some(BoxPosition {
-                rank: p.rank - 1,
-                number,
-                spot,
-            }),
-            None => self.at(p.rank - 1),
-        }
+        let gap = self.tree.gap_before(p.found.gap)?;
+        position(self.tree.preceding(gap))
     }
 
     fn get(&self, p: BoxPosition) -> &T {
-        &self.items[p.number]
+        &self.items[p.found.number]
     }
 
     fn get_mut(&mut self, p: BoxPosition) -> &mut T {
-        &mut self.items[p.number]
+        &mut self.items[p.found.number]
     }
 
     fn replace(&mut self, p: BoxPosition, item: T) -> T {
-        mem::replace(&mut self.items[p.number], item)
+        mem::replace(&mut self.items[p.found.number], item)
     }
 
     fn search<P: Probe<T>>(&self, probe: &mut P) -> Option<BoxPosition> {
-        let Passed { count, last } = self.tree.search(&self.items, probe);
-        match last {
-            None => None,
-            Some(Found { number, spot }) => Some(BoxPosition {
-                rank: count - 1,
-                number,
-                spot,
-            }),
-        }
+        position(self.tree.search(&self.items, probe))
     }
 
     fn reserve(&mut self, n: usize) -> Result<(), AllocError> {
         self.items.reserve(n)?;
-        self.tree.reserve(n)
+        self.tree.reserve(self.items.len(), n)
     }
 
     fn insert_at(&mut self, before: Option<BoxPosition>, item: T) -> BoxPosition
-        requires good { ForSome before (λ p. IsGood self.old p.rank p.number) }
-        requires has_room { 1 ≤ min (self.old.items.capacity - slab_len self.old.items) self.old.tree.room }
-        ensures list { box_items self.new ≡ insert (box_items self.old) (place_before (λ q. q.rank) (length (box_items self.old)) before) item }
-        ensures space { min (self.old.items.capacity - slab_len self.old.items) self.old.tree.room ≡ min (self.new.items.capacity - slab_len self.new.items) self.new.tree.room + 1 }
-        ensures position { IsGood self.new result.rank result.number × (result.rank ≡ place_before (λ q. q.rank) (length (box_items self.old)) before) }
+        requires good { ForSome before (λ p. IsGood self.old p.found) }
+        requires has_room { 1 ≤ box_room self.old }
+        ensures list { box_items self.new ≡ insert (box_items self.old) (box_place self.old before) item }
+        ensures space { box_room self.old ≡ box_room self.new + 1 }
+        ensures position { IsGood self.new result.found × (box_rank self.new result.found ≡ box_place self.old before) }
     {
-        let rank = self.rank_before(before);
+        let gap = self.gap_at(before);
         let number = self.items.insert_reserved(item);
         let _many = self.items.len();
-        let spot = self.tree.insert(rank, number);
-        BoxPosition { rank, number, spot }
+        let gap = self.tree.insert(gap, number);
+        BoxPosition {
+            found: Found { number, gap },
+        }
     }
 
     fn remove_at(&mut self, p: BoxPosition) -> (T, Option<BoxPosition>) {
-        self.take(p.rank)
+        self.take(p.found)
     }
 
     fn pop_first(&mut self) -> Option<T> {
-        if self.tree.len() == 0 {
-            None
-        } else {
-            Some(self.take(0).0)
-        }
+        let first = self.first()?;
+        Some(self.take(first.found).0)
     }
 
     fn pop_last(&mut self) -> Option<T> {
-        let len = self.tree.len();
-        if len == 0 {
-            None
-        } else {
-            Some(self.take(len - 1).0)
-        }
+        let last = self.last()?;
+        Some(self.take(last.found).0)
     }
 
     fn clone(&self) -> Result<Self, AllocError>
@@ -244,7 +195,7 @@ impl<T: Drop> Storage<T> for BoxStorage<T> {
         T: Clone + Eq,
     {
         let items = self.items.clone()?;
-        let tree = self.tree.clone()?;
+        let tree = self.tree.clone(self.items.len())?;
         Ok(BoxStorage {
             items,
             tree,
@@ -252,13 +203,13 @@ impl<T: Drop> Storage<T> for BoxStorage<T> {
         })
     }
 
-    ghost good_is_in_range = { λ s p h. good_in_range s p.rank p.number h };
+    ghost good_is_in_range = { λ s p h. good_in_range s p.found h };
 
-    ghost items_with = { λ s p x. items_with_stored s p.rank x };
+    ghost items_with = { λ s p x. items_with_stored s (box_rank s p.found) x };
 
-    ghost room_with = { λ s p x. room_with_stored s p.rank x };
+    ghost room_with = { λ s p x. room_with_stored s (box_rank s p.found) x };
 
-    ghost good_with = { λ s p x q h. record { within = h.within; number_is = h.number_is } };
+    ghost good_with = { λ s p x q h. record { gap = h.gap; some = h.some; within = h.within; number_is = h.number_is } };
 
     ghost rank_with = { λ s p x q. refl };
 

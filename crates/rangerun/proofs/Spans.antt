@@ -29,7 +29,3 @@ module _ {K : Type 0} (is_clone : K → K → Type 0) (same : (x y : K) → is_c
       let starts = bound_same r.start s.start h.0 in
       let ends = bound_same r.end s.end h.1 in
       λ i. record { start = starts i; end = ends i }
-
-pub gaps_nonempty : {K V : Type 0} (order : KeyOrder K) (items : List (Item (AnyRange K) V)) (gaps : List (AnyRange K)) → Every (λ g. IsPiece order items full_range g None) gaps → Every (λ g. ¬ IsEmptyRange order g) gaps
-gaps_nonempty order items [] pieces = tt
-gaps_nonempty order items (g ∷ gaps) pieces = (pieces.0.0.nonempty, gaps_nonempty order items gaps pieces.1)

@@ -1,6 +1,7 @@
 -- A step where the closure may answer in some ways is one where it may answer in more.
 use Rattle.std.proofs.Common.{Bool, List, [], ◌∷◌}
 use Rattle.std.specs.Prelude.{Option, Result, Ok, Err}
+use Rattle.btree_range_map.specs.Answers.{IsAnswered, MayFail}
 use Rattle.btree_range_map.specs.AnyRange.{AnyRange}
 use Rattle.btree_range_map.specs.Item.{Item}
 use Rattle.btree_range_map.specs.Order.{KeyOrder}
@@ -10,7 +11,7 @@ use Rattle.btree_range_map.specs.Command.TheVariants.{Insert, InsertDisconnected
 use Rattle.btree_range_map.specs.Reply.{Reply}
 use Rattle.btree_range_map.specs.Reply.TheVariants.{Done, Memory, Connected, Closure, Value, Truth, Count as Counted}
 use Rattle.btree_range_map.specs.Rebinding.{IsRebound, AreRebound}
-use Rattle.btree_range_map.specs.Runs.{IsAnswered, MayFail, IsStep}
+use Rattle.btree_range_map.specs.Runs.{IsStep}
 
 every_as : {A : Type 0} (P Q : A → Type 0) → ((x : A) → P x → Q x) → (xs : List A) → Every P xs → Every Q xs
 every_as P Q follows [] held = tt

@@ -30,7 +30,9 @@ pub enum LoadError {
 }
 
 fn map_text<K: SpelledKey>(alloc: Global, map: &RangeMap<K, i64>) -> Result<String, AllocError>
-    ensures { IfOk result (λ text. string_bytes text ≡ compact_text (map_shape K.shape signed_shape (box_items map.now))) }
+    ensures { IfOk result
+        (λ text. string_bytes text
+        ≡ compact_text (map_shape K.shape signed_shape (box_items map.now))) }
 {
     let value = map_to_json(alloc, map)?;
     value.to_string(alloc)
@@ -42,7 +44,9 @@ pub fn save<K: SpelledKey, W: Write>(
     map: &RangeMap<K, i64>,
     out: &mut W,
 ) -> io::Result<()>
-    ensures { OnOk result (Writes (W.contents out.old) (W.contents out.new) (SpellsSaved K.shape (box_items map.now))) }
+    ensures { OnOk result
+        (Writes (W.contents out.old) (W.contents out.new)
+        (SpellsSaved K.shape (box_items map.now))) }
 {
     match map_text(alloc, map) {
         Ok(text) => writeln!(out, "{text}"),
@@ -51,13 +55,16 @@ pub fn save<K: SpelledKey, W: Write>(
 }
 
 fn write_element_fault<W: Write>(number: u8, element: &usize, out: &mut W) -> io::Result<()>
-    ensures { OnOk result (Appends (W.contents out.old) (W.contents out.new) (element_fault_text number element.now)) }
+    ensures { OnOk result
+        (Appends (W.contents out.old) (W.contents out.new)
+        (element_fault_text number element.now)) }
 {
     writeln!(out, "json {number} {element}")
 }
 
 fn write_fault<W: Write>(fault: &JsonError, out: &mut W) -> io::Result<()>
-    ensures { OnOk result (Appends (W.contents out.old) (W.contents out.new) (fault_text fault.now)) }
+    ensures { OnOk result
+        (Appends (W.contents out.old) (W.contents out.new) (fault_text fault.now)) }
 {
     match fault {
         JsonError::Memory => out.write_all(b"memory\n"),
@@ -74,7 +81,8 @@ fn write_fault<W: Write>(fault: &JsonError, out: &mut W) -> io::Result<()>
 
 fn json_of(alloc: Global, text: &str) -> Result<Value, LoadError>
     ensures read { IfOk result (λ value. read text.now ≡ Some (view value)) }
-    ensures refused { IfErr result (λ e. ((e ≡ NotJson) × (read text.now ≡ None)) ⊎ (e ≡ Faulty Memory)) }
+    ensures refused { IfErr result
+        (λ e. ((e ≡ NotJson) × (read text.now ≡ None)) ⊎ (e ≡ Faulty Memory)) }
 {
     match Value::from_str(alloc, text) {
         Ok(value) => Ok(value),
@@ -84,7 +92,8 @@ fn json_of(alloc: Global, text: &str) -> Result<Value, LoadError>
 }
 
 fn map_of<K: SpelledKey>(alloc: Global, text: &str) -> Result<RangeMap<K, i64>, LoadError>
-    ensures loaded { IfOk result (λ map. IsLoaded K.order K.reads K.is_read text.now (box_items map)) }
+    ensures loaded { IfOk result
+        (λ map. IsLoaded K.order K.reads K.is_read text.now (box_items map)) }
     ensures refused { IfErr result (λ cause. IsCause K.order K.reads K.is_read text.now cause) }
 {
     let value = json_of(alloc, text)?;
@@ -103,7 +112,10 @@ pub fn load<K: SpelledKey, W: Write>(
     text: &str,
     out: &mut W,
 ) -> io::Result<()>
-    ensures { OnOk result (Writes (W.contents out.old) (W.contents out.new) (λ reply. AnswersLoad K.order K.reads K.is_read (box_items map.old) text.now reply (box_items map.new))) }
+    ensures { OnOk result
+        (Writes (W.contents out.old) (W.contents out.new)
+        (λ reply. AnswersLoad K.order K.reads K.is_read (box_items map.old) text.now reply
+        (box_items map.new))) }
 {
     match map_of::<K>(alloc, text) {
         Ok(loaded) => {

@@ -41,11 +41,14 @@ pub(crate) fn bind_within<K: PartialEnum + Clone, V: Eq + Clone, C: Storage<Item
     requires values { ClonesAreEqual V.is_clone V.eq }
     requires stored { IsStored K.order V.eq (C.items stored.old) }
     requires nonempty { ¬ IsEmptyRange K.order range }
-    requires window { IsWindowOf K.order (C.is_good stored.old) (C.rank stored.old) (C.items stored.old) range window.now }
+    requires window { IsWindowOf K.order C.is_good C.rank C.items stored.old range window.now }
     requires one { window.now.count ≡ 1 }
-    requires first { IsFirstReaching K.order (C.is_good stored.old) (C.rank stored.old) (C.items stored.old) range window.now (Some p) }
-    requires last { IsLastReaching K.order (C.is_good stored.old) (C.rank stored.old) (C.items stored.old) range window.now (Some p) }
-    ensures ok { OnOk result (IsInserted K.order V.eq (C.items stored.old) (C.items stored.new) range value) }
+    requires first { IsFirstReaching K.order C.is_good C.rank C.items stored.old range window.now
+        (Some p) }
+    requires last { IsLastReaching K.order C.is_good C.rank C.items stored.old range window.now
+        (Some p) }
+    ensures ok { OnOk result
+        (IsInserted K.order V.eq (C.items stored.old) (C.items stored.new) range value) }
     ensures few { OnOk result (length (C.items stored.new) ≤ length (C.items stored.old) + 2) }
     ensures refused { OnErr result (C.items stored.new ≡ C.items stored.old) }
 {
@@ -73,12 +76,16 @@ fn bind_over<K: PartialEnum + Clone, V: Eq + Clone, C: Storage<Item<AnyRange<K>,
     requires keys { ClonesAreEqual K.is_clone K.eq }
     requires stored { IsStored K.order V.eq (C.items stored.old) }
     requires nonempty { ¬ IsEmptyRange K.order item.key }
-    requires window { IsWindowOf K.order (C.is_good stored.old) (C.rank stored.old) (C.items stored.old) item.key window.now }
-    requires first { IsFirstReaching K.order (C.is_good stored.old) (C.rank stored.old) (C.items stored.old) item.key window.now first }
-    requires last { IsLastReaching K.order (C.is_good stored.old) (C.rank stored.old) (C.items stored.old) item.key window.now last }
+    requires window { IsWindowOf K.order C.is_good C.rank C.items stored.old item.key window.now }
+    requires first { IsFirstReaching K.order C.is_good C.rank C.items stored.old item.key window.now
+        first }
+    requires last { IsLastReaching K.order C.is_good C.rank C.items stored.old item.key window.now
+        last }
     requires apart { length (option_items first) + length (option_items last) ≤ window.now.count }
-    ensures ok { OnOk result (IsInserted K.order V.eq (C.items stored.old) (C.items stored.new) item.key item.value) }
-    ensures few { OnOk result (2 * length (C.items stored.new) + window.now.count ≤ 2 * length (C.items stored.old) + 4) }
+    ensures ok { OnOk result
+        (IsInserted K.order V.eq (C.items stored.old) (C.items stored.new) item.key item.value) }
+    ensures few { OnOk result
+        (2 * length (C.items stored.new) + window.now.count ≤ 2 * length (C.items stored.old) + 4) }
     ensures counted { AddsSteps steps.old steps.new 0 2 }
     ensures refused { OnErr result (C.items stored.new ≡ C.items stored.old) }
 {
@@ -86,7 +93,7 @@ fn bind_over<K: PartialEnum + Clone, V: Eq + Clone, C: Storage<Item<AnyRange<K>,
     let (range, value) = (&item.key, &item.value);
     let sides = both_sides::<K, V, C>(stored, window, first, last, range, value, steps)?;
     stored.reserve(growth(sides.run.left))?;
-    change::<K, V, C>(stored, sides, item);
+    change::<K, V, C>(stored, sides, Some(item));
     Ok(())
 }
 
@@ -101,8 +108,11 @@ pub(crate) fn bind<K: Measure + Clone, V: Eq + Clone, C: Storage<Item<AnyRange<K
     requires values { ClonesAreEqual V.is_clone V.eq }
     requires stored { IsStored K.order V.eq (C.items stored.old) }
     requires nonempty { ¬ IsEmptyRange K.order range }
-    ensures ok { OnOk result (IsInserted K.order V.eq (C.items stored.old) (C.items stored.new) range value) }
-    ensures most { OnOk result (TakesAsChange steps.old steps.new (C.most_asks stored.old) (length (C.items stored.old)) (length (C.items stored.new))) }
+    ensures ok { OnOk result
+        (IsInserted K.order V.eq (C.items stored.old) (C.items stored.new) range value) }
+    ensures most { OnOk result
+        (TakesAsChange steps.old steps.new (C.most_asks stored.old) (length (C.items stored.old))
+        (length (C.items stored.new))) }
     ensures least { TakesAtLeast steps.old steps.new (C.least_asks stored.old) }
     ensures refused { OnErr result (C.items stored.new ≡ C.items stored.old) }
 {
@@ -130,7 +140,8 @@ pub(crate) fn bind_disjoint<K: Measure + Clone, V: Eq + Clone, C: Storage<Item<A
     requires nonempty { ¬ IsEmptyRange K.order range }
     ensures met { result ≡ Ok false ↔ MeetsSome K.order (C.items stored.old) range }
     ensures met_unchanged { result ≡ Ok false → C.items stored.new ≡ C.items stored.old }
-    ensures bound { result ≡ Ok true → IsInserted K.order V.eq (C.items stored.old) (C.items stored.new) range value }
+    ensures bound { result ≡ Ok true
+        → IsInserted K.order V.eq (C.items stored.old) (C.items stored.new) range value }
     ensures refused { OnErr result (C.items stored.new ≡ C.items stored.old) }
 {
     inner::known(&range);

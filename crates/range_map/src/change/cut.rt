@@ -1,8 +1,7 @@
 //! Where a range cuts a stored item, and the bound that the item then has.
 ghost use Rattle.std.specs.Prelude.{◌≡◌, ◌↔◌, ◌≤◌, IfOk, OnOk, IsTrue, slice_index_or};
 ghost use Rattle.std.specs.Option.{option_map};
-ghost use Rattle.std.specs.Range.Bound.{bound_map};
-ghost use Rattle.range_keys.specs.Position.{position_cmp};
+ghost use Rattle.range_keys.specs.Position.{bound_of, position_cmp};
 ghost use Rattle.range_algebra.specs.Clones.{IsBoundClone, SameBound};
 ghost use Rattle.range_algebra.specs.Compared.{inverted};
 ghost use Rattle.range_algebra.specs.Cuts.{lower, upper};
@@ -10,7 +9,7 @@ ghost use Rattle.range_algebra.specs.Intervals.{Lt};
 ghost use Rattle.range_algebra.specs.Range.{ClonesAreEqual, IsKnownBound};
 ghost use Rattle.range_algebra.specs.declared.any.AnyRange.{AnyRange};
 ghost use Rattle.range_store.specs.declared.storage.Item.{Item};
-ghost use Rattle.range_map.specs.Edits.{turned_bound};
+ghost use Rattle.range_map.specs.Edits.{turned_bound, KeepsPositions};
 
 use range_algebra::any::AnyRange;
 use range_algebra::inner;
@@ -23,7 +22,7 @@ use std::ops::{Bound, RangeBounds};
 
 /// The bound just past a bound, on its other side.
 pub(crate) fn invert<K>(bound: Bound<&K>) -> Option<Bound<&K>>
-    ensures { option_map (bound_map (λ x. x.now)) result ≡ inverted (bound_map (λ x. x.now) bound.entry) }
+    ensures { option_map bound_of result ≡ inverted (bound_of bound.entry) }
 {
     match bound {
         Bound::Included(key) => Some(Bound::Excluded(key)),
@@ -45,7 +44,8 @@ pub(crate) fn turned<K>(bound: Bound<K>) -> Bound<K>
 
 /// A clone of the bound on the other side of the one that is referred to.
 fn turned_clone<K: Clone>(bound: Bound<&K>) -> Result<Bound<K>, AllocError>
-    ensures { IfOk result (λ copy. IsBoundClone K.is_clone (turned_bound (bound_map (λ x. x.now) bound.entry)) copy) }
+    ensures { IfOk result
+        (λ copy. IsBoundClone K.is_clone (turned_bound (bound_of bound.entry)) copy) }
 {
     Ok(match bound {
         Bound::Included(key) => Bound::Excluded(key.clone()?),
@@ -69,7 +69,8 @@ pub(crate) fn known_bound<K: PartialEnum>(bound: &Bound<K>)
 pub(crate) fn cut_bound<K: PartialEnum + Clone>(bound: Bound<&K>) -> Result<Bound<K>, AllocError>
     requires { ClonesAreEqual K.is_clone K.eq }
     ensures known { IfOk result (λ cut. IsKnownBound K.order cut) }
-    ensures turned { IfOk result (λ cut. SameBound K.order (turned_bound (bound_map (λ x. x.now) bound.entry)) cut) }
+    ensures turned { IfOk result
+        (λ cut. SameBound K.order (turned_bound (bound_of bound.entry)) cut) }
 {
     let cut = turned_clone(bound)?;
     known_bound(&cut);
@@ -99,12 +100,19 @@ pub(crate) fn cut_parts<K: PartialEnum + Clone, V: Eq + Clone, C: Storage<Item<A
     requires keys { ClonesAreEqual K.is_clone K.eq }
     requires values { ClonesAreEqual V.is_clone V.eq }
     requires good { C.is_good stored.old p }
-    ensures end { IfOk result (λ parts. IsKnownBound K.order parts.end × SameBound K.order (turned_bound (bound_map (λ x. x.now) start.entry)) parts.end) }
-    ensures start { IfOk result (λ parts. IsKnownBound K.order parts.start × SameBound K.order (turned_bound (bound_map (λ x. x.now) end.entry)) parts.start) }
-    ensures value { IfOk result (λ parts. (d : Item (AnyRange K) V) → IsTrue (V.eq (slice_index_or (C.items stored.old) (C.rank stored.old p) d).value parts.value)) }
+    ensures end { IfOk result
+        (λ parts. IsKnownBound K.order parts.end
+        × SameBound K.order (turned_bound (bound_of start.entry)) parts.end) }
+    ensures start { IfOk result
+        (λ parts. IsKnownBound K.order parts.start
+        × SameBound K.order (turned_bound (bound_of end.entry)) parts.start) }
+    ensures value { IfOk result
+        (λ parts. (d : Item (AnyRange K) V)
+        → IsTrue (V.eq (slice_index_or (C.items stored.old) (C.rank stored.old p) d).value
+        parts.value)) }
     ensures list { C.items stored.new ≡ C.items stored.old }
     ensures space { OnOk result (room ≤ C.room stored.new) }
-    ensures positions { (q : C.Position) → C.is_good stored.old q → C.is_good stored.new q × (C.rank stored.new q ≡ C.rank stored.old q) }
+    ensures positions { KeepsPositions C.is_good C.rank stored.old stored.new }
 {
     stored.reserve(room)?;
     Ok(Parts {
@@ -119,14 +127,18 @@ pub(crate) fn starts_before<K: Measure, R: AsRange<Item = K>>(
     first: &AnyRange<K>,
     second: &R,
 ) -> bool
-    ensures { IsTrue result ↔ Lt (position_cmp K.order.cmp) (lower K.order first.now) (lower K.order (R.range second.now)) }
+    ensures { IsTrue result
+        ↔ Lt (position_cmp K.order.cmp) (lower K.order first.now)
+        (lower K.order (R.range second.now)) }
 {
     Directed::Start(first.start_bound()) < Directed::Start(second.start())
 }
 
 /// Whether the first range ends after the second.
 pub(crate) fn ends_after<K: Measure, R: AsRange<Item = K>>(first: &AnyRange<K>, second: &R) -> bool
-    ensures { IsTrue result ↔ Lt (position_cmp K.order.cmp) (upper K.order (R.range second.now)) (upper K.order first.now) }
+    ensures { IsTrue result
+        ↔ Lt (position_cmp K.order.cmp) (upper K.order (R.range second.now))
+        (upper K.order first.now) }
 {
     inner::known(first);
     inner::known_range(second);

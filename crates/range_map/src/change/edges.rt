@@ -1,13 +1,12 @@
 //! What a range that is bound leaves or joins on each side.
 ghost use Rattle.std.specs.Prelude.{◌≡◌, ◌+◌, ◌-◌, ◌≤◌, length, IfOk};
-ghost use Rattle.range_keys.specs.Position.{start_position};
+ghost use Rattle.range_keys.specs.Position.{bound_of, start_position};
 ghost use Rattle.range_algebra.specs.Compared.{starts_at_end};
 ghost use Rattle.range_algebra.specs.Range.{ClonesAreEqual, IsEmptyRange};
 ghost use Rattle.range_store.specs.Counting.{AddsSteps};
 ghost use Rattle.range_map.specs.Stored.{IsStored};
 ghost use Rattle.range_map.specs.Window.{option_items, IsWindowOf};
 ghost use Rattle.range_map.specs.Reach.{IsFirstReaching, IsLastReaching};
-ghost use Rattle.std.specs.Range.Bound.{bound_map};
 ghost use Rattle.range_map.specs.Edges.{joined_count, IsCutAt, IsJoinedBefore, IsJoinedAfter};
 ghost use Rattle.range_map.specs.Plans.{IsPlannedBefore, IsPlannedAfter};
 
@@ -59,7 +58,7 @@ pub(crate) fn cut_edge<K: PartialEnum + Clone, P: Copy>(
     bound: Bound<&K>,
 ) -> Result<Edge<K, P>, AllocError>
     requires { ClonesAreEqual K.is_clone K.eq }
-    ensures { IfOk result (IsCutAt K.order item (bound_map (λ x. x.now) bound.entry)) }
+    ensures { IfOk result (IsCutAt K.order item (bound_of bound.entry)) }
 {
     inner::known_bound(bound);
     match item {
@@ -73,7 +72,8 @@ pub(crate) fn cut_edge<K: PartialEnum + Clone, P: Copy>(
 
 /// Whether the first range touches the second. A step.
 fn touches<K: PartialEnum>(first: &AnyRange<K>, second: &AnyRange<K>, steps: &mut Steps) -> bool
-    ensures touching { result ≡ starts_at_end K.order first.now.end (start_position K.order second.now.start) }
+    ensures touching { result
+        ≡ starts_at_end K.order first.now.end (start_position K.order second.now.start) }
     ensures counted { AddsSteps steps.old steps.new 1 1 }
 {
     steps.tick();
@@ -88,8 +88,9 @@ pub(crate) fn joined_before<K: PartialEnum, V: Eq + Drop, C: Storage<Item<AnyRan
     value: &V,
     steps: &mut Steps,
 ) -> Option<C::Position>
-    requires window { IsWindowOf K.order (C.is_good stored.now) (C.rank stored.now) (C.items stored.now) range.now window.now }
-    ensures joined { IsJoinedBefore K.order V.eq (C.is_good stored.now) (C.rank stored.now) (C.items stored.now) range.now value.now window.now result }
+    requires window { IsWindowOf K.order C.is_good C.rank C.items stored.now range.now window.now }
+    ensures joined { IsJoinedBefore K.order V.eq C.is_good C.rank C.items stored.now range.now
+        value.now window.now result }
     ensures counted { AddsSteps steps.old steps.new 0 1 }
 {
     match window.before {
@@ -114,8 +115,9 @@ pub(crate) fn joined_after<K: PartialEnum, V: Eq + Drop, C: Storage<Item<AnyRang
     value: &V,
     steps: &mut Steps,
 ) -> Option<C::Position>
-    requires window { IsWindowOf K.order (C.is_good stored.now) (C.rank stored.now) (C.items stored.now) range.now window.now }
-    ensures joined { IsJoinedAfter K.order V.eq (C.is_good stored.now) (C.rank stored.now) (C.items stored.now) range.now value.now window.now result }
+    requires window { IsWindowOf K.order C.is_good C.rank C.items stored.now range.now window.now }
+    ensures joined { IsJoinedAfter K.order V.eq C.is_good C.rank C.items stored.now range.now
+        value.now window.now result }
     ensures counted { AddsSteps steps.old steps.new 0 1 }
 {
     match window.after {
@@ -144,9 +146,12 @@ pub(crate) fn left_side<K: PartialEnum + Clone, V: Eq + Drop, C: Storage<Item<An
     requires keys { ClonesAreEqual K.is_clone K.eq }
     requires stored { IsStored K.order V.eq (C.items stored.now) }
     requires nonempty { ¬ IsEmptyRange K.order range.now }
-    requires window { IsWindowOf K.order (C.is_good stored.now) (C.rank stored.now) (C.items stored.now) range.now window.now }
-    requires first { IsFirstReaching K.order (C.is_good stored.now) (C.rank stored.now) (C.items stored.now) range.now window.now first }
-    ensures planned { IfOk result (λ side. IsPlannedBefore K.order V.eq (C.is_good stored.now) (C.rank stored.now) (C.items stored.now) range.now value.now window.now first side.edge side.from) }
+    requires window { IsWindowOf K.order C.is_good C.rank C.items stored.now range.now window.now }
+    requires first { IsFirstReaching K.order C.is_good C.rank C.items stored.now range.now
+        window.now first }
+    ensures planned { IfOk result
+        (λ side. IsPlannedBefore K.order V.eq C.is_good C.rank C.items stored.now range.now
+        value.now window.now first side.edge side.from) }
     ensures counted { AddsSteps steps.old steps.new 0 1 }
 {
     inner::known(range);
@@ -192,9 +197,12 @@ pub(crate) fn right_side<K: PartialEnum + Clone, V: Eq + Drop, C: Storage<Item<A
     requires keys { ClonesAreEqual K.is_clone K.eq }
     requires stored { IsStored K.order V.eq (C.items stored.now) }
     requires nonempty { ¬ IsEmptyRange K.order range.now }
-    requires window { IsWindowOf K.order (C.is_good stored.now) (C.rank stored.now) (C.items stored.now) range.now window.now }
-    requires last { IsLastReaching K.order (C.is_good stored.now) (C.rank stored.now) (C.items stored.now) range.now window.now last }
-    ensures planned { IfOk result (λ edge. IsPlannedAfter K.order V.eq (C.is_good stored.now) (C.rank stored.now) (C.items stored.now) range.now value.now window.now last edge) }
+    requires window { IsWindowOf K.order C.is_good C.rank C.items stored.now range.now window.now }
+    requires last { IsLastReaching K.order C.is_good C.rank C.items stored.now range.now window.now
+        last }
+    ensures planned { IfOk result
+        (λ edge. IsPlannedAfter K.order V.eq C.is_good C.rank C.items stored.now range.now value.now
+        window.now last edge) }
     ensures counted { AddsSteps steps.old steps.new 0 1 }
 {
     inner::known(range);
@@ -241,13 +249,23 @@ pub(crate) fn both_sides<K: PartialEnum + Clone, V: Eq + Drop, C: Storage<Item<A
     requires keys { ClonesAreEqual K.is_clone K.eq }
     requires stored { IsStored K.order V.eq (C.items stored.now) }
     requires nonempty { ¬ IsEmptyRange K.order range.now }
-    requires window { IsWindowOf K.order (C.is_good stored.now) (C.rank stored.now) (C.items stored.now) range.now window.now }
-    requires first { IsFirstReaching K.order (C.is_good stored.now) (C.rank stored.now) (C.items stored.now) range.now window.now first }
-    requires last { IsLastReaching K.order (C.is_good stored.now) (C.rank stored.now) (C.items stored.now) range.now window.now last }
+    requires window { IsWindowOf K.order C.is_good C.rank C.items stored.now range.now window.now }
+    requires first { IsFirstReaching K.order C.is_good C.rank C.items stored.now range.now
+        window.now first }
+    requires last { IsLastReaching K.order C.is_good C.rank C.items stored.now range.now window.now
+        last }
     requires apart { length (option_items first) + length (option_items last) ≤ window.now.count }
-    ensures left { IfOk result (λ sides. IsPlannedBefore K.order V.eq (C.is_good stored.now) (C.rank stored.now) (C.items stored.now) range.now value.now window.now first sides.left sides.run.at) }
-    ensures right { IfOk result (λ sides. IsPlannedAfter K.order V.eq (C.is_good stored.now) (C.rank stored.now) (C.items stored.now) range.now value.now window.now last sides.right) }
-    ensures run { IfOk result (λ sides. sides.run.left ≡ joined_count sides.left + (window.now.count - (length (option_items first) + length (option_items last))) + joined_count sides.right) }
+    ensures left { IfOk result
+        (λ sides. IsPlannedBefore K.order V.eq C.is_good C.rank C.items stored.now range.now
+        value.now window.now first sides.left sides.run.at) }
+    ensures right { IfOk result
+        (λ sides. IsPlannedAfter K.order V.eq C.is_good C.rank C.items stored.now range.now
+        value.now window.now last sides.right) }
+    ensures run { IfOk result
+        (λ sides. sides.run.left
+        ≡ joined_count sides.left
+        + (window.now.count - (length (option_items first) + length (option_items last)))
+        + joined_count sides.right) }
     ensures counted { AddsSteps steps.old steps.new 0 2 }
 {
     let left = left_side::<K, V, C>(stored, window, first, range, value, steps)?;

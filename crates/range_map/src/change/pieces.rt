@@ -1,13 +1,13 @@
 //! What a closure answers for each piece of a range.
-ghost use Rattle.std.specs.Prelude.{◌≡◌, ◌<◌, ◌-◌, ◌⊎◌, IsTrue, IfOk, OnOk, Some, None, Ok, Err, false, length, slice_index_or, slice_set};
+ghost use Rattle.std.specs.Prelude.{◌≡◌, ◌<◌, ◌-◌, ◌⊎◌, IsTrue, IfOk, OnOk, Some, None, Ok, Err, false, length};
 ghost use Rattle.std.specs.Option.{option_copied, option_map, ForSome};
-ghost use Rattle.std.specs.Range.Bound.{bound_map};
+ghost use Rattle.range_keys.specs.Position.{bound_of};
 ghost use Rattle.range_algebra.specs.Intervals.{Every};
 ghost use Rattle.range_algebra.specs.Range.{ClonesAreEqual, IsEmptyRange};
 ghost use Rattle.range_algebra.specs.References.{range_of};
 ghost use Rattle.range_map.specs.Answers.{MayAnswer, MayBeAsked, IsAnsweredBy, FailsAt, IsGathered};
 ghost use Rattle.range_map.specs.Asking.{IsGapStart, IsGapEnd, IsGapBetween, JoinsLast, JoinsNoLast, IsPut, IsGapAsked, FailsAtGap, IsItemAsked, IsKeyAt};
-ghost use Rattle.range_map.specs.Edits.{with_end};
+ghost use Rattle.range_map.specs.Edits.{with_end, IsEditedAt};
 ghost use Rattle.range_map.specs.Stored.{IsStored};
 ghost use Rattle.range_map.specs.Window.{IsWindowOf};
 ghost use Rattle.range_map.specs.declared.error.UpdateError.TheVariants.{Closure as ClosureError};
@@ -28,7 +28,8 @@ fn gap_start<'a, K: PartialEnum>(
     range: &'a AnyRange<K>,
     before: Option<&'a AnyRange<K>>,
 ) -> Option<Bound<&'a K>>
-    ensures { IsGapStart K.order range.now (option_copied before.entry) (option_map (bound_map (λ x. x.now)) result) }
+    ensures { IsGapStart K.order range.now (option_copied before.entry)
+        (option_map bound_of result) }
 {
     match before {
         Some(before) => {
@@ -44,7 +45,7 @@ fn gap_end<'a, K: PartialEnum>(
     range: &'a AnyRange<K>,
     after: Option<&'a AnyRange<K>>,
 ) -> Option<Bound<&'a K>>
-    ensures { IsGapEnd K.order range.now (option_copied after.entry) (option_map (bound_map (λ x. x.now)) result) }
+    ensures { IsGapEnd K.order range.now (option_copied after.entry) (option_map bound_of result) }
 {
     match after {
         Some(after) => {
@@ -63,7 +64,8 @@ fn gap_between<'a, K: PartialEnum>(
 ) -> Option<AnyRange<&'a K>>
     requires before { ForSome (option_copied before) (λ i. ¬ IsEmptyRange K.order i) }
     requires after { ForSome (option_copied after) (λ i. ¬ IsEmptyRange K.order i) }
-    ensures { IsGapBetween K.order range.now (option_copied before.entry) (option_copied after.entry) (option_map range_of result) }
+    ensures { IsGapBetween K.order range.now (option_copied before.entry)
+        (option_copied after.entry) (option_map range_of result) }
 {
     inner::known(range);
     let start = gap_start(range, before);
@@ -83,8 +85,10 @@ fn joins_last<K: PartialEnum, V: Eq + Drop>(
     part: &AnyRange<&K>,
     value: &V,
 ) -> bool
-    ensures joins { IsTrue result → JoinsLast K.order V.eq items.now.items (range_of part.now) value.now }
-    ensures apart { result ≡ false → JoinsNoLast K.order V.eq items.now.items (range_of part.now) value.now }
+    ensures joins { IsTrue result
+        → JoinsLast K.order V.eq items.now.items (range_of part.now) value.now }
+    ensures apart { result ≡ false
+        → JoinsNoLast K.order V.eq items.now.items (range_of part.now) value.now }
 {
     match items.last() {
         Some(last) => {
@@ -98,7 +102,8 @@ fn joins_last<K: PartialEnum, V: Eq + Drop>(
 /// Lets the last of the items end elsewhere.
 fn end_last_at<K: Drop, V>(items: &mut Vec<Item<AnyRange<K>, V>>, end: Bound<K>)
     requires { 0 < length items.old.items }
-    ensures { (d : Item (AnyRange K) V) → items.new.items ≡ slice_set items.old.items (length items.old.items - 1) (with_end (slice_index_or items.old.items (length items.old.items - 1) d) end) }
+    ensures { IsEditedAt items.old.items items.new.items (length items.old.items - 1)
+        (λ i. with_end i end) }
 {
     match items.last_mut() {
         Some(last) => last.key.end = end,
@@ -112,7 +117,9 @@ fn put<K: PartialEnum + Clone, V: Eq + Drop>(
     part: AnyRange<&K>,
     value: V,
 ) -> Result<(), AllocError>
-    ensures { OnOk result (IsPut K.order V.eq K.is_clone items.old.items items.new.items (range_of part.entry) (Some value)) }
+    ensures { OnOk result
+        (IsPut K.order V.eq K.is_clone items.old.items items.new.items (range_of part.entry)
+        (Some value)) }
 {
     let end = clone_of(part.end)?;
     known_bound(&end);
@@ -143,8 +150,11 @@ fn ask<
     f: &F,
 ) -> Result<(), UpdateError<E>>
     requires { MayBeAsked F.Fn f.now (option_copied shown) }
-    ensures ok { OnOk result (IsAnsweredBy F.Fn f.now (option_copied shown.entry) (IsPut K.order V.eq K.is_clone items.old.items items.new.items (range_of part.entry))) }
-    ensures closure { (e : E) → result ≡ Err (ClosureError e) → MayAnswer F.Fn f.now (option_copied shown.entry) (Err e) }
+    ensures ok { OnOk result
+        (IsAnsweredBy F.Fn f.now (option_copied shown.entry)
+        (IsPut K.order V.eq K.is_clone items.old.items items.new.items (range_of part.entry))) }
+    ensures closure { (e : E) → result ≡ Err (ClosureError e)
+        → MayAnswer F.Fn f.now (option_copied shown.entry) (Err e) }
 {
     match f(shown) {
         Ok(Some(value)) => {
@@ -173,8 +183,12 @@ fn ask_gap<
     requires before { ForSome (option_copied before) (λ i. ¬ IsEmptyRange K.order i) }
     requires after { ForSome (option_copied after) (λ i. ¬ IsEmptyRange K.order i) }
     requires callable { MayBeAsked F.Fn f.now None }
-    ensures ok { OnOk result (IsGapAsked K.order V.eq K.is_clone F.Fn f.now range.now (option_copied before.entry) (option_copied after.entry) items.old.items items.new.items) }
-    ensures closure { (e : E) → result ≡ Err (ClosureError e) → FailsAtGap K.order F.Fn f.now range.now (option_copied before.entry) (option_copied after.entry) e }
+    ensures ok { OnOk result
+        (IsGapAsked K.order V.eq K.is_clone F.Fn f.now range.now (option_copied before.entry)
+        (option_copied after.entry) items.old.items items.new.items) }
+    ensures closure { (e : E) → result ≡ Err (ClosureError e)
+        → FailsAtGap K.order F.Fn f.now range.now (option_copied before.entry)
+        (option_copied after.entry) e }
 {
     match gap_between(range, before, after) {
         Some(gap) => ask(items, gap, None, f),
@@ -200,8 +214,12 @@ fn ask_item<
     requires item { ¬ IsEmptyRange K.order item.now.key }
     requires free { MayBeAsked F.Fn f.now None }
     requires bound { MayBeAsked F.Fn f.now (Some item.now.value) }
-    ensures ok { OnOk result (IsItemAsked K.order V.eq K.is_clone F.Fn f.now range.now (option_copied before.entry) item.now items.old.items items.new.items) }
-    ensures closure { (e : E) → result ≡ Err (ClosureError e) → FailsAtGap K.order F.Fn f.now range.now (option_copied before.entry) (Some item.now.key) e ⊎ MayAnswer F.Fn f.now (Some item.now.value) (Err e) }
+    ensures ok { OnOk result
+        (IsItemAsked K.order V.eq K.is_clone F.Fn f.now range.now (option_copied before.entry)
+        item.now items.old.items items.new.items) }
+    ensures closure { (e : E) → result ≡ Err (ClosureError e)
+        → FailsAtGap K.order F.Fn f.now range.now (option_copied before.entry) (Some item.now.key) e
+        ⊎ MayAnswer F.Fn f.now (Some item.now.value) (Err e) }
 {
     ask_gap(items, range, before, Some(&item.key), f)?;
     ask(
@@ -244,11 +262,13 @@ pub(crate) fn gather<
     requires keys { ClonesAreEqual K.is_clone K.eq }
     requires stored { IsStored K.order V.eq (C.items stored.now) }
     requires nonempty { ¬ IsEmptyRange K.order range.now }
-    requires window { IsWindowOf K.order (C.is_good stored.now) (C.rank stored.now) (C.items stored.now) range.now window.now }
+    requires window { IsWindowOf K.order C.is_good C.rank C.items stored.now range.now window.now }
     requires free { MayBeAsked F.Fn f.now None }
     requires bound { Every (λ i. MayBeAsked F.Fn f.now (Some i.value)) (C.items stored.now) }
-    ensures ok { IfOk result (λ middle. IsGathered K.order V.eq F.Fn f.now (C.items stored.now) range.now middle.items) }
-    ensures closure { (e : E) → result ≡ Err (ClosureError e) → FailsAt K.order V.eq F.Fn f.now (C.items stored.now) range.now e }
+    ensures ok { IfOk result
+        (λ middle. IsGathered K.order V.eq F.Fn f.now (C.items stored.now) range.now middle.items) }
+    ensures closure { (e : E) → result ≡ Err (ClosureError e)
+        → FailsAt K.order V.eq F.Fn f.now (C.items stored.now) range.now e }
 {
     inner::known(range);
     let mut middle = Vec::new(alloc);

@@ -17,7 +17,9 @@ pub struct EndsBefore<'a, K> {
 }
 
 impl<'a, K: PartialEnum, V> Probe<Item<AnyRange<K>, V>> for EndsBefore<'a, K> {
-    ghost test = { λ probe item. is_lt (position_cmp K.order.cmp (end_position K.order item.key.end) (reference_position K.order probe.bound)) };
+    ghost test = { λ probe item. is_lt
+        (position_cmp K.order.cmp (end_position K.order item.key.end)
+        (reference_position K.order probe.bound)) };
 
     ghost steps_taken = { λ probe. probe.steps };
 

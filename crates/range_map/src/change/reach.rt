@@ -20,8 +20,10 @@ pub(crate) fn reaching_before<
     C: Storage<Item<AnyRange<K>, V>>,
     R: AsRange<Item = K>,
 >(stored: &C, window: &Window<C::Position>, range: &R, steps: &mut Steps) -> Option<C::Position>
-    requires window { IsWindowOf K.order (C.is_good stored.now) (C.rank stored.now) (C.items stored.now) (R.range range.now) window.now }
-    ensures reaching { IsFirstReaching K.order (C.is_good stored.now) (C.rank stored.now) (C.items stored.now) (R.range range.now) window.now result }
+    requires window { IsWindowOf K.order C.is_good C.rank C.items stored.now (R.range range.now)
+        window.now }
+    ensures reaching { IsFirstReaching K.order C.is_good C.rank C.items stored.now
+        (R.range range.now) window.now result }
     ensures counted { AddsSteps steps.old steps.new 0 1 }
 {
     if window.count == 0 {
@@ -47,8 +49,10 @@ pub(crate) fn reaching_after<
     C: Storage<Item<AnyRange<K>, V>>,
     R: AsRange<Item = K>,
 >(stored: &C, window: &Window<C::Position>, range: &R, steps: &mut Steps) -> Option<C::Position>
-    requires window { IsWindowOf K.order (C.is_good stored.now) (C.rank stored.now) (C.items stored.now) (R.range range.now) window.now }
-    ensures reaching { IsLastReaching K.order (C.is_good stored.now) (C.rank stored.now) (C.items stored.now) (R.range range.now) window.now result }
+    requires window { IsWindowOf K.order C.is_good C.rank C.items stored.now (R.range range.now)
+        window.now }
+    ensures reaching { IsLastReaching K.order C.is_good C.rank C.items stored.now
+        (R.range range.now) window.now result }
     ensures counted { AddsSteps steps.old steps.new 0 1 }
 {
     match window.last {
@@ -68,7 +72,8 @@ pub(crate) fn reaching_after<
 pub(crate) fn surrounding<P: Copy>(count: usize, first: Option<P>, last: Option<P>) -> Option<P>
     requires first { length (option_items first) ≤ count }
     requires last { length (option_items last) ≤ count }
-    ensures { MatchOption result (length (option_items first) + length (option_items last) ≤ count) (λ p. (count ≡ 1) × (first ≡ Some p) × IsSome last) }
+    ensures { MatchOption result (length (option_items first) + length (option_items last) ≤ count)
+        (λ p. (count ≡ 1) × (first ≡ Some p) × IsSome last) }
 {
     if count == 1 && last.is_some() {
         first
@@ -84,8 +89,13 @@ pub(crate) fn run_start<K: PartialEnum, V: Eq + Drop, C: Storage<Item<AnyRange<K
     first: Option<C::Position>,
 ) -> Option<C::Position>
     requires from { ForSome from (C.is_good stored.now) }
-    requires first { ForSome first (λ p. C.is_good stored.now p × (C.rank stored.now p ≡ place_before (C.rank stored.now) (length (C.items stored.now)) from)) }
-    ensures { IsAt (C.is_good stored.now) (C.rank stored.now) (length (C.items stored.now)) result (place_before (C.rank stored.now) (length (C.items stored.now)) from + length (option_items first)) }
+    requires first { ForSome first
+        (λ p. C.is_good stored.now p
+        × (C.rank stored.now p
+        ≡ place_before (C.rank stored.now) (length (C.items stored.now)) from)) }
+    ensures { IsAt (C.is_good stored.now) (C.rank stored.now) (length (C.items stored.now)) result
+        (place_before (C.rank stored.now) (length (C.items stored.now)) from
+        + length (option_items first)) }
 {
     match first {
         Some(p) => stored.next(p),

@@ -34,10 +34,12 @@ fn joined_left<K: Measure, V: Eq + Drop, C: Storage<Item<AnyRange<K>, V>>>(
 ) -> Option<C::Position>
     requires stored { IsStored K.order V.eq (C.items stored.now) }
     requires nonempty { ¬ IsEmptyRange K.order range.now }
-    requires window { IsWindowOf K.order (C.is_good stored.now) (C.rank stored.now) (C.items stored.now) range.now window.now }
-    requires first { IsFirstReaching K.order (C.is_good stored.now) (C.rank stored.now) (C.items stored.now) range.now window.now first }
+    requires window { IsWindowOf K.order C.is_good C.rank C.items stored.now range.now window.now }
+    requires first { IsFirstReaching K.order C.is_good C.rank C.items stored.now range.now
+        window.now first }
     requires within { IfSome next (λ i. LiesIn K.order i.now.key range.now) }
-    ensures { IsJoiningFirst K.order V.eq (C.is_good stored.now) (C.rank stored.now) (C.items stored.now) range.now window.now (option_copied next.entry) first result }
+    ensures { IsJoiningFirst K.order V.eq C.is_good C.rank C.items stored.now range.now window.now
+        (option_copied next.entry) first result }
 {
     inner::known(range);
     let Some(item) = next else {
@@ -73,10 +75,12 @@ fn joined_right<K: Measure, V: Eq + Drop, C: Storage<Item<AnyRange<K>, V>>>(
 ) -> Option<C::Position>
     requires stored { IsStored K.order V.eq (C.items stored.now) }
     requires nonempty { ¬ IsEmptyRange K.order range.now }
-    requires window { IsWindowOf K.order (C.is_good stored.now) (C.rank stored.now) (C.items stored.now) range.now window.now }
-    requires last { IsLastReaching K.order (C.is_good stored.now) (C.rank stored.now) (C.items stored.now) range.now window.now last }
+    requires window { IsWindowOf K.order C.is_good C.rank C.items stored.now range.now window.now }
+    requires last { IsLastReaching K.order C.is_good C.rank C.items stored.now range.now window.now
+        last }
     requires within { IfSome previous (λ i. LiesIn K.order i.now.key range.now) }
-    ensures { IsJoiningLast K.order V.eq (C.is_good stored.now) (C.rank stored.now) (C.items stored.now) range.now window.now (option_copied previous.entry) last result }
+    ensures { IsJoiningLast K.order V.eq C.is_good C.rank C.items stored.now range.now window.now
+        (option_copied previous.entry) last result }
 {
     inner::known(range);
     let Some(item) = previous else {
@@ -126,13 +130,16 @@ pub(crate) fn replace<K: Measure, V: Eq + Drop, C: Storage<Item<AnyRange<K>, V>>
 ) -> Result<(), AllocError>
     requires stored { IsStored K.order V.eq (C.items stored.old) }
     requires nonempty { ¬ IsEmptyRange K.order range }
-    requires window { IsWindowOf K.order (C.is_good stored.old) (C.rank stored.old) (C.items stored.old) range window.now }
-    requires first { IsFirstReaching K.order (C.is_good stored.old) (C.rank stored.old) (C.items stored.old) range window.now first }
-    requires last { IsLastReaching K.order (C.is_good stored.old) (C.rank stored.old) (C.items stored.old) range window.now last }
+    requires window { IsWindowOf K.order C.is_good C.rank C.items stored.old range window.now }
+    requires first { IsFirstReaching K.order C.is_good C.rank C.items stored.old range window.now
+        first }
+    requires last { IsLastReaching K.order C.is_good C.rank C.items stored.old range window.now
+        last }
     requires apart { length (option_items first) + length (option_items last) ≤ window.now.count }
     requires middle { IsStored K.order V.eq middle.items }
     requires within { AreWithin K.order middle.items range }
-    ensures ok { OnOk result (IsReplaced K.order V.eq (C.items stored.old) (C.items stored.new) middle.items range) }
+    ensures ok { OnOk result
+        (IsReplaced K.order V.eq (C.items stored.old) (C.items stored.new) middle.items range) }
     ensures refused { OnErr result (C.items stored.new ≡ C.items stored.old) }
 {
     inner::known(&range);

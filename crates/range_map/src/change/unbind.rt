@@ -11,9 +11,9 @@ ghost use Rattle.range_map.specs.Costs.{TakesAtLeast, TakesAsChange};
 ghost use Rattle.range_map.specs.Changes.{IsRemoved};
 
 use crate::change::cut::cut_parts;
-use crate::change::edges::cut_edge;
+use crate::change::edges::{Sides, cut_edge};
 use crate::change::reach::{item_count, reaching_after, reaching_before, run_start, surrounding};
-use crate::change::splice::{clear, divide};
+use crate::change::splice::{change, divide};
 use crate::change::window::{Window, find_window};
 use range_algebra::any::AnyRange;
 use range_algebra::inner;
@@ -34,11 +34,15 @@ pub(crate) fn unbind_within<
     requires values { ClonesAreEqual V.is_clone V.eq }
     requires stored { IsStored K.order V.eq (C.items stored.old) }
     requires nonempty { ¬ IsEmptyRange K.order (R.range range.now) }
-    requires window { IsWindowOf K.order (C.is_good stored.old) (C.rank stored.old) (C.items stored.old) (R.range range.now) window.now }
+    requires window { IsWindowOf K.order C.is_good C.rank C.items stored.old (R.range range.now)
+        window.now }
     requires one { window.now.count ≡ 1 }
-    requires first { IsFirstReaching K.order (C.is_good stored.old) (C.rank stored.old) (C.items stored.old) (R.range range.now) window.now (Some p) }
-    requires last { IsLastReaching K.order (C.is_good stored.old) (C.rank stored.old) (C.items stored.old) (R.range range.now) window.now (Some p) }
-    ensures ok { OnOk result (IsRemoved K.order V.eq (C.items stored.old) (C.items stored.new) (R.range range.now)) }
+    requires first { IsFirstReaching K.order C.is_good C.rank C.items stored.old (R.range range.now)
+        window.now (Some p) }
+    requires last { IsLastReaching K.order C.is_good C.rank C.items stored.old (R.range range.now)
+        window.now (Some p) }
+    ensures ok { OnOk result
+        (IsRemoved K.order V.eq (C.items stored.old) (C.items stored.new) (R.range range.now)) }
     ensures few { OnOk result (length (C.items stored.new) ≤ length (C.items stored.old) + 1) }
     ensures refused { OnErr result (C.items stored.new ≡ C.items stored.old) }
 {
@@ -64,13 +68,18 @@ fn unbind_over<
     requires keys { ClonesAreEqual K.is_clone K.eq }
     requires stored { IsStored K.order V.eq (C.items stored.old) }
     requires nonempty { ¬ IsEmptyRange K.order (R.range range.now) }
-    requires window { IsWindowOf K.order (C.is_good stored.old) (C.rank stored.old) (C.items stored.old) (R.range range.now) window.now }
+    requires window { IsWindowOf K.order C.is_good C.rank C.items stored.old (R.range range.now)
+        window.now }
     requires some { 0 < window.now.count }
-    requires first { IsFirstReaching K.order (C.is_good stored.old) (C.rank stored.old) (C.items stored.old) (R.range range.now) window.now first }
-    requires last { IsLastReaching K.order (C.is_good stored.old) (C.rank stored.old) (C.items stored.old) (R.range range.now) window.now last }
+    requires first { IsFirstReaching K.order C.is_good C.rank C.items stored.old (R.range range.now)
+        window.now first }
+    requires last { IsLastReaching K.order C.is_good C.rank C.items stored.old (R.range range.now)
+        window.now last }
     requires apart { length (option_items first) + length (option_items last) ≤ window.now.count }
-    ensures ok { OnOk result (IsRemoved K.order V.eq (C.items stored.old) (C.items stored.new) (R.range range.now)) }
-    ensures few { OnOk result (2 * length (C.items stored.new) + window.now.count ≤ 2 * length (C.items stored.old) + 3) }
+    ensures ok { OnOk result
+        (IsRemoved K.order V.eq (C.items stored.old) (C.items stored.new) (R.range range.now)) }
+    ensures few { OnOk result
+        (2 * length (C.items stored.new) + window.now.count ≤ 2 * length (C.items stored.old) + 3) }
     ensures refused { OnErr result (C.items stored.new ≡ C.items stored.old) }
 {
     inner::known_range(range);
@@ -80,7 +89,12 @@ fn unbind_over<
         at: run_start::<K, V, C>(stored, window.from, first),
         left: window.count - (item_count(&first) + item_count(&last)),
     };
-    clear::<K, V, C>(stored, run, before, behind);
+    let sides = Sides {
+        left: before,
+        right: behind,
+        run,
+    };
+    change::<K, V, C>(stored, sides, None);
     Ok(())
 }
 
@@ -100,10 +114,13 @@ fn unbind_met<
     requires values { ClonesAreEqual V.is_clone V.eq }
     requires stored { IsStored K.order V.eq (C.items stored.old) }
     requires nonempty { ¬ IsEmptyRange K.order (R.range range.now) }
-    requires window { IsWindowOf K.order (C.is_good stored.old) (C.rank stored.old) (C.items stored.old) (R.range range.now) window.now }
+    requires window { IsWindowOf K.order C.is_good C.rank C.items stored.old (R.range range.now)
+        window.now }
     requires some { 0 < window.now.count }
-    ensures ok { OnOk result (IsRemoved K.order V.eq (C.items stored.old) (C.items stored.new) (R.range range.now)) }
-    ensures few { OnOk result (2 * length (C.items stored.new) + window.now.count ≤ 2 * length (C.items stored.old) + 3) }
+    ensures ok { OnOk result
+        (IsRemoved K.order V.eq (C.items stored.old) (C.items stored.new) (R.range range.now)) }
+    ensures few { OnOk result
+        (2 * length (C.items stored.new) + window.now.count ≤ 2 * length (C.items stored.old) + 3) }
     ensures counted { AddsSteps steps.old steps.new 0 2 }
     ensures refused { OnErr result (C.items stored.new ≡ C.items stored.old) }
 {
@@ -126,12 +143,17 @@ pub(crate) fn unbind<
     requires values { ClonesAreEqual V.is_clone V.eq }
     requires stored { IsStored K.order V.eq (C.items stored.old) }
     requires nonempty { ¬ IsEmptyRange K.order (R.range range.now) }
-    ensures ok { OnOk result (IsRemoved K.order V.eq (C.items stored.old) (C.items stored.new) (R.range range.now)) }
-    ensures most { OnOk result (TakesAsChange steps.old steps.new (C.most_asks stored.old) (length (C.items stored.old)) (length (C.items stored.new))) }
+    ensures ok { OnOk result
+        (IsRemoved K.order V.eq (C.items stored.old) (C.items stored.new) (R.range range.now)) }
+    ensures most { OnOk result
+        (TakesAsChange steps.old steps.new (C.most_asks stored.old) (length (C.items stored.old))
+        (length (C.items stored.new))) }
     ensures least { TakesAtLeast steps.old steps.new (C.least_asks stored.old) }
     ensures refused { OnErr result (C.items stored.new ≡ C.items stored.old) }
-    ensures unmet { Every (λ i. ¬ Overlap K.order i.key (R.range range.now)) (C.items stored.old) → IsOk result }
-    ensures unmet_unchanged { Every (λ i. ¬ Overlap K.order i.key (R.range range.now)) (C.items stored.old) → C.items stored.new ≡ C.items stored.old }
+    ensures unmet { Every (λ i. ¬ Overlap K.order i.key (R.range range.now)) (C.items stored.old)
+        → IsOk result }
+    ensures unmet_unchanged { Every (λ i. ¬ Overlap K.order i.key (R.range range.now))
+        (C.items stored.old) → C.items stored.new ≡ C.items stored.old }
 {
     inner::known_range(range);
     let window = find_window::<K, V, C, R>(stored, range, steps);

@@ -41,8 +41,10 @@ pub(crate) fn find<K: PartialEnum, V: Eq + Drop, C: Storage<Item<AnyRange<K>, V>
     steps: &mut Steps,
 ) -> (Option<C::Position>, Option<C::Position>)
     requires { IsStored K.order V.eq (C.items stored.now) }
-    ensures found { IsFound K.order (C.is_good stored.now) (C.rank stored.now) (C.items stored.now) (reference_position K.order bound.now) result.0 result.1 }
-    ensures counted { AddsSteps steps.old steps.new (C.least_asks stored.now) (C.most_asks stored.now) }
+    ensures found { IsFound K.order (C.is_good stored.now) (C.rank stored.now) (C.items stored.now)
+        (reference_position K.order bound.now) result.0 result.1 }
+    ensures counted { AddsSteps steps.old steps.new (C.least_asks stored.now)
+        (C.most_asks stored.now) }
     ensures idle { length (C.items stored.now) ≡ 0 → C.most_asks stored.now ≡ 0 }
 {
     let mut probe = EndsBefore {
@@ -63,7 +65,9 @@ pub(crate) fn starts_past<K: PartialEnum, V>(
     bound: &Directed<Bound<&K>>,
     steps: &mut Steps,
 ) -> bool
-    ensures past { result ≡ is_gt (position_cmp K.order.cmp (start_position K.order item.now.key.start) (reference_position K.order bound.now)) }
+    ensures past { result
+        ≡ is_gt (position_cmp K.order.cmp (start_position K.order item.now.key.start)
+        (reference_position K.order bound.now)) }
     ensures counted { AddsSteps steps.old steps.new 1 1 }
 {
     steps.tick();
@@ -79,7 +83,9 @@ pub(crate) fn walk<K: PartialEnum, V: Eq + Drop, C: Storage<Item<AnyRange<K>, V>
     steps: &mut Steps,
 ) -> (usize, Option<C::Position>, Option<C::Position>)
     requires { ForSome from (C.is_good stored.now) }
-    ensures walked { let place = place_before (C.rank stored.now) (length (C.items stored.now)) from in IsWalk K.order (C.is_good stored.now) (C.rank stored.now) (C.items stored.now) (reference_position K.order end.now) place result.0 result.1 result.2 }
+    ensures walked { let place = place_before (C.rank stored.now) (length (C.items stored.now))
+        from in IsWalk K.order (C.is_good stored.now) (C.rank stored.now) (C.items stored.now)
+        (reference_position K.order end.now) place result.0 result.1 result.2 }
     ensures counted { AddsSteps steps.old steps.new 0 (result.0 + 1) }
 {
     let mut at = from;
@@ -105,8 +111,10 @@ pub(crate) fn find_window<
     R: AsRange<Item = K>,
 >(stored: &C, range: &R, steps: &mut Steps) -> Window<C::Position>
     requires { IsStored K.order V.eq (C.items stored.now) }
-    ensures window { IsWindowOf K.order (C.is_good stored.now) (C.rank stored.now) (C.items stored.now) (R.range range.now) result }
-    ensures counted { AddsSteps steps.old steps.new (C.least_asks stored.now) (C.most_asks stored.now + result.count + 1) }
+    ensures window { IsWindowOf K.order C.is_good C.rank C.items stored.now (R.range range.now)
+        result }
+    ensures counted { AddsSteps steps.old steps.new (C.least_asks stored.now)
+        (C.most_asks stored.now + result.count + 1) }
 {
     inner::known_range(range);
     let start = Directed::Start(range.start());

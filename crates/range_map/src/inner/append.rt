@@ -26,7 +26,8 @@ pub fn append<K: PartialEnum, V: Eq + Drop, C: Storage<Item<AnyRange<K>, V>>>(
     value: V,
 )
     requires room { 1 ≤ C.room map.old }
-    requires form { IsStored K.order V.eq (C.items map.old ++ record { key = range; value = value } ∷ []) }
+    requires form { IsStored K.order V.eq
+        (C.items map.old ++ record { key = range; value = value } ∷ []) }
     ensures list { C.items map.new ≡ C.items map.old ++ record { key = range; value = value } ∷ [] }
     ensures space { C.room map.old ≡ C.room map.new + 1 }
 {

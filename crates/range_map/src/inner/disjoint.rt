@@ -26,11 +26,15 @@ pub fn insert_disjoint<K: Measure + Clone, V: Eq + Clone, C: Storage<Item<AnyRan
     value: V,
 ) -> Result<bool, MapError>
     requires keys { ClonesAreEqual K.is_clone K.eq }
-    ensures met { result ≡ Ok false ↔ (¬ IsEmptyRange K.order range) × MeetsSome K.order (C.items map.old) range }
+    ensures met { result ≡ Ok false
+        ↔ (¬ IsEmptyRange K.order range) × MeetsSome K.order (C.items map.old) range }
     ensures met_unchanged { result ≡ Ok false → C.items map.new ≡ C.items map.old }
-    ensures bound { result ≡ Ok true → IsBoundAfter K.order V.eq (C.items map.old) (C.items map.new) range value }
-    ensures meets { result ≡ Ok true → ¬ IsEmptyRange K.order range → MeetAlso K.order (C.items map.old) (C.items map.new) range }
-    ensures frame { result ≡ Ok true → ¬ IsEmptyRange K.order range → GaveWayTo K.order V.eq (C.items map.old) (C.items map.new) range value }
+    ensures bound { result ≡ Ok true
+        → IsBoundAfter K.order V.eq (C.items map.old) (C.items map.new) range value }
+    ensures meets { result ≡ Ok true → ¬ IsEmptyRange K.order range
+        → MeetAlso K.order (C.items map.old) (C.items map.new) range }
+    ensures frame { result ≡ Ok true → ¬ IsEmptyRange K.order range
+        → GaveWayTo K.order V.eq (C.items map.old) (C.items map.new) range value }
     ensures form { IsStored K.order V.eq (C.items map.new) }
     ensures refused { OnErr result (C.items map.new ≡ C.items map.old) }
     ensures empty { IsEmptyRange K.order range → result ≡ Ok true }

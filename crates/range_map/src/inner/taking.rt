@@ -11,7 +11,8 @@ use range_store::storage::{Item, Storage};
 pub fn take_first<K: PartialEnum, V: Eq + Drop, C: Storage<Item<AnyRange<K>, V>>>(
     map: &mut RangeMap<K, V, C>,
 ) -> Option<(AnyRange<K>, V)>
-    ensures { MatchOption result ((C.items map.old ≡ []) × (C.items map.new ≡ [])) (λ pair. C.items map.old ≡ pair_item pair ∷ C.items map.new) }
+    ensures { MatchOption result ((C.items map.old ≡ []) × (C.items map.new ≡ []))
+        (λ pair. C.items map.old ≡ pair_item pair ∷ C.items map.new) }
 {
     match map.stored.pop_first() {
         Some(item) => Some(item.into_pair()),
@@ -23,7 +24,8 @@ pub fn take_first<K: PartialEnum, V: Eq + Drop, C: Storage<Item<AnyRange<K>, V>>
 pub fn take_last<K: PartialEnum, V: Eq + Drop, C: Storage<Item<AnyRange<K>, V>>>(
     map: &mut RangeMap<K, V, C>,
 ) -> Option<(AnyRange<K>, V)>
-    ensures { MatchOption result ((C.items map.old ≡ []) × (C.items map.new ≡ [])) (λ pair. C.items map.old ≡ C.items map.new ++ pair_item pair ∷ []) }
+    ensures { MatchOption result ((C.items map.old ≡ []) × (C.items map.new ≡ []))
+        (λ pair. C.items map.old ≡ C.items map.new ++ pair_item pair ∷ []) }
 {
     match map.stored.pop_last() {
         Some(item) => Some(item.into_pair()),

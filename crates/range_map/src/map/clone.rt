@@ -50,7 +50,8 @@ impl<K: PartialEnum + Clone, V: Eq + Clone, C: Storage<Item<AnyRange<K>, V>>> Ra
     pub fn clone(&self) -> Result<Self, AllocError>
         requires keys { ClonesAreEqual K.is_clone K.eq }
         requires values { ClonesAreEqual V.is_clone V.eq }
-        ensures equal { IfOk result (λ copy. IsCopyOf K.order V.eq (C.items copy) (C.items self.now)) }
+        ensures equal { IfOk result
+            (λ copy. IsCopyOf K.order V.eq (C.items copy) (C.items self.now)) }
         ensures form { IfOk result (λ copy. IsStored K.order V.eq (C.items copy)) }
     {
         self.in_form();

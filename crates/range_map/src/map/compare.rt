@@ -1,16 +1,13 @@
 //! Equality, order and hash of maps: those of the lists that they store.
-ghost use Rattle.std.specs.Prelude.{◌≡◌, ◌↔◌, List, IsTrue};
+ghost use Rattle.std.specs.Prelude.{◌≡◌, ◌↔◌, IsTrue};
 ghost use Rattle.std.specs.Cmp.{partial_equiv_from_equiv, on_equiv, on_total, po};
 ghost use Rattle.std.specs.List.{fold};
 ghost use Rattle.std.specs.Ordering.{as_partial_cmp, is_eq};
 ghost use Rattle.std.specs.declared.cmp.Ordering.TheVariants.{Equal};
 ghost use Rattle.std.proofs.Common.{refl, ap, ◌∙◌};
 ghost use Rattle.range_keys.specs.Order.{IsComplete};
-ghost use Rattle.range_algebra.specs.declared.any.AnyRange.{AnyRange};
-ghost use Rattle.range_store.specs.declared.storage.Item.{Item};
 ghost use Rattle.range_map.specs.Bindings.{BindAlike};
-ghost use Rattle.range_map.specs.ListOrder.{same_item, same_list, item_cmp, list_cmp, CompareAlike, list_input, lists_equivalence, lists_order, lists_tied, lists_fed};
-ghost use Rattle.range_map.specs.Stored.{IsStored};
+ghost use Rattle.range_map.specs.ListOrder.{same_item, same_list, item_cmp, list_cmp, CompareAlike, HashAlike, list_input, lists_equivalence, lists_order, lists_tied, lists_fed};
 
 use crate::map::RangeMap;
 use crate::map::iter::Iter;
@@ -27,7 +24,9 @@ fn are_equal_items<K: PartialEnum, V: Eq>(
     other_range: &AnyRange<K>,
     other_value: &V,
 ) -> bool
-    ensures { result ≡ same_item K.order V.eq (record { key = range.now; value = value.now }) (record { key = other_range.now; value = other_value.now }) }
+    ensures { result
+        ≡ same_item K.order V.eq (record { key = range.now; value = value.now })
+        (record { key = other_range.now; value = other_value.now }) }
 {
     *range == *other_range && *value == *other_value
 }
@@ -66,7 +65,9 @@ fn compare_items<K: PartialEnum, V: Ord>(
     other_range: &AnyRange<K>,
     other_value: &V,
 ) -> Ordering
-    ensures { result ≡ item_cmp K.order V.cmp (record { key = range.now; value = value.now }) (record { key = other_range.now; value = other_value.now }) }
+    ensures { result
+        ≡ item_cmp K.order V.cmp (record { key = range.now; value = value.now })
+        (record { key = other_range.now; value = other_value.now }) }
 {
     match range.cmp(other_range) {
         Ordering::Equal => value.cmp(other_value),
@@ -110,7 +111,9 @@ where
     V: Hash,
     C: Storage<Item<AnyRange<K>, V>>,
     H: Hasher,
-    ensures { state.new ≡ fold H.write state.old (list_input K.order K.hash_input V.hash_input (C.items stored.now)) }
+    ensures { state.new
+        ≡ fold H.write state.old
+        (list_input K.order K.hash_input V.hash_input (C.items stored.now)) }
 {
     state.write_usize(stored.len());
     let mut items = Iter::new(stored);
@@ -135,8 +138,10 @@ impl<K: PartialEnum, V: Eq + Drop, C: Storage<Item<AnyRange<K>, V>>> RangeMap<K,
     /// ```
     pub fn eq_across<D: Storage<Item<AnyRange<K>, V>>>(&self, other: &RangeMap<K, V, D>) -> bool
         ensures value { result ≡ same_list K.order V.eq (C.items self.now) (D.items other.now) }
-        ensures bound { IsTrue result → BindAlike K.order V.eq (C.items self.now) (D.items other.now) }
-        ensures same { IsComplete K.order → IsTrue result ↔ BindAlike K.order V.eq (C.items self.now) (D.items other.now) }
+        ensures bound { IsTrue result
+            → BindAlike K.order V.eq (C.items self.now) (D.items other.now) }
+        ensures same { IsComplete K.order → IsTrue result
+            ↔ BindAlike K.order V.eq (C.items self.now) (D.items other.now) }
     {
         self.in_form();
         other.in_form();
@@ -149,8 +154,8 @@ impl<K: PartialEnum, V: Ord + Drop, C: Storage<Item<AnyRange<K>, V>>> RangeMap<K
     /// order, each range before its value.
     ///
     /// Over keys that tell their neighbours and ends, as integers and characters, maps that bind
-    /// every key alike, and no others, are `Equal`, and compare alike with every map. Takes no
-    /// memory. Costs one step for each stored range.
+    /// every key alike, and no others, are `Equal`, and compare alike with every map.
+    /// Allocates nothing. Costs one step for each stored range.
     ///
     /// ```
     /// // of a map that binds 0..=5 to 1
@@ -163,8 +168,10 @@ impl<K: PartialEnum, V: Ord + Drop, C: Storage<Item<AnyRange<K>, V>>> RangeMap<K
         other: &RangeMap<K, V, D>,
     ) -> Ordering
         ensures value { result ≡ list_cmp K.order V.cmp (C.items self.now) (D.items other.now) }
-        ensures same { IsComplete K.order → result ≡ Equal ↔ BindAlike K.order V.eq (C.items self.now) (D.items other.now) }
-        ensures alike { IsComplete K.order → CompareAlike K.order V.eq V.cmp (C.items self.now) (D.items other.now) result }
+        ensures same { IsComplete K.order → result ≡ Equal
+            ↔ BindAlike K.order V.eq (C.items self.now) (D.items other.now) }
+        ensures alike { IsComplete K.order
+            → CompareAlike K.order V.eq V.cmp (C.items self.now) (D.items other.now) result }
     {
         self.in_form();
         other.in_form();
@@ -176,12 +183,15 @@ impl<K: PartialEnum, V: Eq + Drop, C: Storage<Item<AnyRange<K>, V>>> PartialEq
     for RangeMap<K, V, C> {
     ghost eq = { λ map other. same_list K.order V.eq (C.items map) (C.items other) };
 
-    ghost laws = { partial_equiv_from_equiv (on_equiv C.items (lists_equivalence K.order K.lawful V.eq V.Eq.laws)) };
+    ghost laws = { partial_equiv_from_equiv
+        (on_equiv C.items (lists_equivalence K.order K.lawful V.eq V.Eq.laws)) };
 
     fn eq(&self, other: &RangeMap<K, V, C>) -> bool
         ensures value { result ≡ same_list K.order V.eq (C.items self.now) (C.items other.now) }
-        ensures bound { IsTrue result → BindAlike K.order V.eq (C.items self.now) (C.items other.now) }
-        ensures same { IsComplete K.order → IsTrue result ↔ BindAlike K.order V.eq (C.items self.now) (C.items other.now) }
+        ensures bound { IsTrue result
+            → BindAlike K.order V.eq (C.items self.now) (C.items other.now) }
+        ensures same { IsComplete K.order → IsTrue result
+            ↔ BindAlike K.order V.eq (C.items self.now) (C.items other.now) }
     {
         self.eq_across(other)
     }
@@ -193,9 +203,11 @@ impl<K: PartialEnum, V: Eq + Drop, C: Storage<Item<AnyRange<K>, V>>> Eq for Rang
 
 impl<K: PartialEnum, V: Ord + Drop, C: Storage<Item<AnyRange<K>, V>>> PartialOrd
     for RangeMap<K, V, C> {
-    ghost partial_cmp = { as_partial_cmp (λ map other. list_cmp K.order V.cmp (C.items map) (C.items other)) };
+    ghost partial_cmp = { as_partial_cmp
+        (λ map other. list_cmp K.order V.cmp (C.items map) (C.items other)) };
 
-    ghost laws = { po (on_total C.items (lists_order K.order K.lawful V.cmp V.total)) (λ map other. lists_tied K.order V.eq V.cmp V.matches_eq (C.items map) (C.items other)) };
+    ghost laws = { po (on_total C.items (lists_order K.order K.lawful V.cmp V.total))
+        (λ map other. lists_tied K.order V.eq V.cmp V.matches_eq (C.items map) (C.items other)) };
 
     fn partial_cmp(&self, other: &RangeMap<K, V, C>) -> Option<Ordering> {
         Some(self.cmp(other))
@@ -209,12 +221,15 @@ impl<K: PartialEnum, V: Ord + Drop, C: Storage<Item<AnyRange<K>, V>>> Ord for Ra
 
     ghost matches_partial_cmp = { λ map other. refl };
 
-    ghost matches_eq = { λ map other. lists_tied K.order V.eq V.cmp V.matches_eq (C.items map) (C.items other) };
+    ghost matches_eq = { λ map other. lists_tied K.order V.eq V.cmp V.matches_eq (C.items map)
+        (C.items other) };
 
     fn cmp(&self, other: &RangeMap<K, V, C>) -> Ordering
         ensures value { result ≡ list_cmp K.order V.cmp (C.items self.now) (C.items other.now) }
-        ensures same { IsComplete K.order → result ≡ Equal ↔ BindAlike K.order V.eq (C.items self.now) (C.items other.now) }
-        ensures alike { IsComplete K.order → CompareAlike K.order V.eq V.cmp (C.items self.now) (C.items other.now) result }
+        ensures same { IsComplete K.order → result ≡ Equal
+            ↔ BindAlike K.order V.eq (C.items self.now) (C.items other.now) }
+        ensures alike { IsComplete K.order
+            → CompareAlike K.order V.eq V.cmp (C.items self.now) (C.items other.now) result }
     {
         self.cmp_across(other)
     }
@@ -224,11 +239,17 @@ impl<K: PartialEnum + Hash, V: Hash + Drop, C: Storage<Item<AnyRange<K>, V>>> Ha
     for RangeMap<K, V, C> {
     ghost hash_input = { λ map. list_input K.order K.hash_input V.hash_input (C.items map) };
 
-    ghost respects_eq = { λ map other. lists_fed K.order V.eq K.hash_input V.hash_input (λ a b f. K.respects_eq a b (K.matches_eq a b ∙ ap is_eq (K.order_is_cmp a b ∙ f))) V.respects_eq (C.items map) (C.items other) };
+    ghost respects_eq = { λ map other. lists_fed K.order V.eq K.hash_input V.hash_input
+        (λ a b f. K.respects_eq a b (K.matches_eq a b ∙ ap is_eq (K.order_is_cmp a b ∙ f)))
+        V.respects_eq (C.items map) (C.items other) };
 
     fn hash<H: Hasher>(&self, state: &mut H)
-        ensures value { state.new ≡ fold H.write state.old (list_input K.order K.hash_input V.hash_input (C.items self.now)) }
-        ensures same { IsComplete K.order → (others : List (Item (AnyRange K) V)) → IsStored K.order V.eq others → BindAlike K.order V.eq (C.items self.now) others → state.new ≡ fold H.write state.old (list_input K.order K.hash_input V.hash_input others) }
+        ensures value { state.new
+            ≡ fold H.write state.old
+            (list_input K.order K.hash_input V.hash_input (C.items self.now)) }
+        ensures same { IsComplete K.order
+            → HashAlike K.order V.eq K.hash_input V.hash_input H.write (C.items self.now) state.old
+            state.new }
     {
         self.in_form();
         hash_list::<K, V, C, H>(&self.stored, state);

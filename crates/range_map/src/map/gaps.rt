@@ -2,9 +2,9 @@
 ghost use Rattle.std.specs.Prelude.{◌≡◌, ◌+◌, ◌≤◌, ◌++◌, [], length, ◌∷◌, MatchOption, Some};
 ghost use Rattle.std.specs.Iterator.{YieldsFirstBy, item_count};
 ghost use Rattle.std.specs.Option.{option_map};
-ghost use Rattle.std.specs.Range.Bound.{bound_map};
+ghost use Rattle.range_keys.specs.Position.{bound_of};
 ghost use Rattle.range_algebra.specs.References.{range_of};
-ghost use Rattle.range_map.specs.FreeRanges.{between, free_from, item_ranges, AreGaps, IsHeldOnce};
+ghost use Rattle.range_map.specs.FreeRanges.{between, free_after, item_ranges, AreGaps, IsHeldOnce};
 ghost use Rattle.range_map.specs.Window.{option_items};
 
 use crate::change::cut::invert;
@@ -27,14 +27,12 @@ pub struct Gaps<'a, K: PartialEnum + 'a, V: 'a, C: Storage<Item<AnyRange<K>, V>>
 impl<'a, K: PartialEnum + 'a, V: 'a, C: Storage<Item<AnyRange<K>, V>> + 'a> Model
     for Gaps<'a, K, V, C> {
     ghost use Rattle.std.specs.Prelude.{List};
-    ghost use Rattle.std.specs.Option.{option_map};
-    ghost use Rattle.std.specs.Range.Bound.{bound_map};
     ghost use Rattle.range_algebra.specs.declared.any.AnyRange.{AnyRange};
-    ghost use Rattle.range_map.specs.FreeRanges.{free_from};
+    ghost use Rattle.range_map.specs.FreeRanges.{free_after};
 
     ghost Value = { List (AnyRange K) };
 
-    ghost view = { λ g. free_from K.order (option_map (bound_map (λ x. x.now)) g.start) g.items };
+    ghost view = { λ g. free_after K.order g.start g.items };
 }
 
 /// The range between two bounds, unless it is empty or one of them is missing.
@@ -42,7 +40,8 @@ fn range_between<'a, K: PartialEnum>(
     start: Option<Bound<&'a K>>,
     end: Option<Bound<&'a K>>,
 ) -> Option<AnyRange<&'a K>>
-    ensures { option_items (option_map range_of result) ≡ between K.order (option_map (bound_map (λ x. x.now)) start.entry) (option_map (bound_map (λ x. x.now)) end.entry) }
+    ensures { option_items (option_map range_of result)
+        ≡ between K.order (option_map bound_of start.entry) (option_map bound_of end.entry) }
 {
     match (start, end) {
         (Some(start), Some(end)) => {
@@ -62,8 +61,9 @@ fn next_gap<'a, K: PartialEnum, V, C: Storage<Item<AnyRange<K>, V>>>(
     items: &mut Iter<'a, K, V, C>,
     start: Option<Bound<&'a K>>,
 ) -> (Option<AnyRange<&'a K>>, Option<Bound<&'a K>>)
-    ensures next { let bound = option_map (bound_map (λ x. x.now)) in free_from K.order (bound start.entry) items.old ≡ option_items (option_map range_of result.0) ++ free_from K.order (bound result.1) items.new }
-    ensures last { result.0 ≡ None → free_from K.order (option_map (bound_map (λ x. x.now)) result.1) items.new ≡ [] }
+    ensures next { free_after K.order start.entry items.old
+        ≡ option_items (option_map range_of result.0) ++ free_after K.order result.1 items.new }
+    ensures last { result.0 ≡ None → free_after K.order result.1 items.new ≡ [] }
 {
     let mut from = start;
     while let Some((range, _)) = items.next() {
@@ -109,7 +109,8 @@ impl<K: PartialEnum, V: Eq + Drop, C: Storage<Item<AnyRange<K>, V>>> RangeMap<K,
     /// ```
     pub fn gaps(&self) -> Gaps<'_, K, V, C>
         ensures gaps { AreGaps K.order (C.items self.now) result }
-        ensures once { (k : K) → K.order.is_key k → IsHeldOnce K.order (item_ranges (C.items self.now) ++ result) k }
+        ensures once { (k : K) → K.order.is_key k
+            → IsHeldOnce K.order (item_ranges (C.items self.now) ++ result) k }
         ensures few { length result ≤ length (C.items self.now) + 1 }
     {
         Gaps {

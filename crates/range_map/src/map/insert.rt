@@ -33,17 +33,24 @@ impl<K: Measure + Clone, V: Eq + Clone, C: Storage<Item<AnyRange<K>, V>>> RangeM
     pub fn insert<R: IntoRange<Item = K>>(&mut self, range: R, value: V) -> Result<(), MapError>
         requires keys { ClonesAreEqual K.is_clone K.eq }
         requires values { ClonesAreEqual V.is_clone V.eq }
-        ensures bound { OnOk result (IsBoundAfter K.order V.eq (C.items self.old) (C.items self.new) (R.range range) value) }
+        ensures bound { OnOk result
+            (IsBoundAfter K.order V.eq (C.items self.old) (C.items self.new) (R.range range)
+            value) }
         ensures form { IsStored K.order V.eq (C.items self.new) }
         ensures coarse { IsComplete K.order → IsCoarse K.order V.eq (C.items self.new) }
         ensures only { IsComplete K.order → IsOnlyCoarse K.order V.eq (C.items self.new) }
-        ensures frame { OnOk result (¬ IsEmptyRange K.order (R.range range) → GaveWayTo K.order V.eq (C.items self.old) (C.items self.new) (R.range range) value) }
-        ensures meets { OnOk result (¬ IsEmptyRange K.order (R.range range) → MeetAlso K.order (C.items self.old) (C.items self.new) (R.range range)) }
+        ensures frame { OnOk result
+            (¬ IsEmptyRange K.order (R.range range)
+            → GaveWayTo K.order V.eq (C.items self.old) (C.items self.new) (R.range range) value) }
+        ensures meets { OnOk result
+            (¬ IsEmptyRange K.order (R.range range)
+            → MeetAlso K.order (C.items self.old) (C.items self.new) (R.range range)) }
         ensures few { length (C.items self.new) ≤ length (C.items self.old) + 2 }
 
         ensures refused { OnErr result (C.items self.new ≡ C.items self.old) }
         ensures empty { IsEmptyRange K.order (R.range range) → IsOk result }
-        ensures empty_unchanged { IsEmptyRange K.order (R.range range) → C.items self.new ≡ C.items self.old }
+        ensures empty_unchanged { IsEmptyRange K.order (R.range range)
+            → C.items self.new ≡ C.items self.old }
     {
         let mut steps = Steps::new();
         self.insert_counted(range, value, &mut steps)
@@ -66,19 +73,29 @@ impl<K: Measure + Clone, V: Eq + Clone, C: Storage<Item<AnyRange<K>, V>>> RangeM
     ) -> Result<(), MapError>
         requires keys { ClonesAreEqual K.is_clone K.eq }
         requires values { ClonesAreEqual V.is_clone V.eq }
-        ensures bound { OnOk result (IsBoundAfter K.order V.eq (C.items self.old) (C.items self.new) (R.range range) value) }
+        ensures bound { OnOk result
+            (IsBoundAfter K.order V.eq (C.items self.old) (C.items self.new) (R.range range)
+            value) }
         ensures form { IsStored K.order V.eq (C.items self.new) }
         ensures coarse { IsComplete K.order → IsCoarse K.order V.eq (C.items self.new) }
         ensures only { IsComplete K.order → IsOnlyCoarse K.order V.eq (C.items self.new) }
-        ensures frame { OnOk result (¬ IsEmptyRange K.order (R.range range) → GaveWayTo K.order V.eq (C.items self.old) (C.items self.new) (R.range range) value) }
-        ensures meets { OnOk result (¬ IsEmptyRange K.order (R.range range) → MeetAlso K.order (C.items self.old) (C.items self.new) (R.range range)) }
+        ensures frame { OnOk result
+            (¬ IsEmptyRange K.order (R.range range)
+            → GaveWayTo K.order V.eq (C.items self.old) (C.items self.new) (R.range range) value) }
+        ensures meets { OnOk result
+            (¬ IsEmptyRange K.order (R.range range)
+            → MeetAlso K.order (C.items self.old) (C.items self.new) (R.range range)) }
         ensures few { length (C.items self.new) ≤ length (C.items self.old) + 2 }
 
         ensures refused { OnErr result (C.items self.new ≡ C.items self.old) }
         ensures empty { IsEmptyRange K.order (R.range range) → IsOk result }
-        ensures empty_unchanged { IsEmptyRange K.order (R.range range) → C.items self.new ≡ C.items self.old }
-        ensures most { OnOk result (TakesAsChange steps.old steps.new (C.most_asks self.old) (length (C.items self.old)) (length (C.items self.new))) }
-        ensures least { ¬ IsEmptyRange K.order (R.range range) → TakesAtLeast steps.old steps.new (C.least_asks self.old) }
+        ensures empty_unchanged { IsEmptyRange K.order (R.range range)
+            → C.items self.new ≡ C.items self.old }
+        ensures most { OnOk result
+            (TakesAsChange steps.old steps.new (C.most_asks self.old) (length (C.items self.old))
+            (length (C.items self.new))) }
+        ensures least { ¬ IsEmptyRange K.order (R.range range)
+            → TakesAtLeast steps.old steps.new (C.least_asks self.old) }
         ensures empty_uncounted { IsEmptyRange K.order (R.range range) → steps.new ≡ steps.old }
     {
         self.in_form();

@@ -45,7 +45,8 @@ fn is_clear_before<K: PartialEnum, V: Eq + Drop, C: Storage<Item<AnyRange<K>, V>
     range: &AnyRange<K>,
 ) -> bool
     requires { ForSome before (C.is_good stored.now) }
-    ensures { IsAnswerAt K.order (λ i. LiesApart K.order i.key range.now) (C.rank stored.now) (C.items stored.now) before result }
+    ensures { IsAnswerAt K.order (λ i. LiesApart K.order i.key range.now) (C.rank stored.now)
+        (C.items stored.now) before result }
 {
     match before {
         Some(p) => lies_apart(&stored.get(p).key, range),
@@ -60,7 +61,8 @@ fn is_clear_after<K: PartialEnum, V: Eq + Drop, C: Storage<Item<AnyRange<K>, V>>
     range: &AnyRange<K>,
 ) -> bool
     requires { ForSome from (C.is_good stored.now) }
-    ensures { IsAnswerAt K.order (λ i. LiesApart K.order range.now i.key) (C.rank stored.now) (C.items stored.now) from result }
+    ensures { IsAnswerAt K.order (λ i. LiesApart K.order range.now i.key) (C.rank stored.now)
+        (C.items stored.now) from result }
 {
     match from {
         Some(p) => lies_apart(range, &stored.get(p).key),
@@ -75,7 +77,9 @@ fn find_gap<K: PartialEnum, V: Eq + Drop, C: Storage<Item<AnyRange<K>, V>>>(
 ) -> Gap<C::Position>
     requires stored { IsStored K.order V.eq (C.items stored.now) }
     requires nonempty { ¬ IsEmptyRange K.order range.now }
-    ensures { IsGap K.order (C.is_good stored.now) (C.rank stored.now) (C.items stored.now) range.now result (place_before (C.rank stored.now) (length (C.items stored.now)) result.from) }
+    ensures { IsGap K.order (C.is_good stored.now) (C.rank stored.now) (C.items stored.now)
+        range.now result
+        (place_before (C.rank stored.now) (length (C.items stored.now)) result.from) }
 {
     inner::known(range);
     let start = Directed::Start(range.start_bound());
@@ -97,10 +101,14 @@ fn bind_apart<K: PartialEnum, V: Eq + Drop, C: Storage<Item<AnyRange<K>, V>>>(
 ) -> Result<(), NotInserted<K, V>>
     requires stored { IsStored K.order V.eq (C.items stored.old) }
     requires nonempty { ¬ IsEmptyRange K.order range }
-    ensures connected { IsErrAnd result IsConnectedError ↔ IsConnectedToSome K.order (C.items stored.old) range }
+    ensures connected { IsErrAnd result IsConnectedError
+        ↔ IsConnectedToSome K.order (C.items stored.old) range }
     ensures given { IfErr result (λ e. handed_back e ≡ (range, value)) }
-    ensures put { OnOk result (IsPutInto (C.items stored.old) (C.items stored.new) (record { key = range; value = value })) }
-    ensures bound { OnOk result (IsBoundAfter K.order V.eq (C.items stored.old) (C.items stored.new) range value) }
+    ensures put { OnOk result
+        (IsPutInto (C.items stored.old) (C.items stored.new)
+        (record { key = range; value = value })) }
+    ensures bound { OnOk result
+        (IsBoundAfter K.order V.eq (C.items stored.old) (C.items stored.new) range value) }
     ensures meets { OnOk result (MeetAlso K.order (C.items stored.old) (C.items stored.new) range) }
     ensures form { IsStored K.order V.eq (C.items stored.new) }
     ensures refused { OnErr result (C.items stored.new ≡ C.items stored.old) }
@@ -136,18 +144,28 @@ impl<K: Measure, V: Eq + Drop, C: Storage<Item<AnyRange<K>, V>>> RangeMap<K, V, 
         range: R,
         value: V,
     ) -> Result<(), NotInserted<K, V>>
-        ensures connected { IsErrAnd result IsConnectedError ↔ (¬ IsEmptyRange K.order (R.range range)) × IsConnectedToSome K.order (C.items self.old) (R.range range) }
+        ensures connected { IsErrAnd result IsConnectedError
+            ↔ (¬ IsEmptyRange K.order (R.range range))
+            × IsConnectedToSome K.order (C.items self.old) (R.range range) }
         ensures given { IfErr result (λ e. handed_back e ≡ (R.range range, value)) }
-        ensures put { OnOk result (¬ IsEmptyRange K.order (R.range range) → IsPutInto (C.items self.old) (C.items self.new) (record { key = R.range range; value = value })) }
-        ensures bound { OnOk result (IsBoundAfter K.order V.eq (C.items self.old) (C.items self.new) (R.range range) value) }
-        ensures meets { OnOk result (¬ IsEmptyRange K.order (R.range range) → MeetAlso K.order (C.items self.old) (C.items self.new) (R.range range)) }
+        ensures put { OnOk result
+            (¬ IsEmptyRange K.order (R.range range)
+            → IsPutInto (C.items self.old) (C.items self.new)
+            (record { key = R.range range; value = value })) }
+        ensures bound { OnOk result
+            (IsBoundAfter K.order V.eq (C.items self.old) (C.items self.new) (R.range range)
+            value) }
+        ensures meets { OnOk result
+            (¬ IsEmptyRange K.order (R.range range)
+            → MeetAlso K.order (C.items self.old) (C.items self.new) (R.range range)) }
         ensures form { IsStored K.order V.eq (C.items self.new) }
         ensures coarse { IsComplete K.order → IsCoarse K.order V.eq (C.items self.new) }
         ensures only { IsComplete K.order → IsOnlyCoarse K.order V.eq (C.items self.new) }
         ensures few { length (C.items self.new) ≤ length (C.items self.old) + 1 }
         ensures refused { OnErr result (C.items self.new ≡ C.items self.old) }
         ensures empty { IsEmptyRange K.order (R.range range) → IsOk result }
-        ensures empty_unchanged { IsEmptyRange K.order (R.range range) → C.items self.new ≡ C.items self.old }
+        ensures empty_unchanged { IsEmptyRange K.order (R.range range)
+            → C.items self.new ≡ C.items self.old }
     {
         self.in_form();
         let range = range.into_range();

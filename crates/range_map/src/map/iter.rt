@@ -29,9 +29,12 @@ impl<'a, K: 'a, V: 'a, C: Storage<Item<AnyRange<K>, V>> + 'a> Model for Iter<'a,
 
     ghost Value = { List (Item (AnyRange K) V) };
 
-    ghost view = { λ i. take i.left (drop (place_before (C.rank i.stored.now) (length (C.items i.stored.now)) i.front) (C.items i.stored.now)) };
+    ghost view = { λ i. take i.left
+        (drop (place_before (C.rank i.stored.now) (length (C.items i.stored.now)) i.front)
+        (C.items i.stored.now)) };
 
-    ghost invariant = { λ i. IsWalkOver (C.is_good i.stored.now) (C.rank i.stored.now) (length (C.items i.stored.now)) i.front i.back i.left };
+    ghost invariant = { λ i. IsWalkOver (C.is_good i.stored.now) (C.rank i.stored.now)
+        (length (C.items i.stored.now)) i.front i.back i.left };
 }
 
 impl<'a, K: 'a, V: 'a, C: Storage<Item<AnyRange<K>, V>> + 'a> Iter<'a, K, V, C> {

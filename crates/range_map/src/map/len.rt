@@ -41,8 +41,10 @@ impl<K: Measure + Bounded, V: Eq + Drop, C: Storage<Item<AnyRange<K>, V>>> Range
     /// println!(rt; "{} keys in {} ranges", map.len(), map.range_count())?;
     /// ```
     pub fn len(&self) -> u128
-        ensures measure { list_measure K.order K.len K.distance (item_ranges (C.items self.now)) ≡ Some result }
-        ensures counted { IsCountedMeasure K.order K.len K.distance → IsNumberOfKeys K.order (IsBound K.order (C.items self.now)) result }
+        ensures measure { list_measure K.order K.len K.distance (item_ranges (C.items self.now))
+            ≡ Some result }
+        ensures counted { IsCountedMeasure K.order K.len K.distance
+            → IsNumberOfKeys K.order (IsBound K.order (C.items self.now)) result }
     {
         self.bounded_len().unwrap()
     }
@@ -59,9 +61,11 @@ impl<K: Measure, V: Eq + Drop, C: Storage<Item<AnyRange<K>, V>>> RangeMap<K, V, 
     /// assert!(rt; map.bounded_len() == Some(6));
     /// ```
     pub fn bounded_len(&self) -> Option<u128>
-        ensures measure { result ≡ list_measure K.order K.len K.distance (item_ranges (C.items self.now)) }
+        ensures measure { result
+            ≡ list_measure K.order K.len K.distance (item_ranges (C.items self.now)) }
         ensures untold { IsNone result ↔ Any (λ i. HasUntoldEnd K.order i.key) (C.items self.now) }
-        ensures counted { IsCountedMeasure K.order K.len K.distance → IsSomeAnd result (IsNumberOfKeys K.order (IsBound K.order (C.items self.now))) }
+        ensures counted { IsCountedMeasure K.order K.len K.distance
+            → IsSomeAnd result (IsNumberOfKeys K.order (IsBound K.order (C.items self.now))) }
     {
         measure(self.iter())
     }

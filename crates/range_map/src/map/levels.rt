@@ -22,8 +22,10 @@ impl<K: PartialEnum, V: Eq + Drop> RangeMap<K, V, BoxStorage<Item<AnyRange<K>, V
     pub fn levels(&self) -> usize
         ensures value { result ≡ level_count self.now }
         ensures empty { length (box_items self.now) ≡ 0 → result ≡ 0 }
-        ensures least { 0 < length (box_items self.now) → 2 * (LEAST + 1) ^ (result - 1) ≤ length (box_items self.now) + 1 }
-        ensures most { 0 < length (box_items self.now) → length (box_items self.now) + 1 ≤ (MOST + 1) ^ result }
+        ensures least { 0 < length (box_items self.now)
+            → 2 * (LEAST + 1) ^ (result - 1) ≤ length (box_items self.now) + 1 }
+        ensures most { 0 < length (box_items self.now)
+            → length (box_items self.now) + 1 ≤ (MOST + 1) ^ result }
     {
         self.stored.levels()
     }

@@ -52,7 +52,8 @@ impl<K: PartialEnum, V: Eq + Drop, C: Storage<Item<AnyRange<K>, V>>> RangeMap<K,
     /// ```
     pub fn contains_key_counted(&self, key: K, steps: &mut Steps) -> bool
         ensures value { IsTrue result ↔ IsBound K.order (C.items self.now) key }
-        ensures counted { AddsSteps steps.old steps.new (C.least_asks self.now) (C.most_asks self.now + 1) }
+        ensures counted { AddsSteps steps.old steps.new (C.least_asks self.now)
+            (C.most_asks self.now + 1) }
         ensures none { C.items self.now ≡ [] → AddsSteps steps.old steps.new 0 0 }
     {
         self.get_counted(key, steps).is_some()
@@ -70,9 +71,12 @@ impl<K: Measure, V: Eq + Drop, C: Storage<Item<AnyRange<K>, V>>> RangeMap<K, V, 
     /// assert!(rt; map.intersects(9..) && !map.intersects(1..9) && map.get(1).is_none());
     /// ```
     pub fn intersects<R: AsRange<Item = K>>(&self, range: R) -> bool
-        ensures meets { IsTrue result ↔ (¬ IsEmptyRange K.order (R.range range)) × MeetsSome K.order (C.items self.now) (R.range range) }
+        ensures meets { IsTrue result
+            ↔ (¬ IsEmptyRange K.order (R.range range))
+            × MeetsSome K.order (C.items self.now) (R.range range) }
         ensures bound { BindsKeyOf K.order (C.items self.now) (R.range range) → IsTrue result }
-        ensures complete { IsComplete K.order → IsTrue result → BindsKeyOf K.order (C.items self.now) (R.range range) }
+        ensures complete { IsComplete K.order → IsTrue result
+            → BindsKeyOf K.order (C.items self.now) (R.range range) }
     {
         let mut steps = Steps::new();
         self.intersects_counted(range, &mut steps)
@@ -89,10 +93,14 @@ impl<K: Measure, V: Eq + Drop, C: Storage<Item<AnyRange<K>, V>>> RangeMap<K, V, 
     /// assert!(rt; map.intersects_counted(5..9, &mut steps));
     /// ```
     pub fn intersects_counted<R: AsRange<Item = K>>(&self, range: R, steps: &mut Steps) -> bool
-        ensures meets { IsTrue result ↔ (¬ IsEmptyRange K.order (R.range range)) × MeetsSome K.order (C.items self.now) (R.range range) }
+        ensures meets { IsTrue result
+            ↔ (¬ IsEmptyRange K.order (R.range range))
+            × MeetsSome K.order (C.items self.now) (R.range range) }
         ensures bound { BindsKeyOf K.order (C.items self.now) (R.range range) → IsTrue result }
-        ensures complete { IsComplete K.order → IsTrue result → BindsKeyOf K.order (C.items self.now) (R.range range) }
-        ensures counted { ¬ IsEmptyRange K.order (R.range range) → AddsSteps steps.old steps.new (C.least_asks self.now) (C.most_asks self.now + 1) }
+        ensures complete { IsComplete K.order → IsTrue result
+            → BindsKeyOf K.order (C.items self.now) (R.range range) }
+        ensures counted { ¬ IsEmptyRange K.order (R.range range)
+            → AddsSteps steps.old steps.new (C.least_asks self.now) (C.most_asks self.now + 1) }
         ensures none { C.items self.now ≡ [] → AddsSteps steps.old steps.new 0 0 }
         ensures empty_uncounted { IsEmptyRange K.order (R.range range) → steps.new ≡ steps.old }
     {

@@ -15,7 +15,9 @@ fn write_item<K: Debug, V: Debug, W: Write>(
     value: &V,
     f: &mut Formatter<W>,
 ) -> fmt::Result
-    ensures { DisplaysOnOk W.write_str_gives f.old result (item_text K.debug_output V.debug_output (record { key = range.now; value = value.now })) f.new }
+    ensures { DisplaysOnOk W.write_str_gives f.old result
+        (item_text K.debug_output V.debug_output (record { key = range.now; value = value.now }))
+        f.new }
 {
     write!(f, "{range:?}=>{value:?}")
 }
@@ -27,7 +29,8 @@ where
     V: Debug,
     C: Storage<Item<AnyRange<K>, V>>,
     W: Write,
-    ensures { DisplaysOnOk W.write_str_gives f.old result (items_text K.debug_output V.debug_output (C.items stored.now)) f.new }
+    ensures { DisplaysOnOk W.write_str_gives f.old result
+        (items_text K.debug_output V.debug_output (C.items stored.now)) f.new }
 {
     let mut items = Iter::new(stored);
     while let Some((range, value)) = items.next() {

@@ -47,14 +47,18 @@ fn update_within<
     requires values { ClonesAreEqual V.is_clone V.eq }
     requires stored { IsStored K.order V.eq (C.items stored.old) }
     requires nonempty { ¬ IsEmptyRange K.order range }
-    requires window { IsWindowOf K.order (C.is_good stored.old) (C.rank stored.old) (C.items stored.old) range window.now }
+    requires window { IsWindowOf K.order C.is_good C.rank C.items stored.old range window.now }
     requires one { window.now.count ≡ 1 }
-    requires first { IsFirstReaching K.order (C.is_good stored.old) (C.rank stored.old) (C.items stored.old) range window.now (Some p) }
-    requires last { IsLastReaching K.order (C.is_good stored.old) (C.rank stored.old) (C.items stored.old) range window.now (Some p) }
+    requires first { IsFirstReaching K.order C.is_good C.rank C.items stored.old range window.now
+        (Some p) }
+    requires last { IsLastReaching K.order C.is_good C.rank C.items stored.old range window.now
+        (Some p) }
     requires bound { Every (λ i. MayBeAsked F.Fn f.now (Some i.value)) (C.items stored.old) }
-    ensures ok { OnOk result (IsUpdated K.order V.eq F.Fn f.now (C.items stored.old) (C.items stored.new) range) }
+    ensures ok { OnOk result
+        (IsUpdated K.order V.eq F.Fn f.now (C.items stored.old) (C.items stored.new) range) }
     ensures form { IsStored K.order V.eq (C.items stored.new) }
-    ensures closure { (e : E) → result ≡ Err (ClosureError e) → FailsAt K.order V.eq F.Fn f.now (C.items stored.old) range e }
+    ensures closure { (e : E) → result ≡ Err (ClosureError e)
+        → FailsAt K.order V.eq F.Fn f.now (C.items stored.old) range e }
     ensures refused { OnErr result (C.items stored.new ≡ C.items stored.old) }
 {
     inner::known(&range);
@@ -85,9 +89,11 @@ fn update_pieces<
     requires nonempty { ¬ IsEmptyRange K.order range }
     requires free { MayBeAsked F.Fn f.now None }
     requires bound { Every (λ i. MayBeAsked F.Fn f.now (Some i.value)) (C.items stored.old) }
-    ensures ok { OnOk result (IsUpdated K.order V.eq F.Fn f.now (C.items stored.old) (C.items stored.new) range) }
+    ensures ok { OnOk result
+        (IsUpdated K.order V.eq F.Fn f.now (C.items stored.old) (C.items stored.new) range) }
     ensures form { IsStored K.order V.eq (C.items stored.new) }
-    ensures closure { (e : E) → result ≡ Err (ClosureError e) → FailsAt K.order V.eq F.Fn f.now (C.items stored.old) range e }
+    ensures closure { (e : E) → result ≡ Err (ClosureError e)
+        → FailsAt K.order V.eq F.Fn f.now (C.items stored.old) range e }
     ensures refused { OnErr result (C.items stored.new ≡ C.items stored.old) }
 {
     let mut steps = Steps::new();
@@ -134,16 +140,23 @@ impl<K: Measure + Clone, V: Eq + Clone, C: Storage<Item<AnyRange<K>, V>>> RangeM
         requires values { ClonesAreEqual V.is_clone V.eq }
         requires free { MayBeAsked F.Fn f None }
         requires bound { MayBeAskedOfEach F.Fn f (C.items self.old) }
-        ensures updated { OnOk result (¬ IsEmptyRange K.order (R.range range) → IsUpdated K.order V.eq F.Fn f (C.items self.old) (C.items self.new) (R.range range)) }
-        ensures rebound { OnOk result (AreRebound K.order V.eq (MayAnswer F.Fn f) (C.items self.old) (C.items self.new) (R.range range)) }
-        ensures kept { OnOk result (StandOrMerge K.order V.eq (C.items self.old) (C.items self.new) (R.range range)) }
+        ensures updated { OnOk result
+            (¬ IsEmptyRange K.order (R.range range)
+            → IsUpdated K.order V.eq F.Fn f (C.items self.old) (C.items self.new) (R.range range)) }
+        ensures rebound { OnOk result
+            (AreRebound K.order V.eq (MayAnswer F.Fn f) (C.items self.old) (C.items self.new)
+            (R.range range)) }
+        ensures kept { OnOk result
+            (StandOrMerge K.order V.eq (C.items self.old) (C.items self.new) (R.range range)) }
         ensures form { IsStored K.order V.eq (C.items self.new) }
         ensures coarse { IsComplete K.order → IsCoarse K.order V.eq (C.items self.new) }
         ensures only { IsComplete K.order → IsOnlyCoarse K.order V.eq (C.items self.new) }
-        ensures closure { (e : E) → result ≡ Err (ClosureError e) → FailsAt K.order V.eq F.Fn f (C.items self.old) (R.range range) e }
+        ensures closure { (e : E) → result ≡ Err (ClosureError e)
+            → FailsAt K.order V.eq F.Fn f (C.items self.old) (R.range range) e }
         ensures refused { OnErr result (C.items self.new ≡ C.items self.old) }
         ensures empty { IsEmptyRange K.order (R.range range) → IsOk result }
-        ensures empty_unchanged { IsEmptyRange K.order (R.range range) → C.items self.new ≡ C.items self.old }
+        ensures empty_unchanged { IsEmptyRange K.order (R.range range)
+            → C.items self.new ≡ C.items self.old }
     {
         self.in_form();
         inner::known_range(&range);

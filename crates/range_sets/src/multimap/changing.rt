@@ -124,9 +124,9 @@ impl<K: Measure + Clone, S: MaybeEmpty, C: Storage<Item<AnyRange<K>, S>>> RangeM
     ///
     /// A key without a value left is bound no more; each key that has no equal value keeps its set.
     /// An empty range changes nothing. Allocates for a copy of each set that the range meets, for
-    /// clones of bounds, and where more ranges are stored than the container has room for; after an
-    /// error nothing is changed. Costs one search, and a step for each stored range that the range
-    /// meets or touches.
+    /// clones of bounds, and where more ranges are stored than the container has capacity for;
+    /// after an error nothing is changed. Costs one search, and a step for each stored range that
+    /// the range meets or touches.
     ///
     /// ```
     /// classes.remove('0'..='z', &1)?;

@@ -28,16 +28,21 @@ pub fn insert_set<K: Measure + Clone, S: MaybeEmpty, C: Storage<Item<AnyRange<K>
 ) -> Result<bool, MapError>
     requires keys { ClonesAreEqual K.is_clone K.eq }
     requires nonempty { ¬ S.is_void set }
-    ensures met { result ≡ Ok false ↔ (¬ IsEmptyRange K.order range) × MeetsSome K.order (C.items multimap.old) range }
+    ensures met { result ≡ Ok false
+        ↔ (¬ IsEmptyRange K.order range) × MeetsSome K.order (C.items multimap.old) range }
     ensures met_unchanged { result ≡ Ok false → C.items multimap.new ≡ C.items multimap.old }
-    ensures bound { result ≡ Ok true → IsBoundAfter K.order S.eq (C.items multimap.old) (C.items multimap.new) range set }
-    ensures meets { result ≡ Ok true → ¬ IsEmptyRange K.order range → MeetAlso K.order (C.items multimap.old) (C.items multimap.new) range }
-    ensures frame { result ≡ Ok true → ¬ IsEmptyRange K.order range → GaveWayTo K.order S.eq (C.items multimap.old) (C.items multimap.new) range set }
+    ensures bound { result ≡ Ok true
+        → IsBoundAfter K.order S.eq (C.items multimap.old) (C.items multimap.new) range set }
+    ensures meets { result ≡ Ok true → ¬ IsEmptyRange K.order range
+        → MeetAlso K.order (C.items multimap.old) (C.items multimap.new) range }
+    ensures frame { result ≡ Ok true → ¬ IsEmptyRange K.order range
+        → GaveWayTo K.order S.eq (C.items multimap.old) (C.items multimap.new) range set }
     ensures form { IsStored K.order S.eq (C.items multimap.new) }
     ensures nonempty { HasNoEmptySet S.is_void (C.items multimap.new) }
     ensures refused { OnErr result (C.items multimap.new ≡ C.items multimap.old) }
     ensures empty { IsEmptyRange K.order range → result ≡ Ok true }
-    ensures empty_unchanged { IsEmptyRange K.order range → C.items multimap.new ≡ C.items multimap.old }
+    ensures empty_unchanged { IsEmptyRange K.order range
+        → C.items multimap.new ≡ C.items multimap.old }
 {
     insert_disjoint(&mut multimap.map, range, set)
 }

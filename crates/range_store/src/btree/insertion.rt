@@ -1,150 +1,140 @@
-//! The insertion of an item below a node, with the cuts that it causes.
-ghost use Rattle.std.specs.Prelude.{◌≡◌, ℕ, suc, ◌+◌, ◌-◌, ◌*◌, ◌<◌, ◌≤◌, ◌^◌, length, insert, Some, None};
-ghost use Rattle.slab.specs.Slab.{get, HasRoomFor};
-ghost use Rattle.range_store.specs.Nodes.{numbers, items_of, used, ShapedBut, Replaces, Owned, HasTreeRoom, IsReady, IsCuttable, IsTree};
+//! The insertion of an item at a gap below a node, with the cuts that it causes.
+ghost use Rattle.std.specs.Prelude.{◌≡◌, ◌⊎◌, ℕ, suc, ◌+◌, ◌-◌, ◌*◌, ◌<◌, ◌≤◌, ◌^◌, length, insert, None, Some};
+ghost use Rattle.slab.specs.Slab.{get, HasRoomFor, ContainsKey};
+ghost use Rattle.range_store.specs.Nodes.{numbers, items_of, children_of, with_child, tops, separators, ShapedBut, Replaces, Owned, HasTreeRoom, IsTree};
+ghost use Rattle.range_store.specs.Gaps.{IsGap, place, IsSeat, seat_place};
+ghost use Rattle.range_store.specs.Contents.{IsContent, Settles, Divides};
 
 use crate::btree::node::{
-    HALF, LEAST, MOST, Node, Split, attach, count, divide, item_count, put_item, size_from,
-    store_leaf, store_root,
+    HALF, MOST, Node, Split, Wide, child_at, first_part, item_count, overfull, put, second_part,
+    store, write,
 };
-use crate::btree::place::{Spot, descend};
+use crate::btree::way::{DEEPEST, Gap, first_turn, gap_at, seen_above, seen_inside};
 use slab::Slab;
 
-// Cuts a node in two, with `half` items in the first.
-pub fn cut_at(nodes: &mut Slab<Node>, below: usize, number: usize, half: usize) -> Split
-    requires { IsCuttable nodes.old below number half }
-    ensures { Replaces MOST nodes.old nodes.new below number (Some result) (numbers nodes.old (suc below) number) }
-{
-    let _below = below;
-    let _whole = count(nodes, number);
-    let moved = size_from(nodes, number, half + 1) + (item_count(nodes, number) - half - 1);
-    divide(nodes, number, half, moved)
-}
-
-// Cuts a node in two if it has an item too many.
-pub fn cut_overfull(nodes: &mut Slab<Node>, below: usize, number: usize) -> Option<Split>
-    requires { IsReady nodes.old below number }
-    ensures replaces { Replaces MOST nodes.old nodes.new below number result (numbers nodes.old (suc below) number) }
-    ensures left_whole { length (items_of (get nodes.old number)) ≤ MOST → result ≡ None }
-{
-    if item_count(nodes, number) <= MOST {
-        return None;
-    }
-    Some(cut_at(nodes, below, number, HALF))
-}
-
-// Where an item went, and the cut that it caused.
+// What became of a node: it stands alone, or is the first of two; and a gap below it (`side` is 0) or
+// below the second (1).
 #[derive(Clone, Copy)]
-pub struct Inserted {
+pub struct Parts {
     pub split: Option<Split>,
-    pub spot: Spot,
+    pub side: usize,
+    pub gap: Gap,
 }
 
-// Where the item at a place of a leaf is to be looked for after the leaf was cut. It is a hint
-// alone: who follows it sees whether the item still stands there.
-pub fn spot_after(leaf: usize, index: usize, split: Option<Split>) -> Spot {
-    if let Some(Split { right, .. }) = split {
-        if index > HALF {
-            return Spot {
-                node: right,
-                index: index - HALF - 1,
-            };
-        }
+// Writes the first part of a node that has too many items to a node, and the second to a new one.
+pub fn divide(nodes: &mut Slab<Node>, number: usize, wide: &Wide) -> Split
+    requires present { ContainsKey nodes.old number }
+    requires items { length wide.now.items.items ≡ MOST + 1 }
+    requires children { length wide.now.children.items ≤ MOST + 2 }
+    requires room { HasRoomFor nodes.old 1 }
+    ensures { Divides nodes.old nodes.new number HALF wide.now.items.items wide.now.children.items result }
+{
+    let middle = wide.items.as_slice()[HALF];
+    write(nodes, number, first_part(wide, HALF));
+    let right = store(nodes, second_part(wide, HALF));
+    Split { middle, right }
+}
+
+// Puts an item before the one at `index` of a node, and the child that comes with it after the one
+// at `index`; cuts the node in two if it was full. Tells where the gap at a seat comes to lie.
+pub fn put_or_cut(
+    nodes: &mut Slab<Node>,
+    below: usize,
+    number: usize,
+    index: usize,
+    item: usize,
+    child: Option<usize>,
+    seat: usize,
+    inner: Gap,
+) -> Parts
+    requires present { ContainsKey nodes.old number }
+    requires within { index ≤ length (items_of (get nodes.old number)) }
+    requires fits { length (items_of (get nodes.old number)) ≤ MOST }
+    requires children { (child ≡ None × (below ≡ 0)) ⊎ (length (children_of (get nodes.old number)) ≡ length (items_of (get nodes.old number)) + 1) }
+    requires content { IsContent nodes.old below number (insert (items_of (get nodes.old number)) index item) (with_child (children_of (get nodes.old number)) (index + 1) child) }
+    requires room { MOST ≤ length (items_of (get nodes.old number)) → HasRoomFor nodes.old 1 }
+    requires deep { below < DEEPEST }
+    requires seat { IsSeat nodes.old below (insert (items_of (get nodes.old number)) index item) (with_child (children_of (get nodes.old number)) (index + 1) child) seat inner }
+    ensures settles { Settles nodes.old nodes.new below number (insert (items_of (get nodes.old number)) index item) (with_child (children_of (get nodes.old number)) (index + 1) child) result.split }
+    ensures left_whole { length (items_of (get nodes.old number)) < MOST → result.split ≡ None }
+    ensures gap { IsSeat nodes.new (suc below) (separators result.split) (tops number result.split) result.side result.gap }
+    ensures place { seat_place nodes.new (suc below) (separators result.split) (tops number result.split) result.side result.gap ≡ seat_place nodes.old below (insert (items_of (get nodes.old number)) index item) (with_child (children_of (get nodes.old number)) (index + 1) child) seat inner }
+{
+    if item_count(nodes, number) < MOST {
+        put(nodes, number, index, item, child);
+        return Parts {
+            split: None,
+            side: 0,
+            gap: gap_at(below, number, seat, inner),
+        };
     }
-    Spot { node: leaf, index }
+    let wide = overfull(nodes, number, index, item, child);
+    let split = divide(nodes, number, &wide);
+    if seat <= HALF {
+        return Parts {
+            split: Some(split),
+            side: 0,
+            gap: gap_at(below, number, seat, inner),
+        };
+    }
+    Parts {
+        split: Some(split),
+        side: 1,
+        gap: gap_at(below, split.right, seat - HALF - 1, inner),
+    }
 }
 
-// Puts an item before the one of this rank, or last, in the subtree of a node.
+// Puts an item into a gap below a node.
 pub fn insert_below(
     nodes: &mut Slab<Node>,
     below: usize,
     number: usize,
-    rank: usize,
+    gap: Gap,
     item: usize,
-) -> Inserted
+) -> Parts
     requires shaped { ShapedBut 1 MOST nodes.old below number }
     requires owned { Owned nodes.old (suc below) number }
-    requires within { rank ≤ length (numbers nodes.old (suc below) number) }
-    requires small { length (numbers nodes.old (suc below) number) + 1 < 2 ^ 64 }
+    requires gap { IsGap nodes.old below number gap }
+    requires deep { below < DEEPEST }
     requires room { HasTreeRoom nodes.old (suc below) number 1 }
-    ensures replaces { Replaces MOST nodes.old nodes.new below number result.split (insert (numbers nodes.old (suc below) number) rank item) }
+    ensures replaces { Replaces nodes.old nodes.new below number result.split (insert (numbers nodes.old (suc below) number) (place nodes.old below number gap) item) }
     ensures left_whole { length (items_of (get nodes.old number)) < MOST → result.split ≡ None }
+    ensures gap { IsSeat nodes.new (suc below) (separators result.split) (tops number result.split) result.side result.gap }
+    ensures place { seat_place nodes.new (suc below) (separators result.split) (tops number result.split) result.side result.gap ≡ place nodes.old below number gap + 1 }
 {
     if below == 0 {
-        put_item(nodes, number, rank, item);
-        let split = cut_overfull(nodes, below, number);
-        return Inserted {
-            split,
-            spot: spot_after(number, rank, split),
-        };
+        return put_or_cut(
+            nodes,
+            below,
+            number,
+            gap.index,
+            item,
+            None,
+            gap.index + 1,
+            gap,
+        );
     }
-    let place = descend(nodes, below, number, rank);
-    let Inserted { split, spot } = insert_below(nodes, below - 1, place.child, place.rest, item);
-    attach(nodes, number, place.index, place.child, split);
-    let cut = cut_overfull(nodes, below, number);
-    Inserted { split: cut, spot }
-}
-
-// The topmost node of a tree, and how many levels it has.
-#[derive(Clone, Copy)]
-pub struct Root {
-    pub number: usize,
-    pub levels: usize,
-}
-
-// The root of a tree after an insertion, and where the item went.
-#[derive(Clone, Copy)]
-pub struct Placed {
-    pub root: Root,
-    pub spot: Spot,
-}
-
-// Puts an item before the one of this rank, or last, and tells the root of the tree that then
-// stands.
-pub fn insert_into(
-    nodes: &mut Slab<Node>,
-    levels: usize,
-    root: usize,
-    rank: usize,
-    item: usize,
-) -> Placed
-    requires tree { IsTree nodes.old levels root }
-    requires within { rank ≤ length (numbers nodes.old levels root) }
-    requires small { length (numbers nodes.old levels root) + 1 < 2 ^ 64 }
-    requires room { length (numbers nodes.old levels root) + 1 ≤ LEAST * nodes.old.capacity }
-    ensures tree { IsTree nodes.new result.root.levels result.root.number }
-    ensures numbers { numbers nodes.new result.root.levels result.root.number ≡ insert (numbers nodes.old levels root) rank item }
-    ensures capacity { nodes.new.capacity ≡ nodes.old.capacity }
-{
-    if levels == 0 {
-        let number = store_leaf(nodes, item);
-        return Placed {
-            root: Root { number, levels: 1 },
-            spot: Spot {
-                node: number,
-                index: 0,
-            },
-        };
-    }
-    let many = count(nodes, root) + 1;
-    let Inserted { split, spot } = insert_below(nodes, levels - 1, root, rank, item);
-    match split {
-        None => Placed {
-            root: Root {
-                number: root,
-                levels,
-            },
-            spot,
+    let index = first_turn(gap);
+    let child = child_at(nodes, number, index);
+    let inserted = insert_below(nodes, below - 1, child, seen_inside(gap), item);
+    match inserted.split {
+        None => Parts {
+            split: None,
+            side: 0,
+            gap: seen_above(inserted.gap, index),
         },
-        Some(split) => {
-            let number = store_root(nodes, root, split, many);
-            Placed {
-                root: Root {
-                    number,
-                    levels: levels + 1,
-                },
-                spot,
-            }
+        Some(cut) => {
+            let seat = index + inserted.side;
+            put_or_cut(
+                nodes,
+                below,
+                number,
+                index,
+                cut.middle,
+                Some(cut.right),
+                seat,
+                inserted.gap,
+            )
         }
     }
 }

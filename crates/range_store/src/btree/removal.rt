@@ -1,36 +1,109 @@
 //! The removal of an item below a node, with the mending of nodes that it leaves short.
-ghost use Rattle.std.specs.Prelude.{◌≡◌, ◌⊎◌, ℕ, suc, ◌+◌, ◌-◌, ◌*◌, ◌<◌, ◌≤◌, ◌^◌, length, slice_index, remove};
+ghost use Rattle.std.specs.Prelude.{◌≡◌, ◌⊎◌, ℕ, suc, ◌+◌, ◌-◌, ◌*◌, ◌<◌, ◌≤◌, ◌^◌, ◌∷◌, ◌++◌, length, slice_index, slice_set, remove, Bool, true, false, IsSome};
 ghost use Rattle.std.specs.List.{All};
 ghost use Rattle.slab.specs.Slab.{get, ContainsKey};
-ghost use Rattle.range_store.specs.Nodes.{numbers, items_of, children_of, ShapedBut, Owned, Shrinks, IsMendable, IsLevelled, IsTree, IsLooseTree, IsLender, IsNumberAt, child_size};
+ghost use Rattle.range_store.specs.Nodes.{numbers, items_of, children_of, separators, tops, ShapedBut, Owned, Shrinks, IsMendable, IsLevelled, IsTree, IsLooseTree, IsLender, child_size};
+ghost use Rattle.range_store.specs.Gaps.{IsGap, place, seat_of, IsSeat, seat_place};
+ghost use Rattle.range_store.specs.Contents.{IsPair, Rejoins, IsRewritten};
 
-use crate::btree::insertion::{Root, cut_at};
+use crate::btree::insertion::Parts;
 use crate::btree::node::{
-    LEAST, MOST, Node, child_at, count, count_off, detach, item_at, item_count, pool, set_border,
-    size_at, swap_item, take_item,
+    LEAST, MOST, Node, Split, child_at, first_part, item_at, item_count, joined, second_part,
+    set_item, set_pair, take_item, write,
 };
-use crate::btree::place::{Found, descend, find_below, found_from, found_or_behind};
+use crate::btree::way::{DEEPEST, Gap, first_turn, gap_at, seat, seen_above, seen_inside};
 use slab::Slab;
 
+// Makes one node of two and the item between them if there are few items, else gives both as many.
+// Tells where the gap at a seat among all of them comes to lie.
+pub fn rejoin(
+    nodes: &mut Slab<Node>,
+    low: usize,
+    left: usize,
+    middle: usize,
+    right: usize,
+    seat: usize,
+    inner: Gap,
+) -> Parts
+    requires pair { IsPair nodes.old low left right }
+    requires deep { low < DEEPEST }
+    requires seat { IsSeat nodes.old low (items_of (get nodes.old left) ++ middle ∷ items_of (get nodes.old right)) (children_of (get nodes.old left) ++ children_of (get nodes.old right)) seat inner }
+    ensures rejoins { Rejoins nodes.old nodes.new low left middle right result.split }
+    ensures shared { LEAST + LEAST < length (items_of (get nodes.old left)) + 1 + length (items_of (get nodes.old right)) → IsSome result.split }
+    ensures gap { IsSeat nodes.new (suc low) (separators result.split) (tops left result.split) result.side result.gap }
+    ensures place { seat_place nodes.new (suc low) (separators result.split) (tops left result.split) result.side result.gap ≡ seat_place nodes.old low (items_of (get nodes.old left) ++ middle ∷ items_of (get nodes.old right)) (children_of (get nodes.old left) ++ children_of (get nodes.old right)) seat inner }
+{
+    let wide = joined(nodes, left, middle, right);
+    let many = wide.items.len();
+    if many <= LEAST + LEAST {
+        write(nodes, left, first_part(&wide, many));
+        let _ = nodes.remove(right);
+        return Parts {
+            split: None,
+            side: 0,
+            gap: gap_at(low, left, seat, inner),
+        };
+    }
+    let half = many / 2;
+    let middle = wide.items.as_slice()[half];
+    write(nodes, left, first_part(&wide, half));
+    write(nodes, right, second_part(&wide, half));
+    let split = Some(Split { middle, right });
+    if seat <= half {
+        return Parts {
+            split,
+            side: 0,
+            gap: gap_at(low, left, seat, inner),
+        };
+    }
+    Parts {
+        split,
+        side: 1,
+        gap: gap_at(low, right, seat - half - 1, inner),
+    }
+}
+
+// The seat of a gap among the items of two neighbours, from that in the first (`side` is 0) or the
+// second.
+pub fn seat_in_pair(nodes: &Slab<Node>, low: usize, left: usize, side: usize, gap: Gap) -> usize
+    requires present { ContainsKey nodes.now left }
+    requires fits { length (items_of (get nodes.now left)) ≤ MOST }
+    requires small { seat_of low gap ≤ MOST }
+    ensures left { side ≡ 0 → result ≡ seat_of low gap }
+    ensures right { 0 < side → result ≡ length (items_of (get nodes.now left)) + 1 + seat_of low gap }
+{
+    if side == 0 {
+        return seat(low, gap);
+    }
+    item_count(nodes, left) + 1 + seat(low, gap)
+}
+
 // Levels the child at `index` with the one after it: they become one, or two with as many items.
-pub fn level(nodes: &mut Slab<Node>, low: usize, number: usize, index: usize)
-    requires { IsLevelled nodes.old low number index }
+// Tells where a gap below one of them, the child at `turn`, comes to lie.
+pub fn level(
+    nodes: &mut Slab<Node>,
+    low: usize,
+    number: usize,
+    index: usize,
+    turn: usize,
+    gap: Gap,
+) -> Gap
+    requires levelled { IsLevelled nodes.old low number index }
+    requires deep { low + 1 < DEEPEST }
+    requires near { (turn ≡ index) ⊎ (turn ≡ index + 1) }
+    requires gap { IsGap nodes.old low (slice_index (children_of (get nodes.old number)) turn) gap }
     ensures shrinks { Shrinks nodes.old nodes.new (suc low) number (numbers nodes.old (suc (suc low)) number) }
     ensures shared { LEAST + LEAST < child_size nodes.old number index + 1 + child_size nodes.old number (index + 1) → length (items_of (get nodes.new number)) ≡ length (items_of (get nodes.old number)) }
+    ensures gap { IsGap nodes.new (suc low) number result }
+    ensures place { place nodes.new (suc low) number result ≡ seat_place nodes.old (suc low) (items_of (get nodes.old number)) (children_of (get nodes.old number)) turn gap }
 {
-    let _whole = count(nodes, number);
-    let _many = item_count(nodes, number);
-    let middle = item_at(nodes, number, index);
     let left = child_at(nodes, number, index);
     let right = child_at(nodes, number, index + 1);
-    pool(nodes, left, middle, right);
-    let pooled = item_count(nodes, left);
-    if pooled <= LEAST + LEAST {
-        detach(nodes, number, index, left);
-        return;
-    }
-    let split = cut_at(nodes, low, left, pooled / 2);
-    set_border(nodes, number, index, left, split);
+    let middle = item_at(nodes, number, index);
+    let seat = seat_in_pair(nodes, low, left, turn - index, gap);
+    let parts = rejoin(nodes, low, left, middle, right, seat, seen_inside(gap));
+    set_pair(nodes, number, index, parts.split);
+    seen_above(parts.gap, index + parts.side)
 }
 
 // Where the pair begins with which a short child is levelled: a neighbour with an item to spare is
@@ -61,90 +134,134 @@ pub fn pair_start(nodes: &Slab<Node>, number: usize, index: usize) -> usize
 }
 
 // Gives the child at `index` an item if it is short: from a neighbour that has one to spare, else
-// by joining the two.
-pub fn mend(nodes: &mut Slab<Node>, low: usize, number: usize, index: usize)
-    requires { IsMendable nodes.old low number index }
+// by joining the two. Tells where a gap below that child comes to lie.
+pub fn mend(nodes: &mut Slab<Node>, low: usize, number: usize, index: usize, gap: Gap) -> Gap
+    requires mendable { IsMendable nodes.old low number index }
+    requires deep { low + 1 < DEEPEST }
+    requires gap { IsGap nodes.old low (slice_index (children_of (get nodes.old number)) index) gap }
     ensures shrinks { Shrinks nodes.old nodes.new (suc low) number (numbers nodes.old (suc (suc low)) number) }
     ensures lent { (k : ℕ) → IsLender nodes.old number index k → length (items_of (get nodes.new number)) ≡ length (items_of (get nodes.old number)) }
+    ensures gap { IsGap nodes.new (suc low) number result }
+    ensures place { place nodes.new (suc low) number result ≡ seat_place nodes.old (suc low) (items_of (get nodes.old number)) (children_of (get nodes.old number)) index gap }
 {
     let child = child_at(nodes, number, index);
     if item_count(nodes, child) >= LEAST {
-        return;
+        return seen_above(gap, index);
     }
     let first = pair_start(nodes, number, index);
-    level(nodes, low, number, first);
+    level(nodes, low, number, first, index, gap)
 }
 
-// An item that was taken out, and the one that followed it.
-#[derive(Clone, Copy)]
-pub struct Removed {
-    pub item: usize,
-    pub following: Option<Found>,
-}
-
-// Takes the item of this rank out of the subtree of a node, which may be short then.
-pub fn remove_below(nodes: &mut Slab<Node>, below: usize, number: usize, rank: usize) -> Removed
+// Takes the item before a gap out of the subtree of a node, which may be short then. The item
+// stands in a leaf. Tells where the gap then lies.
+pub fn remove_below(nodes: &mut Slab<Node>, below: usize, number: usize, gap: Gap) -> Gap
     requires shaped { ShapedBut 1 MOST nodes.old below number }
     requires owned { Owned nodes.old (suc below) number }
-    requires within { rank < length (numbers nodes.old (suc below) number) }
-    ensures value { result.item ≡ slice_index (numbers nodes.old (suc below) number) rank }
-    ensures following { IsNumberAt (numbers nodes.old (suc below) number) (rank + 1) result.following }
-    ensures shrinks { Shrinks nodes.old nodes.new below number (remove (numbers nodes.old (suc below) number) rank) }
+    requires deep { below < DEEPEST }
+    requires gap { IsGap nodes.old below number gap }
+    requires in_leaf { 0 < gap.index }
+    ensures shrinks { Shrinks nodes.old nodes.new below number (remove (numbers nodes.old (suc below) number) (place nodes.old below number gap - 1)) }
+    ensures gap { IsGap nodes.new below number result }
+    ensures place { place nodes.new below number result + 1 ≡ place nodes.old below number gap }
 {
     if below == 0 {
-        let item = take_item(nodes, number, rank);
-        return Removed {
-            item,
-            following: found_from(nodes, number, rank),
+        take_item(nodes, number, gap.index - 1);
+        return Gap {
+            leaf: number,
+            way: 0,
+            index: gap.index - 1,
         };
     }
-    let place = descend(nodes, below, number, rank);
-    if place.rest < size_at(nodes, number, place.index) {
-        let Removed {
-            item,
-            following: later,
-        } = remove_below(nodes, below - 1, place.child, place.rest);
-        count_off(nodes, number, place.index);
-        let following = found_or_behind(nodes, number, place.index, later);
-        mend(nodes, below - 1, number, place.index);
-        return Removed { item, following };
-    }
-    let next = child_at(nodes, number, place.index + 1);
-    let behind = find_below(nodes, below - 1, next, 0);
-    let Removed { item: before, .. } = remove_below(nodes, below - 1, place.child, place.rest - 1);
-    let item = swap_item(nodes, number, place.index, before);
-    mend(nodes, below - 1, number, place.index);
-    Removed {
-        item,
-        following: Some(behind),
-    }
+    let index = first_turn(gap);
+    let child = child_at(nodes, number, index);
+    let inner = remove_below(nodes, below - 1, child, seen_inside(gap));
+    mend(nodes, below - 1, number, index, inner)
 }
 
-// The root of a tree after a removal: a root with no item goes, and its only child takes its place,
-// if it has one.
-pub fn settle(nodes: &mut Slab<Node>, levels: usize, root: usize) -> Root
-    requires { IsLooseTree nodes.old levels root }
-    ensures tree { IsTree nodes.new result.levels result.number }
-    ensures numbers { numbers nodes.new result.levels result.number ≡ numbers nodes.old levels root }
+// Puts another item in the place of the one before a gap at the beginning of a leaf, if there is one
+// below the node.
+pub fn set_before(
+    nodes: &mut Slab<Node>,
+    below: usize,
+    number: usize,
+    gap: Gap,
+    item: usize,
+) -> bool
+    requires shaped { ShapedBut 1 MOST nodes.old below number }
+    requires owned { Owned nodes.old (suc below) number }
+    requires gap { IsGap nodes.old below number gap }
+    requires at_start { gap.index ≡ 0 }
+    ensures found { result ≡ true → 0 < place nodes.old below number gap }
+    ensures set { result ≡ true → IsRewritten nodes.old nodes.new below number (slice_set (numbers nodes.old (suc below) number) (place nodes.old below number gap - 1) item) }
+    ensures kept { IsGap nodes.new below number gap × (place nodes.new below number gap ≡ place nodes.old below number gap) }
+    ensures none { result ≡ false → (place nodes.old below number gap ≡ 0) × (nodes.new ≡ nodes.old) }
+{
+    if below == 0 {
+        return false;
+    }
+    let index = first_turn(gap);
+    let child = child_at(nodes, number, index);
+    if set_before(nodes, below - 1, child, seen_inside(gap), item) {
+        return true;
+    }
+    if index == 0 {
+        return false;
+    }
+    set_item(nodes, number, index - 1, item);
+    true
+}
+
+// The topmost node of a tree, and how many levels it has.
+#[derive(Clone, Copy)]
+pub struct Root {
+    pub number: usize,
+    pub levels: usize,
+}
+
+// A tree after a removal, and where a gap then lies, if it has a level.
+#[derive(Clone, Copy)]
+pub struct Settled {
+    pub root: Root,
+    pub gap: Gap,
+}
+
+// The tree after a removal: a root with no item goes, and its only child takes its place, if it has
+// one.
+pub fn settle(nodes: &mut Slab<Node>, levels: usize, root: usize, gap: Gap) -> Settled
+    requires tree { IsLooseTree nodes.old levels root }
+    requires gap { IsGap nodes.old (levels - 1) root gap }
+    ensures tree { IsTree nodes.new result.root.levels result.root.number }
+    ensures numbers { numbers nodes.new result.root.levels result.root.number ≡ numbers nodes.old levels root }
     ensures capacity { nodes.new.capacity ≡ nodes.old.capacity }
+    ensures gap { 0 < result.root.levels → IsGap nodes.new (result.root.levels - 1) result.root.number result.gap }
+    ensures place { 0 < result.root.levels → place nodes.new (result.root.levels - 1) result.root.number result.gap ≡ place nodes.old (levels - 1) root gap }
 {
     if item_count(nodes, root) > 0 {
-        return Root {
-            number: root,
-            levels,
+        return Settled {
+            root: Root {
+                number: root,
+                levels,
+            },
+            gap,
         };
     }
     if levels == 1 {
         let _ = nodes.remove(root);
-        return Root {
-            number: 0,
-            levels: 0,
+        return Settled {
+            root: Root {
+                number: 0,
+                levels: 0,
+            },
+            gap,
         };
     }
     let child = child_at(nodes, root, 0);
     let _ = nodes.remove(root);
-    Root {
-        number: child,
-        levels: levels - 1,
+    Settled {
+        root: Root {
+            number: child,
+            levels: levels - 1,
+        },
+        gap: seen_inside(gap),
     }
 }

@@ -3,10 +3,11 @@ ghost use Rattle.std.specs.Prelude.{◌≡◌, ℕ, suc, ◌+◌, ◌-◌, ◌*�
 ghost use Rattle.range_store.specs.Counting.{AddsSteps};
 ghost use Rattle.range_store.specs.Falling.{Falls, passes};
 ghost use Rattle.range_store.specs.Listed.{Stored};
-ghost use Rattle.range_store.specs.Nodes.{numbers, ShapedBut, IsLast};
+ghost use Rattle.range_store.specs.Nodes.{numbers, ShapedBut};
+ghost use Rattle.range_store.specs.Gaps.{IsGap, place, IsLast};
 
-use crate::btree::node::{MOST, Node, count, total};
-use crate::btree::place::{Found, Spot};
+use crate::btree::node::{MOST, Node, child_at, last_of};
+use crate::btree::way::{DEEPEST, Gap, seen_above};
 use crate::storage::Probe;
 use slab::Slab;
 
@@ -37,61 +38,50 @@ pub fn halve<T, P: Probe<T>>(list: &[usize], items: &Slab<T>, probe: &mut P) -> 
     low
 }
 
-// How many items pass, and the last of them.
+// The gap after the items that pass, and the last of them.
 #[derive(Clone, Copy)]
 pub struct Passed {
-    pub count: usize,
-    pub last: Option<Found>,
+    pub gap: Gap,
+    pub last: Option<usize>,
 }
 
-// The number before a place of a node's list, or, where that is the first place, what came before.
-pub fn last_of(list: &[usize], node: usize, place: usize, earlier: Option<Found>) -> Option<Found>
-    requires within { place ≤ length list.now }
-    ensures none { place ≡ 0 → result ≡ earlier }
-    ensures some { 0 < place → IsLast list.now place result }
-{
-    if place == 0 {
-        return earlier;
-    }
-    let index = place - 1;
-    Some(Found {
-        number: list[index],
-        spot: Spot { node, index },
-    })
-}
-
-// Which items below a node pass, by one descent to a leaf.
+// Which items below a node pass, by one way down to a leaf.
 pub fn search_below<T, P: Probe<T>>(
     nodes: &Slab<Node>,
     items: &Slab<T>,
     below: usize,
-    root: usize,
+    number: usize,
     probe: &mut P,
 ) -> Passed
-    requires shaped { ShapedBut 1 MOST nodes.now below root }
-    requires stored { Stored items.now (numbers nodes.now (suc below) root) }
-    requires falls { Falls (passes items.now (P.test probe.old)) (numbers nodes.now (suc below) root) }
-    ensures count { result.count ≡ count_by (passes items.now (P.test probe.old)) (numbers nodes.now (suc below) root) }
-    ensures last { IsLast (numbers nodes.now (suc below) root) result.count result.last }
+    requires shaped { ShapedBut 1 MOST nodes.now below number }
+    requires deep { below < DEEPEST }
+    requires stored { Stored items.now (numbers nodes.now (suc below) number) }
+    requires falls { Falls (passes items.now (P.test probe.old)) (numbers nodes.now (suc below) number) }
+    ensures gap { IsGap nodes.now below number result.gap }
+    ensures count { place nodes.now below number result.gap ≡ count_by (passes items.now (P.test probe.old)) (numbers nodes.now (suc below) number) }
+    ensures last { IsLast (numbers nodes.now (suc below) number) (place nodes.now below number result.gap) result.last }
     ensures kept { P.test probe.new ≡ P.test probe.old }
     ensures asked { AddsSteps (P.steps_taken probe.old) (P.steps_taken probe.new) (suc below) (HALVINGS * suc below) }
 {
-    let _whole = count(nodes, root);
-    let mut number = root;
-    let mut before = 0;
-    let mut last = None;
-    for _level in 0..below {
-        let node = &nodes[number];
-        let list = node.items.as_slice();
-        let index = halve(list, items, probe);
-        last = last_of(list, number, index, last);
-        before += index + total(&node.sizes.as_slice()[..index]);
-        number = node.children.as_slice()[index];
-    }
     let list = nodes[number].items.as_slice();
     let index = halve(list, items, probe);
+    let here = last_of(list, index);
+    if below == 0 {
+        let gap = Gap {
+            leaf: number,
+            way: 0,
+            index,
+        };
+        return Passed { gap, last: here };
+    }
+    let child = child_at(nodes, number, index);
+    let passed = search_below(nodes, items, below - 1, child, probe);
     Passed {
-        count: before + index,
-        last: last_of(list, number, index, last),
+        gap: seen_above(passed.gap, index),
+        last: if passed.last.is_some() {
+            passed.last
+        } else {
+            here
+        },
     }
 }

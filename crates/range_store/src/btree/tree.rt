@@ -1,53 +1,28 @@
-//! A list of numbers by rank, as a B-tree.
-ghost use Rattle.std.specs.Prelude.{◌≡◌, ℕ, ◌+◌, ◌-◌, ◌*◌, ◌<◌, ◌≤◌, ◌^◌, [], length, slice_index, insert, remove, OnOk, IfOk, IfSome, count_by};
-ghost use Rattle.range_store.specs.Occurrences.{occurrences};
+//! The calls of a list of numbers that is kept as a B-tree.
+ghost use Rattle.std.specs.Prelude.{◌≡◌, ℕ, ◌+◌, ◌-◌, ◌*◌, ◌<◌, ◌≤◌, ◌^◌, [], length, slice_index, insert, remove, OnOk, IfOk, MatchOption, count_by, None, Some};
+ghost use Rattle.std.specs.Option.{ForSome};
 ghost use Rattle.range_store.specs.Counting.{AddsSteps};
 ghost use Rattle.range_store.specs.Depth.{HasLevels};
 ghost use Rattle.range_store.specs.Falling.{Falls, passes};
+ghost use Rattle.range_store.specs.Gaps.{IsLast};
 ghost use Rattle.range_store.specs.Listed.{Stored};
-ghost use Rattle.range_store.specs.Nodes.{IsLast, IsNumberAt};
+ghost use Rattle.range_store.specs.Trees.{tree_numbers, tree_room, IsTreeGap, tree_place, IsAt, gap_or_end};
 
-use crate::btree::insertion::{Placed, Root, insert_into};
-use crate::btree::node::{LEAST, MOST, Node, count, item_count};
-use crate::btree::place::{Found, Spot, find_below, found_at, stands_in_leaf};
-use crate::btree::removal::{Removed, remove_below, settle};
+use crate::btree::insertion::insert_below;
+use crate::btree::node::{LEAST, MOST, Node, item_at, leaf_of, node_over, store};
+use crate::btree::number_tree::NumberTree;
+use crate::btree::removal::{Settled, remove_below, set_before, settle};
 use crate::btree::searching::{HALVINGS, Passed, search_below};
+use crate::btree::way::{
+    Found, Gap, end_gap, first_gap, following, gap_before, item_before, seen_above,
+};
 use crate::storage::Probe;
 use slab::Slab;
 use std::alloc::{AllocError, Global};
-use std::marker::Model;
-
-/// A list of numbers by rank, as a B-tree.
-#[derive(Drop)]
-pub struct NumberTree {
-    nodes: Slab<Node>,
-    root: usize,
-    levels: usize,
-}
-
-impl Model for NumberTree {
-    ghost use Rattle.std.specs.Prelude.{◌-◌, ◌*◌, length};
-    ghost use Rattle.range_store.specs.Nodes.{Ranked, ranked_code};
-
-    ghost Value = { Ranked };
-
-    ghost coded = { ranked_code };
-
-    ghost use Rattle.range_store.specs.declared.btree.node.TheConstants.{LEAST};
-    ghost use Rattle.range_store.specs.Nodes.{numbers as numbers_below, IsRoomy};
-
-    ghost view = { λ t. record {
-      numbers = numbers_below t.nodes t.levels t.root;
-      room = LEAST * t.nodes.capacity - length (numbers_below t.nodes t.levels t.root);
-      levels = t.levels;
-    } };
-
-    ghost invariant = { λ t. IsRoomy t.nodes t.levels t.root };
-}
 
 impl NumberTree {
     pub fn new(alloc: Global) -> Self
-        ensures empty { result.numbers ≡ [] }
+        ensures empty { tree_numbers result ≡ [] }
         ensures levels { result.levels ≡ 0 }
     {
         NumberTree {
@@ -58,12 +33,13 @@ impl NumberTree {
     }
 
     /// A copy, with the memory that its own numbers need.
-    pub fn clone(&self) -> Result<Self, AllocError>
-        ensures numbers { IfOk result (λ copy. copy.numbers ≡ self.now.numbers) }
+    pub fn clone(&self, len: usize) -> Result<Self, AllocError>
+        requires { len ≡ length (tree_numbers self.now) }
+        ensures numbers { IfOk result (λ copy. tree_numbers copy ≡ tree_numbers self.now) }
         ensures levels { IfOk result (λ copy. copy.levels ≡ self.now.levels) }
     {
         let mut nodes = self.nodes.clone()?;
-        let wanted = self.len() / LEAST + 1;
+        let wanted = len / LEAST + 1;
         nodes.reserve(wanted.saturating_sub(nodes.len()))?;
         Ok(NumberTree {
             nodes,
@@ -75,60 +51,66 @@ impl NumberTree {
     /// The number of levels.
     pub fn levels(&self) -> usize
         ensures value { result ≡ self.now.levels }
-        ensures empty { length self.now.numbers ≡ 0 → result ≡ 0 }
-        ensures least { 0 < length self.now.numbers → 2 * (LEAST + 1) ^ (result - 1) ≤ length self.now.numbers + 1 }
-        ensures most { 0 < length self.now.numbers → length self.now.numbers + 1 ≤ (MOST + 1) ^ result }
+        ensures levels { HasLevels (length (tree_numbers self.now)) result }
     {
         let _root = self.root;
         self.levels
     }
 
-    /// The number at a rank, and where it stands.
-    pub fn find(&self, rank: usize) -> Found
-        requires { rank < length self.now.numbers }
-        ensures { result.number ≡ slice_index self.now.numbers rank }
+    /// The gap before all numbers.
+    pub fn start(&self) -> Option<Gap>
+        ensures { MatchOption result (tree_numbers self.now ≡ []) (λ g. IsTreeGap self.now g × (tree_place self.now g ≡ 0)) }
     {
-        find_below(&self.nodes, self.levels - 1, self.root, rank)
+        if self.levels == 0 {
+            return None;
+        }
+        Some(first_gap(&self.nodes, self.levels - 1, self.root))
     }
 
-    /// What comes after a number, if that still stands at this place of a leaf and is not the
-    /// last one there. One node is read.
-    pub fn behind(&self, spot: Spot, number: usize) -> Option<Found>
-        requires { (k : ℕ) → occurrences k self.now.numbers ≤ 1 }
-        ensures { IfSome result (λ f. (r : ℕ) → r < length self.now.numbers → slice_index self.now.numbers r ≡ number → (r + 1 < length self.now.numbers) × (slice_index self.now.numbers (r + 1) ≡ f.number)) }
+    /// The gap after all numbers.
+    pub fn end(&self) -> Option<Gap>
+        ensures { MatchOption result (tree_numbers self.now ≡ []) (λ g. IsTreeGap self.now g × (tree_place self.now g ≡ length (tree_numbers self.now))) }
     {
-        if stands_in_leaf(&self.nodes, spot, number) {
-            let many = item_count(&self.nodes, spot.node);
-            let index = spot.index + 1;
-            if index < many {
-                return Some(found_at(&self.nodes, spot.node, index));
-            }
+        if self.levels == 0 {
+            return None;
         }
-        None
+        Some(end_gap(&self.nodes, self.levels - 1, self.root))
     }
 
-    /// What stands before a number, if that still stands at this place of a leaf and is not the
-    /// first one there. One node is read.
-    pub fn before(&self, spot: Spot, number: usize) -> Option<Found>
-        requires { (k : ℕ) → occurrences k self.now.numbers ≤ 1 }
-        ensures { IfSome result (λ f. (r : ℕ) → r < length self.now.numbers → slice_index self.now.numbers r ≡ number → (0 < r) × (slice_index self.now.numbers (r - 1) ≡ f.number)) }
+    /// The number after a gap.
+    pub fn following(&self, gap: Gap) -> Option<Found>
+        requires { IsTreeGap self.now gap }
+        ensures { IsAt self.now result (tree_place self.now gap) }
     {
-        if stands_in_leaf(&self.nodes, spot, number) {
-            if spot.index > 0 {
-                return Some(found_at(&self.nodes, spot.node, spot.index - 1));
-            }
-        }
-        None
+        following(&self.nodes, self.levels - 1, self.root, gap)
+    }
+
+    /// The number before a gap.
+    pub fn preceding(&self, gap: Gap) -> Option<Found>
+        requires { IsTreeGap self.now gap }
+        ensures { MatchOption result (tree_place self.now gap ≡ 0) (λ f. (f.gap ≡ gap) × (0 < tree_place self.now gap) × (f.number ≡ slice_index (tree_numbers self.now) (tree_place self.now gap - 1))) }
+    {
+        let number = item_before(&self.nodes, self.levels - 1, self.root, gap)?;
+        Some(Found { number, gap })
+    }
+
+    /// The gap before the number before a gap.
+    pub fn gap_before(&self, gap: Gap) -> Option<Gap>
+        requires { IsTreeGap self.now gap }
+        ensures { MatchOption result (tree_place self.now gap ≡ 0) (λ h. IsTreeGap self.now h × (tree_place self.now h + 1 ≡ tree_place self.now gap)) }
+    {
+        gap_before(&self.nodes, self.levels - 1, self.root, gap)
     }
 
     /// Reserves capacity for `additional` more numbers.
-    pub fn reserve(&mut self, additional: usize) -> Result<(), AllocError>
-        ensures room { OnOk result (additional ≤ self.new.room) }
-        ensures no_less { self.old.room ≤ self.new.room }
-        ensures numbers { self.new.numbers ≡ self.old.numbers }
+    pub fn reserve(&mut self, len: usize, additional: usize) -> Result<(), AllocError>
+        requires { len ≡ length (tree_numbers self.old) }
+        ensures room { OnOk result (additional ≤ tree_room self.new) }
+        ensures no_less { tree_room self.old ≤ tree_room self.new }
+        ensures numbers { tree_numbers self.new ≡ tree_numbers self.old }
         ensures levels { self.new.levels ≡ self.old.levels }
+        ensures gaps { (g : Gap) → IsTreeGap self.old g → IsTreeGap self.new g × (tree_place self.new g ≡ tree_place self.old g) }
     {
-        let len = self.len();
         if additional > usize::MAX - len {
             return Err(AllocError);
         }
@@ -136,72 +118,97 @@ impl NumberTree {
         self.nodes.reserve(wanted.saturating_sub(self.nodes.len()))
     }
 
-    /// How many numbers there are.
-    pub fn len(&self) -> usize
-        ensures { result ≡ length self.now.numbers }
+    /// Puts a number into a gap, or after all others, and tells the gap after it.
+    pub fn insert(&mut self, gap: Option<Gap>, number: usize) -> Gap
+        requires gap { ForSome gap (IsTreeGap self.old) }
+        requires room { 1 ≤ tree_room self.old }
+        requires small { length (tree_numbers self.old) + 1 < 2 ^ 64 }
+        ensures numbers { tree_numbers self.new ≡ insert (tree_numbers self.old) (gap_or_end self.old gap) number }
+        ensures room { tree_room self.new + 1 ≡ tree_room self.old }
+        ensures gap { IsTreeGap self.new result }
+        ensures place { tree_place self.new result ≡ gap_or_end self.old gap + 1 }
     {
-        if self.levels == 0 {
-            0
-        } else {
-            count(&self.nodes, self.root)
+        let Some(gap) = gap.or(self.end()) else {
+            self.root = store(&mut self.nodes, leaf_of(number));
+            self.levels = 1;
+            return Gap {
+                leaf: self.root,
+                way: 0,
+                index: 1,
+            };
+        };
+        let inserted = insert_below(&mut self.nodes, self.levels - 1, self.root, gap, number);
+        match inserted.split {
+            None => inserted.gap,
+            Some(split) => {
+                self.root = store(&mut self.nodes, node_over(self.root, split));
+                self.levels += 1;
+                seen_above(inserted.gap, inserted.side)
+            }
         }
     }
 
-    /// Puts a number before the one at a rank, or last, and tells where it went.
-    pub fn insert(&mut self, rank: usize, number: usize) -> Spot
-        requires within { rank ≤ length self.old.numbers }
-        requires room { 1 ≤ self.old.room }
-        requires small { length self.old.numbers + 1 < 2 ^ 64 }
-        ensures numbers { self.new.numbers ≡ insert self.old.numbers rank number }
-        ensures room { self.new.room + 1 ≡ self.old.room }
-        ensures levels { HasLevels (length self.new.numbers) self.new.levels }
+    /// Takes the number before a gap out, and tells what followed it.
+    pub fn remove(&mut self, gap: Gap) -> Option<Found>
+        requires gap { IsTreeGap self.old gap }
+        requires some { 0 < tree_place self.old gap }
+        ensures numbers { tree_numbers self.new ≡ remove (tree_numbers self.old) (tree_place self.old gap - 1) }
+        ensures room { tree_room self.new ≡ tree_room self.old + 1 }
+        ensures following { IsAt self.new result (tree_place self.old gap - 1) }
     {
-        let Placed { root, spot } = insert_into(
-            &mut self.nodes,
-            self.levels,
-            self.root,
-            rank,
-            number,
-        );
-        self.root = root.number;
-        self.levels = root.levels;
-        spot
+        if gap.index > 0 {
+            let gap = self.remove_in_leaf(gap)?;
+            return self.following(gap);
+        }
+        let number = item_at(&self.nodes, gap.leaf, 0);
+        let _set = set_before(&mut self.nodes, self.levels - 1, self.root, gap, number);
+        let behind = Gap {
+            leaf: gap.leaf,
+            way: gap.way,
+            index: 1,
+        };
+        let gap = self.remove_in_leaf(behind)?;
+        Some(Found { number, gap })
     }
 
-    /// Takes the number at a rank out, and tells what followed it.
-    pub fn remove(&mut self, rank: usize) -> Removed
-        requires { rank < length self.old.numbers }
-        ensures value { result.item ≡ slice_index self.old.numbers rank }
-        ensures following { IsNumberAt self.new.numbers rank result.following }
-        ensures numbers { self.new.numbers ≡ remove self.old.numbers rank }
-        ensures room { self.new.room ≡ self.old.room + 1 }
-        ensures levels { HasLevels (length self.new.numbers) self.new.levels }
+    // Takes the number before a gap out of its leaf. Tells where the gap then lies, if the tree is
+    // not empty.
+    fn remove_in_leaf(&mut self, gap: Gap) -> Option<Gap>
+        requires gap { IsTreeGap self.old gap }
+        requires in_leaf { 0 < gap.index }
+        ensures numbers { tree_numbers self.new ≡ remove (tree_numbers self.old) (tree_place self.old gap - 1) }
+        ensures capacity { self.new.nodes.capacity ≡ self.old.nodes.capacity }
+        ensures gap { MatchOption result (tree_numbers self.new ≡ []) (λ g. IsTreeGap self.new g × (tree_place self.new g + 1 ≡ tree_place self.old gap)) }
     {
-        let removed = remove_below(&mut self.nodes, self.levels - 1, self.root, rank);
-        let Root {
-            number: root,
-            levels,
-        } = settle(&mut self.nodes, self.levels, self.root);
-        self.root = root;
-        self.levels = levels;
-        removed
+        let left = remove_below(&mut self.nodes, self.levels - 1, self.root, gap);
+        let Settled { root, gap } = settle(&mut self.nodes, self.levels, self.root, left);
+        self.root = root.number;
+        self.levels = root.levels;
+        if self.levels == 0 {
+            return None;
+        }
+        Some(gap)
     }
 
     /// Which numbers' items pass the probe's test, which holds on a front of them alone.
-    pub fn search<T, P: Probe<T>>(&self, items: &Slab<T>, probe: &mut P) -> Passed
-        requires stored { Stored items.now self.now.numbers }
-        requires falls { Falls (passes items.now (P.test probe.old)) self.now.numbers }
-        ensures count { result.count ≡ count_by (passes items.now (P.test probe.old)) self.now.numbers }
-        ensures last { IsLast self.now.numbers result.count result.last }
+    pub fn search<T, P: Probe<T>>(&self, items: &Slab<T>, probe: &mut P) -> Option<Found>
+        requires stored { Stored items.now (tree_numbers self.now) }
+        requires falls { Falls (passes items.now (P.test probe.old)) (tree_numbers self.now) }
+        ensures last { MatchOption result (count_by (passes items.now (P.test probe.old)) (tree_numbers self.now) ≡ 0) (λ f. IsTreeGap self.now f.gap × (tree_place self.now f.gap ≡ count_by (passes items.now (P.test probe.old)) (tree_numbers self.now)) × IsLast (tree_numbers self.now) (tree_place self.now f.gap) (Some f.number)) }
         ensures kept { P.test probe.new ≡ P.test probe.old }
         ensures asked { AddsSteps (P.steps_taken probe.old) (P.steps_taken probe.new) self.now.levels (HALVINGS * self.now.levels) }
     {
         if self.levels == 0 {
-            return Passed {
-                count: 0,
-                last: None,
-            };
+            return None;
         }
-        search_below(&self.nodes, items, self.levels - 1, self.root, probe)
+        let Passed { gap, last } = search_below(
+            &self.nodes,
+            items,
+            self.levels - 1,
+            self.root,
+            probe,
+        );
+        let number = last?;
+        Some(Found { number, gap })
     }
 }

@@ -43,11 +43,11 @@ returns g c =
     let on_right = subst (λ n. IsRightShape (storage.is_good stored) (storage.rank stored) items c.in_ok-behind.behind n (place + w.count) right.rest None) (sym (ap (λ n. n + count) here)) (rw edge_behind right.shape) in
     let none : joined_count c.in_ok-before.before ≡ 0 = ap joined_count edge ∙ cut_joins_none first end in
     let none_behind : joined_count c.in_ok-behind.behind ≡ 0 = ap joined_count edge_behind ∙ cut_joins_none last start in
-    let done = c.clear.ensures place (place + w.count) left.rest right.rest None None on_left on_right (omega (arith, none, none_behind)) in
-    let frame = cut_way order lawful same equal (storage.is_good stored) (storage.rank stored) items r w place c.requires.stored c.known_range.ensures c.requires.window (storage.items c.clear.new.stored) left.rest right.rest c.requires.some left.made right.made left.few right.few done in
-    let size = changed_length items (storage.items c.clear.new.stored) (option_items left.rest) [] (option_items right.rest) place (place + w.count) (omega (arith, c.requires.window.in_range)) c.requires.window.in_range done in
+    let done = c.change.ensures place (place + w.count) left.rest right.rest None None on_left on_right (omega (arith, none, none_behind)) in
+    let frame = cut_way order lawful same equal (storage.is_good stored) (storage.rank stored) items r w place c.requires.stored c.known_range.ensures c.requires.window (storage.items c.change.new.stored) left.rest right.rest c.requires.some left.made right.made left.few right.few done in
+    let size = changed_length items (storage.items c.change.new.stored) (option_items left.rest) [] (option_items right.rest) place (place + w.count) (omega (arith, c.requires.window.in_range)) c.requires.window.in_range done in
     record {
-      ok = edges_remove order lawful same equal (storage.is_good stored) (storage.rank stored) items r w place c.requires.stored c.known_range.ensures c.requires.nonempty c.requires.window (storage.items c.clear.new.stored) place (place + w.count) left.rest right.rest left.side right.side frame done;
+      ok = edges_remove order lawful same equal (storage.is_good stored) (storage.rank stored) items r w place c.requires.stored c.known_range.ensures c.requires.nonempty c.requires.window (storage.items c.change.new.stored) place (place + w.count) left.rest right.rest left.side right.side frame done;
       few = omega (arith, size, one_item left.rest, one_item right.rest, c.requires.some);
       refused = tt;
     }

@@ -1,5 +1,5 @@
 use Rattle.std.proofs.Common.{arith}
-use Rattle.range_sets.proofs.Ranges.{ranges_length}
+use Rattle.range_sets.proofs.Counting.{ranges_length}
 use Rattle.range_sets.proofs.into_iter.IntoIterIterator.size_hint.Goals as goal
 
 pub returns-clause-lower : goal.returns-clause-lower

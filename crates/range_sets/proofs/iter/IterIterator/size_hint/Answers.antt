@@ -1,4 +1,4 @@
-use Rattle.range_sets.proofs.Ranges.{ranges_length}
+use Rattle.range_sets.proofs.Counting.{ranges_length}
 use Rattle.range_sets.proofs.iter.IterIterator.size_hint.Goals as goal
 
 pub returns-clause-lower : goal.returns-clause-lower

@@ -1,7 +1,11 @@
-use Rattle.std.proofs.Common.{◌+◌, arith}
-use Rattle.range_store.specs.Holding.{box_length}
-use Rattle.range_store.proofs.Positions.{at_from}
+use Rattle.std.proofs.Common.{◌≡◌, ◌+◌, ◌-◌, arith}
+use Rattle.range_store.specs.Trees.{tree_place}
+use Rattle.range_store.proofs.Positions.{position_at}
 use Rattle.range_store.proofs.btree.BoxStorageStorage.next.Goals as goal
 
-pub returns-in-None : goal.returns-in-None
-returns-in-None g c = rw (box_length c.args.self.now) (at_from _ _ _ (c.args.p.rank + 1) c.at.result (omega (arith, c.requires.within)) c.at.ensures)
+pub returns : goal.returns
+returns g c =
+    let s = c.args.self.now in
+    let place = tree_place s.tree c.args.p.found.gap in
+    let same : place - 1 + 1 ≡ place = omega (arith, c.requires.some) in
+    rw same (position_at s place c.following.result c.position.result c.position.ensures c.following.ensures)

@@ -1,7 +1,9 @@
-use Rattle.std.proofs.Common.{arith}
-use Rattle.range_store.specs.Holding.{box_length}
+use Rattle.range_store.specs.Holding.{box_rank, good_in_range}
 use Rattle.range_store.proofs.Positions.{popped_first}
 use Rattle.range_store.proofs.btree.BoxStorageStorage.pop_first.Goals as goal
 
-pub returns-else-len-eq0-clause-list : goal.returns-else-len-eq0-clause-list
-returns-else-len-eq0-clause-list g c = popped_first _ _ c.take.result.0 (omega (arith, box_length c.args.self.now, c.len.ensures)) c.take.ensures.removed c.take.ensures.list
+pub returns-clause-list : goal.returns-clause-list
+returns-clause-list g c =
+    let s = c.args.self.now in
+    let first = c.in_ok-first.first.found in
+    popped_first _ _ c.take.result.0 (box_rank s first) c.in_ok-first.ensures.1 (good_in_range s first c.in_ok-first.ensures.0) c.take.ensures.removed c.take.ensures.list

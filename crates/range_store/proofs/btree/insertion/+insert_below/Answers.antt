@@ -1,113 +1,217 @@
-use Rattle.std.proofs.Common.{◌≡◌, ℕ, suc, ◌+◌, ◌-◌, ◌<◌, ◌≤◌, length, get_or, ap, arith, None, IsSome}
-use Rattle.std.proofs.lemmas.List.Elements.{All-weaker}
+use Rattle.std.proofs.Common.{◌+◌, ◌-◌, get_or, ◌∙◌, arith, inr, Some, None}
 use Rattle.std.specs.List.{insert}
 use Rattle.std.proofs.lemmas.List.Edits.{length-insert}
 use Rattle.slab.specs.Slab.{get}
 use Rattle.range_store.specs.declared.btree.node.TheConstants.{MOST}
-use Rattle.range_store.specs.Nodes.{numbers, items_of, children_of, tops, ShapedBut, Replaces}
-use Rattle.range_store.proofs.Below.{sizes_many}
-use Rattle.range_store.proofs.Replace.{EnoughFor-any}
-use Rattle.range_store.proofs.Insert.{grown_is_ready, grown_then_cut, length-attached, leaf_step, leaf_within, kids_many, kid_owned, kid_apart, kid_smaller, kid_room, kid_shaped, but_from_shaped, inner_grown}
+use Rattle.range_store.specs.Nodes.{items_of, children_of}
+use Rattle.range_store.specs.Gaps.{turn, inside, place}
+use Rattle.range_store.proofs.Gaps.{way_small, leaf_index, leaf_place}
+use Rattle.range_store.proofs.Below.{children_length}
+use Rattle.range_store.proofs.Room.{HasTreeRoom-child}
+use Rattle.range_store.proofs.Seats.{seat_alone, seat_inside, seat_side}
+use Rattle.range_store.proofs.Ways.{level, child_within, below_kid, below_turn, below_inside, below_here, below_most}
+use Rattle.range_store.proofs.Leaves.{leaf_content, leaf_moved, leaf_listed, leaf_longer, leaf_seat, leaf_seat_place}
+use Rattle.range_store.proofs.Growing.{kid_owned, none_replaces, none_gap, some_items, some_children, grown_kept, grown_moved, grown_content, grown_listed, grown_longer, grown_seat, content_room, settled_replaces}
 use Rattle.range_store.proofs.btree.insertion.+insert_below.Goals as goal
-use Rattle.range_store.proofs.btree.insertion.+insert_below.Goals.{After-put_item, After-insert_below-split, After-attach}
 
-pub put_item-requires-clause-within : goal.put_item-requires-clause-within
-put_item-requires-clause-within t c = leaf_within c.args.nodes.now c.args.below c.args.number c.args.rank c.if-below-eq0.true c.requires.shaped c.requires.within
+pub overflow_add-gap : goal.overflow_add-gap
+overflow_add-gap t c = omega (arith, leaf_index c.args.nodes.now c.args.number c.args.gap (rw c.if-below-eq0.true at c.requires.gap), c.requires.shaped.node.fits)
 
-pub cut_overfull-split-requires : goal.cut_overfull-split-requires
-cut_overfull-split-requires t c =
-    let r = c.args.nodes.now in
-    let s = c.put_item.new.nodes in
-    let step = leaf_step r s c.args.below c.args.number c.args.rank c.args.item c.if-below-eq0.true c.requires.shaped c.requires.within c.put_item.ensures.rewritten c.put_item.ensures.items c.put_item.ensures.children c.put_item.ensures.sizes c.put_item.ensures.count in
-    grown_is_ready r s c.args.below c.args.number c.args.rank c.args.item c.requires.shaped c.requires.owned c.requires.within c.requires.room step
+pub put_or_cut-requires-clause-within : goal.put_or_cut-requires-clause-within
+put_or_cut-requires-clause-within t c = leaf_index c.args.nodes.now c.args.number c.args.gap (rw c.if-below-eq0.true at c.requires.gap)
+
+pub put_or_cut-requires-clause-content : goal.put_or_cut-requires-clause-content
+put_or_cut-requires-clause-content t c =
+    rw c.if-below-eq0.true (leaf_content c.args.nodes.now c.args.number c.args.gap.index c.args.item (rw c.if-below-eq0.true at c.requires.shaped) (rw c.if-below-eq0.true at c.requires.owned))
+
+pub put_or_cut-requires-clause-room : goal.put_or_cut-requires-clause-room
+put_or_cut-requires-clause-room t c = λ full.
+    let shaped = rw c.if-below-eq0.true at c.requires.shaped in
+    let low = leaf_index c.args.nodes.now c.args.number c.args.gap (rw c.if-below-eq0.true at c.requires.gap) in
+    let long = length-insert (items_of (get c.args.nodes.now c.args.number)) c.args.gap.index c.args.item low in
+    content_room c.args.nodes.now c.args.nodes.now 0 c.args.number (insert (items_of (get c.args.nodes.now c.args.number)) c.args.gap.index c.args.item) (children_of (get c.args.nodes.now c.args.number)) (leaf_moved c.args.nodes.now c.args.number c.args.gap.index c.args.item shaped) (leaf_content c.args.nodes.now c.args.number c.args.gap.index c.args.item shaped (rw c.if-below-eq0.true at c.requires.owned)) (leaf_longer c.args.nodes.now c.args.number c.args.gap.index c.args.item shaped low) (rw c.if-below-eq0.true at c.requires.room) (omega (arith, long, full))
+
+pub put_or_cut-requires-clause-seat : goal.put_or_cut-requires-clause-seat
+put_or_cut-requires-clause-seat t c =
+    let low = leaf_index c.args.nodes.now c.args.number c.args.gap (rw c.if-below-eq0.true at c.requires.gap) in
+    rw c.if-below-eq0.true (leaf_seat c.args.nodes.now _ _ (c.args.gap.index + 1) c.args.gap (omega (arith, low, length-insert (items_of (get c.args.nodes.now c.args.number)) c.args.gap.index c.args.item low)))
 
 pub returns-then-below-eq0-clause-replaces : goal.returns-then-below-eq0-clause-replaces
 returns-then-below-eq0-clause-replaces t c =
-    let r = c.args.nodes.now in
-    let s = c.put_item.new.nodes in
-    let step = leaf_step r s c.args.below c.args.number c.args.rank c.args.item c.if-below-eq0.true c.requires.shaped c.requires.within c.put_item.ensures.rewritten c.put_item.ensures.items c.put_item.ensures.children c.put_item.ensures.sizes c.put_item.ensures.count in
-    grown_then_cut r s c.cut_overfull-split.new.nodes c.args.below c.args.number c.cut_overfull-split.result _ c.requires.shaped.node.present step c.cut_overfull-split.ensures.replaces
+    let shaped = rw c.if-below-eq0.true at c.requires.shaped in
+    let low = leaf_index c.args.nodes.now c.args.number c.args.gap (rw c.if-below-eq0.true at c.requires.gap) in
+    let long = length-insert (items_of (get c.args.nodes.now c.args.number)) c.args.gap.index c.args.item low in
+    rw (c.if-below-eq0.true, leaf_place c.args.nodes.now c.args.number c.args.gap) (settled_replaces c.args.nodes.now c.args.nodes.now c.put_or_cut.new.nodes 0 c.args.number _ _ _ c.put_or_cut.result.split (leaf_moved c.args.nodes.now c.args.number c.args.gap.index c.args.item shaped) (leaf_listed c.args.nodes.now c.args.number c.args.gap.index c.args.item shaped) (omega (arith, long)) (rw c.if-below-eq0.true at c.put_or_cut.ensures.settles))
 
-pub insert_below-split-requires : goal.insert_below-split-requires
-insert_below-split-requires t c =
-    let s = c.args.nodes.now in
-    let below = c.args.below in
-    let n = c.args.number in
-    let i = c.descend-place.result.index in
-    let inner : 0 < below = omega arith in
-    let level : suc (below - 1) ≡ below = omega arith in
-    let kid = c.descend-place.ensures.child in
-    let index = c.descend-place.ensures.index in
-    let shaped = c.requires.shaped in
-    let owned = c.requires.owned in
-    let smaller = kid_smaller s below n i inner shaped owned index in
-    rw (kid, level) (
-      omega (arith, c.decreases),
-      (
-        but_from_shaped s below (get_or (children_of (get s n)) i 0) inner (kid_shaped s below n i inner shaped owned index),
-        (
-          kid_owned s below n i inner shaped owned index,
-          (
-            rw kid at c.descend-place.ensures.rest,
-            (
-              omega (arith, smaller, c.requires.small),
-              kid_room s below n i inner shaped owned index c.requires.room,
-            ),
-          ),
-        ),
-      ),
-    )
+pub returns-then-below-eq0-clause-place : goal.returns-then-below-eq0-clause-place
+returns-then-below-eq0-clause-place t c =
+    let at = rw c.if-below-eq0.true at c.put_or_cut.ensures.place in
+    rw (c.if-below-eq0.true, leaf_place c.args.nodes.now c.args.number c.args.gap) (at ∙ leaf_seat_place c.args.nodes.now _ _ (c.args.gap.index + 1) c.args.gap)
 
--- the node itself is as it was, after the child was written
-kept : (t : ℕ) (c : After-insert_below-split t) → get c.insert_below-split.new.nodes c.args.number ≡ get c.args.nodes.now c.args.number
-kept t c =
-    let s = c.args.nodes.now in
-    let level : suc (c.args.below - 1) ≡ c.args.below = omega arith in
-    let apart = kid_apart s c.args.below c.args.number c.descend-place.result.index (omega arith) c.requires.shaped c.requires.owned c.descend-place.ensures.index in
-    c.insert_below-split.ensures.replaces.outside c.args.number (rw (level, c.descend-place.ensures.child) apart) c.requires.shaped.node.present
+pub child_at-child-requires-clause-within : goal.child_at-child-requires-clause-within
+child_at-child-requires-clause-within t c =
+    rw c.first_turn-index.ensures (child_within c.args.nodes.now c.args.below c.args.number c.if-below-eq0.false c.requires.shaped _ (below_turn c.args.nodes.now c.args.below c.args.number c.if-below-eq0.false c.requires.shaped c.args.gap c.requires.gap))
 
-pub attach-requires : goal.attach-requires
-attach-requires t c =
-    let s = c.args.nodes.now in
-    let many = kids_many s c.args.below c.args.number c.descend-place.result.index (omega arith) c.requires.shaped c.requires.owned c.descend-place.ensures.index in
-    let same = kept t (goal.at.attach-requires t c).After-insert_below-split in
-    let s' = c.insert_below-split.new.nodes in
-    let kid = c.descend-place.ensures.child in
-    let but = but_from_shaped s c.args.below (get_or (children_of (get s c.args.number)) c.descend-place.result.index 0) (omega arith) (kid_shaped s c.args.below c.args.number c.descend-place.result.index (omega arith) c.requires.shaped c.requires.owned c.descend-place.ensures.index) in
-    let kid_enough : 1 ≤ length (items_of (get s c.descend-place.result.child)) = rw kid but.node.enough in
-    record {
-      present = rw same c.requires.shaped.node.present;
-      within = rw same c.descend-place.ensures.index;
-      items_room = rw same (omega (arith, c.requires.shaped.node.fits));
-      children = rw same many;
-      sizes = rw same (sizes_many 1 MOST s c.args.below c.args.number (omega arith) c.requires.shaped);
-      stored = All-weaker (ShapedBut 1 MOST s' (c.args.below - 1)) (λ k. IsSome (get s' k)) (λ k h. h.node.present) (tops c.descend-place.result.child c.insert_below-split.result.split) (c.insert_below-split.ensures.replaces.shape 1 (omega arith) (EnoughFor-any 1 c.insert_below-split.result.split _ kid_enough));
-      small = rw same (omega (arith, c.requires.shaped.node.counted, c.requires.small));
-    }
+pub insert_below-inserted-requires : goal.insert_below-inserted-requires
+insert_below-inserted-requires t c =
+    let low = below_turn c.args.nodes.now c.args.below c.args.number c.if-below-eq0.false c.requires.shaped c.args.gap c.requires.gap in
+    let kid = below_kid c.args.nodes.now c.args.below c.args.number c.if-below-eq0.false c.requires.shaped (turn c.args.gap) low in
+    let is = below_inside c.args.nodes.now c.args.below c.args.number c.if-below-eq0.false c.requires.shaped c.args.gap c.requires.gap in
+    let back = level c.args.nodes.now c.args.below c.args.number c.if-below-eq0.false c.requires.shaped in
+    let owned = kid_owned c.args.nodes.now c.args.below c.args.number (turn c.args.gap) c.requires.owned (child_within c.args.nodes.now c.args.below c.args.number c.if-below-eq0.false c.requires.shaped _ low) in
+    let room = HasTreeRoom-child MOST c.args.nodes.now c.args.below c.args.number (turn c.args.gap) 1 (omega arith) low c.requires.shaped c.requires.room in
+    (omega (arith, c.if-below-eq0.false), rw (c.child_at-child.ensures, c.first_turn-index.ensures, c.seen_inside.ensures) (kid, (rw (← back) at owned, (is, (omega (arith, c.requires.deep), rw (← back) at room)))))
 
--- the child and the node are written, and the node may be overfull
-step : (t : ℕ) (c : After-attach t) → get c.insert_below-split.new.nodes c.args.number ≡ get c.args.nodes.now c.args.number → Replaces (MOST + 1) c.args.nodes.now c.attach.new.nodes c.args.below c.args.number None (insert (numbers c.args.nodes.now (suc c.args.below) c.args.number) c.args.rank c.args.item)
-step t c same =
-    let s = c.args.nodes.now in
-    let kid = c.descend-place.ensures.child in
-    inner_grown s c.insert_below-split.new.nodes c.attach.new.nodes c.args.below c.args.number c.descend-place.result.index c.descend-place.result.rest c.args.rank c.args.item c.insert_below-split.result.split (omega arith) c.requires.shaped c.requires.owned c.descend-place.ensures.index (rw kid at c.descend-place.ensures.rest) c.descend-place.ensures.rank (rw kid at c.insert_below-split.ensures.replaces) same c.attach.ensures.rewritten c.attach.ensures.items c.attach.ensures.children (rw kid at c.attach.ensures.sizes) c.attach.ensures.count
+pub seen_above-requires-clause-index : goal.seen_above-requires-clause-index
+seen_above-requires-clause-index t c =
+    omega (arith, c.first_turn-index.ensures, below_turn c.args.nodes.now c.args.below c.args.number c.if-below-eq0.false c.requires.shaped c.args.gap c.requires.gap, c.requires.shaped.node.fits)
 
-pub cut_overfull-cut-requires : goal.cut_overfull-cut-requires
-cut_overfull-cut-requires t c =
-    grown_is_ready c.args.nodes.now c.attach.new.nodes c.args.below c.args.number c.args.rank c.args.item c.requires.shaped c.requires.owned c.requires.within c.requires.room (step t (goal.at.cut_overfull-cut-requires t c).After-attach (kept t (goal.at.cut_overfull-cut-requires t c).After-insert_below-split))
+pub returns-in-None-clause-replaces : goal.returns-in-None-clause-replaces
+returns-in-None-clause-replaces t c =
+    let i = turn c.args.gap in
+    let low = below_turn c.args.nodes.now c.args.below c.args.number c.if-below-eq0.false c.requires.shaped c.args.gap c.requires.gap in
+    let rest = place c.args.nodes.now (c.args.below - 1) (get_or (children_of (get c.args.nodes.now c.args.number)) (turn c.args.gap) 0) (inside c.args.gap) in
+    let within = below_most c.args.nodes.now c.args.below c.args.number c.if-below-eq0.false c.requires.shaped i (inside c.args.gap) low (below_inside c.args.nodes.now c.args.below c.args.number c.if-below-eq0.false c.requires.shaped c.args.gap c.requires.gap) in
+    let child = rw c.in-None.is at (rw (c.child_at-child.ensures, c.first_turn-index.ensures, c.seen_inside.ensures) at c.insert_below-inserted.ensures.replaces) in
+    rw (below_here c.args.nodes.now c.args.below c.args.number c.if-below-eq0.false c.requires.shaped c.args.gap) (none_replaces c.args.nodes.now c.insert_below-inserted.new.nodes c.args.below c.args.number i rest c.args.item c.if-below-eq0.false c.requires.shaped c.requires.owned low within child)
 
-pub returns-clause-replaces : goal.returns-clause-replaces
-returns-clause-replaces t c =
-    grown_then_cut c.args.nodes.now c.attach.new.nodes c.cut_overfull-cut.new.nodes c.args.below c.args.number c.cut_overfull-cut.result _ c.requires.shaped.node.present (step t (goal.at.returns-clause-replaces t c).After-attach (kept t (goal.at.returns-clause-replaces t c).After-insert_below-split)) c.cut_overfull-cut.ensures.replaces
+pub returns-in-None-clause-gap : goal.returns-in-None-clause-gap
+returns-in-None-clause-gap t c =
+    let i = turn c.args.gap in
+    let low = below_turn c.args.nodes.now c.args.below c.args.number c.if-below-eq0.false c.requires.shaped c.args.gap c.requires.gap in
+    let rest = place c.args.nodes.now (c.args.below - 1) (get_or (children_of (get c.args.nodes.now c.args.number)) (turn c.args.gap) 0) (inside c.args.gap) in
+    let within = below_most c.args.nodes.now c.args.below c.args.number c.if-below-eq0.false c.requires.shaped i (inside c.args.gap) low (below_inside c.args.nodes.now c.args.below c.args.number c.if-below-eq0.false c.requires.shaped c.args.gap c.requires.gap) in
+    let child = rw c.in-None.is at (rw (c.child_at-child.ensures, c.first_turn-index.ensures, c.seen_inside.ensures) at c.insert_below-inserted.ensures.replaces) in
+    let seat = rw c.in-None.is at (rw (c.child_at-child.ensures, c.first_turn-index.ensures) at c.insert_below-inserted.ensures.gap) in
+    let gap = none_gap c.args.nodes.now c.insert_below-inserted.new.nodes c.args.below c.args.number i rest c.args.item c.if-below-eq0.false c.requires.shaped c.requires.owned low within child c.insert_below-inserted.result.side c.insert_below-inserted.result.gap c.seen_above.result (c.seen_above.ensures.turn ∙ c.first_turn-index.ensures) c.seen_above.ensures.inside seat in
+    (seat_alone c.insert_below-inserted.new.nodes c.args.below c.args.number c.seen_above.result None gap.0).0
 
-pub returns-then-below-eq0-clause-left_whole : goal.returns-then-below-eq0-clause-left_whole
-returns-then-below-eq0-clause-left_whole t c spare =
-    let r = c.args.nodes.now in
-    let within = leaf_within r c.args.below c.args.number c.args.rank c.if-below-eq0.true c.requires.shaped c.requires.within in
-    c.cut_overfull-split.ensures.left_whole (omega (arith, spare, ap length c.put_item.ensures.items, length-insert (items_of (get r c.args.number)) c.args.rank c.args.item within))
+pub returns-in-None-clause-place : goal.returns-in-None-clause-place
+returns-in-None-clause-place t c =
+    let i = turn c.args.gap in
+    let low = below_turn c.args.nodes.now c.args.below c.args.number c.if-below-eq0.false c.requires.shaped c.args.gap c.requires.gap in
+    let rest = place c.args.nodes.now (c.args.below - 1) (get_or (children_of (get c.args.nodes.now c.args.number)) (turn c.args.gap) 0) (inside c.args.gap) in
+    let within = below_most c.args.nodes.now c.args.below c.args.number c.if-below-eq0.false c.requires.shaped i (inside c.args.gap) low (below_inside c.args.nodes.now c.args.below c.args.number c.if-below-eq0.false c.requires.shaped c.args.gap c.requires.gap) in
+    let child = rw c.in-None.is at (rw (c.child_at-child.ensures, c.first_turn-index.ensures, c.seen_inside.ensures) at c.insert_below-inserted.ensures.replaces) in
+    let seat = rw c.in-None.is at (rw (c.child_at-child.ensures, c.first_turn-index.ensures) at c.insert_below-inserted.ensures.gap) in
+    let at = rw c.in-None.is at (rw (c.child_at-child.ensures, c.first_turn-index.ensures, c.seen_inside.ensures) at c.insert_below-inserted.ensures.place) in
+    let gap = none_gap c.args.nodes.now c.insert_below-inserted.new.nodes c.args.below c.args.number i rest c.args.item c.if-below-eq0.false c.requires.shaped c.requires.owned low within child c.insert_below-inserted.result.side c.insert_below-inserted.result.gap c.seen_above.result (c.seen_above.ensures.turn ∙ c.first_turn-index.ensures) c.seen_above.ensures.inside seat in
+    omega (arith, (seat_alone c.insert_below-inserted.new.nodes c.args.below c.args.number c.seen_above.result None gap.0).1, gap.1, at, below_here c.args.nodes.now c.args.below c.args.number c.if-below-eq0.false c.requires.shaped c.args.gap)
 
-pub returns-clause-left_whole : goal.returns-clause-left_whole
-returns-clause-left_whole t c spare =
-    let same = ap (λ node. length (items_of node)) (kept t (goal.at.returns-clause-left_whole t c).After-insert_below-split) in
-    let more = length-attached (items_of (get c.insert_below-split.new.nodes c.args.number)) c.descend-place.result.index c.insert_below-split.result.split in
-    c.cut_overfull-cut.ensures.left_whole (omega (arith, spare, same, more, ap length c.attach.ensures.items))
+pub seen_above-requires-clause-way : goal.seen_above-requires-clause-way
+seen_above-requires-clause-way t c =
+    way_small c.insert_below-inserted.new.nodes (c.args.below - 1) _ c.insert_below-inserted.result.gap (omega (arith, c.requires.deep)) (seat_inside c.insert_below-inserted.new.nodes (c.args.below - 1) _ _ _ c.insert_below-inserted.result.gap c.insert_below-inserted.ensures.gap)
+
+pub overflow_add-seat : goal.overflow_add-seat
+overflow_add-seat t c =
+    let seat = rw c.in-Some.is at c.insert_below-inserted.ensures.gap in
+    omega (arith, c.first_turn-index.ensures, below_turn c.args.nodes.now c.args.below c.args.number c.if-below-eq0.false c.requires.shaped c.args.gap c.requires.gap, c.requires.shaped.node.fits, seat_side c.insert_below-inserted.new.nodes (c.args.below - 1) _ _ _ _ seat)
+
+pub put_or_cut-requires-in-Some-clause-present : goal.put_or_cut-requires-in-Some-clause-present
+put_or_cut-requires-in-Some-clause-present t c =
+    let i = turn c.args.gap in
+    let low = below_turn c.args.nodes.now c.args.below c.args.number c.if-below-eq0.false c.requires.shaped c.args.gap c.requires.gap in
+    let rest = place c.args.nodes.now (c.args.below - 1) (get_or (children_of (get c.args.nodes.now c.args.number)) (turn c.args.gap) 0) (inside c.args.gap) in
+    let within = below_most c.args.nodes.now c.args.below c.args.number c.if-below-eq0.false c.requires.shaped i (inside c.args.gap) low (below_inside c.args.nodes.now c.args.below c.args.number c.if-below-eq0.false c.requires.shaped c.args.gap c.requires.gap) in
+    let child = rw c.in-Some.is at (rw (c.child_at-child.ensures, c.first_turn-index.ensures, c.seen_inside.ensures) at c.insert_below-inserted.ensures.replaces) in
+    rw (grown_kept c.args.nodes.now c.insert_below-inserted.new.nodes c.args.below c.args.number i rest c.args.item (Some c.in-Some.cut) c.if-below-eq0.false c.requires.shaped c.requires.owned low within child) c.requires.shaped.node.present
+
+pub put_or_cut-requires-in-Some-clause-within : goal.put_or_cut-requires-in-Some-clause-within
+put_or_cut-requires-in-Some-clause-within t c =
+    let i = turn c.args.gap in
+    let low = below_turn c.args.nodes.now c.args.below c.args.number c.if-below-eq0.false c.requires.shaped c.args.gap c.requires.gap in
+    let rest = place c.args.nodes.now (c.args.below - 1) (get_or (children_of (get c.args.nodes.now c.args.number)) (turn c.args.gap) 0) (inside c.args.gap) in
+    let within = below_most c.args.nodes.now c.args.below c.args.number c.if-below-eq0.false c.requires.shaped i (inside c.args.gap) low (below_inside c.args.nodes.now c.args.below c.args.number c.if-below-eq0.false c.requires.shaped c.args.gap c.requires.gap) in
+    let child = rw c.in-Some.is at (rw (c.child_at-child.ensures, c.first_turn-index.ensures, c.seen_inside.ensures) at c.insert_below-inserted.ensures.replaces) in
+    rw (grown_kept c.args.nodes.now c.insert_below-inserted.new.nodes c.args.below c.args.number i rest c.args.item (Some c.in-Some.cut) c.if-below-eq0.false c.requires.shaped c.requires.owned low within child) (omega (arith, low, c.first_turn-index.ensures))
+
+pub put_or_cut-requires-in-Some-clause-fits : goal.put_or_cut-requires-in-Some-clause-fits
+put_or_cut-requires-in-Some-clause-fits t c =
+    let i = turn c.args.gap in
+    let low = below_turn c.args.nodes.now c.args.below c.args.number c.if-below-eq0.false c.requires.shaped c.args.gap c.requires.gap in
+    let rest = place c.args.nodes.now (c.args.below - 1) (get_or (children_of (get c.args.nodes.now c.args.number)) (turn c.args.gap) 0) (inside c.args.gap) in
+    let within = below_most c.args.nodes.now c.args.below c.args.number c.if-below-eq0.false c.requires.shaped i (inside c.args.gap) low (below_inside c.args.nodes.now c.args.below c.args.number c.if-below-eq0.false c.requires.shaped c.args.gap c.requires.gap) in
+    let child = rw c.in-Some.is at (rw (c.child_at-child.ensures, c.first_turn-index.ensures, c.seen_inside.ensures) at c.insert_below-inserted.ensures.replaces) in
+    rw (grown_kept c.args.nodes.now c.insert_below-inserted.new.nodes c.args.below c.args.number i rest c.args.item (Some c.in-Some.cut) c.if-below-eq0.false c.requires.shaped c.requires.owned low within child) c.requires.shaped.node.fits
+
+pub put_or_cut-requires-in-Some-clause-children : goal.put_or_cut-requires-in-Some-clause-children
+put_or_cut-requires-in-Some-clause-children t c =
+    let i = turn c.args.gap in
+    let low = below_turn c.args.nodes.now c.args.below c.args.number c.if-below-eq0.false c.requires.shaped c.args.gap c.requires.gap in
+    let rest = place c.args.nodes.now (c.args.below - 1) (get_or (children_of (get c.args.nodes.now c.args.number)) (turn c.args.gap) 0) (inside c.args.gap) in
+    let within = below_most c.args.nodes.now c.args.below c.args.number c.if-below-eq0.false c.requires.shaped i (inside c.args.gap) low (below_inside c.args.nodes.now c.args.below c.args.number c.if-below-eq0.false c.requires.shaped c.args.gap c.requires.gap) in
+    let child = rw c.in-Some.is at (rw (c.child_at-child.ensures, c.first_turn-index.ensures, c.seen_inside.ensures) at c.insert_below-inserted.ensures.replaces) in
+    inr (rw (grown_kept c.args.nodes.now c.insert_below-inserted.new.nodes c.args.below c.args.number i rest c.args.item (Some c.in-Some.cut) c.if-below-eq0.false c.requires.shaped c.requires.owned low within child) (children_length 1 MOST c.args.nodes.now c.args.below c.args.number (omega (arith, c.if-below-eq0.false)) c.requires.shaped))
+
+pub put_or_cut-requires-in-Some-clause-content : goal.put_or_cut-requires-in-Some-clause-content
+put_or_cut-requires-in-Some-clause-content t c =
+    let i = turn c.args.gap in
+    let low = below_turn c.args.nodes.now c.args.below c.args.number c.if-below-eq0.false c.requires.shaped c.args.gap c.requires.gap in
+    let rest = place c.args.nodes.now (c.args.below - 1) (get_or (children_of (get c.args.nodes.now c.args.number)) (turn c.args.gap) 0) (inside c.args.gap) in
+    let within = below_most c.args.nodes.now c.args.below c.args.number c.if-below-eq0.false c.requires.shaped i (inside c.args.gap) low (below_inside c.args.nodes.now c.args.below c.args.number c.if-below-eq0.false c.requires.shaped c.args.gap c.requires.gap) in
+    let child = rw c.in-Some.is at (rw (c.child_at-child.ensures, c.first_turn-index.ensures, c.seen_inside.ensures) at c.insert_below-inserted.ensures.replaces) in
+    let items = some_items c.args.nodes.now c.insert_below-inserted.new.nodes c.args.below c.args.number i rest c.args.item c.in-Some.cut c.if-below-eq0.false c.requires.shaped c.requires.owned low within child in
+    let children = some_children c.args.nodes.now c.insert_below-inserted.new.nodes c.args.below c.args.number i rest c.args.item c.in-Some.cut c.if-below-eq0.false c.requires.shaped c.requires.owned low within child in
+    rw (c.first_turn-index.ensures, ← items, ← children) (grown_content c.args.nodes.now c.insert_below-inserted.new.nodes c.args.below c.args.number i rest c.args.item (Some c.in-Some.cut) c.if-below-eq0.false c.requires.shaped c.requires.owned low within child)
+
+pub put_or_cut-requires-in-Some-clause-room : goal.put_or_cut-requires-in-Some-clause-room
+put_or_cut-requires-in-Some-clause-room t c =
+    λ full.
+    let i = turn c.args.gap in
+    let low = below_turn c.args.nodes.now c.args.below c.args.number c.if-below-eq0.false c.requires.shaped c.args.gap c.requires.gap in
+    let rest = place c.args.nodes.now (c.args.below - 1) (get_or (children_of (get c.args.nodes.now c.args.number)) (turn c.args.gap) 0) (inside c.args.gap) in
+    let within = below_most c.args.nodes.now c.args.below c.args.number c.if-below-eq0.false c.requires.shaped i (inside c.args.gap) low (below_inside c.args.nodes.now c.args.below c.args.number c.if-below-eq0.false c.requires.shaped c.args.gap c.requires.gap) in
+    let child = rw c.in-Some.is at (rw (c.child_at-child.ensures, c.first_turn-index.ensures, c.seen_inside.ensures) at c.insert_below-inserted.ensures.replaces) in
+    let items = some_items c.args.nodes.now c.insert_below-inserted.new.nodes c.args.below c.args.number i rest c.args.item c.in-Some.cut c.if-below-eq0.false c.requires.shaped c.requires.owned low within child in
+    let children = some_children c.args.nodes.now c.insert_below-inserted.new.nodes c.args.below c.args.number i rest c.args.item c.in-Some.cut c.if-below-eq0.false c.requires.shaped c.requires.owned low within child in
+    let long = length-insert (items_of (get c.args.nodes.now c.args.number)) i c.in-Some.cut.middle low in
+    content_room c.args.nodes.now c.insert_below-inserted.new.nodes c.args.below c.args.number _ _ (grown_moved c.args.nodes.now c.insert_below-inserted.new.nodes c.args.below c.args.number i rest c.args.item (Some c.in-Some.cut) c.if-below-eq0.false c.requires.shaped c.requires.owned low within child) (grown_content c.args.nodes.now c.insert_below-inserted.new.nodes c.args.below c.args.number i rest c.args.item (Some c.in-Some.cut) c.if-below-eq0.false c.requires.shaped c.requires.owned low within child) (grown_longer c.args.nodes.now c.insert_below-inserted.new.nodes c.args.below c.args.number i rest c.args.item (Some c.in-Some.cut) c.if-below-eq0.false c.requires.shaped c.requires.owned low within child) c.requires.room (omega (arith, long, rw (grown_kept c.args.nodes.now c.insert_below-inserted.new.nodes c.args.below c.args.number i rest c.args.item (Some c.in-Some.cut) c.if-below-eq0.false c.requires.shaped c.requires.owned low within child) at full))
+
+pub put_or_cut-requires-in-Some-clause-seat : goal.put_or_cut-requires-in-Some-clause-seat
+put_or_cut-requires-in-Some-clause-seat t c =
+    let i = turn c.args.gap in
+    let low = below_turn c.args.nodes.now c.args.below c.args.number c.if-below-eq0.false c.requires.shaped c.args.gap c.requires.gap in
+    let rest = place c.args.nodes.now (c.args.below - 1) (get_or (children_of (get c.args.nodes.now c.args.number)) (turn c.args.gap) 0) (inside c.args.gap) in
+    let within = below_most c.args.nodes.now c.args.below c.args.number c.if-below-eq0.false c.requires.shaped i (inside c.args.gap) low (below_inside c.args.nodes.now c.args.below c.args.number c.if-below-eq0.false c.requires.shaped c.args.gap c.requires.gap) in
+    let child = rw c.in-Some.is at (rw (c.child_at-child.ensures, c.first_turn-index.ensures, c.seen_inside.ensures) at c.insert_below-inserted.ensures.replaces) in
+    let items = some_items c.args.nodes.now c.insert_below-inserted.new.nodes c.args.below c.args.number i rest c.args.item c.in-Some.cut c.if-below-eq0.false c.requires.shaped c.requires.owned low within child in
+    let children = some_children c.args.nodes.now c.insert_below-inserted.new.nodes c.args.below c.args.number i rest c.args.item c.in-Some.cut c.if-below-eq0.false c.requires.shaped c.requires.owned low within child in
+    let seat = rw c.in-Some.is at (rw (c.child_at-child.ensures, c.first_turn-index.ensures) at c.insert_below-inserted.ensures.gap) in
+    rw (c.first_turn-index.ensures, ← items, ← children) (grown_seat c.args.nodes.now c.insert_below-inserted.new.nodes c.args.below c.args.number i rest c.args.item (Some c.in-Some.cut) c.if-below-eq0.false c.requires.shaped c.requires.owned low within child c.insert_below-inserted.result.side c.insert_below-inserted.result.gap seat).0
+
+pub returns-in-Some-clause-replaces : goal.returns-in-Some-clause-replaces
+returns-in-Some-clause-replaces t c =
+    let i = turn c.args.gap in
+    let low = below_turn c.args.nodes.now c.args.below c.args.number c.if-below-eq0.false c.requires.shaped c.args.gap c.requires.gap in
+    let rest = place c.args.nodes.now (c.args.below - 1) (get_or (children_of (get c.args.nodes.now c.args.number)) (turn c.args.gap) 0) (inside c.args.gap) in
+    let within = below_most c.args.nodes.now c.args.below c.args.number c.if-below-eq0.false c.requires.shaped i (inside c.args.gap) low (below_inside c.args.nodes.now c.args.below c.args.number c.if-below-eq0.false c.requires.shaped c.args.gap c.requires.gap) in
+    let child = rw c.in-Some.is at (rw (c.child_at-child.ensures, c.first_turn-index.ensures, c.seen_inside.ensures) at c.insert_below-inserted.ensures.replaces) in
+    let items = some_items c.args.nodes.now c.insert_below-inserted.new.nodes c.args.below c.args.number i rest c.args.item c.in-Some.cut c.if-below-eq0.false c.requires.shaped c.requires.owned low within child in
+    let children = some_children c.args.nodes.now c.insert_below-inserted.new.nodes c.args.below c.args.number i rest c.args.item c.in-Some.cut c.if-below-eq0.false c.requires.shaped c.requires.owned low within child in
+    let long = length-insert (items_of (get c.args.nodes.now c.args.number)) i c.in-Some.cut.middle low in
+    let settles = rw (c.first_turn-index.ensures, ← items, ← children) at c.put_or_cut-in-Some.ensures.settles in
+    rw (below_here c.args.nodes.now c.args.below c.args.number c.if-below-eq0.false c.requires.shaped c.args.gap) (settled_replaces c.args.nodes.now c.insert_below-inserted.new.nodes c.put_or_cut-in-Some.new.nodes c.args.below c.args.number _ _ _ c.put_or_cut-in-Some.result.split (grown_moved c.args.nodes.now c.insert_below-inserted.new.nodes c.args.below c.args.number i rest c.args.item (Some c.in-Some.cut) c.if-below-eq0.false c.requires.shaped c.requires.owned low within child) (grown_listed c.args.nodes.now c.insert_below-inserted.new.nodes c.args.below c.args.number i rest c.args.item (Some c.in-Some.cut) c.if-below-eq0.false c.requires.shaped c.requires.owned low within child) (omega (arith, long)) settles)
+
+pub returns-in-Some-clause-left_whole : goal.returns-in-Some-clause-left_whole
+returns-in-Some-clause-left_whole t c =
+    let i = turn c.args.gap in
+    let low = below_turn c.args.nodes.now c.args.below c.args.number c.if-below-eq0.false c.requires.shaped c.args.gap c.requires.gap in
+    let rest = place c.args.nodes.now (c.args.below - 1) (get_or (children_of (get c.args.nodes.now c.args.number)) (turn c.args.gap) 0) (inside c.args.gap) in
+    let within = below_most c.args.nodes.now c.args.below c.args.number c.if-below-eq0.false c.requires.shaped i (inside c.args.gap) low (below_inside c.args.nodes.now c.args.below c.args.number c.if-below-eq0.false c.requires.shaped c.args.gap c.requires.gap) in
+    let child = rw c.in-Some.is at (rw (c.child_at-child.ensures, c.first_turn-index.ensures, c.seen_inside.ensures) at c.insert_below-inserted.ensures.replaces) in
+    λ few. c.put_or_cut-in-Some.ensures.left_whole (rw (grown_kept c.args.nodes.now c.insert_below-inserted.new.nodes c.args.below c.args.number i rest c.args.item (Some c.in-Some.cut) c.if-below-eq0.false c.requires.shaped c.requires.owned low within child) few)
+
+pub returns-in-Some-clause-place : goal.returns-in-Some-clause-place
+returns-in-Some-clause-place t c =
+    let i = turn c.args.gap in
+    let low = below_turn c.args.nodes.now c.args.below c.args.number c.if-below-eq0.false c.requires.shaped c.args.gap c.requires.gap in
+    let rest = place c.args.nodes.now (c.args.below - 1) (get_or (children_of (get c.args.nodes.now c.args.number)) (turn c.args.gap) 0) (inside c.args.gap) in
+    let within = below_most c.args.nodes.now c.args.below c.args.number c.if-below-eq0.false c.requires.shaped i (inside c.args.gap) low (below_inside c.args.nodes.now c.args.below c.args.number c.if-below-eq0.false c.requires.shaped c.args.gap c.requires.gap) in
+    let child = rw c.in-Some.is at (rw (c.child_at-child.ensures, c.first_turn-index.ensures, c.seen_inside.ensures) at c.insert_below-inserted.ensures.replaces) in
+    let items = some_items c.args.nodes.now c.insert_below-inserted.new.nodes c.args.below c.args.number i rest c.args.item c.in-Some.cut c.if-below-eq0.false c.requires.shaped c.requires.owned low within child in
+    let children = some_children c.args.nodes.now c.insert_below-inserted.new.nodes c.args.below c.args.number i rest c.args.item c.in-Some.cut c.if-below-eq0.false c.requires.shaped c.requires.owned low within child in
+    let seat = rw c.in-Some.is at (rw (c.child_at-child.ensures, c.first_turn-index.ensures) at c.insert_below-inserted.ensures.gap) in
+    let at = rw c.in-Some.is at (rw (c.child_at-child.ensures, c.first_turn-index.ensures, c.seen_inside.ensures) at c.insert_below-inserted.ensures.place) in
+    let up = (grown_seat c.args.nodes.now c.insert_below-inserted.new.nodes c.args.below c.args.number i rest c.args.item (Some c.in-Some.cut) c.if-below-eq0.false c.requires.shaped c.requires.owned low within child c.insert_below-inserted.result.side c.insert_below-inserted.result.gap seat).1 in
+    let here = rw (c.first_turn-index.ensures, ← items, ← children) at c.put_or_cut-in-Some.ensures.place in
+    here ∙ omega (arith, up, at, below_here c.args.nodes.now c.args.below c.args.number c.if-below-eq0.false c.requires.shaped c.args.gap)

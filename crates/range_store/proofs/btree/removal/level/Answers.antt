@@ -1,75 +1,76 @@
-use Rattle.std.proofs.Common.{◌≡◌, suc, ◌+◌, ◌<◌, ◌≤◌, length, get_or, arith, Some}
-use Rattle.slab.specs.Slab.{get}
-use Rattle.range_store.specs.Nodes.{items_of, children_of, numbers, Pools, Replaces}
-use Rattle.range_store.specs.declared.btree.node.TheConstants.{MOST, LEAST}
-use Rattle.range_store.proofs.Levelling.{can_pool, many, sizes_wide, top_kept, cuttable_at, cut_kept, detached, bordered, pooled_length, bordered_size}
-use Rattle.range_store.proofs.Whole.{halves_present}
+use Rattle.std.proofs.Common.{length, ap, arith}
+use Rattle.range_store.proofs.Gaps.{way_small}
+use Rattle.range_store.proofs.Pairs.{pair_seat, seat_of_small, tops_small, separators_some}
+use Rattle.range_store.proofs.Levelling.{pair_of, pair_kept, pair_children, new_length, levelled_shrinks, levelled_gap}
+use Rattle.range_store.proofs.Seats.{seat_side, seat_inside}
 use Rattle.range_store.proofs.btree.removal.level.Goals as goal
-use Rattle.range_store.proofs.btree.removal.level.Goals.{After-pool, After-cut_at-split}
 
-pub pool-requires : goal.pool-requires
-pool-requires c =
-    rw (c.child_at-left.ensures, c.child_at-right.ensures) (can_pool c.args.nodes.now c.args.low c.args.number c.args.index c.requires (omega (arith, c.count-whole.ensures, c.count-whole.type_inv)))
+pub seat_in_pair-seat-requires-clause-fits : goal.seat_in_pair-seat-requires-clause-fits
+seat_in_pair-seat-requires-clause-fits c =
+    rw c.child_at-left.ensures c.requires.levelled.left.node.fits
 
-pool : (c : After-pool) → Pools c.args.nodes.now c.pool.new.nodes (get_or (children_of (get c.args.nodes.now c.args.number)) c.args.index 0) (get_or (children_of (get c.args.nodes.now c.args.number)) (c.args.index + 1) 0) (get_or (items_of (get c.args.nodes.now c.args.number)) c.args.index 0)
-pool c = rw (c.child_at-left.ensures, c.child_at-right.ensures, c.item_at-middle.ensures) at c.pool.ensures
+pub seat_in_pair-seat-requires-clause-small : goal.seat_in_pair-seat-requires-clause-small
+seat_in_pair-seat-requires-clause-small c =
+    seat_of_small c.args.nodes.now c.args.low c.args.number c.args.index c.args.turn c.args.gap c.requires.levelled c.requires.near c.requires.gap
 
-kept : (c : After-pool) → get c.pool.new.nodes c.args.number ≡ get c.args.nodes.now c.args.number
-kept c = top_kept c.args.nodes.now c.pool.new.nodes c.args.low c.args.number c.args.index c.requires (pool c)
+pub rejoin-parts-requires-clause-pair : goal.rejoin-parts-requires-clause-pair
+rejoin-parts-requires-clause-pair c =
+    rw (c.child_at-left.ensures, c.child_at-right.ensures) (pair_of c.args.nodes.now c.args.low c.args.number c.args.index c.requires.levelled)
 
-pub detach-requires : goal.detach-requires
-detach-requires c =
-    let same = kept (goal.at.detach-requires c).After-pool in
-    record {
-      present = rw same c.requires.node.present;
-      item = rw same c.requires.within;
-      child = rw same (omega (arith, many c.args.nodes.now c.args.low c.args.number c.args.index c.requires, c.requires.within));
-      sizes = rw same (sizes_wide c.args.nodes.now c.args.low c.args.number c.args.index c.requires);
-      stored = rw c.child_at-left.ensures (pool (goal.at.detach-requires c).After-pool).present;
-    }
+pub rejoin-parts-requires-clause-seat : goal.rejoin-parts-requires-clause-seat
+rejoin-parts-requires-clause-seat c =
+    rw (c.child_at-left.ensures, c.child_at-right.ensures, c.item_at-middle.ensures, c.seen_inside.ensures) (pair_seat c.args.nodes.now c.args.low c.args.number c.args.index c.requires.levelled c.args.turn c.args.gap c.seat_in_pair-seat.result c.requires.near c.requires.gap c.seat_in_pair-seat.ensures.left (rw c.child_at-left.ensures at c.seat_in_pair-seat.ensures.right)).0
 
-pub returns-then-pooled-clause-shared : goal.returns-then-pooled-clause-shared
-returns-then-pooled-clause-shared c =
-    let a = (goal.at.returns-then-pooled-clause-shared c).After-pool in
-    let size = rw c.child_at-left.ensures at c.item_count-pooled.ensures in
-    let sum = pooled_length c.args.nodes.now c.pool.new.nodes c.args.low c.args.number c.args.index c.requires (pool a) in
-    λ many. absurd (omega (arith, size, sum, many))
+pub set_pair-requires-clause-present : goal.set_pair-requires-clause-present
+set_pair-requires-clause-present c =
+    rw (pair_kept c.args.nodes.now c.args.low c.args.number c.args.index c.requires.levelled c.rejoin-parts.new.nodes c.rejoin-parts.result.split (rw (c.child_at-left.ensures, c.child_at-right.ensures, c.item_at-middle.ensures) at c.rejoin-parts.ensures.rejoins)) c.requires.levelled.node.present
 
-pub returns-then-pooled-clause-shrinks : goal.returns-then-pooled-clause-shrinks
-returns-then-pooled-clause-shrinks c =
-    let a = (goal.at.returns-then-pooled-clause-shrinks c).After-pool in
-    let short : length (items_of (get c.pool.new.nodes c.child_at-left.result)) ≤ LEAST + LEAST = omega (arith, c.item_count-pooled.ensures) in
-    let short' = rw c.child_at-left.ensures at short in
-    detached c.args.nodes.now c.pool.new.nodes c.args.low c.args.number c.args.index c.requires (pool a) c.detach.new.nodes c.detach.ensures.rewritten c.detach.ensures.items c.detach.ensures.children (rw c.child_at-left.ensures at c.detach.ensures.sizes) c.detach.ensures.count short'
+pub set_pair-requires-clause-item : goal.set_pair-requires-clause-item
+set_pair-requires-clause-item c =
+    rw (pair_kept c.args.nodes.now c.args.low c.args.number c.args.index c.requires.levelled c.rejoin-parts.new.nodes c.rejoin-parts.result.split (rw (c.child_at-left.ensures, c.child_at-right.ensures, c.item_at-middle.ensures) at c.rejoin-parts.ensures.rejoins)) c.requires.levelled.within
 
-pub cut_at-split-requires : goal.cut_at-split-requires
-cut_at-split-requires c =
-    let a = (goal.at.cut_at-split-requires c).After-pool in
-    let long : LEAST + LEAST < length (items_of (get c.pool.new.nodes c.child_at-left.result)) = omega (arith, c.item_count-pooled.ensures) in
-    let long' = rw c.child_at-left.ensures at long in
-    rw (c.item_count-pooled.ensures, c.child_at-left.ensures) (cuttable_at c.args.nodes.now c.pool.new.nodes c.args.low c.args.number c.args.index c.requires (pool a) long')
+pub set_pair-requires-clause-child : goal.set_pair-requires-clause-child
+set_pair-requires-clause-child c =
+    rw (pair_kept c.args.nodes.now c.args.low c.args.number c.args.index c.requires.levelled c.rejoin-parts.new.nodes c.rejoin-parts.result.split (rw (c.child_at-left.ensures, c.child_at-right.ensures, c.item_at-middle.ensures) at c.rejoin-parts.ensures.rejoins)) (omega (arith, c.requires.levelled.within, c.requires.levelled.node.branches))
 
-cut : (c : After-cut_at-split) → Replaces MOST c.pool.new.nodes c.cut_at-split.new.nodes c.args.low (get_or (children_of (get c.args.nodes.now c.args.number)) c.args.index 0) (Some c.cut_at-split.result) (numbers c.pool.new.nodes (suc c.args.low) (get_or (children_of (get c.args.nodes.now c.args.number)) c.args.index 0))
-cut c = rw c.child_at-left.ensures at c.cut_at-split.ensures
+pub overflow_add-index-2 : goal.overflow_add-index-2
+overflow_add-index-2 c =
+    omega (arith, c.requires.levelled.within, c.requires.levelled.node.fits, tops_small _ _ _ (seat_side c.rejoin-parts.new.nodes c.args.low _ _ _ _ c.rejoin-parts.ensures.gap))
 
-pub set_border-requires : goal.set_border-requires
-set_border-requires c =
-    let a = (goal.at.set_border-requires c).After-pool in
-    let same = cut_kept c.args.nodes.now c.pool.new.nodes c.args.low c.args.number c.args.index c.requires (pool a) c.cut_at-split.new.nodes c.cut_at-split.result (cut (goal.at.set_border-requires c).After-cut_at-split) in
-    record {
-      present = rw same c.requires.node.present;
-      item = rw same c.requires.within;
-      child = rw same (omega (arith, many c.args.nodes.now c.args.low c.args.number c.args.index c.requires, c.requires.within));
-      sizes = rw same (sizes_wide c.args.nodes.now c.args.low c.args.number c.args.index c.requires);
-      stored = rw c.child_at-left.ensures (halves_present c.pool.new.nodes c.cut_at-split.new.nodes c.args.low _ c.cut_at-split.result _ (cut (goal.at.set_border-requires c).After-cut_at-split));
-    }
+pub seen_above-requires-clause-index : goal.seen_above-requires-clause-index
+seen_above-requires-clause-index c =
+    omega (arith, c.requires.levelled.within, c.requires.levelled.node.fits, tops_small _ _ _ (seat_side c.rejoin-parts.new.nodes c.args.low _ _ _ _ c.rejoin-parts.ensures.gap))
 
-pub returns-clause-shared : goal.returns-clause-shared
-returns-clause-shared c =
-    let a = (goal.at.returns-clause-shared c).After-pool in
-    λ many. bordered_size c.args.nodes.now c.pool.new.nodes c.args.low c.args.number c.args.index c.requires (pool a) c.cut_at-split.new.nodes c.cut_at-split.result (cut (goal.at.returns-clause-shared c).After-cut_at-split) c.set_border.new.nodes c.set_border.ensures.items
+pub seen_above-requires-clause-way : goal.seen_above-requires-clause-way
+seen_above-requires-clause-way c =
+    way_small c.rejoin-parts.new.nodes c.args.low _ c.rejoin-parts.result.gap (omega (arith, c.requires.deep)) (seat_inside c.rejoin-parts.new.nodes c.args.low _ _ _ c.rejoin-parts.result.gap c.rejoin-parts.ensures.gap)
 
 pub returns-clause-shrinks : goal.returns-clause-shrinks
 returns-clause-shrinks c =
-    let a = (goal.at.returns-clause-shrinks c).After-pool in
-    bordered c.args.nodes.now c.pool.new.nodes c.args.low c.args.number c.args.index c.requires (pool a) c.cut_at-split.new.nodes c.cut_at-split.result (cut (goal.at.returns-clause-shrinks c).After-cut_at-split) c.set_border.new.nodes c.set_border.ensures.rewritten c.set_border.ensures.items c.set_border.ensures.children (rw c.child_at-left.ensures at c.set_border.ensures.sizes) c.set_border.ensures.count
+    let kept = pair_kept c.args.nodes.now c.args.low c.args.number c.args.index c.requires.levelled c.rejoin-parts.new.nodes c.rejoin-parts.result.split (rw (c.child_at-left.ensures, c.child_at-right.ensures, c.item_at-middle.ensures) at c.rejoin-parts.ensures.rejoins) in
+    let written = rw (kept, pair_children c.args.nodes.now c.args.low c.args.number c.args.index c.requires.levelled c.rejoin-parts.new.nodes c.rejoin-parts.result.split (rw (c.child_at-left.ensures, c.child_at-right.ensures, c.item_at-middle.ensures) at c.rejoin-parts.ensures.rejoins) c.rejoin-parts.result.split) at c.set_pair.ensures in
+    levelled_shrinks c.args.nodes.now c.args.low c.args.number c.args.index c.requires.levelled c.rejoin-parts.new.nodes c.rejoin-parts.result.split (rw (c.child_at-left.ensures, c.child_at-right.ensures, c.item_at-middle.ensures) at c.rejoin-parts.ensures.rejoins) c.set_pair.new.nodes written
+
+pub returns-clause-shared : goal.returns-clause-shared
+returns-clause-shared c =
+    let kept = pair_kept c.args.nodes.now c.args.low c.args.number c.args.index c.requires.levelled c.rejoin-parts.new.nodes c.rejoin-parts.result.split (rw (c.child_at-left.ensures, c.child_at-right.ensures, c.item_at-middle.ensures) at c.rejoin-parts.ensures.rejoins) in
+    let written = rw (kept, pair_children c.args.nodes.now c.args.low c.args.number c.args.index c.requires.levelled c.rejoin-parts.new.nodes c.rejoin-parts.result.split (rw (c.child_at-left.ensures, c.child_at-right.ensures, c.item_at-middle.ensures) at c.rejoin-parts.ensures.rejoins) c.rejoin-parts.result.split) at c.set_pair.ensures in
+    λ more. let some = c.rejoin-parts.ensures.shared (rw (c.child_at-left.ensures, c.child_at-right.ensures) more) in omega (arith, ap length written.items_are, new_length c.args.nodes.now c.args.low c.args.number c.args.index c.requires.levelled c.rejoin-parts.new.nodes c.rejoin-parts.result.split (rw (c.child_at-left.ensures, c.child_at-right.ensures, c.item_at-middle.ensures) at c.rejoin-parts.ensures.rejoins), separators_some _ some)
+
+pub returns-clause-gap : goal.returns-clause-gap
+returns-clause-gap c =
+    let kept = pair_kept c.args.nodes.now c.args.low c.args.number c.args.index c.requires.levelled c.rejoin-parts.new.nodes c.rejoin-parts.result.split (rw (c.child_at-left.ensures, c.child_at-right.ensures, c.item_at-middle.ensures) at c.rejoin-parts.ensures.rejoins) in
+    let written = rw (kept, pair_children c.args.nodes.now c.args.low c.args.number c.args.index c.requires.levelled c.rejoin-parts.new.nodes c.rejoin-parts.result.split (rw (c.child_at-left.ensures, c.child_at-right.ensures, c.item_at-middle.ensures) at c.rejoin-parts.ensures.rejoins) c.rejoin-parts.result.split) at c.set_pair.ensures in
+    let seat = rw c.child_at-left.ensures at c.rejoin-parts.ensures.gap in
+    let gap = levelled_gap c.args.nodes.now c.args.low c.args.number c.args.index c.requires.levelled c.rejoin-parts.new.nodes c.rejoin-parts.result.split (rw (c.child_at-left.ensures, c.child_at-right.ensures, c.item_at-middle.ensures) at c.rejoin-parts.ensures.rejoins) c.set_pair.new.nodes written c.rejoin-parts.result.side c.rejoin-parts.result.gap c.seen_above.result c.seen_above.ensures.turn c.seen_above.ensures.inside seat in
+    gap.0
+
+pub returns-clause-place : goal.returns-clause-place
+returns-clause-place c =
+    let kept = pair_kept c.args.nodes.now c.args.low c.args.number c.args.index c.requires.levelled c.rejoin-parts.new.nodes c.rejoin-parts.result.split (rw (c.child_at-left.ensures, c.child_at-right.ensures, c.item_at-middle.ensures) at c.rejoin-parts.ensures.rejoins) in
+    let written = rw (kept, pair_children c.args.nodes.now c.args.low c.args.number c.args.index c.requires.levelled c.rejoin-parts.new.nodes c.rejoin-parts.result.split (rw (c.child_at-left.ensures, c.child_at-right.ensures, c.item_at-middle.ensures) at c.rejoin-parts.ensures.rejoins) c.rejoin-parts.result.split) at c.set_pair.ensures in
+    let seat = rw c.child_at-left.ensures at c.rejoin-parts.ensures.gap in
+    let gap = levelled_gap c.args.nodes.now c.args.low c.args.number c.args.index c.requires.levelled c.rejoin-parts.new.nodes c.rejoin-parts.result.split (rw (c.child_at-left.ensures, c.child_at-right.ensures, c.item_at-middle.ensures) at c.rejoin-parts.ensures.rejoins) c.set_pair.new.nodes written c.rejoin-parts.result.side c.rejoin-parts.result.gap c.seen_above.result c.seen_above.ensures.turn c.seen_above.ensures.inside seat in
+    let at = rw (c.child_at-left.ensures, c.child_at-right.ensures, c.item_at-middle.ensures, c.seen_inside.ensures) at c.rejoin-parts.ensures.place in
+    let seats = pair_seat c.args.nodes.now c.args.low c.args.number c.args.index c.requires.levelled c.args.turn c.args.gap c.seat_in_pair-seat.result c.requires.near c.requires.gap c.seat_in_pair-seat.ensures.left (rw c.child_at-left.ensures at c.seat_in_pair-seat.ensures.right) in
+    omega (arith, gap.1, at, seats.1)

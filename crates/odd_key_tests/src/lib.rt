@@ -1,0 +1,7 @@
+//! Tests over keys and values that are lawful and unlike numbers.
+#![tactic(auto)]
+
+#[cfg(test)]
+mod maps;
+#[cfg(test)]
+mod sets;

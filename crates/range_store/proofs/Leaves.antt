@@ -1,0 +1,42 @@
+-- An item into a leaf.
+use Rattle.std.proofs.Common.{◌≡◌, ℕ, ◌+◌, ◌≤◌, List, ◌∷◌, length, map, refl, ap, arith, subst}
+use Rattle.std.specs.List.{insert, flat_map}
+use Rattle.std.proofs.lemmas.List.{nil_from_length}
+use Rattle.std.proofs.lemmas.List.Edits.{length-insert}
+use Rattle.slab.specs.Slab.{Slab, get}
+use Rattle.range_store.specs.declared.btree.node.Node.{Node}
+use Rattle.range_store.specs.declared.btree.node.TheConstants.{MOST}
+use Rattle.range_store.specs.declared.btree.way.Gap.{Gap}
+use Rattle.range_store.specs.Nodes.{weave, items_of, children_of, numbers, used, ShapedBut, Owned, Moves}
+use Rattle.range_store.specs.Gaps.{IsSeat, seat_place}
+use Rattle.range_store.specs.Contents.{IsContent}
+use Rattle.range_store.specs.Occurrences.{occurrences}
+use Rattle.range_store.proofs.Below.{used_is, numbers_leaf}
+use Rattle.range_store.proofs.Moves.{Moves-none}
+
+module _ (s : Slab Node) (n i item : ℕ) (shaped : ShapedBut 1 MOST s 0 n) where
+  pub leaf_content : Owned s 1 n → IsContent s 0 n (insert (items_of (get s n)) i item) (children_of (get s n))
+  leaf_content owned = record {
+    present = shaped.node.present;
+    shaped = shaped.children;
+    branches = shaped.node.branches;
+    owned = λ k. omega (arith, owned k, ap (occurrences k) (used_is s 0 n));
+  }
+
+  pub leaf_moved : Moves s s (used s 1 n) (n ∷ flat_map (used s 0) (children_of (get s n)))
+  leaf_moved = subst (λ zs. Moves s s (used s 1 n) zs) (used_is s 0 n) (Moves-none s (used s 1 n))
+
+  pub leaf_listed : weave (insert (items_of (get s n)) i item) (map (numbers s 0) (children_of (get s n))) ≡ insert (numbers s 1 n) i item
+  leaf_listed = rw (numbers_leaf s n shaped.node.branches, nil_from_length (children_of (get s n)) shaped.node.branches) refl
+
+  pub leaf_longer : i ≤ length (items_of (get s n)) → length (weave (insert (items_of (get s n)) i item) (map (numbers s 0) (children_of (get s n)))) ≡ length (numbers s 1 n) + 1
+  leaf_longer low =
+      omega (arith, ap length leaf_listed, ap (λ zs. length (insert zs i item)) (numbers_leaf s n shaped.node.branches), length-insert (items_of (get s n)) i item low, ap length (numbers_leaf s n shaped.node.branches))
+
+pub leaf_seat : (s : Slab Node) (xs ks : List ℕ) (i : ℕ) (g : Gap) → i ≤ length xs → IsSeat s 0 xs ks i g
+unfolding IsSeat
+leaf_seat s xs ks i g low = low
+
+pub leaf_seat_place : (s : Slab Node) (xs ks : List ℕ) (i : ℕ) (g : Gap) → seat_place s 0 xs ks i g ≡ i
+unfolding seat_place
+leaf_seat_place s xs ks i g = refl

@@ -1,0 +1,33 @@
+use Rattle.std.proofs.Common.{◌-◌, length, refl, sym, ap, ◌∙◌, arith}
+use Rattle.range_store.proofs.Below.{numbers_leaf}
+use Rattle.range_store.proofs.Gaps.{leaf_gap, leaf_place, way_small}
+use Rattle.range_store.proofs.Ways.{level, below_kid, below_gap, below_place, past_last}
+use Rattle.range_store.proofs.btree.way.+end_gap.Goals as goal
+
+pub returns-then-below-eq0-clause-gap : goal.returns-then-below-eq0-clause-gap
+returns-then-below-eq0-clause-gap t c =
+    rw c.if-below-eq0.true (leaf_gap c.args.nodes.now c.args.number _ refl refl (omega (arith, c.item_count-many.ensures)))
+
+pub returns-then-below-eq0-clause-place : goal.returns-then-below-eq0-clause-place
+returns-then-below-eq0-clause-place t c =
+    let shaped = rw c.if-below-eq0.true at c.requires.shaped in
+    rw c.if-below-eq0.true (leaf_place c.args.nodes.now c.args.number _ ∙ c.item_count-many.ensures ∙ ap length (sym (numbers_leaf c.args.nodes.now c.args.number shaped.node.branches)))
+
+pub end_gap-requires : goal.end_gap-requires
+end_gap-requires t c =
+    (omega (arith, c.if-below-eq0.false), (rw c.child_at-child.ensures (below_kid c.args.nodes.now c.args.below c.args.number c.if-below-eq0.false c.requires.shaped c.item_count-many.result (omega (arith, c.item_count-many.ensures))), omega (arith, c.requires.deep)))
+
+pub seen_above-requires-clause-way : goal.seen_above-requires-clause-way
+seen_above-requires-clause-way t c = way_small c.args.nodes.now (c.args.below - 1) _ _ (omega (arith, c.requires.deep)) c.end_gap.ensures.gap
+
+pub returns-clause-gap : goal.returns-clause-gap
+returns-clause-gap t c =
+    below_gap c.args.nodes.now c.args.below c.args.number c.if-below-eq0.false c.requires.shaped c.item_count-many.result c.end_gap.result _ c.seen_above.ensures.turn c.seen_above.ensures.inside (omega (arith, c.item_count-many.ensures)) (rw c.child_at-child.ensures at c.end_gap.ensures.gap)
+
+pub returns-clause-place : goal.returns-clause-place
+returns-clause-place t c =
+    let s = c.args.nodes.now in
+    let at = below_place s c.args.below c.args.number c.if-below-eq0.false c.requires.shaped c.item_count-many.result c.end_gap.result _ c.seen_above.ensures.turn c.seen_above.ensures.inside in
+    let end = rw c.child_at-child.ensures at c.end_gap.ensures.place in
+    let last = past_last s c.args.below c.args.number c.if-below-eq0.false c.requires.shaped c.item_count-many.result c.item_count-many.ensures in
+    omega (arith, at, rw (level s c.args.below c.args.number c.if-below-eq0.false c.requires.shaped) at end, last)
