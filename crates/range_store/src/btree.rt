@@ -1,5 +1,5 @@
 //! A container kept as a B-tree.
-ghost use Rattle.std.specs.Prelude.{◌≡◌, ◌+◌, ◌-◌, ◌*◌, ◌^◌, ◌<◌, ◌≤◌, length, insert, remove, slice_index_or, MatchOption, Some, None};
+ghost use Rattle.std.specs.Prelude.{◌≡◌, ◌+◌, ◌-◌, ◌*◌, ◌^◌, ◌<◌, ◌≤◌, [], length, insert, remove, slice_index_or, MatchOption, Some, None};
 ghost use Rattle.std.specs.Option.{ForSome};
 ghost use Rattle.std.proofs.Common.{refl};
 ghost use Rattle.range_store.specs.Depth.{HasLevels};
@@ -65,10 +65,10 @@ impl<T> BoxStorage<T> {
         (item, position(following))
     }
 
-    // The gap before an item, or at the end of the list.
+    // The gap before an item, or at the end of the list, if the list has items.
     fn gap_at(&self, before: Option<BoxPosition>) -> Option<Gap>
         requires { ForSome before (λ p. IsGood self.now p.found) }
-        ensures gap { ForSome result (IsTreeGap self.now.tree) }
+        ensures gap { MatchOption result (tree_numbers self.now.tree ≡ []) (IsTreeGap self.now.tree) }
         ensures place { gap_or_end self.now.tree result ≡ box_place self.now before }
     {
         match before {

@@ -1,6 +1,5 @@
 //! The calls of a list of numbers that is kept as a B-tree.
 ghost use Rattle.std.specs.Prelude.{◌≡◌, ℕ, ◌+◌, ◌-◌, ◌*◌, ◌<◌, ◌≤◌, ◌^◌, [], length, slice_index, insert, remove, OnOk, IfOk, MatchOption, count_by, None, Some};
-ghost use Rattle.std.specs.Option.{ForSome};
 ghost use Rattle.range_store.specs.Counting.{AddsSteps};
 ghost use Rattle.range_store.specs.Depth.{HasLevels};
 ghost use Rattle.range_store.specs.Falling.{Falls, passes};
@@ -9,7 +8,9 @@ ghost use Rattle.range_store.specs.Listed.{Stored};
 ghost use Rattle.range_store.specs.Trees.{tree_numbers, tree_room, IsTreeGap, tree_place, IsAt, gap_or_end};
 
 use crate::btree::insertion::insert_below;
-use crate::btree::node::{LEAST, MOST, Node, item_at, leaf_of, node_over, store};
+use crate::btree::node::{
+    LEAST, MOST, Node, item_at, item_count, leaf_of, node_over, put, store, take_item,
+};
 use crate::btree::number_tree::NumberTree;
 use crate::btree::removal::{Settled, remove_below, set_before, settle};
 use crate::btree::searching::{HALVINGS, Passed, search_below};
@@ -82,6 +83,17 @@ impl NumberTree {
         requires { IsTreeGap self.now gap }
         ensures { IsAt self.now result (tree_place self.now gap) }
     {
+        if gap.index < item_count(&self.nodes, gap.leaf) {
+            let number = item_at(&self.nodes, gap.leaf, gap.index);
+            return Some(Found {
+                number,
+                gap: Gap {
+                    leaf: gap.leaf,
+                    way: gap.way,
+                    index: gap.index + 1,
+                },
+            });
+        }
         following(&self.nodes, self.levels - 1, self.root, gap)
     }
 
@@ -90,6 +102,10 @@ impl NumberTree {
         requires { IsTreeGap self.now gap }
         ensures { MatchOption result (tree_place self.now gap ≡ 0) (λ f. (f.gap ≡ gap) × (0 < tree_place self.now gap) × (f.number ≡ slice_index (tree_numbers self.now) (tree_place self.now gap - 1))) }
     {
+        if gap.index > 0 {
+            let number = item_at(&self.nodes, gap.leaf, gap.index - 1);
+            return Some(Found { number, gap });
+        }
         let number = item_before(&self.nodes, self.levels - 1, self.root, gap)?;
         Some(Found { number, gap })
     }
@@ -99,6 +115,13 @@ impl NumberTree {
         requires { IsTreeGap self.now gap }
         ensures { MatchOption result (tree_place self.now gap ≡ 0) (λ h. IsTreeGap self.now h × (tree_place self.now h + 1 ≡ tree_place self.now gap)) }
     {
+        if gap.index > 0 {
+            return Some(Gap {
+                leaf: gap.leaf,
+                way: gap.way,
+                index: gap.index - 1,
+            });
+        }
         gap_before(&self.nodes, self.levels - 1, self.root, gap)
     }
 
@@ -118,9 +141,9 @@ impl NumberTree {
         self.nodes.reserve(wanted.saturating_sub(self.nodes.len()))
     }
 
-    /// Puts a number into a gap, or after all others, and tells the gap after it.
+    /// Puts a number into a gap, or into an empty tree, and tells the gap after it.
     pub fn insert(&mut self, gap: Option<Gap>, number: usize) -> Gap
-        requires gap { ForSome gap (IsTreeGap self.old) }
+        requires gap { MatchOption gap (tree_numbers self.old ≡ []) (IsTreeGap self.old) }
         requires room { 1 ≤ tree_room self.old }
         requires small { length (tree_numbers self.old) + 1 < 2 ^ 64 }
         ensures numbers { tree_numbers self.new ≡ insert (tree_numbers self.old) (gap_or_end self.old gap) number }
@@ -128,7 +151,7 @@ impl NumberTree {
         ensures gap { IsTreeGap self.new result }
         ensures place { tree_place self.new result ≡ gap_or_end self.old gap + 1 }
     {
-        let Some(gap) = gap.or(self.end()) else {
+        let Some(gap) = gap else {
             self.root = store(&mut self.nodes, leaf_of(number));
             self.levels = 1;
             return Gap {
@@ -137,6 +160,14 @@ impl NumberTree {
                 index: 1,
             };
         };
+        if item_count(&self.nodes, gap.leaf) < MOST {
+            put(&mut self.nodes, gap.leaf, gap.index, number, None);
+            return Gap {
+                leaf: gap.leaf,
+                way: gap.way,
+                index: gap.index + 1,
+            };
+        }
         let inserted = insert_below(&mut self.nodes, self.levels - 1, self.root, gap, number);
         match inserted.split {
             None => inserted.gap,
@@ -180,6 +211,14 @@ impl NumberTree {
         ensures capacity { self.new.nodes.capacity ≡ self.old.nodes.capacity }
         ensures gap { MatchOption result (tree_numbers self.new ≡ []) (λ g. IsTreeGap self.new g × (tree_place self.new g + 1 ≡ tree_place self.old gap)) }
     {
+        if item_count(&self.nodes, gap.leaf) > LEAST {
+            take_item(&mut self.nodes, gap.leaf, gap.index - 1);
+            return Some(Gap {
+                leaf: gap.leaf,
+                way: gap.way,
+                index: gap.index - 1,
+            });
+        }
         let left = remove_below(&mut self.nodes, self.levels - 1, self.root, gap);
         let Settled { root, gap } = settle(&mut self.nodes, self.levels, self.root, left);
         self.root = root.number;
