@@ -60,7 +60,8 @@ impl NumberTree {
 
     /// The gap before all numbers.
     pub fn start(&self) -> Option<Gap>
-        ensures { MatchOption result (tree_numbers self.now ≡ []) (λ g. IsTreeGap self.now g × (tree_place self.now g ≡ 0)) }
+        ensures { MatchOption result (tree_numbers self.now ≡ [])
+            (λ g. IsTreeGap self.now g × (tree_place self.now g ≡ 0)) }
     {
         if self.levels == 0 {
             return None;
@@ -70,7 +71,8 @@ impl NumberTree {
 
     /// The gap after all numbers.
     pub fn end(&self) -> Option<Gap>
-        ensures { MatchOption result (tree_numbers self.now ≡ []) (λ g. IsTreeGap self.now g × (tree_place self.now g ≡ length (tree_numbers self.now))) }
+        ensures { MatchOption result (tree_numbers self.now ≡ [])
+            (λ g. IsTreeGap self.now g × (tree_place self.now g ≡ length (tree_numbers self.now))) }
     {
         if self.levels == 0 {
             return None;
@@ -100,7 +102,9 @@ impl NumberTree {
     /// The number before a gap.
     pub fn preceding(&self, gap: Gap) -> Option<Found>
         requires { IsTreeGap self.now gap }
-        ensures { MatchOption result (tree_place self.now gap ≡ 0) (λ f. (f.gap ≡ gap) × (0 < tree_place self.now gap) × (f.number ≡ slice_index (tree_numbers self.now) (tree_place self.now gap - 1))) }
+        ensures { MatchOption result (tree_place self.now gap ≡ 0)
+            (λ f. (f.gap ≡ gap) × (0 < tree_place self.now gap)
+            × (f.number ≡ slice_index (tree_numbers self.now) (tree_place self.now gap - 1))) }
     {
         if gap.index > 0 {
             let number = item_at(&self.nodes, gap.leaf, gap.index - 1);
@@ -113,7 +117,8 @@ impl NumberTree {
     /// The gap before the number before a gap.
     pub fn gap_before(&self, gap: Gap) -> Option<Gap>
         requires { IsTreeGap self.now gap }
-        ensures { MatchOption result (tree_place self.now gap ≡ 0) (λ h. IsTreeGap self.now h × (tree_place self.now h + 1 ≡ tree_place self.now gap)) }
+        ensures { MatchOption result (tree_place self.now gap ≡ 0)
+            (λ h. IsTreeGap self.now h × (tree_place self.now h + 1 ≡ tree_place self.now gap)) }
     {
         if gap.index > 0 {
             return Some(Gap {
@@ -132,7 +137,8 @@ impl NumberTree {
         ensures no_less { tree_room self.old ≤ tree_room self.new }
         ensures numbers { tree_numbers self.new ≡ tree_numbers self.old }
         ensures levels { self.new.levels ≡ self.old.levels }
-        ensures gaps { (g : Gap) → IsTreeGap self.old g → IsTreeGap self.new g × (tree_place self.new g ≡ tree_place self.old g) }
+        ensures gaps { (g : Gap) → IsTreeGap self.old g
+            → IsTreeGap self.new g × (tree_place self.new g ≡ tree_place self.old g) }
     {
         if additional > usize::MAX - len {
             return Err(AllocError);
@@ -146,7 +152,8 @@ impl NumberTree {
         requires gap { MatchOption gap (tree_numbers self.old ≡ []) (IsTreeGap self.old) }
         requires room { 1 ≤ tree_room self.old }
         requires small { length (tree_numbers self.old) + 1 < 2 ^ 64 }
-        ensures numbers { tree_numbers self.new ≡ insert (tree_numbers self.old) (gap_or_end self.old gap) number }
+        ensures numbers { tree_numbers self.new
+            ≡ insert (tree_numbers self.old) (gap_or_end self.old gap) number }
         ensures room { tree_room self.new + 1 ≡ tree_room self.old }
         ensures gap { IsTreeGap self.new result }
         ensures place { tree_place self.new result ≡ gap_or_end self.old gap + 1 }
@@ -183,7 +190,8 @@ impl NumberTree {
     pub fn remove(&mut self, gap: Gap) -> Option<Found>
         requires gap { IsTreeGap self.old gap }
         requires some { 0 < tree_place self.old gap }
-        ensures numbers { tree_numbers self.new ≡ remove (tree_numbers self.old) (tree_place self.old gap - 1) }
+        ensures numbers { tree_numbers self.new
+            ≡ remove (tree_numbers self.old) (tree_place self.old gap - 1) }
         ensures room { tree_room self.new ≡ tree_room self.old + 1 }
         ensures following { IsAt self.new result (tree_place self.old gap - 1) }
     {
@@ -207,9 +215,11 @@ impl NumberTree {
     fn remove_in_leaf(&mut self, gap: Gap) -> Option<Gap>
         requires gap { IsTreeGap self.old gap }
         requires in_leaf { 0 < gap.index }
-        ensures numbers { tree_numbers self.new ≡ remove (tree_numbers self.old) (tree_place self.old gap - 1) }
+        ensures numbers { tree_numbers self.new
+            ≡ remove (tree_numbers self.old) (tree_place self.old gap - 1) }
         ensures capacity { self.new.nodes.capacity ≡ self.old.nodes.capacity }
-        ensures gap { MatchOption result (tree_numbers self.new ≡ []) (λ g. IsTreeGap self.new g × (tree_place self.new g + 1 ≡ tree_place self.old gap)) }
+        ensures gap { MatchOption result (tree_numbers self.new ≡ [])
+            (λ g. IsTreeGap self.new g × (tree_place self.new g + 1 ≡ tree_place self.old gap)) }
     {
         if item_count(&self.nodes, gap.leaf) > LEAST {
             take_item(&mut self.nodes, gap.leaf, gap.index - 1);
@@ -233,9 +243,15 @@ impl NumberTree {
     pub fn search<T, P: Probe<T>>(&self, items: &Slab<T>, probe: &mut P) -> Option<Found>
         requires stored { Stored items.now (tree_numbers self.now) }
         requires falls { Falls (passes items.now (P.test probe.old)) (tree_numbers self.now) }
-        ensures last { MatchOption result (count_by (passes items.now (P.test probe.old)) (tree_numbers self.now) ≡ 0) (λ f. IsTreeGap self.now f.gap × (tree_place self.now f.gap ≡ count_by (passes items.now (P.test probe.old)) (tree_numbers self.now)) × IsLast (tree_numbers self.now) (tree_place self.now f.gap) (Some f.number)) }
+        ensures last { MatchOption result
+            (count_by (passes items.now (P.test probe.old)) (tree_numbers self.now) ≡ 0)
+            (λ f. IsTreeGap self.now f.gap
+            × (tree_place self.now f.gap
+            ≡ count_by (passes items.now (P.test probe.old)) (tree_numbers self.now))
+            × IsLast (tree_numbers self.now) (tree_place self.now f.gap) (Some f.number)) }
         ensures kept { P.test probe.new ≡ P.test probe.old }
-        ensures asked { AddsSteps (P.steps_taken probe.old) (P.steps_taken probe.new) self.now.levels (HALVINGS * self.now.levels) }
+        ensures asked { AddsSteps (P.steps_taken probe.old) (P.steps_taken probe.new)
+            self.now.levels (HALVINGS * self.now.levels) }
     {
         if self.levels == 0 {
             return None;
