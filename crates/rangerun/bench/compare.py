@@ -1,11 +1,9 @@
 #!/usr/bin/env python3
 """Times `rangerun i32` beside a Rust program that answers the same commands over std's `BTreeMap`.
 
-    ./compare.py STANDARD RANGERUN [RANGES]
-
-STANDARD is `standard.rs`, built by `rustc -O`; RANGERUN the proved program. Prints for each kind of command the
-processor time that one takes, and the ratio; first both programs have to give the same replies. What fills the map
-before the commands is timed alone, and taken off. The least of five runs counts.
+`compare.sh` builds the one, and calls this with both: compare.py STANDARD RANGERUN [RANGES]. Prints for each kind of
+command the processor time that one takes, and the ratio; both programs have to give the same replies. What fills the
+map before the commands is timed alone, and taken off. The least of five runs counts.
 """
 
 import os
@@ -39,6 +37,7 @@ def kinds(ranges):
     count = 2 * ranges
     once = list(range(ranges))
     random.shuffle(once)
+    yield "counts", [], ["count"] * ranges
     yield "random insertions", [], base
     yield "rising insertions", [], rising
     yield "falling insertions", [], rising[::-1]
