@@ -131,11 +131,11 @@ pub(crate) fn bind<K: Measure + Clone, V: Eq + Clone, C: Storage<Item<AnyRange<K
 
 /// Binds each key of a nonempty range to the value: with no search where the range comes after all
 /// stored ones.
-pub(crate) fn bind_in_order<
-    K: Measure + Clone,
-    V: Eq + Clone,
-    C: Storage<Item<AnyRange<K>, V>>,
->(stored: &mut C, range: AnyRange<K>, value: V) -> Result<(), AllocError>
+pub(crate) fn bind_in_order<K: Measure + Clone, V: Eq + Clone, C: Storage<Item<AnyRange<K>, V>>>(
+    stored: &mut C,
+    range: AnyRange<K>,
+    value: V,
+) -> Result<(), AllocError>
     requires keys { ClonesAreEqual K.is_clone K.eq }
     requires values { ClonesAreEqual V.is_clone V.eq }
     requires stored { IsStored K.order V.eq (C.items stored.old) }
