@@ -24,7 +24,7 @@ deep s (suc d) root roomy =
       | inr high ↦
           let some : 0 < LEAST + 1 = omega arith in
           let more : (LEAST + 1) ^ DEEPEST ≤ (LEAST + 1) ^ d = pow-le-pow_right some high in
-          let limit : ◌≡◌ {A = ℕ} ((LEAST + 1) ^ DEEPEST) (2 ^ 64) = refl in
+          let limit : 2 ^ 64 ≤ (LEAST + 1) ^ DEEPEST = omega arith in
           absurd (omega (arith, tree_lower s d root roomy.tree, more, limit, roomy.counted))
     ]
 

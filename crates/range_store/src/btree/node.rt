@@ -8,10 +8,10 @@ use arrayvec::ArrayVec;
 use slab::Slab;
 
 /// The most items in a node.
-pub const MOST: usize = 7;
+pub const MOST: usize = 11;
 
 /// The fewest items in a node other than the root.
-pub const LEAST: usize = 3;
+pub const LEAST: usize = 5;
 
 // How many items of an overfull node stay in its first half.
 pub const HALF: usize = (MOST + 1) / 2;

@@ -12,7 +12,7 @@ use crate::storage::Probe;
 use slab::Slab;
 
 // How often a node is asked at most.
-pub const HALVINGS: usize = 3;
+pub const HALVINGS: usize = 4;
 
 // How many of the items under these numbers pass, found by halving.
 pub fn halve<T, P: Probe<T>>(list: &[usize], items: &Slab<T>, probe: &mut P) -> usize
