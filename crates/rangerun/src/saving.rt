@@ -103,7 +103,7 @@ fn map_of<K: SpelledKey>(alloc: Global, text: &str) -> Result<RangeMap<K, i64>, 
     }
 }
 
-/// Puts what the text is read as in the place of the map, and writes `ok`.
+/// Replaces the map by what the text is read as, and writes `ok`.
 ///
 /// A text that is not read writes why, and leaves the map as it was.
 pub fn load<K: SpelledKey, W: Write>(
