@@ -1,3 +1,4 @@
+pub mod Appending
 pub mod Adding
 pub mod Coarse
 pub mod Copying

@@ -1,10 +1,11 @@
 -- A range that lies apart from all stored ones, and the list with it.
 use Rattle.std.proofs.Common.{◌≡◌, ℕ, zero, suc, ◌+◌, ◌<◌, List, [], ◌∷◌, ◌++◌, length, take, drop, get_or, refl, ap, sym, subst, ◌∙◌, arith, Option, Some, None, Bool, true, false, ◌&&◌, IsTrue, ◌⊎◌, inl, inr}
-use Rattle.std.specs.Prelude.{insert}
+use Rattle.std.specs.Prelude.{insert, MatchOption}
 use Rattle.std.specs.declared.cmp.Ordering.{Ordering}
 use Rattle.std.specs.declared.cmp.Ordering.TheVariants.{Less, Equal, Greater}
 use Rattle.std.specs.Cmp.{IsEquivalence, tied_itself}
 use Rattle.std.proofs.lemmas.List.{drop_more, take_more}
+use Rattle.std.proofs.Math.Seq.{take-length}
 use Rattle.range_keys.specs.Order.{KeyOrder, IsLawful}
 use Rattle.range_keys.specs.Position.{end_position, position_cmp}
 use Rattle.range_keys.specs.PositionOrder.{position_total}
@@ -41,6 +42,10 @@ put_at is_good good_after rank rank_after items ready new from x at same kept do
     let place = place_before rank (length items) from in
     let here : place_before rank_after (length ready) from ≡ place = ap (λ n. place_before rank_after n from) (ap length same) ∙ place_at good_after rank_after (length items) from place (kept_at is_good good_after rank rank_after (length items) from place kept at) in
     done ∙ (ap (λ n. insert ready n x) here ∙ ap (λ xs. insert xs place x) same)
+
+last_place : {X P : Type 0} (is_good : P → Type 0) (rank : P → ℕ) (items : List X) (last : Option P) → MatchOption last (items ≡ []) (λ p. is_good p × (rank p + 1 ≡ length items)) → IsJustBefore is_good rank last (length items)
+last_place is_good rank items None at = rw at refl
+last_place is_good rank items (Some p) at = at
 
 item_at : {X : Type 0} (xs : List X) (n : ℕ) → n < length xs → (x : X) × (x ≡ get_or xs n x)
 item_at [] n within = absurd (omega arith)
@@ -156,6 +161,11 @@ module _ {K : Type 0} (order : KeyOrder K) (lawful : IsLawful order) where
           let within = good_in_range q at.0 in
           let found = item_at items (rank q) within in
           rw (← at.1) (clear_back (rank q) found.0 within found.1 ((answer found.0 found.1).0 h))
+
+      -- where the last of all lies apart, each ends before the range
+      pub all_before : {P : Type 0} (is_good : P → Type 0) (rank : P → ℕ) (good_in_range : (p : P) → is_good p → rank p < length items) (last : Option P) (b : Bool) → MatchOption last (items ≡ []) (λ p. is_good p × (rank p + 1 ≡ length items)) → IsAnswerAt order (λ i. LiesApart order i.key r) rank items last b → IsTrue b → Every (Before r) items
+      all_before is_good rank good_in_range last b at answer h =
+          rw (take-length items) at (clear_before is_good rank good_in_range last (length items) b (last_place is_good rank items last at) answer h)
 
       taken_before : {P : Type 0} (is_good : P → Type 0) (rank : P → ℕ) (good_in_range : (p : P) → is_good p → rank p < length items) (before : Option P) (place : ℕ) (b : Bool) → IsJustBefore is_good rank before place → IsAnswerAt order (λ i. LiesApart order i.key r) rank items before b → Every (λ i. PLt (end_position order i.key.end) (lower order r)) (take place items) → b ≡ false → IsConnectedToSome order items r
       taken_before is_good rank good_in_range None place b at answer below f = absurd (let clash : false ≡ true = sym f ∙ answer in cc)

@@ -30,6 +30,10 @@ module _ {K : Type 0} (order : KeyOrder K) where
   LiesApart r s = LiesBefore order r s × (¬ Touches order r s)
 
   module _ {V : Type 0} where
+    -- each item ends before the range begins, with a place between
+    abbrev pub AllEndBefore : List (Item (AnyRange K) V) → AnyRange K → Type 0
+    AllEndBefore items r = Every (λ i. Lt (position_cmp order.cmp) (item_upper order i) (lower order r)) items
+
     -- the item, where there is one, passes the test exactly where the answer is true
     abbrev pub IsAnswerAt : {P : Type 0} → (Item (AnyRange K) V → Type 0) → (P → ℕ) → List (Item (AnyRange K) V) → Option P → Bool → Type 0
     IsAnswerAt test rank items None answer = answer ≡ true

@@ -20,7 +20,8 @@ impl<T: Measure + Clone, C: Storage<Item<AnyRange<T>, ()>>> RangeSet<T, C> {
     ///
     /// Allocates where one range more is stored and the container has no capacity for it. After an
     /// error the set is as it was. Costs one search, and a step for each stored range that the
-    /// range meets or touches.
+    /// range meets or touches; no search where the range comes after all stored ones and touches
+    /// none.
     ///
     /// ```
     /// let mut set: RangeSet<i32> = RangeSet::default(rt.alloc()); // in the default container
@@ -43,8 +44,7 @@ impl<T: Measure + Clone, C: Storage<Item<AnyRange<T>, ()>>> RangeSet<T, C> {
         ensures empty_unchanged { IsEmptyRange T.order (R.range range)
             → C.items self.new ≡ C.items self.old }
     {
-        let mut steps = Steps::new();
-        self.insert_counted(range, &mut steps)
+        self.map.insert(range, ())
     }
 
     /// Adds each key of the range, as `insert` does; adds the steps that it takes.

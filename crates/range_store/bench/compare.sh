@@ -7,11 +7,13 @@ top=$(cd "$(dirname "$0")/../../.." && pwd)
 work=$(mktemp -d)
 trap 'rm -rf "$work"' EXIT
 mkdir -p "$work/crates/containers/src"
-for crate in range_keys range_algebra range_store range_map range_sets btree_range_map; do
+crates="range_keys range_algebra range_store range_map range_sets range_json btree_range_map"
+for crate in $crates; do
     cp -r "$top/crates/$crate" "$work/crates/"
+    grep "^$crate:" "$top/crates.txt" >> "$work/crates.txt"
 done
 cp "$top/HANDLES" "$work/"
-{ grep -Ev '^(rangerun|[a-z]+_tests):' "$top/crates.txt"; echo 'containers: btree_range_map anyhow'; } > "$work/crates.txt"
+echo 'containers: btree_range_map anyhow' >> "$work/crates.txt"
 cp "$(dirname "$0")/containers.txt" "$work/crates/containers/src/main.rt"
 cd "$work/crates/containers"
 rt run

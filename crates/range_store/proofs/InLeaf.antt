@@ -20,23 +20,32 @@ unfolding place
 place_index s zero n g = omega arith
 place_index s (suc d) n g = omega (arith, place_index s d (get_or (children_of (get s n)) (turn g) 0) (inside g))
 
--- the leaf has an item
-pub leaf_full : (s : Slab Node) (d n : ℕ) (g : Gap) → ShapedBut 1 MOST s d n → IsGap s d n g → IsSome (get s g.leaf) × (0 < length (items_of (get s g.leaf)))
-unfolding IsGap
-leaf_full s zero n g shaped is = rw is.0 (shaped.node.present, omega (arith, shaped.node.enough))
-leaf_full s (suc d) n g shaped is =
-    let low : turn g ≤ length (items_of (get s n)) = omega (arith, is.0, shaped.node.branches) in
-    leaf_full s d _ (inside g) (wider 1 LEAST MOST MOST s d _ (omega arith) (omega arith) (kid_shaped 1 MOST s d n (turn g) shaped low)) is.1
+-- the leaf that a gap lies in
+pub record IsLeafOf (s : Slab Node) (g : Gap) : Type 0 where
+  pub present : IsSome (get s g.leaf)
+  pub some : 0 < length (items_of (get s g.leaf))
+  pub fits : length (items_of (get s g.leaf)) ≤ MOST
+  pub childless : length (children_of (get s g.leaf)) ≡ 0
+  pub within : g.index ≤ length (items_of (get s g.leaf))
 
--- the next gap in it
-pub leaf_next : (s : Slab Node) (d n : ℕ) (g h : Gap) → h.leaf ≡ g.leaf → h.way ≡ g.way → h.index ≡ g.index + 1 → g.index < length (items_of (get s g.leaf)) → IsGap s d n g → IsGap s d n h × (place s d n h ≡ place s d n g + 1)
+pub leaf_of_gap : (s : Slab Node) (d n : ℕ) (g : Gap) → ShapedBut 1 MOST s d n → IsGap s d n g → IsLeafOf s g
+unfolding IsGap
+leaf_of_gap s zero n g shaped is =
+    rw is.0 (record { present = shaped.node.present; some = shaped.node.enough; fits = shaped.node.fits; childless = shaped.node.branches; within = is.2 })
+leaf_of_gap s (suc d) n g shaped is =
+    let low : turn g ≤ length (items_of (get s n)) = omega (arith, is.0, shaped.node.branches) in
+    let below = leaf_of_gap s d _ (inside g) (wider 1 LEAST MOST MOST s d _ (omega arith) (omega arith) (kid_shaped 1 MOST s d n (turn g) shaped low)) is.1 in
+    record { present = below.present; some = below.some; fits = below.fits; childless = below.childless; within = below.within }
+
+-- another gap in it
+pub leaf_beside : (s : Slab Node) (d n : ℕ) (g h : Gap) → h.leaf ≡ g.leaf → h.way ≡ g.way → h.index ≤ length (items_of (get s g.leaf)) → IsGap s d n g → IsGap s d n h × (place s d n h + g.index ≡ place s d n g + h.index)
 unfolding IsGap place
-leaf_next s zero n g h leaf way index low is =
-    let within : g.index < length (items_of (get s n)) = rw is.0 at low in
-    ((leaf ∙ is.0, way ∙ is.1, omega (arith, index, within)), index)
-leaf_next s (suc d) n g h leaf way index low is =
+leaf_beside s zero n g h leaf way index is =
+    let within : h.index ≤ length (items_of (get s n)) = rw is.0 at index in
+    ((leaf ∙ is.0, way ∙ is.1, within), omega arith)
+leaf_beside s (suc d) n g h leaf way index is =
     let first : turn h ≡ turn g = ap (λ w. w % WIDTH) way in
-    let rest = leaf_next s d (get_or (children_of (get s n)) (turn g) 0) (inside g) (inside h) leaf (ap (λ w. w / WIDTH) way) index low is.1 in
+    let rest = leaf_beside s d (get_or (children_of (get s n)) (turn g) 0) (inside g) (inside h) leaf (ap (λ w. w / WIDTH) way) index is.1 in
     rw first ((is.0, rest.0), omega (arith, rest.1))
 
 -- the item after it stands after the gap

@@ -71,7 +71,7 @@ module _ (s t : Slab Node) (b n i q item : ℕ) (inner : b ≢ 0) (shaped : Shap
   kept = kid_kept s t b n i _ inner shaped owned low listed moved
 
   kid_now : Shaped t b kid
-  kid_now = rw back at (Shaped-from_but t (b - 1) kid (child.shape LEAST (kid_shaped 1 MOST s (b - 1) n i (rw (← back) at shaped) low)))
+  kid_now = rw back at (Shaped-from_but t (b - 1) kid (child.shape LEAST (omega arith) (kid_shaped 1 MOST s (b - 1) n i (rw (← back) at shaped) low)))
 
   pub rewritten_above : IsRewritten s t b n (set (numbers s (suc b) n) (length (before (items_of (get s n)) (map (numbers s b) (children_of (get s n))) i) + q) item)
   rewritten_above = record {
@@ -80,7 +80,7 @@ module _ (s t : Slab Node) (b n i q item : ℕ) (inner : b ≢ 0) (shaped : Shap
         ∙ sym (set_middle front (numbers s b kid) behind q item within)
         ∙ ap (λ zs. set zs (length front + q) item) (sym (numbers_at 1 MOST s b n (omega arith) shaped i low));
     moved = kid_moved s t b n i _ inner shaped owned low listed moved;
-    shape = λ least old. record {
+    shape = λ least small old. record {
       node = IsNode-same least MOST s t b n kept old.node;
       children = kid_children s t b n i _ inner shaped owned low listed moved kid_now;
     };
@@ -130,7 +130,7 @@ module _ (s t : Slab Node) (b n j item : ℕ) (inner : b ≢ 0) (shaped : Shaped
       record {
         listed = held_numbers s t b n (set xs j item) ks holds ∙ weave_set xs lists j item low many ∙ ap (λ zs. set (weave xs lists) (length (before xs lists j) + length zs) item) kid ∙ ap (λ zs. set zs (length (before xs lists j) + length (numbers s b (get_or ks j 0))) item) (sym (weave_numbers s b n));
         moved = rw (used_is s b n, held_used s t b n (set xs j item) ks holds) (Writes-moves s t n _ _ (flat_map (used s b) ks) written);
-        shape = λ least old. held_shape s t b n (set xs j item) ks holds least (omega (arith, as_many, old.node.enough)) (omega (arith, as_many, shaped.node.fits)) branches shaped.children;
+        shape = λ least small old. held_shape s t b n (set xs j item) ks holds least (omega (arith, as_many, old.node.enough)) (omega (arith, as_many, shaped.node.fits)) branches shaped.children;
       }
 
   pub kept_here : (g : Gap) → IsGap s b n g → IsGap t b n g × (place t b n g ≡ place s b n g)

@@ -122,7 +122,7 @@ rewritten_tree s t (suc d) root list some tree step' =
     let level : suc d - 1 ≡ d = omega arith in
     let step = rw level at step' in
     let whole : IsTree t (suc d) root = record {
-      shaped = step.shape 1 tree.shaped;
+      shaped = step.shape 1 (omega arith) tree.shaped;
       once = λ k. omega (arith, step.moved.owned k, tree.once k);
       len = omega (arith, step.moved.len, tree.len);
     } in

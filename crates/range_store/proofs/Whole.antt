@@ -1,18 +1,17 @@
 -- What is known of a whole tree of numbers.
-use Rattle.std.specs.Prelude.{MatchOption}
-use Rattle.std.specs.Option.{ForSome, option_or}
-use Rattle.std.proofs.Common.{◌≡◌, [], Option, Some, None, ℕ, zero, suc, ◌+◌, ◌-◌, ◌^◌, ◌<◌, ◌≤◌, length, refl, ap, inl, inr, arith}
+use Rattle.std.proofs.Common.{◌≡◌, ℕ, zero, suc, ◌+◌, ◌-◌, ◌^◌, ◌<◌, ◌≤◌, length, get_or, refl, inl, inr, arith}
 use Rattle.std.proofs.Math.Nat.{pow-le-pow_right}
 use Rattle.std.proofs.lemmas.Bool.{cases_lt}
-use Rattle.slab.specs.Slab.{Slab}
+use Rattle.slab.specs.Slab.{Slab, get}
 use Rattle.range_store.specs.declared.btree.node.Node.{Node}
 use Rattle.range_store.specs.declared.btree.node.TheConstants.{MOST, LEAST}
 use Rattle.range_store.specs.declared.btree.way.TheConstants.{DEEPEST}
 use Rattle.range_store.specs.declared.btree.number_tree.NumberTree.{NumberTree}
 use Rattle.range_store.specs.declared.btree.way.Gap.{Gap}
-use Rattle.range_store.specs.Trees.{tree_numbers, IsTreeGap, tree_place, gap_or_end}
-use Rattle.range_store.specs.Nodes.{IsRoomy}
+use Rattle.range_store.specs.Trees.{tree_numbers, IsTreeGap, tree_place}
+use Rattle.range_store.specs.Nodes.{IsRoomy, ShapedBut, items_of}
 use Rattle.range_store.proofs.Gaps.{place_within}
+use Rattle.range_store.proofs.InLeaf.{IsLeafOf, leaf_of_gap, leaf_beside, leaf_item}
 use Rattle.range_store.proofs.Levels.{tree_lower}
 use Rattle.range_store.proofs.Rank.{root_shaped}
 
@@ -29,24 +28,27 @@ deep s (suc d) root roomy =
           absurd (omega (arith, tree_lower s d root roomy.tree, more, limit, roomy.counted))
     ]
 
-abbrev gap_of : Gap → Option Gap → Gap
-gap_of other None = other
-gap_of other (Some g) = g
-
--- the gap that is asked for, or the last one
-module _ (t : NumberTree) where
-  pub given_gap : (asked last : Option Gap) (g : Gap) → ForSome asked (IsTreeGap t) → MatchOption last (tree_numbers t ≡ []) (λ h. IsTreeGap t h × (tree_place t h ≡ length (tree_numbers t))) → option_or asked last ≡ Some g → IsTreeGap t g × (tree_place t g ≡ gap_or_end t asked)
-  given_gap (Some h) last g good ends same = let at : h ≡ g = ap (gap_of g) same in rw (← at) (good h refl, refl)
-  given_gap None (Some h) g good ends same = let at : h ≡ g = ap (gap_of g) same in rw at at ends
-  given_gap None None g good ends same = absurd (cc)
-
-  pub none_given : (asked last : Option Gap) → MatchOption last (tree_numbers t ≡ []) (λ h. IsTreeGap t h × (tree_place t h ≡ length (tree_numbers t))) → option_or asked last ≡ None → (asked ≡ None) × (tree_numbers t ≡ [])
-  none_given (Some h) last ends same = absurd (cc)
-  none_given None (Some h) ends same = absurd (cc)
-  none_given None None ends same = (refl, ends)
-
 -- no gap lies past the end
 pub gap_within : (t : NumberTree) (g : Gap) → IsTreeGap t g → tree_place t g ≤ length (tree_numbers t)
 gap_within t g is =
     let level : suc (t.levels - 1) ≡ t.levels = omega (arith, is.some) in
     rw level at (place_within t.nodes (t.levels - 1) t.root g 1 MOST (root_shaped t.nodes t.levels t.root is.some t.whole.tree) is.gap)
+
+-- a gap in the leaf of another, and the item there
+module _ (t : NumberTree) (g : Gap) (is : IsTreeGap t g) where
+  level : suc (t.levels - 1) ≡ t.levels
+  level = omega (arith, is.some)
+
+  shaped : ShapedBut 1 MOST t.nodes (t.levels - 1) t.root
+  shaped = root_shaped t.nodes t.levels t.root is.some t.whole.tree
+
+  pub tree_leaf : IsLeafOf t.nodes g
+  tree_leaf = leaf_of_gap t.nodes (t.levels - 1) t.root g shaped is.gap
+
+  pub tree_beside : (h : Gap) → h.leaf ≡ g.leaf → h.way ≡ g.way → h.index ≤ length (items_of (get t.nodes g.leaf)) → IsTreeGap t h × (tree_place t h + g.index ≡ tree_place t g + h.index)
+  tree_beside h leaf way index =
+      let other = leaf_beside t.nodes (t.levels - 1) t.root g h leaf way index is.gap in
+      (record { some = is.some; gap = other.0 }, other.1)
+
+  pub tree_item : g.index < length (items_of (get t.nodes g.leaf)) → (get_or (tree_numbers t) (tree_place t g) 0 ≡ get_or (items_of (get t.nodes g.leaf)) g.index 0) × (tree_place t g < length (tree_numbers t))
+  tree_item low = rw level at (leaf_item t.nodes (t.levels - 1) t.root g 1 MOST shaped low is.gap)

@@ -32,7 +32,7 @@ pub record Divides (old new : Slab Node) (n half : ℕ) (xs ks : List ℕ) (spli
 pub record IsRewritten (old new : Slab Node) (d n : ℕ) (list : List ℕ) : Type 0 where
   pub listed : numbers new (suc d) n ≡ list
   pub moved : Moves old new (used old (suc d) n) (used new (suc d) n)
-  pub shape : (least : ℕ) → ShapedBut least MOST old d n → ShapedBut least MOST new d n
+  pub shape : (least : ℕ) → least ≤ LEAST → ShapedBut least MOST old d n → ShapedBut least MOST new d n
 
 -- two nodes over d levels, of which one may lack an item
 pub record IsPair (s : Slab Node) (d l r : ℕ) : Type 0 where

@@ -1,5 +1,5 @@
 //! A container kept as a B-tree.
-ghost use Rattle.std.specs.Prelude.{◌≡◌, ◌+◌, ◌-◌, ◌*◌, ◌^◌, ◌<◌, ◌≤◌, length, insert, remove, slice_index_or, MatchOption, Some, None};
+ghost use Rattle.std.specs.Prelude.{◌≡◌, ◌+◌, ◌-◌, ◌*◌, ◌^◌, ◌<◌, ◌≤◌, [], length, insert, remove, slice_index_or, MatchOption, Some, None};
 ghost use Rattle.std.specs.Option.{ForSome};
 ghost use Rattle.std.proofs.Common.{refl};
 ghost use Rattle.range_store.specs.Depth.{HasLevels};
@@ -46,8 +46,10 @@ impl<T> BoxStorage<T> {
     pub fn levels(&self) -> usize
         ensures value { result ≡ level_count self.now }
         ensures empty { length (box_items self.now) ≡ 0 → result ≡ 0 }
-        ensures least { 0 < length (box_items self.now) → 2 * (LEAST + 1) ^ (result - 1) ≤ length (box_items self.now) + 1 }
-        ensures most { 0 < length (box_items self.now) → length (box_items self.now) + 1 ≤ (MOST + 1) ^ result }
+        ensures least { 0 < length (box_items self.now)
+            → 2 * (LEAST + 1) ^ (result - 1) ≤ length (box_items self.now) + 1 }
+        ensures most { 0 < length (box_items self.now)
+            → length (box_items self.now) + 1 ≤ (MOST + 1) ^ result }
     {
         self.tree.levels()
     }
@@ -55,7 +57,8 @@ impl<T> BoxStorage<T> {
     // Takes the item at a position out, and tells the position of the one that followed it.
     fn take(&mut self, p: Found) -> (T, Option<BoxPosition>)
         requires { IsGood self.old p }
-        ensures removed { result.0 ≡ slice_index_or (box_items self.old) (box_rank self.old p) result.0 }
+        ensures removed { result.0
+            ≡ slice_index_or (box_items self.old) (box_rank self.old p) result.0 }
         ensures list { box_items self.new ≡ remove (box_items self.old) (box_rank self.old p) }
         ensures following { IsBoxAt self.new result.1 (box_rank self.old p) }
         ensures space { box_room self.old ≤ box_room self.new }
@@ -65,10 +68,11 @@ impl<T> BoxStorage<T> {
         (item, position(following))
     }
 
-    // The gap before an item, or at the end of the list.
+    // The gap before an item, or at the end of the list, if the list has items.
     fn gap_at(&self, before: Option<BoxPosition>) -> Option<Gap>
         requires { ForSome before (λ p. IsGood self.now p.found) }
-        ensures gap { ForSome result (IsTreeGap self.now.tree) }
+        ensures gap { MatchOption result (tree_numbers self.now.tree ≡ [])
+            (IsTreeGap self.now.tree) }
         ensures place { gap_or_end self.now.tree result ≡ box_place self.now before }
     {
         match before {
@@ -163,9 +167,11 @@ impl<T: Drop> Storage<T> for BoxStorage<T> {
     fn insert_at(&mut self, before: Option<BoxPosition>, item: T) -> BoxPosition
         requires good { ForSome before (λ p. IsGood self.old p.found) }
         requires has_room { 1 ≤ box_room self.old }
-        ensures list { box_items self.new ≡ insert (box_items self.old) (box_place self.old before) item }
+        ensures list { box_items self.new
+            ≡ insert (box_items self.old) (box_place self.old before) item }
         ensures space { box_room self.old ≡ box_room self.new + 1 }
-        ensures position { IsGood self.new result.found × (box_rank self.new result.found ≡ box_place self.old before) }
+        ensures position { IsGood self.new result.found
+            × (box_rank self.new result.found ≡ box_place self.old before) }
     {
         let gap = self.gap_at(before);
         let number = self.items.insert_reserved(item);

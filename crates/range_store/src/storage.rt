@@ -138,17 +138,20 @@ pub trait Storage<T>: Drop {
 
     /// The position of the last item, or none where there is no item.
     fn last(&self) -> Option<Self::Position>
-        ensures { MatchOption result (items self.now ≡ []) (λ p. is_good self.now p × (rank self.now p + 1 ≡ length (items self.now))) };
+        ensures { MatchOption result (items self.now ≡ [])
+            (λ p. is_good self.now p × (rank self.now p + 1 ≡ length (items self.now))) };
 
     /// The position after this one, or none after the last item.
     fn next(&self, p: Self::Position) -> Option<Self::Position>
         requires { is_good self.now p }
-        ensures { IsAt (is_good self.now) (rank self.now) (length (items self.now)) result (rank self.now p + 1) };
+        ensures { IsAt (is_good self.now) (rank self.now) (length (items self.now)) result
+            (rank self.now p + 1) };
 
     /// The position before this one, or none before the first item.
     fn prev(&self, p: Self::Position) -> Option<Self::Position>
         requires { is_good self.now p }
-        ensures { MatchOption result (rank self.now p ≡ 0) (λ q. is_good self.now q × (rank self.now q + 1 ≡ rank self.now p)) };
+        ensures { MatchOption result (rank self.now p ≡ 0)
+            (λ q. is_good self.now q × (rank self.now q + 1 ≡ rank self.now p)) };
 
     /// The item at a position.
     fn get(&self, p: Self::Position) -> &T
@@ -158,7 +161,8 @@ pub trait Storage<T>: Drop {
     /// The item at a position, to be changed where it stands. No memory.
     fn get_mut(&mut self, p: Self::Position) -> &mut T
         requires { is_good self.old p }
-        ensures* writes_back { sem 𝓛 (Lends Self.row T.row self.entry result (with_item self.old p)) }
+        ensures* writes_back { sem 𝓛
+            (Lends Self.row T.row self.entry result (with_item self.old p)) }
         ensures value { result.now ≡ slice_index_or (items self.old) (rank self.old p) result.now };
 
     /// Puts the item at the position, and returns the one that stood there. Allocates nothing.
@@ -167,7 +171,8 @@ pub trait Storage<T>: Drop {
         ensures before { result ≡ slice_index_or (items self.old) (rank self.old p) result }
         ensures list { items self.new ≡ slice_set (items self.old) (rank self.old p) item }
         ensures space { room self.old ≤ room self.new }
-        ensures positions { (q : Self.Position) → is_good self.old q → is_good self.new q × (rank self.new q ≡ rank self.old q) };
+        ensures positions { (q : Self.Position) → is_good self.old q
+            → is_good self.new q × (rank self.new q ≡ rank self.old q) };
 
     /// The position of the last item that the probe answers true for, or none.
     ///
@@ -175,9 +180,12 @@ pub trait Storage<T>: Drop {
     /// items a vector and a B-tree ask grows as the logarithm of their number.
     fn search<P: Probe<T>>(&self, probe: &mut P) -> Option<Self::Position>
         requires { IsPartitionedBy (P.test probe.old) (items self.now) }
-        ensures found { MatchOption result (IsFrontOf (P.test probe.old) (items self.now) 0) (λ p. is_good self.now p × IsFrontOf (P.test probe.old) (items self.now) (rank self.now p + 1)) }
+        ensures found { MatchOption result (IsFrontOf (P.test probe.old) (items self.now) 0)
+            (λ p. is_good self.now p
+            × IsFrontOf (P.test probe.old) (items self.now) (rank self.now p + 1)) }
         ensures test_kept { (x : T) → P.test probe.new x ≡ P.test probe.old x }
-        ensures asked { AddsSteps (P.steps_taken probe.old) (P.steps_taken probe.new) (least_asks self.now) (most_asks self.now) };
+        ensures asked { AddsSteps (P.steps_taken probe.old) (P.steps_taken probe.new)
+            (least_asks self.now) (most_asks self.now) };
 
     /// Makes capacity for so many further items.
     ///
@@ -186,7 +194,8 @@ pub trait Storage<T>: Drop {
         ensures list { items self.new ≡ items self.old }
         ensures ok { OnOk result (n ≤ room self.new) }
         ensures space { room self.old ≤ room self.new }
-        ensures positions { (q : Self.Position) → is_good self.old q → is_good self.new q × (rank self.new q ≡ rank self.old q) };
+        ensures positions { (q : Self.Position) → is_good self.old q
+            → is_good self.new q × (rank self.new q ≡ rank self.old q) };
 
     /// Puts the item before the one at the position, or after all others, and returns its position.
     ///
@@ -195,9 +204,13 @@ pub trait Storage<T>: Drop {
     fn insert_at(&mut self, before: Option<Self::Position>, item: T) -> Self::Position
         requires good { ForSome before (λ p. is_good self.old p) }
         requires has_room { 1 ≤ room self.old }
-        ensures list { items self.new ≡ insert (items self.old) (place_before (λ q. rank self.old q) (length (items self.old)) before) item }
+        ensures list { items self.new
+            ≡ insert (items self.old)
+            (place_before (λ q. rank self.old q) (length (items self.old)) before) item }
         ensures space { room self.old ≡ room self.new + 1 }
-        ensures position { is_good self.new result × (rank self.new result ≡ place_before (λ q. rank self.old q) (length (items self.old)) before) };
+        ensures position { is_good self.new result
+            × (rank self.new result
+            ≡ place_before (λ q. rank self.old q) (length (items self.old)) before) };
 
     /// Takes the item at the position out, and returns it with the position of the one after it.
     ///
@@ -207,16 +220,19 @@ pub trait Storage<T>: Drop {
         ensures removed { result.0 ≡ slice_index_or (items self.old) (rank self.old p) result.0 }
         ensures list { items self.new ≡ remove (items self.old) (rank self.old p) }
         ensures space { room self.old ≤ room self.new }
-        ensures following { IsAt (is_good self.new) (rank self.new) (length (items self.new)) result.1 (rank self.old p) };
+        ensures following { IsAt (is_good self.new) (rank self.new) (length (items self.new))
+            result.1 (rank self.old p) };
 
     /// Takes the first item out, or returns none where there is no item.
     fn pop_first(&mut self) -> Option<T>
-        ensures list { MatchOption result ((items self.old ≡ []) × (items self.new ≡ [])) (λ x. items self.old ≡ x ∷ items self.new) }
+        ensures list { MatchOption result ((items self.old ≡ []) × (items self.new ≡ []))
+            (λ x. items self.old ≡ x ∷ items self.new) }
         ensures space { room self.old ≤ room self.new };
 
     /// Takes the last item out, or returns none where there is no item.
     fn pop_last(&mut self) -> Option<T>
-        ensures list { MatchOption result ((items self.old ≡ []) × (items self.new ≡ [])) (λ x. items self.old ≡ items self.new ++ x ∷ []) }
+        ensures list { MatchOption result ((items self.old ≡ []) × (items self.new ≡ []))
+            (λ x. items self.old ≡ items self.new ++ x ∷ []) }
         ensures space { room self.old ≤ room self.new };
 
     /// A container of clones of the items, in order.
@@ -226,7 +242,8 @@ pub trait Storage<T>: Drop {
     where
         T: Clone + Eq,
         requires { All (λ x. (y : T) → T.is_clone x y → T.eq y x ≡ true) (items self.now) }
-        ensures { IfOk result (λ copy. AllZip (λ x y. T.eq y x ≡ true) (items self.now) (items copy)) };
+        ensures { IfOk result
+            (λ copy. AllZip (λ x y. T.eq y x ≡ true) (items self.now) (items copy)) };
 
     /// A good position names a rank below the length.
     ghost good_is_in_range: { (s : Self) (p : Self.Position) → is_good s p → rank s p < length (items s) };

@@ -117,9 +117,13 @@ impl<T: Drop> Storage<T> for VecStorage<T> {
     fn insert_at(&mut self, before: Option<VecPosition>, item: T) -> VecPosition
         requires good { ForSome before (λ p. p.0 < length self.old.stored.items) }
         requires has_room { 1 ≤ vec_capacity self.old.stored - vec_len self.old.stored }
-        ensures list { self.new.stored.items ≡ insert self.old.stored.items (place_before (λ q. q.0) (length self.old.stored.items) before) item }
-        ensures space { vec_capacity self.old.stored - vec_len self.old.stored ≡ vec_capacity self.new.stored - vec_len self.new.stored + 1 }
-        ensures position { (result.0 < length self.new.stored.items) × (result.0 ≡ place_before (λ q. q.0) (length self.old.stored.items) before) }
+        ensures list { self.new.stored.items
+            ≡ insert self.old.stored.items
+            (place_before (λ q. q.0) (length self.old.stored.items) before) item }
+        ensures space { vec_capacity self.old.stored - vec_len self.old.stored
+            ≡ vec_capacity self.new.stored - vec_len self.new.stored + 1 }
+        ensures position { (result.0 < length self.new.stored.items)
+            × (result.0 ≡ place_before (λ q. q.0) (length self.old.stored.items) before) }
     {
         let at = match before {
             Some(p) => p.0,

@@ -9,6 +9,7 @@ ghost use Rattle.range_map.specs.Lookups.{MeetsSome};
 ghost use Rattle.range_map.specs.Costs.{TakesAtLeast, TakesAsChange};
 ghost use Rattle.range_map.specs.Changes.{IsInserted};
 
+use crate::change::apart::{bind_last, comes_last};
 use crate::change::cut::cut_parts;
 use crate::change::edges::both_sides;
 use crate::change::reach::{reaching_after, reaching_before, surrounding};
@@ -128,6 +129,29 @@ pub(crate) fn bind<K: Measure + Clone, V: Eq + Clone, C: Storage<Item<AnyRange<K
     }
 }
 
+/// Binds each key of a nonempty range to the value: with no search where the range comes after all
+/// stored ones.
+pub(crate) fn bind_in_order<K: Measure + Clone, V: Eq + Clone, C: Storage<Item<AnyRange<K>, V>>>(
+    stored: &mut C,
+    range: AnyRange<K>,
+    value: V,
+) -> Result<(), AllocError>
+    requires keys { ClonesAreEqual K.is_clone K.eq }
+    requires values { ClonesAreEqual V.is_clone V.eq }
+    requires stored { IsStored K.order V.eq (C.items stored.old) }
+    requires nonempty { ¬ IsEmptyRange K.order range }
+    ensures ok { OnOk result
+        (IsInserted K.order V.eq (C.items stored.old) (C.items stored.new) range value) }
+    ensures few { length (C.items stored.new) ≤ length (C.items stored.old) + 2 }
+    ensures refused { OnErr result (C.items stored.new ≡ C.items stored.old) }
+{
+    if comes_last::<K, V, C>(stored, &range) {
+        return bind_last::<K, V, C>(stored, range, value);
+    }
+    let mut steps = Steps::new();
+    bind::<K, V, C>(stored, range, value, &mut steps)
+}
+
 /// Binds each key of a nonempty range to the value where no stored range meets it, and returns
 /// whether none does.
 pub(crate) fn bind_disjoint<K: Measure + Clone, V: Eq + Clone, C: Storage<Item<AnyRange<K>, V>>>(
@@ -145,6 +169,10 @@ pub(crate) fn bind_disjoint<K: Measure + Clone, V: Eq + Clone, C: Storage<Item<A
     ensures refused { OnErr result (C.items stored.new ≡ C.items stored.old) }
 {
     inner::known(&range);
+    if comes_last::<K, V, C>(stored, &range) {
+        bind_last::<K, V, C>(stored, range, value)?;
+        return Ok(true);
+    }
     let mut steps = Steps::new();
     let window = find_window::<K, V, C, AnyRange<K>>(stored, &range, &mut steps);
     if window.count > 0 {

@@ -9,7 +9,7 @@ ghost use Rattle.range_map.specs.Bindings.{IsBoundAfter, IsCoarse};
 ghost use Rattle.range_map.specs.Coarse.{IsOnlyCoarse};
 ghost use Rattle.range_map.specs.Lookups.{MeetAlso};
 
-use crate::change::bind::bind;
+use crate::change::bind::{bind, bind_in_order};
 use crate::error::MapError;
 use crate::map::RangeMap;
 use range_algebra::any::AnyRange;
@@ -24,7 +24,7 @@ impl<K: Measure + Clone, V: Eq + Clone, C: Storage<Item<AnyRange<K>, V>>> RangeM
     /// Allocates where more ranges are stored than the container has capacity for, and for a clone
     /// of a bound or a value where a stored range with another value is cut. After an error the map
     /// is as it was. Costs one search, and a step for each stored range that the range meets or
-    /// touches.
+    /// touches; no search where the range comes after all stored ones and touches none.
     ///
     /// ```
     /// map.insert(0..=5, 1)?;
@@ -52,8 +52,15 @@ impl<K: Measure + Clone, V: Eq + Clone, C: Storage<Item<AnyRange<K>, V>>> RangeM
         ensures empty_unchanged { IsEmptyRange K.order (R.range range)
             → C.items self.new ≡ C.items self.old }
     {
-        let mut steps = Steps::new();
-        self.insert_counted(range, value, &mut steps)
+        self.in_form();
+        let range = range.into_range();
+        inner::known(&range);
+        if range.is_empty() {
+            drop(range);
+            return Ok(());
+        }
+        bind_in_order::<K, V, C>(&mut self.stored, range, value)?;
+        Ok(())
     }
 
     /// Binds each key of the range to the value, as `insert` does; adds the steps that it takes.

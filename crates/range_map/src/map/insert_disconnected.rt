@@ -1,6 +1,5 @@
 //! Binding a range that lies apart from all that is stored.
-ghost use Rattle.std.specs.Prelude.{◌≡◌, ◌↔◌, ◌+◌, ◌≤◌, length, IsTrue, IsErrAnd, IfErr, OnOk, OnErr, IsOk};
-ghost use Rattle.std.specs.Option.{ForSome};
+ghost use Rattle.std.specs.Prelude.{◌≡◌, ◌↔◌, ◌+◌, ◌≤◌, length, IsErrAnd, IfErr, OnOk, OnErr, IsOk};
 ghost use Rattle.range_store.specs.Places.{place_before};
 ghost use Rattle.range_keys.specs.Order.{IsComplete};
 ghost use Rattle.range_algebra.specs.Range.{IsEmptyRange};
@@ -8,13 +7,14 @@ ghost use Rattle.range_map.specs.Stored.{IsStored};
 ghost use Rattle.range_map.specs.Bindings.{IsBoundAfter, IsCoarse};
 ghost use Rattle.range_map.specs.Coarse.{IsOnlyCoarse};
 ghost use Rattle.range_map.specs.Lookups.{IsConnectedToSome, IsPutInto, MeetAlso};
-ghost use Rattle.range_map.specs.Gaps.{IsGap, IsAnswerAt, LiesApart, IsConnectedError, handed_back};
+ghost use Rattle.range_map.specs.Gaps.{IsGap, IsConnectedError, handed_back};
 
+use crate::change::apart::{is_clear_after, is_clear_before};
 use crate::change::window::find;
 use crate::error::NotInserted;
 use crate::map::RangeMap;
 use range_algebra::any::AnyRange;
-use range_algebra::inner::{self, starts_at_end};
+use range_algebra::inner;
 use range_algebra::range::IntoRange;
 use range_keys::bound::Directed;
 use range_keys::traits::{Measure, PartialEnum};
@@ -28,46 +28,6 @@ pub struct Gap<P: Copy> {
     pub is_free: bool,
     /// The one that is to follow it.
     pub from: Option<P>,
-}
-
-/// Whether the first range ends before the second, with a place between.
-fn lies_apart<K: PartialEnum>(first: &AnyRange<K>, second: &AnyRange<K>) -> bool
-    ensures { IsTrue result ↔ LiesApart K.order first.now second.now }
-{
-    let (end, start) = (first.end_bound(), second.start_bound());
-    Directed::End(end) < Directed::Start(start) && !starts_at_end(end, start)
-}
-
-/// Whether the item before a range, where there is one, lies apart from it.
-fn is_clear_before<K: PartialEnum, V: Eq + Drop, C: Storage<Item<AnyRange<K>, V>>>(
-    stored: &C,
-    before: Option<C::Position>,
-    range: &AnyRange<K>,
-) -> bool
-    requires { ForSome before (C.is_good stored.now) }
-    ensures { IsAnswerAt K.order (λ i. LiesApart K.order i.key range.now) (C.rank stored.now)
-        (C.items stored.now) before result }
-{
-    match before {
-        Some(p) => lies_apart(&stored.get(p).key, range),
-        None => true,
-    }
-}
-
-/// Whether the item after a range, where there is one, lies apart from it.
-fn is_clear_after<K: PartialEnum, V: Eq + Drop, C: Storage<Item<AnyRange<K>, V>>>(
-    stored: &C,
-    from: Option<C::Position>,
-    range: &AnyRange<K>,
-) -> bool
-    requires { ForSome from (C.is_good stored.now) }
-    ensures { IsAnswerAt K.order (λ i. LiesApart K.order range.now i.key) (C.rank stored.now)
-        (C.items stored.now) from result }
-{
-    match from {
-        Some(p) => lies_apart(range, &stored.get(p).key),
-        None => true,
-    }
 }
 
 /// Where a nonempty range belongs among the stored ones.

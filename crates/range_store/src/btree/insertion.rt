@@ -27,7 +27,8 @@ pub fn divide(nodes: &mut Slab<Node>, number: usize, wide: &Wide) -> Split
     requires items { length wide.now.items.items ≡ MOST + 1 }
     requires children { length wide.now.children.items ≤ MOST + 2 }
     requires room { HasRoomFor nodes.old 1 }
-    ensures { Divides nodes.old nodes.new number HALF wide.now.items.items wide.now.children.items result }
+    ensures { Divides nodes.old nodes.new number HALF wide.now.items.items wide.now.children.items
+        result }
 {
     let middle = wide.items.as_slice()[HALF];
     write(nodes, number, first_part(wide, HALF));
@@ -50,15 +51,26 @@ pub fn put_or_cut(
     requires present { ContainsKey nodes.old number }
     requires within { index ≤ length (items_of (get nodes.old number)) }
     requires fits { length (items_of (get nodes.old number)) ≤ MOST }
-    requires children { (child ≡ None × (below ≡ 0)) ⊎ (length (children_of (get nodes.old number)) ≡ length (items_of (get nodes.old number)) + 1) }
-    requires content { IsContent nodes.old below number (insert (items_of (get nodes.old number)) index item) (with_child (children_of (get nodes.old number)) (index + 1) child) }
+    requires children { (child ≡ None × (below ≡ 0))
+        ⊎ (length (children_of (get nodes.old number))
+        ≡ length (items_of (get nodes.old number)) + 1) }
+    requires content { IsContent nodes.old below number
+        (insert (items_of (get nodes.old number)) index item)
+        (with_child (children_of (get nodes.old number)) (index + 1) child) }
     requires room { MOST ≤ length (items_of (get nodes.old number)) → HasRoomFor nodes.old 1 }
     requires deep { below < DEEPEST }
-    requires seat { IsSeat nodes.old below (insert (items_of (get nodes.old number)) index item) (with_child (children_of (get nodes.old number)) (index + 1) child) seat inner }
-    ensures settles { Settles nodes.old nodes.new below number (insert (items_of (get nodes.old number)) index item) (with_child (children_of (get nodes.old number)) (index + 1) child) result.split }
+    requires seat { IsSeat nodes.old below (insert (items_of (get nodes.old number)) index item)
+        (with_child (children_of (get nodes.old number)) (index + 1) child) seat inner }
+    ensures settles { Settles nodes.old nodes.new below number
+        (insert (items_of (get nodes.old number)) index item)
+        (with_child (children_of (get nodes.old number)) (index + 1) child) result.split }
     ensures left_whole { length (items_of (get nodes.old number)) < MOST → result.split ≡ None }
-    ensures gap { IsSeat nodes.new (suc below) (separators result.split) (tops number result.split) result.side result.gap }
-    ensures place { seat_place nodes.new (suc below) (separators result.split) (tops number result.split) result.side result.gap ≡ seat_place nodes.old below (insert (items_of (get nodes.old number)) index item) (with_child (children_of (get nodes.old number)) (index + 1) child) seat inner }
+    ensures gap { IsSeat nodes.new (suc below) (separators result.split) (tops number result.split)
+        result.side result.gap }
+    ensures place { seat_place nodes.new (suc below) (separators result.split)
+        (tops number result.split) result.side result.gap
+        ≡ seat_place nodes.old below (insert (items_of (get nodes.old number)) index item)
+        (with_child (children_of (get nodes.old number)) (index + 1) child) seat inner }
 {
     if item_count(nodes, number) < MOST {
         put(nodes, number, index, item, child);
@@ -97,10 +109,13 @@ pub fn insert_below(
     requires gap { IsGap nodes.old below number gap }
     requires deep { below < DEEPEST }
     requires room { HasTreeRoom nodes.old (suc below) number 1 }
-    ensures replaces { Replaces nodes.old nodes.new below number result.split (insert (numbers nodes.old (suc below) number) (place nodes.old below number gap) item) }
+    ensures replaces { Replaces nodes.old nodes.new below number result.split
+        (insert (numbers nodes.old (suc below) number) (place nodes.old below number gap) item) }
     ensures left_whole { length (items_of (get nodes.old number)) < MOST → result.split ≡ None }
-    ensures gap { IsSeat nodes.new (suc below) (separators result.split) (tops number result.split) result.side result.gap }
-    ensures place { seat_place nodes.new (suc below) (separators result.split) (tops number result.split) result.side result.gap ≡ place nodes.old below number gap + 1 }
+    ensures gap { IsSeat nodes.new (suc below) (separators result.split) (tops number result.split)
+        result.side result.gap }
+    ensures place { seat_place nodes.new (suc below) (separators result.split)
+        (tops number result.split) result.side result.gap ≡ place nodes.old below number gap + 1 }
 {
     if below == 0 {
         return put_or_cut(

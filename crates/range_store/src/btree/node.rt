@@ -117,9 +117,14 @@ pub fn put(nodes: &mut Slab<Node>, number: usize, index: usize, item: usize, chi
     requires present { ContainsKey nodes.old number }
     requires within { index ≤ length (items_of (get nodes.old number)) }
     requires room { length (items_of (get nodes.old number)) < MOST }
-    requires children { length (children_of (get nodes.old number)) ≤ length (items_of (get nodes.old number)) + 1 }
-    requires child { child ≡ None ⊎ (length (children_of (get nodes.old number)) ≡ length (items_of (get nodes.old number)) + 1) }
-    ensures { Writes nodes.old nodes.new number (insert (items_of (get nodes.old number)) index item) (with_child (children_of (get nodes.old number)) (index + 1) child) }
+    requires children { length (children_of (get nodes.old number))
+        ≤ length (items_of (get nodes.old number)) + 1 }
+    requires child { child ≡ None
+        ⊎ (length (children_of (get nodes.old number))
+        ≡ length (items_of (get nodes.old number)) + 1) }
+    ensures { Writes nodes.old nodes.new number
+        (insert (items_of (get nodes.old number)) index item)
+        (with_child (children_of (get nodes.old number)) (index + 1) child) }
 {
     let node = &mut nodes[number];
     node.items.insert(index, item);
@@ -138,11 +143,14 @@ pub fn overfull(
 ) -> Wide
     requires present { ContainsKey nodes.now number }
     requires within { index ≤ length (items_of (get nodes.now number)) }
-    requires children { child ≡ None ⊎ (length (children_of (get nodes.now number)) ≡ length (items_of (get nodes.now number)) + 1) }
+    requires children { child ≡ None
+        ⊎ (length (children_of (get nodes.now number))
+        ≡ length (items_of (get nodes.now number)) + 1) }
     requires fits { length (items_of (get nodes.now number)) ≤ MOST }
     requires few { length (children_of (get nodes.now number)) ≤ MOST + 1 }
     ensures items { result.items.items ≡ insert (items_of (get nodes.now number)) index item }
-    ensures children { result.children.items ≡ with_child (children_of (get nodes.now number)) (index + 1) child }
+    ensures children { result.children.items
+        ≡ with_child (children_of (get nodes.now number)) (index + 1) child }
 {
     let node = &nodes[number];
     let mut items = prefix(&node.items, MOST);
@@ -158,10 +166,14 @@ pub fn overfull(
 pub fn joined(nodes: &Slab<Node>, left: usize, middle: usize, right: usize) -> Wide
     requires left { ContainsKey nodes.now left }
     requires right { ContainsKey nodes.now right }
-    requires items { length (items_of (get nodes.now left)) + 1 + length (items_of (get nodes.now right)) ≤ WIDE_ITEMS }
-    requires children { length (children_of (get nodes.now left)) + length (children_of (get nodes.now right)) ≤ WIDE_CHILDREN }
-    ensures items { result.items.items ≡ items_of (get nodes.now left) ++ middle ∷ items_of (get nodes.now right) }
-    ensures children { result.children.items ≡ children_of (get nodes.now left) ++ children_of (get nodes.now right) }
+    requires items { length (items_of (get nodes.now left)) + 1
+        + length (items_of (get nodes.now right)) ≤ WIDE_ITEMS }
+    requires children { length (children_of (get nodes.now left))
+        + length (children_of (get nodes.now right)) ≤ WIDE_CHILDREN }
+    ensures items { result.items.items
+        ≡ items_of (get nodes.now left) ++ middle ∷ items_of (get nodes.now right) }
+    ensures children { result.children.items
+        ≡ children_of (get nodes.now left) ++ children_of (get nodes.now right) }
 {
     let Node { items, children } = &nodes[right];
     let first = &nodes[left];
@@ -249,7 +261,8 @@ pub fn node_over(left: usize, split: Split) -> Node
 pub fn take_item(nodes: &mut Slab<Node>, number: usize, index: usize)
     requires present { ContainsKey nodes.old number }
     requires within { index < length (items_of (get nodes.old number)) }
-    ensures { Writes nodes.old nodes.new number (remove (items_of (get nodes.old number)) index) (children_of (get nodes.old number)) }
+    ensures { Writes nodes.old nodes.new number (remove (items_of (get nodes.old number)) index)
+        (children_of (get nodes.old number)) }
 {
     nodes[number].items.remove(index);
 }
@@ -258,7 +271,9 @@ pub fn take_item(nodes: &mut Slab<Node>, number: usize, index: usize)
 pub fn set_item(nodes: &mut Slab<Node>, number: usize, index: usize, item: usize)
     requires present { ContainsKey nodes.old number }
     requires within { index < length (items_of (get nodes.old number)) }
-    ensures { Writes nodes.old nodes.new number (slice_set (items_of (get nodes.old number)) index item) (children_of (get nodes.old number)) }
+    ensures { Writes nodes.old nodes.new number
+        (slice_set (items_of (get nodes.old number)) index item)
+        (children_of (get nodes.old number)) }
 {
     nodes[number].items.as_mut_slice()[index] = item;
 }
@@ -268,7 +283,8 @@ fn detach(nodes: &mut Slab<Node>, number: usize, index: usize)
     requires present { ContainsKey nodes.old number }
     requires item { index < length (items_of (get nodes.old number)) }
     requires child { index + 1 < length (children_of (get nodes.old number)) }
-    ensures { Writes nodes.old nodes.new number (remove (items_of (get nodes.old number)) index) (remove (children_of (get nodes.old number)) (index + 1)) }
+    ensures { Writes nodes.old nodes.new number (remove (items_of (get nodes.old number)) index)
+        (remove (children_of (get nodes.old number)) (index + 1)) }
 {
     let _many = item_count(nodes, number);
     let node = &mut nodes[number];
@@ -281,7 +297,9 @@ fn set_border(nodes: &mut Slab<Node>, number: usize, index: usize, border: Split
     requires present { ContainsKey nodes.old number }
     requires item { index < length (items_of (get nodes.old number)) }
     requires child { index + 1 < length (children_of (get nodes.old number)) }
-    ensures { Writes nodes.old nodes.new number (slice_set (items_of (get nodes.old number)) index border.middle) (slice_set (children_of (get nodes.old number)) (index + 1) border.right) }
+    ensures { Writes nodes.old nodes.new number
+        (slice_set (items_of (get nodes.old number)) index border.middle)
+        (slice_set (children_of (get nodes.old number)) (index + 1) border.right) }
 {
     let _many = item_count(nodes, number);
     let node = &mut nodes[number];
@@ -295,7 +313,11 @@ pub fn set_pair(nodes: &mut Slab<Node>, number: usize, index: usize, split: Opti
     requires present { ContainsKey nodes.old number }
     requires item { index < length (items_of (get nodes.old number)) }
     requires child { index + 1 < length (children_of (get nodes.old number)) }
-    ensures { Writes nodes.old nodes.new number (take index (items_of (get nodes.old number)) ++ (separators split ++ drop (index + 1) (items_of (get nodes.old number)))) (take (index + 1) (children_of (get nodes.old number)) ++ (rights split ++ drop (index + 2) (children_of (get nodes.old number)))) }
+    ensures { Writes nodes.old nodes.new number
+        (take index (items_of (get nodes.old number))
+        ++ (separators split ++ drop (index + 1) (items_of (get nodes.old number))))
+        (take (index + 1) (children_of (get nodes.old number))
+        ++ (rights split ++ drop (index + 2) (children_of (get nodes.old number)))) }
 {
     match split {
         None => detach(nodes, number, index),

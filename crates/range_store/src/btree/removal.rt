@@ -27,11 +27,20 @@ pub fn rejoin(
 ) -> Parts
     requires pair { IsPair nodes.old low left right }
     requires deep { low < DEEPEST }
-    requires seat { IsSeat nodes.old low (items_of (get nodes.old left) ++ middle ∷ items_of (get nodes.old right)) (children_of (get nodes.old left) ++ children_of (get nodes.old right)) seat inner }
+    requires seat { IsSeat nodes.old low
+        (items_of (get nodes.old left) ++ middle ∷ items_of (get nodes.old right))
+        (children_of (get nodes.old left) ++ children_of (get nodes.old right)) seat inner }
     ensures rejoins { Rejoins nodes.old nodes.new low left middle right result.split }
-    ensures shared { LEAST + LEAST < length (items_of (get nodes.old left)) + 1 + length (items_of (get nodes.old right)) → IsSome result.split }
-    ensures gap { IsSeat nodes.new (suc low) (separators result.split) (tops left result.split) result.side result.gap }
-    ensures place { seat_place nodes.new (suc low) (separators result.split) (tops left result.split) result.side result.gap ≡ seat_place nodes.old low (items_of (get nodes.old left) ++ middle ∷ items_of (get nodes.old right)) (children_of (get nodes.old left) ++ children_of (get nodes.old right)) seat inner }
+    ensures shared { LEAST + LEAST
+        < length (items_of (get nodes.old left)) + 1 + length (items_of (get nodes.old right))
+        → IsSome result.split }
+    ensures gap { IsSeat nodes.new (suc low) (separators result.split) (tops left result.split)
+        result.side result.gap }
+    ensures place { seat_place nodes.new (suc low) (separators result.split)
+        (tops left result.split) result.side result.gap
+        ≡ seat_place nodes.old low
+        (items_of (get nodes.old left) ++ middle ∷ items_of (get nodes.old right))
+        (children_of (get nodes.old left) ++ children_of (get nodes.old right)) seat inner }
 {
     let wide = joined(nodes, left, middle, right);
     let many = wide.items.len();
@@ -70,7 +79,8 @@ pub fn seat_in_pair(nodes: &Slab<Node>, low: usize, left: usize, side: usize, ga
     requires fits { length (items_of (get nodes.now left)) ≤ MOST }
     requires small { seat_of low gap ≤ MOST }
     ensures left { side ≡ 0 → result ≡ seat_of low gap }
-    ensures right { 0 < side → result ≡ length (items_of (get nodes.now left)) + 1 + seat_of low gap }
+    ensures right { 0 < side
+        → result ≡ length (items_of (get nodes.now left)) + 1 + seat_of low gap }
 {
     if side == 0 {
         return seat(low, gap);
@@ -92,10 +102,15 @@ pub fn level(
     requires deep { low + 1 < DEEPEST }
     requires near { (turn ≡ index) ⊎ (turn ≡ index + 1) }
     requires gap { IsGap nodes.old low (slice_index (children_of (get nodes.old number)) turn) gap }
-    ensures shrinks { Shrinks nodes.old nodes.new (suc low) number (numbers nodes.old (suc (suc low)) number) }
-    ensures shared { LEAST + LEAST < child_size nodes.old number index + 1 + child_size nodes.old number (index + 1) → length (items_of (get nodes.new number)) ≡ length (items_of (get nodes.old number)) }
+    ensures shrinks { Shrinks nodes.old nodes.new (suc low) number
+        (numbers nodes.old (suc (suc low)) number) }
+    ensures shared { LEAST + LEAST
+        < child_size nodes.old number index + 1 + child_size nodes.old number (index + 1)
+        → length (items_of (get nodes.new number)) ≡ length (items_of (get nodes.old number)) }
     ensures gap { IsGap nodes.new (suc low) number result }
-    ensures place { place nodes.new (suc low) number result ≡ seat_place nodes.old (suc low) (items_of (get nodes.old number)) (children_of (get nodes.old number)) turn gap }
+    ensures place { place nodes.new (suc low) number result
+        ≡ seat_place nodes.old (suc low) (items_of (get nodes.old number))
+        (children_of (get nodes.old number)) turn gap }
 {
     let left = child_at(nodes, number, index);
     let right = child_at(nodes, number, index + 1);
@@ -111,12 +126,15 @@ pub fn level(
 pub fn pair_start(nodes: &Slab<Node>, number: usize, index: usize) -> usize
     requires present { ContainsKey nodes.now number }
     requires children { All (ContainsKey nodes.now) (children_of (get nodes.now number)) }
-    requires many { length (children_of (get nodes.now number)) ≡ length (items_of (get nodes.now number)) + 1 }
+    requires many { length (children_of (get nodes.now number))
+        ≡ length (items_of (get nodes.now number)) + 1 }
     requires some { 0 < length (items_of (get nodes.now number)) }
     requires within { index ≤ length (items_of (get nodes.now number)) }
     ensures inside { result < length (items_of (get nodes.now number)) }
     ensures near { (result ≡ index) ⊎ (result + 1 ≡ index) }
-    ensures spare { (k : ℕ) → IsLender nodes.now number index k → (LEAST < child_size nodes.now number result) ⊎ (LEAST < child_size nodes.now number (result + 1)) }
+    ensures spare { (k : ℕ) → IsLender nodes.now number index k
+        → (LEAST < child_size nodes.now number result)
+        ⊎ (LEAST < child_size nodes.now number (result + 1)) }
 {
     if index == 0 {
         return 0;
@@ -138,11 +156,16 @@ pub fn pair_start(nodes: &Slab<Node>, number: usize, index: usize) -> usize
 pub fn mend(nodes: &mut Slab<Node>, low: usize, number: usize, index: usize, gap: Gap) -> Gap
     requires mendable { IsMendable nodes.old low number index }
     requires deep { low + 1 < DEEPEST }
-    requires gap { IsGap nodes.old low (slice_index (children_of (get nodes.old number)) index) gap }
-    ensures shrinks { Shrinks nodes.old nodes.new (suc low) number (numbers nodes.old (suc (suc low)) number) }
-    ensures lent { (k : ℕ) → IsLender nodes.old number index k → length (items_of (get nodes.new number)) ≡ length (items_of (get nodes.old number)) }
+    requires gap { IsGap nodes.old low (slice_index (children_of (get nodes.old number)) index)
+        gap }
+    ensures shrinks { Shrinks nodes.old nodes.new (suc low) number
+        (numbers nodes.old (suc (suc low)) number) }
+    ensures lent { (k : ℕ) → IsLender nodes.old number index k
+        → length (items_of (get nodes.new number)) ≡ length (items_of (get nodes.old number)) }
     ensures gap { IsGap nodes.new (suc low) number result }
-    ensures place { place nodes.new (suc low) number result ≡ seat_place nodes.old (suc low) (items_of (get nodes.old number)) (children_of (get nodes.old number)) index gap }
+    ensures place { place nodes.new (suc low) number result
+        ≡ seat_place nodes.old (suc low) (items_of (get nodes.old number))
+        (children_of (get nodes.old number)) index gap }
 {
     let child = child_at(nodes, number, index);
     if item_count(nodes, child) >= LEAST {
@@ -160,7 +183,8 @@ pub fn remove_below(nodes: &mut Slab<Node>, below: usize, number: usize, gap: Ga
     requires deep { below < DEEPEST }
     requires gap { IsGap nodes.old below number gap }
     requires in_leaf { 0 < gap.index }
-    ensures shrinks { Shrinks nodes.old nodes.new below number (remove (numbers nodes.old (suc below) number) (place nodes.old below number gap - 1)) }
+    ensures shrinks { Shrinks nodes.old nodes.new below number
+        (remove (numbers nodes.old (suc below) number) (place nodes.old below number gap - 1)) }
     ensures gap { IsGap nodes.new below number result }
     ensures place { place nodes.new below number result + 1 ≡ place nodes.old below number gap }
 {
@@ -192,9 +216,14 @@ pub fn set_before(
     requires gap { IsGap nodes.old below number gap }
     requires at_start { gap.index ≡ 0 }
     ensures found { result ≡ true → 0 < place nodes.old below number gap }
-    ensures set { result ≡ true → IsRewritten nodes.old nodes.new below number (slice_set (numbers nodes.old (suc below) number) (place nodes.old below number gap - 1) item) }
-    ensures kept { IsGap nodes.new below number gap × (place nodes.new below number gap ≡ place nodes.old below number gap) }
-    ensures none { result ≡ false → (place nodes.old below number gap ≡ 0) × (nodes.new ≡ nodes.old) }
+    ensures set { result ≡ true
+        → IsRewritten nodes.old nodes.new below number
+        (slice_set (numbers nodes.old (suc below) number) (place nodes.old below number gap - 1)
+        item) }
+    ensures kept { IsGap nodes.new below number gap
+        × (place nodes.new below number gap ≡ place nodes.old below number gap) }
+    ensures none { result ≡ false
+        → (place nodes.old below number gap ≡ 0) × (nodes.new ≡ nodes.old) }
 {
     if below == 0 {
         return false;
@@ -231,10 +260,14 @@ pub fn settle(nodes: &mut Slab<Node>, levels: usize, root: usize, gap: Gap) -> S
     requires tree { IsLooseTree nodes.old levels root }
     requires gap { IsGap nodes.old (levels - 1) root gap }
     ensures tree { IsTree nodes.new result.root.levels result.root.number }
-    ensures numbers { numbers nodes.new result.root.levels result.root.number ≡ numbers nodes.old levels root }
+    ensures numbers { numbers nodes.new result.root.levels result.root.number
+        ≡ numbers nodes.old levels root }
     ensures capacity { nodes.new.capacity ≡ nodes.old.capacity }
-    ensures gap { 0 < result.root.levels → IsGap nodes.new (result.root.levels - 1) result.root.number result.gap }
-    ensures place { 0 < result.root.levels → place nodes.new (result.root.levels - 1) result.root.number result.gap ≡ place nodes.old (levels - 1) root gap }
+    ensures gap { 0 < result.root.levels
+        → IsGap nodes.new (result.root.levels - 1) result.root.number result.gap }
+    ensures place { 0 < result.root.levels
+        → place nodes.new (result.root.levels - 1) result.root.number result.gap
+        ≡ place nodes.old (levels - 1) root gap }
 {
     if item_count(nodes, root) > 0 {
         return Settled {

@@ -56,12 +56,16 @@ pub fn search_below<T, P: Probe<T>>(
     requires shaped { ShapedBut 1 MOST nodes.now below number }
     requires deep { below < DEEPEST }
     requires stored { Stored items.now (numbers nodes.now (suc below) number) }
-    requires falls { Falls (passes items.now (P.test probe.old)) (numbers nodes.now (suc below) number) }
+    requires falls { Falls (passes items.now (P.test probe.old))
+        (numbers nodes.now (suc below) number) }
     ensures gap { IsGap nodes.now below number result.gap }
-    ensures count { place nodes.now below number result.gap ≡ count_by (passes items.now (P.test probe.old)) (numbers nodes.now (suc below) number) }
-    ensures last { IsLast (numbers nodes.now (suc below) number) (place nodes.now below number result.gap) result.last }
+    ensures count { place nodes.now below number result.gap
+        ≡ count_by (passes items.now (P.test probe.old)) (numbers nodes.now (suc below) number) }
+    ensures last { IsLast (numbers nodes.now (suc below) number)
+        (place nodes.now below number result.gap) result.last }
     ensures kept { P.test probe.new ≡ P.test probe.old }
-    ensures asked { AddsSteps (P.steps_taken probe.old) (P.steps_taken probe.new) (suc below) (HALVINGS * suc below) }
+    ensures asked { AddsSteps (P.steps_taken probe.old) (P.steps_taken probe.new) (suc below)
+        (HALVINGS * suc below) }
 {
     let list = nodes[number].items.as_slice();
     let index = halve(list, items, probe);

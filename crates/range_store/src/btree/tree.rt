@@ -1,6 +1,5 @@
 //! The calls of a list of numbers that is kept as a B-tree.
 ghost use Rattle.std.specs.Prelude.{◌≡◌, ℕ, ◌+◌, ◌-◌, ◌*◌, ◌<◌, ◌≤◌, ◌^◌, [], length, slice_index, insert, remove, OnOk, IfOk, MatchOption, count_by, None, Some};
-ghost use Rattle.std.specs.Option.{ForSome};
 ghost use Rattle.range_store.specs.Counting.{AddsSteps};
 ghost use Rattle.range_store.specs.Depth.{HasLevels};
 ghost use Rattle.range_store.specs.Falling.{Falls, passes};
@@ -9,7 +8,9 @@ ghost use Rattle.range_store.specs.Listed.{Stored};
 ghost use Rattle.range_store.specs.Trees.{tree_numbers, tree_room, IsTreeGap, tree_place, IsAt, gap_or_end};
 
 use crate::btree::insertion::insert_below;
-use crate::btree::node::{LEAST, MOST, Node, item_at, leaf_of, node_over, store};
+use crate::btree::node::{
+    LEAST, MOST, Node, item_at, item_count, leaf_of, node_over, put, store, take_item,
+};
 use crate::btree::number_tree::NumberTree;
 use crate::btree::removal::{Settled, remove_below, set_before, settle};
 use crate::btree::searching::{HALVINGS, Passed, search_below};
@@ -59,7 +60,8 @@ impl NumberTree {
 
     /// The gap before all numbers.
     pub fn start(&self) -> Option<Gap>
-        ensures { MatchOption result (tree_numbers self.now ≡ []) (λ g. IsTreeGap self.now g × (tree_place self.now g ≡ 0)) }
+        ensures { MatchOption result (tree_numbers self.now ≡ [])
+            (λ g. IsTreeGap self.now g × (tree_place self.now g ≡ 0)) }
     {
         if self.levels == 0 {
             return None;
@@ -69,7 +71,8 @@ impl NumberTree {
 
     /// The gap after all numbers.
     pub fn end(&self) -> Option<Gap>
-        ensures { MatchOption result (tree_numbers self.now ≡ []) (λ g. IsTreeGap self.now g × (tree_place self.now g ≡ length (tree_numbers self.now))) }
+        ensures { MatchOption result (tree_numbers self.now ≡ [])
+            (λ g. IsTreeGap self.now g × (tree_place self.now g ≡ length (tree_numbers self.now))) }
     {
         if self.levels == 0 {
             return None;
@@ -82,14 +85,31 @@ impl NumberTree {
         requires { IsTreeGap self.now gap }
         ensures { IsAt self.now result (tree_place self.now gap) }
     {
+        if gap.index < item_count(&self.nodes, gap.leaf) {
+            let number = item_at(&self.nodes, gap.leaf, gap.index);
+            return Some(Found {
+                number,
+                gap: Gap {
+                    leaf: gap.leaf,
+                    way: gap.way,
+                    index: gap.index + 1,
+                },
+            });
+        }
         following(&self.nodes, self.levels - 1, self.root, gap)
     }
 
     /// The number before a gap.
     pub fn preceding(&self, gap: Gap) -> Option<Found>
         requires { IsTreeGap self.now gap }
-        ensures { MatchOption result (tree_place self.now gap ≡ 0) (λ f. (f.gap ≡ gap) × (0 < tree_place self.now gap) × (f.number ≡ slice_index (tree_numbers self.now) (tree_place self.now gap - 1))) }
+        ensures { MatchOption result (tree_place self.now gap ≡ 0)
+            (λ f. (f.gap ≡ gap) × (0 < tree_place self.now gap)
+            × (f.number ≡ slice_index (tree_numbers self.now) (tree_place self.now gap - 1))) }
     {
+        if gap.index > 0 {
+            let number = item_at(&self.nodes, gap.leaf, gap.index - 1);
+            return Some(Found { number, gap });
+        }
         let number = item_before(&self.nodes, self.levels - 1, self.root, gap)?;
         Some(Found { number, gap })
     }
@@ -97,8 +117,16 @@ impl NumberTree {
     /// The gap before the number before a gap.
     pub fn gap_before(&self, gap: Gap) -> Option<Gap>
         requires { IsTreeGap self.now gap }
-        ensures { MatchOption result (tree_place self.now gap ≡ 0) (λ h. IsTreeGap self.now h × (tree_place self.now h + 1 ≡ tree_place self.now gap)) }
+        ensures { MatchOption result (tree_place self.now gap ≡ 0)
+            (λ h. IsTreeGap self.now h × (tree_place self.now h + 1 ≡ tree_place self.now gap)) }
     {
+        if gap.index > 0 {
+            return Some(Gap {
+                leaf: gap.leaf,
+                way: gap.way,
+                index: gap.index - 1,
+            });
+        }
         gap_before(&self.nodes, self.levels - 1, self.root, gap)
     }
 
@@ -109,7 +137,8 @@ impl NumberTree {
         ensures no_less { tree_room self.old ≤ tree_room self.new }
         ensures numbers { tree_numbers self.new ≡ tree_numbers self.old }
         ensures levels { self.new.levels ≡ self.old.levels }
-        ensures gaps { (g : Gap) → IsTreeGap self.old g → IsTreeGap self.new g × (tree_place self.new g ≡ tree_place self.old g) }
+        ensures gaps { (g : Gap) → IsTreeGap self.old g
+            → IsTreeGap self.new g × (tree_place self.new g ≡ tree_place self.old g) }
     {
         if additional > usize::MAX - len {
             return Err(AllocError);
@@ -118,17 +147,18 @@ impl NumberTree {
         self.nodes.reserve(wanted.saturating_sub(self.nodes.len()))
     }
 
-    /// Puts a number into a gap, or after all others, and tells the gap after it.
+    /// Puts a number into a gap, or into an empty tree, and tells the gap after it.
     pub fn insert(&mut self, gap: Option<Gap>, number: usize) -> Gap
-        requires gap { ForSome gap (IsTreeGap self.old) }
+        requires gap { MatchOption gap (tree_numbers self.old ≡ []) (IsTreeGap self.old) }
         requires room { 1 ≤ tree_room self.old }
         requires small { length (tree_numbers self.old) + 1 < 2 ^ 64 }
-        ensures numbers { tree_numbers self.new ≡ insert (tree_numbers self.old) (gap_or_end self.old gap) number }
+        ensures numbers { tree_numbers self.new
+            ≡ insert (tree_numbers self.old) (gap_or_end self.old gap) number }
         ensures room { tree_room self.new + 1 ≡ tree_room self.old }
         ensures gap { IsTreeGap self.new result }
         ensures place { tree_place self.new result ≡ gap_or_end self.old gap + 1 }
     {
-        let Some(gap) = gap.or(self.end()) else {
+        let Some(gap) = gap else {
             self.root = store(&mut self.nodes, leaf_of(number));
             self.levels = 1;
             return Gap {
@@ -137,6 +167,14 @@ impl NumberTree {
                 index: 1,
             };
         };
+        if item_count(&self.nodes, gap.leaf) < MOST {
+            put(&mut self.nodes, gap.leaf, gap.index, number, None);
+            return Gap {
+                leaf: gap.leaf,
+                way: gap.way,
+                index: gap.index + 1,
+            };
+        }
         let inserted = insert_below(&mut self.nodes, self.levels - 1, self.root, gap, number);
         match inserted.split {
             None => inserted.gap,
@@ -152,7 +190,8 @@ impl NumberTree {
     pub fn remove(&mut self, gap: Gap) -> Option<Found>
         requires gap { IsTreeGap self.old gap }
         requires some { 0 < tree_place self.old gap }
-        ensures numbers { tree_numbers self.new ≡ remove (tree_numbers self.old) (tree_place self.old gap - 1) }
+        ensures numbers { tree_numbers self.new
+            ≡ remove (tree_numbers self.old) (tree_place self.old gap - 1) }
         ensures room { tree_room self.new ≡ tree_room self.old + 1 }
         ensures following { IsAt self.new result (tree_place self.old gap - 1) }
     {
@@ -176,10 +215,20 @@ impl NumberTree {
     fn remove_in_leaf(&mut self, gap: Gap) -> Option<Gap>
         requires gap { IsTreeGap self.old gap }
         requires in_leaf { 0 < gap.index }
-        ensures numbers { tree_numbers self.new ≡ remove (tree_numbers self.old) (tree_place self.old gap - 1) }
+        ensures numbers { tree_numbers self.new
+            ≡ remove (tree_numbers self.old) (tree_place self.old gap - 1) }
         ensures capacity { self.new.nodes.capacity ≡ self.old.nodes.capacity }
-        ensures gap { MatchOption result (tree_numbers self.new ≡ []) (λ g. IsTreeGap self.new g × (tree_place self.new g + 1 ≡ tree_place self.old gap)) }
+        ensures gap { MatchOption result (tree_numbers self.new ≡ [])
+            (λ g. IsTreeGap self.new g × (tree_place self.new g + 1 ≡ tree_place self.old gap)) }
     {
+        if item_count(&self.nodes, gap.leaf) > LEAST {
+            take_item(&mut self.nodes, gap.leaf, gap.index - 1);
+            return Some(Gap {
+                leaf: gap.leaf,
+                way: gap.way,
+                index: gap.index - 1,
+            });
+        }
         let left = remove_below(&mut self.nodes, self.levels - 1, self.root, gap);
         let Settled { root, gap } = settle(&mut self.nodes, self.levels, self.root, left);
         self.root = root.number;
@@ -194,9 +243,15 @@ impl NumberTree {
     pub fn search<T, P: Probe<T>>(&self, items: &Slab<T>, probe: &mut P) -> Option<Found>
         requires stored { Stored items.now (tree_numbers self.now) }
         requires falls { Falls (passes items.now (P.test probe.old)) (tree_numbers self.now) }
-        ensures last { MatchOption result (count_by (passes items.now (P.test probe.old)) (tree_numbers self.now) ≡ 0) (λ f. IsTreeGap self.now f.gap × (tree_place self.now f.gap ≡ count_by (passes items.now (P.test probe.old)) (tree_numbers self.now)) × IsLast (tree_numbers self.now) (tree_place self.now f.gap) (Some f.number)) }
+        ensures last { MatchOption result
+            (count_by (passes items.now (P.test probe.old)) (tree_numbers self.now) ≡ 0)
+            (λ f. IsTreeGap self.now f.gap
+            × (tree_place self.now f.gap
+            ≡ count_by (passes items.now (P.test probe.old)) (tree_numbers self.now))
+            × IsLast (tree_numbers self.now) (tree_place self.now f.gap) (Some f.number)) }
         ensures kept { P.test probe.new ≡ P.test probe.old }
-        ensures asked { AddsSteps (P.steps_taken probe.old) (P.steps_taken probe.new) self.now.levels (HALVINGS * self.now.levels) }
+        ensures asked { AddsSteps (P.steps_taken probe.old) (P.steps_taken probe.new)
+            self.now.levels (HALVINGS * self.now.levels) }
     {
         if self.levels == 0 {
             return None;

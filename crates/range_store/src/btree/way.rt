@@ -112,7 +112,8 @@ pub fn end_gap(nodes: &Slab<Node>, below: usize, number: usize) -> Gap
     requires shaped { ShapedBut 1 MOST nodes.now below number }
     requires deep { below < DEEPEST }
     ensures gap { IsGap nodes.now below number result }
-    ensures place { place nodes.now below number result ≡ length (numbers nodes.now (suc below) number) }
+    ensures place { place nodes.now below number result
+        ≡ length (numbers nodes.now (suc below) number) }
 {
     let many = item_count(nodes, number);
     if below == 0 {
@@ -130,7 +131,9 @@ pub fn end_gap(nodes: &Slab<Node>, below: usize, number: usize) -> Gap
 pub fn following_in_leaf(nodes: &Slab<Node>, number: usize, gap: Gap) -> Option<Found>
     requires shaped { ShapedBut 1 MOST nodes.now 0 number }
     requires gap { IsGap nodes.now 0 number gap }
-    ensures { MatchOption result (place nodes.now 0 number gap ≡ length (numbers nodes.now 1 number)) (IsFound nodes.now 0 number (place nodes.now 0 number gap)) }
+    ensures { MatchOption result
+        (place nodes.now 0 number gap ≡ length (numbers nodes.now 1 number))
+        (IsFound nodes.now 0 number (place nodes.now 0 number gap)) }
 {
     if gap.index < item_count(nodes, number) {
         return Some(Found {
@@ -150,7 +153,9 @@ pub fn following(nodes: &Slab<Node>, below: usize, number: usize, gap: Gap) -> O
     requires shaped { ShapedBut 1 MOST nodes.now below number }
     requires deep { below < DEEPEST }
     requires gap { IsGap nodes.now below number gap }
-    ensures { MatchOption result (place nodes.now below number gap ≡ length (numbers nodes.now (suc below) number)) (IsFound nodes.now below number (place nodes.now below number gap)) }
+    ensures { MatchOption result
+        (place nodes.now below number gap ≡ length (numbers nodes.now (suc below) number))
+        (IsFound nodes.now below number (place nodes.now below number gap)) }
 {
     if below == 0 {
         return following_in_leaf(nodes, number, gap);
@@ -177,7 +182,8 @@ pub fn following(nodes: &Slab<Node>, below: usize, number: usize, gap: Gap) -> O
 pub fn item_before(nodes: &Slab<Node>, below: usize, number: usize, gap: Gap) -> Option<usize>
     requires shaped { ShapedBut 1 MOST nodes.now below number }
     requires gap { IsGap nodes.now below number gap }
-    ensures { IsLast (numbers nodes.now (suc below) number) (place nodes.now below number gap) result }
+    ensures { IsLast (numbers nodes.now (suc below) number) (place nodes.now below number gap)
+        result }
 {
     if below == 0 {
         return last_of(nodes[number].items.as_slice(), gap.index);
@@ -196,7 +202,9 @@ pub fn gap_before(nodes: &Slab<Node>, below: usize, number: usize, gap: Gap) -> 
     requires shaped { ShapedBut 1 MOST nodes.now below number }
     requires deep { below < DEEPEST }
     requires gap { IsGap nodes.now below number gap }
-    ensures { MatchOption result (place nodes.now below number gap ≡ 0) (λ h. IsGap nodes.now below number h × (place nodes.now below number h + 1 ≡ place nodes.now below number gap)) }
+    ensures { MatchOption result (place nodes.now below number gap ≡ 0)
+        (λ h. IsGap nodes.now below number h
+        × (place nodes.now below number h + 1 ≡ place nodes.now below number gap)) }
 {
     if below == 0 {
         if gap.index == 0 {

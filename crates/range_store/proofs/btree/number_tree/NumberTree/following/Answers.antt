@@ -1,5 +1,21 @@
-use Rattle.range_store.proofs.Whole.{deep}
+use Rattle.std.proofs.Common.{◌+◌, ◌<◌, length, sym, refl, ◌∙◌, arith}
+use Rattle.slab.specs.Slab.{get}
+use Rattle.range_store.specs.Nodes.{items_of}
+use Rattle.range_store.proofs.Whole.{deep, tree_leaf, tree_beside, tree_item}
 use Rattle.range_store.proofs.btree.number_tree.NumberTree.following.Goals as goal
+
+pub item_count-requires : goal.item_count-requires
+item_count-requires c = (tree_leaf c.args.self.now c.args.gap c.requires).present
+
+pub item_at-number-requires-clause-present : goal.item_at-number-requires-clause-present
+item_at-number-requires-clause-present c = (tree_leaf c.args.self.now c.args.gap c.requires).present
+
+pub returns-then-gap-item_count : goal.returns-then-gap-item_count
+returns-then-gap-item_count c =
+    let low : c.args.gap.index < length (items_of (get c.args.self.now.nodes c.args.gap.leaf)) = omega (arith, c.if-gap-item_count.true, c.item_count.ensures) in
+    let next = tree_beside c.args.self.now c.args.gap c.requires (record { leaf = c.args.gap.leaf; way = c.args.gap.way; index = c.args.gap.index + 1 }) refl refl (omega (arith, low)) in
+    let item = tree_item c.args.self.now c.args.gap c.requires low in
+    (next.0, omega (arith, next.1), item.1, c.item_at-number.ensures ∙ sym item.0)
 
 pub following-requires-clause-deep : goal.following-requires-clause-deep
 following-requires-clause-deep c = deep c.args.self.now.nodes c.args.self.now.levels c.args.self.now.root c.args.self.now.whole

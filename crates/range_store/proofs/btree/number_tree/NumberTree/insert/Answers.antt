@@ -1,27 +1,37 @@
-use Rattle.std.proofs.Common.{◌≡◌, suc, ◌+◌, ◌-◌, ◌≤◌, [], ◌∷◌, length, refl, sym, ap, ◌∙◌, arith, None}
+use Rattle.std.specs.Prelude.{MatchOption}
+use Rattle.std.proofs.Common.{◌≡◌, ℕ, suc, ◌+◌, ◌-◌, ◌≤◌, [], ◌∷◌, length, refl, sym, ap, ◌∙◌, arith, Option, Some, None}
 use Rattle.std.specs.List.{insert}
 use Rattle.std.proofs.lemmas.List.Edits.{length-insert}
 use Rattle.range_store.specs.Nodes.{numbers, IsTree}
 use Rattle.range_store.specs.Gaps.{IsGap, place, seat_place}
 use Rattle.range_store.specs.Trees.{tree_numbers, IsTreeGap, tree_place, gap_or_end}
 use Rattle.range_store.specs.declared.btree.node.TheConstants.{MOST}
+use Rattle.range_store.specs.declared.btree.number_tree.NumberTree.{NumberTree}
+use Rattle.range_store.specs.declared.btree.way.Gap.{Gap}
 use Rattle.range_store.proofs.Gaps.{leaf_gap, leaf_place, place_within, way_small}
 use Rattle.range_store.proofs.Levels.{empty_levels, levels_le}
 use Rattle.range_store.proofs.Planting.{first_tree, one_more, kept_root, kept_gap, taller_root, taller_gap, taller_room, IsPlanted, planted_roomy}
 use Rattle.range_store.proofs.Rank.{first_room, root_shaped}
 use Rattle.range_store.proofs.Seats.{seat_side, seat_inside}
 use Rattle.range_store.proofs.Settling.{tree_owned}
-use Rattle.range_store.proofs.Whole.{deep, given_gap, none_given}
+use Rattle.range_store.proofs.Whole.{deep, gap_within, tree_leaf}
+use Rattle.range_store.proofs.InPlace.{IsLeafChange, put_in_leaf}
 use Rattle.range_store.proofs.btree.number_tree.NumberTree.insert.Goals as goal
-use Rattle.range_store.proofs.btree.number_tree.NumberTree.insert.Goals.{After-store-self, After-insert_below-inserted, After-store-self-in-Some-split, After-seen_above, In-None}
+use Rattle.range_store.proofs.btree.number_tree.NumberTree.insert.Goals.{After-put, After-store-self, After-insert_below-inserted, After-store-self-in-Some-split, After-seen_above, In-None}
+
+given_gap : (t : NumberTree) (asked : Option Gap) (g : Gap) → MatchOption asked (tree_numbers t ≡ []) (IsTreeGap t) → asked ≡ Some g → IsTreeGap t g × (tree_place t g ≡ gap_or_end t asked)
+given_gap t asked g good same = (rw same at good, rw same refl)
+
+none_given : (t : NumberTree) (asked : Option Gap) → MatchOption asked (tree_numbers t ≡ []) (IsTreeGap t) → asked ≡ None → (asked ≡ None) × (tree_numbers t ≡ [])
+none_given t asked good same = (same, rw same at good)
 
 -- of an empty tree
 none : (c : After-store-self) → (c.args.gap ≡ None) × (tree_numbers c.args.self.now ≡ [])
-none c = none_given c.args.self.now c.args.gap c.end.result c.end.ensures (sym c.or.ensures ∙ c.in_default.is)
+none c = none_given c.args.self.now c.args.gap c.requires.gap c.in_default.is
 
 pub store-self-requires : goal.store-self-requires
 store-self-requires c =
-    let empty = none_given c.args.self.now c.args.gap c.end.result c.end.ensures (sym c.or.ensures ∙ c.in_default.is) in
+    let empty = none_given c.args.self.now c.args.gap c.requires.gap c.in_default.is in
     let levels = empty_levels c.args.self.now.nodes c.args.self.now.levels c.args.self.now.root c.args.self.now.whole.tree (ap length empty.1) in
     first_room c.args.self.now.nodes c.args.self.now.levels c.args.self.now.root levels c.args.self.now.whole.tree (omega (arith, c.requires.room))
 
@@ -58,9 +68,67 @@ returns-in_default-clause-place c =
     let a = (goal.at.returns-in_default-clause-place c).After-store-self in
     leaf_place c.store-self.new.nodes c.store-self.result _ ∙ sym (rw ((none a).0, (none a).1) refl)
 
+-- of a leaf with room
+pub item_count-requires : goal.item_count-requires
+item_count-requires c = (tree_leaf c.args.self.now c.in-Some.gap (given_gap c.args.self.now c.args.gap c.in-Some.gap c.requires.gap c.in-Some.is).0).present
+
+pub put-requires-clause-present : goal.put-requires-clause-present
+put-requires-clause-present c = (tree_leaf c.args.self.now c.in-Some.gap (given_gap c.args.self.now c.args.gap c.in-Some.gap c.requires.gap c.in-Some.is).0).present
+
+pub put-requires-clause-within : goal.put-requires-clause-within
+put-requires-clause-within c = (tree_leaf c.args.self.now c.in-Some.gap (given_gap c.args.self.now c.args.gap c.in-Some.gap c.requires.gap c.in-Some.is).0).within
+
+pub put-requires-clause-children : goal.put-requires-clause-children
+put-requires-clause-children c =
+    omega (arith, (tree_leaf c.args.self.now c.in-Some.gap (given_gap c.args.self.now c.args.gap c.in-Some.gap c.requires.gap c.in-Some.is).0).childless)
+
+pub overflow_add-result : goal.overflow_add-result
+overflow_add-result c =
+    omega (arith, (tree_leaf c.args.self.now c.in-Some.gap (given_gap c.args.self.now c.args.gap c.in-Some.gap c.requires.gap c.in-Some.is).0).within, c.if-item_count-lt-MOST.true, c.item_count.ensures)
+
+put_here : (c : After-put) → IsLeafChange c.args.self.now c.put.new.nodes c.in-Some.gap (given_gap c.args.self.now c.args.gap c.in-Some.gap c.requires.gap c.in-Some.is).0 (insert (tree_numbers c.args.self.now) (tree_place c.args.self.now c.in-Some.gap) c.args.number) (record { leaf = c.in-Some.gap.leaf; way = c.in-Some.gap.way; index = c.in-Some.gap.index + 1 }) (c.in-Some.gap.index + 1)
+put_here c =
+    put_in_leaf c.args.self.now c.put.new.nodes c.in-Some.gap (given_gap c.args.self.now c.args.gap c.in-Some.gap c.requires.gap c.in-Some.is).0 c.args.number _ (omega (arith, c.if-item_count-lt-MOST.true, c.item_count.ensures)) c.put.ensures refl refl refl
+
+one_longer : (t : NumberTree) (g : Gap) (item : ℕ) → IsTreeGap t g → length (insert (tree_numbers t) (tree_place t g) item) ≡ length (tree_numbers t) + 1
+one_longer t g item is = length-insert (tree_numbers t) (tree_place t g) item (gap_within t g is)
+
+pub invariant_of-self-then-item_count-lt-MOST : goal.invariant_of-self-then-item_count-lt-MOST
+invariant_of-self-then-item_count-lt-MOST c =
+    let a = (goal.at.invariant_of-self-then-item_count-lt-MOST c).After-put in
+    let more = one_longer c.args.self.now c.in-Some.gap c.args.number (given_gap c.args.self.now c.args.gap c.in-Some.gap c.requires.gap c.in-Some.is).0 in
+    record {
+      whole = record {
+        tree = (put_here a).tree;
+        fits = omega (arith, ap length (put_here a).numbers_are, more, c.requires.room, (put_here a).capacity);
+        counted = omega (arith, ap length (put_here a).numbers_are, more, c.requires.small);
+      };
+    }
+
+pub returns-then-item_count-lt-MOST-clause-numbers : goal.returns-then-item_count-lt-MOST-clause-numbers
+returns-then-item_count-lt-MOST-clause-numbers c =
+    let a = (goal.at.returns-then-item_count-lt-MOST-clause-numbers c).After-put in
+    (put_here a).numbers_are ∙ ap (λ m. insert (tree_numbers c.args.self.now) m c.args.number) (given_gap c.args.self.now c.args.gap c.in-Some.gap c.requires.gap c.in-Some.is).1
+
+pub returns-then-item_count-lt-MOST-clause-room : goal.returns-then-item_count-lt-MOST-clause-room
+returns-then-item_count-lt-MOST-clause-room c =
+    let a = (goal.at.returns-then-item_count-lt-MOST-clause-room c).After-put in
+    let more = one_longer c.args.self.now c.in-Some.gap c.args.number (given_gap c.args.self.now c.args.gap c.in-Some.gap c.requires.gap c.in-Some.is).0 in
+    omega (arith, ap length (put_here a).numbers_are, more, c.requires.room, (put_here a).capacity)
+
+pub returns-then-item_count-lt-MOST-clause-gap : goal.returns-then-item_count-lt-MOST-clause-gap
+returns-then-item_count-lt-MOST-clause-gap c =
+    let a = (goal.at.returns-then-item_count-lt-MOST-clause-gap c).After-put in
+    record { some = (given_gap c.args.self.now c.args.gap c.in-Some.gap c.requires.gap c.in-Some.is).0.some; gap = (put_here a).gap }
+
+pub returns-then-item_count-lt-MOST-clause-place : goal.returns-then-item_count-lt-MOST-clause-place
+returns-then-item_count-lt-MOST-clause-place c =
+    let a = (goal.at.returns-then-item_count-lt-MOST-clause-place c).After-put in
+    omega (arith, (put_here a).place_is, (given_gap c.args.self.now c.args.gap c.in-Some.gap c.requires.gap c.in-Some.is).1)
+
 -- of a tree that has a gap
 given : (c : After-insert_below-inserted) → IsTreeGap c.args.self.now c.in-Some.gap × (tree_place c.args.self.now c.in-Some.gap ≡ gap_or_end c.args.self.now c.args.gap)
-given c = given_gap c.args.self.now c.args.gap c.end.result c.in-Some.gap c.requires.gap c.end.ensures (sym c.or.ensures ∙ c.in-Some.is)
+given c = given_gap c.args.self.now c.args.gap c.in-Some.gap c.requires.gap c.in-Some.is
 
 longer : (c : After-insert_below-inserted) → length (insert (numbers c.args.self.now.nodes (suc (c.args.self.now.levels - 1)) c.args.self.now.root) (place c.args.self.now.nodes (c.args.self.now.levels - 1) c.args.self.now.root c.in-Some.gap) c.args.number) ≡ length (tree_numbers c.args.self.now) + 1
 longer c =
@@ -80,17 +148,17 @@ listed c =
 
 pub overflow_sub-self : goal.overflow_sub-self
 overflow_sub-self c =
-    let at = given_gap c.args.self.now c.args.gap c.end.result c.in-Some.gap c.requires.gap c.end.ensures (sym c.or.ensures ∙ c.in-Some.is) in
+    let at = given_gap c.args.self.now c.args.gap c.in-Some.gap c.requires.gap c.in-Some.is in
     omega (arith, at.0.some)
 
 pub insert_below-inserted-requires-clause-shaped : goal.insert_below-inserted-requires-clause-shaped
 insert_below-inserted-requires-clause-shaped c =
-    let at = given_gap c.args.self.now c.args.gap c.end.result c.in-Some.gap c.requires.gap c.end.ensures (sym c.or.ensures ∙ c.in-Some.is) in
+    let at = given_gap c.args.self.now c.args.gap c.in-Some.gap c.requires.gap c.in-Some.is in
     root_shaped c.args.self.now.nodes c.args.self.now.levels c.args.self.now.root at.0.some c.args.self.now.whole.tree
 
 pub insert_below-inserted-requires-clause-owned : goal.insert_below-inserted-requires-clause-owned
 insert_below-inserted-requires-clause-owned c =
-    let at = given_gap c.args.self.now c.args.gap c.end.result c.in-Some.gap c.requires.gap c.end.ensures (sym c.or.ensures ∙ c.in-Some.is) in
+    let at = given_gap c.args.self.now c.args.gap c.in-Some.gap c.requires.gap c.in-Some.is in
     let level : suc (c.args.self.now.levels - 1) ≡ c.args.self.now.levels = omega (arith, at.0.some) in
     rw level (tree_owned c.args.self.now.nodes c.args.self.now.levels c.args.self.now.root c.args.self.now.whole.tree)
 
@@ -99,13 +167,13 @@ insert_below-inserted-requires-clause-deep c = deep c.args.self.now.nodes c.args
 
 pub insert_below-inserted-requires-clause-room : goal.insert_below-inserted-requires-clause-room
 insert_below-inserted-requires-clause-room c =
-    let at = given_gap c.args.self.now c.args.gap c.end.result c.in-Some.gap c.requires.gap c.end.ensures (sym c.or.ensures ∙ c.in-Some.is) in
+    let at = given_gap c.args.self.now c.args.gap c.in-Some.gap c.requires.gap c.in-Some.is in
     one_more c.args.self.now.nodes c.args.self.now.levels c.args.self.now.root at.0.some c.args.self.now.whole.tree c.requires.room
 
 -- with no cut of the root
 kept : (c : In-None) → IsPlanted c.insert_below-inserted.new.nodes c.args.self.now.levels c.args.self.now.root (insert (numbers c.args.self.now.nodes (suc (c.args.self.now.levels - 1)) c.args.self.now.root) (place c.args.self.now.nodes (c.args.self.now.levels - 1) c.args.self.now.root c.in-Some.gap) c.args.number)
 kept c =
-    let at = given_gap c.args.self.now c.args.gap c.end.result c.in-Some.gap c.requires.gap c.end.ensures (sym c.or.ensures ∙ c.in-Some.is) in
+    let at = given_gap c.args.self.now c.args.gap c.in-Some.gap c.requires.gap c.in-Some.is in
     kept_root c.args.self.now.nodes c.insert_below-inserted.new.nodes c.args.self.now.levels c.args.self.now.root _ at.0.some c.args.self.now.whole.tree (rw c.in-None.is at c.insert_below-inserted.ensures.replaces)
 
 kept_capacity : (c : In-None) → c.insert_below-inserted.new.nodes.capacity ≡ c.args.self.now.nodes.capacity
@@ -150,7 +218,7 @@ overflow_add-self c =
 
 taller : (c : After-store-self-in-Some-split) → IsPlanted c.store-self-in-Some-split.new.nodes (c.args.self.now.levels + 1) c.store-self-in-Some-split.result (insert (numbers c.args.self.now.nodes (suc (c.args.self.now.levels - 1)) c.args.self.now.root) (place c.args.self.now.nodes (c.args.self.now.levels - 1) c.args.self.now.root c.in-Some.gap) c.args.number)
 taller c =
-    let known = given_gap c.args.self.now c.args.gap c.end.result c.in-Some.gap c.requires.gap c.end.ensures (sym c.or.ensures ∙ c.in-Some.is) in
+    let known = given_gap c.args.self.now c.args.gap c.in-Some.gap c.requires.gap c.in-Some.is in
     taller_root c.args.self.now.nodes c.insert_below-inserted.new.nodes c.store-self-in-Some-split.new.nodes c.args.self.now.levels c.args.self.now.root c.store-self-in-Some-split.result c.in-Some-split.split _ known.0.some c.args.self.now.whole.tree (rw c.in-Some-split.is at c.insert_below-inserted.ensures.replaces) (rw (c.node_over.ensures.items, c.node_over.ensures.children) at c.store-self-in-Some-split.ensures)
 
 taller_capacity : (c : After-store-self-in-Some-split) → c.store-self-in-Some-split.new.nodes.capacity ≡ c.args.self.now.nodes.capacity
@@ -182,7 +250,7 @@ returns-in-Some-split-clause-room c =
 
 higher : (c : After-seen_above) → IsGap c.store-self-in-Some-split.new.nodes (c.args.self.now.levels + 1 - 1) c.store-self-in-Some-split.result c.seen_above.result × (place c.store-self-in-Some-split.new.nodes (c.args.self.now.levels + 1 - 1) c.store-self-in-Some-split.result c.seen_above.result ≡ seat_place c.insert_below-inserted.new.nodes (suc (c.args.self.now.levels - 1)) (c.in-Some-split.split.middle ∷ []) (c.args.self.now.root ∷ c.in-Some-split.split.right ∷ []) c.insert_below-inserted.result.side c.insert_below-inserted.result.gap)
 higher c =
-    let known = given_gap c.args.self.now c.args.gap c.end.result c.in-Some.gap c.requires.gap c.end.ensures (sym c.or.ensures ∙ c.in-Some.is) in
+    let known = given_gap c.args.self.now c.args.gap c.in-Some.gap c.requires.gap c.in-Some.is in
     taller_gap c.args.self.now.nodes c.insert_below-inserted.new.nodes c.store-self-in-Some-split.new.nodes c.args.self.now.levels c.args.self.now.root c.store-self-in-Some-split.result c.insert_below-inserted.result.side c.in-Some-split.split _ c.insert_below-inserted.result.gap c.seen_above.result known.0.some c.args.self.now.whole.tree (rw c.in-Some-split.is at c.insert_below-inserted.ensures.replaces) (rw (c.node_over.ensures.items, c.node_over.ensures.children) at c.store-self-in-Some-split.ensures) c.seen_above.ensures.turn c.seen_above.ensures.inside (rw c.in-Some-split.is at c.insert_below-inserted.ensures.gap)
 
 pub returns-in-Some-split-clause-gap : goal.returns-in-Some-split-clause-gap

@@ -7,7 +7,7 @@ use Rattle.slab.specs.Slab.{get}
 use Rattle.range_store.specs.Nodes.{numbers, items_of, IsTree}
 use Rattle.range_store.specs.Trees.{tree_numbers, tree_place}
 use Rattle.range_store.specs.declared.btree.node.TheConstants.{MOST}
-use Rattle.range_store.proofs.InLeaf.{leaf_full, leaf_next, leaf_item, moved_down, next_here}
+use Rattle.range_store.proofs.InLeaf.{leaf_of_gap, leaf_beside, leaf_item, moved_down, next_here}
 use Rattle.range_store.proofs.Rank.{root_shaped}
 use Rattle.range_store.proofs.Settling.{rewritten_tree}
 use Rattle.range_store.proofs.Whole.{gap_within}
@@ -32,20 +32,20 @@ returns-then-gap-gt0-clause-room c =
 
 pub item_at-number-requires-clause-present : goal.item_at-number-requires-clause-present
 item_at-number-requires-clause-present c =
-    (leaf_full c.args.self.now.nodes (c.args.self.now.levels - 1) c.args.self.now.root c.args.gap (root_shaped c.args.self.now.nodes c.args.self.now.levels c.args.self.now.root c.requires.gap.some c.args.self.now.whole.tree) c.requires.gap.gap).0
+    (leaf_of_gap c.args.self.now.nodes (c.args.self.now.levels - 1) c.args.self.now.root c.args.gap (root_shaped c.args.self.now.nodes c.args.self.now.levels c.args.self.now.root c.requires.gap.some c.args.self.now.whole.tree) c.requires.gap.gap).present
 
 pub item_at-number-requires-clause-within : goal.item_at-number-requires-clause-within
 item_at-number-requires-clause-within c =
-    (leaf_full c.args.self.now.nodes (c.args.self.now.levels - 1) c.args.self.now.root c.args.gap (root_shaped c.args.self.now.nodes c.args.self.now.levels c.args.self.now.root c.requires.gap.some c.args.self.now.whole.tree) c.requires.gap.gap).1
+    (leaf_of_gap c.args.self.now.nodes (c.args.self.now.levels - 1) c.args.self.now.root c.args.gap (root_shaped c.args.self.now.nodes c.args.self.now.levels c.args.self.now.root c.requires.gap.some c.args.self.now.whole.tree) c.requires.gap.gap).some
 
 -- the item that is moved down stands after the gap
 successor : (c : After-set_before-set) → (c.item_at-number.result ≡ get_or (tree_numbers c.args.self.now) (tree_place c.args.self.now c.args.gap) 0) × (tree_place c.args.self.now c.args.gap < length (tree_numbers c.args.self.now))
 successor c =
     let shaped = root_shaped c.args.self.now.nodes c.args.self.now.levels c.args.self.now.root c.requires.gap.some c.args.self.now.whole.tree in
-    let full = leaf_full c.args.self.now.nodes (c.args.self.now.levels - 1) c.args.self.now.root c.args.gap shaped c.requires.gap.gap in
+    let full = leaf_of_gap c.args.self.now.nodes (c.args.self.now.levels - 1) c.args.self.now.root c.args.gap shaped c.requires.gap.gap in
     let first : c.args.gap.index ≡ 0 = omega (arith, c.if-gap-gt0.false) in
     let level : suc (c.args.self.now.levels - 1) ≡ c.args.self.now.levels = omega (arith, c.requires.gap.some) in
-    let item = leaf_item c.args.self.now.nodes (c.args.self.now.levels - 1) c.args.self.now.root c.args.gap 1 MOST shaped (omega (arith, first, full.1)) c.requires.gap.gap in
+    let item = leaf_item c.args.self.now.nodes (c.args.self.now.levels - 1) c.args.self.now.root c.args.gap 1 MOST shaped (omega (arith, first, full.some)) c.requires.gap.gap in
     (c.item_at-number.ensures ∙ sym ((rw level at item.0) ∙ ap (λ m. get_or (items_of (get c.args.self.now.nodes c.args.gap.leaf)) m 0) first), rw level at item.1)
 
 wrote : {A : Type 0} (b : Bool) (p : ℕ) → (b ≡ false → (p ≡ 0) × A) → 0 < p → b ≡ true
@@ -64,9 +64,9 @@ further : (c : After-set_before-set) → IsGap c.set_before-set.new.nodes (c.arg
 further c =
     let first : c.args.gap.index ≡ 0 = omega (arith, c.if-gap-gt0.false) in
     let shaped = root_shaped c.set_before-set.new.nodes c.args.self.now.levels c.args.self.now.root c.requires.gap.some (rewritten c).0 in
-    let full = leaf_full c.set_before-set.new.nodes (c.args.self.now.levels - 1) c.args.self.now.root c.args.gap shaped c.set_before-set.ensures.kept.0 in
-    let next = leaf_next c.set_before-set.new.nodes (c.args.self.now.levels - 1) c.args.self.now.root c.args.gap (record { leaf = c.args.gap.leaf; way = c.args.gap.way; index = 1 }) refl refl (omega (arith, first)) (omega (arith, first, full.1)) c.set_before-set.ensures.kept.0 in
-    (next.0, omega (arith, next.1, c.set_before-set.ensures.kept.1))
+    let full = leaf_of_gap c.set_before-set.new.nodes (c.args.self.now.levels - 1) c.args.self.now.root c.args.gap shaped c.set_before-set.ensures.kept.0 in
+    let next = leaf_beside c.set_before-set.new.nodes (c.args.self.now.levels - 1) c.args.self.now.root c.args.gap (record { leaf = c.args.gap.leaf; way = c.args.gap.way; index = 1 }) refl refl (omega (arith, full.some)) c.set_before-set.ensures.kept.0 in
+    (next.0, omega (arith, first, next.1, c.set_before-set.ensures.kept.1))
 
 pub remove_in_leaf-requires-2-clause-gap : goal.remove_in_leaf-requires-2-clause-gap
 remove_in_leaf-requires-2-clause-gap c =

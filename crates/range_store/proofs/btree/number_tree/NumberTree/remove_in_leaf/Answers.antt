@@ -1,4 +1,4 @@
-use Rattle.std.proofs.Common.{◌≡◌, suc, ◌-◌, ◌∙◌, length, ap, arith}
+use Rattle.std.proofs.Common.{◌≡◌, suc, ◌-◌, ◌∙◌, length, refl, ap, arith}
 use Rattle.std.specs.List.{remove}
 use Rattle.std.proofs.lemmas.List.Edits.{length-remove}
 use Rattle.range_store.specs.Nodes.{numbers}
@@ -6,14 +6,49 @@ use Rattle.range_store.specs.Trees.{tree_numbers, tree_place}
 use Rattle.range_store.proofs.InLeaf.{place_index}
 use Rattle.range_store.proofs.Rank.{numbers_none}
 use Rattle.range_store.proofs.Settling.{loosened_numbers}
-use Rattle.range_store.proofs.Whole.{deep, gap_within}
+use Rattle.range_store.proofs.InPlace.{IsLeafChange, take_from_leaf}
+use Rattle.range_store.proofs.Whole.{deep, gap_within, tree_leaf}
 use Rattle.range_store.proofs.btree.number_tree.NumberTree.remove_in_leaf.Goals as goal
+use Rattle.range_store.proofs.btree.number_tree.NumberTree.remove_in_leaf.Goals.{After-take_item}
+
+pub item_count-requires : goal.item_count-requires
+item_count-requires c = (tree_leaf c.args.self.now c.args.gap c.requires.gap).present
+
+pub take_item-requires-clause-within : goal.take_item-requires-clause-within
+take_item-requires-clause-within c =
+    omega (arith, (tree_leaf c.args.self.now c.args.gap c.requires.gap).within, c.requires.in_leaf)
+
+taken : (c : After-take_item) → IsLeafChange c.args.self.now c.take_item.new.nodes c.args.gap c.requires.gap (remove (tree_numbers c.args.self.now) (tree_place c.args.self.now c.args.gap - 1)) (record { leaf = c.args.gap.leaf; way = c.args.gap.way; index = c.args.gap.index - 1 }) (c.args.gap.index - 1)
+taken c =
+    take_from_leaf c.args.self.now c.take_item.new.nodes c.args.gap c.requires.gap _ (omega (arith, c.if-item_count-gt-LEAST.true, c.item_count.ensures)) c.requires.in_leaf c.take_item.ensures refl refl refl
+
+pub invariant_of-self : goal.invariant_of-self
+invariant_of-self c =
+    let some_before = place_index c.args.self.now.nodes (c.args.self.now.levels - 1) c.args.self.now.root c.args.gap in
+    let less = length-remove (tree_numbers c.args.self.now) (tree_place c.args.self.now c.args.gap - 1) (omega (arith, some_before, c.requires.in_leaf, gap_within c.args.self.now c.args.gap c.requires.gap)) in
+    record {
+      whole = record {
+        tree = (taken c).tree;
+        fits = omega (arith, ap length (taken c).numbers_are, less, c.args.self.now.whole.fits, (taken c).capacity);
+        counted = omega (arith, ap length (taken c).numbers_are, less, c.args.self.now.whole.counted);
+      };
+    }
+
+pub returns-then-item_count-gt-LEAST-clause-numbers : goal.returns-then-item_count-gt-LEAST-clause-numbers
+returns-then-item_count-gt-LEAST-clause-numbers c =
+    let a = (goal.at.returns-then-item_count-gt-LEAST-clause-numbers c).After-take_item in
+    (taken a).numbers_are
+
+pub returns-then-item_count-gt-LEAST-clause-gap : goal.returns-then-item_count-gt-LEAST-clause-gap
+returns-then-item_count-gt-LEAST-clause-gap c =
+    let a = (goal.at.returns-then-item_count-gt-LEAST-clause-gap c).After-take_item in
+    (record { some = c.requires.gap.some; gap = (taken a).gap }, omega (arith, (taken a).place_is, c.requires.in_leaf))
 
 pub remove_below-left-requires-clause-deep : goal.remove_below-left-requires-clause-deep
 remove_below-left-requires-clause-deep c = deep c.args.self.now.nodes c.args.self.now.levels c.args.self.now.root c.args.self.now.whole
 
-pub invariant_of-self : goal.invariant_of-self
-invariant_of-self c =
+pub invariant_of-self-2 : goal.invariant_of-self-2
+invariant_of-self-2 c =
     let some = c.requires.gap.some in
     let level : suc (c.args.self.now.levels - 1) ≡ c.args.self.now.levels = omega (arith, some) in
     let list = c.settle.ensures.numbers ∙ loosened_numbers c.args.self.now.nodes c.remove_below-left.new.nodes c.args.self.now.levels c.args.self.now.root _ some c.remove_below-left.ensures.shrinks

@@ -1,0 +1,110 @@
+use Rattle.std.proofs.lemmas.Grind.{common_steps}
+use Rattle.std.proofs.Common.{subst, rules, arith}
+use Rattle.range_map.specs.Lookups.{MeetAlso}
+use Rattle.range_map.proofs.StoredLists.{stored_coarse, stored_only}
+use Rattle.range_map.proofs.map.RangeMap.insert.Goals as goal
+
+pub returns-clause-meets : goal.returns-clause-meets
+returns-clause-meets g c = λ full.
+    let items = g.C.Storage.items c.self.inside.stored in
+    let new = g.C.Storage.items c.bind_in_order.new.stored in
+    rw (← c.self.view_is) (subst (λ r. MeetAlso g.K.MaybeBounded.order items new r) c.into_range-range.ensures c.in_ok-bind_in_order.ensures.ok.meets)
+
+pub returns-then-is_empty-clause-coarse : goal.returns-then-is_empty-clause-coarse
+returns-then-is_empty-clause-coarse g c = λ complete. stored_coarse g.K.MaybeBounded.order g.met.K.PartialEnum.lawful g.V.PartialEq.eq g.met.V.Eq.laws complete (g.C.Storage.items c.args.self.now) c.in_form.ensures
+
+pub returns-then-is_empty-clause-only : goal.returns-then-is_empty-clause-only
+returns-then-is_empty-clause-only g c = λ complete. stored_only g.K.MaybeBounded.order g.met.K.PartialEnum.lawful g.V.PartialEq.eq g.met.V.Eq.laws complete (g.C.Storage.items c.args.self.now) c.in_form.ensures
+
+pub returns-in_err-bind_in_order-clause-form : goal.returns-in_err-bind_in_order-clause-form
+returns-in_err-bind_in_order-clause-form g c = search rules
+
+pub returns-in_err-bind_in_order-clause-coarse : goal.returns-in_err-bind_in_order-clause-coarse
+returns-in_err-bind_in_order-clause-coarse g c = λ complete. stored_coarse g.K.MaybeBounded.order g.met.K.PartialEnum.lawful g.V.PartialEq.eq g.met.V.Eq.laws complete (g.C.Storage.items c.bind_in_order.new.stored) (returns-in_err-bind_in_order-clause-form g c)
+
+pub returns-in_err-bind_in_order-clause-only : goal.returns-in_err-bind_in_order-clause-only
+returns-in_err-bind_in_order-clause-only g c = λ complete. stored_only g.K.MaybeBounded.order g.met.K.PartialEnum.lawful g.V.PartialEq.eq g.met.V.Eq.laws complete (g.C.Storage.items c.bind_in_order.new.stored) (returns-in_err-bind_in_order-clause-form g c)
+
+pub returns-clause-form : goal.returns-clause-form
+returns-clause-form g c = search rules
+
+pub returns-clause-coarse : goal.returns-clause-coarse
+returns-clause-coarse g c = λ complete. stored_coarse g.K.MaybeBounded.order g.met.K.PartialEnum.lawful g.V.PartialEq.eq g.met.V.Eq.laws complete (g.C.Storage.items c.bind_in_order.new.stored) (returns-clause-form g c)
+
+pub returns-clause-only : goal.returns-clause-only
+returns-clause-only g c = λ complete. stored_only g.K.MaybeBounded.order g.met.K.PartialEnum.lawful g.V.PartialEq.eq g.met.V.Eq.laws complete (g.C.Storage.items c.bind_in_order.new.stored) (returns-clause-form g c)
+
+pub returns-clause-bound : goal.returns-clause-bound
+returns-clause-bound g c = grind (arith, common_steps)
+
+pub returns-clause-empty : goal.returns-clause-empty
+returns-clause-empty g c = grind (arith, common_steps)
+
+pub returns-clause-empty_unchanged : goal.returns-clause-empty_unchanged
+returns-clause-empty_unchanged g c = grind (arith, common_steps)
+
+pub returns-clause-few : goal.returns-clause-few
+returns-clause-few g c = grind (arith, common_steps)
+
+pub returns-clause-frame : goal.returns-clause-frame
+returns-clause-frame g c = grind (arith, common_steps)
+
+pub returns-clause-refused : goal.returns-clause-refused
+returns-clause-refused g c = grind (arith, common_steps)
+
+pub returns-in_err-bind_in_order-clause-bound : goal.returns-in_err-bind_in_order-clause-bound
+returns-in_err-bind_in_order-clause-bound g c = grind (arith, common_steps)
+
+pub returns-in_err-bind_in_order-clause-empty : goal.returns-in_err-bind_in_order-clause-empty
+returns-in_err-bind_in_order-clause-empty g c = grind (arith, common_steps)
+
+pub returns-in_err-bind_in_order-clause-empty_unchanged : goal.returns-in_err-bind_in_order-clause-empty_unchanged
+returns-in_err-bind_in_order-clause-empty_unchanged g c = grind (arith, common_steps)
+
+pub returns-in_err-bind_in_order-clause-few : goal.returns-in_err-bind_in_order-clause-few
+returns-in_err-bind_in_order-clause-few g c = grind (arith, common_steps)
+
+pub returns-in_err-bind_in_order-clause-frame : goal.returns-in_err-bind_in_order-clause-frame
+returns-in_err-bind_in_order-clause-frame g c = grind (arith, common_steps)
+
+pub returns-in_err-bind_in_order-clause-meets : goal.returns-in_err-bind_in_order-clause-meets
+returns-in_err-bind_in_order-clause-meets g c = grind (arith, common_steps)
+
+pub returns-in_err-bind_in_order-clause-refused : goal.returns-in_err-bind_in_order-clause-refused
+returns-in_err-bind_in_order-clause-refused g c = grind (arith, common_steps)
+
+pub returns-then-is_empty-clause-bound : goal.returns-then-is_empty-clause-bound
+returns-then-is_empty-clause-bound g c = grind (arith, common_steps)
+
+pub returns-then-is_empty-clause-empty : goal.returns-then-is_empty-clause-empty
+returns-then-is_empty-clause-empty g c = grind (arith, common_steps)
+
+pub returns-then-is_empty-clause-empty_unchanged : goal.returns-then-is_empty-clause-empty_unchanged
+returns-then-is_empty-clause-empty_unchanged g c = grind (arith, common_steps)
+
+pub returns-then-is_empty-clause-few : goal.returns-then-is_empty-clause-few
+returns-then-is_empty-clause-few g c = grind (arith, common_steps)
+
+pub returns-then-is_empty-clause-form : goal.returns-then-is_empty-clause-form
+returns-then-is_empty-clause-form g c = grind (arith, common_steps)
+
+pub returns-then-is_empty-clause-frame : goal.returns-then-is_empty-clause-frame
+returns-then-is_empty-clause-frame g c = grind (arith, common_steps)
+
+pub returns-then-is_empty-clause-meets : goal.returns-then-is_empty-clause-meets
+returns-then-is_empty-clause-meets g c = grind (arith, common_steps)
+
+pub returns-then-is_empty-clause-refused : goal.returns-then-is_empty-clause-refused
+returns-then-is_empty-clause-refused g c = grind (arith, common_steps)
+
+pub invariant_of-self : goal.invariant_of-self
+invariant_of-self g c = search rules
+
+pub invariant_of-self-2 : goal.invariant_of-self-2
+invariant_of-self-2 g c = search rules
+
+pub bind_in_order-requires-clause-stored : goal.bind_in_order-requires-clause-stored
+bind_in_order-requires-clause-stored g c = search rules
+
+pub bind_in_order-requires-clause-nonempty : goal.bind_in_order-requires-clause-nonempty
+bind_in_order-requires-clause-nonempty g c = search rules
