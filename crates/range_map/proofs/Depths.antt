@@ -3,28 +3,28 @@ use Rattle.std.proofs.Common.{◌≡◌, ℕ, zero, suc, ◌+◌, ◌-◌, ◌*�
 use Rattle.std.specs.Prelude.{nat_lt}
 use Rattle.std.proofs.Math.Nat.{pow-suc}
 use Rattle.std.proofs.lemmas.Bool.Decides.{leb_tells}
-use Rattle.range_store.specs.declared.btree.node.TheConstants.{LEAST}
+use Rattle.range_store.specs.declared.btree.node.TheConstants.{MIN_LEN}
 use Rattle.range_map.specs.Depths.{IsGreatestLevel, greatest_level, greatest_level_to}
 
 -- a power outgrows its exponent
-pow_more : (d : ℕ) → d + 1 ≤ (LEAST + 1) ^ d
+pow_more : (d : ℕ) → d + 1 ≤ (MIN_LEN + 1) ^ d
 pow_more zero = omega arith
-pow_more (suc d) = omega (arith, pow-suc (LEAST + 1) d, pow_more d)
+pow_more (suc d) = omega (arith, pow-suc (MIN_LEN + 1) d, pow_more d)
 
 -- a level that may be reached is no greater than the number
-within : (many level : ℕ) → 1 ≤ level → 2 * (LEAST + 1) ^ (level - 1) ≤ many → level ≤ many
+within : (many level : ℕ) → 1 ≤ level → 2 * (MIN_LEN + 1) ^ (level - 1) ≤ many → level ≤ many
 within many level some has = omega (arith, some, has, pow_more (level - 1))
 
 -- the next level is reached, or passed over
-step : (many d : ℕ) → ((greatest_level_to many (suc d) ≡ suc d) × (2 * (LEAST + 1) ^ d ≤ many)) ⊎ ((greatest_level_to many (suc d) ≡ greatest_level_to many d) × (many < 2 * (LEAST + 1) ^ d))
+step : (many d : ℕ) → ((greatest_level_to many (suc d) ≡ suc d) × (2 * (MIN_LEN + 1) ^ d ≤ many)) ⊎ ((greatest_level_to many (suc d) ≡ greatest_level_to many d) × (many < 2 * (MIN_LEN + 1) ^ d))
 unfolding greatest_level_to
 step many d =
-    elim (leb_tells (suc many) (2 * (LEAST + 1) ^ d)) [
-      | inl tells ↦ let is : nat_lt many (2 * (LEAST + 1) ^ d) ≡ true = tells.0 in inr (rw is refl, omega (arith, tells.1))
-      | inr tells ↦ let is : nat_lt many (2 * (LEAST + 1) ^ d) ≡ false = tells.0 in inl (rw is refl, omega (arith, tells.1))
+    elim (leb_tells (suc many) (2 * (MIN_LEN + 1) ^ d)) [
+      | inl tells ↦ let is : nat_lt many (2 * (MIN_LEN + 1) ^ d) ≡ true = tells.0 in inr (rw is refl, omega (arith, tells.1))
+      | inr tells ↦ let is : nat_lt many (2 * (MIN_LEN + 1) ^ d) ≡ false = tells.0 in inl (rw is refl, omega (arith, tells.1))
     ]
 
-reached_to : (many most : ℕ) → (greatest_level_to many most ≡ 0) ⊎ ((1 ≤ greatest_level_to many most) × (2 * (LEAST + 1) ^ (greatest_level_to many most - 1) ≤ many))
+reached_to : (many most : ℕ) → (greatest_level_to many most ≡ 0) ⊎ ((1 ≤ greatest_level_to many most) × (2 * (MIN_LEN + 1) ^ (greatest_level_to many most - 1) ≤ many))
 unfolding greatest_level_to
 reached_to many zero = inl refl
 reached_to many (suc d) =
@@ -41,14 +41,14 @@ less_or_same a b small =
     ]
 
 -- a level that is not the next one lies below it
-below : (many d other : ℕ) → other ≤ suc d → 1 ≤ other → 2 * (LEAST + 1) ^ (other - 1) ≤ many → many < 2 * (LEAST + 1) ^ d → other ≤ d
+below : (many d other : ℕ) → other ≤ suc d → 1 ≤ other → 2 * (MIN_LEN + 1) ^ (other - 1) ≤ many → many < 2 * (MIN_LEN + 1) ^ d → other ≤ d
 below many d other small some has over =
     elim (less_or_same other (suc d) small) [
       | inl less ↦ omega (arith, less)
-      | inr is ↦ let top : other - 1 ≡ d = omega (arith, is) in let all : 2 * (LEAST + 1) ^ d ≤ many = rw (← top) has in absurd (omega (arith, all, over))
+      | inr is ↦ let top : other - 1 ≡ d = omega (arith, is) in let all : 2 * (MIN_LEN + 1) ^ d ≤ many = rw (← top) has in absurd (omega (arith, all, over))
     ]
 
-greatest_to : (many most other : ℕ) → other ≤ most → 1 ≤ other → 2 * (LEAST + 1) ^ (other - 1) ≤ many → other ≤ greatest_level_to many most
+greatest_to : (many most other : ℕ) → other ≤ most → 1 ≤ other → 2 * (MIN_LEN + 1) ^ (other - 1) ≤ many → other ≤ greatest_level_to many most
 greatest_to many zero other small some has = absurd (omega (arith, small, some))
 greatest_to many (suc d) other small some has =
     elim (step many d) [

@@ -8,7 +8,7 @@ use Rattle.range_algebra.specs.Range.{IsEmptyRange}
 use Rattle.range_algebra.specs.declared.any.AnyRange.{AnyRange}
 use Rattle.range_store.specs.Holding.{box_items, box_levels}
 use Rattle.range_store.specs.declared.btree.BoxStorage.{BoxStorage}
-use Rattle.range_store.specs.declared.btree.node.TheConstants.{MOST}
+use Rattle.range_store.specs.declared.btree.node.TheConstants.{CAPACITY}
 use Rattle.range_store.specs.declared.btree.searching.TheConstants.{HALVINGS}
 use Rattle.range_store.specs.declared.storage.Item.{Item}
 use Rattle.range_map.specs.Costs.{TakesAtLeast, TakesAsChange}
@@ -155,7 +155,7 @@ module _ {K : Type 0} (order : KeyOrder K) {V : Type 0} where
 
       -- at most so many steps: what each adds, beside what it leaves fewer, is bounded by the
       -- greatest search
-      pub run_most : (level many : ℕ) → ((s : S) → length (items s) ≤ many → most s ≤ 3 * level) → (s last : S) (commands : List (Command K V T)) (replies : List (Reply K V E)) (before after : ℕ) → length (items s) + 2 * length commands ≤ many → HasNoUpdate commands → HasNoMemory replies → IsCountedRun order same may items least most s commands replies last before after → after + 2 * length (items last) ≤ before + length commands * (6 * level + 10) + 2 * length (items s)
+      pub run_most : (level many : ℕ) → ((s : S) → length (items s) ≤ many → most s ≤ HALVINGS * level) → (s last : S) (commands : List (Command K V T)) (replies : List (Reply K V E)) (before after : ℕ) → length (items s) + 2 * length commands ≤ many → HasNoUpdate commands → HasNoMemory replies → IsCountedRun order same may items least most s commands replies last before after → after + 2 * length (items last) ≤ before + length commands * (2 * HALVINGS * level + 10) + 2 * length (items s)
       run_most level many few s last [] [] before after within none memory run = omega (arith, ap (λ t. length (items t)) run.0, run.1)
       run_most level many few s last [] (r ∷ replies) before after within none memory run = absurd run
       run_most level many few s last (c ∷ commands) [] before after within none memory run = absurd run
@@ -186,7 +186,7 @@ module _ {K : Type 0} (order : KeyOrder K) {V : Type 0} where
 
 module _ {X : Type 0} where
   -- how often a search of a tree asks that has at most so many items
-  pub few_asks : (many level : ℕ) → IsGreatestLevel (many + 1) level → (s : BoxStorage X) → length (box_items s) ≤ many → HALVINGS * s.tree.levels ≤ 3 * level
+  pub few_asks : (many level : ℕ) → IsGreatestLevel (many + 1) level → (s : BoxStorage X) → length (box_items s) ≤ many → HALVINGS * s.tree.levels ≤ HALVINGS * level
   few_asks many level greatest s within =
       elim (some_or_none (length (box_items s))) [
         | inl some ↦ elim (some_or_none s.tree.levels) [
@@ -200,5 +200,5 @@ module _ {X : Type 0} where
   some_asks s some =
       elim (some_or_none s.tree.levels) [
         | inl high ↦ omega (arith, high)
-        | inr none ↦ let one : (MOST + 1) ^ s.tree.levels ≡ 1 = ap (λ m. (MOST + 1) ^ m) none in absurd (omega (arith, (box_levels s).most some, one, some))
+        | inr none ↦ let one : (CAPACITY + 1) ^ s.tree.levels ≡ 1 = ap (λ m. (CAPACITY + 1) ^ m) none in absurd (omega (arith, (box_levels s).most some, one, some))
       ]

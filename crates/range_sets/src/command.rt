@@ -4,6 +4,7 @@ ghost use Rattle.std.specs.Option.{option_copied};
 ghost use Rattle.range_algebra.specs.Range.{ClonesAreEqual};
 ghost use Rattle.range_map.specs.Bindings.{Binds, IsBound};
 ghost use Rattle.range_store.specs.Holding.{box_items};
+ghost use Rattle.range_store.specs.declared.btree.searching.TheConstants.{HALVINGS};
 ghost use Rattle.range_map.specs.Costs.{TakesAtLeast};
 ghost use Rattle.range_sets.specs.CountedRuns.{LookupTakes, TakesFor, IsCountedRun, IsRunOfDue, HasNoMemory};
 ghost use Rattle.range_map.specs.Depths.{greatest_level};
@@ -298,7 +299,7 @@ pub fn run_counted<
     ensures refused { OnErr result (box_items map.new ≡ box_items map.old) }
     ensures most { IfOk result (λ replies. HasNoUpdate commands.items → HasNoMemory replies.items
         → steps.new ≤ steps.old + length commands.items *
-        (6 * greatest_level
+        (2 * HALVINGS * greatest_level
         (length (box_items map.old) + 2 * length commands.items + 1) + 10) + 2 * length
         (box_items map.old)) }
     ensures least { IfOk result (λ replies. (due : ℕ)

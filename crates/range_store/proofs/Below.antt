@@ -3,16 +3,16 @@ use Rattle.std.proofs.Common.{◌≡◌, ◌⊎◌, inl, inr, ℕ, zero, suc, �
 use Rattle.std.proofs.lemmas.List.{length-append, length-map, get_or-map, drop_all, nil_from_length}
 use Rattle.slab.specs.Slab.{Slab, get}
 use Rattle.range_store.specs.declared.btree.node.Node.{Node}
-use Rattle.range_store.specs.declared.btree.node.TheConstants.{MOST, LEAST}
+use Rattle.range_store.specs.declared.btree.node.TheConstants.{CAPACITY, MIN_LEN}
 use Rattle.range_store.specs.Nodes.{weave, rest_of, before, after, items_of, children_of, numbers, used, Shaped, ShapedBut, child_count}
 use Rattle.std.specs.List.{flat_map}
 use Rattle.range_store.proofs.Weave.{weave_at, before_more}
 
-pub Shaped-from_but : (s : Slab Node) (d n : ℕ) → ShapedBut LEAST MOST s d n → Shaped s (suc d) n
+pub Shaped-from_but : (s : Slab Node) (d n : ℕ) → ShapedBut MIN_LEN CAPACITY s d n → Shaped s (suc d) n
 unfolding Shaped
 Shaped-from_but s d n but = (but.node, but.children)
 
-pub Shaped-but : (s : Slab Node) (d n : ℕ) → Shaped s (suc d) n → ShapedBut LEAST MOST s d n
+pub Shaped-but : (s : Slab Node) (d n : ℕ) → Shaped s (suc d) n → ShapedBut MIN_LEN CAPACITY s d n
 unfolding Shaped
 Shaped-but s d n shaped = record { node = shaped.0; children = shaped.1 }
 

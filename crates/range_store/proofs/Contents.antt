@@ -7,7 +7,7 @@ use Rattle.std.proofs.lemmas.List.Elements.{All-nil, All-cons, All-take, All-dro
 use Rattle.slab.specs.Slab.{Slab, get}
 use Rattle.range_store.specs.declared.btree.node.Node.{Node}
 use Rattle.range_store.specs.declared.btree.node.Split.{Split}
-use Rattle.range_store.specs.declared.btree.node.TheConstants.{MOST, LEAST}
+use Rattle.range_store.specs.declared.btree.node.TheConstants.{CAPACITY, MIN_LEN}
 use Rattle.range_store.specs.Nodes.{weave, items_of, children_of, child_count, numbers, used, Shaped, ShapedBut, here, Moves, Writes}
 use Rattle.range_store.specs.Contents.{IsContent, Settles, Divides}
 use Rattle.range_store.specs.Occurrences.{occurrences, occurrences-append, occurrences-cons}
@@ -30,7 +30,7 @@ module _ (s t : Slab Node) (d n : ℕ) (xs ks : List ℕ) (holds : Holds s t d n
   pub held_used : used t (suc d) n ≡ n ∷ flat_map (used s d) ks
   held_used = used_is t d n ∙ rw (holds.children_are, holds.same.used_same) refl
 
-  pub held_shape : (least : ℕ) → least ≤ length xs → length xs ≤ MOST → length ks ≡ child_count d (length xs) → All (Shaped s d) ks → ShapedBut least MOST t d n
+  pub held_shape : (least : ℕ) → least ≤ length xs → length xs ≤ CAPACITY → length ks ≡ child_count d (length xs) → All (Shaped s d) ks → ShapedBut least CAPACITY t d n
   held_shape least enough fits branches shaped = record {
     node = record {
       present = holds.present;
@@ -67,11 +67,11 @@ module _ (s t : Slab Node) (d n : ℕ) (xs ks : List ℕ) (content : IsContent s
       same = same_children s t d ks written_agree;
     }
 
-    pub written_settles : length xs ≤ MOST → Settles s t d n xs ks None
+    pub written_settles : length xs ≤ CAPACITY → Settles s t d n xs ks None
     written_settles fits = record {
       listed = append-nil (numbers t (suc d) n) ∙ held_numbers s t d n xs ks written_holds;
       moved = subst (λ zs. Moves s t (n ∷ flat_map (used s d) ks) zs) (sym (append-nil (used t (suc d) n) ∙ held_used s t d n xs ks written_holds)) (Writes-moves s t n xs ks (flat_map (used s d) ks) written);
-      shape = λ least small enough. All-cons (ShapedBut least MOST t d) n [] (held_shape s t d n xs ks written_holds least enough fits content.branches content.shaped) (All-nil _);
+      shape = λ least small enough. All-cons (ShapedBut least CAPACITY t d) n [] (held_shape s t d n xs ks written_holds least enough fits content.branches content.shaped) (All-nil _);
     }
 
 -- the items before and after the one at `half`, in two nodes
@@ -128,11 +128,11 @@ module _ (s t : Slab Node) (d n r half : ℕ) (xs ks : List ℕ) (content : IsCo
   right_length : length (drop (half + 1) xs) ≡ length xs - half - 1
   right_length = omega (arith, length-drop (half + 1) xs, low)
 
-  pub halves_shape : LEAST ≤ half → half ≤ MOST → half + 1 + LEAST ≤ length xs → length xs ≤ half + 1 + MOST → (least : ℕ) → least ≤ LEAST → All (ShapedBut least MOST t d) (n ∷ r ∷ [])
+  pub halves_shape : MIN_LEN ≤ half → half ≤ CAPACITY → half + 1 + MIN_LEN ≤ length xs → length xs ≤ half + 1 + CAPACITY → (least : ℕ) → least ≤ MIN_LEN → All (ShapedBut least CAPACITY t d) (n ∷ r ∷ [])
   halves_shape least_left most_left least_right most_right least small =
-      All-cons (ShapedBut least MOST t d) n (r ∷ [])
+      All-cons (ShapedBut least CAPACITY t d) n (r ∷ [])
       (held_shape s t d n (take half xs) us left least (omega (arith, left_length, least_left, small)) (omega (arith, left_length, most_left)) (branches_left ∙ ap (child_count d) (sym left_length)) (All-take (Shaped s d) (half + 1) ks content.shaped))
-      (All-cons (ShapedBut least MOST t d) r []
+      (All-cons (ShapedBut least CAPACITY t d) r []
       (held_shape s t d r (drop (half + 1) xs) vs right least (omega (arith, right_length, least_right, small)) (omega (arith, right_length, most_right)) (branches_right ∙ ap (child_count d) (sym right_length)) (All-drop (Shaped s d) (half + 1) ks content.shaped))
       (All-nil _))
 
@@ -169,7 +169,7 @@ module _ (s t : Slab Node) (d n half : ℕ) (xs ks : List ℕ) (split : Split) (
       (halves_nodes s t d n split.right half xs ks content low left_holds right_holds)
       (Moves-then s cut.between t (n ∷ U) (n ∷ U) (split.right ∷ n ∷ U) first second)
 
-  pub cut_settles : LEAST ≤ half → half ≤ MOST → half + 1 + LEAST ≤ length xs → length xs ≤ half + 1 + MOST → Settles s t d n xs ks (Some split)
+  pub cut_settles : MIN_LEN ≤ half → half ≤ CAPACITY → half + 1 + MIN_LEN ≤ length xs → length xs ≤ half + 1 + CAPACITY → Settles s t d n xs ks (Some split)
   cut_settles least_left most_left least_right most_right = record {
     listed = halves_listed s t d n split.right half xs ks content low left_holds right_holds split.middle cut.middle;
     moved = moved;

@@ -4,7 +4,7 @@ use Rattle.std.specs.List.{All, flat_map}
 use Rattle.std.proofs.lemmas.List.Elements.{All-nil, All-cons, All-head, All-tail}
 use Rattle.slab.specs.Slab.{Slab, get}
 use Rattle.range_store.specs.declared.btree.node.Node.{Node}
-use Rattle.range_store.specs.declared.btree.node.TheConstants.{MOST, LEAST}
+use Rattle.range_store.specs.declared.btree.node.TheConstants.{CAPACITY, MIN_LEN}
 use Rattle.range_store.specs.Nodes.{children_of, numbers, used, Shaped, IsNode}
 use Rattle.range_store.specs.Occurrences.{occurrences, occurrences-append, occurrences_here}
 
@@ -53,7 +53,7 @@ same_below s t (suc d) n agree =
     record {
       numbers_same = rw (here, children.numbers_same);
       used_same = rw (here, children.used_same);
-      shaped_same = λ h. (IsNode-same LEAST MOST s t d n here h.0, rw here (children.shaped_same h.1));
+      shaped_same = λ h. (IsNode-same MIN_LEN CAPACITY s t d n here h.0, rw here (children.shaped_same h.1));
     }
 
 pub same_children : (s t : Slab Node) (d : ℕ) (ns : List ℕ) → AgreeAt s t (flat_map (used s d) ns) → SameChildren s t d ns

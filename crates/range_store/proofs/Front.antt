@@ -2,7 +2,7 @@
 use Rattle.std.proofs.Common.{◌≡◌, ◌⊎◌, ℕ, zero, suc, ◌+◌, ◌-◌, ◌/◌, ◌^◌, ◌<◌, ◌≤◌, Bool, true, false, cond, List, [], ◌∷◌, ◌++◌, length, get_or, refl, ◌∙◌, inl, inr, arith, count_by, Some, min}
 use Rattle.std.proofs.Math.Nat.{pow-suc}
 use Rattle.std.proofs.lemmas.List.Sums.{sum_by-cons, sum_by-append}
-use Rattle.range_store.specs.declared.btree.node.TheConstants.{MOST}
+use Rattle.range_store.specs.declared.btree.node.TheConstants.{CAPACITY}
 use Rattle.range_store.specs.declared.btree.searching.TheConstants.{HALVINGS}
 use Rattle.range_store.specs.Counting.{one_step_after, greatest_count}
 use Rattle.slab.specs.Slab.{Slab, get}
@@ -83,7 +83,7 @@ pub record Halving (p : ℕ → Bool) (xs : List ℕ) (low high first now : ℕ)
   pub later : min first greatest_count ≤ now
   pub begun : (min (first + 1) greatest_count ≤ now) ⊎ (high - low ≡ length xs)
 
-pub halving_starts : (p : ℕ → Bool) (xs : List ℕ) (first : ℕ) → length xs ≤ MOST → count_by p xs ≤ length xs → Halving p xs 0 (length xs) first first
+pub halving_starts : (p : ℕ → Bool) (xs : List ℕ) (first : ℕ) → length xs ≤ CAPACITY → count_by p xs ≤ length xs → Halving p xs 0 (length xs) first first
 halving_starts p xs first small count = record {
   ordered = omega arith;
   within = omega arith;

@@ -5,7 +5,7 @@ use Rattle.std.proofs.lemmas.List.{length-append}
 use Rattle.std.specs.List.{flat_map}
 use Rattle.slab.specs.Slab.{Slab, get}
 use Rattle.range_store.specs.declared.btree.node.Node.{Node}
-use Rattle.range_store.specs.declared.btree.node.TheConstants.{MOST, LEAST}
+use Rattle.range_store.specs.declared.btree.node.TheConstants.{CAPACITY, MIN_LEN}
 use Rattle.range_store.specs.declared.btree.way.Gap.{Gap}
 use Rattle.range_store.specs.declared.btree.way.TheConstants.{WIDTH, DEEPEST}
 use Rattle.range_store.specs.Nodes.{items_of, children_of, numbers, used, before, after, ShapedBut}
@@ -72,7 +72,7 @@ place_within s (suc d) n g least most shaped is =
     let i = turn g in
     let kid = get_or (children_of (get s n)) i 0 in
     let low : i ≤ length xs = omega (arith, turn_within s d n g is, shaped.node.branches) in
-    let further = place_within s d kid (inside g) LEAST MOST (kid_shaped least most s d n i shaped low) (gap_inside s d n g is) in
+    let further = place_within s d kid (inside g) MIN_LEN CAPACITY (kid_shaped least most s d n i shaped low) (gap_inside s d n g is) in
     let whole = numbers_at least most s (suc d) n (omega arith) shaped i low in
     omega (arith, place_inside s d n g, further, ap length whole, length-append (before xs lists i) (numbers s (suc d) kid ++ after xs lists i), length-append (numbers s (suc d) kid) (after xs lists i))
 

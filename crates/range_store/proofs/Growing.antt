@@ -8,7 +8,7 @@ use Rattle.std.proofs.lemmas.List.Edits.{length-insert}
 use Rattle.slab.specs.Slab.{Slab, get, HasRoomFor}
 use Rattle.range_store.specs.declared.btree.node.Node.{Node}
 use Rattle.range_store.specs.declared.btree.node.Split.{Split}
-use Rattle.range_store.specs.declared.btree.node.TheConstants.{MOST, LEAST}
+use Rattle.range_store.specs.declared.btree.node.TheConstants.{CAPACITY, MIN_LEN}
 use Rattle.range_store.specs.Nodes.{weave, rest_of, front_of, before, after, items_of, children_of, child_count, numbers, used, Shaped, ShapedBut, here, Owned, Moves, tops, separators, Replaces, EnoughFor, HasTreeRoom, Writes}
 use Rattle.range_store.specs.Contents.{IsContent, Settles}
 use Rattle.range_store.specs.Occurrences.{occurrences, occurrences-append, occurrences-cons, occurrences_itself}
@@ -104,14 +104,14 @@ settled_replaces s t u b n xs ks list split moved listed more settles = record {
     still least (Some cut) enough = tt
 
 -- with all capacity that the item needs there is some for a cut
-pub content_room : (s t : Slab Node) (b n : ℕ) (xs ks : List ℕ) → Moves s t (used s (suc b) n) (n ∷ flat_map (used t b) ks) → IsContent t b n xs ks → length (weave xs (map (numbers t b) ks)) ≡ length (numbers s (suc b) n) + 1 → HasTreeRoom s (suc b) n 1 → MOST < length xs → HasRoomFor t 1
+pub content_room : (s t : Slab Node) (b n : ℕ) (xs ks : List ℕ) → Moves s t (used s (suc b) n) (n ∷ flat_map (used t b) ks) → IsContent t b n xs ks → length (weave xs (map (numbers t b) ks)) ≡ length (numbers s (suc b) n) + 1 → HasTreeRoom s (suc b) n 1 → CAPACITY < length xs → HasRoomFor t 1
 content_room s t b n xs ks moved content longer room over =
     let woven = length-weave xs (map (numbers t b) ks) (child_count_cases b (length xs) _ (length-map ks (numbers t b) ∙ content.branches)) in
     let few = children_le t b ks content.shaped in
     omega (arith, woven, few, longer, moved.len, room.filled, moved.capacity, over)
 
 -- the child at i became one or two, with one more item
-module _ (s t : Slab Node) (b n i rest item : ℕ) (split : Option Split) (inner : b ≢ 0) (shaped : ShapedBut 1 MOST s b n) (owned : Owned s (suc b) n) (low : i ≤ length (items_of (get s n))) (within : rest ≤ length (numbers s b (get_or (children_of (get s n)) i 0))) (child : Replaces s t (b - 1) (get_or (children_of (get s n)) i 0) split (insert (numbers s (suc (b - 1)) (get_or (children_of (get s n)) i 0)) rest item)) where
+module _ (s t : Slab Node) (b n i rest item : ℕ) (split : Option Split) (inner : b ≢ 0) (shaped : ShapedBut 1 CAPACITY s b n) (owned : Owned s (suc b) n) (low : i ≤ length (items_of (get s n))) (within : rest ≤ length (numbers s b (get_or (children_of (get s n)) i 0))) (child : Replaces s t (b - 1) (get_or (children_of (get s n)) i 0) split (insert (numbers s (suc (b - 1)) (get_or (children_of (get s n)) i 0)) rest item)) where
   abbrev xs : List ℕ
   xs = items_of (get s n)
 
@@ -137,12 +137,12 @@ module _ (s t : Slab Node) (b n i rest item : ℕ) (split : Option Split) (inner
   level = omega arith
 
   many : length ks ≡ length xs + 1
-  many = children_length 1 MOST s b n (omega arith) shaped
+  many = children_length 1 CAPACITY s b n (omega arith) shaped
 
   ks_parts : ks ≡ us ++ (kid ∷ vs)
   ks_parts = parts ks i 0 (omega (arith, many))
 
-  kid_shape : ShapedBut LEAST MOST s (b - 1) kid
+  kid_shape : ShapedBut MIN_LEN CAPACITY s (b - 1) kid
   kid_shape = Shaped-but s (b - 1) kid (rw (← level) at (shaped.children i 0 (omega (arith, many))))
 
   grown_run : Runs s t b n us (kid ∷ []) vs (tops kid split)
@@ -161,10 +161,10 @@ module _ (s t : Slab Node) (b n i rest item : ℕ) (split : Option Split) (inner
 
   tops_shaped : All (Shaped t b) (tops kid split)
   tops_shaped =
-      let but = child.shape LEAST (omega arith) (enough split) in
-      rw level at (All-weaker (ShapedBut LEAST MOST t (b - 1)) (Shaped t (suc (b - 1))) (λ k. Shaped-from_but t (b - 1) k) (tops kid split) but)
+      let but = child.shape MIN_LEN (omega arith) (enough split) in
+      rw level at (All-weaker (ShapedBut MIN_LEN CAPACITY t (b - 1)) (Shaped t (suc (b - 1))) (λ k. Shaped-from_but t (b - 1) k) (tops kid split) but)
     where
-      enough : (cut : Option Split) → EnoughFor LEAST cut (length (items_of (get s kid)))
+      enough : (cut : Option Split) → EnoughFor MIN_LEN cut (length (items_of (get s kid)))
       enough None = kid_shape.node.enough
       enough (Some cut) = tt
 
@@ -194,7 +194,7 @@ module _ (s t : Slab Node) (b n i rest item : ℕ) (split : Option Split) (inner
   pub grown_listed : weave new_xs (map (numbers t b) new_ks) ≡ insert (numbers s (suc b) n) (length (before xs lists i) + rest) item
   grown_listed =
       let inserted : weave (separators split) (map (numbers t b) (tops kid split)) ≡ insert (numbers s b kid) rest item = rw level at child.listed in
-      let whole = numbers_at 1 MOST s b n (omega arith) shaped i low in
+      let whole = numbers_at 1 CAPACITY s b n (omega arith) shaped i low in
       ap (weave new_xs) (run_lists s t b n us (kid ∷ []) vs (tops kid split) grown_run)
       ∙ woven split
       ∙ rw (inserted, ← take-map (numbers s b) i ks, ← drop-map (numbers s b) (i + 1) ks) refl
@@ -203,7 +203,7 @@ module _ (s t : Slab Node) (b n i rest item : ℕ) (split : Option Split) (inner
 
   pub grown_longer : length (weave new_xs (map (numbers t b) new_ks)) ≡ length (numbers s (suc b) n) + 1
   grown_longer =
-      let whole = numbers_at 1 MOST s b n (omega arith) shaped i low in
+      let whole = numbers_at 1 CAPACITY s b n (omega arith) shaped i low in
       let place : length (before xs lists i) + rest ≤ length (numbers s (suc b) n) = omega (arith, ap length whole, length-append (before xs lists i) (numbers s b kid ++ after xs lists i), length-append (numbers s b kid) (after xs lists i), within) in
       ap length grown_listed ∙ length-insert (numbers s (suc b) n) (length (before xs lists i) + rest) item place
 
@@ -230,7 +230,7 @@ kid_owned s b n i owned low k =
     omega (arith, owned k, ap (occurrences k) (used_is s b n), occurrences-cons k n (flat_map (used s b) ks), ap (occurrences k) all, occurrences-append k us (used s b kid ++ vs), occurrences-append k (used s b kid) vs)
 
 -- a child that was not cut leaves the node as it is
-module _ (s t : Slab Node) (b n i rest item : ℕ) (inner : b ≢ 0) (shaped : ShapedBut 1 MOST s b n) (owned : Owned s (suc b) n) (low : i ≤ length (items_of (get s n))) (within : rest ≤ length (numbers s b (get_or (children_of (get s n)) i 0))) (child : Replaces s t (b - 1) (get_or (children_of (get s n)) i 0) None (insert (numbers s (suc (b - 1)) (get_or (children_of (get s n)) i 0)) rest item)) where
+module _ (s t : Slab Node) (b n i rest item : ℕ) (inner : b ≢ 0) (shaped : ShapedBut 1 CAPACITY s b n) (owned : Owned s (suc b) n) (low : i ≤ length (items_of (get s n))) (within : rest ≤ length (numbers s b (get_or (children_of (get s n)) i 0))) (child : Replaces s t (b - 1) (get_or (children_of (get s n)) i 0) None (insert (numbers s (suc (b - 1)) (get_or (children_of (get s n)) i 0)) rest item)) where
   abbrev xs' : List ℕ
   xs' = take i (items_of (get s n)) ++ drop i (items_of (get s n))
 
@@ -248,7 +248,7 @@ module _ (s t : Slab Node) (b n i rest item : ℕ) (inner : b ≢ 0) (shaped : S
     was = content.present;
     present = content.present;
     items_are = ap items_of kept ∙ sym (take-append-drop i (items_of (get s n)));
-    children_are = ap children_of kept ∙ parts (children_of (get s n)) i 0 (omega (arith, children_length 1 MOST s b n (omega arith) shaped));
+    children_are = ap children_of kept ∙ parts (children_of (get s n)) i 0 (omega (arith, children_length 1 CAPACITY s b n (omega arith) shaped));
     others = λ k other. refl;
     len = refl;
     capacity = refl;
@@ -272,11 +272,11 @@ module _ (s t : Slab Node) (b n i rest item : ℕ) (inner : b ≢ 0) (shaped : S
       (gap.0, gap.1 ∙ up.1)
 
 -- a node that may be cut has the item between the halves of its child, and the second of them
-module _ (s t : Slab Node) (b n i rest item : ℕ) (split : Split) (inner : b ≢ 0) (shaped : ShapedBut 1 MOST s b n) (owned : Owned s (suc b) n) (low : i ≤ length (items_of (get s n))) (within : rest ≤ length (numbers s b (get_or (children_of (get s n)) i 0))) (child : Replaces s t (b - 1) (get_or (children_of (get s n)) i 0) (Some split) (insert (numbers s (suc (b - 1)) (get_or (children_of (get s n)) i 0)) rest item)) where
+module _ (s t : Slab Node) (b n i rest item : ℕ) (split : Split) (inner : b ≢ 0) (shaped : ShapedBut 1 CAPACITY s b n) (owned : Owned s (suc b) n) (low : i ≤ length (items_of (get s n))) (within : rest ≤ length (numbers s b (get_or (children_of (get s n)) i 0))) (child : Replaces s t (b - 1) (get_or (children_of (get s n)) i 0) (Some split) (insert (numbers s (suc (b - 1)) (get_or (children_of (get s n)) i 0)) rest item)) where
   pub some_items : take i (items_of (get s n)) ++ (split.middle ∷ drop i (items_of (get s n))) ≡ insert (items_of (get t n)) i split.middle
   some_items = ap (λ zs. insert zs i split.middle) (sym (ap items_of (grown_kept s t b n i rest item (Some split) inner shaped owned low within child)))
 
   pub some_children : take i (children_of (get s n)) ++ (get_or (children_of (get s n)) i 0 ∷ split.right ∷ drop (i + 1) (children_of (get s n))) ≡ insert (children_of (get t n)) (i + 1) split.right
   some_children =
-      sym (with_right (children_of (get s n)) i split.right (omega (arith, children_length 1 MOST s b n (omega arith) shaped)))
+      sym (with_right (children_of (get s n)) i split.right (omega (arith, children_length 1 CAPACITY s b n (omega arith) shaped)))
       ∙ ap (λ zs. insert zs (i + 1) split.right) (sym (ap children_of (grown_kept s t b n i rest item (Some split) inner shaped owned low within child)))

@@ -5,7 +5,7 @@ use Rattle.std.proofs.Math.ListN.{set}
 use Rattle.std.proofs.lemmas.List.{length-append, length-take-le, drop_more, get_or-append-add}
 use Rattle.slab.specs.Slab.{Slab, get}
 use Rattle.range_store.specs.declared.btree.node.Node.{Node}
-use Rattle.range_store.specs.declared.btree.node.TheConstants.{MOST, LEAST}
+use Rattle.range_store.specs.declared.btree.node.TheConstants.{CAPACITY, MIN_LEN}
 use Rattle.range_store.specs.declared.btree.way.TheConstants.{WIDTH}
 use Rattle.range_store.specs.declared.btree.way.Gap.{Gap}
 use Rattle.range_store.specs.Nodes.{items_of, children_of, numbers, before, after, ShapedBut}
@@ -24,17 +24,17 @@ place_index s (suc d) n g = omega (arith, place_index s d (get_or (children_of (
 pub record IsLeafOf (s : Slab Node) (g : Gap) : Type 0 where
   pub present : IsSome (get s g.leaf)
   pub some : 0 < length (items_of (get s g.leaf))
-  pub fits : length (items_of (get s g.leaf)) ≤ MOST
+  pub fits : length (items_of (get s g.leaf)) ≤ CAPACITY
   pub childless : length (children_of (get s g.leaf)) ≡ 0
   pub within : g.index ≤ length (items_of (get s g.leaf))
 
-pub leaf_of_gap : (s : Slab Node) (d n : ℕ) (g : Gap) → ShapedBut 1 MOST s d n → IsGap s d n g → IsLeafOf s g
+pub leaf_of_gap : (s : Slab Node) (d n : ℕ) (g : Gap) → ShapedBut 1 CAPACITY s d n → IsGap s d n g → IsLeafOf s g
 unfolding IsGap
 leaf_of_gap s zero n g shaped is =
     rw is.0 (record { present = shaped.node.present; some = shaped.node.enough; fits = shaped.node.fits; childless = shaped.node.branches; within = is.2 })
 leaf_of_gap s (suc d) n g shaped is =
     let low : turn g ≤ length (items_of (get s n)) = omega (arith, is.0, shaped.node.branches) in
-    let below = leaf_of_gap s d _ (inside g) (wider 1 LEAST MOST MOST s d _ (omega arith) (omega arith) (kid_shaped 1 MOST s d n (turn g) shaped low)) is.1 in
+    let below = leaf_of_gap s d _ (inside g) (wider 1 MIN_LEN CAPACITY CAPACITY s d _ (omega arith) (omega arith) (kid_shaped 1 CAPACITY s d n (turn g) shaped low)) is.1 in
     record { present = below.present; some = below.some; fits = below.fits; childless = below.childless; within = below.within }
 
 -- another gap in it
@@ -58,7 +58,7 @@ leaf_item s zero n g least most shaped low is =
 leaf_item s (suc d) n g least most shaped low is =
     let kid = get_or (children_of (get s n)) (turn g) 0 in
     let within : turn g ≤ length (items_of (get s n)) = omega (arith, is.0, shaped.node.branches) in
-    let below = leaf_item s d kid (inside g) LEAST MOST (kid_shaped least most s d n (turn g) shaped within) low is.1 in
+    let below = leaf_item s d kid (inside g) MIN_LEN CAPACITY (kid_shaped least most s d n (turn g) shaped within) low is.1 in
     let whole = numbers_at least most s (suc d) n (omega arith) shaped (turn g) within in
     let front = before (items_of (get s n)) (map (numbers s (suc d)) (children_of (get s n))) (turn g) in
     let rest = after (items_of (get s n)) (map (numbers s (suc d)) (children_of (get s n))) (turn g) in

@@ -5,7 +5,7 @@ use Rattle.std.proofs.lemmas.List.{append-nil, length-append, nil_from_length}
 use Rattle.std.proofs.lemmas.List.Edits.{length-insert, length-remove}
 use Rattle.slab.specs.Slab.{Slab, get}
 use Rattle.range_store.specs.declared.btree.node.Node.{Node}
-use Rattle.range_store.specs.declared.btree.node.TheConstants.{MOST, LEAST}
+use Rattle.range_store.specs.declared.btree.node.TheConstants.{CAPACITY, MIN_LEN}
 use Rattle.range_store.specs.declared.btree.number_tree.NumberTree.{NumberTree}
 use Rattle.range_store.specs.declared.btree.way.Gap.{Gap}
 use Rattle.range_store.specs.declared.btree.way.TheConstants.{WIDTH}
@@ -40,7 +40,7 @@ regrouped f a m b r =
     ap (λ zs. f ++ zs) (append_assoc a (m ++ b) r ∙ ap (λ zs. a ++ zs) (append_assoc m b r)) ∙ sym (append_assoc f a (m ++ (b ++ r)))
 
 -- of a leaf itself
-module _ (s t : Slab Node) (n : ℕ) (g : Gap) (items : List ℕ) (fits : length items ≤ MOST) (enough : (least : ℕ) → least ≤ LEAST → least ≤ length (items_of (get s n)) → least ≤ length items) (shaped : ShapedBut 1 MOST s zero n) (owned : Owned s 1 n) (written : Writes s t n items (children_of (get s n))) where
+module _ (s t : Slab Node) (n : ℕ) (g : Gap) (items : List ℕ) (fits : length items ≤ CAPACITY) (enough : (least : ℕ) → least ≤ MIN_LEN → least ≤ length (items_of (get s n)) → least ≤ length items) (shaped : ShapedBut 1 CAPACITY s zero n) (owned : Owned s 1 n) (written : Writes s t n items (children_of (get s n))) where
   content : IsContent s zero n items (children_of (get s n))
   content = record {
     present = shaped.node.present;
@@ -69,7 +69,7 @@ module _ (s t : Slab Node) (n : ℕ) (g : Gap) (items : List ℕ) (fits : length
       }
 
 -- of a leaf below the child through which the way goes
-module _ (s t : Slab Node) (d n : ℕ) (g : Gap) (items : List ℕ) (shaped : ShapedBut 1 MOST s (suc d) n) (owned : Owned s (suc (suc d)) n) (low : turn g ≤ length (items_of (get s n))) (within : turn g < length (children_of (get s n))) (below : IsLeafEdit s t d (get_or (children_of (get s n)) (turn g) 0) (inside g) items) where
+module _ (s t : Slab Node) (d n : ℕ) (g : Gap) (items : List ℕ) (shaped : ShapedBut 1 CAPACITY s (suc d) n) (owned : Owned s (suc (suc d)) n) (low : turn g ≤ length (items_of (get s n))) (within : turn g < length (children_of (get s n))) (below : IsLeafEdit s t d (get_or (children_of (get s n)) (turn g) 0) (inside g) items) where
   inner : suc d ≢ 0
   inner same = absurd (omega (arith, same))
 
@@ -83,14 +83,14 @@ module _ (s t : Slab Node) (d n : ℕ) (g : Gap) (items : List ℕ) (shaped : Sh
   kept = kid_kept s t (suc d) n (turn g) _ inner shaped owned low below.rewritten.listed below.rewritten.moved
 
   kid_now : Shaped t (suc d) (get_or (children_of (get s n)) (turn g) 0)
-  kid_now = Shaped-from_but t d _ (below.rewritten.shape LEAST (omega arith) (kid_shaped 1 MOST s d n (turn g) shaped low))
+  kid_now = Shaped-from_but t d _ (below.rewritten.shape MIN_LEN (omega arith) (kid_shaped 1 CAPACITY s d n (turn g) shaped low))
 
   edited_above : IsLeafEdit s t (suc d) n g items
   edited_above = record {
     front = fore ++ below.front;
     rest = below.rest ++ behind;
     was =
-        numbers_at 1 MOST s (suc d) n (omega arith) shaped (turn g) low
+        numbers_at 1 CAPACITY s (suc d) n (omega arith) shaped (turn g) low
         ∙ ap (λ zs. fore ++ (zs ++ behind)) below.was
         ∙ regrouped fore below.front (items_of (get s g.leaf)) below.rest behind;
     place_is = omega (arith, place_inside s d n g, below.place_is, length-append fore below.front);
@@ -100,7 +100,7 @@ module _ (s t : Slab Node) (d n : ℕ) (g : Gap) (items : List ℕ) (shaped : Sh
           ∙ regrouped fore below.front items below.rest behind;
       moved = kid_moved s t (suc d) n (turn g) _ inner shaped owned low below.rewritten.listed below.rewritten.moved;
       shape = λ least small old. record {
-        node = IsNode-same least MOST s t (suc d) n kept old.node;
+        node = IsNode-same least CAPACITY s t (suc d) n kept old.node;
         children = kid_children s t (suc d) n (turn g) _ inner shaped owned low below.rewritten.listed below.rewritten.moved kid_now;
       };
     };
@@ -112,14 +112,14 @@ module _ (s t : Slab Node) (d n : ℕ) (g : Gap) (items : List ℕ) (shaped : Sh
         (gap_above t d n (turn g) (inside h) h first refl (rw kept within) (rw kept further.0), omega (arith, now, fronts, further.1, length-append fore below.front));
   }
 
-pub leaf_edit : (s t : Slab Node) (d n : ℕ) (g : Gap) (items : List ℕ) → length items ≤ MOST → ((least : ℕ) → least ≤ LEAST → least ≤ length (items_of (get s g.leaf)) → least ≤ length items) → ShapedBut 1 MOST s d n → Owned s (suc d) n → IsGap s d n g → Writes s t g.leaf items (children_of (get s g.leaf)) → IsLeafEdit s t d n g items
+pub leaf_edit : (s t : Slab Node) (d n : ℕ) (g : Gap) (items : List ℕ) → length items ≤ CAPACITY → ((least : ℕ) → least ≤ MIN_LEN → least ≤ length (items_of (get s g.leaf)) → least ≤ length items) → ShapedBut 1 CAPACITY s d n → Owned s (suc d) n → IsGap s d n g → Writes s t g.leaf items (children_of (get s g.leaf)) → IsLeafEdit s t d n g items
 unfolding IsGap
 leaf_edit s t zero n g items fits enough shaped owned is written =
     edited_here s t n g items fits (rw is.0 at enough) shaped owned (rw is.0 at written) is.0 is.1
 leaf_edit s t (suc d) n g items fits enough shaped owned is written =
     let low : turn g ≤ length (items_of (get s n)) = omega (arith, is.0, shaped.node.branches) in
     let kid = get_or (children_of (get s n)) (turn g) 0 in
-    let kid_whole = wider 1 LEAST MOST MOST s d kid (omega arith) (omega arith) (kid_shaped 1 MOST s d n (turn g) shaped low) in
+    let kid_whole = wider 1 MIN_LEN CAPACITY CAPACITY s d kid (omega arith) (omega arith) (kid_shaped 1 CAPACITY s d n (turn g) shaped low) in
     edited_above s t d n g items shaped owned low is.0
     (leaf_edit s t d kid (inside g) items fits enough kid_whole (kid_owned s (suc d) n (turn g) owned is.0) is.1 written)
 
@@ -148,7 +148,7 @@ module _ (t : NumberTree) (new : Slab Node) (g : Gap) (is : IsTreeGap t g) where
   level : suc (t.levels - 1) ≡ t.levels
   level = omega (arith, is.some)
 
-  shaped : ShapedBut 1 MOST t.nodes (t.levels - 1) t.root
+  shaped : ShapedBut 1 CAPACITY t.nodes (t.levels - 1) t.root
   shaped = root_shaped t.nodes t.levels t.root is.some t.whole.tree
 
   owned : Owned t.nodes (suc (t.levels - 1)) t.root
@@ -177,14 +177,14 @@ module _ (t : NumberTree) (new : Slab Node) (g : Gap) (is : IsTreeGap t g) where
         place_is = omega (arith, gap.1, edit.place_is);
       }
 
-  pub put_in_leaf : (item : ℕ) (h : Gap) → length items < MOST → Writes t.nodes new g.leaf (insert items g.index item) (children_of (get t.nodes g.leaf)) → h.leaf ≡ g.leaf → h.way ≡ g.way → h.index ≡ g.index + 1 → IsLeafChange (insert (tree_numbers t) (tree_place t g) item) h h.index
+  pub put_in_leaf : (item : ℕ) (h : Gap) → length items < CAPACITY → Writes t.nodes new g.leaf (insert items g.index item) (children_of (get t.nodes g.leaf)) → h.leaf ≡ g.leaf → h.way ≡ g.way → h.index ≡ g.index + 1 → IsLeafChange (insert (tree_numbers t) (tree_place t g) item) h h.index
   put_in_leaf item h room written at way next =
       let within = leaf.within in
       let more = length-insert items g.index item within in
       let edit = leaf_edit t.nodes new (t.levels - 1) t.root g (insert items g.index item) (omega (arith, more, room)) (λ least small old. omega (arith, more, old)) shaped owned is.gap written in
       changed (insert items g.index item) _ h edit (rw level at (inserted_in_leaf t.nodes new (t.levels - 1) t.root item g edit within)) at way (omega (arith, more, next, within))
 
-  pub take_from_leaf : (h : Gap) → LEAST < length items → 0 < g.index → Writes t.nodes new g.leaf (remove items (g.index - 1)) (children_of (get t.nodes g.leaf)) → h.leaf ≡ g.leaf → h.way ≡ g.way → h.index ≡ g.index - 1 → IsLeafChange (remove (tree_numbers t) (tree_place t g - 1)) h h.index
+  pub take_from_leaf : (h : Gap) → MIN_LEN < length items → 0 < g.index → Writes t.nodes new g.leaf (remove items (g.index - 1)) (children_of (get t.nodes g.leaf)) → h.leaf ≡ g.leaf → h.way ≡ g.way → h.index ≡ g.index - 1 → IsLeafChange (remove (tree_numbers t) (tree_place t g - 1)) h h.index
   take_from_leaf h spare some written at way back =
       let within = leaf.within in
       let less = length-remove items (g.index - 1) (omega (arith, within, some)) in

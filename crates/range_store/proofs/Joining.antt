@@ -7,7 +7,7 @@ use Rattle.std.proofs.lemmas.List.Elements.{All-append, All-cons, All-nil, All-w
 use Rattle.slab.specs.Slab.{Slab, get, slab_len, Updates}
 use Rattle.range_store.specs.declared.btree.node.Node.{Node}
 use Rattle.range_store.specs.declared.btree.node.Split.{Split}
-use Rattle.range_store.specs.declared.btree.node.TheConstants.{MOST, LEAST}
+use Rattle.range_store.specs.declared.btree.node.TheConstants.{CAPACITY, MIN_LEN}
 use Rattle.range_store.specs.declared.btree.way.Gap.{Gap}
 use Rattle.range_store.specs.Nodes.{weave, items_of, children_of, child_count, numbers, used, Shaped, ShapedBut, here, Writes, Removes}
 use Rattle.range_store.specs.Gaps.{turn, inside, seat_of, IsGap, place, IsSeat, seat_place}
@@ -98,7 +98,7 @@ module _ (s : Slab Node) (d l x r : ℕ) (pair : IsPair s d l r) where
   }
 
   -- all of it in the left node
-  module _ (t u : Slab Node) (written : Writes s t l xs ks) (removed : Removes t u r) (few : length xs ≤ LEAST + LEAST) where
+  module _ (t u : Slab Node) (written : Writes s t l xs ks) (removed : Removes t u r) (few : length xs ≤ MIN_LEN + MIN_LEN) where
     gone_apart : (k : ℕ) → 0 < occurrences k F → get u k ≡ get s k
     gone_apart k among = removed.others k (right_apart k among) ∙ written.others k (content_apart s t d l xs ks pair_content k among)
 
@@ -124,7 +124,7 @@ module _ (s : Slab Node) (d l x r : ℕ) (pair : IsPair s d l r) where
           (Moves-then s t u (r ∷ l ∷ F) (r ∷ l ∷ F) (l ∷ F)
           (Moves-like s t (l ∷ r ∷ F) (r ∷ l ∷ F) (l ∷ r ∷ F) (r ∷ l ∷ F) swapped swapped (Writes-moves s t l xs ks (r ∷ F) written))
           (Removes-moves t u r (l ∷ F) removed));
-      shaped = All-cons (Shaped u (suc d)) l [] (Shaped-from_but u d l (held_shape s u d l xs ks united_holds LEAST (omega (arith, pair_length, pair.enough)) (omega (arith, few)) pair_content.branches pair_content.shaped)) (All-nil _);
+      shaped = All-cons (Shaped u (suc d)) l [] (Shaped-from_but u d l (held_shape s u d l xs ks united_holds MIN_LEN (omega (arith, pair_length, pair.enough)) (omega (arith, few)) pair_content.branches pair_content.shaped)) (All-nil _);
     }
       where
         swapped : SameNodes (l ∷ r ∷ F) (r ∷ l ∷ F)
@@ -144,7 +144,7 @@ module _ (s : Slab Node) (d l x r : ℕ) (pair : IsPair s d l r) where
     pub shared_right : Holds s u d r (drop (half + 1) xs) (drop (half + 1) ks)
     shared_right = record { present = second.present; items_are = second.items_are; children_are = second.children_are; same = same_children s u d (drop (half + 1) ks) (part_agree s u d (half + 1) ks shared_agree).1 }
 
-    pub shared_rejoins : (split : Split) → split.right ≡ r → split.middle ≡ get_or xs half 0 → LEAST ≤ half → half ≤ MOST → half + 1 + LEAST ≤ length xs → length xs ≤ half + 1 + MOST → Rejoins s u d l x r (Some split)
+    pub shared_rejoins : (split : Split) → split.right ≡ r → split.middle ≡ get_or xs half 0 → MIN_LEN ≤ half → half ≤ CAPACITY → half + 1 + MIN_LEN ≤ length xs → length xs ≤ half + 1 + CAPACITY → Rejoins s u d l x r (Some split)
     shared_rejoins split same middle least_left most_left least_right most_right = rw same (record {
       listed = halves_listed s u d l r half xs ks pair_content low shared_left shared_right split.middle middle ∙ pair_listed;
       moved =
@@ -155,8 +155,8 @@ module _ (s : Slab Node) (d l x r : ℕ) (pair : IsPair s d l r) where
           (Moves-like s t (l ∷ r ∷ F) (r ∷ l ∷ F) (l ∷ r ∷ F) (r ∷ l ∷ F) swapped' swapped' (Writes-moves s t l (take half xs) (take (half + 1) ks) (r ∷ F) first))
           (Writes-moves t u r (drop (half + 1) xs) (drop (half + 1) ks) (l ∷ F) second));
       shaped =
-          let but = halves_shape s u d l r half xs ks pair_content low shared_left shared_right least_left most_left least_right most_right LEAST (omega arith) in
-          All-weaker (ShapedBut LEAST MOST u d) (Shaped u (suc d)) (λ k. Shaped-from_but u d k) (l ∷ r ∷ []) but;
+          let but = halves_shape s u d l r half xs ks pair_content low shared_left shared_right least_left most_left least_right most_right MIN_LEN (omega arith) in
+          All-weaker (ShapedBut MIN_LEN CAPACITY u d) (Shaped u (suc d)) (λ k. Shaped-from_but u d k) (l ∷ r ∷ []) but;
     })
       where
         swapped' : SameNodes (l ∷ r ∷ F) (r ∷ l ∷ F)
@@ -189,4 +189,4 @@ module _ (s : Slab Node) (l x r : ℕ) (g : Gap) where
       let run = seat_run s e (children_of (get s l)) (children_of (get s r)) [] (xs ++ x ∷ []) ys [] (length xs + 1) (turn g) (inside g) pair.left.node.branches (length-append xs (x ∷ [])) pair.right.node.branches is in
       let items : (xs ++ x ∷ []) ++ (ys ++ []) ≡ xs ++ (x ∷ ys) = ap (λ zs. (xs ++ x ∷ []) ++ zs) (append-nil ys) ∙ append_assoc xs (x ∷ []) ys in
       let run' = rw (items, append-nil (children_of (get s r))) at run in
-      (run'.0, omega (arith, run'.1, numbers_size (LEAST - 1) MOST s (suc e) l pair.left))
+      (run'.0, omega (arith, run'.1, numbers_size (MIN_LEN - 1) CAPACITY s (suc e) l pair.left))

@@ -5,7 +5,7 @@ use Rattle.std.proofs.lemmas.List.{nil_from_length}
 use Rattle.std.proofs.lemmas.List.Edits.{length-insert}
 use Rattle.slab.specs.Slab.{Slab, get}
 use Rattle.range_store.specs.declared.btree.node.Node.{Node}
-use Rattle.range_store.specs.declared.btree.node.TheConstants.{MOST}
+use Rattle.range_store.specs.declared.btree.node.TheConstants.{CAPACITY}
 use Rattle.range_store.specs.declared.btree.way.Gap.{Gap}
 use Rattle.range_store.specs.Nodes.{weave, items_of, children_of, numbers, used, ShapedBut, Owned, Moves}
 use Rattle.range_store.specs.Gaps.{IsSeat, seat_place}
@@ -14,7 +14,7 @@ use Rattle.range_store.specs.Occurrences.{occurrences}
 use Rattle.range_store.proofs.Below.{used_is, numbers_leaf}
 use Rattle.range_store.proofs.Moves.{Moves-none}
 
-module _ (s : Slab Node) (n i item : ℕ) (shaped : ShapedBut 1 MOST s 0 n) where
+module _ (s : Slab Node) (n i item : ℕ) (shaped : ShapedBut 1 CAPACITY s 0 n) where
   pub leaf_content : Owned s 1 n → IsContent s 0 n (insert (items_of (get s n)) i item) (children_of (get s n))
   leaf_content owned = record {
     present = shaped.node.present;

@@ -5,7 +5,7 @@ use Rattle.std.proofs.lemmas.List.{drop_more, take_more, length-append, get_or_a
 use Rattle.std.proofs.lemmas.List.Elements.{All-cons, All-head, All-tail, All-append, All-weaker}
 use Rattle.slab.specs.Slab.{Slab, get}
 use Rattle.range_store.specs.declared.btree.node.Node.{Node}
-use Rattle.range_store.specs.declared.btree.node.TheConstants.{MOST, LEAST}
+use Rattle.range_store.specs.declared.btree.node.TheConstants.{CAPACITY, MIN_LEN}
 use Rattle.range_store.specs.Nodes.{items_of, children_of, numbers, used, Shaped, ShapedBut, Shrinks, IsMendable, IsLevelled, child_size}
 use Rattle.range_store.proofs.Below.{Shaped-from_but, Shaped-but, wider}
 use Rattle.range_store.proofs.Moves.{Moves-none}
@@ -49,7 +49,7 @@ module _ (s : Slab Node) (low n i : ℕ) (m : IsMendable s low n i) where
   all_present =
       subst (All Present) (sym kids) (All-append Present (take i ks) (kid ∷ drop (i + 1) ks) (All-weaker P Present present_of (take i ks) m.before) (All-cons Present kid (drop (i + 1) ks) m.child.node.present (All-weaker P Present present_of (drop (i + 1) ks) m.behind)))
 
-  pub stays_mended : LEAST ≤ length (items_of (get s kid)) → Shrinks s s (suc low) n (numbers s (suc (suc low)) n)
+  pub stays_mended : MIN_LEN ≤ length (items_of (get s kid)) → Shrinks s s (suc low) n (numbers s (suc (suc low)) n)
   stays_mended enough =
       let here = Shaped-from_but s low kid (record {
         node = record { present = m.child.node.present; enough = enough; fits = m.child.node.fits; branches = m.child.node.branches };
@@ -65,10 +65,10 @@ module _ (s : Slab Node) (low n i : ℕ) (m : IsMendable s low n i) where
         };
       }
 
-  loose : (c : ℕ) → Shaped s (suc low) c → ShapedBut (LEAST - 1) MOST s low c
-  loose c shaped = wider (LEAST - 1) LEAST MOST MOST s low c (omega arith) (omega arith) (Shaped-but s low c shaped)
+  loose : (c : ℕ) → Shaped s (suc low) c → ShapedBut (MIN_LEN - 1) CAPACITY s low c
+  loose c shaped = wider (MIN_LEN - 1) MIN_LEN CAPACITY CAPACITY s low c (omega arith) (omega arith) (Shaped-but s low c shaped)
 
-  with_behind : i < length xs → length (items_of (get s kid)) < LEAST → IsLevelled s low n i
+  with_behind : i < length xs → length (items_of (get s kid)) < MIN_LEN → IsLevelled s low n i
   with_behind within short =
       let two : drop (i + 1) ks ≡ get_or ks (i + 1) 0 ∷ drop (i + 1 + 1) ks = drop_more ks (i + 1) 0 (omega (arith, many)) in
       let far : i + 1 + 1 ≡ i + 2 = omega arith in
@@ -87,7 +87,7 @@ module _ (s : Slab Node) (low n i : ℕ) (m : IsMendable s low n i) where
         fits = omega (arith, short, next'.node.fits);
       }
 
-  with_before : (j : ℕ) → j + 1 ≡ i → length (items_of (get s kid)) < LEAST → IsLevelled s low n j
+  with_before : (j : ℕ) → j + 1 ≡ i → length (items_of (get s kid)) < MIN_LEN → IsLevelled s low n j
   with_before j next short =
       let within : j < length xs = omega (arith, m.within) in
       let front : take i ks ≡ take j ks ++ (get_or ks j 0 ∷ []) = rw (← next) (take_more ks j 0 (omega (arith, many))) in
@@ -107,12 +107,12 @@ module _ (s : Slab Node) (low n i : ℕ) (m : IsMendable s low n i) where
         fits = rw next (omega (arith, short, last'.node.fits));
       }
 
-  pub pair_levelled : (j : ℕ) → j < length xs → (j ≡ i) ⊎ (j + 1 ≡ i) → length (items_of (get s kid)) < LEAST → IsLevelled s low n j
+  pub pair_levelled : (j : ℕ) → j < length xs → (j ≡ i) ⊎ (j + 1 ≡ i) → length (items_of (get s kid)) < MIN_LEN → IsLevelled s low n j
   pair_levelled j within (inl same) short = rw same (with_behind (omega arith) short)
   pair_levelled j within (inr next) short = with_before j next short
 
   -- a short child and one with an item to spare have enough for both
-  pub enough_to_share : (j : ℕ) → (j ≡ i) ⊎ (j + 1 ≡ i) → child_size s n i < LEAST → (LEAST < child_size s n j) ⊎ (LEAST < child_size s n (j + 1)) → LEAST + LEAST < child_size s n j + 1 + child_size s n (j + 1)
+  pub enough_to_share : (j : ℕ) → (j ≡ i) ⊎ (j + 1 ≡ i) → child_size s n i < MIN_LEN → (MIN_LEN < child_size s n j) ⊎ (MIN_LEN < child_size s n (j + 1)) → MIN_LEN + MIN_LEN < child_size s n j + 1 + child_size s n (j + 1)
   enough_to_share j (inl same) short (inl spare) = let here : child_size s n j ≡ child_size s n i = rw same refl in absurd (omega arith)
   enough_to_share j (inl same) short (inr spare) = let here : child_size s n j ≡ child_size s n i = rw same refl in omega (arith, m.child.node.enough)
   enough_to_share j (inr next) short (inl spare) = let here : child_size s n (j + 1) ≡ child_size s n i = rw next refl in omega (arith, m.child.node.enough)

@@ -6,7 +6,7 @@ use Rattle.std.proofs.lemmas.List.Sums.{sum_by-cons, sum_by-append}
 use Rattle.slab.specs.Slab.{Slab, get}
 use Rattle.range_store.specs.declared.btree.node.Node.{Node}
 use Rattle.range_store.specs.declared.btree.node.Split.{Split}
-use Rattle.range_store.specs.declared.btree.node.TheConstants.{MOST, LEAST}
+use Rattle.range_store.specs.declared.btree.node.TheConstants.{CAPACITY, MIN_LEN}
 use Rattle.range_store.specs.declared.btree.way.Gap.{Gap}
 use Rattle.range_store.specs.Nodes.{items_of, children_of, numbers, before, tops, separators, ShapedBut, IsLevelled}
 use Rattle.range_store.specs.Gaps.{inside, seat_of, IsGap, IsSeat, seat_place}
@@ -15,13 +15,13 @@ use Rattle.range_store.proofs.Seats.{length-before}
 use Rattle.range_store.proofs.Joining.{seat_from_left, seat_from_right}
 use Rattle.range_store.proofs.Levelling.{pair_of}
 
-seat_fits : (s : Slab Node) (low k : ℕ) (g : Gap) (least : ℕ) → ShapedBut least MOST s low k → IsGap s low k g → seat_of low g ≤ MOST
+seat_fits : (s : Slab Node) (low k : ℕ) (g : Gap) (least : ℕ) → ShapedBut least CAPACITY s low k → IsGap s low k g → seat_of low g ≤ CAPACITY
 seat_fits s zero k g least shaped is = omega (arith, leaf_index s k g is, shaped.node.fits)
 seat_fits s (suc d) k g least shaped is = omega (arith, turn_within s d k g is, shaped.node.fits, shaped.node.branches)
 
-pub seat_of_small : (s : Slab Node) (low n j i : ℕ) (g : Gap) → IsLevelled s low n j → (i ≡ j) ⊎ (i ≡ j + 1) → IsGap s low (get_or (children_of (get s n)) i 0) g → seat_of low g ≤ MOST
-seat_of_small s low n j i g levelled (inl same) is = seat_fits s low _ g (LEAST - 1) levelled.left (rw same at is)
-seat_of_small s low n j i g levelled (inr next) is = seat_fits s low _ g (LEAST - 1) levelled.right (rw next at is)
+pub seat_of_small : (s : Slab Node) (low n j i : ℕ) (g : Gap) → IsLevelled s low n j → (i ≡ j) ⊎ (i ≡ j + 1) → IsGap s low (get_or (children_of (get s n)) i 0) g → seat_of low g ≤ CAPACITY
+seat_of_small s low n j i g levelled (inl same) is = seat_fits s low _ g (MIN_LEN - 1) levelled.left (rw same at is)
+seat_of_small s low n j i g levelled (inr next) is = seat_fits s low _ g (MIN_LEN - 1) levelled.right (rw next at is)
 
 pub tops_small : (n i : ℕ) (split : Option Split) → i < length (tops n split) → i ≤ 1
 tops_small n i None low = omega (arith, low)

@@ -7,7 +7,7 @@ use Rattle.std.proofs.lemmas.Bool.{cases_eq}
 use Rattle.slab.specs.Slab.{Slab, get, HasRoomFor}
 use Rattle.range_store.specs.declared.btree.node.Node.{Node}
 use Rattle.range_store.specs.declared.btree.node.Split.{Split}
-use Rattle.range_store.specs.declared.btree.node.TheConstants.{MOST, LEAST}
+use Rattle.range_store.specs.declared.btree.node.TheConstants.{CAPACITY, MIN_LEN}
 use Rattle.range_store.specs.declared.btree.way.Gap.{Gap}
 use Rattle.range_store.specs.Nodes.{children_of, numbers, used, Shaped, ShapedBut, IsTree, IsRoomy, HasTreeRoom, here, Replaces, Stores}
 use Rattle.range_store.specs.Gaps.{turn, inside, IsGap, place, IsSeat, seat_place}
@@ -49,7 +49,7 @@ first_tree s t zero root n item none tree stored =
     (whole, numbers_leaf t n childless ∙ stored.items_are)
 
 -- capacity for one more number is capacity for the nodes that it needs
-pub one_more : (s : Slab Node) (levels root : ℕ) → 0 < levels → IsTree s levels root → 1 ≤ LEAST * s.capacity - length (numbers s levels root) → HasTreeRoom s (suc (levels - 1)) root 1
+pub one_more : (s : Slab Node) (levels root : ℕ) → 0 < levels → IsTree s levels root → 1 ≤ MIN_LEN * s.capacity - length (numbers s levels root) → HasTreeRoom s (suc (levels - 1)) root 1
 one_more s zero root some tree room = absurd (omega arith)
 one_more s (suc d) root some tree room =
     let level : suc d - 1 ≡ d = omega arith in
@@ -60,7 +60,7 @@ pub record IsPlanted (s : Slab Node) (levels root : ℕ) (list : List ℕ) : Typ
   pub tree : IsTree s levels root
   pub numbers_are : numbers s levels root ≡ list
 
-pub planted_roomy : (s : Slab Node) (levels root : ℕ) (list : List ℕ) → IsPlanted s levels root list → length list ≤ LEAST * s.capacity → length list < 2 ^ 64 → IsRoomy s levels root
+pub planted_roomy : (s : Slab Node) (levels root : ℕ) (list : List ℕ) → IsPlanted s levels root list → length list ≤ MIN_LEN * s.capacity → length list < 2 ^ 64 → IsRoomy s levels root
 planted_roomy s levels root list planted fits counted = record {
   tree = planted.tree;
   fits = omega (arith, ap length planted.numbers_are, fits);
@@ -73,7 +73,7 @@ module _ (s t : Slab Node) (d root : ℕ) (list : List ℕ) (tree : IsTree s (su
 
   kept_tree : IsTree t (suc d) root
   kept_tree = record {
-    shaped = All-head (ShapedBut 1 MOST t d) root [] (step.shape 1 (omega arith) tree.shaped.node.enough);
+    shaped = All-head (ShapedBut 1 CAPACITY t d) root [] (step.shape 1 (omega arith) tree.shaped.node.enough);
     once = λ k. omega (arith, step.moved.owned k, tree.once k, ap (occurrences k) whole);
     len = omega (arith, step.moved.len, tree.len, ap length whole);
   }
@@ -103,7 +103,7 @@ module _ (s t u : Slab Node) (d root n : ℕ) (split : Split) (list : List ℕ) 
   holds = record { present = stored.present; items_are = stored.items_are; children_are = stored.children_are; same = same_children t u (suc d) ts agree }
 
   ts_shaped : All (Shaped t (suc d)) ts
-  ts_shaped = All-weaker (ShapedBut LEAST MOST t d) (Shaped t (suc d)) (λ k. Shaped-from_but t d k) ts (step.shape LEAST (omega arith) tt)
+  ts_shaped = All-weaker (ShapedBut MIN_LEN CAPACITY t d) (Shaped t (suc d)) (λ k. Shaped-from_but t d k) ts (step.shape MIN_LEN (omega arith) tt)
 
   used_now : used u (suc (suc d)) n ≡ n ∷ flat_map (used t (suc d)) ts
   used_now = held_used t u (suc d) n (split.middle ∷ []) ts holds
@@ -139,13 +139,13 @@ taller_gap s t u (suc d) root n side split list g h some tree step' stored at wi
     rw (level, lower) (taller_seat s t u d root n split list tree step stored side g h at within (rw level at seat'))
 
 -- after a cut of the root there is capacity for a new one
-pub taller_room : (s t : Slab Node) (levels root : ℕ) (split : Split) (list : List ℕ) → 0 < levels → length list ≤ LEAST * s.capacity → IsTree s levels root → Replaces s t (levels - 1) root (Some split) list → HasRoomFor t 1
+pub taller_room : (s t : Slab Node) (levels root : ℕ) (split : Split) (list : List ℕ) → 0 < levels → length list ≤ MIN_LEN * s.capacity → IsTree s levels root → Replaces s t (levels - 1) root (Some split) list → HasRoomFor t 1
 taller_room s t zero root split list some room tree step = absurd (omega arith)
 taller_room s t (suc d) root split list some room tree step' =
     let level : suc d - 1 ≡ d = omega arith in
     let step = rw level at step' in
     let ts = root ∷ split.right ∷ [] in
-    let shaped = All-weaker (ShapedBut LEAST MOST t d) (Shaped t (suc d)) (λ k. Shaped-from_but t d k) ts (step.shape LEAST (omega arith) tt) in
+    let shaped = All-weaker (ShapedBut MIN_LEN CAPACITY t d) (Shaped t (suc d)) (λ k. Shaped-from_but t d k) ts (step.shape MIN_LEN (omega arith) tt) in
     let left = used_le t (suc d) root (All-head (Shaped t (suc d)) root (split.right ∷ []) shaped) in
     let right = used_le t (suc d) split.right (All-head (Shaped t (suc d)) split.right [] (All-tail (Shaped t (suc d)) root (split.right ∷ []) shaped)) in
     let both = length-append (used t (suc d) root) (used t (suc d) split.right ++ []) in

@@ -4,7 +4,7 @@ use Rattle.std.proofs.lemmas.List.{length-append, length-drop, drop_more, drop_a
 use Rattle.std.proofs.lemmas.Bool.{cases_lt}
 use Rattle.slab.specs.Slab.{Slab, get, slab_len}
 use Rattle.range_store.specs.declared.btree.node.Node.{Node}
-use Rattle.range_store.specs.declared.btree.node.TheConstants.{MOST, LEAST}
+use Rattle.range_store.specs.declared.btree.node.TheConstants.{CAPACITY, MIN_LEN}
 use Rattle.range_store.specs.Nodes.{rest_of, before, after, items_of, children_of, numbers, used, ShapedBut, IsRoot, IsTree, here}
 use Rattle.range_store.proofs.Below.{lists_length, numbers_at, Shaped-but}
 use Rattle.range_store.proofs.Frame.{same_below, same_children, IsNode-same}
@@ -64,7 +64,7 @@ module _ (least most : ℕ) (s : Slab Node) (d n i rest rank : ℕ) (inner : 0 <
       at_rank ∙ get_or-append_right (numbers s d kid) (after xs lists i) (length (numbers s d kid)) rest 0 refl (omega arith)
       ∙ ap (λ m. get_or (after xs lists i) m 0) zero_at ∙ head ∙ first
 
-pub root_shaped : (s : Slab Node) (levels root : ℕ) → 0 < levels → IsTree s levels root → ShapedBut 1 MOST s (levels - 1) root
+pub root_shaped : (s : Slab Node) (levels root : ℕ) → 0 < levels → IsTree s levels root → ShapedBut 1 CAPACITY s (levels - 1) root
 root_shaped s zero root some tree = absurd (omega arith)
 root_shaped s (suc d) root some tree = let same : suc d - 1 ≡ d = omega arith in rw same tree.shaped
 
@@ -76,11 +76,11 @@ IsTree-none s root empty = record {
 }
 
 -- an empty tree leaves all capacity free
-pub first_room : (s : Slab Node) (levels root : ℕ) → levels ≡ 0 → IsTree s levels root → length (numbers s levels root) + 1 ≤ LEAST * s.capacity → slab_len s + 1 ≤ s.capacity
+pub first_room : (s : Slab Node) (levels root : ℕ) → levels ≡ 0 → IsTree s levels root → length (numbers s levels root) + 1 ≤ MIN_LEN * s.capacity → slab_len s + 1 ≤ s.capacity
 first_room s zero root none tree room = omega (arith, tree.len, ap length (used_none s root), room)
 first_room s (suc d) root none tree room = absurd (omega arith)
 
-pub kid_shaped : (least most : ℕ) (s : Slab Node) (d n i : ℕ) → ShapedBut least most s (suc d) n → i ≤ length (items_of (get s n)) → ShapedBut LEAST MOST s d (get_or (children_of (get s n)) i 0)
+pub kid_shaped : (least most : ℕ) (s : Slab Node) (d n i : ℕ) → ShapedBut least most s (suc d) n → i ≤ length (items_of (get s n)) → ShapedBut MIN_LEN CAPACITY s d (get_or (children_of (get s n)) i 0)
 kid_shaped least most s d n i shaped within =
     Shaped-but s d _ (shaped.children i 0 (omega (arith, shaped.node.branches)))
 
@@ -100,7 +100,7 @@ module _ (s t : Slab Node) (same : (k : ℕ) → get t k ≡ get s k) (len : sla
 
   root_kept : (levels root : ℕ) → IsRoot s levels root → IsRoot t levels root
   root_kept zero root shaped = tt
-  root_kept (suc d) root shaped = but_kept 1 MOST d root shaped
+  root_kept (suc d) root shaped = but_kept 1 CAPACITY d root shaped
 
   pub tree_kept : (levels root : ℕ) → IsTree s levels root → IsTree t levels root
   tree_kept levels root tree = record {

@@ -1,4 +1,4 @@
--- A tree has a node for each LEAST of its items at most, so capacity that is counted in items serves its nodes.
+-- A tree has a node for each MIN_LEN of its items at most, so capacity that is counted in items serves its nodes.
 use Rattle.std.proofs.Common.{◌≡◌, ℕ, zero, suc, ◌+◌, ◌*◌, ◌<◌, ◌≤◌, List, [], ◌∷◌, ◌++◌, length, get_or, take, drop, map, ap, ◌∙◌, arith}
 use Rattle.std.specs.List.{All, flat_map, sum_by}
 use Rattle.std.proofs.lemmas.List.{length-append, length-map, map-append}
@@ -7,7 +7,7 @@ use Rattle.std.proofs.lemmas.List.Sums.{sum_by-cons, sum_by-append}
 use Rattle.std.proofs.lemmas.List.Elements.{All-head, All-tail, All-take, All-drop}
 use Rattle.slab.specs.Slab.{Slab, get, slab_len}
 use Rattle.range_store.specs.declared.btree.node.Node.{Node}
-use Rattle.range_store.specs.declared.btree.node.TheConstants.{LEAST, MOST}
+use Rattle.range_store.specs.declared.btree.node.TheConstants.{MIN_LEN, CAPACITY}
 use Rattle.range_store.specs.Nodes.{items_of, children_of, numbers, used, Shaped, ShapedBut, HasTreeRoom}
 use Rattle.range_store.proofs.Below.{weave_numbers, children_length, child_count_cases, used_is, Shaped-but}
 use Rattle.range_store.proofs.Weave.{length-weave, parts}
@@ -24,19 +24,19 @@ numbers_size least most s d n shaped =
     ap length (weave_numbers s d n)
     ∙ length-weave (items_of (get s n)) (map (numbers s d) (children_of (get s n))) (child_count_cases d _ _ (length-map (children_of (get s n)) (numbers s d) ∙ shaped.node.branches))
 
-children_le_from : (s : Slab Node) (d : ℕ) → ((n : ℕ) → Shaped s d n → LEAST * length (used s d n) ≤ length (numbers s d n)) → (ns : List ℕ) → All (Shaped s d) ns → LEAST * length (flat_map (used s d) ns) ≤ sizes s d ns
+children_le_from : (s : Slab Node) (d : ℕ) → ((n : ℕ) → Shaped s d n → MIN_LEN * length (used s d n) ≤ length (numbers s d n)) → (ns : List ℕ) → All (Shaped s d) ns → MIN_LEN * length (flat_map (used s d) ns) ≤ sizes s d ns
 children_le_from s d below [] shaped = omega arith
 children_le_from s d below (n ∷ ns) shaped =
     omega (arith, below n (All-head (Shaped s d) n ns shaped), children_le_from s d below ns (All-tail (Shaped s d) n ns shaped), length-append (used s d n) (flat_map (used s d) ns), sum_by-cons (length {A = ℕ}) (numbers s d n) (map (numbers s d) ns))
 
-pub used_le : (s : Slab Node) (d n : ℕ) → Shaped s d n → LEAST * length (used s d n) ≤ length (numbers s d n)
+pub used_le : (s : Slab Node) (d n : ℕ) → Shaped s d n → MIN_LEN * length (used s d n) ≤ length (numbers s d n)
 unfolding used numbers
 used_le s zero n shaped = omega arith
 used_le s (suc d) n shaped =
     let but = Shaped-but s d n shaped in
-    omega (arith, ap length (used_is s d n), numbers_size LEAST MOST s d n but, children_le_from s d (used_le s d) (children_of (get s n)) but.children, but.node.enough)
+    omega (arith, ap length (used_is s d n), numbers_size MIN_LEN CAPACITY s d n but, children_le_from s d (used_le s d) (children_of (get s n)) but.children, but.node.enough)
 
-pub children_le : (s : Slab Node) (d : ℕ) (ns : List ℕ) → All (Shaped s d) ns → LEAST * length (flat_map (used s d) ns) ≤ sizes s d ns
+pub children_le : (s : Slab Node) (d : ℕ) (ns : List ℕ) → All (Shaped s d) ns → MIN_LEN * length (flat_map (used s d) ns) ≤ sizes s d ns
 children_le s d ns shaped = children_le_from s d (used_le s d) ns shaped
 
 -- capacity below a node is capacity below each of its children
@@ -54,9 +54,9 @@ HasTreeRoom-child most s d n i more inner within shaped room =
     ∙ ap (λ m. length (flat_map (used s d) (take i ks)) + m) (length-append (used s d kid) (flat_map (used s d) (drop (i + 1) ks))) in
     let lefts = children_le s d (take i ks) (All-take (Shaped s d) i ks shaped.children) in
     let rights = children_le s d (drop (i + 1) ks) (All-drop (Shaped s d) (i + 1) ks shaped.children) in
-    let kept : LEAST * slab_len s + (length (numbers s d kid) + more) + 1 ≤ LEAST * s.capacity + LEAST * length (used s d kid) + LEAST = omega (arith, room.few, ap length (used_is s d n), numbers_size 1 most s d n shaped, sizes_all, used_all, lefts, rights) in
+    let kept : MIN_LEN * slab_len s + (length (numbers s d kid) + more) + 1 ≤ MIN_LEN * s.capacity + MIN_LEN * length (used s d kid) + MIN_LEN = omega (arith, room.few, ap length (used_is s d n), numbers_size 1 most s d n shaped, sizes_all, used_all, lefts, rights) in
     record { filled = kept; few = few_from d kid kept (shaped.children i 0 (omega (arith, many))) inner }
   where
-    few_from : (b m : ℕ) → LEAST * slab_len s + (length (numbers s b m) + more) + 1 ≤ LEAST * s.capacity + LEAST * length (used s b m) + LEAST → Shaped s b m → 0 < b → LEAST * slab_len s + (length (numbers s b m) + more) + 1 ≤ LEAST * s.capacity + LEAST * length (used s b m) + length (items_of (get s m))
+    few_from : (b m : ℕ) → MIN_LEN * slab_len s + (length (numbers s b m) + more) + 1 ≤ MIN_LEN * s.capacity + MIN_LEN * length (used s b m) + MIN_LEN → Shaped s b m → 0 < b → MIN_LEN * slab_len s + (length (numbers s b m) + more) + 1 ≤ MIN_LEN * s.capacity + MIN_LEN * length (used s b m) + length (items_of (get s m))
     few_from zero m kept known some = absurd (omega arith)
     few_from (suc b) m kept known some = omega (arith, kept, (Shaped-but s b m known).node.enough)

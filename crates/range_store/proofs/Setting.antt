@@ -5,7 +5,7 @@ use Rattle.std.specs.List.{flat_map}
 use Rattle.std.proofs.lemmas.List.{length-append, get_or-map, set-append_left}
 use Rattle.slab.specs.Slab.{Slab, get}
 use Rattle.range_store.specs.declared.btree.node.Node.{Node}
-use Rattle.range_store.specs.declared.btree.node.TheConstants.{MOST, LEAST}
+use Rattle.range_store.specs.declared.btree.node.TheConstants.{CAPACITY, MIN_LEN}
 use Rattle.range_store.specs.declared.btree.way.Gap.{Gap}
 use Rattle.range_store.specs.Nodes.{weave, before, after, items_of, children_of, child_count, numbers, used, Shaped, ShapedBut, Owned, Moves, Writes}
 use Rattle.range_store.specs.Gaps.{turn, inside, IsGap, place}
@@ -48,7 +48,7 @@ module _ {X : Type 0} where
       ∙ sym (ap (λ m. set (weave (x ∷ xs) (k ∷ l ∷ ks)) m y) place ∙ ap (λ zs. set zs (length (k ++ x ∷ []) + rest) y) (weave-cons x xs k l ks) ∙ set_behind (k ++ x ∷ []) (weave xs (l ∷ ks)) rest y)
 
 -- another item below the child at i
-module _ (s t : Slab Node) (b n i q item : ℕ) (inner : b ≢ 0) (shaped : ShapedBut 1 MOST s b n) (owned : Owned s (suc b) n) (low : i ≤ length (items_of (get s n))) (within : q < length (numbers s b (get_or (children_of (get s n)) i 0))) (child : IsRewritten s t (b - 1) (get_or (children_of (get s n)) i 0) (set (numbers s (suc (b - 1)) (get_or (children_of (get s n)) i 0)) q item)) where
+module _ (s t : Slab Node) (b n i q item : ℕ) (inner : b ≢ 0) (shaped : ShapedBut 1 CAPACITY s b n) (owned : Owned s (suc b) n) (low : i ≤ length (items_of (get s n))) (within : q < length (numbers s b (get_or (children_of (get s n)) i 0))) (child : IsRewritten s t (b - 1) (get_or (children_of (get s n)) i 0) (set (numbers s (suc (b - 1)) (get_or (children_of (get s n)) i 0)) q item)) where
   abbrev kid : ℕ
   kid = get_or (children_of (get s n)) i 0
 
@@ -71,17 +71,17 @@ module _ (s t : Slab Node) (b n i q item : ℕ) (inner : b ≢ 0) (shaped : Shap
   kept = kid_kept s t b n i _ inner shaped owned low listed moved
 
   kid_now : Shaped t b kid
-  kid_now = rw back at (Shaped-from_but t (b - 1) kid (child.shape LEAST (omega arith) (kid_shaped 1 MOST s (b - 1) n i (rw (← back) at shaped) low)))
+  kid_now = rw back at (Shaped-from_but t (b - 1) kid (child.shape MIN_LEN (omega arith) (kid_shaped 1 CAPACITY s (b - 1) n i (rw (← back) at shaped) low)))
 
   pub rewritten_above : IsRewritten s t b n (set (numbers s (suc b) n) (length (before (items_of (get s n)) (map (numbers s b) (children_of (get s n))) i) + q) item)
   rewritten_above = record {
     listed =
         kid_listed s t b n i _ inner shaped owned low listed moved
         ∙ sym (set_middle front (numbers s b kid) behind q item within)
-        ∙ ap (λ zs. set zs (length front + q) item) (sym (numbers_at 1 MOST s b n (omega arith) shaped i low));
+        ∙ ap (λ zs. set zs (length front + q) item) (sym (numbers_at 1 CAPACITY s b n (omega arith) shaped i low));
     moved = kid_moved s t b n i _ inner shaped owned low listed moved;
     shape = λ least small old. record {
-      node = IsNode-same least MOST s t b n kept old.node;
+      node = IsNode-same least CAPACITY s t b n kept old.node;
       children = kid_children s t b n i _ inner shaped owned low listed moved kid_now;
     };
   }
@@ -96,7 +96,7 @@ module _ (s t : Slab Node) (b n i q item : ℕ) (inner : b ≢ 0) (shaped : Shap
       (gap, omega (arith, now, old, fronts, same))
 
 -- another item in the place of the one at j
-module _ (s t : Slab Node) (b n j item : ℕ) (inner : b ≢ 0) (shaped : ShapedBut 1 MOST s b n) (owned : Owned s (suc b) n) (low : j < length (items_of (get s n))) (written : Writes s t n (set (items_of (get s n)) j item) (children_of (get s n))) where
+module _ (s t : Slab Node) (b n j item : ℕ) (inner : b ≢ 0) (shaped : ShapedBut 1 CAPACITY s b n) (owned : Owned s (suc b) n) (low : j < length (items_of (get s n))) (written : Writes s t n (set (items_of (get s n)) j item) (children_of (get s n))) where
   abbrev xs : List ℕ
   xs = items_of (get s n)
 
@@ -125,8 +125,8 @@ module _ (s t : Slab Node) (b n j item : ℕ) (inner : b ≢ 0) (shaped : Shaped
 
   pub rewritten_here : IsRewritten s t b n (set (numbers s (suc b) n) (length (before (items_of (get s n)) (map (numbers s b) (children_of (get s n))) j) + length (numbers s b (get_or (children_of (get s n)) j 0))) item)
   rewritten_here =
-      let many = lists_length 1 MOST s b n (omega arith) shaped in
-      let kid = get_or-map (numbers s b) ks j 0 [] (omega (arith, children_length 1 MOST s b n (omega arith) shaped)) in
+      let many = lists_length 1 CAPACITY s b n (omega arith) shaped in
+      let kid = get_or-map (numbers s b) ks j 0 [] (omega (arith, children_length 1 CAPACITY s b n (omega arith) shaped)) in
       record {
         listed = held_numbers s t b n (set xs j item) ks holds ∙ weave_set xs lists j item low many ∙ ap (λ zs. set (weave xs lists) (length (before xs lists j) + length zs) item) kid ∙ ap (λ zs. set zs (length (before xs lists j) + length (numbers s b (get_or ks j 0))) item) (sym (weave_numbers s b n));
         moved = rw (used_is s b n, held_used s t b n (set xs j item) ks holds) (Writes-moves s t n _ _ (flat_map (used s b) ks) written);
@@ -140,13 +140,13 @@ module _ (s t : Slab Node) (b n j item : ℕ) (inner : b ≢ 0) (shaped : Shaped
       let seat = seat_below s b (set xs j item) ks (turn g) (inside g) inner few (below_inside s b n inner shaped g is) in
       let agree = written_agree s t b n (set xs j item) ks content written in
       let gap = seat_written s t n (set xs j item) ks (turn g) (inside g) g b holds agree (λ none. absurd (inner none)) (λ some. refl) (λ some. refl) seat in
-      let many = lists_length 1 MOST s b n (omega arith) shaped in
+      let many = lists_length 1 CAPACITY s b n (omega arith) shaped in
       let first = length-before (set xs j item) lists (turn g) (omega (arith, at, as_many)) (omega (arith, at, many)) in
       let second = length-before xs lists (turn g) at (omega (arith, at, many)) in
       (gap.0, omega (arith, gap.1, seat_place_below s b (set xs j item) ks (turn g) (inside g) inner, first, second, below_here s b n inner shaped g))
 
 -- a gap at the beginning of a child stands after the item before that
-pub place_here : (s : Slab Node) (b n : ℕ) (inner : b ≢ 0) (shaped : ShapedBut 1 MOST s b n) (g : Gap) (j : ℕ) → IsGap s b n g → j + 1 ≡ turn g → place s (b - 1) (get_or (children_of (get s n)) (turn g) 0) (inside g) ≡ 0 → place s b n g ≡ length (before (items_of (get s n)) (map (numbers s b) (children_of (get s n))) j) + length (numbers s b (get_or (children_of (get s n)) j 0)) + 1
+pub place_here : (s : Slab Node) (b n : ℕ) (inner : b ≢ 0) (shaped : ShapedBut 1 CAPACITY s b n) (g : Gap) (j : ℕ) → IsGap s b n g → j + 1 ≡ turn g → place s (b - 1) (get_or (children_of (get s n)) (turn g) 0) (inside g) ≡ 0 → place s b n g ≡ length (before (items_of (get s n)) (map (numbers s b) (children_of (get s n))) j) + length (numbers s b (get_or (children_of (get s n)) j 0)) + 1
 place_here s b n inner shaped g j is next first =
     let low : j < length (items_of (get s n)) = omega (arith, below_turn s b n inner shaped g is, next) in
     let more = rw next at (before_next s b n inner shaped j low) in

@@ -5,7 +5,7 @@ use Rattle.std.proofs.lemmas.List.{append-nil, nil_from_length}
 use Rattle.std.proofs.lemmas.Bool.{cases_eq}
 use Rattle.slab.specs.Slab.{Slab, get, slab_len, Updates}
 use Rattle.range_store.specs.declared.btree.node.Node.{Node}
-use Rattle.range_store.specs.declared.btree.node.TheConstants.{MOST, LEAST}
+use Rattle.range_store.specs.declared.btree.node.TheConstants.{CAPACITY, MIN_LEN}
 use Rattle.range_store.specs.Occurrences.{occurrences, occurrences-cons, occurrences-nil, occurrences_itself, occurrences_other}
 use Rattle.range_store.specs.Nodes.{weave, before, items_of, children_of, numbers, used, here, Shaped, IsTree, IsLooseTree, Shrinks}
 use Rattle.range_store.proofs.Below.{weave_numbers, used_is, used_leaf, numbers_leaf, Shaped-but, wider}
@@ -83,7 +83,7 @@ lowered s t (suc (suc e)) root more loose empty gone len =
     let same : SameBelow s t (suc e) kid = same_below s t (suc e) kid (λ k among. gone.others k (λ at. let itself : occurrences k (root ∷ []) ≡ 1 = rw (← at) (occurrences_itself k) in let was : here s k ≡ 1 = rw at present in omega (arith, occurs k, itself, was))) in
     let kid_shaped : Shaped s (suc e) kid = shaped.children 0 0 (omega (arith, ap length one)) in
     let tree : IsTree t (suc e) kid = record {
-      shaped = wider 1 LEAST MOST MOST t e kid (omega arith) (omega arith) (Shaped-but t e kid (same.shaped_same kid_shaped));
+      shaped = wider 1 MIN_LEN CAPACITY CAPACITY t e kid (omega arith) (omega arith) (Shaped-but t e kid (same.shaped_same kid_shaped));
       once = λ k. omega (arith, occurs k, here_without s t root present gone k, ap (occurrences k) same.used_same);
       len = omega (arith, len, loose.len, ap length used_all, ap length same.used_same);
     } in

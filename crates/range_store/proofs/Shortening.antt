@@ -6,7 +6,7 @@ use Rattle.std.proofs.lemmas.List.Edits.{remove-append_left, remove-append_right
 use Rattle.std.proofs.lemmas.List.Elements.{All-append, All-cons, All-take, All-drop}
 use Rattle.slab.specs.Slab.{Slab, get}
 use Rattle.range_store.specs.declared.btree.node.Node.{Node}
-use Rattle.range_store.specs.declared.btree.node.TheConstants.{MOST, LEAST}
+use Rattle.range_store.specs.declared.btree.node.TheConstants.{CAPACITY, MIN_LEN}
 use Rattle.range_store.specs.Nodes.{weave, rest_of, front_of, before, after, items_of, children_of, numbers, used, Shaped, ShapedBut, Owned, Moves, Shrinks, IsMendable, Writes}
 use Rattle.range_store.specs.Contents.{IsContent}
 use Rattle.range_store.specs.Occurrences.{occurrences}
@@ -27,7 +27,7 @@ remove_middle f k r rest within =
     ∙ ap (λ zs. f ++ zs) (remove-append_left k r rest within)
 
 -- the subtree of the child at i has another list
-module _ (s t : Slab Node) (b n i : ℕ) (list : List ℕ) (inner : b ≢ 0) (shaped : ShapedBut 1 MOST s b n) (owned : Owned s (suc b) n) (low : i ≤ length (items_of (get s n))) (listed : numbers t b (get_or (children_of (get s n)) i 0) ≡ list) (moved : Moves s t (used s b (get_or (children_of (get s n)) i 0)) (used t b (get_or (children_of (get s n)) i 0))) where
+module _ (s t : Slab Node) (b n i : ℕ) (list : List ℕ) (inner : b ≢ 0) (shaped : ShapedBut 1 CAPACITY s b n) (owned : Owned s (suc b) n) (low : i ≤ length (items_of (get s n))) (listed : numbers t b (get_or (children_of (get s n)) i 0) ≡ list) (moved : Moves s t (used s b (get_or (children_of (get s n)) i 0)) (used t b (get_or (children_of (get s n)) i 0))) where
   abbrev xs : List ℕ
   xs = items_of (get s n)
 
@@ -44,7 +44,7 @@ module _ (s t : Slab Node) (b n i : ℕ) (list : List ℕ) (inner : b ≢ 0) (sh
   vs = drop (i + 1) (children_of (get s n))
 
   many : length ks ≡ length xs + 1
-  many = children_length 1 MOST s b n (omega arith) shaped
+  many = children_length 1 CAPACITY s b n (omega arith) shaped
 
   ks_parts : ks ≡ us ++ (kid ∷ vs)
   ks_parts = parts ks i 0 (omega (arith, many))
@@ -101,9 +101,9 @@ module _ (s t : Slab Node) (b n i : ℕ) (list : List ℕ) (inner : b ≢ 0) (sh
   level : suc (b - 1) ≡ b
   level = omega arith
 
-  pub kid_mendable : ShapedBut (LEAST - 1) MOST t (b - 1) kid → IsMendable t (b - 1) n i
+  pub kid_mendable : ShapedBut (MIN_LEN - 1) CAPACITY t (b - 1) kid → IsMendable t (b - 1) n i
   kid_mendable short =
-      let node = IsNode-same 1 MOST s t b n kid_kept shaped.node in
+      let node = IsNode-same 1 CAPACITY s t b n kid_kept shaped.node in
       let before = (same_before s t b n us (kid ∷ []) vs (kid ∷ []) kid_run).shaped_same (All-take (Shaped s b) i ks shaped.children) in
       let behind = (same_after s t b n us (kid ∷ []) vs (kid ∷ []) kid_run).shaped_same (All-drop (Shaped s b) (i + 1) ks shaped.children) in
       record {
@@ -116,7 +116,7 @@ module _ (s t : Slab Node) (b n i : ℕ) (list : List ℕ) (inner : b ≢ 0) (sh
       }
 
 -- an item of a leaf goes
-pub leaf_shrinks : (s t : Slab Node) (n q : ℕ) → ShapedBut 1 MOST s 0 n → Owned s 1 n → q < length (items_of (get s n)) → Writes s t n (remove (items_of (get s n)) q) (children_of (get s n)) → Shrinks s t 0 n (remove (numbers s 1 n) q)
+pub leaf_shrinks : (s t : Slab Node) (n q : ℕ) → ShapedBut 1 CAPACITY s 0 n → Owned s 1 n → q < length (items_of (get s n)) → Writes s t n (remove (items_of (get s n)) q) (children_of (get s n)) → Shrinks s t 0 n (remove (numbers s 1 n) q)
 leaf_shrinks s t n q shaped owned within written =
     let less = length-remove (items_of (get s n)) q within in
     let content : IsContent s 0 n (remove (items_of (get s n)) q) (children_of (get s n)) = record { present = shaped.node.present; shaped = shaped.children; branches = shaped.node.branches; owned = λ k. omega (arith, owned k, ap (occurrences k) (used_is s 0 n)) } in
@@ -129,7 +129,7 @@ leaf_shrinks s t n q shaped owned within written =
     }
 
 -- an item below a child went, and the child was mended
-module _ (s t u : Slab Node) (b n i q : ℕ) (inner : b ≢ 0) (shaped : ShapedBut 1 MOST s b n) (owned : Owned s (suc b) n) (low : i ≤ length (items_of (get s n))) (within : q < length (numbers s b (get_or (children_of (get s n)) i 0))) (child : Shrinks s t (b - 1) (get_or (children_of (get s n)) i 0) (remove (numbers s (suc (b - 1)) (get_or (children_of (get s n)) i 0)) q)) (mended : Shrinks t u (suc (b - 1)) n (numbers t (suc (suc (b - 1))) n)) where
+module _ (s t u : Slab Node) (b n i q : ℕ) (inner : b ≢ 0) (shaped : ShapedBut 1 CAPACITY s b n) (owned : Owned s (suc b) n) (low : i ≤ length (items_of (get s n))) (within : q < length (numbers s b (get_or (children_of (get s n)) i 0))) (child : Shrinks s t (b - 1) (get_or (children_of (get s n)) i 0) (remove (numbers s (suc (b - 1)) (get_or (children_of (get s n)) i 0)) q)) (mended : Shrinks t u (suc (b - 1)) n (numbers t (suc (suc (b - 1))) n)) where
   back : suc (b - 1) ≡ b
   back = omega arith
 
@@ -147,7 +147,7 @@ module _ (s t u : Slab Node) (b n i q : ℕ) (inner : b ≢ 0) (shaped : ShapedB
             (rw back at mended.listed)
             ∙ kid_listed s t b n i _ inner shaped owned low listed' moved'
             ∙ sym (remove_middle (before (items_of (get s n)) (map (numbers s b) (children_of (get s n))) i) (numbers s b (get_or (children_of (get s n)) i 0)) (after (items_of (get s n)) (map (numbers s b) (children_of (get s n))) i) q within)
-            ∙ ap (λ zs. remove zs (length (before (items_of (get s n)) (map (numbers s b) (children_of (get s n))) i) + q)) (sym (numbers_at 1 MOST s b n (omega arith) shaped i low));
+            ∙ ap (λ zs. remove zs (length (before (items_of (get s n)) (map (numbers s b) (children_of (get s n))) i) + q)) (sym (numbers_at 1 CAPACITY s b n (omega arith) shaped i low));
         moved = Moves-then s t u (used s (suc b) n) (used t (suc b) n) (used u (suc b) n) (kid_moved s t b n i _ inner shaped owned low listed' moved') (rw back at mended.moved);
         shape = λ least more. rw back at (mended.shape least (rw kept more));
       }

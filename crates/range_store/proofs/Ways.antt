@@ -2,7 +2,7 @@
 use Rattle.std.proofs.Common.{◌≡◌, ◌≢◌, List, ℕ, zero, suc, ◌+◌, ◌-◌, ◌<◌, ◌≤◌, ◌++◌, length, get_or, map, refl, sym, ap, ◌∙◌, arith, Option, Some, None, IsSome}
 use Rattle.slab.specs.Slab.{Slab, get}
 use Rattle.range_store.specs.declared.btree.node.Node.{Node}
-use Rattle.range_store.specs.declared.btree.node.TheConstants.{MOST, LEAST}
+use Rattle.range_store.specs.declared.btree.node.TheConstants.{CAPACITY, MIN_LEN}
 use Rattle.range_store.specs.declared.btree.way.Gap.{Gap}
 use Rattle.range_store.specs.declared.btree.way.Found.{Found}
 use Rattle.range_store.specs.Nodes.{items_of, children_of, numbers, before, after, ShapedBut}
@@ -12,22 +12,22 @@ use Rattle.range_store.proofs.Gaps.{gap_above, place_above, place_inside, gap_in
 use Rattle.range_store.proofs.Rank.{kid_shaped, rank_in_child, rank_at_item}
 use Rattle.std.proofs.lemmas.List.{length-append}
 
-module _ (s : Slab Node) (b n : ℕ) (inner : b ≢ 0) (shaped : ShapedBut 1 MOST s b n) where
+module _ (s : Slab Node) (b n : ℕ) (inner : b ≢ 0) (shaped : ShapedBut 1 CAPACITY s b n) where
   pub level : suc (b - 1) ≡ b
   level = omega arith
 
-  deeper : ShapedBut 1 MOST s (suc (b - 1)) n
+  deeper : ShapedBut 1 CAPACITY s (suc (b - 1)) n
   deeper = rw (← level) at shaped
 
   pub child_within : (i : ℕ) → i ≤ length (items_of (get s n)) → i < length (children_of (get s n))
-  child_within i low = omega (arith, children_length 1 MOST s b n (omega arith) shaped)
+  child_within i low = omega (arith, children_length 1 CAPACITY s b n (omega arith) shaped)
 
-  pub below_kid : (i : ℕ) → i ≤ length (items_of (get s n)) → ShapedBut 1 MOST s (b - 1) (get_or (children_of (get s n)) i 0)
-  below_kid i low = wider 1 LEAST MOST MOST s (b - 1) _ (omega arith) (omega arith) (kid_shaped 1 MOST s (b - 1) n i deeper low)
+  pub below_kid : (i : ℕ) → i ≤ length (items_of (get s n)) → ShapedBut 1 CAPACITY s (b - 1) (get_or (children_of (get s n)) i 0)
+  below_kid i low = wider 1 MIN_LEN CAPACITY CAPACITY s (b - 1) _ (omega arith) (omega arith) (kid_shaped 1 CAPACITY s (b - 1) n i deeper low)
 
   pub below_turn : (g : Gap) → IsGap s b n g → turn g ≤ length (items_of (get s n))
   below_turn g is =
-      omega (arith, turn_within s (b - 1) n g (rw (← level) at is), children_length 1 MOST s b n (omega arith) shaped)
+      omega (arith, turn_within s (b - 1) n g (rw (← level) at is), children_length 1 CAPACITY s b n (omega arith) shaped)
 
   pub below_inside : (g : Gap) → IsGap s b n g → IsGap s (b - 1) (get_or (children_of (get s n)) (turn g) 0) (inside g)
   below_inside g is = gap_inside s (b - 1) n g (rw (← level) at is)
@@ -42,7 +42,7 @@ module _ (s : Slab Node) (b n : ℕ) (inner : b ≢ 0) (shaped : ShapedBut 1 MOS
   below_here g = rw level at (place_inside s (b - 1) n g)
 
   pub below_most : (i : ℕ) (g : Gap) → i ≤ length (items_of (get s n)) → IsGap s (b - 1) (get_or (children_of (get s n)) i 0) g → place s (b - 1) (get_or (children_of (get s n)) i 0) g ≤ length (numbers s b (get_or (children_of (get s n)) i 0))
-  below_most i g low is = rw level at (place_within s (b - 1) _ g 1 MOST (below_kid i low) is)
+  below_most i g low is = rw level at (place_within s (b - 1) _ g 1 CAPACITY (below_kid i low) is)
 
   -- what is found below the child at i is found below the node
   pub found_above : (i rest : ℕ) (f h : Found) → i ≤ length (items_of (get s n)) → turn h.gap ≡ i → inside h.gap ≡ f.gap → h.number ≡ f.number → IsFound s (b - 1) (get_or (children_of (get s n)) i 0) rest f → IsFound s b n (length (before (items_of (get s n)) (map (numbers s b) (children_of (get s n))) i) + rest) h
@@ -51,8 +51,8 @@ module _ (s : Slab Node) (b n : ℕ) (inner : b ≢ 0) (shaped : ShapedBut 1 MOS
       let lists = map (numbers s b) (children_of (get s n)) in
       let kid = get_or (children_of (get s n)) i 0 in
       let less : rest < length (numbers s b kid) = rw level at found.within in
-      let whole = numbers_at 1 MOST s b n (omega arith) shaped i low in
-      let same = rank_in_child 1 MOST s b n i rest (length (before xs lists i) + rest) (omega arith) shaped low refl less in
+      let whole = numbers_at 1 CAPACITY s b n (omega arith) shaped i low in
+      let same = rank_in_child 1 CAPACITY s b n i rest (length (before xs lists i) + rest) (omega arith) shaped low refl less in
       record {
         within = omega (arith, less, ap length whole, length-append (before xs lists i) (numbers s b kid ++ after xs lists i), length-append (numbers s b kid) (after xs lists i));
         number = number ∙ (rw level at found.number) ∙ sym same;
@@ -66,10 +66,10 @@ module _ (s : Slab Node) (b n : ℕ) (inner : b ≢ 0) (shaped : ShapedBut 1 MOS
       let xs = items_of (get s n) in
       let lists = map (numbers s b) (children_of (get s n)) in
       let kid = get_or (children_of (get s n)) i 0 in
-      let more = length-before_more 1 MOST s b n (omega arith) shaped i low in
-      let whole = numbers_at 1 MOST s b n (omega arith) shaped (i + 1) (omega arith) in
+      let more = length-before_more 1 CAPACITY s b n (omega arith) shaped i low in
+      let whole = numbers_at 1 CAPACITY s b n (omega arith) shaped (i + 1) (omega arith) in
       let less : length (before xs lists i) + length (numbers s b kid) < length (numbers s (suc b) n) = omega (arith, ap length whole, length-append (before xs lists (i + 1)) (numbers s b (get_or (children_of (get s n)) (i + 1) 0) ++ after xs lists (i + 1)), more) in
-      let same = rank_at_item 1 MOST s b n i (length (numbers s b kid)) (length (before xs lists i) + length (numbers s b kid)) (omega arith) shaped (omega arith) refl refl less in
+      let same = rank_at_item 1 CAPACITY s b n i (length (numbers s b kid)) (length (before xs lists i) + length (numbers s b kid)) (omega arith) shaped (omega arith) refl refl less in
       record {
         within = less;
         number = number ∙ sym same;
@@ -83,8 +83,8 @@ module _ (s : Slab Node) (b n : ℕ) (inner : b ≢ 0) (shaped : ShapedBut 1 MOS
       let xs = items_of (get s n) in
       let lists = map (numbers s b) (children_of (get s n)) in
       let kid = get_or (children_of (get s n)) i 0 in
-      let whole = numbers_at 1 MOST s b n (omega arith) shaped i (omega arith) in
-      let none : length (after xs lists i) ≡ 0 = rw last (ap length (none_after_last 1 MOST s b n (omega arith) shaped)) in
+      let whole = numbers_at 1 CAPACITY s b n (omega arith) shaped i (omega arith) in
+      let none : length (after xs lists i) ≡ 0 = rw last (ap length (none_after_last 1 CAPACITY s b n (omega arith) shaped)) in
       omega (arith, ap length whole, length-append (before xs lists i) (numbers s b kid ++ after xs lists i), length-append (numbers s b kid) (after xs lists i), none)
 
   -- the item before a gap below the child at i, if there is one there
@@ -93,13 +93,13 @@ module _ (s : Slab Node) (b n : ℕ) (inner : b ≢ 0) (shaped : ShapedBut 1 MOS
   last_above i rest (Some x) low within some last' =
       let front = length (before (items_of (get s n)) (map (numbers s b) (children_of (get s n))) i) in
       let last = rw level at last' in
-      let same = rank_in_child 1 MOST s b n i (rest - 1) (front + (rest - 1)) (omega arith) shaped low refl (omega (arith, last.0)) in
+      let same = rank_in_child 1 CAPACITY s b n i (rest - 1) (front + (rest - 1)) (omega arith) shaped low refl (omega (arith, last.0)) in
       let place : front + rest - 1 ≡ front + (rest - 1) = omega (arith, last.0) in
       (omega (arith, last.0), last.1 ∙ sym same ∙ ap (λ m. get_or (numbers s (suc b) n) m 0) (sym place))
 
   -- a gap at the end of the child at i is one before the next child
   pub before_next : (i : ℕ) → i < length (items_of (get s n)) → length (before (items_of (get s n)) (map (numbers s b) (children_of (get s n))) (i + 1)) ≡ length (before (items_of (get s n)) (map (numbers s b) (children_of (get s n))) i) + length (numbers s b (get_or (children_of (get s n)) i 0)) + 1
-  before_next i low = length-before_more 1 MOST s b n (omega arith) shaped i low
+  before_next i low = length-before_more 1 CAPACITY s b n (omega arith) shaped i low
 
   -- the item before the child at i
   pub last_here : (i : ℕ) (r : Option ℕ) → i ≤ length (items_of (get s n)) → IsLast (items_of (get s n)) i r → IsLast (numbers s (suc b) n) (length (before (items_of (get s n)) (map (numbers s b) (children_of (get s n))) i)) r
@@ -110,10 +110,10 @@ module _ (s : Slab Node) (b n : ℕ) (inner : b ≢ 0) (shaped : ShapedBut 1 MOS
       let lists = map (numbers s b) (children_of (get s n)) in
       let kid = get_or (children_of (get s n)) j 0 in
       let next : j + 1 ≡ suc j = omega arith in
-      let more = rw next at (length-before_more 1 MOST s b n (omega arith) shaped j (omega arith)) in
-      let whole = rw next at (numbers_at 1 MOST s b n (omega arith) shaped (j + 1) (omega arith)) in
+      let more = rw next at (length-before_more 1 CAPACITY s b n (omega arith) shaped j (omega arith)) in
+      let whole = rw next at (numbers_at 1 CAPACITY s b n (omega arith) shaped (j + 1) (omega arith)) in
       let less : length (before xs lists j) + length (numbers s b kid) < length (numbers s (suc b) n) = omega (arith, ap length whole, length-append (before xs lists (suc j)) (numbers s b (get_or (children_of (get s n)) (suc j) 0) ++ after xs lists (suc j)), more) in
-      let same = rank_at_item 1 MOST s b n j (length (numbers s b kid)) (length (before xs lists j) + length (numbers s b kid)) (omega arith) shaped (omega arith) refl refl less in
+      let same = rank_at_item 1 CAPACITY s b n j (length (numbers s b kid)) (length (before xs lists j) + length (numbers s b kid)) (omega arith) shaped (omega arith) refl refl less in
       let place : length (before xs lists (suc j)) - 1 ≡ length (before xs lists j) + length (numbers s b kid) = omega (arith, more) in
       let one : suc j - 1 ≡ j = omega arith in
       (omega (arith, more), rw one at last.1 ∙ sym same ∙ ap (λ m. get_or (numbers s (suc b) n) m 0) (sym place))
@@ -126,7 +126,7 @@ pub items_known : (s : Slab Node) (n : ℕ) (node : Node) → get s n ≡ Some n
 items_known s n node found = rw found refl
 
 -- an item of a leaf, with the gap after it
-pub leaf_found : (s : Slab Node) (n i : ℕ) (h : Found) → ShapedBut 1 MOST s 0 n → i < length (items_of (get s n)) → h.number ≡ get_or (items_of (get s n)) i 0 → h.gap.leaf ≡ n → h.gap.way ≡ 0 → h.gap.index ≡ i + 1 → IsFound s 0 n i h
+pub leaf_found : (s : Slab Node) (n i : ℕ) (h : Found) → ShapedBut 1 CAPACITY s 0 n → i < length (items_of (get s n)) → h.number ≡ get_or (items_of (get s n)) i 0 → h.gap.leaf ≡ n → h.gap.way ≡ 0 → h.gap.index ≡ i + 1 → IsFound s 0 n i h
 leaf_found s n i h shaped low number leaf way index =
     let all = numbers_leaf s n shaped.node.branches in
     record {

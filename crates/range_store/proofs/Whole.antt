@@ -4,7 +4,7 @@ use Rattle.std.proofs.Math.Nat.{pow-le-pow_right}
 use Rattle.std.proofs.lemmas.Bool.{cases_lt}
 use Rattle.slab.specs.Slab.{Slab, get}
 use Rattle.range_store.specs.declared.btree.node.Node.{Node}
-use Rattle.range_store.specs.declared.btree.node.TheConstants.{MOST, LEAST}
+use Rattle.range_store.specs.declared.btree.node.TheConstants.{CAPACITY, MIN_LEN}
 use Rattle.range_store.specs.declared.btree.way.TheConstants.{DEEPEST}
 use Rattle.range_store.specs.declared.btree.number_tree.NumberTree.{NumberTree}
 use Rattle.range_store.specs.declared.btree.way.Gap.{Gap}
@@ -22,9 +22,9 @@ deep s (suc d) root roomy =
     elim (cases_lt d DEEPEST) [
       | inl low ↦ omega (arith, low)
       | inr high ↦
-          let some : 0 < LEAST + 1 = omega arith in
-          let more : (LEAST + 1) ^ DEEPEST ≤ (LEAST + 1) ^ d = pow-le-pow_right some high in
-          let limit : ◌≡◌ {A = ℕ} ((LEAST + 1) ^ DEEPEST) (2 ^ 64) = refl in
+          let some : 0 < MIN_LEN + 1 = omega arith in
+          let more : (MIN_LEN + 1) ^ DEEPEST ≤ (MIN_LEN + 1) ^ d = pow-le-pow_right some high in
+          let limit : 2 ^ 64 ≤ (MIN_LEN + 1) ^ DEEPEST = omega arith in
           absurd (omega (arith, tree_lower s d root roomy.tree, more, limit, roomy.counted))
     ]
 
@@ -32,14 +32,14 @@ deep s (suc d) root roomy =
 pub gap_within : (t : NumberTree) (g : Gap) → IsTreeGap t g → tree_place t g ≤ length (tree_numbers t)
 gap_within t g is =
     let level : suc (t.levels - 1) ≡ t.levels = omega (arith, is.some) in
-    rw level at (place_within t.nodes (t.levels - 1) t.root g 1 MOST (root_shaped t.nodes t.levels t.root is.some t.whole.tree) is.gap)
+    rw level at (place_within t.nodes (t.levels - 1) t.root g 1 CAPACITY (root_shaped t.nodes t.levels t.root is.some t.whole.tree) is.gap)
 
 -- a gap in the leaf of another, and the item there
 module _ (t : NumberTree) (g : Gap) (is : IsTreeGap t g) where
   level : suc (t.levels - 1) ≡ t.levels
   level = omega (arith, is.some)
 
-  shaped : ShapedBut 1 MOST t.nodes (t.levels - 1) t.root
+  shaped : ShapedBut 1 CAPACITY t.nodes (t.levels - 1) t.root
   shaped = root_shaped t.nodes t.levels t.root is.some t.whole.tree
 
   pub tree_leaf : IsLeafOf t.nodes g
@@ -51,4 +51,4 @@ module _ (t : NumberTree) (g : Gap) (is : IsTreeGap t g) where
       (record { some = is.some; gap = other.0 }, other.1)
 
   pub tree_item : g.index < length (items_of (get t.nodes g.leaf)) → (get_or (tree_numbers t) (tree_place t g) 0 ≡ get_or (items_of (get t.nodes g.leaf)) g.index 0) × (tree_place t g < length (tree_numbers t))
-  tree_item low = rw level at (leaf_item t.nodes (t.levels - 1) t.root g 1 MOST shaped low is.gap)
+  tree_item low = rw level at (leaf_item t.nodes (t.levels - 1) t.root g 1 CAPACITY shaped low is.gap)

@@ -5,7 +5,7 @@ use Rattle.slab.specs.Slab.{Slab, get}
 use Rattle.range_store.specs.Occurrences.{occurrences}
 use Rattle.range_store.specs.declared.btree.node.Node.{Node}
 use Rattle.range_store.specs.declared.btree.node.Split.{Split}
-use Rattle.range_store.specs.declared.btree.node.TheConstants.{MOST, LEAST}
+use Rattle.range_store.specs.declared.btree.node.TheConstants.{CAPACITY, MIN_LEN}
 use Rattle.range_store.specs.Nodes.{weave, items_of, numbers, used, child_count, Shaped, ShapedBut, here, Moves, tops, separators, EnoughFor, Writes, Stores}
 
 -- the node n, over d levels, may be written with these items and children
@@ -19,7 +19,7 @@ pub record IsContent (s : Slab Node) (d n : ℕ) (xs ks : List ℕ) : Type 0 whe
 pub record Settles (old new : Slab Node) (d n : ℕ) (xs ks : List ℕ) (split : Option Split) : Type 0 where
   pub listed : weave (separators split) (map (numbers new (suc d)) (tops n split)) ≡ weave xs (map (numbers old d) ks)
   pub moved : Moves old new (n ∷ flat_map (used old d) ks) (flat_map (used new (suc d)) (tops n split))
-  pub shape : (least : ℕ) → least ≤ LEAST → EnoughFor least split (length xs) → All (ShapedBut least MOST new d) (tops n split)
+  pub shape : (least : ℕ) → least ≤ MIN_LEN → EnoughFor least split (length xs) → All (ShapedBut least CAPACITY new d) (tops n split)
 
 -- the first `half` items went to n, and those after the next to a new node
 pub record Divides (old new : Slab Node) (n half : ℕ) (xs ks : List ℕ) (split : Split) : Type 0 where
@@ -32,15 +32,15 @@ pub record Divides (old new : Slab Node) (n half : ℕ) (xs ks : List ℕ) (spli
 pub record IsRewritten (old new : Slab Node) (d n : ℕ) (list : List ℕ) : Type 0 where
   pub listed : numbers new (suc d) n ≡ list
   pub moved : Moves old new (used old (suc d) n) (used new (suc d) n)
-  pub shape : (least : ℕ) → least ≤ LEAST → ShapedBut least MOST old d n → ShapedBut least MOST new d n
+  pub shape : (least : ℕ) → least ≤ MIN_LEN → ShapedBut least CAPACITY old d n → ShapedBut least CAPACITY new d n
 
 -- two nodes over d levels, of which one may lack an item
 pub record IsPair (s : Slab Node) (d l r : ℕ) : Type 0 where
-  pub left : ShapedBut (LEAST - 1) MOST s d l
-  pub right : ShapedBut (LEAST - 1) MOST s d r
+  pub left : ShapedBut (MIN_LEN - 1) CAPACITY s d l
+  pub right : ShapedBut (MIN_LEN - 1) CAPACITY s d r
   pub owned : (k : ℕ) → occurrences k (used s (suc d) l ++ used s (suc d) r) ≤ here s k
-  pub enough : LEAST + LEAST ≤ length (items_of (get s l)) + 1 + length (items_of (get s r))
-  pub fits : length (items_of (get s l)) + 1 + length (items_of (get s r)) ≤ MOST + LEAST
+  pub enough : MIN_LEN + MIN_LEN ≤ length (items_of (get s l)) + 1 + length (items_of (get s r))
+  pub fits : length (items_of (get s l)) + 1 + length (items_of (get s r)) ≤ CAPACITY + MIN_LEN
 
 -- they became one or two, with the item x between what they held
 pub record Rejoins (old new : Slab Node) (d l x r : ℕ) (split : Option Split) : Type 0 where

@@ -8,7 +8,7 @@ use Rattle.slab.specs.Slab.{Slab, get, slab_len}
 use Rattle.range_store.specs.Occurrences.{occurrences}
 use Rattle.range_store.specs.declared.btree.node.Node.{Node}
 use Rattle.range_store.specs.declared.btree.node.Split.{Split}
-use Rattle.range_store.specs.declared.btree.node.TheConstants.{MOST, LEAST}
+use Rattle.range_store.specs.declared.btree.node.TheConstants.{CAPACITY, MIN_LEN}
 
 module _ {X : Type 0} where
   -- each item, followed by what stands to its right
@@ -67,12 +67,12 @@ pub record IsNode (least most : ℕ) (s : Slab Node) (d n : ℕ) : Type 0 where
   pub fits : length (items_of (get s n)) ≤ most
   pub branches : length (children_of (get s n)) ≡ child_count d (length (items_of (get s n)))
 
--- each node has from LEAST to MOST items, and all leaves are at one depth
+-- each node has from MIN_LEN to CAPACITY items, and all leaves are at one depth
 unfoldable pub Shaped : Slab Node → ℕ → ℕ → Type 0
 Shaped s zero n = Unit {0}
-Shaped s (suc d) n = IsNode LEAST MOST s d n × All (Shaped s d) (children_of (get s n))
+Shaped s (suc d) n = IsNode MIN_LEN CAPACITY s d n × All (Shaped s d) (children_of (get s n))
 
--- a node with from least to most items, over d levels of nodes that have from LEAST to MOST
+-- a node with from least to most items, over d levels of nodes that have from MIN_LEN to CAPACITY
 pub record ShapedBut (least most : ℕ) (s : Slab Node) (d n : ℕ) : Type 0 where
   pub node : IsNode least most s d n
   pub children : All (Shaped s d) (children_of (get s n))
@@ -147,23 +147,23 @@ EnoughFor least (Some split) count = Unit {0}
 pub record Replaces (old new : Slab Node) (d n : ℕ) (split : Option Split) (list : List ℕ) : Type 0 where
   pub listed : weave (separators split) (map (numbers new (suc d)) (tops n split)) ≡ list
   pub moved : Moves old new (used old (suc d) n) (flat_map (used new (suc d)) (tops n split))
-  pub shape : (least : ℕ) → least ≤ LEAST → EnoughFor least split (length (items_of (get old n))) → All (ShapedBut least MOST new d) (tops n split)
+  pub shape : (least : ℕ) → least ≤ MIN_LEN → EnoughFor least split (length (items_of (get old n))) → All (ShapedBut least CAPACITY new d) (tops n split)
 
 -- with the nodes outside the subtree there is capacity for the nodes that it needs for so many more items
 pub record HasTreeRoom (s : Slab Node) (d n more : ℕ) : Type 0 where
-  pub filled : LEAST * slab_len s + (length (numbers s d n) + more) + 1 ≤ LEAST * s.capacity + LEAST * length (used s d n) + LEAST
-  pub few : LEAST * slab_len s + (length (numbers s d n) + more) + 1 ≤ LEAST * s.capacity + LEAST * length (used s d n) + length (items_of (get s n))
+  pub filled : MIN_LEN * slab_len s + (length (numbers s d n) + more) + 1 ≤ MIN_LEN * s.capacity + MIN_LEN * length (used s d n) + MIN_LEN
+  pub few : MIN_LEN * slab_len s + (length (numbers s d n) + more) + 1 ≤ MIN_LEN * s.capacity + MIN_LEN * length (used s d n) + length (items_of (get s n))
 
 -- the subtree of n, over d levels, became one with this list, at most one item shorter
 pub record Shrinks (old new : Slab Node) (d n : ℕ) (list : List ℕ) : Type 0 where
   pub listed : numbers new (suc d) n ≡ list
   pub moved : Moves old new (used old (suc d) n) (used new (suc d) n)
-  pub shape : (least : ℕ) → least + 1 ≤ length (items_of (get old n)) → ShapedBut least MOST new d n
+  pub shape : (least : ℕ) → least + 1 ≤ length (items_of (get old n)) → ShapedBut least CAPACITY new d n
 
 -- a root, over the levels below it; the empty tree has none
 abbrev pub IsRoot : Slab Node → ℕ → ℕ → Type 0
 IsRoot s zero n = Unit {0}
-IsRoot s (suc d) n = ShapedBut 1 MOST s d n
+IsRoot s (suc d) n = ShapedBut 1 CAPACITY s d n
 
 -- the nodes of the slab are those of the tree, each once
 pub record IsTree (s : Slab Node) (levels root : ℕ) : Type 0 where
@@ -174,30 +174,30 @@ pub record IsTree (s : Slab Node) (levels root : ℕ) : Type 0 where
 -- a tree that has a level, and whose root may be empty
 pub record IsLooseTree (s : Slab Node) (levels root : ℕ) : Type 0 where
   pub some : 0 < levels
-  pub shaped : ShapedBut 0 MOST s (levels - 1) root
+  pub shaped : ShapedBut 0 CAPACITY s (levels - 1) root
   pub once : (k : ℕ) → occurrences k (used s levels root) ≡ here s k
   pub len : slab_len s ≡ length (used s levels root)
 
 -- a node over `suc low` levels, of whose children the one at i may lack an item
 pub record IsMendable (s : Slab Node) (low n i : ℕ) : Type 0 where
-  pub node : IsNode 1 MOST s (suc low) n
+  pub node : IsNode 1 CAPACITY s (suc low) n
   pub owned : Owned s (suc (suc low)) n
   pub within : i ≤ length (items_of (get s n))
   pub before : All (Shaped s (suc low)) (take i (children_of (get s n)))
-  pub child : ShapedBut (LEAST - 1) MOST s low (slice_index (children_of (get s n)) i)
+  pub child : ShapedBut (MIN_LEN - 1) CAPACITY s low (slice_index (children_of (get s n)) i)
   pub behind : All (Shaped s (suc low)) (drop (i + 1) (children_of (get s n)))
 
 -- a node over `suc low` levels, of whose children one of the two at j and after it may lack an item
 pub record IsLevelled (s : Slab Node) (low n j : ℕ) : Type 0 where
-  pub node : IsNode 1 MOST s (suc low) n
+  pub node : IsNode 1 CAPACITY s (suc low) n
   pub owned : Owned s (suc (suc low)) n
   pub within : j < length (items_of (get s n))
   pub before : All (Shaped s (suc low)) (take j (children_of (get s n)))
-  pub left : ShapedBut (LEAST - 1) MOST s low (slice_index (children_of (get s n)) j)
-  pub right : ShapedBut (LEAST - 1) MOST s low (slice_index (children_of (get s n)) (j + 1))
+  pub left : ShapedBut (MIN_LEN - 1) CAPACITY s low (slice_index (children_of (get s n)) j)
+  pub right : ShapedBut (MIN_LEN - 1) CAPACITY s low (slice_index (children_of (get s n)) (j + 1))
   pub behind : All (Shaped s (suc low)) (drop (j + 2) (children_of (get s n)))
-  pub enough : LEAST + LEAST ≤ length (items_of (get s (slice_index (children_of (get s n)) j))) + 1 + length (items_of (get s (slice_index (children_of (get s n)) (j + 1))))
-  pub fits : length (items_of (get s (slice_index (children_of (get s n)) j))) + 1 + length (items_of (get s (slice_index (children_of (get s n)) (j + 1)))) ≤ MOST + LEAST
+  pub enough : MIN_LEN + MIN_LEN ≤ length (items_of (get s (slice_index (children_of (get s n)) j))) + 1 + length (items_of (get s (slice_index (children_of (get s n)) (j + 1))))
+  pub fits : length (items_of (get s (slice_index (children_of (get s n)) j))) + 1 + length (items_of (get s (slice_index (children_of (get s n)) (j + 1)))) ≤ CAPACITY + MIN_LEN
 
 -- how many items the child of n at k has
 abbrev pub child_size : Slab Node → ℕ → ℕ → ℕ
@@ -207,12 +207,12 @@ child_size s n k = length (items_of (get s (slice_index (children_of (get s n)) 
 pub record IsLender (s : Slab Node) (n i k : ℕ) : Type 0 where
   pub beside : (k + 1 ≡ i) ⊎ (k ≡ i + 1)
   pub within : k ≤ length (items_of (get s n))
-  pub spare : LEAST < child_size s n k
+  pub spare : MIN_LEN < child_size s n k
 
 -- a tree with no more numbers than its capacity is counted for, and than a `usize` counts
 pub record IsRoomy (s : Slab Node) (levels root : ℕ) : Type 0 where
   pub tree : IsTree s levels root
-  pub fits : length (numbers s levels root) ≤ LEAST * s.capacity
+  pub fits : length (numbers s levels root) ≤ MIN_LEN * s.capacity
   pub counted : length (numbers s levels root) < 2 ^ 64
 
 -- these facts have one proof each
@@ -225,14 +225,14 @@ All_of-prop P each ns = hlevel each
 pub Shaped-prop : (s : Slab Node) (d n : ℕ) → IsProp (Shaped s d n)
 unfolding Shaped
 Shaped-prop s zero n = Unit-prop
-Shaped-prop s (suc d) n = ×_prop (IsNode-prop LEAST MOST s d n) (All_of-prop (Shaped s d) (Shaped-prop s d) (children_of (get s n)))
+Shaped-prop s (suc d) n = ×_prop (IsNode-prop MIN_LEN CAPACITY s d n) (All_of-prop (Shaped s d) (Shaped-prop s d) (children_of (get s n)))
 
 pub ShapedBut-prop : (least most : ℕ) (s : Slab Node) (d n : ℕ) → IsProp (ShapedBut least most s d n)
 ShapedBut-prop least most s d n = hlevel (IsNode-prop least most s d n, All_of-prop (Shaped s d) (Shaped-prop s d) (children_of (get s n)))
 
 pub IsRoot-prop : (s : Slab Node) (d n : ℕ) → IsProp (IsRoot s d n)
 IsRoot-prop s zero n = Unit-prop
-IsRoot-prop s (suc d) n = ShapedBut-prop 1 MOST s d n
+IsRoot-prop s (suc d) n = ShapedBut-prop 1 CAPACITY s d n
 
 pub IsRoomy-prop : (s : Slab Node) (levels root : ℕ) → IsProp (IsRoomy s levels root)
 IsRoomy-prop s levels root = hlevel (IsRoot-prop s levels root, le_prop, ℕ_set)

@@ -1,6 +1,6 @@
 -- A tree of numbers as its callers see it: the numbers in order, how many more are sure to fit, and its gaps.
 use Rattle.std.specs.Prelude.{◌≡◌, ℕ, ◌+◌, ◌-◌, ◌*◌, ◌<◌, List, length, Option, Some, None, slice_index}
-use Rattle.range_store.specs.declared.btree.node.TheConstants.{LEAST}
+use Rattle.range_store.specs.declared.btree.node.TheConstants.{MIN_LEN}
 use Rattle.range_store.specs.declared.btree.number_tree.NumberTree.{NumberTree}
 use Rattle.range_store.specs.declared.btree.way.Gap.{Gap}
 use Rattle.range_store.specs.declared.btree.way.Found.{Found}
@@ -11,7 +11,7 @@ abbrev pub tree_numbers : NumberTree → List ℕ
 tree_numbers t = numbers t.nodes t.levels t.root
 
 abbrev pub tree_room : NumberTree → ℕ
-tree_room t = LEAST * t.nodes.capacity - length (tree_numbers t)
+tree_room t = MIN_LEN * t.nodes.capacity - length (tree_numbers t)
 
 -- an empty tree has no gap
 pub record IsTreeGap (t : NumberTree) (point : Gap) : Type 0 where

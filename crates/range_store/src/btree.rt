@@ -14,7 +14,7 @@ mod searching;
 mod tree;
 mod way;
 
-pub use crate::btree::node::{LEAST, MOST};
+pub use crate::btree::node::{CAPACITY, MIN_LEN};
 use crate::btree::number_tree::NumberTree;
 use crate::btree::searching::HALVINGS;
 use crate::btree::way::{Found, Gap};
@@ -47,9 +47,9 @@ impl<T> BoxStorage<T> {
         ensures value { result ≡ level_count self.now }
         ensures empty { length (box_items self.now) ≡ 0 → result ≡ 0 }
         ensures least { 0 < length (box_items self.now)
-            → 2 * (LEAST + 1) ^ (result - 1) ≤ length (box_items self.now) + 1 }
+            → 2 * (MIN_LEN + 1) ^ (result - 1) ≤ length (box_items self.now) + 1 }
         ensures most { 0 < length (box_items self.now)
-            → length (box_items self.now) + 1 ≤ (MOST + 1) ^ result }
+            → length (box_items self.now) + 1 ≤ (CAPACITY + 1) ^ result }
     {
         self.tree.levels()
     }

@@ -2,7 +2,7 @@
 ghost use Rattle.std.specs.Prelude.{ℕ, ◌≡◌, ◌+◌, ◌-◌, ◌*◌, ◌^◌, ◌<◌, ◌≤◌, length};
 ghost use Rattle.range_store.specs.Holding.{box_items, level_count};
 ghost use Rattle.range_map.specs.Depths.{IsGreatestLevel, greatest_level};
-ghost use Rattle.range_store.specs.declared.btree.node.TheConstants.{LEAST, MOST};
+ghost use Rattle.range_store.specs.declared.btree.node.TheConstants.{MIN_LEN, CAPACITY};
 
 use crate::map::RangeMap;
 use range_algebra::any::AnyRange;
@@ -23,9 +23,9 @@ impl<K: PartialEnum, V: Eq + Drop> RangeMap<K, V, BoxStorage<Item<AnyRange<K>, V
         ensures value { result ≡ level_count self.now }
         ensures empty { length (box_items self.now) ≡ 0 → result ≡ 0 }
         ensures least { 0 < length (box_items self.now)
-            → 2 * (LEAST + 1) ^ (result - 1) ≤ length (box_items self.now) + 1 }
+            → 2 * (MIN_LEN + 1) ^ (result - 1) ≤ length (box_items self.now) + 1 }
         ensures most { 0 < length (box_items self.now)
-            → length (box_items self.now) + 1 ≤ (MOST + 1) ^ result }
+            → length (box_items self.now) + 1 ≤ (CAPACITY + 1) ^ result }
     {
         self.stored.levels()
     }

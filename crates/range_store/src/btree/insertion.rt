@@ -6,8 +6,8 @@ ghost use Rattle.range_store.specs.Gaps.{IsGap, place, IsSeat, seat_place};
 ghost use Rattle.range_store.specs.Contents.{IsContent, Settles, Divides};
 
 use crate::btree::node::{
-    HALF, MOST, Node, Split, Wide, child_at, first_part, item_count, overfull, put, second_part,
-    store, write,
+    CAPACITY, HALF, Node, Split, Wide, child_at, first_part, item_count, overfull, put,
+    second_part, store, write,
 };
 use crate::btree::way::{DEEPEST, Gap, first_turn, gap_at, seen_above, seen_inside};
 use slab::Slab;
@@ -24,8 +24,8 @@ pub struct Parts {
 // Writes the first part of a node that has too many items to a node, and the second to a new one.
 pub fn divide(nodes: &mut Slab<Node>, number: usize, wide: &Wide) -> Split
     requires present { ContainsKey nodes.old number }
-    requires items { length wide.now.items.items ≡ MOST + 1 }
-    requires children { length wide.now.children.items ≤ MOST + 2 }
+    requires items { length wide.now.items.items ≡ CAPACITY + 1 }
+    requires children { length wide.now.children.items ≤ CAPACITY + 2 }
     requires room { HasRoomFor nodes.old 1 }
     ensures { Divides nodes.old nodes.new number HALF wide.now.items.items wide.now.children.items
         result }
@@ -50,21 +50,21 @@ pub fn put_or_cut(
 ) -> Parts
     requires present { ContainsKey nodes.old number }
     requires within { index ≤ length (items_of (get nodes.old number)) }
-    requires fits { length (items_of (get nodes.old number)) ≤ MOST }
+    requires fits { length (items_of (get nodes.old number)) ≤ CAPACITY }
     requires children { (child ≡ None × (below ≡ 0))
         ⊎ (length (children_of (get nodes.old number))
         ≡ length (items_of (get nodes.old number)) + 1) }
     requires content { IsContent nodes.old below number
         (insert (items_of (get nodes.old number)) index item)
         (with_child (children_of (get nodes.old number)) (index + 1) child) }
-    requires room { MOST ≤ length (items_of (get nodes.old number)) → HasRoomFor nodes.old 1 }
+    requires room { CAPACITY ≤ length (items_of (get nodes.old number)) → HasRoomFor nodes.old 1 }
     requires deep { below < DEEPEST }
     requires seat { IsSeat nodes.old below (insert (items_of (get nodes.old number)) index item)
         (with_child (children_of (get nodes.old number)) (index + 1) child) seat inner }
     ensures settles { Settles nodes.old nodes.new below number
         (insert (items_of (get nodes.old number)) index item)
         (with_child (children_of (get nodes.old number)) (index + 1) child) result.split }
-    ensures left_whole { length (items_of (get nodes.old number)) < MOST → result.split ≡ None }
+    ensures left_whole { length (items_of (get nodes.old number)) < CAPACITY → result.split ≡ None }
     ensures gap { IsSeat nodes.new (suc below) (separators result.split) (tops number result.split)
         result.side result.gap }
     ensures place { seat_place nodes.new (suc below) (separators result.split)
@@ -72,7 +72,7 @@ pub fn put_or_cut(
         ≡ seat_place nodes.old below (insert (items_of (get nodes.old number)) index item)
         (with_child (children_of (get nodes.old number)) (index + 1) child) seat inner }
 {
-    if item_count(nodes, number) < MOST {
+    if item_count(nodes, number) < CAPACITY {
         put(nodes, number, index, item, child);
         return Parts {
             split: None,
@@ -104,14 +104,14 @@ pub fn insert_below(
     gap: Gap,
     item: usize,
 ) -> Parts
-    requires shaped { ShapedBut 1 MOST nodes.old below number }
+    requires shaped { ShapedBut 1 CAPACITY nodes.old below number }
     requires owned { Owned nodes.old (suc below) number }
     requires gap { IsGap nodes.old below number gap }
     requires deep { below < DEEPEST }
     requires room { HasTreeRoom nodes.old (suc below) number 1 }
     ensures replaces { Replaces nodes.old nodes.new below number result.split
         (insert (numbers nodes.old (suc below) number) (place nodes.old below number gap) item) }
-    ensures left_whole { length (items_of (get nodes.old number)) < MOST → result.split ≡ None }
+    ensures left_whole { length (items_of (get nodes.old number)) < CAPACITY → result.split ≡ None }
     ensures gap { IsSeat nodes.new (suc below) (separators result.split) (tops number result.split)
         result.side result.gap }
     ensures place { seat_place nodes.new (suc below) (separators result.split)

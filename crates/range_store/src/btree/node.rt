@@ -8,24 +8,24 @@ use arrayvec::ArrayVec;
 use slab::Slab;
 
 /// The most items in a node.
-pub const MOST: usize = 7;
+pub const CAPACITY: usize = 11;
 
 /// The fewest items in a node other than the root.
-pub const LEAST: usize = 3;
+pub const MIN_LEN: usize = 5;
 
 // How many items of an overfull node stay in its first half.
-pub const HALF: usize = (MOST + 1) / 2;
+pub const HALF: usize = (CAPACITY + 1) / 2;
 
-const CHILD_PLACES: usize = MOST + 1;
+const CHILD_PLACES: usize = CAPACITY + 1;
 
 // Places for the items of a short node, of a full one, and for the item between them.
-pub const WIDE_ITEMS: usize = MOST + LEAST;
+pub const WIDE_ITEMS: usize = CAPACITY + MIN_LEN;
 
-pub const WIDE_CHILDREN: usize = MOST + LEAST + 1;
+pub const WIDE_CHILDREN: usize = CAPACITY + MIN_LEN + 1;
 
 #[derive(Clone, Drop)]
 pub struct Node {
-    pub items: ArrayVec<usize, MOST>,
+    pub items: ArrayVec<usize, CAPACITY>,
     pub children: ArrayVec<usize, CHILD_PLACES>,
 }
 
@@ -116,7 +116,7 @@ pub fn last_of(list: &[usize], place: usize) -> Option<usize>
 pub fn put(nodes: &mut Slab<Node>, number: usize, index: usize, item: usize, child: Option<usize>)
     requires present { ContainsKey nodes.old number }
     requires within { index ≤ length (items_of (get nodes.old number)) }
-    requires room { length (items_of (get nodes.old number)) < MOST }
+    requires room { length (items_of (get nodes.old number)) < CAPACITY }
     requires children { length (children_of (get nodes.old number))
         ≤ length (items_of (get nodes.old number)) + 1 }
     requires child { child ≡ None
@@ -146,14 +146,14 @@ pub fn overfull(
     requires children { child ≡ None
         ⊎ (length (children_of (get nodes.now number))
         ≡ length (items_of (get nodes.now number)) + 1) }
-    requires fits { length (items_of (get nodes.now number)) ≤ MOST }
-    requires few { length (children_of (get nodes.now number)) ≤ MOST + 1 }
+    requires fits { length (items_of (get nodes.now number)) ≤ CAPACITY }
+    requires few { length (children_of (get nodes.now number)) ≤ CAPACITY + 1 }
     ensures items { result.items.items ≡ insert (items_of (get nodes.now number)) index item }
     ensures children { result.children.items
         ≡ with_child (children_of (get nodes.now number)) (index + 1) child }
 {
     let node = &nodes[number];
-    let mut items = prefix(&node.items, MOST);
+    let mut items = prefix(&node.items, CAPACITY);
     let mut children = prefix(&node.children, CHILD_PLACES);
     items.insert(index, item);
     if let Some(child) = child {
@@ -192,8 +192,8 @@ pub fn joined(nodes: &Slab<Node>, left: usize, middle: usize, right: usize) -> W
 // A node of the first `half` items, and of the children before and between them.
 pub fn first_part(wide: &Wide, half: usize) -> Node
     requires small { half ≤ WIDE_ITEMS }
-    requires items { length (take half wide.now.items.items) ≤ MOST }
-    requires children { length (take (half + 1) wide.now.children.items) ≤ MOST + 1 }
+    requires items { length (take half wide.now.items.items) ≤ CAPACITY }
+    requires children { length (take (half + 1) wide.now.children.items) ≤ CAPACITY + 1 }
     ensures items { result.items.items ≡ take half wide.now.items.items }
     ensures children { result.children.items ≡ take (half + 1) wide.now.children.items }
 {
@@ -206,8 +206,8 @@ pub fn first_part(wide: &Wide, half: usize) -> Node
 // A node of the items after the one at `half`, and of their children.
 pub fn second_part(wide: &Wide, half: usize) -> Node
     requires small { half ≤ WIDE_ITEMS }
-    requires items { length (drop (half + 1) wide.now.items.items) ≤ MOST }
-    requires children { length (drop (half + 1) wide.now.children.items) ≤ MOST + 1 }
+    requires items { length (drop (half + 1) wide.now.items.items) ≤ CAPACITY }
+    requires children { length (drop (half + 1) wide.now.children.items) ≤ CAPACITY + 1 }
     ensures items { result.items.items ≡ drop (half + 1) wide.now.items.items }
     ensures children { result.children.items ≡ drop (half + 1) wide.now.children.items }
 {

@@ -8,7 +8,7 @@ ghost use Rattle.range_store.specs.Contents.{IsPair, Rejoins, IsRewritten};
 
 use crate::btree::insertion::Parts;
 use crate::btree::node::{
-    LEAST, MOST, Node, Split, child_at, first_part, item_at, item_count, joined, second_part,
+    CAPACITY, MIN_LEN, Node, Split, child_at, first_part, item_at, item_count, joined, second_part,
     set_item, set_pair, take_item, write,
 };
 use crate::btree::way::{DEEPEST, Gap, first_turn, gap_at, seat, seen_above, seen_inside};
@@ -31,7 +31,7 @@ pub fn rejoin(
         (items_of (get nodes.old left) ++ middle ∷ items_of (get nodes.old right))
         (children_of (get nodes.old left) ++ children_of (get nodes.old right)) seat inner }
     ensures rejoins { Rejoins nodes.old nodes.new low left middle right result.split }
-    ensures shared { LEAST + LEAST
+    ensures shared { MIN_LEN + MIN_LEN
         < length (items_of (get nodes.old left)) + 1 + length (items_of (get nodes.old right))
         → IsSome result.split }
     ensures gap { IsSeat nodes.new (suc low) (separators result.split) (tops left result.split)
@@ -44,7 +44,7 @@ pub fn rejoin(
 {
     let wide = joined(nodes, left, middle, right);
     let many = wide.items.len();
-    if many <= LEAST + LEAST {
+    if many <= MIN_LEN + MIN_LEN {
         write(nodes, left, first_part(&wide, many));
         let _ = nodes.remove(right);
         return Parts {
@@ -76,8 +76,8 @@ pub fn rejoin(
 // second.
 pub fn seat_in_pair(nodes: &Slab<Node>, low: usize, left: usize, side: usize, gap: Gap) -> usize
     requires present { ContainsKey nodes.now left }
-    requires fits { length (items_of (get nodes.now left)) ≤ MOST }
-    requires small { seat_of low gap ≤ MOST }
+    requires fits { length (items_of (get nodes.now left)) ≤ CAPACITY }
+    requires small { seat_of low gap ≤ CAPACITY }
     ensures left { side ≡ 0 → result ≡ seat_of low gap }
     ensures right { 0 < side
         → result ≡ length (items_of (get nodes.now left)) + 1 + seat_of low gap }
@@ -104,7 +104,7 @@ pub fn level(
     requires gap { IsGap nodes.old low (slice_index (children_of (get nodes.old number)) turn) gap }
     ensures shrinks { Shrinks nodes.old nodes.new (suc low) number
         (numbers nodes.old (suc (suc low)) number) }
-    ensures shared { LEAST + LEAST
+    ensures shared { MIN_LEN + MIN_LEN
         < child_size nodes.old number index + 1 + child_size nodes.old number (index + 1)
         → length (items_of (get nodes.new number)) ≡ length (items_of (get nodes.old number)) }
     ensures gap { IsGap nodes.new (suc low) number result }
@@ -133,8 +133,8 @@ pub fn pair_start(nodes: &Slab<Node>, number: usize, index: usize) -> usize
     ensures inside { result < length (items_of (get nodes.now number)) }
     ensures near { (result ≡ index) ⊎ (result + 1 ≡ index) }
     ensures spare { (k : ℕ) → IsLender nodes.now number index k
-        → (LEAST < child_size nodes.now number result)
-        ⊎ (LEAST < child_size nodes.now number (result + 1)) }
+        → (MIN_LEN < child_size nodes.now number result)
+        ⊎ (MIN_LEN < child_size nodes.now number (result + 1)) }
 {
     if index == 0 {
         return 0;
@@ -142,8 +142,8 @@ pub fn pair_start(nodes: &Slab<Node>, number: usize, index: usize) -> usize
     if index < item_count(nodes, number) {
         let before = item_count(nodes, child_at(nodes, number, index - 1));
         let behind = item_count(nodes, child_at(nodes, number, index + 1));
-        if before <= LEAST {
-            if behind > LEAST {
+        if before <= MIN_LEN {
+            if behind > MIN_LEN {
                 return index;
             }
         }
@@ -168,7 +168,7 @@ pub fn mend(nodes: &mut Slab<Node>, low: usize, number: usize, index: usize, gap
         (children_of (get nodes.old number)) index gap }
 {
     let child = child_at(nodes, number, index);
-    if item_count(nodes, child) >= LEAST {
+    if item_count(nodes, child) >= MIN_LEN {
         return seen_above(gap, index);
     }
     let first = pair_start(nodes, number, index);
@@ -178,7 +178,7 @@ pub fn mend(nodes: &mut Slab<Node>, low: usize, number: usize, index: usize, gap
 // Takes the item before a gap out of the subtree of a node, which may be short then. The item
 // stands in a leaf. Tells where the gap then lies.
 pub fn remove_below(nodes: &mut Slab<Node>, below: usize, number: usize, gap: Gap) -> Gap
-    requires shaped { ShapedBut 1 MOST nodes.old below number }
+    requires shaped { ShapedBut 1 CAPACITY nodes.old below number }
     requires owned { Owned nodes.old (suc below) number }
     requires deep { below < DEEPEST }
     requires gap { IsGap nodes.old below number gap }
@@ -211,7 +211,7 @@ pub fn set_before(
     gap: Gap,
     item: usize,
 ) -> bool
-    requires shaped { ShapedBut 1 MOST nodes.old below number }
+    requires shaped { ShapedBut 1 CAPACITY nodes.old below number }
     requires owned { Owned nodes.old (suc below) number }
     requires gap { IsGap nodes.old below number gap }
     requires at_start { gap.index ≡ 0 }

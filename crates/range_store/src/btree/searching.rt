@@ -6,20 +6,20 @@ ghost use Rattle.range_store.specs.Listed.{Stored};
 ghost use Rattle.range_store.specs.Nodes.{numbers, ShapedBut};
 ghost use Rattle.range_store.specs.Gaps.{IsGap, place, IsLast};
 
-use crate::btree::node::{MOST, Node, child_at, last_of};
+use crate::btree::node::{CAPACITY, Node, child_at, last_of};
 use crate::btree::way::{DEEPEST, Gap, seen_above};
 use crate::storage::Probe;
 use slab::Slab;
 
 // How often a node is asked at most.
-pub const HALVINGS: usize = 3;
+pub const HALVINGS: usize = 4;
 
 // How many of the items under these numbers pass, found by halving.
 pub fn halve<T, P: Probe<T>>(list: &[usize], items: &Slab<T>, probe: &mut P) -> usize
     requires stored { Stored items.now list.now }
     requires falls { Falls (passes items.now (P.test probe.old)) list.now }
     requires some { 0 < length list.now }
-    requires fits { length list.now ≤ MOST }
+    requires fits { length list.now ≤ CAPACITY }
     ensures count { result ≡ count_by (passes items.now (P.test probe.old)) list.now }
     ensures kept { P.test probe.new ≡ P.test probe.old }
     ensures asked { AddsSteps (P.steps_taken probe.old) (P.steps_taken probe.new) 1 HALVINGS }
@@ -53,7 +53,7 @@ pub fn search_below<T, P: Probe<T>>(
     number: usize,
     probe: &mut P,
 ) -> Passed
-    requires shaped { ShapedBut 1 MOST nodes.now below number }
+    requires shaped { ShapedBut 1 CAPACITY nodes.now below number }
     requires deep { below < DEEPEST }
     requires stored { Stored items.now (numbers nodes.now (suc below) number) }
     requires falls { Falls (passes items.now (P.test probe.old))

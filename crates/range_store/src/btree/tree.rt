@@ -9,7 +9,7 @@ ghost use Rattle.range_store.specs.Trees.{tree_numbers, tree_room, IsTreeGap, tr
 
 use crate::btree::insertion::insert_below;
 use crate::btree::node::{
-    LEAST, MOST, Node, item_at, item_count, leaf_of, node_over, put, store, take_item,
+    CAPACITY, MIN_LEN, Node, item_at, item_count, leaf_of, node_over, put, store, take_item,
 };
 use crate::btree::number_tree::NumberTree;
 use crate::btree::removal::{Settled, remove_below, set_before, settle};
@@ -40,7 +40,7 @@ impl NumberTree {
         ensures levels { IfOk result (λ copy. copy.levels ≡ self.now.levels) }
     {
         let mut nodes = self.nodes.clone()?;
-        let wanted = len / LEAST + 1;
+        let wanted = len / MIN_LEN + 1;
         nodes.reserve(wanted.saturating_sub(nodes.len()))?;
         Ok(NumberTree {
             nodes,
@@ -143,7 +143,7 @@ impl NumberTree {
         if additional > usize::MAX - len {
             return Err(AllocError);
         }
-        let wanted = (len + additional) / LEAST + 1;
+        let wanted = (len + additional) / MIN_LEN + 1;
         self.nodes.reserve(wanted.saturating_sub(self.nodes.len()))
     }
 
@@ -167,7 +167,7 @@ impl NumberTree {
                 index: 1,
             };
         };
-        if item_count(&self.nodes, gap.leaf) < MOST {
+        if item_count(&self.nodes, gap.leaf) < CAPACITY {
             put(&mut self.nodes, gap.leaf, gap.index, number, None);
             return Gap {
                 leaf: gap.leaf,
@@ -221,7 +221,7 @@ impl NumberTree {
         ensures gap { MatchOption result (tree_numbers self.new ≡ [])
             (λ g. IsTreeGap self.new g × (tree_place self.new g + 1 ≡ tree_place self.old gap)) }
     {
-        if item_count(&self.nodes, gap.leaf) > LEAST {
+        if item_count(&self.nodes, gap.leaf) > MIN_LEN {
             take_item(&mut self.nodes, gap.leaf, gap.index - 1);
             return Some(Gap {
                 leaf: gap.leaf,

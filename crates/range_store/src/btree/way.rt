@@ -4,7 +4,7 @@ ghost use Rattle.slab.specs.Slab.{get};
 ghost use Rattle.range_store.specs.Nodes.{numbers, items_of, ShapedBut};
 ghost use Rattle.range_store.specs.Gaps.{turn, inside, seat_of, IsGap, place, IsFound, IsLast};
 
-use crate::btree::node::{MOST, Node, child_at, item_at, item_count, last_of};
+use crate::btree::node::{CAPACITY, Node, child_at, item_at, item_count, last_of};
 use slab::Slab;
 
 // A way has a digit for each level: the child through which it goes, from the lowest digit on.
@@ -48,7 +48,7 @@ pub fn seen_inside(gap: Gap) -> Gap
 
 // The gap as the node above sees it, of which it is below the child at `index`.
 pub fn seen_above(gap: Gap, index: usize) -> Gap
-    requires index { index ≤ MOST }
+    requires index { index ≤ CAPACITY }
     requires way { gap.way < 2 ^ 124 }
     ensures turn { turn result ≡ index }
     ensures inside { inside result ≡ gap }
@@ -62,7 +62,7 @@ pub fn seen_above(gap: Gap, index: usize) -> Gap
 
 // The gap at a seat of a node: between the items of a leaf, or below the child at that index.
 pub fn gap_at(below: usize, number: usize, seat: usize, inner: Gap) -> Gap
-    requires seat { seat ≤ MOST }
+    requires seat { seat ≤ CAPACITY }
     requires way { 0 < below → inner.way < 2 ^ 124 }
     ensures leaf { below ≡ 0 → result ≡ record { leaf = number; way = 0; index = seat } }
     ensures turn { 0 < below → turn result ≡ seat }
@@ -91,7 +91,7 @@ pub fn seat(below: usize, gap: Gap) -> usize
 
 // The gap before all items below a node.
 pub fn first_gap(nodes: &Slab<Node>, below: usize, number: usize) -> Gap
-    requires shaped { ShapedBut 1 MOST nodes.now below number }
+    requires shaped { ShapedBut 1 CAPACITY nodes.now below number }
     requires deep { below < DEEPEST }
     ensures gap { IsGap nodes.now below number result }
     ensures place { place nodes.now below number result ≡ 0 }
@@ -109,7 +109,7 @@ pub fn first_gap(nodes: &Slab<Node>, below: usize, number: usize) -> Gap
 
 // The gap after all items below a node.
 pub fn end_gap(nodes: &Slab<Node>, below: usize, number: usize) -> Gap
-    requires shaped { ShapedBut 1 MOST nodes.now below number }
+    requires shaped { ShapedBut 1 CAPACITY nodes.now below number }
     requires deep { below < DEEPEST }
     ensures gap { IsGap nodes.now below number result }
     ensures place { place nodes.now below number result
@@ -129,7 +129,7 @@ pub fn end_gap(nodes: &Slab<Node>, below: usize, number: usize) -> Gap
 
 // What stands after a gap in its leaf.
 pub fn following_in_leaf(nodes: &Slab<Node>, number: usize, gap: Gap) -> Option<Found>
-    requires shaped { ShapedBut 1 MOST nodes.now 0 number }
+    requires shaped { ShapedBut 1 CAPACITY nodes.now 0 number }
     requires gap { IsGap nodes.now 0 number gap }
     ensures { MatchOption result
         (place nodes.now 0 number gap ≡ length (numbers nodes.now 1 number))
@@ -150,7 +150,7 @@ pub fn following_in_leaf(nodes: &Slab<Node>, number: usize, gap: Gap) -> Option<
 
 // What stands after a gap below a node.
 pub fn following(nodes: &Slab<Node>, below: usize, number: usize, gap: Gap) -> Option<Found>
-    requires shaped { ShapedBut 1 MOST nodes.now below number }
+    requires shaped { ShapedBut 1 CAPACITY nodes.now below number }
     requires deep { below < DEEPEST }
     requires gap { IsGap nodes.now below number gap }
     ensures { MatchOption result
@@ -180,7 +180,7 @@ pub fn following(nodes: &Slab<Node>, below: usize, number: usize, gap: Gap) -> O
 
 // The number before a gap below a node.
 pub fn item_before(nodes: &Slab<Node>, below: usize, number: usize, gap: Gap) -> Option<usize>
-    requires shaped { ShapedBut 1 MOST nodes.now below number }
+    requires shaped { ShapedBut 1 CAPACITY nodes.now below number }
     requires gap { IsGap nodes.now below number gap }
     ensures { IsLast (numbers nodes.now (suc below) number) (place nodes.now below number gap)
         result }
@@ -199,7 +199,7 @@ pub fn item_before(nodes: &Slab<Node>, below: usize, number: usize, gap: Gap) ->
 
 // The gap before the item before a gap below a node.
 pub fn gap_before(nodes: &Slab<Node>, below: usize, number: usize, gap: Gap) -> Option<Gap>
-    requires shaped { ShapedBut 1 MOST nodes.now below number }
+    requires shaped { ShapedBut 1 CAPACITY nodes.now below number }
     requires deep { below < DEEPEST }
     requires gap { IsGap nodes.now below number gap }
     ensures { MatchOption result (place nodes.now below number gap ≡ 0)

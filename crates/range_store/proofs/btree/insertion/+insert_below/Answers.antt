@@ -2,7 +2,7 @@ use Rattle.std.proofs.Common.{◌+◌, ◌-◌, get_or, ◌∙◌, arith, inr, S
 use Rattle.std.specs.List.{insert}
 use Rattle.std.proofs.lemmas.List.Edits.{length-insert}
 use Rattle.slab.specs.Slab.{get}
-use Rattle.range_store.specs.declared.btree.node.TheConstants.{MOST}
+use Rattle.range_store.specs.declared.btree.node.TheConstants.{CAPACITY}
 use Rattle.range_store.specs.Nodes.{items_of, children_of}
 use Rattle.range_store.specs.Gaps.{turn, inside, place}
 use Rattle.range_store.proofs.Gaps.{way_small, leaf_index, leaf_place}
@@ -59,7 +59,7 @@ insert_below-inserted-requires t c =
     let is = below_inside c.args.nodes.now c.args.below c.args.number c.if-below-eq0.false c.requires.shaped c.args.gap c.requires.gap in
     let back = level c.args.nodes.now c.args.below c.args.number c.if-below-eq0.false c.requires.shaped in
     let owned = kid_owned c.args.nodes.now c.args.below c.args.number (turn c.args.gap) c.requires.owned (child_within c.args.nodes.now c.args.below c.args.number c.if-below-eq0.false c.requires.shaped _ low) in
-    let room = HasTreeRoom-child MOST c.args.nodes.now c.args.below c.args.number (turn c.args.gap) 1 (omega arith) low c.requires.shaped c.requires.room in
+    let room = HasTreeRoom-child CAPACITY c.args.nodes.now c.args.below c.args.number (turn c.args.gap) 1 (omega arith) low c.requires.shaped c.requires.room in
     (omega (arith, c.if-below-eq0.false), rw (c.child_at-child.ensures, c.first_turn-index.ensures, c.seen_inside.ensures) (kid, (rw (← back) at owned, (is, (omega (arith, c.requires.deep), rw (← back) at room)))))
 
 pub seen_above-requires-clause-index : goal.seen_above-requires-clause-index
@@ -141,7 +141,7 @@ put_or_cut-requires-in-Some-clause-children t c =
     let rest = place c.args.nodes.now (c.args.below - 1) (get_or (children_of (get c.args.nodes.now c.args.number)) (turn c.args.gap) 0) (inside c.args.gap) in
     let within = below_most c.args.nodes.now c.args.below c.args.number c.if-below-eq0.false c.requires.shaped i (inside c.args.gap) low (below_inside c.args.nodes.now c.args.below c.args.number c.if-below-eq0.false c.requires.shaped c.args.gap c.requires.gap) in
     let child = rw c.in-Some.is at (rw (c.child_at-child.ensures, c.first_turn-index.ensures, c.seen_inside.ensures) at c.insert_below-inserted.ensures.replaces) in
-    inr (rw (grown_kept c.args.nodes.now c.insert_below-inserted.new.nodes c.args.below c.args.number i rest c.args.item (Some c.in-Some.cut) c.if-below-eq0.false c.requires.shaped c.requires.owned low within child) (children_length 1 MOST c.args.nodes.now c.args.below c.args.number (omega (arith, c.if-below-eq0.false)) c.requires.shaped))
+    inr (rw (grown_kept c.args.nodes.now c.insert_below-inserted.new.nodes c.args.below c.args.number i rest c.args.item (Some c.in-Some.cut) c.if-below-eq0.false c.requires.shaped c.requires.owned low within child) (children_length 1 CAPACITY c.args.nodes.now c.args.below c.args.number (omega (arith, c.if-below-eq0.false)) c.requires.shaped))
 
 pub put_or_cut-requires-in-Some-clause-content : goal.put_or_cut-requires-in-Some-clause-content
 put_or_cut-requires-in-Some-clause-content t c =

@@ -2,7 +2,7 @@ use Rattle.std.proofs.Common.{◌≡◌, ◌+◌, ◌-◌, ◌<◌, length, take
 use Rattle.std.specs.List.{insert}
 use Rattle.std.proofs.lemmas.List.Edits.{length-insert}
 use Rattle.slab.specs.Slab.{get}
-use Rattle.range_store.specs.declared.btree.node.TheConstants.{MOST, HALF}
+use Rattle.range_store.specs.declared.btree.node.TheConstants.{CAPACITY, HALF}
 use Rattle.range_store.specs.Nodes.{items_of, children_of, with_child}
 use Rattle.range_store.proofs.Contents.{written_settles, written_holds, written_agree, cut_settles, left_holds, right_holds, cut_agree, part_agree, left_numbers}
 use Rattle.range_store.proofs.Seats.{seat_written, seat_left, seat_right, seat_small, seat_way, seat_alone, seat_beside}
@@ -10,17 +10,17 @@ use Rattle.range_store.proofs.btree.insertion.put_or_cut.Goals as goal
 
 pub gap_at-requires-clause-seat : goal.gap_at-requires-clause-seat
 gap_at-requires-clause-seat c =
-    omega (arith, seat_small c.args.nodes.now c.args.below (insert (items_of (get c.args.nodes.now c.args.number)) c.args.index c.args.item) (with_child (children_of (get c.args.nodes.now c.args.number)) (c.args.index + 1) c.args.child) c.args.seat c.args.inner c.requires.content.branches c.requires.seat, length-insert (items_of (get c.args.nodes.now c.args.number)) c.args.index c.args.item c.requires.within, c.item_count.ensures, c.if-item_count-lt-MOST.true)
+    omega (arith, seat_small c.args.nodes.now c.args.below (insert (items_of (get c.args.nodes.now c.args.number)) c.args.index c.args.item) (with_child (children_of (get c.args.nodes.now c.args.number)) (c.args.index + 1) c.args.child) c.args.seat c.args.inner c.requires.content.branches c.requires.seat, length-insert (items_of (get c.args.nodes.now c.args.number)) c.args.index c.args.item c.requires.within, c.item_count.ensures, c.if-item_count-lt-CAPACITY.true)
 
 pub gap_at-requires-clause-way : goal.gap_at-requires-clause-way
 gap_at-requires-clause-way c = λ some. seat_way c.args.nodes.now c.args.below (insert (items_of (get c.args.nodes.now c.args.number)) c.args.index c.args.item) (with_child (children_of (get c.args.nodes.now c.args.number)) (c.args.index + 1) c.args.child) c.args.seat c.args.inner c.requires.deep some c.requires.seat
 
-pub returns-then-item_count-lt-MOST-clause-settles : goal.returns-then-item_count-lt-MOST-clause-settles
-returns-then-item_count-lt-MOST-clause-settles c =
-    written_settles c.args.nodes.now c.put.new.nodes c.args.below c.args.number (insert (items_of (get c.args.nodes.now c.args.number)) c.args.index c.args.item) (with_child (children_of (get c.args.nodes.now c.args.number)) (c.args.index + 1) c.args.child) c.requires.content c.put.ensures (omega (arith, length-insert (items_of (get c.args.nodes.now c.args.number)) c.args.index c.args.item c.requires.within, c.item_count.ensures, c.if-item_count-lt-MOST.true))
+pub returns-then-item_count-lt-CAPACITY-clause-settles : goal.returns-then-item_count-lt-CAPACITY-clause-settles
+returns-then-item_count-lt-CAPACITY-clause-settles c =
+    written_settles c.args.nodes.now c.put.new.nodes c.args.below c.args.number (insert (items_of (get c.args.nodes.now c.args.number)) c.args.index c.args.item) (with_child (children_of (get c.args.nodes.now c.args.number)) (c.args.index + 1) c.args.child) c.requires.content c.put.ensures (omega (arith, length-insert (items_of (get c.args.nodes.now c.args.number)) c.args.index c.args.item c.requires.within, c.item_count.ensures, c.if-item_count-lt-CAPACITY.true))
 
-pub returns-then-item_count-lt-MOST-clause-gap : goal.returns-then-item_count-lt-MOST-clause-gap
-returns-then-item_count-lt-MOST-clause-gap c =
+pub returns-then-item_count-lt-CAPACITY-clause-gap : goal.returns-then-item_count-lt-CAPACITY-clause-gap
+returns-then-item_count-lt-CAPACITY-clause-gap c =
     let s = c.args.nodes.now in
     let t = c.put.new.nodes in
     let holds = written_holds s t c.args.below c.args.number (insert (items_of (get c.args.nodes.now c.args.number)) c.args.index c.args.item) (with_child (children_of (get c.args.nodes.now c.args.number)) (c.args.index + 1) c.args.child) c.requires.content c.put.ensures in
@@ -29,8 +29,8 @@ returns-then-item_count-lt-MOST-clause-gap c =
     let alone = seat_alone t c.args.below c.args.number c.gap_at.result None gap.0 in
     alone.0
 
-pub returns-then-item_count-lt-MOST-clause-place : goal.returns-then-item_count-lt-MOST-clause-place
-returns-then-item_count-lt-MOST-clause-place c =
+pub returns-then-item_count-lt-CAPACITY-clause-place : goal.returns-then-item_count-lt-CAPACITY-clause-place
+returns-then-item_count-lt-CAPACITY-clause-place c =
     let s = c.args.nodes.now in
     let t = c.put.new.nodes in
     let holds = written_holds s t c.args.below c.args.number (insert (items_of (get c.args.nodes.now c.args.number)) c.args.index c.args.item) (with_child (children_of (get c.args.nodes.now c.args.number)) (c.args.index + 1) c.args.child) c.requires.content c.put.ensures in
@@ -45,7 +45,7 @@ gap_at-requires-then-seat-le-HALF-clause-way c = λ some. seat_way c.args.nodes.
 pub returns-then-seat-le-HALF-clause-settles : goal.returns-then-seat-le-HALF-clause-settles
 returns-then-seat-le-HALF-clause-settles c =
     let long = length-insert (items_of (get c.args.nodes.now c.args.number)) c.args.index c.args.item c.requires.within in
-    let full : length (insert (items_of (get c.args.nodes.now c.args.number)) c.args.index c.args.item) ≡ MOST + 1 = omega (arith, long, c.item_count.ensures, c.if-item_count-lt-MOST.false, c.requires.fits) in
+    let full : length (insert (items_of (get c.args.nodes.now c.args.number)) c.args.index c.args.item) ≡ CAPACITY + 1 = omega (arith, long, c.item_count.ensures, c.if-item_count-lt-CAPACITY.false, c.requires.fits) in
     cut_settles c.args.nodes.now c.divide-split.new.nodes c.args.below c.args.number HALF (insert (items_of (get c.args.nodes.now c.args.number)) c.args.index c.args.item) (with_child (children_of (get c.args.nodes.now c.args.number)) (c.args.index + 1) c.args.child) c.divide-split.result c.requires.content (rw (c.overfull-wide.ensures.items, c.overfull-wide.ensures.children) at c.divide-split.ensures) (omega (arith, full)) (omega arith) (omega arith) (omega (arith, full)) (omega (arith, full))
 
 pub returns-then-seat-le-HALF-clause-gap : goal.returns-then-seat-le-HALF-clause-gap
@@ -53,7 +53,7 @@ returns-then-seat-le-HALF-clause-gap c =
     let s = c.args.nodes.now in
     let t = c.divide-split.new.nodes in
     let long = length-insert (items_of (get s c.args.number)) c.args.index c.args.item c.requires.within in
-    let low : HALF < length (insert (items_of (get c.args.nodes.now c.args.number)) c.args.index c.args.item) = omega (arith, long, c.item_count.ensures, c.if-item_count-lt-MOST.false) in
+    let low : HALF < length (insert (items_of (get c.args.nodes.now c.args.number)) c.args.index c.args.item) = omega (arith, long, c.item_count.ensures, c.if-item_count-lt-CAPACITY.false) in
     let cut = (rw (c.overfull-wide.ensures.items, c.overfull-wide.ensures.children) at c.divide-split.ensures) in
     let left = seat_left s HALF (insert (items_of (get c.args.nodes.now c.args.number)) c.args.index c.args.item) (with_child (children_of (get c.args.nodes.now c.args.number)) (c.args.index + 1) c.args.child) c.args.seat c.args.inner low c.args.below c.requires.content.branches c.if-seat-le-HALF.true c.requires.seat in
     let holds = left_holds c.args.nodes.now c.divide-split.new.nodes c.args.below c.args.number HALF (insert (items_of (get c.args.nodes.now c.args.number)) c.args.index c.args.item) (with_child (children_of (get c.args.nodes.now c.args.number)) (c.args.index + 1) c.args.child) c.divide-split.result c.requires.content cut low in
@@ -67,7 +67,7 @@ returns-then-seat-le-HALF-clause-place c =
     let s = c.args.nodes.now in
     let t = c.divide-split.new.nodes in
     let long = length-insert (items_of (get s c.args.number)) c.args.index c.args.item c.requires.within in
-    let low : HALF < length (insert (items_of (get c.args.nodes.now c.args.number)) c.args.index c.args.item) = omega (arith, long, c.item_count.ensures, c.if-item_count-lt-MOST.false) in
+    let low : HALF < length (insert (items_of (get c.args.nodes.now c.args.number)) c.args.index c.args.item) = omega (arith, long, c.item_count.ensures, c.if-item_count-lt-CAPACITY.false) in
     let cut = (rw (c.overfull-wide.ensures.items, c.overfull-wide.ensures.children) at c.divide-split.ensures) in
     let left = seat_left s HALF (insert (items_of (get c.args.nodes.now c.args.number)) c.args.index c.args.item) (with_child (children_of (get c.args.nodes.now c.args.number)) (c.args.index + 1) c.args.child) c.args.seat c.args.inner low c.args.below c.requires.content.branches c.if-seat-le-HALF.true c.requires.seat in
     let holds = left_holds c.args.nodes.now c.divide-split.new.nodes c.args.below c.args.number HALF (insert (items_of (get c.args.nodes.now c.args.number)) c.args.index c.args.item) (with_child (children_of (get c.args.nodes.now c.args.number)) (c.args.index + 1) c.args.child) c.divide-split.result c.requires.content cut low in
@@ -86,7 +86,7 @@ gap_at-requires-2-clause-way c = λ some. seat_way c.args.nodes.now c.args.below
 pub returns-clause-settles : goal.returns-clause-settles
 returns-clause-settles c =
     let long = length-insert (items_of (get c.args.nodes.now c.args.number)) c.args.index c.args.item c.requires.within in
-    let full : length (insert (items_of (get c.args.nodes.now c.args.number)) c.args.index c.args.item) ≡ MOST + 1 = omega (arith, long, c.item_count.ensures, c.if-item_count-lt-MOST.false, c.requires.fits) in
+    let full : length (insert (items_of (get c.args.nodes.now c.args.number)) c.args.index c.args.item) ≡ CAPACITY + 1 = omega (arith, long, c.item_count.ensures, c.if-item_count-lt-CAPACITY.false, c.requires.fits) in
     cut_settles c.args.nodes.now c.divide-split.new.nodes c.args.below c.args.number HALF (insert (items_of (get c.args.nodes.now c.args.number)) c.args.index c.args.item) (with_child (children_of (get c.args.nodes.now c.args.number)) (c.args.index + 1) c.args.child) c.divide-split.result c.requires.content (rw (c.overfull-wide.ensures.items, c.overfull-wide.ensures.children) at c.divide-split.ensures) (omega (arith, full)) (omega arith) (omega arith) (omega (arith, full)) (omega (arith, full))
 
 pub returns-clause-gap : goal.returns-clause-gap
@@ -94,7 +94,7 @@ returns-clause-gap c =
     let s = c.args.nodes.now in
     let t = c.divide-split.new.nodes in
     let long = length-insert (items_of (get s c.args.number)) c.args.index c.args.item c.requires.within in
-    let low : HALF < length (insert (items_of (get c.args.nodes.now c.args.number)) c.args.index c.args.item) = omega (arith, long, c.item_count.ensures, c.if-item_count-lt-MOST.false) in
+    let low : HALF < length (insert (items_of (get c.args.nodes.now c.args.number)) c.args.index c.args.item) = omega (arith, long, c.item_count.ensures, c.if-item_count-lt-CAPACITY.false) in
     let cut = (rw (c.overfull-wide.ensures.items, c.overfull-wide.ensures.children) at c.divide-split.ensures) in
     let right = seat_right s HALF (insert (items_of (get c.args.nodes.now c.args.number)) c.args.index c.args.item) (with_child (children_of (get c.args.nodes.now c.args.number)) (c.args.index + 1) c.args.child) c.args.seat c.args.inner low c.args.below c.requires.content.branches (omega (arith, c.if-seat-le-HALF.false)) c.requires.seat in
     let holds = right_holds c.args.nodes.now c.divide-split.new.nodes c.args.below c.args.number HALF (insert (items_of (get c.args.nodes.now c.args.number)) c.args.index c.args.item) (with_child (children_of (get c.args.nodes.now c.args.number)) (c.args.index + 1) c.args.child) c.divide-split.result c.requires.content cut low in
@@ -108,7 +108,7 @@ returns-clause-place c =
     let s = c.args.nodes.now in
     let t = c.divide-split.new.nodes in
     let long = length-insert (items_of (get s c.args.number)) c.args.index c.args.item c.requires.within in
-    let low : HALF < length (insert (items_of (get c.args.nodes.now c.args.number)) c.args.index c.args.item) = omega (arith, long, c.item_count.ensures, c.if-item_count-lt-MOST.false) in
+    let low : HALF < length (insert (items_of (get c.args.nodes.now c.args.number)) c.args.index c.args.item) = omega (arith, long, c.item_count.ensures, c.if-item_count-lt-CAPACITY.false) in
     let cut = (rw (c.overfull-wide.ensures.items, c.overfull-wide.ensures.children) at c.divide-split.ensures) in
     let right = seat_right s HALF (insert (items_of (get c.args.nodes.now c.args.number)) c.args.index c.args.item) (with_child (children_of (get c.args.nodes.now c.args.number)) (c.args.index + 1) c.args.child) c.args.seat c.args.inner low c.args.below c.requires.content.branches (omega (arith, c.if-seat-le-HALF.false)) c.requires.seat in
     let holds = right_holds c.args.nodes.now c.divide-split.new.nodes c.args.below c.args.number HALF (insert (items_of (get c.args.nodes.now c.args.number)) c.args.index c.args.item) (with_child (children_of (get c.args.nodes.now c.args.number)) (c.args.index + 1) c.args.child) c.divide-split.result c.requires.content cut low in

@@ -1,7 +1,7 @@
 use Rattle.std.proofs.Common.{◌≡◌, ◌+◌, ◌-◌, length, get_or, map, refl, ap, ◌∙◌, arith}
 use Rattle.std.proofs.lemmas.List.Edits.{length-remove}
 use Rattle.slab.specs.Slab.{get}
-use Rattle.range_store.specs.declared.btree.node.TheConstants.{MOST, LEAST}
+use Rattle.range_store.specs.declared.btree.node.TheConstants.{CAPACITY, MIN_LEN}
 use Rattle.range_store.specs.Nodes.{items_of, children_of, numbers, before}
 use Rattle.range_store.specs.Gaps.{turn, inside, place}
 use Rattle.range_store.proofs.Gaps.{leaf_gap, leaf_index, leaf_place}
@@ -50,8 +50,8 @@ mend-requires-clause-mendable t c =
     let child = rw (c.child_at-child.ensures, c.first_turn-index.ensures, c.seen_inside.ensures) at c.remove_below-inner.ensures.shrinks in
     let listed = rw back at child.listed in
     let moved = rw back at child.moved in
-    let enough = (kid_shaped 1 MOST c.args.nodes.now (c.args.below - 1) c.args.number i (rw (← back) at c.requires.shaped) low).node.enough in
-    rw c.first_turn-index.ensures (kid_mendable c.args.nodes.now c.remove_below-inner.new.nodes c.args.below c.args.number i _ c.if-below-eq0.false c.requires.shaped c.requires.owned low listed moved (child.shape (LEAST - 1) (omega (arith, enough))))
+    let enough = (kid_shaped 1 CAPACITY c.args.nodes.now (c.args.below - 1) c.args.number i (rw (← back) at c.requires.shaped) low).node.enough in
+    rw c.first_turn-index.ensures (kid_mendable c.args.nodes.now c.remove_below-inner.new.nodes c.args.below c.args.number i _ c.if-below-eq0.false c.requires.shaped c.requires.owned low listed moved (child.shape (MIN_LEN - 1) (omega (arith, enough))))
 
 pub mend-requires-clause-gap : goal.mend-requires-clause-gap
 mend-requires-clause-gap t c =

@@ -1,6 +1,6 @@
 use Rattle.std.proofs.Common.{◌≡◌, ◌+◌, ◌-◌, ◌/◌, ◌<◌, ◌≤◌, ◌∷◌, ◌++◌, length, get_or, take, drop, refl, ap, ◌∙◌, arith, take_all, Some, None}
 use Rattle.slab.specs.Slab.{get}
-use Rattle.range_store.specs.declared.btree.node.TheConstants.{LEAST}
+use Rattle.range_store.specs.declared.btree.node.TheConstants.{MIN_LEN}
 use Rattle.range_store.specs.Nodes.{items_of, children_of}
 use Rattle.range_store.proofs.Below.{child_count_most}
 use Rattle.range_store.proofs.Contents.{part_agree, left_numbers}
@@ -24,7 +24,7 @@ returns-then-many-clause-rejoins c =
     let children : c.first_part.result.children.items ≡ (children_of (get c.args.nodes.now c.args.left) ++ children_of (get c.args.nodes.now c.args.right)) = c.first_part.ensures.children ∙ ap (take (c.len-many.result + 1)) c.joined-wide.ensures.children ∙ take_all (c.len-many.result + 1) (children_of (get c.args.nodes.now c.args.left) ++ children_of (get c.args.nodes.now c.args.right)) (omega (arith, many, child_count_most c.args.low _ _ (pair_content c.args.nodes.now c.args.low c.args.left c.args.middle c.args.right c.requires.pair).branches)) in
     let written = rw (items, children) at c.write.ensures in
     let removed = pair_removes c.args.nodes.now c.args.low c.args.left c.args.middle c.args.right c.requires.pair c.write.new.nodes c.remove.new.self _ _ written c.remove.ensures.updates c.remove.ensures.len c.remove.ensures.capacity in
-    let few : length (items_of (get c.args.nodes.now c.args.left) ++ c.args.middle ∷ items_of (get c.args.nodes.now c.args.right)) ≤ LEAST + LEAST = omega (arith, many, c.if-many.true) in
+    let few : length (items_of (get c.args.nodes.now c.args.left) ++ c.args.middle ∷ items_of (get c.args.nodes.now c.args.right)) ≤ MIN_LEN + MIN_LEN = omega (arith, many, c.if-many.true) in
     united_rejoins c.args.nodes.now c.args.low c.args.left c.args.middle c.args.right c.requires.pair c.write.new.nodes c.remove.new.self written removed few
 
 pub returns-then-many-clause-shared : goal.returns-then-many-clause-shared
@@ -39,7 +39,7 @@ returns-then-many-clause-gap c =
     let children : c.first_part.result.children.items ≡ (children_of (get c.args.nodes.now c.args.left) ++ children_of (get c.args.nodes.now c.args.right)) = c.first_part.ensures.children ∙ ap (take (c.len-many.result + 1)) c.joined-wide.ensures.children ∙ take_all (c.len-many.result + 1) (children_of (get c.args.nodes.now c.args.left) ++ children_of (get c.args.nodes.now c.args.right)) (omega (arith, many, child_count_most c.args.low _ _ (pair_content c.args.nodes.now c.args.low c.args.left c.args.middle c.args.right c.requires.pair).branches)) in
     let written = rw (items, children) at c.write.ensures in
     let removed = pair_removes c.args.nodes.now c.args.low c.args.left c.args.middle c.args.right c.requires.pair c.write.new.nodes c.remove.new.self _ _ written c.remove.ensures.updates c.remove.ensures.len c.remove.ensures.capacity in
-    let few : length (items_of (get c.args.nodes.now c.args.left) ++ c.args.middle ∷ items_of (get c.args.nodes.now c.args.right)) ≤ LEAST + LEAST = omega (arith, many, c.if-many.true) in
+    let few : length (items_of (get c.args.nodes.now c.args.left) ++ c.args.middle ∷ items_of (get c.args.nodes.now c.args.right)) ≤ MIN_LEN + MIN_LEN = omega (arith, many, c.if-many.true) in
     let gap = seat_written c.args.nodes.now c.remove.new.self c.args.left (items_of (get c.args.nodes.now c.args.left) ++ c.args.middle ∷ items_of (get c.args.nodes.now c.args.right)) (children_of (get c.args.nodes.now c.args.left) ++ children_of (get c.args.nodes.now c.args.right)) c.args.seat c.args.inner c.gap_at.result c.args.low (united_holds c.args.nodes.now c.args.low c.args.left c.args.middle c.args.right c.requires.pair c.write.new.nodes c.remove.new.self written removed few) (united_agree c.args.nodes.now c.args.low c.args.left c.args.middle c.args.right c.requires.pair c.write.new.nodes c.remove.new.self written removed few) c.gap_at.ensures.leaf c.gap_at.ensures.turn c.gap_at.ensures.inside c.requires.seat in
     let alone = seat_alone c.remove.new.self c.args.low c.args.left c.gap_at.result None gap.0 in
     alone.0
@@ -51,7 +51,7 @@ returns-then-many-clause-place c =
     let children : c.first_part.result.children.items ≡ (children_of (get c.args.nodes.now c.args.left) ++ children_of (get c.args.nodes.now c.args.right)) = c.first_part.ensures.children ∙ ap (take (c.len-many.result + 1)) c.joined-wide.ensures.children ∙ take_all (c.len-many.result + 1) (children_of (get c.args.nodes.now c.args.left) ++ children_of (get c.args.nodes.now c.args.right)) (omega (arith, many, child_count_most c.args.low _ _ (pair_content c.args.nodes.now c.args.low c.args.left c.args.middle c.args.right c.requires.pair).branches)) in
     let written = rw (items, children) at c.write.ensures in
     let removed = pair_removes c.args.nodes.now c.args.low c.args.left c.args.middle c.args.right c.requires.pair c.write.new.nodes c.remove.new.self _ _ written c.remove.ensures.updates c.remove.ensures.len c.remove.ensures.capacity in
-    let few : length (items_of (get c.args.nodes.now c.args.left) ++ c.args.middle ∷ items_of (get c.args.nodes.now c.args.right)) ≤ LEAST + LEAST = omega (arith, many, c.if-many.true) in
+    let few : length (items_of (get c.args.nodes.now c.args.left) ++ c.args.middle ∷ items_of (get c.args.nodes.now c.args.right)) ≤ MIN_LEN + MIN_LEN = omega (arith, many, c.if-many.true) in
     let gap = seat_written c.args.nodes.now c.remove.new.self c.args.left (items_of (get c.args.nodes.now c.args.left) ++ c.args.middle ∷ items_of (get c.args.nodes.now c.args.right)) (children_of (get c.args.nodes.now c.args.left) ++ children_of (get c.args.nodes.now c.args.right)) c.args.seat c.args.inner c.gap_at.result c.args.low (united_holds c.args.nodes.now c.args.low c.args.left c.args.middle c.args.right c.requires.pair c.write.new.nodes c.remove.new.self written removed few) (united_agree c.args.nodes.now c.args.low c.args.left c.args.middle c.args.right c.requires.pair c.write.new.nodes c.remove.new.self written removed few) c.gap_at.ensures.leaf c.gap_at.ensures.turn c.gap_at.ensures.inside c.requires.seat in
     let alone = seat_alone c.remove.new.self c.args.low c.args.left c.gap_at.result None gap.0 in
     alone.1 ∙ gap.1

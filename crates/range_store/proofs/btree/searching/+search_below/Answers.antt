@@ -1,7 +1,7 @@
 use Rattle.std.proofs.Common.{◌≡◌, ◌-◌, ◌≤◌, length, map, refl, sym, ap, ◌∙◌, arith, count_by}
 use Rattle.std.proofs.lemmas.List.Sums.{count_by-le-length}
 use Rattle.slab.specs.Slab.{get}
-use Rattle.range_store.specs.declared.btree.node.TheConstants.{MOST}
+use Rattle.range_store.specs.declared.btree.node.TheConstants.{CAPACITY}
 use Rattle.range_store.specs.Falling.{passes}
 use Rattle.range_store.specs.Nodes.{items_of, children_of, numbers, before}
 use Rattle.range_store.specs.Gaps.{place}
@@ -14,12 +14,12 @@ use Rattle.range_store.proofs.btree.searching.+search_below.Goals as goal
 pub halve-index-requires-clause-stored : goal.halve-index-requires-clause-stored
 halve-index-requires-clause-stored g t c =
     let items = c.as_slice-list.ensures.value ∙ sym (items_known c.args.nodes.now c.args.number c.index.result.now c.index.ensures) in
-    rw items (node_stored c.args.items.now (passes c.args.items.now (g.P.Probe.test c.args.probe.now)) 1 MOST c.args.nodes.now c.args.below c.args.number c.requires.shaped c.requires.stored)
+    rw items (node_stored c.args.items.now (passes c.args.items.now (g.P.Probe.test c.args.probe.now)) 1 CAPACITY c.args.nodes.now c.args.below c.args.number c.requires.shaped c.requires.stored)
 
 pub halve-index-requires-clause-falls : goal.halve-index-requires-clause-falls
 halve-index-requires-clause-falls g t c =
     let items = c.as_slice-list.ensures.value ∙ sym (items_known c.args.nodes.now c.args.number c.index.result.now c.index.ensures) in
-    rw items (node_falls c.args.items.now (passes c.args.items.now (g.P.Probe.test c.args.probe.now)) 1 MOST c.args.nodes.now c.args.below c.args.number c.requires.shaped c.requires.falls)
+    rw items (node_falls c.args.items.now (passes c.args.items.now (g.P.Probe.test c.args.probe.now)) 1 CAPACITY c.args.nodes.now c.args.below c.args.number c.requires.shaped c.requires.falls)
 
 pub returns-then-below-eq0-clause-gap : goal.returns-then-below-eq0-clause-gap
 returns-then-below-eq0-clause-gap g t c =
@@ -53,8 +53,8 @@ search_below-passed-requires g t c κs within =
     let low : c.halve-index.result ≤ length (items_of (get c.args.nodes.now c.args.number)) = omega (arith, count, count_by-le-length (passes c.args.items.now (g.P.Probe.test c.args.probe.now)) (items_of (get c.args.nodes.now c.args.number))) in
     let back = level c.args.nodes.now c.args.below c.args.number c.if-below-eq0.false c.requires.shaped in
     let kid = below_kid c.args.nodes.now c.args.below c.args.number c.if-below-eq0.false c.requires.shaped c.halve-index.result low in
-    let stored = kid_stored c.args.items.now (passes c.args.items.now (g.P.Probe.test c.args.probe.now)) 1 MOST c.args.nodes.now c.args.below c.args.number c.requires.shaped (omega (arith, c.if-below-eq0.false)) c.halve-index.result low c.requires.stored in
-    let falls = kid_falls c.args.items.now (passes c.args.items.now (g.P.Probe.test c.args.probe.now)) 1 MOST c.args.nodes.now c.args.below c.args.number c.requires.shaped (omega (arith, c.if-below-eq0.false)) c.halve-index.result low c.requires.falls in
+    let stored = kid_stored c.args.items.now (passes c.args.items.now (g.P.Probe.test c.args.probe.now)) 1 CAPACITY c.args.nodes.now c.args.below c.args.number c.requires.shaped (omega (arith, c.if-below-eq0.false)) c.halve-index.result low c.requires.stored in
+    let falls = kid_falls c.args.items.now (passes c.args.items.now (g.P.Probe.test c.args.probe.now)) 1 CAPACITY c.args.nodes.now c.args.below c.args.number c.requires.shaped (omega (arith, c.if-below-eq0.false)) c.halve-index.result low c.requires.falls in
     (omega (arith, c.if-below-eq0.false), (within.0, (within.1, rw (c.child_at-child.ensures, c.halve-index.ensures.kept) (kid, (omega (arith, c.requires.deep), (rw (← back) at stored, rw (← back) at falls))))))
 
 pub seen_above-requires-clause-way : goal.seen_above-requires-clause-way
@@ -76,7 +76,7 @@ returns-then-is_some-clause-count g t c =
     let low : c.halve-index.result ≤ length (items_of (get c.args.nodes.now c.args.number)) = omega (arith, count, count_by-le-length (passes c.args.items.now (g.P.Probe.test c.args.probe.now)) (items_of (get c.args.nodes.now c.args.number))) in
     let at = below_place c.args.nodes.now c.args.below c.args.number c.if-below-eq0.false c.requires.shaped c.halve-index.result c.search_below-passed.result.gap _ c.seen_above.ensures.turn c.seen_above.ensures.inside in
     let inner = rw (level c.args.nodes.now c.args.below c.args.number c.if-below-eq0.false c.requires.shaped) at (rw (c.child_at-child.ensures, c.halve-index.ensures.kept) at c.search_below-passed.ensures.count) in
-    let step = rw (← count) at (search_step c.args.items.now (passes c.args.items.now (g.P.Probe.test c.args.probe.now)) 1 MOST c.args.nodes.now c.args.below c.args.number c.requires.shaped (omega (arith, c.if-below-eq0.false)) c.requires.falls) in
+    let step = rw (← count) at (search_step c.args.items.now (passes c.args.items.now (g.P.Probe.test c.args.probe.now)) 1 CAPACITY c.args.nodes.now c.args.below c.args.number c.requires.shaped (omega (arith, c.if-below-eq0.false)) c.requires.falls) in
     omega (arith, at, inner, step)
 
 pub returns-else-is_some-clause-gap : goal.returns-else-is_some-clause-gap
@@ -94,7 +94,7 @@ returns-else-is_some-clause-count g t c =
     let low : c.halve-index.result ≤ length (items_of (get c.args.nodes.now c.args.number)) = omega (arith, count, count_by-le-length (passes c.args.items.now (g.P.Probe.test c.args.probe.now)) (items_of (get c.args.nodes.now c.args.number))) in
     let at = below_place c.args.nodes.now c.args.below c.args.number c.if-below-eq0.false c.requires.shaped c.halve-index.result c.search_below-passed.result.gap _ c.seen_above.ensures.turn c.seen_above.ensures.inside in
     let inner = rw (level c.args.nodes.now c.args.below c.args.number c.if-below-eq0.false c.requires.shaped) at (rw (c.child_at-child.ensures, c.halve-index.ensures.kept) at c.search_below-passed.ensures.count) in
-    let step = rw (← count) at (search_step c.args.items.now (passes c.args.items.now (g.P.Probe.test c.args.probe.now)) 1 MOST c.args.nodes.now c.args.below c.args.number c.requires.shaped (omega (arith, c.if-below-eq0.false)) c.requires.falls) in
+    let step = rw (← count) at (search_step c.args.items.now (passes c.args.items.now (g.P.Probe.test c.args.probe.now)) 1 CAPACITY c.args.nodes.now c.args.below c.args.number c.requires.shaped (omega (arith, c.if-below-eq0.false)) c.requires.falls) in
     omega (arith, at, inner, step)
 
 pub returns-then-is_some-clause-last : goal.returns-then-is_some-clause-last

@@ -5,7 +5,7 @@ use Rattle.std.proofs.lemmas.List.Edits.{length-insert}
 use Rattle.range_store.specs.Nodes.{numbers, IsTree}
 use Rattle.range_store.specs.Gaps.{IsGap, place, seat_place}
 use Rattle.range_store.specs.Trees.{tree_numbers, IsTreeGap, tree_place, gap_or_end}
-use Rattle.range_store.specs.declared.btree.node.TheConstants.{MOST}
+use Rattle.range_store.specs.declared.btree.node.TheConstants.{CAPACITY}
 use Rattle.range_store.specs.declared.btree.number_tree.NumberTree.{NumberTree}
 use Rattle.range_store.specs.declared.btree.way.Gap.{Gap}
 use Rattle.range_store.proofs.Gaps.{leaf_gap, leaf_place, place_within, way_small}
@@ -84,18 +84,18 @@ put-requires-clause-children c =
 
 pub overflow_add-result : goal.overflow_add-result
 overflow_add-result c =
-    omega (arith, (tree_leaf c.args.self.now c.in-Some.gap (given_gap c.args.self.now c.args.gap c.in-Some.gap c.requires.gap c.in-Some.is).0).within, c.if-item_count-lt-MOST.true, c.item_count.ensures)
+    omega (arith, (tree_leaf c.args.self.now c.in-Some.gap (given_gap c.args.self.now c.args.gap c.in-Some.gap c.requires.gap c.in-Some.is).0).within, c.if-item_count-lt-CAPACITY.true, c.item_count.ensures)
 
 put_here : (c : After-put) → IsLeafChange c.args.self.now c.put.new.nodes c.in-Some.gap (given_gap c.args.self.now c.args.gap c.in-Some.gap c.requires.gap c.in-Some.is).0 (insert (tree_numbers c.args.self.now) (tree_place c.args.self.now c.in-Some.gap) c.args.number) (record { leaf = c.in-Some.gap.leaf; way = c.in-Some.gap.way; index = c.in-Some.gap.index + 1 }) (c.in-Some.gap.index + 1)
 put_here c =
-    put_in_leaf c.args.self.now c.put.new.nodes c.in-Some.gap (given_gap c.args.self.now c.args.gap c.in-Some.gap c.requires.gap c.in-Some.is).0 c.args.number _ (omega (arith, c.if-item_count-lt-MOST.true, c.item_count.ensures)) c.put.ensures refl refl refl
+    put_in_leaf c.args.self.now c.put.new.nodes c.in-Some.gap (given_gap c.args.self.now c.args.gap c.in-Some.gap c.requires.gap c.in-Some.is).0 c.args.number _ (omega (arith, c.if-item_count-lt-CAPACITY.true, c.item_count.ensures)) c.put.ensures refl refl refl
 
 one_longer : (t : NumberTree) (g : Gap) (item : ℕ) → IsTreeGap t g → length (insert (tree_numbers t) (tree_place t g) item) ≡ length (tree_numbers t) + 1
 one_longer t g item is = length-insert (tree_numbers t) (tree_place t g) item (gap_within t g is)
 
-pub invariant_of-self-then-item_count-lt-MOST : goal.invariant_of-self-then-item_count-lt-MOST
-invariant_of-self-then-item_count-lt-MOST c =
-    let a = (goal.at.invariant_of-self-then-item_count-lt-MOST c).After-put in
+pub invariant_of-self-then-item_count-lt-CAPACITY : goal.invariant_of-self-then-item_count-lt-CAPACITY
+invariant_of-self-then-item_count-lt-CAPACITY c =
+    let a = (goal.at.invariant_of-self-then-item_count-lt-CAPACITY c).After-put in
     let more = one_longer c.args.self.now c.in-Some.gap c.args.number (given_gap c.args.self.now c.args.gap c.in-Some.gap c.requires.gap c.in-Some.is).0 in
     record {
       whole = record {
@@ -105,25 +105,25 @@ invariant_of-self-then-item_count-lt-MOST c =
       };
     }
 
-pub returns-then-item_count-lt-MOST-clause-numbers : goal.returns-then-item_count-lt-MOST-clause-numbers
-returns-then-item_count-lt-MOST-clause-numbers c =
-    let a = (goal.at.returns-then-item_count-lt-MOST-clause-numbers c).After-put in
+pub returns-then-item_count-lt-CAPACITY-clause-numbers : goal.returns-then-item_count-lt-CAPACITY-clause-numbers
+returns-then-item_count-lt-CAPACITY-clause-numbers c =
+    let a = (goal.at.returns-then-item_count-lt-CAPACITY-clause-numbers c).After-put in
     (put_here a).numbers_are ∙ ap (λ m. insert (tree_numbers c.args.self.now) m c.args.number) (given_gap c.args.self.now c.args.gap c.in-Some.gap c.requires.gap c.in-Some.is).1
 
-pub returns-then-item_count-lt-MOST-clause-room : goal.returns-then-item_count-lt-MOST-clause-room
-returns-then-item_count-lt-MOST-clause-room c =
-    let a = (goal.at.returns-then-item_count-lt-MOST-clause-room c).After-put in
+pub returns-then-item_count-lt-CAPACITY-clause-room : goal.returns-then-item_count-lt-CAPACITY-clause-room
+returns-then-item_count-lt-CAPACITY-clause-room c =
+    let a = (goal.at.returns-then-item_count-lt-CAPACITY-clause-room c).After-put in
     let more = one_longer c.args.self.now c.in-Some.gap c.args.number (given_gap c.args.self.now c.args.gap c.in-Some.gap c.requires.gap c.in-Some.is).0 in
     omega (arith, ap length (put_here a).numbers_are, more, c.requires.room, (put_here a).capacity)
 
-pub returns-then-item_count-lt-MOST-clause-gap : goal.returns-then-item_count-lt-MOST-clause-gap
-returns-then-item_count-lt-MOST-clause-gap c =
-    let a = (goal.at.returns-then-item_count-lt-MOST-clause-gap c).After-put in
+pub returns-then-item_count-lt-CAPACITY-clause-gap : goal.returns-then-item_count-lt-CAPACITY-clause-gap
+returns-then-item_count-lt-CAPACITY-clause-gap c =
+    let a = (goal.at.returns-then-item_count-lt-CAPACITY-clause-gap c).After-put in
     record { some = (given_gap c.args.self.now c.args.gap c.in-Some.gap c.requires.gap c.in-Some.is).0.some; gap = (put_here a).gap }
 
-pub returns-then-item_count-lt-MOST-clause-place : goal.returns-then-item_count-lt-MOST-clause-place
-returns-then-item_count-lt-MOST-clause-place c =
-    let a = (goal.at.returns-then-item_count-lt-MOST-clause-place c).After-put in
+pub returns-then-item_count-lt-CAPACITY-clause-place : goal.returns-then-item_count-lt-CAPACITY-clause-place
+returns-then-item_count-lt-CAPACITY-clause-place c =
+    let a = (goal.at.returns-then-item_count-lt-CAPACITY-clause-place c).After-put in
     omega (arith, (put_here a).place_is, (given_gap c.args.self.now c.args.gap c.in-Some.gap c.requires.gap c.in-Some.is).1)
 
 -- of a tree that has a gap
@@ -134,7 +134,7 @@ longer : (c : After-insert_below-inserted) → length (insert (numbers c.args.se
 longer c =
     let some = (given c).0.some in
     let level : suc (c.args.self.now.levels - 1) ≡ c.args.self.now.levels = omega (arith, some) in
-    let within = place_within c.args.self.now.nodes (c.args.self.now.levels - 1) c.args.self.now.root c.in-Some.gap 1 MOST (root_shaped c.args.self.now.nodes c.args.self.now.levels c.args.self.now.root some c.args.self.now.whole.tree) (given c).0.gap in
+    let within = place_within c.args.self.now.nodes (c.args.self.now.levels - 1) c.args.self.now.root c.in-Some.gap 1 CAPACITY (root_shaped c.args.self.now.nodes c.args.self.now.levels c.args.self.now.root some c.args.self.now.whole.tree) (given c).0.gap in
     length-insert (numbers c.args.self.now.nodes (suc (c.args.self.now.levels - 1)) c.args.self.now.root) (place c.args.self.now.nodes (c.args.self.now.levels - 1) c.args.self.now.root c.in-Some.gap) c.args.number within
     ∙ ap (λ m. length (numbers c.args.self.now.nodes m c.args.self.now.root) + 1) level
 

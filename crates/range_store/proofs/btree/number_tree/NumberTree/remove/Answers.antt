@@ -6,7 +6,7 @@ use Rattle.range_store.specs.Gaps.{IsGap, place}
 use Rattle.slab.specs.Slab.{get}
 use Rattle.range_store.specs.Nodes.{numbers, items_of, IsTree}
 use Rattle.range_store.specs.Trees.{tree_numbers, tree_place}
-use Rattle.range_store.specs.declared.btree.node.TheConstants.{MOST}
+use Rattle.range_store.specs.declared.btree.node.TheConstants.{CAPACITY}
 use Rattle.range_store.proofs.InLeaf.{leaf_of_gap, leaf_beside, leaf_item, moved_down, next_here}
 use Rattle.range_store.proofs.Rank.{root_shaped}
 use Rattle.range_store.proofs.Settling.{rewritten_tree}
@@ -45,7 +45,7 @@ successor c =
     let full = leaf_of_gap c.args.self.now.nodes (c.args.self.now.levels - 1) c.args.self.now.root c.args.gap shaped c.requires.gap.gap in
     let first : c.args.gap.index ≡ 0 = omega (arith, c.if-gap-gt0.false) in
     let level : suc (c.args.self.now.levels - 1) ≡ c.args.self.now.levels = omega (arith, c.requires.gap.some) in
-    let item = leaf_item c.args.self.now.nodes (c.args.self.now.levels - 1) c.args.self.now.root c.args.gap 1 MOST shaped (omega (arith, first, full.some)) c.requires.gap.gap in
+    let item = leaf_item c.args.self.now.nodes (c.args.self.now.levels - 1) c.args.self.now.root c.args.gap 1 CAPACITY shaped (omega (arith, first, full.some)) c.requires.gap.gap in
     (c.item_at-number.ensures ∙ sym ((rw level at item.0) ∙ ap (λ m. get_or (items_of (get c.args.self.now.nodes c.args.gap.leaf)) m 0) first), rw level at item.1)
 
 wrote : {A : Type 0} (b : Bool) (p : ℕ) → (b ≡ false → (p ≡ 0) × A) → 0 < p → b ≡ true

@@ -20,7 +20,7 @@ take_item-requires-clause-within c =
 
 taken : (c : After-take_item) → IsLeafChange c.args.self.now c.take_item.new.nodes c.args.gap c.requires.gap (remove (tree_numbers c.args.self.now) (tree_place c.args.self.now c.args.gap - 1)) (record { leaf = c.args.gap.leaf; way = c.args.gap.way; index = c.args.gap.index - 1 }) (c.args.gap.index - 1)
 taken c =
-    take_from_leaf c.args.self.now c.take_item.new.nodes c.args.gap c.requires.gap _ (omega (arith, c.if-item_count-gt-LEAST.true, c.item_count.ensures)) c.requires.in_leaf c.take_item.ensures refl refl refl
+    take_from_leaf c.args.self.now c.take_item.new.nodes c.args.gap c.requires.gap _ (omega (arith, c.if-item_count-gt-MIN_LEN.true, c.item_count.ensures)) c.requires.in_leaf c.take_item.ensures refl refl refl
 
 pub invariant_of-self : goal.invariant_of-self
 invariant_of-self c =
@@ -34,14 +34,14 @@ invariant_of-self c =
       };
     }
 
-pub returns-then-item_count-gt-LEAST-clause-numbers : goal.returns-then-item_count-gt-LEAST-clause-numbers
-returns-then-item_count-gt-LEAST-clause-numbers c =
-    let a = (goal.at.returns-then-item_count-gt-LEAST-clause-numbers c).After-take_item in
+pub returns-then-item_count-gt-MIN_LEN-clause-numbers : goal.returns-then-item_count-gt-MIN_LEN-clause-numbers
+returns-then-item_count-gt-MIN_LEN-clause-numbers c =
+    let a = (goal.at.returns-then-item_count-gt-MIN_LEN-clause-numbers c).After-take_item in
     (taken a).numbers_are
 
-pub returns-then-item_count-gt-LEAST-clause-gap : goal.returns-then-item_count-gt-LEAST-clause-gap
-returns-then-item_count-gt-LEAST-clause-gap c =
-    let a = (goal.at.returns-then-item_count-gt-LEAST-clause-gap c).After-take_item in
+pub returns-then-item_count-gt-MIN_LEN-clause-gap : goal.returns-then-item_count-gt-MIN_LEN-clause-gap
+returns-then-item_count-gt-MIN_LEN-clause-gap c =
+    let a = (goal.at.returns-then-item_count-gt-MIN_LEN-clause-gap c).After-take_item in
     (record { some = c.requires.gap.some; gap = (taken a).gap }, omega (arith, (taken a).place_is, c.requires.in_leaf))
 
 pub remove_below-left-requires-clause-deep : goal.remove_below-left-requires-clause-deep
