@@ -16,7 +16,7 @@ fn take(rt: &impl Abort, tree: &mut Tree, first: u64, end: u64) -> Result<(), Al
 }
 
 fn rises(rt: &impl Abort, tree: &mut Tree) -> Result<(), AllocError> {
-    for (first, end, levels) in [(0, 7, 1), (7, 8, 2), (8, 64, 3)] {
+    for (first, end, levels) in [(0, 11, 1), (11, 12, 2), (12, 144, 3)] {
         append(tree, first, end)?;
         expect_levels(rt, tree, end, levels);
     }
@@ -24,9 +24,9 @@ fn rises(rt: &impl Abort, tree: &mut Tree) -> Result<(), AllocError> {
 }
 
 fn falls(rt: &impl Abort, tree: &mut Tree) -> Result<(), AllocError> {
-    for (first, end, levels) in [(0, 34, 2), (34, 57, 2), (57, 64, 0)] {
+    for (first, end, levels) in [(0, 74, 2), (74, 133, 2), (133, 144, 0)] {
         take(rt, tree, first, end)?;
-        expect_levels(rt, tree, 64 - end, levels);
+        expect_levels(rt, tree, 144 - end, levels);
     }
     Ok(())
 }
@@ -180,7 +180,7 @@ fn expect_same_copy(rt: &impl Abort, both: &Both) {
 }
 
 fn grows_again(rt: &impl Abort, both: &mut Both) -> Result<(), AllocError> {
-    for (first, end, levels) in [(0, 6, 1), (6, 40, 2), (40, 120, 3)] {
+    for (first, end, levels) in [(0, 9, 1), (9, 60, 2), (60, 200, 3)] {
         for item in first..end {
             let rank = scattered(item, len(both));
             put_again(rt, both, Call::Put(rank, item))?;

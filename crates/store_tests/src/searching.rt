@@ -39,7 +39,7 @@ fn found(tree: &Tree, answer: bool) -> (Option<u64>, u64) {
 }
 
 fn expect_asked(rt: &impl Abort, asked: u64, levels: u64) {
-    let few = levels <= asked && asked <= levels.saturating_mul(3);
+    let few = levels <= asked && asked <= levels.saturating_mul(4);
     assert!(rt; few, "{asked} at {levels} levels");
 }
 
@@ -50,7 +50,7 @@ fn expect_found(rt: &impl Abort, tree: &Tree, levels: u64, answer: bool, item: O
 }
 
 fn grows(rt: &impl Abort, tree: &mut Tree) -> Result<(), AllocError> {
-    for (first, end, levels) in [(0, 7, 1), (7, 8, 2), (8, 64, 3)] {
+    for (first, end, levels) in [(0, 11, 1), (11, 12, 2), (12, 144, 3)] {
         append(tree, first, end)?;
         expect_found(rt, tree, levels, true, Some(end - 1));
         expect_found(rt, tree, levels, false, None);
