@@ -114,10 +114,10 @@ fn intersects<C: Storage<NumberItem>>(
 }
 
 fn looks_up<C: Storage<NumberItem>>(map: &RangeMap<i32, i64, C>, least: u64, most: u64) -> bool {
-    for key in -1..130 {
+    for key in -1..290 {
         let looked = gets(map, key, least, most)
             && contains(map, key, least, most)
-            && intersects(map, closed(key, 130), least, most)
+            && intersects(map, closed(key, 290), least, most)
             && intersects(map, closed(key, -2), 0, 0);
         if !looked {
             return false;
@@ -175,24 +175,24 @@ fn look_ups_take_few_steps(rt: HostRuntime) -> Result<(), Fail> {
     let steps = [
         Step::Levels(0),
         Step::LookUps(0, 0),
-        Step::InsertSingles(0, 7),
+        Step::InsertSingles(0, 11),
         Step::Levels(1),
-        Step::LookUps(1, 4),
-        Step::InsertSingles(7, 8),
+        Step::LookUps(1, 5),
+        Step::InsertSingles(11, 12),
         Step::Levels(2),
-        Step::LookUps(2, 7),
-        Step::InsertSingles(8, 64),
+        Step::LookUps(2, 9),
+        Step::InsertSingles(12, 144),
         Step::Levels(3),
-        Step::LookUps(3, 10),
-        Step::RemoveSingles(0, 34),
-        Step::Count(30),
+        Step::LookUps(3, 13),
+        Step::RemoveSingles(0, 74),
+        Step::Count(70),
         Step::Levels(2),
-        Step::LookUps(2, 7),
-        Step::RemoveSingles(34, 57),
-        Step::Count(7),
+        Step::LookUps(2, 9),
+        Step::RemoveSingles(74, 133),
+        Step::Count(11),
         Step::Levels(2),
-        Step::LookUps(2, 7),
-        Step::RemoveSingles(57, 64),
+        Step::LookUps(2, 9),
+        Step::RemoveSingles(133, 144),
         Step::Levels(0),
         Step::LookUps(0, 0),
     ];
@@ -204,16 +204,16 @@ fn look_ups_take_few_steps(rt: HostRuntime) -> Result<(), Fail> {
 fn changes_take_few_steps(rt: HostRuntime) -> Result<(), Fail> {
     let steps = [
         Step::InsertSingles(0, 64),
-        Step::Insert(closed(0, 126), 1, 154),
+        Step::Insert(closed(0, 126), 1, 152),
         Step::Count(1),
-        Step::Insert(half_open(5, 6), 0, 12),
+        Step::Insert(half_open(5, 6), 0, 14),
         Step::Count(3),
-        Step::Remove(half_open(5, 6), 18),
+        Step::Remove(half_open(5, 6), 20),
         Step::Count(2),
         Step::Insert(half_open(8, 3), 9, 0),
         Step::Remove(half_open(8, 3), 0),
         Step::Count(2),
-        Step::Insert(closed(-9, 999), 1, 18),
+        Step::Insert(closed(-9, 999), 1, 20),
         Step::Count(1),
     ];
     assert_eq!(rt; first_wrong_in_tree(rt.alloc(), &steps)?, None);

@@ -81,7 +81,7 @@ fn adds_zero<R: Abort>(rt: &R, alloc: Global, map: &mut Transitions) -> Result<(
     bind_digits(alloc, map)?;
     assert_eq!(rt; sizes(map).0, 9);
     assert!(rt; add_zero(alloc, map).is_ok());
-    assert_eq!(rt; sizes(map), (10, 2));
+    assert_eq!(rt; sizes(map), (10, 1));
     assert!(rt; is_bound_to(map, '0', set_of(alloc, &[0])?));
     assert_eq!(rt; first_other(alloc, map)?, None);
     assert!(rt; map.get('/').is_none() && map.get(':').is_none());

@@ -136,7 +136,7 @@ impl<K: PartialEnum, V: Eq + Drop, C: Storage<Item<AnyRange<K>, V>>> RangeMap<K,
     /// // of a map that binds 0..=5 to 1, but not 4
     /// let mut steps = Steps::new();
     /// assert!(rt; map.get_counted(4, &mut steps).is_none());
-    /// assert!(rt; steps.count() <= 4); // at most 3 a level, and one
+    /// assert!(rt; steps.count() <= 5); // at most 4 a level, and one
     /// ```
     pub fn get_counted(&self, key: K, steps: &mut Steps) -> Option<&V>
         ensures value { Binds K.order V.eq (C.items self.now) key (option_copied result) }

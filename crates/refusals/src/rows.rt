@@ -85,7 +85,7 @@ pub static CALLS: &[(&str, Call)] = &[
 ];
 
 /// How many ranges are stored: such trees have one, two and three levels.
-pub const SIZES: [u16; 3] = [4, 16, 64];
+pub const SIZES: [u16; 3] = [4, 16, 144];
 
 fn over_vector(alloc: Global, call: Call, size: Size) -> Outcome {
     match call {

@@ -34,7 +34,7 @@ fn looked_up_counted<R: Abort>(rt: &R, map: &RangeMap<i32, i64>) {
     // of a map that binds 0..=5 to 1, but not 4
     let mut steps = Steps::new();
     assert!(rt; map.get_counted(4, &mut steps).is_none());
-    assert!(rt; steps.count() <= 4); // at most 3 a level, and one
+    assert!(rt; steps.count() <= 5); // at most 4 a level, and one
     assert!(rt; map.contains_key_counted(5, &mut steps));
     assert!(rt; map.intersects_counted(5..9, &mut steps));
 }

@@ -134,8 +134,8 @@ const CONVERSATIONS: &[(&str, &str, &str)] = &[
     ),
     (
         "u8",
-        "insert ... 1\nlevels\nremove 1..2\nremove 3..4\nremove 5..6\nremove 7..8\nremove 9..10\nremove 11..12\nlevels\nremove 13..14\ncount\nlevels\nremove ...\nlevels\nlevels 1\nlevel\n",
-        "ok\n1\nok\nok\nok\nok\nok\nok\n1\nok\n8\n2\nok\n0\nbad line\nbad line\n",
+        "insert ... 1\nlevels\nremove 1..2\nremove 3..4\nremove 5..6\nremove 7..8\nremove 9..10\nremove 11..12\nlevels\nremove 13..14\ncount\nlevels\nremove 15..16\nremove 17..18\nremove 19..20\nlevels\nremove 21..22\nlevels\nremove ...\nlevels\nlevels 1\nlevel\n",
+        "ok\n1\nok\nok\nok\nok\nok\nok\n1\nok\n8\n1\nok\nok\nok\n1\nok\n2\nok\n0\nbad line\nbad line\n",
     ),
     (
         "i32",
