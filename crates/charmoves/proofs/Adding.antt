@@ -28,8 +28,8 @@ same_number a b = (λ e. grind (arith, nat_tests), λ e. grind (arith, nat_tests
 same_state : (a b : ℕ) → is_at (nat_cmp a) b ≡ true → b ≡ a
 same_state a b e = grind (arith, nat_tests)
 
-itself : (a : ℕ) → is_at (nat_cmp a) a ≡ true
-itself a = grind (arith, nat_tests)
+number_is_at_itself : (a : ℕ) → is_at (nat_cmp a) a ≡ true
+number_is_at_itself a = grind (arith, nat_tests)
 
 module _ (before after : Rules) (from : ℕ) (r : AnyRange ℕ) (to : ℕ) (n : Stored) (updates : (p : ℕ) → map.get nat_cmp after.transitions p ≡ cond (is_at (nat_cmp from) p) (Some n) (map.get nat_cmp before.transitions p)) where
   transitions_by : (p : ℕ) (b : Bool) → is_at (nat_cmp from) p ≡ b → transitions_of (map.get nat_cmp after.transitions p) ≡ cond b (box_items n) (transitions_of (map.get nat_cmp before.transitions p))
@@ -50,5 +50,5 @@ module _ (before after : Rules) (from : ℕ) (r : AnyRange ℕ) (to : ℕ) (n : 
       by false e =
           let now = transitions_by p false e in (
             λ h. inl (subst (λ w. HasPair character_order (contains nat_cmp) w c q) now h),
-            λ h. elim h [ inl old ↦ subst (λ w. HasPair character_order (contains nat_cmp) w c q) (sym now) old | inr new ↦ let at = itself from ∙ refl in let here = sym (ap (is_at (nat_cmp from)) new.0) in absurd cc ],
+            λ h. elim h [ inl old ↦ subst (λ w. HasPair character_order (contains nat_cmp) w c q) (sym now) old | inr new ↦ let at = number_is_at_itself from ∙ refl in let here = sym (ap (is_at (nat_cmp from)) new.0) in absurd cc ],
           )

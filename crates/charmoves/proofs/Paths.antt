@@ -64,9 +64,9 @@ module _ (rules : Rules) (text : List ℕ) (Whole : Type 0) where
       let was = subst (λ rest. AcceptsFrom rules states rest ↔ Whole) (drop_at text n c within at) so_far in
       subst (λ k. AcceptsFrom rules next (drop k text) ↔ Whole) (sym later) (λ h. was.0 (step.0 h), λ h. step.1 (was.1 h))
 
-  pub finished : (states : BTreeSet ℕ) (n : ℕ) (disjoint : Bool) → n ≡ length text → IsTrue disjoint ↔ IsDisjoint nat_cmp states rules.accepting
+  pub end_of_text_decides : (states : BTreeSet ℕ) (n : ℕ) (disjoint : Bool) → n ≡ length text → IsTrue disjoint ↔ IsDisjoint nat_cmp states rules.accepting
       → (AcceptsFrom rules states (drop n text) ↔ Whole) → IsTrue (not disjoint) ↔ Whole
-  finished states n disjoint whole told so_far =
+  end_of_text_decides states n disjoint whole told so_far =
       let was = subst (λ rest. AcceptsFrom rules states rest ↔ Whole) (ap (λ k. drop k text) whole ∙ drop_all text) so_far in
       let end = at_end rules states disjoint told in
       (λ h. was.0 (end.0 h), λ h. end.1 (was.1 h))

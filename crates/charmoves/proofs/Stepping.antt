@@ -30,21 +30,21 @@ none_of None never = refl
 none_of (Some x) never = absurd (never x refl)
 
 module _ (rules : Rules) (c : ℕ) (states : List ℕ) where
-  pub followed : (before after : BTreeSet ℕ) (targets : Option (BTreeSet ℕ)) (p : ℕ) (rest left : List ℕ) → left ≡ p ∷ rest
+  pub followed_rules_are_reached : (before after : BTreeSet ℕ) (targets : Option (BTreeSet ℕ)) (p : ℕ) (rest left : List ℕ) → left ≡ p ∷ rest
       → ((q : ℕ) → HasRule rules p c q ↔ IsTrue (among (contains nat_cmp) targets q))
       → ((q : ℕ) → contains nat_cmp after q ≡ (contains nat_cmp before q || among (contains nat_cmp) targets q))
       → AreReachedSoFar rules c states before left → AreReachedSoFar rules c states after rest
-  followed before after targets p rest left turn led grown so_far q =
+  followed_rules_are_reached before after targets p rest left turn led grown so_far q =
       let was = subst (λ ps. (IsTrue (contains nat_cmp before q) ⊎ ReachedFrom rules c q ps) ↔ ReachedFrom rules c q states) turn (so_far q) in
       let parts = or_true (contains nat_cmp before q) (among (contains nat_cmp) targets q) in (
         λ h. was.0 (elim h [ inl new ↦ elim (parts.0 (sym (grown q) ∙ new)) [ inl old ↦ inl old | inr by ↦ inr (inl ((led q).1 by)) ] | inr later ↦ inr (inr later) ]),
         λ h. elim (was.1 h) [ inl old ↦ inl (grown q ∙ parts.1 (inl old)) | inr rests ↦ elim rests [ inl by ↦ inl (grown q ∙ parts.1 (inr ((led q).0 by))) | inr later ↦ inr later ] ],
       )
 
-  pub passed : (reached : BTreeSet ℕ) (found : Option (BTreeSet ℕ)) (p : ℕ) (rest left : List ℕ) → left ≡ p ∷ rest
+  pub state_without_rule_is_passed : (reached : BTreeSet ℕ) (found : Option (BTreeSet ℕ)) (p : ℕ) (rest left : List ℕ) → left ≡ p ∷ rest
       → ((q : ℕ) → HasRule rules p c q ↔ IsTrue (among (contains nat_cmp) found q)) → found ≡ None
       → AreReachedSoFar rules c states reached left → AreReachedSoFar rules c states reached rest
-  passed reached found p rest left turn led none = followed reached reached found p rest left turn led (λ q. rw none (or_none (contains nat_cmp reached q)))
+  state_without_rule_is_passed reached found p rest left turn led none = followed_rules_are_reached reached reached found p rest left turn led (λ q. rw none (or_none (contains nat_cmp reached q)))
 
 pub is_member : (p q : ℕ) → IsTrue (eq_by_cmp nat_cmp p q) ↔ (p ≡ q)
 is_member p q = (λ e. grind (arith, nat_tests), λ e. grind (arith, nat_tests))

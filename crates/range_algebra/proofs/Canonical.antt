@@ -19,10 +19,10 @@ use Rattle.range_algebra.specs.RangeOrder.{range_cmp, range_total}
 use Rattle.range_algebra.proofs.Holding.{holds_by_position}
 use Rattle.range_algebra.proofs.Completeness.{nonempty_holds, told_none, none_is_not_some}
 
-near : (o : Ordering) → ordering_then o Less ≡ Less → is_gt (ordering_then o Equal) ≡ false
-near Less h = refl
-near Equal h = refl
-near Greater h = cc
+less_is_not_above : (o : Ordering) → ordering_then o Less ≡ Less → is_gt (ordering_then o Equal) ≡ false
+less_is_not_above Less h = refl
+less_is_not_above Equal h = refl
+less_is_not_above Greater h = cc
 
 module _ {K : Type 0} (order : KeyOrder K) (lawful : IsLawful order) (complete : IsComplete order) where
   unfoldable pub NotPast : Position K → Position K → Type 0
@@ -54,7 +54,7 @@ module _ {K : Type 0} (order : KeyOrder K) (lawful : IsLawful order) (complete :
   key_from (Beside a At) (Beside b At) s t h = (a, s, ap is_gt (tied_itself (position_total order.cmp lawful.total) (Beside a At)), h)
   key_from (Beside a After) (Beside b At) s t h = from_between a b (complete.next a b s.0 t ((less_unless_greater (order.cmp a b)).0 h)) s.1
   key_from MinusInfinity (Beside b At) s t h = from_under b (complete.below b t) s
-  key_from (Beside a At) (Beside b After) s t h = (b, t.0, near (order.cmp a b) h, just_at b)
+  key_from (Beside a At) (Beside b After) s t h = (b, t.0, less_is_not_above (order.cmp a b) h, just_at b)
   key_from (Beside a After) (Beside b After) s t h = (b, t.0, less_then_greater (order.cmp a b) (less_unless_equal (order.cmp a b) h), just_at b)
   key_from MinusInfinity (Beside b After) s t h = (b, t.0, refl, just_at b)
   key_from MinusInfinity MinusInfinity s t h = cc
@@ -68,15 +68,15 @@ module _ {K : Type 0} (order : KeyOrder K) (lawful : IsLawful order) (complete :
   KeyTo : Position K → Position K → Type 0
   KeyTo p q = (k : K) × order.is_key k × IsBefore p (Beside k At) × NotPast (Beside k At) q
 
-  clash : (a : K) (o p : Option K) → SameAnswer order o p → Tells order o a → p ≡ None → ⊥
-  clash a None p same told n = told
-  clash a (Some x) None same told n = same
-  clash a (Some x) (Some y) same told n = cc
+  told_neighbour_is_some : (a : K) (o p : Option K) → SameAnswer order o p → Tells order o a → p ≡ None → ⊥
+  told_neighbour_is_some a None p same told n = told
+  told_neighbour_is_some a (Some x) None same told n = same
+  told_neighbour_is_some a (Some x) (Some y) same told n = cc
 
   no_pred : (a b : K) (o : Option K) → order.succ a ≡ o → order.is_key b → Tells order o b → order.pred b ≡ None → ⊥
   no_pred a b None e key t n = t
   no_pred a b (Some c) e key t n =
-      clash a (order.pred c) (order.pred b) (lawful.pred_congr c b t) (lawful.succ_pred a c e) n
+      told_neighbour_is_some a (order.pred c) (order.pred b) (lawful.pred_congr c b t) (lawful.succ_pred a c e) n
 
   to_between : (a b : K) → order.is_key b → Tells order (order.succ a) b ⊎ ((c : K) × order.is_key c × Below order a c × Below order c b) → order.pred b ≡ None → KeyTo (Beside a At) (Beside b Before)
   unfolding KeyTo NotPast IsBefore
@@ -101,7 +101,7 @@ module _ {K : Type 0} (order : KeyOrder K) (lawful : IsLawful order) (complete :
   key_to (Beside a At) (Beside b At) s t h = (b, t, h, at_itself b)
   key_to (Beside a At) (Beside b Before) s t h = to_between a b t.0 (complete.next a b s t.0 ((less_unless_greater (order.cmp a b)).0 h)) t.1
   key_to (Beside a At) PlusInfinity s t h = to_past a (complete.above a s) t
-  key_to (Beside a Before) (Beside b At) s t h = (a, s.0, just_before a, near (order.cmp a b) h)
+  key_to (Beside a Before) (Beside b At) s t h = (a, s.0, just_before a, less_is_not_above (order.cmp a b) h)
   key_to (Beside a Before) (Beside b Before) s t h = (a, s.0, just_before a, less_then_greater (order.cmp a b) (less_unless_equal (order.cmp a b) h))
   key_to (Beside a Before) PlusInfinity s t h = (a, s.0, just_before a, refl)
   key_to PlusInfinity (Beside b x) s t h = cc
@@ -157,11 +157,11 @@ module _ {K : Type 0} (order : KeyOrder K) (lawful : IsLawful order) (complete :
         let back = (holds_by_position order lawful s found.0 found.1).0 ((same found.0 found.1).0 held) in
         not_both (end_position order s.end) (Beside found.0 At) found.2 back.1
 
-  neither : (p q : Position K) (o : Ordering) → position_cmp order.cmp p q ≡ o → (IsBefore p q → ⊥) → (IsBefore q p → ⊥) → position_cmp order.cmp p q ≡ Equal
+  neither_before_is_equal : (p q : Position K) (o : Ordering) → position_cmp order.cmp p q ≡ o → (IsBefore p q → ⊥) → (IsBefore q p → ⊥) → position_cmp order.cmp p q ≡ Equal
   unfolding IsBefore
-  neither p q Less e f g = absurd (f e)
-  neither p q Equal e f g = e
-  neither p q Greater e f g = absurd (g ((position_total order.cmp lawful.total).antisymm q p ∙ ap ordering_reverse e))
+  neither_before_is_equal p q Less e f g = absurd (f e)
+  neither_before_is_equal p q Equal e f g = e
+  neither_before_is_equal p q Greater e f g = absurd (g ((position_total order.cmp lawful.total).antisymm q p ∙ ap ordering_reverse e))
 
   -- nonempty ranges that hold the same keys are equal
   pub same_is_equal : (r s : AnyRange K) → IsKnownRange order r → IsKnownRange order s → (IsEmptyRange order r → ⊥) → (IsEmptyRange order s → ⊥) → HoldSame order r s → range_cmp order r s ≡ Equal
@@ -170,14 +170,14 @@ module _ {K : Type 0} (order : KeyOrder K) (lawful : IsLawful order) (complete :
       let full : NonEmpty r = not_greater (position_cmp order.cmp (start_position order r.start) (end_position order r.end)) full_r in
       let full' : NonEmpty s = not_greater (position_cmp order.cmp (start_position order s.start) (end_position order s.end)) full_s in
       let back : HoldSame order s r = λ k key. ((same k key).1, (same k key).0) in
-      let starts = neither (start_position order r.start) (start_position order s.start) (position_cmp order.cmp (start_position order r.start) (start_position order s.start)) refl (start_not_before r s known others full' same) (start_not_before s r others known full back) in
-      let ends = neither (end_position order r.end) (end_position order s.end) (position_cmp order.cmp (end_position order r.end) (end_position order s.end)) refl (end_not_before s r others known full back) (end_not_before r s known others full' same) in
+      let starts = neither_before_is_equal (start_position order r.start) (start_position order s.start) (position_cmp order.cmp (start_position order r.start) (start_position order s.start)) refl (start_not_before r s known others full' same) (start_not_before s r others known full back) in
+      let ends = neither_before_is_equal (end_position order r.end) (end_position order s.end) (position_cmp order.cmp (end_position order r.end) (end_position order s.end)) refl (end_not_before s r others known full back) (end_not_before r s known others full' same) in
       rw starts ends
 
 -- equal ranges hold the same keys
 module _ {K : Type 0} (order : KeyOrder K) (lawful : IsLawful order) where
-  carried : (r s : AnyRange K) → range_cmp order r s ≡ Equal → (k : K) → order.is_key k → Holds order r k → Holds order s k
-  carried r s e k key h =
+  equal_ranges_hold_alike : (r s : AnyRange K) → range_cmp order r s ≡ Equal → (k : K) → order.is_key k → Holds order r k → Holds order s k
+  equal_ranges_hold_alike r s e k key h =
       let both = both_equal (position_cmp order.cmp (start_position order r.start) (start_position order s.start)) (position_cmp order.cmp (end_position order r.end) (end_position order s.end)) e in
       let within = (holds_by_position order lawful r k key).0 h in
       let total = position_total order.cmp lawful.total in
@@ -186,4 +186,4 @@ module _ {K : Type 0} (order : KeyOrder K) (lawful : IsLawful order) where
       (holds_by_position order lawful s k key).1 (sym (ap is_gt starts) ∙ within.0, sym (ap is_gt ends) ∙ within.1)
 
   pub equal_is_same : (r s : AnyRange K) → range_cmp order r s ≡ Equal → HoldSame order r s
-  equal_is_same r s e k key = (carried r s e k key, carried s r (tied_back (range_total order lawful) r s e) k key)
+  equal_is_same r s e k key = (equal_ranges_hold_alike r s e k key, equal_ranges_hold_alike s r (tied_back (range_total order lawful) r s e) k key)

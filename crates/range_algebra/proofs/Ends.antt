@@ -49,16 +49,16 @@ module _ {K : Type 0} (order : KeyOrder K) (lawful : IsLawful order) where
   end_named Unbounded m e key = (rw e refl, lawful.greatest_key m e)
 
   module _ (r : AnyRange K) (known : IsKnownRange order r) (full : ¬ IsEmptyRange order r) where
-    reach : PLe (start_position order r.start) (end_position order r.end)
+    start_reaches_end : PLe (start_position order r.start) (end_position order r.end)
     unfolding PLe
-    reach = not_greater (position_cmp order.cmp (start_position order r.start) (end_position order r.end)) full
+    start_reaches_end = not_greater (position_cmp order.cmp (start_position order r.start) (end_position order r.end)) full
 
     least_at : (m k : K) → start_key order r.start ≡ Some m → order.cmp m k ≡ Equal → IsLeastOf order r k
     unfolding PLe
     least_at m k e same =
         let named = start_named r.start m e known.0 in
         let total = position_total order.cmp lawful.total in
-        let up : PLe (Beside m At) (end_position order r.end) = subst (λ p. PLe p (end_position order r.end)) named.0 reach in
+        let up : PLe (Beside m At) (end_position order r.end) = subst (λ p. PLe p (end_position order r.end)) named.0 start_reaches_end in
         let held = (holds_by_position order lawful r m named.1).1 (subst (λ p. PLe p (Beside m At)) (sym named.0) (le_refl (position_cmp order.cmp) total (Beside m At)), up) in (
           holds_congr r m k same held,
           λ j key h.
@@ -72,7 +72,7 @@ module _ {K : Type 0} (order : KeyOrder K) (lawful : IsLawful order) where
     greatest_at m k e same =
         let named = end_named r.end m e known.1 in
         let total = position_total order.cmp lawful.total in
-        let low : PLe (start_position order r.start) (Beside m At) = subst (λ p. PLe (start_position order r.start) p) named.0 reach in
+        let low : PLe (start_position order r.start) (Beside m At) = subst (λ p. PLe (start_position order r.start) p) named.0 start_reaches_end in
         let held = (holds_by_position order lawful r m named.1).1 (low, subst (λ p. PLe (Beside m At) p) (sym named.0) (le_refl (position_cmp order.cmp) total (Beside m At))) in (
           holds_congr r m k same held,
           λ j key h.

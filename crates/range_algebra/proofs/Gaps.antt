@@ -46,17 +46,17 @@ module _ {K : Type 0} (order : KeyOrder K) (lawful : IsLawful order) (len : K �
   apart_by a b p q (inr e) = let h = measured.len_congr a b p q e in omega arith
 
   -- what is taken off was there
-  covered : (a b : K) (s t : Side) → IsPlace (Beside a s) → IsPlace (Beside b t) → Le (position_cmp order.cmp) (Beside a s) (Beside b t) → NotAbove order a b × (passed a s ≤ distance a b + passed b t)
+  distance_covers_places : (a b : K) (s t : Side) → IsPlace (Beside a s) → IsPlace (Beside b t) → Le (position_cmp order.cmp) (Beside a s) (Beside b t) → NotAbove order a b × (passed a s ≤ distance a b + passed b t)
   unfolding IsPlace passed
-  covered a b Before t p q h = absurd p
-  covered a b At Before p q h = absurd q
-  covered a b After Before p q h = absurd q
-  covered a b At At p q h = (not_greater_unless_equal (order.cmp a b) h, omega arith)
-  covered a b At After p q h = (not_greater_less (order.cmp a b) h, omega arith)
-  covered a b After At p q h =
+  distance_covers_places a b Before t p q h = absurd p
+  distance_covers_places a b At Before p q h = absurd q
+  distance_covers_places a b After Before p q h = absurd q
+  distance_covers_places a b At At p q h = (not_greater_unless_equal (order.cmp a b) h, omega arith)
+  distance_covers_places a b At After p q h = (not_greater_less (order.cmp a b) h, omega arith)
+  distance_covers_places a b After At p q h =
       let l : Below order a b = (not_greater_unless_greater (order.cmp a b)).0 h in
       (ap is_gt l, let m = measured.at_least a b p q l in omega arith)
-  covered a b After After p q h =
+  distance_covers_places a b After After p q h =
       let l : NotAbove order a b = not_greater_unless_equal (order.cmp a b) h in
       (l, apart_by a b p q (less_or_equal (order.cmp a b) l))
 
@@ -66,11 +66,11 @@ module _ {K : Type 0} (order : KeyOrder K) (lawful : IsLawful order) (len : K �
   key_of a At p = p
   key_of a After p = p
 
-  small : (b : K) (t : Side) → passed b t ≤ len b
+  passed_is_within_key : (b : K) (t : Side) → passed b t ≤ len b
   unfolding passed
-  small b Before = omega arith
-  small b At = omega arith
-  small b After = omega arith
+  passed_is_within_key b Before = omega arith
+  passed_is_within_key b At = omega arith
+  passed_is_within_key b After = omega arith
 
   pub gap_adds : (p q r : Position K) → IsPlace p → IsPlace q → IsPlace r → Le (position_cmp order.cmp) p q → Le (position_cmp order.cmp) q r → gap p q + gap q r ≡ gap p r
   unfolding gap IsPlace
@@ -81,8 +81,8 @@ module _ {K : Type 0} (order : KeyOrder K) (lawful : IsLawful order) (len : K �
   gap_adds (Beside a s) (Beside b t) MinusInfinity i j k h l = absurd k
   gap_adds (Beside a s) (Beside b t) PlusInfinity i j k h l = absurd k
   gap_adds (Beside a s) (Beside b t) (Beside c u) i j k h l =
-      let first = covered a b s t i j h in
-      let second = covered b c t u j k l in
+      let first = distance_covers_places a b s t i j h in
+      let second = distance_covers_places b c t u j k l in
       let whole = measured.adds a b c (key_of a s i) (key_of b t j) (key_of c u k) first.0 second.0 in
       let x = first.1 in
       let y = second.1 in
@@ -95,6 +95,6 @@ module _ {K : Type 0} (order : KeyOrder K) (lawful : IsLawful order) (len : K �
   gap_fits (Beside a s) MinusInfinity i j h = absurd j
   gap_fits (Beside a s) PlusInfinity i j h = absurd j
   gap_fits (Beside a s) (Beside b t) i j h =
-      let x = measured.fits a b (key_of a s i) (key_of b t j) (covered a b s t i j h).0 in
-      let y = small b t in
+      let x = measured.fits a b (key_of a s i) (key_of b t j) (distance_covers_places a b s t i j h).0 in
+      let y = passed_is_within_key b t in
       omega arith

@@ -36,13 +36,13 @@ read_before true false C T U x y z w s e = cc
 read_before false B true T U x y z w s e = cc
 read_before false B false T U x y z w s e = cc
 
-reversed : (o : Ordering) → is_gt o ≡ true → ordering_reverse o ≡ Less
-reversed Less e = cc
-reversed Equal e = cc
-reversed Greater e = refl
+reversed_greater_is_less : (o : Ordering) → is_gt o ≡ true → ordering_reverse o ≡ Less
+reversed_greater_is_less Less e = cc
+reversed_greater_is_less Equal e = cc
+reversed_greater_is_less Greater e = refl
 
-turned : (o p : Ordering) → p ≡ ordering_reverse o → o ≡ Less → is_gt p ≡ true
-turned o p e f = rw (e, f) refl
+turned_less_is_greater : (o p : Ordering) → p ≡ ordering_reverse o → o ≡ Less → is_gt p ≡ true
+turned_less_is_greater o p e f = rw (e, f) refl
 
 stable_not : (b : Bool) → ((b ≡ false → ⊥) → ⊥) → b ≡ false
 stable_not true h = absurd (h (λ e. cc))
@@ -61,11 +61,11 @@ module _ {K : Type 0} (order : KeyOrder K) (lawful : IsLawful order) where
       (lt_of (position_cmp order.cmp (end_position order r.end) (start_position order s.start)) read.0, read.1)
 
   -- p <= q < r <= s
-  apart : (p q r s : Position K) → is_gt (position_cmp order.cmp p q) ≡ false → position_cmp order.cmp q r ≡ Less → is_gt (position_cmp order.cmp r s) ≡ false → is_gt (position_cmp order.cmp s p) ≡ false → ⊥
-  apart p q r s e f g h =
+  no_cycle_of_positions : (p q r s : Position K) → is_gt (position_cmp order.cmp p q) ≡ false → position_cmp order.cmp q r ≡ Less → is_gt (position_cmp order.cmp r s) ≡ false → is_gt (position_cmp order.cmp s p) ≡ false → ⊥
+  no_cycle_of_positions p q r s e f g h =
       let total = position_total order.cmp lawful.total in
       let back : is_gt (position_cmp order.cmp r q) ≡ false = upto total r s q g (upto total s p q h e) in
-      let over : is_gt (position_cmp order.cmp r q) ≡ true = turned (position_cmp order.cmp q r) (position_cmp order.cmp r q) (total.antisymm r q) f in
+      let over : is_gt (position_cmp order.cmp r q) ≡ true = turned_less_is_greater (position_cmp order.cmp q r) (position_cmp order.cmp r q) (total.antisymm r q) f in
       let clash : true ≡ false = sym over ∙ back in
       cc
 
@@ -86,7 +86,7 @@ module _ {K : Type 0} (order : KeyOrder K) (lawful : IsLawful order) where
   -- a range that ends before another starts lies below it
   pub ends_below : (r s : AnyRange K) → EndsBefore r s → AreBelow order r s
   ends_below r s e a b key key' h g =
-      not_above_below a b (λ over. apart (Beside a At) (end_position order r.end) (start_position order s.start) (Beside b At) ((holds_by_position order lawful r a key).0 h).1 e ((holds_by_position order lawful s b key').0 g).0 (at_places (order.cmp b a) over))
+      not_above_below a b (λ over. no_cycle_of_positions (Beside a At) (end_position order r.end) (start_position order s.start) (Beside b At) ((holds_by_position order lawful r a key).0 h).1 e ((holds_by_position order lawful s b key').0 g).0 (at_places (order.cmp b a) over))
 
   stable_start : (b : Bound K) (k : K) → ((StartHolds order b k → ⊥) → ⊥) → StartHolds order b k
   stable_start (Included a) k h = stable_not (is_gt (order.cmp a k)) h
@@ -178,20 +178,20 @@ module _ {K : Type 0} (order : KeyOrder K) (lawful : IsLawful order) (r s : AnyR
 
 module _ {K : Type 0} (order : KeyOrder K) (lawful : IsLawful order) (complete : IsComplete order) (r s : AnyRange K) (known : IsKnownRange order r) (others : IsKnownRange order s) (y z : K) (key : order.is_key y) (key' : order.is_key z) (here : Holds order r y) (there : Holds order s z) (below : AreBelow order r s) where
   -- a key of both, from a key that the start of the second and the end of the first hold
-  meeting : (k : K) → order.is_key k → StartHolds order s.start k → EndHolds order r.end k → (o : Ordering) → order.cmp y k ≡ o → ⊥
-  meeting k known' start end Greater e =
+  no_key_is_in_both : (k : K) → order.is_key k → StartHolds order s.start k → EndHolds order r.end k → (o : Ordering) → order.cmp y k ≡ o → ⊥
+  no_key_is_in_both k known' start end Greater e =
       let under : Below order k y = lawful.total.antisymm k y ∙ ap ordering_reverse e in
       let reach : Below order y z = below y z key key' here there in
       let held : Holds order s y = (start_up order lawful s.start k y (ap is_gt under) start, end_down order lawful s.end y z (ap is_gt reach) there.1) in
       lt_not_le order.cmp lawful.total y y (below y y key key here held) (le_refl order.cmp lawful.total y)
-  meeting k known' start end Less e = met k known' start end (ap is_gt e)
+  no_key_is_in_both k known' start end Less e = met k known' start end (ap is_gt e)
     where
       met : (k : K) → order.is_key k → StartHolds order s.start k → EndHolds order r.end k → NotAbove order y k → ⊥
       met k known' start end over =
           let held : Holds order r k = (start_up order lawful r.start y k over here.0, end) in
           let under : Below order k z = below k z known' key' held there in
           lt_not_le order.cmp lawful.total k k (below k k known' known' held (start, end_down order lawful s.end k z (ap is_gt under) there.1)) (le_refl order.cmp lawful.total k)
-  meeting k known' start end Equal e = met k known' start end (ap is_gt e)
+  no_key_is_in_both k known' start end Equal e = met k known' start end (ap is_gt e)
     where
       met : (k : K) → order.is_key k → StartHolds order s.start k → EndHolds order r.end k → NotAbove order y k → ⊥
       met k known' start end over =
@@ -199,11 +199,11 @@ module _ {K : Type 0} (order : KeyOrder K) (lawful : IsLawful order) (complete :
           let under : Below order k z = below k z known' key' held there in
           lt_not_le order.cmp lawful.total k k (below k k known' known' held (start, end_down order lawful s.end k z (ap is_gt under) there.1)) (le_refl order.cmp lawful.total k)
 
-  overlap : is_gt (position_cmp order.cmp (start_position order s.start) (end_position order r.end)) ≡ false → ⊥
-  overlap e =
+  start_is_after_end : is_gt (position_cmp order.cmp (start_position order s.start) (end_position order r.end)) ≡ false → ⊥
+  start_is_after_end e =
       let t : AnyRange K = record { start = s.start; end = r.end } in
       let found = nonempty_holds order lawful complete t (others.0, known.1) e in
-      meeting found.0 found.1 found.2.0 found.2.1 (order.cmp y found.0) refl
+      no_key_is_in_both found.0 found.1 found.2.0 found.2.1 (order.cmp y found.0) refl
 
   is_less : (p q : Position K) → (is_gt (position_cmp order.cmp q p) ≡ false → ⊥) → position_cmp order.cmp p q ≡ Less
   is_less p q h = flip (position_cmp order.cmp q p) (position_cmp order.cmp p q) ((position_total order.cmp lawful.total).antisymm p q) h
@@ -215,13 +215,13 @@ module _ {K : Type 0} (order : KeyOrder K) (lawful : IsLawful order) (complete :
 
   -- over complete keys a range that lies below another ends before it starts
   pub below_ends : EndsBefore order lawful r s
-  below_ends = is_less (end_position order r.end) (start_position order s.start) overlap
+  below_ends = is_less (end_position order r.end) (start_position order s.start) start_is_after_end
 
   starts_less : position_cmp order.cmp (start_position order r.start) (start_position order s.start) ≡ Less
   starts_less =
       is_less (start_position order r.start) (start_position order s.start)
       (λ back.
-      overlap (upto (position_total order.cmp lawful.total) (start_position order s.start) (start_position order r.start) (end_position order r.end) back
+      start_is_after_end (upto (position_total order.cmp lawful.total) (start_position order s.start) (start_position order r.start) (end_position order r.end) back
       (upto (position_total order.cmp lawful.total) (start_position order r.start) (Beside y At) (end_position order r.end) ((holds_by_position order lawful r y key).0 here).0 ((holds_by_position order lawful r y key).0 here).1)))
 
   write_flag : (t u : Bool) → (u ≡ true → t ≡ true → ⊥) → (not t || not u) ≡ true
@@ -273,7 +273,7 @@ module _ {K : Type 0} (order : KeyOrder K) (lawful : IsLawful order) where
 
   ends_after : (r s : AnyRange K) → is_gt (position_cmp order.cmp (start_position order r.start) (end_position order s.end)) ≡ true → EndsBefore order lawful s r
   ends_after r s h =
-      (position_total order.cmp lawful.total).antisymm (end_position order s.end) (start_position order r.start) ∙ reversed (position_cmp order.cmp (start_position order r.start) (end_position order s.end)) h
+      (position_total order.cmp lawful.total).antisymm (end_position order s.end) (start_position order r.start) ∙ reversed_greater_is_less (position_cmp order.cmp (start_position order r.start) (end_position order s.end)) h
 
   pub after_below : (r s : AnyRange K) (t : Bool) → range_ordering order r s ≡ After t → AreBelow order s r
   after_below r s t e = ends_below order lawful s r (ends_after r s (told_after _ _ _ _ _ _ _ _ _ t e).0)
@@ -283,14 +283,14 @@ module _ {K : Type 0} (order : KeyOrder K) (lawful : IsLawful order) where
     abbrev IsFilled : AnyRange K → Type 0
     IsFilled r = IsKnownRange order r × (¬ IsEmptyRange order r)
 
-    member : (r : AnyRange K) → IsFilled r → (k : K) × order.is_key k × Holds order r k
-    member r h = nonempty_holds order lawful complete r h.0 (not_greater (position_cmp order.cmp (start_position order r.start) (end_position order r.end)) h.1)
+    filled_range_has_key : (r : AnyRange K) → IsFilled r → (k : K) × order.is_key k × Holds order r k
+    filled_range_has_key r h = nonempty_holds order lawful complete r h.0 (not_greater (position_cmp order.cmp (start_position order r.start) (end_position order r.end)) h.1)
 
     -- the flag of one that ends before the other says whether they are joined
     flag_joined : (r s : AnyRange K) → IsFilled r → IsFilled s → EndsBefore order lawful r s → (t : Bool) → starts_at_end order r.end (start_position order s.start) ≡ t → IsTrue t ↔ AreJoined order r s
     flag_joined r s h k before t e =
-        let y = member r h in
-        let z = member s k in (
+        let y = filled_range_has_key r h in
+        let z = filled_range_has_key s k in (
           λ touching. touch_joined order lawful r s y.0 z.0 y.1 z.1 y.2 z.2 before (e ∙ touching),
           λ joined. sym e ∙ joined_touch order lawful complete r s h.0 k.0 h.1 k.1 joined,
         )
@@ -308,17 +308,17 @@ module _ {K : Type 0} (order : KeyOrder K) (lawful : IsLawful order) where
     -- and nonempty ranges of which the one is below the other are compared so
     pub below_before : (r s : AnyRange K) → IsKnownRange order r → IsKnownRange order s → (¬ IsEmptyRange order r) → (¬ IsEmptyRange order s) → AreBelow order r s → IsTrue (is_before (range_ordering order r s) false)
     below_before r s known others full full' below =
-        let y = member r (known, full) in
-        let z = member s (others, full') in
+        let y = filled_range_has_key r (known, full) in
+        let z = filled_range_has_key s (others, full') in
         is_before_of order lawful complete r s known others y.0 z.0 y.1 z.1 y.2 z.2 below false (λ joined e. cc)
 
     pub below_after : (r s : AnyRange K) → IsKnownRange order r → IsKnownRange order s → (¬ IsEmptyRange order r) → (¬ IsEmptyRange order s) → AreBelow order s r → IsTrue (is_after (range_ordering order r s) false)
     below_after r s known others full full' below =
         let total = position_total order.cmp lawful.total in
-        let y = member r (known, full) in
-        let z = member s (others, full') in
+        let y = filled_range_has_key r (known, full) in
+        let z = filled_range_has_key s (others, full') in
         let starts = starts_less order lawful complete s r others known z.0 y.0 z.1 y.1 z.2 y.2 below in
         let ends = below_ends order lawful complete s r others known z.0 y.0 z.1 y.1 z.2 y.2 below in
         write_after _ _ _ _ _ _ _ _ _
         (not_less _ _ (total.antisymm (start_position order r.start) (start_position order s.start)) starts)
-        (turned _ _ (total.antisymm (start_position order r.start) (end_position order s.end)) ends)
+        (turned_less_is_greater _ _ (total.antisymm (start_position order r.start) (end_position order s.end)) ends)

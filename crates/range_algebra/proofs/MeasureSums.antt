@@ -26,7 +26,7 @@ use Rattle.range_algebra.proofs.Gaps.{IsPlace, gap, gap_adds, gap_fits}
 use Rattle.range_algebra.proofs.Holding.{holds_by_position}
 use Rattle.range_algebra.proofs.Measuring.{included_included, included_excluded, excluded_included, excluded_excluded, told_start, told_end, known_start, known_end, reach_full, told_reach, full_measure, measure_is_number}
 use Rattle.range_algebra.proofs.Numbers.{number_none, number_both}
-use Rattle.range_algebra.proofs.Places.{reaches}
+use Rattle.range_algebra.proofs.Places.{reaching_is_before_past}
 
 -- a sum that is there has both parts
 sum_parts : (o p : Option ℕ) (n : ℕ) → measure_sum o p ≡ Some n → (m : ℕ) × (k : ℕ) × (o ≡ Some m) × (p ≡ Some k) × (m + k ≡ n)
@@ -36,14 +36,14 @@ sum_parts None p n e = cc
 
 module _ {K : Type 0} (order : KeyOrder K) (lawful : IsLawful order) where
   ends_after : (s e : Bound K) → IsKnownBound order s → IsKnownBound order e → Le (position_cmp order.cmp) (start_position order s) (end_position order e) → Le (position_cmp order.cmp) (start_position order s) (past order (end_position order e))
-  ends_after s e known known' h = lt_le (position_cmp order.cmp) (position_total order.cmp lawful.total) (start_position order s) (past order (end_position order e)) ((reaches order lawful s e known known').0 h)
+  ends_after s e known known' h = lt_le (position_cmp order.cmp) (position_total order.cmp lawful.total) (start_position order s) (past order (end_position order e)) ((reaching_is_before_past order lawful s e known known').0 h)
 
   -- where the one lies before the other, its upper place is at most the other's lower one
-  apart : (r s : AnyRange K) → IsKnownRange order r → IsKnownRange order s → LiesBefore order r s → Le (position_cmp order.cmp) (upper order r) (lower order s)
-  apart r s known others h =
+  before_is_below : (r s : AnyRange K) → IsKnownRange order r → IsKnownRange order s → LiesBefore order r s → Le (position_cmp order.cmp) (upper order r) (lower order s)
+  before_is_below r s known others h =
       let total = position_total order.cmp lawful.total in
       not_lt (position_cmp order.cmp) total (upper order r) (lower order s)
-      (λ l. lt_not_le (position_cmp order.cmp) total (end_position order r.end) (start_position order s.start) h ((reaches order lawful s.start r.end others.0 known.1).1 l))
+      (λ l. lt_not_le (position_cmp order.cmp) total (end_position order r.end) (start_position order s.start) h ((reaching_is_before_past order lawful s.start r.end others.0 known.1).1 l))
 
   before_trans : (r s t : AnyRange K) → ¬ IsEmptyRange order s → LiesBefore order r s → LiesBefore order s t → LiesBefore order r t
   before_trans r s t full h k =
@@ -52,9 +52,9 @@ module _ {K : Type 0} (order : KeyOrder K) (lawful : IsLawful order) where
       lt_trans (position_cmp order.cmp) total (end_position order r.end) (end_position order s.end) (start_position order t.start) through k
 
   -- in order without the second
-  skip : (r s : AnyRange K) (ranges : List (AnyRange K)) → AreInOrder order (r ∷ s ∷ ranges) → AreInOrder order (r ∷ ranges)
-  skip r s [] h = (h.0, h.1)
-  skip r s (t ∷ ranges) h = (h.0, h.1, before_trans r s t h.3.1 h.2 h.3.2, h.3.3)
+  order_without_second : (r s : AnyRange K) (ranges : List (AnyRange K)) → AreInOrder order (r ∷ s ∷ ranges) → AreInOrder order (r ∷ ranges)
+  order_without_second r s [] h = (h.0, h.1)
+  order_without_second r s (t ∷ ranges) h = (h.0, h.1, before_trans r s t h.3.1 h.2 h.3.2, h.3.3)
 
   pub rest_in_order : (r : AnyRange K) (ranges : List (AnyRange K)) → AreInOrder order (r ∷ ranges) → AreInOrder order ranges
   rest_in_order r [] h = tt
@@ -76,7 +76,7 @@ module _ {K : Type 0} (order : KeyOrder K) (lawful : IsLawful order) where
   below_all : (r : AnyRange K) (ranges : List (AnyRange K)) (a b : K) → AreInOrder order (r ∷ ranges) → order.is_key a → order.is_key b → Holds order r a → Any (λ s. Holds order s b) ranges → Below order a b
   below_all r [] a b h key key' f g = absurd g
   below_all r (s ∷ ranges) a b h key key' f (inl g) = below_next r s a b h.2 key key' f g
-  below_all r (s ∷ ranges) a b h key key' f (inr g) = below_all r ranges a b (skip r s ranges h) key key' f g
+  below_all r (s ∷ ranges) a b h key key' f (inr g) = below_all r ranges a b (order_without_second r s ranges h) key key' f g
 
   module _ (len : K → ℕ) (distance : K → K → ℕ) (measured : IsMeasure order len distance) where
     -- the place lies so much above the key
@@ -112,13 +112,13 @@ module _ {K : Type 0} (order : KeyOrder K) (lawful : IsLawful order) where
     }
 
     -- the place behind a key
-    behind : (a : K) (o : Option K) → order.succ a ≡ o → order.is_key a → LiesAbove a (at_told o (Beside a After)) (len a)
-    behind a None e key = record {
+    measure_after_key : (a : K) (o : Option K) → order.succ a ≡ o → order.is_key a → LiesAbove a (at_told o (Beside a After)) (len a)
+    measure_after_key a None e key = record {
       is_place = past_place a key;
       from = ap is_gt (equal_then_any (order.cmp a a) Less (tied_itself lawful.total a));
       much = let h = behind_key a in let i = no_distance a key in omega arith;
     }
-    behind a (Some b) e key = record {
+    measure_after_key a (Some b) e key = record {
       is_place = key_place b (lawful.succ_key a b e).1;
       from = ap is_gt (any_then_equal (order.cmp a b) ∙ lawful.succ_above a b e);
       much = between_keys a b ∙ measured.step a b e;
@@ -140,9 +140,9 @@ module _ {K : Type 0} (order : KeyOrder K) (lawful : IsLawful order) where
     before_key b None e key = at_key b key
     before_key b (Some a) e key = before_by a b (order.succ a) refl (lawful.pred_succ a b e) key
 
-    joined : (a b : K) (p q : Position K) (off put : ℕ) → order.is_key a → order.is_key b → NotAbove order a b → LiesAbove a p off → LiesAbove b q put → Le (position_cmp order.cmp) p q
+    measures_join : (a b : K) (p q : Position K) (off put : ℕ) → order.is_key a → order.is_key b → NotAbove order a b → LiesAbove a p off → LiesAbove b q put → Le (position_cmp order.cmp) p q
         → off + gap order lawful len distance measured p q ≡ distance a b + put
-    joined a b p q off put key key' l start end h =
+    measures_join a b p q off put key key' l start end h =
         let through = gap_adds order lawful len distance measured (Beside a At) p q (key_place a key) start.is_place end.is_place start.from h in
         let up : Le (position_cmp order.cmp) (Beside a At) (Beside b At) = ap is_gt (any_then_equal (order.cmp a b)) ∙ l in
         let past_end = gap_adds order lawful len distance measured (Beside a At) (Beside b At) q (key_place a key) (key_place b key') end.is_place up end.from in
@@ -164,10 +164,10 @@ module _ {K : Type 0} (order : KeyOrder K) (lawful : IsLawful order) where
     bounds_gap (Excluded a) Unbounded n known known' h m = cc
     bounds_gap (Included a) (Included b) n known known' h m =
         let start = at_key a known in
-        let end = behind b (order.succ b) refl known' in
+        let end = measure_after_key b (order.succ b) refl known' in
         let l = included_included order lawful (Included a) (Included b) a b refl refl h in
         let order_of = ends_after (Included a) (Included b) known known' h in
-        let whole = joined a b _ _ 0 (len b) known known' l start end order_of in
+        let whole = measures_join a b _ _ 0 (len b) known known' l start end order_of in
         let is : distance a b + len b ≡ n = cc in
         record { low = start.is_place; high = end.is_place; much = omega arith }
     bounds_gap (Included a) (Excluded b) n known known' h m =
@@ -175,24 +175,24 @@ module _ {K : Type 0} (order : KeyOrder K) (lawful : IsLawful order) where
         let end = before_key b (order.pred b) refl known' in
         let l = included_excluded order lawful (Included a) (Excluded b) a b refl refl h in
         let order_of = ends_after (Included a) (Excluded b) known known' h in
-        let whole = joined a b _ _ 0 0 known known' (ap is_gt l) start end order_of in
+        let whole = measures_join a b _ _ 0 0 known known' (ap is_gt l) start end order_of in
         let is : distance a b ≡ n = cc in
         record { low = start.is_place; high = end.is_place; much = omega arith }
     bounds_gap (Excluded a) (Included b) n known known' h m =
-        let start = behind a (order.succ a) refl known in
-        let end = behind b (order.succ b) refl known' in
+        let start = measure_after_key a (order.succ a) refl known in
+        let end = measure_after_key b (order.succ b) refl known' in
         let l = excluded_included order lawful (Excluded a) (Included b) a b refl refl h in
         let order_of = ends_after (Excluded a) (Included b) known known' h in
-        let whole = joined a b _ _ (len a) (len b) known known' (ap is_gt l) start end order_of in
+        let whole = measures_join a b _ _ (len a) (len b) known known' (ap is_gt l) start end order_of in
         let fits = measured.at_least a b known known' l in
         let is : distance a b - len a + len b ≡ n = cc in
         record { low = start.is_place; high = end.is_place; much = omega arith }
     bounds_gap (Excluded a) (Excluded b) n known known' h m =
-        let start = behind a (order.succ a) refl known in
+        let start = measure_after_key a (order.succ a) refl known in
         let end = before_key b (order.pred b) refl known' in
         let l = excluded_excluded order lawful (Excluded a) (Excluded b) a b refl refl h in
         let order_of = ends_after (Excluded a) (Excluded b) known known' h in
-        let whole = joined a b _ _ (len a) 0 known known' (ap is_gt l) start end order_of in
+        let whole = measures_join a b _ _ (len a) 0 known known' (ap is_gt l) start end order_of in
         let is : distance a b - len a ≡ n = cc in
         record { low = start.is_place; high = end.is_place; much = omega arith }
 
@@ -230,7 +230,7 @@ module _ {K : Type 0} (order : KeyOrder K) (lawful : IsLawful order) where
         let others = reach_of s ranges parts.1 h.3 parts.3 in
         let start : IsPlace order lawful len distance measured (lower order s) = first_place s ranges parts.1 h.3 parts.3 in
         let up = ends_after r.start r.end h.0.0 h.0.1 (reach_full order lawful r h.1) in
-        let beside = apart r s h.0 next.0 h.2 in
+        let beside = before_is_below r s h.0 next.0 h.2 in
         let over = le_trans (position_cmp order.cmp) total (lower order r) (upper order r) (lower order s) up beside in
         let first = gap_adds order lawful len distance measured (lower order r) (upper order r) (lower order s) own.low own.high start up beside in
         let whole = gap_adds order lawful len distance measured (lower order r) (lower order s) others.0 own.low start others.1 over others.2 in

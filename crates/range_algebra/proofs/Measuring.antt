@@ -42,44 +42,44 @@ module _ {K : Type 0} (order : KeyOrder K) (lawful : IsLawful order) where
   end_before b None e = equal_then_any (order.cmp b b) Less (tied_itself lawful.total b)
   end_before b (Some a) e = any_then_equal (order.cmp a b) ∙ pred_below order lawful a b e
 
-  up : (a b : K) → PLe (Beside a At) (Beside b At) → NotAbove order a b
+  places_order_keys : (a b : K) → PLe (Beside a At) (Beside b At) → NotAbove order a b
   unfolding PLe
-  up a b h = sym (ap is_gt (any_then_equal (order.cmp a b))) ∙ h
+  places_order_keys a b h = sym (ap is_gt (any_then_equal (order.cmp a b))) ∙ h
 
-  under : (a b : K) → PLt (Beside a At) (Beside b At) → Below order a b
+  lower_place_is_lower_key : (a b : K) → PLt (Beside a At) (Beside b At) → Below order a b
   unfolding PLt
-  under a b h = sym (any_then_equal (order.cmp a b)) ∙ h
+  lower_place_is_lower_key a b h = sym (any_then_equal (order.cmp a b)) ∙ h
 
-  reach : (s e s' e' : Bound K) → s ≡ s' → e ≡ e' → Le (position_cmp order.cmp) (start_position order s) (end_position order e) → PLe (start_position order s') (end_position order e')
+  equal_bounds_reach : (s e s' e' : Bound K) → s ≡ s' → e ≡ e' → Le (position_cmp order.cmp) (start_position order s) (end_position order e) → PLe (start_position order s') (end_position order e')
   unfolding PLe
-  reach s e s' e' p q h = (λ i. is_gt (position_cmp order.cmp (start_position order (sym p i)) (end_position order (sym q i)))) ∙ h
+  equal_bounds_reach s e s' e' p q h = (λ i. is_gt (position_cmp order.cmp (start_position order (sym p i)) (end_position order (sym q i)))) ∙ h
 
   -- the keys of the two bounds of a nonempty range do not cross
   pub included_included : (s e : Bound K) (a b : K) → s ≡ Included a → e ≡ Included b → Le (position_cmp order.cmp) (start_position order s) (end_position order e) → NotAbove order a b
   unfolding PLe
-  included_included s e a b p q h = up a b (reach s e (Included a) (Included b) p q h)
+  included_included s e a b p q h = places_order_keys a b (equal_bounds_reach s e (Included a) (Included b) p q h)
 
   pub included_excluded : (s e : Bound K) (a b : K) → s ≡ Included a → e ≡ Excluded b → Le (position_cmp order.cmp) (start_position order s) (end_position order e) → Below order a b
   unfolding PLe PLt
   included_excluded s e a b p q h =
       let total = position_total order.cmp lawful.total in
-      let h' : Le (position_cmp order.cmp) (Beside a At) (end_position order (Excluded b)) = reach s e (Included a) (Excluded b) p q h in
-      under a b (le_lt_trans (position_cmp order.cmp) total (Beside a At) (end_position order (Excluded b)) (Beside b At) h' (end_before b (order.pred b) refl))
+      let h' : Le (position_cmp order.cmp) (Beside a At) (end_position order (Excluded b)) = equal_bounds_reach s e (Included a) (Excluded b) p q h in
+      lower_place_is_lower_key a b (le_lt_trans (position_cmp order.cmp) total (Beside a At) (end_position order (Excluded b)) (Beside b At) h' (end_before b (order.pred b) refl))
 
   pub excluded_included : (s e : Bound K) (a b : K) → s ≡ Excluded a → e ≡ Included b → Le (position_cmp order.cmp) (start_position order s) (end_position order e) → Below order a b
   unfolding PLe PLt
   excluded_included s e a b p q h =
       let total = position_total order.cmp lawful.total in
-      let h' : Le (position_cmp order.cmp) (start_position order (Excluded a)) (Beside b At) = reach s e (Excluded a) (Included b) p q h in
-      under a b (lt_le_trans (position_cmp order.cmp) total (Beside a At) (start_position order (Excluded a)) (Beside b At) (start_after a (order.succ a) refl) h')
+      let h' : Le (position_cmp order.cmp) (start_position order (Excluded a)) (Beside b At) = equal_bounds_reach s e (Excluded a) (Included b) p q h in
+      lower_place_is_lower_key a b (lt_le_trans (position_cmp order.cmp) total (Beside a At) (start_position order (Excluded a)) (Beside b At) (start_after a (order.succ a) refl) h')
 
   pub excluded_excluded : (s e : Bound K) (a b : K) → s ≡ Excluded a → e ≡ Excluded b → Le (position_cmp order.cmp) (start_position order s) (end_position order e) → Below order a b
   unfolding PLe PLt
   excluded_excluded s e a b p q h =
       let total = position_total order.cmp lawful.total in
-      let h' : Le (position_cmp order.cmp) (start_position order (Excluded a)) (end_position order (Excluded b)) = reach s e (Excluded a) (Excluded b) p q h in
+      let h' : Le (position_cmp order.cmp) (start_position order (Excluded a)) (end_position order (Excluded b)) = equal_bounds_reach s e (Excluded a) (Excluded b) p q h in
       let low = lt_le_trans (position_cmp order.cmp) total (Beside a At) (start_position order (Excluded a)) (end_position order (Excluded b)) (start_after a (order.succ a) refl) h' in
-      under a b (lt_trans (position_cmp order.cmp) total (Beside a At) (end_position order (Excluded b)) (Beside b At) low (end_before b (order.pred b) refl))
+      lower_place_is_lower_key a b (lt_trans (position_cmp order.cmp) total (Beside a At) (end_position order (Excluded b)) (Beside b At) low (end_before b (order.pred b) refl))
 
   -- a told end stands where the unbounded bound does
   told_start_by : (o : Option K) → order.least ≡ o → (s : Bound K) → start_position order (told_bound o s) ≡ start_position order s
@@ -174,8 +174,8 @@ module _ {K : Type 0} {order : KeyOrder K} {index : K → ℕ} {size : ℕ} (cou
       ))
       (number_from counted (low r.start) (high r.end - low r.start) (omega arith))
 
-  filled : (r : AnyRange K) → IsKnownRange order r → Le (position_cmp order.cmp) (start_position order r.start) (end_position order r.end) → low r.start < high r.end
-  filled r known h =
+  nonempty_range_measures : (r : AnyRange K) → IsKnownRange order r → Le (position_cmp order.cmp) (start_position order r.start) (end_position order r.end) → low r.start < high r.end
+  nonempty_range_measures r known h =
       let found = nonempty_holds order (counted_lawful counted) (counted_complete counted) r known h in
       let f : low r.start ≤ index found.0 = (start_from r.start found.0 known.0 found.1).0 found.2.0 in
       let g : index found.0 < high r.end = (end_up_to r.end found.0 known.1 found.1).0 found.2.1 in
@@ -214,7 +214,7 @@ module _ {K : Type 0} {order : KeyOrder K} {index : K → ℕ} {size : ℕ} (cou
 module _ {K : Type 0} (order : KeyOrder K) (len : K → ℕ) (distance : K → K → ℕ) (counts : IsCountedMeasure order len distance) where
   filled_number : (r : AnyRange K) → IsKnownRange order r → is_gt (position_cmp order.cmp (start_position order r.start) (end_position order r.end)) ≡ false → IsSomeAnd (range_measure order len distance r) (IsNumberOfKeys order (Holds order r))
   filled_number r known h =
-      let l = filled counts.counted r known h in
+      let l = nonempty_range_measures counts.counted r known h in
       rw (h, counts_told counts.counted len distance counts.each_one counts.apart r.start r.end l) (number_held counts.counted r known l)
 
   number_by : (r : AnyRange K) → IsKnownRange order r → (o : Ordering) → position_cmp order.cmp (start_position order r.start) (end_position order r.end) ≡ o → IsSomeAnd (range_measure order len distance r) (IsNumberOfKeys order (Holds order r))

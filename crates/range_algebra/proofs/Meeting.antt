@@ -24,7 +24,7 @@ use Rattle.range_algebra.specs.Combined.{earlier_end, common}
 use Rattle.range_algebra.specs.Cuts.{past, lower, upper}
 use Rattle.range_algebra.specs.Relations.{Meets, EitherHolds, ShareKey, AreConnected}
 use Rattle.range_algebra.proofs.Holding.{start_holds, end_holds, holds_by_position}
-use Rattle.range_algebra.proofs.Places.{reaches, key_reaches, turned, unbounded_end}
+use Rattle.range_algebra.proofs.Places.{reaching_is_before_past, key_reaches, inverted_bound_is_past, unbounded_end}
 use Rattle.range_algebra.proofs.Completeness.{nonempty_holds}
 use Rattle.range_algebra.proofs.Canonical.{NotPast, IsBefore, KeyFrom, key_from}
 use Rattle.range_algebra.proofs.Commons.{later_is, earlier_is, common_holds, common_known}
@@ -48,7 +48,7 @@ module _ {K : Type 0} (order : KeyOrder K) (lawful : IsLawful order) where
   pub before_is : (e s : Bound K) → IsKnownBound order e → IsKnownBound order s → PLt (end_position order e) (start_position order s) ↔ PLe (past order (end_position order e)) (start_position order s)
   before_is e s known others =
       let total = position_total order.cmp lawful.total in
-      let reach = reaches order lawful s e others known in (
+      let reach = reaching_is_before_past order lawful s e others known in (
         λ h. not_lt (position_cmp order.cmp) total (past order (end_position order e)) (start_position order s) (λ k. lt_not_le (position_cmp order.cmp) total (end_position order e) (start_position order s) h (reach.1 k)),
         λ h. not_le (position_cmp order.cmp) total (end_position order e) (start_position order s) (λ k. lt_not_le (position_cmp order.cmp) total (start_position order s) (past order (end_position order e)) (reach.0 k) h),
       )
@@ -57,7 +57,7 @@ module _ {K : Type 0} (order : KeyOrder K) (lawful : IsLawful order) where
   touches_by e i s turns le =
       let cmp = position_cmp order.cmp in
       let total = position_total order.cmp lawful.total in
-      let at = turned order lawful e i turns in
+      let at = inverted_bound_is_past order lawful e i turns in
       let other = eq_is_equal (cmp (start_position order i) (lower order s)) in (
         λ h. le_trans cmp total (lower order s) (start_position order i) (past order (end_position order e)) (eq_ge cmp total (start_position order i) (lower order s) (other.0 h)) (eq_ge cmp total (past order (end_position order e)) (start_position order i) at),
         λ h. other.1 (sym (total.congr (past order (end_position order e)) (start_position order i) (lower order s) at) ∙ both cmp total (past order (end_position order e)) (lower order s) le h),
@@ -70,7 +70,7 @@ module _ {K : Type 0} (order : KeyOrder K) (lawful : IsLawful order) where
   touches_is Unbounded s known full le =
       let cmp = position_cmp order.cmp in
       let total = position_total order.cmp lawful.total in
-      let good = (reaches order lawful s.start s.end known.0 known.1).0 full in
+      let good = (reaching_is_before_past order lawful s.start s.end known.0 known.1).0 full in
       (λ h. absurd (cc), λ h. absurd (lt_not_le cmp total (lower order s) (upper order s) good (le_trans cmp total (upper order s) (past order (end_position order Unbounded)) (lower order s) (unbounded_end order lawful s.end known.1) le)))
 
   -- how two ranges lie, and what their comparison then answers
@@ -93,25 +93,25 @@ module _ {K : Type 0} (order : KeyOrder K) (lawful : IsLawful order) where
         ⊎ (((PLe (start_position order r.start) (end_position order s.end) × PLe (start_position order s.start) (end_position order r.end)) × ((c : Bool) → AnswerBy a b d c ≡ true))
         ⊎ (PLt (end_position order s.end) (start_position order r.start) × ((c : Bool) → AnswerBy a b d c ≡ (starts_at_end order s.end (start_position order r.start) && c))))
 
-    up : PLe (start_position order r.start) (start_position order s.start) → PLe (start_position order r.start) (end_position order s.end)
-    up h = le_trans (position_cmp order.cmp) (position_total order.cmp lawful.total) (start_position order r.start) (start_position order s.start) (end_position order s.end) h full'
+    lower_start_reaches_other_end : PLe (start_position order r.start) (start_position order s.start) → PLe (start_position order r.start) (end_position order s.end)
+    lower_start_reaches_other_end h = le_trans (position_cmp order.cmp) (position_total order.cmp lawful.total) (start_position order r.start) (start_position order s.start) (end_position order s.end) h full'
 
-    down : PLe (start_position order s.start) (start_position order r.start) → PLe (start_position order s.start) (end_position order r.end)
-    down h = le_trans (position_cmp order.cmp) (position_total order.cmp lawful.total) (start_position order s.start) (start_position order r.start) (end_position order r.end) h full
+    upper_start_reaches_end : PLe (start_position order s.start) (start_position order r.start) → PLe (start_position order s.start) (end_position order r.end)
+    upper_start_reaches_end h = le_trans (position_cmp order.cmp) (position_total order.cmp lawful.total) (start_position order s.start) (start_position order r.start) (end_position order r.end) h full
 
-    turn : (p q : Position K) → position_cmp order.cmp p q ≡ Greater → PLt q p
-    turn p q e = (position_total order.cmp lawful.total).antisymm q p ∙ ap ordering_reverse e
+    turned_greater_is_less : (p q : Position K) → position_cmp order.cmp p q ≡ Greater → PLt q p
+    turned_greater_is_less p q e = (position_total order.cmp lawful.total).antisymm q p ∙ ap ordering_reverse e
 
     lying_by : (a b d : Ordering) → position_cmp order.cmp (start_position order r.start) (start_position order s.start) ≡ a → position_cmp order.cmp (end_position order r.end) (start_position order s.start) ≡ b → position_cmp order.cmp (start_position order r.start) (end_position order s.end) ≡ d → LyingBy a b d
     lying_by Less Less d e f g = inl (f, λ c. refl)
-    lying_by Less Equal d e f g = let total = position_total order.cmp lawful.total in inr (inl ((up (lt_le (position_cmp order.cmp) total (start_position order r.start) (start_position order s.start) e), eq_ge (position_cmp order.cmp) total (end_position order r.end) (start_position order s.start) f), λ c. refl))
-    lying_by Less Greater d e f g = let total = position_total order.cmp lawful.total in inr (inl ((up (lt_le (position_cmp order.cmp) total (start_position order r.start) (start_position order s.start) e), lt_le (position_cmp order.cmp) total (start_position order s.start) (end_position order r.end) (turn (end_position order r.end) (start_position order s.start) f)), λ c. refl))
-    lying_by Equal b Less e f g = let total = position_total order.cmp lawful.total in inr (inl ((ap is_gt g, down (eq_ge (position_cmp order.cmp) total (start_position order r.start) (start_position order s.start) e)), λ c. refl))
-    lying_by Equal b Equal e f g = let total = position_total order.cmp lawful.total in inr (inl ((ap is_gt g, down (eq_ge (position_cmp order.cmp) total (start_position order r.start) (start_position order s.start) e)), λ c. refl))
-    lying_by Equal b Greater e f g = inr (inr (turn (start_position order r.start) (end_position order s.end) g, λ c. refl))
-    lying_by Greater b Less e f g = let total = position_total order.cmp lawful.total in inr (inl ((ap is_gt g, down (lt_le (position_cmp order.cmp) total (start_position order s.start) (start_position order r.start) (turn (start_position order r.start) (start_position order s.start) e))), λ c. refl))
-    lying_by Greater b Equal e f g = let total = position_total order.cmp lawful.total in inr (inl ((ap is_gt g, down (lt_le (position_cmp order.cmp) total (start_position order s.start) (start_position order r.start) (turn (start_position order r.start) (start_position order s.start) e))), λ c. refl))
-    lying_by Greater b Greater e f g = inr (inr (turn (start_position order r.start) (end_position order s.end) g, λ c. refl))
+    lying_by Less Equal d e f g = let total = position_total order.cmp lawful.total in inr (inl ((lower_start_reaches_other_end (lt_le (position_cmp order.cmp) total (start_position order r.start) (start_position order s.start) e), eq_ge (position_cmp order.cmp) total (end_position order r.end) (start_position order s.start) f), λ c. refl))
+    lying_by Less Greater d e f g = let total = position_total order.cmp lawful.total in inr (inl ((lower_start_reaches_other_end (lt_le (position_cmp order.cmp) total (start_position order r.start) (start_position order s.start) e), lt_le (position_cmp order.cmp) total (start_position order s.start) (end_position order r.end) (turned_greater_is_less (end_position order r.end) (start_position order s.start) f)), λ c. refl))
+    lying_by Equal b Less e f g = let total = position_total order.cmp lawful.total in inr (inl ((ap is_gt g, upper_start_reaches_end (eq_ge (position_cmp order.cmp) total (start_position order r.start) (start_position order s.start) e)), λ c. refl))
+    lying_by Equal b Equal e f g = let total = position_total order.cmp lawful.total in inr (inl ((ap is_gt g, upper_start_reaches_end (eq_ge (position_cmp order.cmp) total (start_position order r.start) (start_position order s.start) e)), λ c. refl))
+    lying_by Equal b Greater e f g = inr (inr (turned_greater_is_less (start_position order r.start) (end_position order s.end) g, λ c. refl))
+    lying_by Greater b Less e f g = let total = position_total order.cmp lawful.total in inr (inl ((ap is_gt g, upper_start_reaches_end (lt_le (position_cmp order.cmp) total (start_position order s.start) (start_position order r.start) (turned_greater_is_less (start_position order r.start) (start_position order s.start) e))), λ c. refl))
+    lying_by Greater b Equal e f g = let total = position_total order.cmp lawful.total in inr (inl ((ap is_gt g, upper_start_reaches_end (lt_le (position_cmp order.cmp) total (start_position order s.start) (start_position order r.start) (turned_greater_is_less (start_position order r.start) (start_position order s.start) e))), λ c. refl))
+    lying_by Greater b Greater e f g = inr (inr (turned_greater_is_less (start_position order r.start) (end_position order s.end) g, λ c. refl))
 
     pub lying_of : Lying r s
     lying_of = lying_by (position_cmp order.cmp (start_position order r.start) (start_position order s.start)) (position_cmp order.cmp (end_position order r.end) (start_position order s.start)) (position_cmp order.cmp (start_position order r.start) (end_position order s.end)) refl refl refl
@@ -221,8 +221,8 @@ module _ {K : Type 0} (order : KeyOrder K) (lawful : IsLawful order) where
           | inr h ↦ lt_not_le cmp total (Beside found.0 At) (lower order s) found.3 (((holds_by_position order lawful s found.0 found.1).0 h).0)
         ]
 
-    joins : PLt (end_position order r.end) (start_position order s.start) → AreConnected order r s → IsTrue (starts_at_end order r.end (start_position order s.start))
-    joins l connected =
+    connected_ranges_touch : PLt (end_position order r.end) (start_position order s.start) → AreConnected order r s → IsTrue (starts_at_end order r.end (start_position order s.start))
+    connected_ranges_touch l connected =
         let total = position_total order.cmp lawful.total in
         let cmp = position_cmp order.cmp in
         let le = (before_is r.end s.start known.1 others.0).0 l in
@@ -291,9 +291,9 @@ module _ {K : Type 0} (order : KeyOrder K) (lawful : IsLawful order) where
     -- over complete keys that says that they are connected
     pub holds_connected : IsComplete order → AreConnected order r s → IsTrue (matches (range_ordering order r s) true)
     holds_connected complete h = elim (lying_of r s full full') [
-      | inl (l, f) ↦ f true ∙ (and_true (starts_at_end order r.end (start_position order s.start)) ∙ joins complete r s known others full full' l h)
+      | inl (l, f) ↦ f true ∙ (and_true (starts_at_end order r.end (start_position order s.start)) ∙ connected_ranges_touch complete r s known others full full' l h)
       | inr g ↦ elim g [
         | inl (l, f) ↦ f true
-        | inr (l, f) ↦ f true ∙ (and_true (starts_at_end order s.end (start_position order r.start)) ∙ joins complete s r others known full' full l (swap_connected r s h))
+        | inr (l, f) ↦ f true ∙ (and_true (starts_at_end order s.end (start_position order r.start)) ∙ connected_ranges_touch complete s r others known full' full l (swap_connected r s h))
       ]
     ]

@@ -81,8 +81,8 @@ module _ {K : Type 0} (order : KeyOrder K) (lawful : IsLawful order) where
   start_end s MinusInfinity h k = absurd k
   start_end s (Beside b After) h k = absurd k
 
-  pub reaches : (s e : Bound K) → IsKnownBound order s → IsKnownBound order e → PLe (start_position order s) (end_position order e) ↔ PLt (start_position order s) (past order (end_position order e))
-  reaches s e h k = start_end (start_position order s) (end_position order e) (starts_lie_at_starts order lawful s h) (ends_lie_at_ends order lawful e k)
+  pub reaching_is_before_past : (s e : Bound K) → IsKnownBound order s → IsKnownBound order e → PLe (start_position order s) (end_position order e) ↔ PLt (start_position order s) (past order (end_position order e))
+  reaching_is_before_past s e h k = start_end (start_position order s) (end_position order e) (starts_lie_at_starts order lawful s h) (ends_lie_at_ends order lawful e k)
 
   pub key_reaches : (k : K) (e : Bound K) → order.is_key k → IsKnownBound order e → PLe (Beside k At) (end_position order e) ↔ PLt (Beside k At) (past order (end_position order e))
   unfolding IsStart
@@ -97,10 +97,10 @@ module _ {K : Type 0} (order : KeyOrder K) (lawful : IsLawful order) where
   turned_told a (Some p) e = turned_by a p (order.succ p) (lawful.pred_succ p a e)
 
   -- the place past an end is that of the start bound just past it
-  pub turned : (b i : Bound K) → inverted b ≡ Some i → position_cmp order.cmp (past order (end_position order b)) (start_position order i) ≡ Equal
-  turned (Included a) i e = let same : Excluded a ≡ i = cc in rw (← same) (tied_itself (position_total order.cmp lawful.total) (start_position order (Excluded a)))
-  turned (Excluded a) i e = let same : Included a ≡ i = cc in rw (← same) (turned_told a (order.pred a) refl)
-  turned Unbounded i e = absurd (cc)
+  pub inverted_bound_is_past : (b i : Bound K) → inverted b ≡ Some i → position_cmp order.cmp (past order (end_position order b)) (start_position order i) ≡ Equal
+  inverted_bound_is_past (Included a) i e = let same : Excluded a ≡ i = cc in rw (← same) (tied_itself (position_total order.cmp lawful.total) (start_position order (Excluded a)))
+  inverted_bound_is_past (Excluded a) i e = let same : Included a ≡ i = cc in rw (← same) (turned_told a (order.pred a) refl)
+  inverted_bound_is_past Unbounded i e = absurd (cc)
 
   pub turned_back : (b i : Bound K) → inverted b ≡ Some i → inverted i ≡ Some b
   turned_back (Included a) i e = let same : Excluded a ≡ i = cc in rw (← same) refl

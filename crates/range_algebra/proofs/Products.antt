@@ -21,7 +21,7 @@ use Rattle.range_algebra.specs.Combined.{later_start, earlier_end, common}
 use Rattle.range_algebra.specs.Cuts.{past}
 use Rattle.range_algebra.specs.Parts.{is_empty_range, unless_empty, part_to, part_from, part_before, part_after, product, full_product, RangeHolds, PartHolds, IsOfSubject, IsOfObject, IsProduct}
 use Rattle.range_algebra.proofs.Holding.{start_holds, end_holds, empty_is_keyless}
-use Rattle.range_algebra.proofs.Places.{reaches, turned, turned_back, turned_known}
+use Rattle.range_algebra.proofs.Places.{reaching_is_before_past, inverted_bound_is_past, turned_back, turned_known}
 use Rattle.range_algebra.proofs.Commons.{later_over, earlier_under, common_holds}
 use Rattle.range_algebra.proofs.Pieces.{start_decided, end_decided, before_holds, after_holds, unless_holds, before_below, after_above}
 
@@ -40,9 +40,9 @@ module _ {K : Type 0} (order : KeyOrder K) (lawful : IsLawful order) where
       let cmp = position_cmp order.cmp in
       let known' = turned_known order lawful b i e known in
       let back = turned_back order lawful b i e in
-      let at = turned order lawful i b back in
+      let at = inverted_bound_is_past order lawful i b back in
       not_le cmp total (end_position order i) (start_position order b) (λ le.
-      lt_not_le cmp total (start_position order b) (past order (end_position order i)) ((reaches order lawful b i known known').0 le) (eq_le cmp total (past order (end_position order i)) (start_position order b) at))
+      lt_not_le cmp total (start_position order b) (past order (end_position order i)) ((reaching_is_before_past order lawful b i known known').0 le) (eq_le cmp total (past order (end_position order i)) (start_position order b) at))
 
   -- a start on the other side of an end lies past it
   inverted_past : (b i : Bound K) → inverted b ≡ Some i → IsKnownBound order b → PLt (end_position order b) (start_position order i)
@@ -51,9 +51,9 @@ module _ {K : Type 0} (order : KeyOrder K) (lawful : IsLawful order) where
       let total = position_total order.cmp lawful.total in
       let cmp = position_cmp order.cmp in
       let known' = turned_known order lawful b i e known in
-      let at = turned order lawful b i e in
+      let at = inverted_bound_is_past order lawful b i e in
       not_le cmp total (end_position order b) (start_position order i) (λ le.
-      lt_not_le cmp total (start_position order i) (past order (end_position order b)) ((reaches order lawful i b known' known).0 le) (eq_le cmp total (past order (end_position order b)) (start_position order i) at))
+      lt_not_le cmp total (start_position order i) (past order (end_position order b)) ((reaching_is_before_past order lawful i b known' known).0 le) (eq_le cmp total (past order (end_position order b)) (start_position order i) at))
 
   unless_some : (r x : AnyRange K) (d : Bool) → is_empty_range order r ≡ d → (if d then None else Some r) ≡ Some x → is_empty_range order r ≡ false
   unless_some r x true e h = absurd (cc)
@@ -149,9 +149,9 @@ module _ {K : Type 0} (order : KeyOrder K) (lawful : IsLawful order) where
   either_second None (Some y) k e h = h
   either_second (Some x) y k e h = absurd (cc)
 
-  apart : (s : AnyRange K) (a b : K) → order.is_key a → order.is_key b → PLe (start_position order s.start) (end_position order s.end) → (¬ StartHolds order s.start a) → (¬ EndHolds order s.end b) → Below order a b
+  excluded_keys_are_below : (s : AnyRange K) (a b : K) → order.is_key a → order.is_key b → PLe (start_position order s.start) (end_position order s.end) → (¬ StartHolds order s.start a) → (¬ EndHolds order s.end b) → Below order a b
   unfolding PLt PLe
-  apart s a b key key' full h g =
+  excluded_keys_are_below s a b key key' full h g =
       let total = position_total order.cmp lawful.total in
       let cmp = position_cmp order.cmp in
       let over : PLt (Beside a At) (start_position order s.start) = start_over s.start a key h in
@@ -161,10 +161,10 @@ module _ {K : Type 0} (order : KeyOrder K) (lawful : IsLawful order) where
   module _ (r s : AnyRange K) (known : IsKnownRange order r) (others : IsKnownRange order s) where
     in_order : PLe (start_position order r.start) (end_position order r.end) → PLe (start_position order s.start) (end_position order s.end) → (a b : K) → order.is_key a → order.is_key b
         → RangeHolds order (part_before order r s) a ⊎ RangeHolds order (part_before order s r) a → RangeHolds order (part_after order r s) b ⊎ RangeHolds order (part_after order s r) b → Below order a b
-    in_order full full' a b key key' (inl h) (inl g) = apart s a b key key' full' ((before_holds order lawful r s a key).0 h).1 ((after_holds order lawful r s b key').0 g).1
+    in_order full full' a b key key' (inl h) (inl g) = excluded_keys_are_below s a b key key' full' ((before_holds order lawful r s a key).0 h).1 ((after_holds order lawful r s b key').0 g).1
     in_order full full' a b key key' (inl h) (inr g) = before_below order lawful r s a b key key' h ((after_holds order lawful s r b key').0 g).0.0
     in_order full full' a b key key' (inr h) (inl g) = before_below order lawful s r a b key key' h ((after_holds order lawful r s b key').0 g).0.0
-    in_order full full' a b key key' (inr h) (inr g) = apart r a b key key' full ((before_holds order lawful s r a key).0 h).1 ((after_holds order lawful s r b key').0 g).1
+    in_order full full' a b key key' (inr h) (inr g) = excluded_keys_are_below r a b key key' full ((before_holds order lawful s r a key).0 h).1 ((after_holds order lawful s r b key').0 g).1
 
     held_of : (k : K) → order.is_key k → PartHolds order (either (part_before order r s) (part_before order s r)) k ⊎ (RangeHolds order (unless_empty order (common order r s)) k ⊎ PartHolds order (either (part_after order r s) (part_after order s r)) k) → Holds order r k ⊎ Holds order s k
     held_of k key (inl h) = elim (either_part (part_before order r s) (part_before order s r) k h) [ inl g ↦ inl ((before_holds order lawful r s k key).0 g).0 | inr g ↦ inr ((before_holds order lawful s r k key).0 g).0 ]
@@ -220,8 +220,8 @@ module _ {K : Type 0} (order : KeyOrder K) (lawful : IsLawful order) where
       before_after = λ a b key key' h g. in_order full full' a b key key' (either_part (part_before order r s) (part_before order s r) a h) (either_part (part_after order r s) (part_after order s r) b g);
     }
 
-    keyless : (x : AnyRange K) → is_empty_range order x ≡ true → IsKeyless order x
-    keyless x e = empty_is_keyless order lawful x (gt_is_greater (position_cmp order.cmp (start_position order x.start) (end_position order x.end)) e)
+    empty_range_is_keyless : (x : AnyRange K) → is_empty_range order x ≡ true → IsKeyless order x
+    empty_range_is_keyless x e = empty_is_keyless order lawful x (gt_is_greater (position_cmp order.cmp (start_position order x.start) (end_position order x.end)) e)
 
     object_part : (o : Option (AnyRange K)) (k : K) → PartHolds order (option_map Object o) k ↔ RangeHolds order o k
     object_part None k = (λ h. h, λ h. h)
@@ -237,7 +237,7 @@ module _ {K : Type 0} (order : KeyOrder K) (lawful : IsLawful order) where
 
     first_empty : is_empty_range order r ≡ true → IsProduct order r s (record { before = None; intersection = None; after = option_map Object (unless_empty order s) })
     first_empty e =
-        let none = keyless r e in
+        let none = empty_range_is_keyless r e in
         record {
           held = λ k key.
               let part = object_part (unless_empty order s) k in
@@ -255,7 +255,7 @@ module _ {K : Type 0} (order : KeyOrder K) (lawful : IsLawful order) where
 
     second_empty : is_empty_range order s ≡ true → IsProduct order r s (record { before = None; intersection = None; after = Some (Subject r) })
     second_empty e =
-        let none = keyless s e in
+        let none = empty_range_is_keyless s e in
         record {
           held = λ k key. (
             λ h. elim h [ inl g ↦ absurd g | inr g ↦ elim g [ inl f ↦ absurd f | inr f ↦ inl f ] ],

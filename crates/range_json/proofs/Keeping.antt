@@ -18,7 +18,7 @@ use Rattle.range_algebra.specs.Cuts.{past, lower, upper}
 use Rattle.range_algebra.specs.Intervals.{Le, Lt, Every}
 use Rattle.range_algebra.specs.Orders.{eq_le, le_trans, lt_le, lt_not_le}
 use Rattle.range_algebra.specs.Range.{IsKnownRange}
-use Rattle.range_algebra.proofs.Places.{turned}
+use Rattle.range_algebra.proofs.Places.{inverted_bound_is_past}
 use Rattle.range_store.specs.declared.storage.Item.{Item}
 use Rattle.range_map.specs.Frames.{GaveWayTo, JoinsOrMeets}
 use Rattle.range_map.specs.ItemCuts.{item_lower, item_upper}
@@ -48,10 +48,10 @@ module _ {K V : Type 0} (order : KeyOrder K) (lawful : IsLawful order) (same : V
   touching_at : (e : Bound K) (s : AnyRange K) → IsTrue (starts_at_end order e (lower order s)) → Le (places order lawful) (past order (end_position order e)) (lower order s)
   touching_at (Included a) s h =
       let total = position_total order.cmp lawful.total in
-      le_trans (places order lawful) total (past order (end_position order (Included a))) (start_position order (Excluded a)) (lower order s) (eq_le (places order lawful) total (past order (end_position order (Included a))) (start_position order (Excluded a)) (turned order lawful (Included a) (Excluded a) refl)) (eq_le (places order lawful) total (start_position order (Excluded a)) (lower order s) (is_equal (places order lawful (start_position order (Excluded a)) (lower order s)) h))
+      le_trans (places order lawful) total (past order (end_position order (Included a))) (start_position order (Excluded a)) (lower order s) (eq_le (places order lawful) total (past order (end_position order (Included a))) (start_position order (Excluded a)) (inverted_bound_is_past order lawful (Included a) (Excluded a) refl)) (eq_le (places order lawful) total (start_position order (Excluded a)) (lower order s) (is_equal (places order lawful (start_position order (Excluded a)) (lower order s)) h))
   touching_at (Excluded a) s h =
       let total = position_total order.cmp lawful.total in
-      le_trans (places order lawful) total (past order (end_position order (Excluded a))) (start_position order (Included a)) (lower order s) (eq_le (places order lawful) total (past order (end_position order (Excluded a))) (start_position order (Included a)) (turned order lawful (Excluded a) (Included a) refl)) (eq_le (places order lawful) total (start_position order (Included a)) (lower order s) (is_equal (places order lawful (start_position order (Included a)) (lower order s)) h))
+      le_trans (places order lawful) total (past order (end_position order (Excluded a))) (start_position order (Included a)) (lower order s) (eq_le (places order lawful) total (past order (end_position order (Excluded a))) (start_position order (Included a)) (inverted_bound_is_past order lawful (Excluded a) (Included a) refl)) (eq_le (places order lawful) total (start_position order (Included a)) (lower order s) (is_equal (places order lawful (start_position order (Included a)) (lower order s)) h))
   touching_at Unbounded s h = absurd (cc)
 
   abbrev LeadsTo : Item (AnyRange K) V → Item (AnyRange K) V → Type 0

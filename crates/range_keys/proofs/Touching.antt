@@ -55,11 +55,11 @@ reverse_same Equal e = refl
 reverse_same Greater e = cc
 
 module _ {K : Type 0} (order : KeyOrder K) (lawful : IsLawful order) where
-  itself : (a : K) → order.cmp a a ≡ Equal
-  itself a = reverse_same (order.cmp a a) (lawful.total.antisymm a a)
+  key_equals_itself : (a : K) → order.cmp a a ≡ Equal
+  key_equals_itself a = reverse_same (order.cmp a a) (lawful.total.antisymm a a)
 
-  exchanged : (a b : K) (o : Ordering) → order.cmp a b ≡ o → order.cmp b a ≡ ordering_reverse o
-  exchanged a b o e = lawful.total.antisymm b a ∙ ap ordering_reverse e
+  exchanged_keys_reverse : (a b : K) (o : Ordering) → order.cmp a b ≡ o → order.cmp b a ≡ ordering_reverse o
+  exchanged_keys_reverse a b o e = lawful.total.antisymm b a ∙ ap ordering_reverse e
 
   -- equal keys compare alike on the right
   congr_right : (a b c : K) → order.cmp b c ≡ Equal → order.cmp a b ≡ order.cmp a c
@@ -116,13 +116,13 @@ module _ {K : Type 0} (order : KeyOrder K) (lawful : IsLawful order) where
   greatest_place None e = e
   greatest_place (Some m) e = lawful.greatest_key m e
 
-  place : (d : Directed (Bound K)) → IsOverKeys order (directed_value d) → IsPlace order (directed_position order d)
-  place (Start (Included a)) p = p
-  place (Start (Excluded a)) p = start_place a p (order.succ a) refl
-  place (Start Unbounded) p = least_place order.least refl
-  place (End (Included a)) p = p
-  place (End (Excluded a)) p = end_place a p (order.pred a) refl
-  place (End Unbounded) p = greatest_place order.greatest refl
+  directed_position_is_place : (d : Directed (Bound K)) → IsOverKeys order (directed_value d) → IsPlace order (directed_position order d)
+  directed_position_is_place (Start (Included a)) p = p
+  directed_position_is_place (Start (Excluded a)) p = start_place a p (order.succ a) refl
+  directed_position_is_place (Start Unbounded) p = least_place order.least refl
+  directed_position_is_place (End (Included a)) p = p
+  directed_position_is_place (End (Excluded a)) p = end_place a p (order.pred a) refl
+  directed_position_is_place (End Unbounded) p = greatest_place order.greatest refl
 
   key_of : (c : K) (s : Side) → IsPlace order (Beside c s) → order.is_key c
   key_of c Before p = p.0
@@ -134,17 +134,17 @@ module _ {K : Type 0} (order : KeyOrder K) (lawful : IsLawful order) where
       → (order.cmp a c ≡ Less) ⊎ ((order.cmp a c ≡ Equal) × (side_cmp At s ≡ Less)) → (order.cmp c b ≡ Less) ⊎ ((order.cmp c b ≡ Equal) × (side_cmp s At ≡ Less)) → ⊥
   none_next a b x c s e g p (inl l) (inl m) =
       let h : is_gt (order.cmp x c) ≡ false = lawful.none_between a x c e (key_of c s p) l in
-      let i : is_gt (order.cmp x c) ≡ true = ap is_gt (lawful.total.congr x b c g ∙ exchanged c b Less m) in
+      let i : is_gt (order.cmp x c) ≡ true = ap is_gt (lawful.total.congr x b c g ∙ exchanged_keys_reverse c b Less m) in
       cc
-  none_next a b x c Before e g p (inl l) (inr m) = has_before a x c e (lawful.total.congr x b c g ∙ exchanged c b Equal m.0) p.1
+  none_next a b x c Before e g p (inl l) (inr m) = has_before a x c e (lawful.total.congr x b c g ∙ exchanged_keys_reverse c b Equal m.0) p.1
   none_next a b x c At e g p (inl l) (inr m) = let h = m.1 in cc
   none_next a b x c After e g p (inl l) (inr m) = let h = m.1 in cc
   none_next a b x c Before e g p (inr l) m = let h = l.1 in cc
   none_next a b x c At e g p (inr l) m = let h = l.1 in cc
   none_next a b x c After e g p (inr l) m = told_next a c (Some x) None e p.1 l.0
 
-  turned : (a b c : K) → order.cmp a b ≡ Equal → order.cmp a c ≡ ordering_reverse (order.cmp c b)
-  turned a b c e = lawful.total.congr a b c e ∙ lawful.total.antisymm b c
+  equal_key_turns_order : (a b c : K) → order.cmp a b ≡ Equal → order.cmp a c ≡ ordering_reverse (order.cmp c b)
+  equal_key_turns_order a b c e = lawful.total.congr a b c e ∙ lawful.total.antisymm b c
 
   told_after : (a b c : K) (s : Side) (o : Option K) → order.succ a ≡ o → tells order o b ≡ true → IsPlace order (Beside c s)
       → LiesBelow order (Beside a At) (Beside c s) → LiesBelow order (Beside c s) (Beside b At) → ⊥
@@ -154,9 +154,9 @@ module _ {K : Type 0} (order : KeyOrder K) (lawful : IsLawful order) where
 
   none_at : (low high r : Position K) → are_adjacent order low high ≡ true → IsPlace order r → LiesBelow order low r → LiesBelow order r high → ⊥
   none_at (Beside a Before) (Beside b At) (Beside c s) f p g h =
-      before_and_at (order.cmp c b) s (ap (λ o. ordering_then o (side_cmp Before s)) (sym (turned a b c ((eq_is_equal (order.cmp a b)).0 f))) ∙ g) h
+      before_and_at (order.cmp c b) s (ap (λ o. ordering_then o (side_cmp Before s)) (sym (equal_key_turns_order a b c ((eq_is_equal (order.cmp a b)).0 f))) ∙ g) h
   none_at (Beside a At) (Beside b After) (Beside c s) f p g h =
-      at_and_after (order.cmp c b) s (ap (λ o. ordering_then o (side_cmp At s)) (sym (turned a b c ((eq_is_equal (order.cmp a b)).0 f))) ∙ g) h
+      at_and_after (order.cmp c b) s (ap (λ o. ordering_then o (side_cmp At s)) (sym (equal_key_turns_order a b c ((eq_is_equal (order.cmp a b)).0 f))) ∙ g) h
   none_at (Beside a At) (Beside b At) (Beside c s) f p g h = told_after a b c s (order.succ a) refl f p g h
   none_at low high r f p g h = cc
 
@@ -164,13 +164,13 @@ module _ {K : Type 0} (order : KeyOrder K) (lawful : IsLawful order) where
   abbrev Gap : Position K → Position K → Type 0
   Gap low high = (r : Position K) × IsPlace order r × LiesBelow order low r × LiesBelow order r high
 
-  under : (b : K) → order.is_key b → (o : Option K) → order.pred b ≡ o → Gap MinusInfinity (Beside b At)
-  under b q None e = (Beside b Before, (q, e), refl, by_side b b Before At (itself b) refl)
-  under b q (Some c) e = (Beside c At, (lawful.pred_key c b e).0, refl, by_key c b At At (pred_below c b e))
+  nothing_lies_under : (b : K) → order.is_key b → (o : Option K) → order.pred b ≡ o → Gap MinusInfinity (Beside b At)
+  nothing_lies_under b q None e = (Beside b Before, (q, e), refl, by_side b b Before At (key_equals_itself b) refl)
+  nothing_lies_under b q (Some c) e = (Beside c At, (lawful.pred_key c b e).0, refl, by_key c b At At (pred_below c b e))
 
-  over : (a : K) → order.is_key a → (o : Option K) → order.succ a ≡ o → Gap (Beside a At) PlusInfinity
-  over a p None e = (Beside a After, (p, e), by_side a a At After (itself a) refl, refl)
-  over a p (Some x) e = (Beside x At, (lawful.succ_key a x e).1, by_key a x At At (lawful.succ_above a x e), refl)
+  nothing_lies_over : (a : K) → order.is_key a → (o : Option K) → order.succ a ≡ o → Gap (Beside a At) PlusInfinity
+  nothing_lies_over a p None e = (Beside a After, (p, e), by_side a a At After (key_equals_itself a) refl, refl)
+  nothing_lies_over a p (Some x) e = (Beside x At, (lawful.succ_key a x e).1, by_key a x At At (lawful.succ_above a x e), refl)
 
   past_next : (a b x : K) (t : Side) (o : Ordering) → order.succ a ≡ Some x → order.is_key b → order.cmp a b ≡ Less → order.cmp x b ≡ o → (o ≡ Equal → ⊥) → Gap (Beside a At) (Beside b t)
   past_next a b x t Less e q l c n = (Beside x At, (lawful.succ_key a x e).1, by_key a x At At (lawful.succ_above a x e), by_key x b At t c)
@@ -178,11 +178,11 @@ module _ {K : Type 0} (order : KeyOrder K) (lawful : IsLawful order) where
   past_next a b x t Greater e q l c n = let h = lawful.none_between a x b e q l in let i : is_gt (order.cmp x b) ≡ true = ap is_gt c in absurd (cc)
 
   next_or_before : (a b : K) → order.is_key a → order.is_key b → order.pred b ≡ None → order.cmp a b ≡ Less → (o : Option K) → order.succ a ≡ o → Gap (Beside a At) (Beside b Before)
-  next_or_before a b p q n l None e = (Beside a After, (p, e), by_side a a At After (itself a) refl, by_key a b After Before l)
+  next_or_before a b p q n l None e = (Beside a After, (p, e), by_side a a At After (key_equals_itself a) refl, by_key a b After Before l)
   next_or_before a b p q n l (Some x) e = past_next a b x Before (order.cmp x b) e q l refl (λ g. has_before a x b e g n)
 
   next_or_at : (a b : K) → order.is_key a → order.is_key b → order.cmp a b ≡ Less → (o : Option K) → order.succ a ≡ o → tells order o b ≡ false → Gap (Beside a At) (Beside b At)
-  next_or_at a b p q l None e f = (Beside a After, (p, e), by_side a a At After (itself a) refl, by_key a b After At l)
+  next_or_at a b p q l None e f = (Beside a After, (p, e), by_side a a At After (key_equals_itself a) refl, by_key a b After At l)
   next_or_at a b p q l (Some x) e f = past_next a b x At (order.cmp x b) e q l refl (λ g. let h : is_eq (order.cmp x b) ≡ true = ap is_eq g in cc)
 
   -- no key lies above c and below its told next one
@@ -190,16 +190,16 @@ module _ {K : Type 0} (order : KeyOrder K) (lawful : IsLawful order) where
   not_below a b c None e p t l g = t
   not_below a b c (Some x) e p t l g =
       let h = lawful.none_between c x a e p g in
-      let i : is_gt (order.cmp x a) ≡ true = ap is_gt (lawful.total.congr x b a t ∙ exchanged a b Less l) in
+      let i : is_gt (order.cmp x a) ≡ true = ap is_gt (lawful.total.congr x b a t ∙ exchanged_keys_reverse a b Less l) in
       cc
 
   above_last_by : (a b c : K) (o : Ordering) → order.is_key a → order.succ a ≡ None → order.pred b ≡ Some c → order.cmp a b ≡ Less → order.cmp a c ≡ o → Gap (Beside a After) (Beside b At)
   above_last_by a b c Less p n e l g = (Beside c At, (lawful.pred_key c b e).0, by_key a c After At g, by_key c b At At (pred_below c b e))
   above_last_by a b c Equal p n e l g = absurd (has_next c b a e g n)
-  above_last_by a b c Greater p n e l g = absurd (not_below a b c (order.succ c) refl p (lawful.pred_succ c b e) l (exchanged a c Greater g))
+  above_last_by a b c Greater p n e l g = absurd (not_below a b c (order.succ c) refl p (lawful.pred_succ c b e) l (exchanged_keys_reverse a c Greater g))
 
   above_last : (a b : K) → order.is_key a → order.is_key b → order.succ a ≡ None → order.cmp a b ≡ Less → (o : Option K) → order.pred b ≡ o → Gap (Beside a After) (Beside b At)
-  above_last a b p q n l None e = (Beside b Before, (q, e), by_key a b After Before l, by_side b b Before At (itself b) refl)
+  above_last a b p q n l None e = (Beside b Before, (q, e), by_key a b After Before l, by_side b b Before At (key_equals_itself b) refl)
   above_last a b p q n l (Some c) e = above_last_by a b c (order.cmp a c) p n e l refl
 
   abbrev IsOfStart : Position K → Type 0
@@ -216,46 +216,46 @@ module _ {K : Type 0} (order : KeyOrder K) (lawful : IsLawful order) where
   IsOfEnd (Beside a After) = ⊥
   IsOfEnd PlusInfinity = Unit {0}
 
-  neither : {A : Type 0} → ⊥ ⊎ ⊥ → A
-  neither (inl h) = absurd h
-  neither (inr h) = absurd h
+  neither_holds : {A : Type 0} → ⊥ ⊎ ⊥ → A
+  neither_holds (inl h) = absurd h
+  neither_holds (inr h) = absurd h
 
   -- where the places are not at equal keys
-  apart : {A : Type 0} (o p : Ordering) → ordering_then o p ≡ Less → (o ≡ Less → A) → (o ≡ Equal → p ≡ Less → A) → A
-  apart Less p l f g = f refl
-  apart Equal p l f g = g refl l
-  apart Greater p l f g = cc
+  less_at_either : {A : Type 0} (o p : Ordering) → ordering_then o p ≡ Less → (o ≡ Less → A) → (o ≡ Equal → p ≡ Less → A) → A
+  less_at_either Less p l f g = f refl
+  less_at_either Equal p l f g = g refl l
+  less_at_either Greater p l f g = cc
 
-  gap : (low high : Position K) → IsPlace order low → IsPlace order high → IsOfStart high ⊎ IsOfEnd low → LiesBelow order low high → are_adjacent order low high ≡ false → Gap low high
-  gap MinusInfinity (Beside b Before) p q w l f = neither w
-  gap MinusInfinity (Beside b At) p q w l f = under b q (order.pred b) refl
-  gap MinusInfinity (Beside b After) p q w l f = (Beside b At, q.0, refl, by_side b b At After (itself b) refl)
-  gap MinusInfinity PlusInfinity p q w l f = neither w
-  gap (Beside a Before) (Beside b Before) p q w l f =
-      apart (order.cmp a b) Equal l (λ m. (Beside a At, p.0, by_side a a Before At (itself a) refl, by_key a b At Before m)) (λ m n. cc)
-  gap (Beside a Before) (Beside b At) p q w l f =
-      apart (order.cmp a b) Less l (λ m. (Beside a At, p.0, by_side a a Before At (itself a) refl, by_key a b At At m)) (λ m n. let h : is_eq (order.cmp a b) ≡ true = ap is_eq m in cc)
-  gap (Beside a Before) (Beside b After) p q w l f =
-      apart (order.cmp a b) Less l (λ m. (Beside a At, p.0, by_side a a Before At (itself a) refl, by_key a b At After m)) (λ m n. (Beside a At, p.0, by_side a a Before At (itself a) refl, by_side a b At After m refl))
-  gap (Beside a Before) PlusInfinity p q w l f = (Beside a At, p.0, by_side a a Before At (itself a) refl, refl)
-  gap (Beside a At) (Beside b Before) p q w l f =
-      apart (order.cmp a b) Greater l (λ m. next_or_before a b p q.0 q.1 m (order.succ a) refl) (λ m n. cc)
-  gap (Beside a At) (Beside b At) p q w l f =
-      apart (order.cmp a b) Equal l (λ m. next_or_at a b p q m (order.succ a) refl f) (λ m n. cc)
-  gap (Beside a At) (Beside b After) p q w l f =
-      apart (order.cmp a b) Less l (λ m. (Beside b At, q.0, by_key a b At At m, by_side b b At After (itself b) refl)) (λ m n. let h : is_eq (order.cmp a b) ≡ true = ap is_eq m in cc)
-  gap (Beside a At) PlusInfinity p q w l f = over a p (order.succ a) refl
-  gap (Beside a After) (Beside b Before) p q w l f = neither w
-  gap (Beside a After) (Beside b At) p q w l f =
-      apart (order.cmp a b) Greater l (λ m. above_last a b p.0 q p.1 m (order.pred b) refl) (λ m n. cc)
-  gap (Beside a After) (Beside b After) p q w l f =
-      apart (order.cmp a b) Equal l (λ m. (Beside b At, q.0, by_key a b After At m, by_side b b At After (itself b) refl)) (λ m n. cc)
-  gap (Beside a After) PlusInfinity p q w l f = neither w
-  gap MinusInfinity MinusInfinity p q w l f = cc
-  gap (Beside a s) MinusInfinity p q w l f = cc
-  gap PlusInfinity MinusInfinity p q w l f = cc
-  gap PlusInfinity (Beside b t) p q w l f = cc
-  gap PlusInfinity PlusInfinity p q w l f = cc
+  not_adjacent_is_gap : (low high : Position K) → IsPlace order low → IsPlace order high → IsOfStart high ⊎ IsOfEnd low → LiesBelow order low high → are_adjacent order low high ≡ false → Gap low high
+  not_adjacent_is_gap MinusInfinity (Beside b Before) p q w l f = neither_holds w
+  not_adjacent_is_gap MinusInfinity (Beside b At) p q w l f = nothing_lies_under b q (order.pred b) refl
+  not_adjacent_is_gap MinusInfinity (Beside b After) p q w l f = (Beside b At, q.0, refl, by_side b b At After (key_equals_itself b) refl)
+  not_adjacent_is_gap MinusInfinity PlusInfinity p q w l f = neither_holds w
+  not_adjacent_is_gap (Beside a Before) (Beside b Before) p q w l f =
+      less_at_either (order.cmp a b) Equal l (λ m. (Beside a At, p.0, by_side a a Before At (key_equals_itself a) refl, by_key a b At Before m)) (λ m n. cc)
+  not_adjacent_is_gap (Beside a Before) (Beside b At) p q w l f =
+      less_at_either (order.cmp a b) Less l (λ m. (Beside a At, p.0, by_side a a Before At (key_equals_itself a) refl, by_key a b At At m)) (λ m n. let h : is_eq (order.cmp a b) ≡ true = ap is_eq m in cc)
+  not_adjacent_is_gap (Beside a Before) (Beside b After) p q w l f =
+      less_at_either (order.cmp a b) Less l (λ m. (Beside a At, p.0, by_side a a Before At (key_equals_itself a) refl, by_key a b At After m)) (λ m n. (Beside a At, p.0, by_side a a Before At (key_equals_itself a) refl, by_side a b At After m refl))
+  not_adjacent_is_gap (Beside a Before) PlusInfinity p q w l f = (Beside a At, p.0, by_side a a Before At (key_equals_itself a) refl, refl)
+  not_adjacent_is_gap (Beside a At) (Beside b Before) p q w l f =
+      less_at_either (order.cmp a b) Greater l (λ m. next_or_before a b p q.0 q.1 m (order.succ a) refl) (λ m n. cc)
+  not_adjacent_is_gap (Beside a At) (Beside b At) p q w l f =
+      less_at_either (order.cmp a b) Equal l (λ m. next_or_at a b p q m (order.succ a) refl f) (λ m n. cc)
+  not_adjacent_is_gap (Beside a At) (Beside b After) p q w l f =
+      less_at_either (order.cmp a b) Less l (λ m. (Beside b At, q.0, by_key a b At At m, by_side b b At After (key_equals_itself b) refl)) (λ m n. let h : is_eq (order.cmp a b) ≡ true = ap is_eq m in cc)
+  not_adjacent_is_gap (Beside a At) PlusInfinity p q w l f = nothing_lies_over a p (order.succ a) refl
+  not_adjacent_is_gap (Beside a After) (Beside b Before) p q w l f = neither_holds w
+  not_adjacent_is_gap (Beside a After) (Beside b At) p q w l f =
+      less_at_either (order.cmp a b) Greater l (λ m. above_last a b p.0 q p.1 m (order.pred b) refl) (λ m n. cc)
+  not_adjacent_is_gap (Beside a After) (Beside b After) p q w l f =
+      less_at_either (order.cmp a b) Equal l (λ m. (Beside b At, q.0, by_key a b After At m, by_side b b At After (key_equals_itself b) refl)) (λ m n. cc)
+  not_adjacent_is_gap (Beside a After) PlusInfinity p q w l f = neither_holds w
+  not_adjacent_is_gap MinusInfinity MinusInfinity p q w l f = cc
+  not_adjacent_is_gap (Beside a s) MinusInfinity p q w l f = cc
+  not_adjacent_is_gap PlusInfinity MinusInfinity p q w l f = cc
+  not_adjacent_is_gap PlusInfinity (Beside b t) p q w l f = cc
+  not_adjacent_is_gap PlusInfinity PlusInfinity p q w l f = cc
 
   bound_at : (r : Position K) → IsPlace order r → (d : Directed (Bound K)) × IsOverKeys order (directed_value d) × (directed_position order d ≡ r)
   bound_at MinusInfinity p = (Start Unbounded, tt, ap (λ o. at_told o MinusInfinity) p)
@@ -271,8 +271,8 @@ module _ {K : Type 0} (order : KeyOrder K) (lawful : IsLawful order) where
 
   tells_gap : (low high : Position K) → IsPlace order low → IsPlace order high → IsOfStart high ⊎ IsOfEnd low → LiesBelow order low high
       → (flag : Bool) → are_adjacent order low high ≡ flag → MatchBool flag (¬ SomeBoundBetween order low high) (SomeBoundBetween order low high)
-  tells_gap low high p q w l true f = λ d. none_at low high (directed_position order d.0) f (place d.0 d.1) d.2 d.3
-  tells_gap low high p q w l false f = in_gap low high (gap low high p q w l f)
+  tells_gap low high p q w l true f = λ d. none_at low high (directed_position order d.0) f (directed_position_is_place d.0 d.1) d.2 d.3
+  tells_gap low high p q w l false f = in_gap low high (not_adjacent_is_gap low high p q w l f)
 
   told_of_start : (a : K) (o : Option K) → IsOfStart (at_told o (Beside a After))
   told_of_start a None = tt
@@ -305,7 +305,7 @@ module _ {K : Type 0} (order : KeyOrder K) (lawful : IsLawful order) where
       → MatchBool flag (¬ SomeBoundBetween order low (start_position order b)) (SomeBoundBetween order low (start_position order b))
   start_tells low b p q Less l flag e =
       let f : are_adjacent order low (start_position order b) ≡ flag = cc in
-      tells_gap low (start_position order b) p (place (Start b) q) (inl (of_start b)) l flag f
+      tells_gap low (start_position order b) p (directed_position_is_place (Start b) q) (inl (of_start b)) l flag f
   start_tells low b p q Equal l flag e = cc
   start_tells low b p q Greater l flag e = cc
 
@@ -317,10 +317,10 @@ module _ {K : Type 0} (order : KeyOrder K) (lawful : IsLawful order) where
   end_tells high b p q Greater l flag e =
       let f : are_adjacent order (end_position order b) high ≡ flag = cc in
       let m : LiesBelow order (end_position order b) high = (position_total order.cmp lawful.total).antisymm (end_position order b) high ∙ ap ordering_reverse l in
-      tells_gap (end_position order b) high (place (End b) q) p (inr (of_end b)) m flag f
+      tells_gap (end_position order b) high (directed_position_is_place (End b) q) p (inr (of_end b)) m flag f
 
   pub flags_tell_gaps : FlagsTellGaps order
   flags_tell_gaps self (Start b) p q flag e =
-      start_tells (directed_position order self) b (place self p) q (position_cmp order.cmp (directed_position order self) (start_position order b)) refl flag e
+      start_tells (directed_position order self) b (directed_position_is_place self p) q (position_cmp order.cmp (directed_position order self) (start_position order b)) refl flag e
   flags_tell_gaps self (End b) p q flag e =
-      end_tells (directed_position order self) b (place self p) q (position_cmp order.cmp (directed_position order self) (end_position order b)) refl flag e
+      end_tells (directed_position order self) b (directed_position_is_place self p) q (position_cmp order.cmp (directed_position order self) (end_position order b)) refl flag e

@@ -17,7 +17,7 @@ use Rattle.range_algebra.specs.Intervals.{Lt}
 use Rattle.range_algebra.specs.Orders.{eq_le, eq_ge, le_lt_trans, lt_not_le}
 use Rattle.range_algebra.specs.Cuts.{past, upper}
 use Rattle.range_map.specs.Edits.{turned_bound}
-use Rattle.range_algebra.proofs.Places.{reaches, turned, turned_known, unbounded_start, unbounded_end}
+use Rattle.range_algebra.proofs.Places.{reaching_is_before_past, inverted_bound_is_past, turned_known, unbounded_start, unbounded_end}
 use Rattle.range_map.proofs.Forms.{places}
 
 module _ {K : Type 0} (order : KeyOrder K) (lawful : IsLawful order) where
@@ -26,8 +26,8 @@ module _ {K : Type 0} (order : KeyOrder K) (lawful : IsLawful order) where
   same_past (Included a) (Included b) h = same_start order lawful (Excluded a) (Excluded b) h
   same_past (Excluded a) (Excluded b) h =
       let total = position_total order.cmp lawful.total in
-      let at = turned order lawful (Excluded a) (Included a) refl in
-      let other = turned order lawful (Excluded b) (Included b) refl in
+      let at = inverted_bound_is_past order lawful (Excluded a) (Included a) refl in
+      let other = inverted_bound_is_past order lawful (Excluded b) (Included b) refl in
       let starts = same_start order lawful (Included a) (Included b) h in
       total.congr (past order (end_position order (Excluded a))) (start_position order (Included a)) (past order (end_position order (Excluded b))) at
       ∙ (total.congr (start_position order (Included a)) (start_position order (Included b)) (past order (end_position order (Excluded b))) starts
@@ -56,8 +56,8 @@ module _ {K : Type 0} (order : KeyOrder K) (lawful : IsLawful order) where
 
   -- the end just before a start bound that is not the first of all
   pub cut_end : (a s b : Bound K) → IsKnownBound order a → Lt (places order lawful) (start_position order a) (start_position order s) → SameBound order (turned_bound s) b → places order lawful (past order (end_position order b)) (start_position order s) ≡ Equal
-  cut_end a (Included k) b known l h = end_by (Included k) (Excluded k) b (turned order lawful (Excluded k) (Included k) refl) h
-  cut_end a (Excluded k) b known l h = end_by (Excluded k) (Included k) b (turned order lawful (Included k) (Excluded k) refl) h
+  cut_end a (Included k) b known l h = end_by (Included k) (Excluded k) b (inverted_bound_is_past order lawful (Excluded k) (Included k) refl) h
+  cut_end a (Excluded k) b known l h = end_by (Excluded k) (Included k) b (inverted_bound_is_past order lawful (Included k) (Excluded k) refl) h
   cut_end a Unbounded b known l h = absurd (lt_not_le (places order lawful) (position_total order.cmp lawful.total) (start_position order a) (start_position order Unbounded) l (unbounded_start order lawful a known))
 
   start_by : (e t b : Bound K) → places order lawful (past order (end_position order e)) (start_position order t) ≡ Equal → SameBound order t b → places order lawful (start_position order b) (past order (end_position order e)) ≡ Equal
@@ -67,8 +67,8 @@ module _ {K : Type 0} (order : KeyOrder K) (lawful : IsLawful order) where
 
   -- the start just after an end bound that is not the last of all
   pub cut_start : (a e b : Bound K) → IsKnownBound order a → Lt (places order lawful) (past order (end_position order e)) (past order (end_position order a)) → SameBound order (turned_bound e) b → places order lawful (start_position order b) (past order (end_position order e)) ≡ Equal
-  cut_start a (Included k) b known l h = start_by (Included k) (Excluded k) b (turned order lawful (Included k) (Excluded k) refl) h
-  cut_start a (Excluded k) b known l h = start_by (Excluded k) (Included k) b (turned order lawful (Excluded k) (Included k) refl) h
+  cut_start a (Included k) b known l h = start_by (Included k) (Excluded k) b (inverted_bound_is_past order lawful (Included k) (Excluded k) refl) h
+  cut_start a (Excluded k) b known l h = start_by (Excluded k) (Included k) b (inverted_bound_is_past order lawful (Excluded k) (Included k) refl) h
   cut_start a Unbounded b known l h = absurd (lt_not_le (places order lawful) (position_total order.cmp lawful.total) (past order (end_position order Unbounded)) (past order (end_position order a)) l (unbounded_end order lawful a known))
 
   pub same_turned : (b : Bound K) → SameBound order (turned_bound b) (turned_bound b)
@@ -93,8 +93,8 @@ module _ {K : Type 0} (order : KeyOrder K) (lawful : IsLawful order) where
   ends_after_is r i s known others turns =
       let total = position_total order.cmp lawful.total in
       let cmp = places order lawful in
-      let at = turned order lawful r.end s (sym turns) in
-      let reach = reaches order lawful s i.end (turned_known order lawful r.end s (sym turns) known.1) others.1 in
+      let at = inverted_bound_is_past order lawful r.end s (sym turns) in
+      let reach = reaching_is_before_past order lawful s i.end (turned_known order lawful r.end s (sym turns) known.1) others.1 in
       let test = le_is (cmp (start_position order s) (end_position order i.end)) in (
         λ h. le_lt_trans cmp total (upper order r) (start_position order s) (upper order i) (eq_le cmp total (upper order r) (start_position order s) at) (reach.0 (test.0 h)),
         λ l. test.1 (reach.1 (le_lt_trans cmp total (start_position order s) (upper order r) (upper order i) (eq_ge cmp total (upper order r) (start_position order s) at) l)),

@@ -16,7 +16,7 @@ use Rattle.range_algebra.specs.Compared.{inverted}
 use Rattle.range_algebra.specs.Intervals.{Le, Lt}
 use Rattle.range_algebra.specs.Orders.{eq_le, eq_ge, le_trans, lt_not_le, not_le, not_lt, both, le_lt_trans, lt_trans}
 use Rattle.range_algebra.specs.Cuts.{past}
-use Rattle.range_algebra.proofs.Places.{reaches, turned, turned_known, unbounded_end}
+use Rattle.range_algebra.proofs.Places.{reaching_is_before_past, inverted_bound_is_past, turned_known, unbounded_end}
 use Rattle.range_map.proofs.JustBefore.{IsEnd, end_is}
 
 greater_less : (o : Ordering) → ordering_then o Greater ≡ Less → o ≡ Less
@@ -54,15 +54,15 @@ module _ {K : Type 0} (order : KeyOrder K) (lawful : IsLawful order) where
   past_turned e f i turns known known' le =
       let cmp = position_cmp order.cmp in
       let total = position_total order.cmp lawful.total in
-      let at = turned order lawful f i turns in
+      let at = inverted_bound_is_past order lawful f i turns in
       let start = turned_known order lawful f i turns known' in
       let pe = past order (end_position order e) in
       let pf = past order (end_position order f) in
       let s = start_position order i in
       not_lt cmp total pe pf (λ l.
       let under = le_lt_trans cmp total s pf pe (eq_ge cmp total pf s at) l in
-      let reached = (reaches order lawful i e start known).1 under in
-      let over = (reaches order lawful i f start known').0 (le_trans cmp total s (end_position order e) (end_position order f) reached le) in
+      let reached = (reaching_is_before_past order lawful i e start known).1 under in
+      let over = (reaching_is_before_past order lawful i f start known').0 (le_trans cmp total s (end_position order e) (end_position order f) reached le) in
       lt_not_le cmp total s pf over (eq_le cmp total pf s at))
 
   pub past_le : (e f : Bound K) → IsKnownBound order e → IsKnownBound order f → PLe (end_position order e) (end_position order f) → PLe (past order (end_position order e)) (past order (end_position order f))

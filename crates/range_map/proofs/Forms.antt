@@ -25,7 +25,7 @@ use Rattle.range_map.specs.ItemCuts.{item_lower, item_upper}
 use Rattle.range_map.specs.Stored.{IsStored}
 use Rattle.range_map.specs.Bindings.{IsBound, BindsTo, Binds, IsSomeOf, IsBoundAfter, IsUnboundAfter}
 use Rattle.range_map.proofs.Listed.{IsListed, listed, stored_by, not_greater}
-use Rattle.range_algebra.proofs.Places.{reaches, turned, unbounded_end, held_between}
+use Rattle.range_algebra.proofs.Places.{reaching_is_before_past, inverted_bound_is_past, unbounded_end, held_between}
 
 pub not_both : (o : Ordering) → is_gt o ≡ false → o ≡ Greater → ⊥
 not_both Less h e = cc
@@ -44,13 +44,13 @@ module _ {K : Type 0} (order : KeyOrder K) (lawful : IsLawful order) where
   -- a nonempty range starts below the place where it ends
   pub nonempty_good : (r : AnyRange K) → IsKnownRange order r → (IsEmptyRange order r → ⊥) ↔ Lt places (lower order r) (upper order r)
   nonempty_good r known =
-      let reach = reaches order lawful r.start r.end known.0 known.1 in
+      let reach = reaching_is_before_past order lawful r.start r.end known.0 known.1 in
       (λ h. reach.0 (not_greater (places (start_position order r.start) (end_position order r.end)) h), λ h. not_both (places (start_position order r.start) (end_position order r.end)) (reach.1 h))
 
   pub before_is : (e s : Bound K) → IsKnownBound order e → IsKnownBound order s → places (end_position order e) (start_position order s) ≡ Less ↔ Le places (past order (end_position order e)) (start_position order s)
   before_is e s known others =
       let total = position_total order.cmp lawful.total in
-      let reach = reaches order lawful s e others known in (
+      let reach = reaching_is_before_past order lawful s e others known in (
         λ h. not_lt places total (past order (end_position order e)) (start_position order s) (λ k. lt_not_le places total (end_position order e) (start_position order s) h (reach.1 k)),
         λ h. not_le places total (end_position order e) (start_position order s) (λ k. lt_not_le places total (start_position order s) (past order (end_position order e)) (reach.0 k) h),
       )
@@ -58,7 +58,7 @@ module _ {K : Type 0} (order : KeyOrder K) (lawful : IsLawful order) where
   touches_by : (e i : Bound K) (s : AnyRange K) → inverted e ≡ Some i → Le places (past order (end_position order e)) (lower order s) → IsTrue (start_is_at order (Some i) (lower order s)) ↔ Le places (lower order s) (past order (end_position order e))
   touches_by e i s turns le =
       let total = position_total order.cmp lawful.total in
-      let at = turned order lawful e i turns in
+      let at = inverted_bound_is_past order lawful e i turns in
       let other = equal_is (places (start_position order i) (lower order s)) in (
         λ h. le_trans places total (lower order s) (start_position order i) (past order (end_position order e)) (eq_ge places total (start_position order i) (lower order s) (other.0 h)) (eq_ge places total (past order (end_position order e)) (start_position order i) at),
         λ h. other.1 (sym (total.congr (past order (end_position order e)) (start_position order i) (lower order s) at) ∙ both places total (past order (end_position order e)) (lower order s) le h),

@@ -22,7 +22,7 @@ use Rattle.range_algebra.specs.RangeOrder.{range_cmp}
 use Rattle.range_algebra.specs.Relations.{LiesBefore}
 use Rattle.range_algebra.proofs.Holding.{start_holds, end_holds}
 use Rattle.range_algebra.proofs.Pieces.{start_decided, end_decided, inverted_end, inverted_start}
-use Rattle.range_algebra.proofs.Places.{turned, turned_back, turned_known, unbounded_start}
+use Rattle.range_algebra.proofs.Places.{inverted_bound_is_past, turned_back, turned_known, unbounded_start}
 use Rattle.range_store.specs.declared.storage.Item.{Item}
 use Rattle.range_map.specs.FreeRanges.{full_range, item_ranges, IsHeldOnce, AreGaps, between, free_from}
 use Rattle.range_map.specs.Neighbours.{BeforeFirst, EachNext}
@@ -91,7 +91,7 @@ module _ {K : Type 0} (order : KeyOrder K) (lawful : IsLawful order) where
   behind_by e i r known turns full =
       let total = position_total order.cmp lawful.total in
       let cmp = position_cmp order.cmp in
-      let at = turned order lawful e i turns in
+      let at = inverted_bound_is_past order lawful e i turns in
       let by = before_is order lawful e r.start known full in (
         λ h. le_trans cmp total (Start i) (past order (End e)) (Start r.start) (eq_ge cmp total (past order (End e)) (Start i) at) (by.0 h),
         λ h. by.1 (le_trans cmp total (past order (End e)) (Start i) (Start r.start) (eq_le cmp total (past order (End e)) (Start i) at) h),
@@ -113,7 +113,7 @@ module _ {K : Type 0} (order : KeyOrder K) (lawful : IsLawful order) where
   ends_just_before s i known turns =
       let total = position_total order.cmp lawful.total in
       let cmp = position_cmp order.cmp in
-      (before_is order lawful i s (turned_known order lawful s i turns known) known).1 (eq_le cmp total (past order (End i)) (Start s) (turned order lawful i s (turned_back order lawful s i turns)))
+      (before_is order lawful i s (turned_known order lawful s i turns known) known).1 (eq_le cmp total (past order (End i)) (Start s) (inverted_bound_is_past order lawful i s (turned_back order lawful s i turns)))
 
   -- what holds of each range that may stand between two bounds holds of the one that does
   between_by : (P : AnyRange K → Type 0) (a b : Bound K) (t : Bool) → starts_past_end order a b ≡ t → (PLe (Start a) (End b) → P (record { start = a; end = b })) → Every P (if t then [] else record { start = a; end = b } ∷ [])

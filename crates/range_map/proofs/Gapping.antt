@@ -14,7 +14,7 @@ use Rattle.range_algebra.specs.Compared.{inverted, starts_past_end}
 use Rattle.range_algebra.specs.Intervals.{Le}
 use Rattle.range_algebra.specs.Orders.{lt_le, eq_le, eq_ge, le_trans, not_lt}
 use Rattle.range_algebra.specs.Cuts.{past, lower, upper}
-use Rattle.range_algebra.proofs.Places.{reaches, turned, turned_back, turned_known, unbounded_start, unbounded_end}
+use Rattle.range_algebra.proofs.Places.{reaching_is_before_past, inverted_bound_is_past, turned_back, turned_known, unbounded_start, unbounded_end}
 use Rattle.range_map.specs.Asking.{gap_lower, gap_upper, IsGapStart, IsGapEnd, IsGapBetween}
 use Rattle.range_map.proofs.Forms.{nonempty_good}
 
@@ -29,7 +29,7 @@ module _ {K : Type 0} (order : KeyOrder K) (lawful : IsLawful order) (r : AnyRan
       rw same (known.0, tied_itself (position_total order.cmp lawful.total) (lower order r))
   start_at (Some b) s h =
       let turns = sym h.1 in
-      (turned_known order lawful b.end s turns h.0.1, tied_back (position_total order.cmp lawful.total) (upper order b) (start_position order s) (turned order lawful b.end s turns))
+      (turned_known order lawful b.end s turns h.0.1, tied_back (position_total order.cmp lawful.total) (upper order b) (start_position order s) (inverted_bound_is_past order lawful b.end s turns))
 
   end_at : (after : Option (AnyRange K)) (e : Bound K) → IsGapEnd order r after (Some e) → IsKnownBound order e × (position_cmp order.cmp (past order (end_position order e)) (gap_upper order r after) ≡ Equal)
   end_at None e h =
@@ -37,7 +37,7 @@ module _ {K : Type 0} (order : KeyOrder K) (lawful : IsLawful order) (r : AnyRan
       rw same (known.1, tied_itself (position_total order.cmp lawful.total) (upper order r))
   end_at (Some a) e h =
       let turns = sym h.1 in
-      (turned_known order lawful a.start e turns h.0.0, turned order lawful e a.start (turned_back order lawful a.start e turns))
+      (turned_known order lawful a.start e turns h.0.0, inverted_bound_is_past order lawful e a.start (turned_back order lawful a.start e turns))
 
   -- nothing starts after a range with no end
   last_end : (e a : Bound K) → None ≡ inverted e → IsKnownBound order a → Le (position_cmp order.cmp) (past order (end_position order a)) (past order (end_position order e))
@@ -73,11 +73,11 @@ module _ {K : Type 0} (order : KeyOrder K) (lawful : IsLawful order) (r : AnyRan
       let end = end_at after e k in
       let p = start_position order s in
       let q = past order (end_position order e) in
-      let over = not_lt cmp total q p (λ l. true_not (starts_past_end order s e) past_it ((reaches order lawful s e start.0 end.0).1 l)) in
+      let over = not_lt cmp total q p (λ l. true_not (starts_past_end order s e) past_it ((reaching_is_before_past order lawful s e start.0 end.0).1 l)) in
       le_trans cmp total (gap_upper order r after) q (gap_lower order r before) (eq_ge cmp total q (gap_upper order r after) end.1) (le_trans cmp total q p (gap_lower order r before) over (eq_le cmp total p (gap_lower order r before) start.1))
 
   pub a_gap : (before after : Option (AnyRange K)) (s e : Bound K) → IsGapStart order r before (Some s) → IsGapEnd order r after (Some e) → false ≡ starts_past_end order s e → IsGapBetween order r before after (Some (record { start = s; end = e }))
   a_gap before after s e h k room =
       let start = start_at before s h in
       let end = end_at after e k in
-      ((start.0, end.0), start.1, end.1, (reaches order lawful s e start.0 end.0).0 (sym room))
+      ((start.0, end.0), start.1, end.1, (reaching_is_before_past order lawful s e start.0 end.0).0 (sym room))

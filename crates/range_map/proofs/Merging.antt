@@ -10,7 +10,7 @@ use Rattle.range_algebra.specs.Intervals.{Lt, Any, Every}
 use Rattle.range_algebra.specs.Orders.{le_lt_trans, lt_le_trans, lt_trans, lt_not_le}
 use Rattle.range_algebra.specs.Range.{IsKnownRange}
 use Rattle.range_algebra.specs.declared.any.AnyRange.{AnyRange}
-use Rattle.range_algebra.proofs.Places.{reaches}
+use Rattle.range_algebra.proofs.Places.{reaching_is_before_past}
 use Rattle.range_store.specs.declared.storage.Item.{Item}
 use Rattle.range_map.specs.Frames.{IsMergedInto, StandOrMerge, RunGaveWay}
 use Rattle.range_map.specs.ItemCuts.{item_lower, item_upper}
@@ -31,8 +31,8 @@ module _ {K : Type 0} (order : KeyOrder K) (lawful : IsLawful order) where
   crossing_meets s r known others under over =
       let cmp = places order lawful in
       let total = position_total order.cmp lawful.total in (
-        λ l. lt_not_le cmp total (end_position order s.end) (start_position order r.start) l ((reaches order lawful r.start s.end others.0 known.1).1 over),
-        λ l. lt_not_le cmp total (end_position order r.end) (start_position order s.start) l ((reaches order lawful s.start r.end known.0 others.1).1 under),
+        λ l. lt_not_le cmp total (end_position order s.end) (start_position order r.start) l ((reaching_is_before_past order lawful r.start s.end others.0 known.1).1 over),
+        λ l. lt_not_le cmp total (end_position order r.end) (start_position order s.start) l ((reaching_is_before_past order lawful s.start r.end known.0 others.1).1 under),
       )
 
   module _ {V : Type 0} (same : V → V → Bool) (equal : IsEquivalence same) (items : List (Item (AnyRange K) V)) (r : AnyRange K) (known : IsKnownRange order r) (some : Lt (places order lawful) (lower order r) (upper order r)) (full : Every (IsFull order lawful items r) items) (chain : Chained order lawful same equal items) (done rest : List (Item (AnyRange K) V)) (x : Item (AnyRange K) V) (list : items ≡ done ++ x ∷ rest) (starts : Lt (places order lawful) (item_lower order x) (lower order r)) (ends : Lt (places order lawful) (upper order r) (item_upper order x)) where

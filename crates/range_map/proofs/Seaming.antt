@@ -20,7 +20,7 @@ use Rattle.range_algebra.specs.Orders.{eq_ge, le_lt_trans, le_refl, lt_le, eq_le
 use Rattle.range_algebra.specs.Range.{IsKnownBound, IsKnownRange, IsEmptyRange}
 use Rattle.range_algebra.specs.Relations.{Touches}
 use Rattle.range_algebra.specs.declared.any.AnyRange.{AnyRange}
-use Rattle.range_algebra.proofs.Places.{reaches, turned, turned_known}
+use Rattle.range_algebra.proofs.Places.{reaching_is_before_past, inverted_bound_is_past, turned_known}
 use Rattle.range_store.specs.declared.storage.Item.{Item}
 use Rattle.range_store.specs.Places.{IsAt}
 use Rattle.range_map.specs.declared.change.edges.Edge.{Edge}
@@ -58,10 +58,10 @@ module _ {K : Type 0} (order : KeyOrder K) (lawful : IsLawful order) where
   within_by part r (Some s) turns known others within over =
       let cmp = places order lawful in
       let total = position_total order.cmp lawful.total in
-      let at = turned order lawful r.end s (sym turns) in
+      let at = inverted_bound_is_past order lawful r.end s (sym turns) in
       let known_s = turned_known order lawful r.end s (sym turns) others.1 in
-      let reach = (reaches order lawful s part.end known_s known.1).1 (le_lt_trans cmp total (start_position order s) (upper order r) (upper order part) (eq_ge cmp total (upper order r) (start_position order s) at) over) in
-      let back = (reaches order lawful s r.end known_s others.1).0 (le_trans cmp total (start_position order s) (end_position order part.end) (end_position order r.end) reach within) in
+      let reach = (reaching_is_before_past order lawful s part.end known_s known.1).1 (le_lt_trans cmp total (start_position order s) (upper order r) (upper order part) (eq_ge cmp total (upper order r) (start_position order s) at) over) in
+      let back = (reaching_is_before_past order lawful s r.end known_s others.1).0 (le_trans cmp total (start_position order s) (end_position order part.end) (end_position order r.end) reach within) in
       lt_not_le cmp total (start_position order s) (upper order r) back (eq_le cmp total (upper order r) (start_position order s) at)
 
   -- a range that ends by another's end ends by its place

@@ -18,7 +18,7 @@ use Rattle.range_algebra.specs.Intervals.{Lt, Every}
 use Rattle.range_algebra.specs.Orders.{eq_ge, lt_not_le, le_lt_trans, lt_trans}
 use Rattle.range_algebra.specs.Chains.{every_weaker}
 use Rattle.range_algebra.proofs.Lists.{every_at}
-use Rattle.range_algebra.proofs.Places.{turned}
+use Rattle.range_algebra.proofs.Places.{inverted_bound_is_past}
 use Rattle.range_store.specs.declared.storage.Item.{Item}
 use Rattle.range_map.specs.Neighbours.{EachNext}
 use Rattle.range_algebra.specs.Relations.{LiesBefore}
@@ -50,11 +50,11 @@ module _ {K : Type 0} (order : KeyOrder K) (lawful : IsLawful order) where
   touching_same (Included a) p h =
       let cmp = position_cmp order.cmp in
       let start = start_position order (Excluded a) in
-      (position_total order.cmp lawful.total).congr (past order (end_position order (Included a))) start p (turned order lawful (Included a) (Excluded a) refl) ∙ equal_is (cmp start p) h
+      (position_total order.cmp lawful.total).congr (past order (end_position order (Included a))) start p (inverted_bound_is_past order lawful (Included a) (Excluded a) refl) ∙ equal_is (cmp start p) h
   touching_same (Excluded a) p h =
       let cmp = position_cmp order.cmp in
       let start = start_position order (Included a) in
-      (position_total order.cmp lawful.total).congr (past order (end_position order (Excluded a))) start p (turned order lawful (Excluded a) (Included a) refl) ∙ equal_is (cmp start p) h
+      (position_total order.cmp lawful.total).congr (past order (end_position order (Excluded a))) start p (inverted_bound_is_past order lawful (Excluded a) (Included a) refl) ∙ equal_is (cmp start p) h
   touching_same Unbounded p h = absurd (cc)
 
   -- an element that is before a range is before what starts past its start

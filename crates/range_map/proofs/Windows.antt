@@ -16,7 +16,7 @@ use Rattle.range_algebra.specs.Cuts.{lower, upper}
 use Rattle.range_map.specs.ItemCuts.{item_lower, item_upper}
 use Rattle.range_map.specs.Stored.{IsStored}
 use Rattle.range_map.specs.Window.{IsFound, IsWalk, IsWindow}
-use Rattle.range_algebra.proofs.Places.{reaches}
+use Rattle.range_algebra.proofs.Places.{reaching_is_before_past}
 use Rattle.range_map.proofs.Forms.{places, before_is, Known, Chained, stored_known, stored_chain}
 use Rattle.range_algebra.proofs.Lists.{every_at, parts}
 
@@ -49,8 +49,8 @@ module _ {K : Type 0} (order : KeyOrder K) (lawful : IsLawful order) {V : Type 0
         last_is = walk.last_is;
         after_is = walk.after_is;
         below = every_weaker _ _ (take place items) (λ i h. (before_is order lawful i.key.end r.start h.0.1 known.0).0 (rw at_start at h.1)) (every_both (λ i. IsKnownRange order i.key) _ (take place items) (every_left _ (take place items) (drop place items) (known_parts place)) found.below);
-        above = every_weaker _ _ (drop place items) (λ i h. (reaches order lawful r.start i.key.end known.0 h.0.1).0 (rw at_start at h.1)) (every_both (λ i. IsKnownRange order i.key) _ (drop place items) (every_right _ (take place items) (drop place items) (known_parts place)) found.above);
-        meets = λ d some. let x = get_or items (place + count - 1) d in (reaches order lawful x.key.start r.end (every_at (λ i. IsKnownRange order i.key) items (place + count - 1) d all (omega (arith, walk.in_range))).0 known.1).0 (rw at_end at (walk.meets d some));
+        above = every_weaker _ _ (drop place items) (λ i h. (reaching_is_before_past order lawful r.start i.key.end known.0 h.0.1).0 (rw at_start at h.1)) (every_both (λ i. IsKnownRange order i.key) _ (drop place items) (every_right _ (take place items) (drop place items) (known_parts place)) found.above);
+        meets = λ d some. let x = get_or items (place + count - 1) d in (reaching_is_before_past order lawful x.key.start r.end (every_at (λ i. IsKnownRange order i.key) items (place + count - 1) d all (omega (arith, walk.in_range))).0 known.1).0 (rw at_end at (walk.meets d some));
         behind = behind_is e r (drop (place + count) items) at_end known (every_right _ (take (place + count) items) (drop (place + count) items) (known_parts (place + count)))
             (chain_right (places order lawful) (position_total order.cmp lawful.total) same equal (item_lower order) (item_upper order) (λ i. i.value) (take (place + count) items) (drop (place + count) items) (chain_parts (place + count)))
             (λ d some. let index : place + count + 0 ≡ place + count = omega arith in rw (get_or-drop (place + count) items 0 d, index) (walk.stops d (omega (arith, length-drop (place + count) items, walk.in_range))));

@@ -13,7 +13,7 @@ use Rattle.range_algebra.specs.Cuts.{past}
 use Rattle.range_algebra.specs.Intervals.{Le, Lt, Any, Every}
 use Rattle.range_algebra.specs.Orders.{eq_ge, le_trans, lt_not_le, not_le, not_lt, cases, lt_le_trans, le_lt_trans}
 use Rattle.range_algebra.specs.Range.{IsKnownBound, IsKnownRange, IsEmptyRange}
-use Rattle.range_algebra.proofs.Places.{reaches, turned, turned_back, turned_known, unbounded_start}
+use Rattle.range_algebra.proofs.Places.{reaching_is_before_past, inverted_bound_is_past, turned_back, turned_known, unbounded_start}
 use Rattle.range_store.specs.declared.storage.Item.{Item}
 use Rattle.range_map.specs.FreeRanges.{between, free_from}
 use Rattle.range_map.specs.Pieces.{LiesIn}
@@ -63,15 +63,15 @@ module _ {K : Type 0} (order : KeyOrder K) (lawful : IsLawful order) where
   reach_before p x b known known_x turns l =
       let total = position_total order.cmp lawful.total in
       let cmp = position_cmp order.cmp in
-      let at = turned order lawful b x (turned_back order lawful x b turns) in
-      (reaches order lawful p b known (turned_known order lawful x b turns known_x)).1 (lt_le_trans cmp total (Start p) (Start x) (past order (End b)) l (eq_ge cmp total (past order (End b)) (Start x) at))
+      let at = inverted_bound_is_past order lawful b x (turned_back order lawful x b turns) in
+      (reaching_is_before_past order lawful p b known (turned_known order lawful x b turns known_x)).1 (lt_le_trans cmp total (Start p) (Start x) (past order (End b)) l (eq_ge cmp total (past order (End b)) (Start x) at))
 
   -- what starts past the end just before a start is at least there
   start_after : (p x b : Bound K) → IsKnownBound order p → IsKnownBound order x → inverted x ≡ Some b → PLt (End b) (Start p) → PLe (Start x) (Start p)
   start_after p x b known known_x turns l =
       let total = position_total order.cmp lawful.total in
       let cmp = position_cmp order.cmp in
-      let at = turned order lawful b x (turned_back order lawful x b turns) in
+      let at = inverted_bound_is_past order lawful b x (turned_back order lawful x b turns) in
       le_trans cmp total (Start x) (past order (End b)) (Start p) (eq_ge cmp total (past order (End b)) (Start x) at) ((before_is order lawful b p (turned_known order lawful x b turns known_x) known).0 l)
 
   -- what ends behind an end reaches the start just past it
@@ -117,7 +117,7 @@ module _ {K : Type 0} (order : KeyOrder K) (lawful : IsLawful order) where
       let ahead = le_lt_trans cmp total (Start r.start) (End e) (Start next.start) starts before in
       let second = turned_start next.start r.start full.0.0 ahead in
       let b = second.0 in
-      let up = le_lt_trans cmp total (Start a) (past order (End e)) (Start next.start) (eq_ge cmp total (past order (End e)) (Start a) (turned order lawful e a first.1)) (not_le cmp total (past order (End e)) (Start next.start) apart) in
+      let up = le_lt_trans cmp total (Start a) (past order (End e)) (Start next.start) (eq_ge cmp total (past order (End e)) (Start a) (inverted_bound_is_past order lawful e a first.1)) (not_le cmp total (past order (End e)) (Start next.start) apart) in
       missed r (inverted e) (inverted next.start) a b first.1 second.1 (reach_before a next.start b known_a known_next.0 second.1 up) all (
         λ behind. lt_not_le cmp total (Start r.start) (Start next.start) ahead (start_after r.start next.start b full.0.0 known_next.0 second.1 behind),
         end_reaches e a r.end full.0.1 first.1 l,

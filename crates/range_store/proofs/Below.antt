@@ -17,8 +17,8 @@ unfolding Shaped
 Shaped-but s d n shaped = record { node = shaped.0; children = shaped.1 }
 
 -- the bounds on a node may be wider
-pub wider : (low least most top : ℕ) (s : Slab Node) (d n : ℕ) → low ≤ least → most ≤ top → ShapedBut least most s d n → ShapedBut low top s d n
-wider low least most top s d n le le' shaped = record {
+pub shaped_within_wider : (low least most top : ℕ) (s : Slab Node) (d n : ℕ) → low ≤ least → most ≤ top → ShapedBut least most s d n → ShapedBut low top s d n
+shaped_within_wider low least most top s d n le le' shaped = record {
   node = record { present = shaped.node.present; enough = omega (arith, shaped.node.enough); fits = omega (arith, shaped.node.fits); branches = shaped.node.branches };
   children = shaped.children;
 }

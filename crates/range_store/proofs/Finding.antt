@@ -7,7 +7,7 @@ use Rattle.slab.specs.Slab.{Slab, get}
 use Rattle.range_store.specs.Falling.{Falls, passes}
 use Rattle.range_store.specs.Listed.{Stored, listed, some_cases, stored_head, stored_tail, listed-cons, length-listed}
 use Rattle.range_store.specs.Places.{IsFrontOf}
-use Rattle.range_store.proofs.Front.{count-yes, count-no, true_or_false, passing}
+use Rattle.range_store.proofs.Front.{count-yes, count-no, true_or_false, stored_item_passes}
 
 module _ {T : Type 0} (s : Slab T) (test : T → Bool) where
   -- where no item passes, none is counted
@@ -16,7 +16,7 @@ module _ {T : Type 0} (s : Slab T) (test : T → Bool) where
   none_counted (n ∷ ns) stored fails =
       let head = some_cases (get s n) (stored_head s n ns stored) in
       let whole = listed-cons s n head.0 ns head.1 in
-      let here : passes s test n ≡ false = passing s test n head.0 head.1 ∙ ap (λ zs. test (get_or zs 0 head.0)) (sym whole) ∙ fails 0 head.0 (omega (arith, ap length whole)) in
+      let here : passes s test n ≡ false = stored_item_passes s test n head.0 head.1 ∙ ap (λ zs. test (get_or zs 0 head.0)) (sym whole) ∙ fails 0 head.0 (omega (arith, ap length whole)) in
       let later = none_counted ns (stored_tail s n ns stored) (λ k d within. ap (λ zs. test (get_or zs (suc k) d)) (sym whole) ∙ fails (suc k) d (omega (arith, ap length whole, within))) in
       omega (arith, count-no (passes s test) n ns here, later)
 
@@ -27,7 +27,7 @@ module _ {T : Type 0} (s : Slab T) (test : T → Bool) where
       let head = some_cases (get s n) (stored_head s n ns stored) in
       let whole = listed-cons s n head.0 ns head.1 in
       let part' = subst (λ zs. IsPartitionedBy test zs) whole part in (
-        (λ fails. none_counted ns (stored_tail s n ns stored) (λ k d within. false_from_ne_true _ (λ holds. both_ways (test head.0) (sym (passing s test n head.0 head.1) ∙ fails) (part' 0 (suc k) d (omega arith) (omega (arith, within)) holds)))),
+        (λ fails. none_counted ns (stored_tail s n ns stored) (λ k d within. false_from_ne_true _ (λ holds. both_ways (test head.0) (sym (stored_item_passes s test n head.0 head.1) ∙ fails) (part' 0 (suc k) d (omega arith) (omega (arith, within)) holds)))),
         falls_listed ns (stored_tail s n ns stored) (λ i j d le within holds. part' (suc i) (suc j) d (omega arith) (omega (arith, within)) holds),
       )
 
@@ -42,7 +42,7 @@ module _ {T : Type 0} (s : Slab T) (test : T → Bool) where
       let head = some_cases (get s n) (stored_head s n ns stored) in
       let later = front_passes ns (stored_tail s n ns stored) falls.1 in
       rw (listed-cons s n head.0 ns head.1) (elim (true_or_false (passes s test) (passes s test n)) [
-        | inl holds ↦ yes_front head.0 (listed s ns) (count_by (passes s test) ns) later (sym (passing s test n head.0 head.1) ∙ holds) k d (omega (arith, less, count-yes (passes s test) n ns holds))
+        | inl holds ↦ yes_front head.0 (listed s ns) (count_by (passes s test) ns) later (sym (stored_item_passes s test n head.0 head.1) ∙ holds) k d (omega (arith, less, count-yes (passes s test) n ns holds))
         | inr fails ↦ absurd (omega (arith, less, count-no (passes s test) n ns fails, falls.0 fails))
       ])
 
@@ -64,7 +64,7 @@ module _ {T : Type 0} (s : Slab T) (test : T → Bool) where
       let inside : k < 1 + length (listed s ns) = omega (arith, within, ap length whole) in
       rw whole (elim (true_or_false (passes s test) (passes s test n)) [
         | inl holds ↦ yes_back head.0 (listed s ns) (count_by (passes s test) ns) later k d (omega (arith, le, count-yes (passes s test) n ns holds)) inside
-        | inr fails ↦ no_back head.0 (listed s ns) (count_by (passes s test) ns) later (falls.0 fails) (sym (passing s test n head.0 head.1) ∙ fails) k d inside
+        | inr fails ↦ no_back head.0 (listed s ns) (count_by (passes s test) ns) later (falls.0 fails) (sym (stored_item_passes s test n head.0 head.1) ∙ fails) k d inside
       ])
 
   -- the items that pass are the first ones

@@ -69,9 +69,9 @@ module _ (p : ℕ → Bool) where
       }
 
 -- a list that is halved this many times at most
-pub halved : (r x : ℕ) → 0 < x → x < 2 ^ r → (s : ℕ) × (r ≡ s + 1) × ((y : ℕ) → y ≤ x / 2 → y < 2 ^ s)
-halved zero x some less = absurd (omega arith)
-halved (suc s) x some less = (s, omega arith, λ y small. omega (arith, pow-suc 2 s))
+pub half_is_below_power : (r x : ℕ) → 0 < x → x < 2 ^ r → (s : ℕ) × (r ≡ s + 1) × ((y : ℕ) → y ≤ x / 2 → y < 2 ^ s)
+half_is_below_power zero x some less = absurd (omega arith)
+half_is_below_power (suc s) x some less = (s, omega arith, λ y small. omega (arith, pow-suc 2 s))
 
 -- how far the halving of xs has come, with the steps that were counted
 pub record Halving (p : ℕ → Bool) (xs : List ℕ) (low high first now : ℕ) : Type 0 where
@@ -96,7 +96,7 @@ halving_starts p xs first small count = record {
 
 pub halving_holds : (p : ℕ → Bool) (xs : List ℕ) (low high first now : ℕ) → Falls p xs → low < high → p (get_or xs (low + (high - low) / 2) 0) ≡ true → Halving p xs low high first now → Halving p xs (low + (high - low) / 2 + 1) high first (one_step_after now)
 halving_holds p xs low high first now falls less holds h =
-    let next = halved h.left.0 (high - low) (omega arith) h.left.1 in
+    let next = half_is_below_power h.left.0 (high - low) (omega arith) h.left.1 in
     let half : (high - low) / 2 < high - low = omega arith in
     record {
       ordered = omega arith;
@@ -110,7 +110,7 @@ halving_holds p xs low high first now falls less holds h =
 
 pub halving_fails : (p : ℕ → Bool) (xs : List ℕ) (low high first now : ℕ) → Falls p xs → low < high → p (get_or xs (low + (high - low) / 2) 0) ≡ false → Halving p xs low high first now → Halving p xs low (low + (high - low) / 2) first (one_step_after now)
 halving_fails p xs low high first now falls less fails h =
-    let next = halved h.left.0 (high - low) (omega arith) h.left.1 in
+    let next = half_is_below_power h.left.0 (high - low) (omega arith) h.left.1 in
     let half : (high - low) / 2 < high - low = omega arith in
     record {
       ordered = omega arith;
@@ -122,5 +122,5 @@ halving_fails p xs low high first now falls less fails h =
       begun = inl (omega (arith, h.later));
     }
 
-pub passing : {T : Type 0} (items : Slab T) (test : T → Bool) (k : ℕ) (x : T) → get items k ≡ Some x → passes items test k ≡ test x
-passing items test k x found = rw found refl
+pub stored_item_passes : {T : Type 0} (items : Slab T) (test : T → Bool) (k : ℕ) (x : T) → get items k ≡ Some x → passes items test k ≡ test x
+stored_item_passes items test k x found = rw found refl

@@ -12,7 +12,7 @@ use Rattle.range_store.specs.declared.btree.node.TheConstants.{CAPACITY, MIN_LEN
 use Rattle.range_store.specs.Nodes.{weave, rest_of, front_of, before, after, items_of, children_of, child_count, numbers, used, Shaped, ShapedBut, here, Owned, Moves, tops, separators, Replaces, EnoughFor, HasTreeRoom, Writes}
 use Rattle.range_store.specs.Contents.{IsContent, Settles}
 use Rattle.range_store.specs.Occurrences.{occurrences, occurrences-append, occurrences-cons, occurrences_itself}
-use Rattle.range_store.proofs.Weave.{parts, weave_splice, insert_middle, length-weave}
+use Rattle.range_store.proofs.Weave.{list_splits_at, weave_splice, insert_middle, length-weave}
 use Rattle.range_store.proofs.Frame.{AgreeAt, AgreeAt-left, AgreeAt-right, SameChildren, same_children}
 use Rattle.range_store.proofs.Below.{children_length, numbers_at, used_is, Shaped-from_but, Shaped-but, child_count_cases, child_count_inner}
 use Rattle.range_store.proofs.Moves.{Moves-like, Moves-then, Moves-beside, Moves-agree}
@@ -140,7 +140,7 @@ module _ (s t : Slab Node) (b n i rest item : ℕ) (split : Option Split) (inner
   many = children_length 1 CAPACITY s b n (omega arith) shaped
 
   ks_parts : ks ≡ us ++ (kid ∷ vs)
-  ks_parts = parts ks i 0 (omega (arith, many))
+  ks_parts = list_splits_at ks i 0 (omega (arith, many))
 
   kid_shape : ShapedBut MIN_LEN CAPACITY s (b - 1) kid
   kid_shape = Shaped-but s (b - 1) kid (rw (← level) at (shaped.children i 0 (omega (arith, many))))
@@ -226,7 +226,7 @@ kid_owned s b n i owned low k =
     let kid = get_or ks i 0 in
     let us = flat_map (used s b) (take i ks) in
     let vs = flat_map (used s b) (drop (i + 1) ks) in
-    let all : flat_map (used s b) ks ≡ us ++ (used s b kid ++ vs) = ap (flat_map (used s b)) (parts ks i 0 low) ∙ flat_map-append (used s b) (take i ks) (kid ∷ drop (i + 1) ks) in
+    let all : flat_map (used s b) ks ≡ us ++ (used s b kid ++ vs) = ap (flat_map (used s b)) (list_splits_at ks i 0 low) ∙ flat_map-append (used s b) (take i ks) (kid ∷ drop (i + 1) ks) in
     omega (arith, owned k, ap (occurrences k) (used_is s b n), occurrences-cons k n (flat_map (used s b) ks), ap (occurrences k) all, occurrences-append k us (used s b kid ++ vs), occurrences-append k (used s b kid) vs)
 
 -- a child that was not cut leaves the node as it is
@@ -248,7 +248,7 @@ module _ (s t : Slab Node) (b n i rest item : ℕ) (inner : b ≢ 0) (shaped : S
     was = content.present;
     present = content.present;
     items_are = ap items_of kept ∙ sym (take-append-drop i (items_of (get s n)));
-    children_are = ap children_of kept ∙ parts (children_of (get s n)) i 0 (omega (arith, children_length 1 CAPACITY s b n (omega arith) shaped));
+    children_are = ap children_of kept ∙ list_splits_at (children_of (get s n)) i 0 (omega (arith, children_length 1 CAPACITY s b n (omega arith) shaped));
     others = λ k other. refl;
     len = refl;
     capacity = refl;

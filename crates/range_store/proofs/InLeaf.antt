@@ -10,7 +10,7 @@ use Rattle.range_store.specs.declared.btree.way.TheConstants.{WIDTH}
 use Rattle.range_store.specs.declared.btree.way.Gap.{Gap}
 use Rattle.range_store.specs.Nodes.{items_of, children_of, numbers, before, after, ShapedBut}
 use Rattle.range_store.specs.Gaps.{turn, inside, IsGap, place}
-use Rattle.range_store.proofs.Below.{wider, numbers_leaf, numbers_at}
+use Rattle.range_store.proofs.Below.{shaped_within_wider, numbers_leaf, numbers_at}
 use Rattle.range_store.proofs.Edits.{set_parts, remove_parts, remove_behind}
 use Rattle.range_store.proofs.Rank.{kid_shaped, rank_in_child}
 
@@ -34,7 +34,7 @@ leaf_of_gap s zero n g shaped is =
     rw is.0 (record { present = shaped.node.present; some = shaped.node.enough; fits = shaped.node.fits; childless = shaped.node.branches; within = is.2 })
 leaf_of_gap s (suc d) n g shaped is =
     let low : turn g ≤ length (items_of (get s n)) = omega (arith, is.0, shaped.node.branches) in
-    let below = leaf_of_gap s d _ (inside g) (wider 1 MIN_LEN CAPACITY CAPACITY s d _ (omega arith) (omega arith) (kid_shaped 1 CAPACITY s d n (turn g) shaped low)) is.1 in
+    let below = leaf_of_gap s d _ (inside g) (shaped_within_wider 1 MIN_LEN CAPACITY CAPACITY s d _ (omega arith) (omega arith) (kid_shaped 1 CAPACITY s d n (turn g) shaped low)) is.1 in
     record { present = below.present; some = below.some; fits = below.fits; childless = below.childless; within = below.within }
 
 -- another gap in it

@@ -14,7 +14,7 @@ use Rattle.range_store.specs.Gaps.{turn, inside, IsGap, place}
 use Rattle.range_store.specs.Contents.{IsContent, IsRewritten}
 use Rattle.range_store.specs.Occurrences.{occurrences}
 use Rattle.range_store.specs.Trees.{tree_numbers, IsTreeGap, tree_place}
-use Rattle.range_store.proofs.Below.{numbers_at, numbers_leaf, used_is, wider, Shaped-from_but}
+use Rattle.range_store.proofs.Below.{numbers_at, numbers_leaf, used_is, shaped_within_wider, Shaped-from_but}
 use Rattle.range_store.proofs.Contents.{Holds, written_holds, held_numbers, held_used, held_shape}
 use Rattle.range_store.proofs.Frame.{IsNode-same}
 use Rattle.range_store.proofs.Gaps.{leaf_gap, leaf_place, gap_above, place_inside}
@@ -35,8 +35,8 @@ pub record IsLeafEdit (s t : Slab Node) (d n : ℕ) (g : Gap) (items : List ℕ)
   pub rewritten : IsRewritten s t d n (front ++ (items ++ rest))
   pub gaps : (h : Gap) → h.leaf ≡ g.leaf → h.way ≡ g.way → h.index ≤ length items → IsGap t d n h × (place t d n h ≡ length front + h.index)
 
-regrouped : {X : Type 0} (f a m b r : List X) → f ++ ((a ++ (m ++ b)) ++ r) ≡ (f ++ a) ++ (m ++ (b ++ r))
-regrouped f a m b r =
+leaf_parts_regroup : {X : Type 0} (f a m b r : List X) → f ++ ((a ++ (m ++ b)) ++ r) ≡ (f ++ a) ++ (m ++ (b ++ r))
+leaf_parts_regroup f a m b r =
     ap (λ zs. f ++ zs) (append_assoc a (m ++ b) r ∙ ap (λ zs. a ++ zs) (append_assoc m b r)) ∙ sym (append_assoc f a (m ++ (b ++ r)))
 
 -- of a leaf itself
@@ -92,12 +92,12 @@ module _ (s t : Slab Node) (d n : ℕ) (g : Gap) (items : List ℕ) (shaped : Sh
     was =
         numbers_at 1 CAPACITY s (suc d) n (omega arith) shaped (turn g) low
         ∙ ap (λ zs. fore ++ (zs ++ behind)) below.was
-        ∙ regrouped fore below.front (items_of (get s g.leaf)) below.rest behind;
+        ∙ leaf_parts_regroup fore below.front (items_of (get s g.leaf)) below.rest behind;
     place_is = omega (arith, place_inside s d n g, below.place_is, length-append fore below.front);
     rewritten = record {
       listed =
           kid_listed s t (suc d) n (turn g) _ inner shaped owned low below.rewritten.listed below.rewritten.moved
-          ∙ regrouped fore below.front items below.rest behind;
+          ∙ leaf_parts_regroup fore below.front items below.rest behind;
       moved = kid_moved s t (suc d) n (turn g) _ inner shaped owned low below.rewritten.listed below.rewritten.moved;
       shape = λ least small old. record {
         node = IsNode-same least CAPACITY s t (suc d) n kept old.node;
@@ -119,7 +119,7 @@ leaf_edit s t zero n g items fits enough shaped owned is written =
 leaf_edit s t (suc d) n g items fits enough shaped owned is written =
     let low : turn g ≤ length (items_of (get s n)) = omega (arith, is.0, shaped.node.branches) in
     let kid = get_or (children_of (get s n)) (turn g) 0 in
-    let kid_whole = wider 1 MIN_LEN CAPACITY CAPACITY s d kid (omega arith) (omega arith) (kid_shaped 1 CAPACITY s d n (turn g) shaped low) in
+    let kid_whole = shaped_within_wider 1 MIN_LEN CAPACITY CAPACITY s d kid (omega arith) (omega arith) (kid_shaped 1 CAPACITY s d n (turn g) shaped low) in
     edited_above s t d n g items shaped owned low is.0
     (leaf_edit s t d kid (inside g) items fits enough kid_whole (kid_owned s (suc d) n (turn g) owned is.0) is.1 written)
 
@@ -165,8 +165,8 @@ module _ (t : NumberTree) (new : Slab Node) (g : Gap) (is : IsTreeGap t g) where
     pub gap : IsGap new (t.levels - 1) t.root h
     pub place_is : place new (t.levels - 1) t.root h + g.index ≡ tree_place t g + before
 
-  changed : (now list : List ℕ) (h : Gap) (edit : IsLeafEdit t.nodes new (t.levels - 1) t.root g now) → edit.front ++ (now ++ edit.rest) ≡ list → h.leaf ≡ g.leaf → h.way ≡ g.way → h.index ≤ length now → IsLeafChange list h h.index
-  changed now list h edit same at way within =
+  leaf_change_lists : (now list : List ℕ) (h : Gap) (edit : IsLeafEdit t.nodes new (t.levels - 1) t.root g now) → edit.front ++ (now ++ edit.rest) ≡ list → h.leaf ≡ g.leaf → h.way ≡ g.way → h.index ≤ length now → IsLeafChange list h h.index
+  leaf_change_lists now list h edit same at way within =
       let whole = rewritten_tree t.nodes new t.levels t.root _ is.some t.whole.tree edit.rewritten in
       let gap = edit.gaps h at way within in
       record {
@@ -182,11 +182,11 @@ module _ (t : NumberTree) (new : Slab Node) (g : Gap) (is : IsTreeGap t g) where
       let within = leaf.within in
       let more = length-insert items g.index item within in
       let edit = leaf_edit t.nodes new (t.levels - 1) t.root g (insert items g.index item) (omega (arith, more, room)) (λ least small old. omega (arith, more, old)) shaped owned is.gap written in
-      changed (insert items g.index item) _ h edit (rw level at (inserted_in_leaf t.nodes new (t.levels - 1) t.root item g edit within)) at way (omega (arith, more, next, within))
+      leaf_change_lists (insert items g.index item) _ h edit (rw level at (inserted_in_leaf t.nodes new (t.levels - 1) t.root item g edit within)) at way (omega (arith, more, next, within))
 
   pub take_from_leaf : (h : Gap) → MIN_LEN < length items → 0 < g.index → Writes t.nodes new g.leaf (remove items (g.index - 1)) (children_of (get t.nodes g.leaf)) → h.leaf ≡ g.leaf → h.way ≡ g.way → h.index ≡ g.index - 1 → IsLeafChange (remove (tree_numbers t) (tree_place t g - 1)) h h.index
   take_from_leaf h spare some written at way back =
       let within = leaf.within in
       let less = length-remove items (g.index - 1) (omega (arith, within, some)) in
       let edit = leaf_edit t.nodes new (t.levels - 1) t.root g (remove items (g.index - 1)) (omega (arith, less, leaf.fits)) (λ least small old. omega (arith, less, spare, small)) shaped owned is.gap written in
-      changed (remove items (g.index - 1)) _ h edit (rw level at (removed_in_leaf t.nodes new (t.levels - 1) t.root g edit some within)) at way (omega (arith, less, back, within))
+      leaf_change_lists (remove items (g.index - 1)) _ h edit (rw level at (removed_in_leaf t.nodes new (t.levels - 1) t.root g edit some within)) at way (omega (arith, less, back, within))

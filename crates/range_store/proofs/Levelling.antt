@@ -10,7 +10,7 @@ use Rattle.range_store.specs.Nodes.{weave, rest_of, front_of, before, items_of, 
 use Rattle.range_store.specs.Gaps.{turn, inside, IsGap, place, IsSeat, seat_place}
 use Rattle.range_store.specs.Contents.{IsContent, IsPair, Rejoins}
 use Rattle.range_store.specs.Occurrences.{occurrences, occurrences-append, occurrences-cons}
-use Rattle.range_store.proofs.Weave.{parts, weave_splice}
+use Rattle.range_store.proofs.Weave.{list_splits_at, weave_splice}
 use Rattle.range_store.proofs.Below.{weave_numbers}
 use Rattle.range_store.proofs.Moves.{Moves-then, Writes-moves}
 use Rattle.range_store.proofs.Contents.{held_numbers, held_used, held_shape, written_holds, written_agree}
@@ -21,7 +21,7 @@ use Rattle.range_store.proofs.Seats.{length-before, seat_run, seat_written}
 pair_parts : (ks : List ℕ) (j : ℕ) → j + 1 < length ks → ks ≡ take j ks ++ (get_or ks j 0 ∷ get_or ks (j + 1) 0 ∷ drop (j + 2) ks)
 pair_parts ks j low =
     let far : j + 1 + 1 ≡ j + 2 = omega arith in
-    parts ks j 0 (omega arith) ∙ ap (λ zs. take j ks ++ (get_or ks j 0 ∷ zs)) (drop_more ks (j + 1) 0 low ∙ ap (λ m. get_or ks (j + 1) 0 ∷ drop m ks) far)
+    list_splits_at ks j 0 (omega arith) ∙ ap (λ zs. take j ks ++ (get_or ks j 0 ∷ zs)) (drop_more ks (j + 1) 0 low ∙ ap (λ m. get_or ks (j + 1) 0 ∷ drop m ks) far)
 
 module _ (s : Slab Node) (low n j : ℕ) (levelled : IsLevelled s low n j) where
   abbrev xs : List ℕ
@@ -52,7 +52,7 @@ module _ (s : Slab Node) (low n j : ℕ) (levelled : IsLevelled s low n j) where
   ks_parts = pair_parts ks j (omega (arith, many, levelled.within))
 
   xs_parts : xs ≡ take j xs ++ (x ∷ drop (j + 1) xs)
-  xs_parts = parts xs j 0 levelled.within
+  xs_parts = list_splits_at xs j 0 levelled.within
 
   us_many : length us ≡ j
   us_many = length-take-le j ks (omega (arith, many, levelled.within))

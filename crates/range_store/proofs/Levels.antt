@@ -46,25 +46,25 @@ upper_but least most s (suc d) n below shaped =
     let size = numbers_size least most s (suc d) n shaped in
     le_trans (omega (arith, all, size, shaped.node.branches)) more
 
-pub lower : (s : Slab Node) (d n : ℕ) → Shaped s d n → (MIN_LEN + 1) ^ d ≤ length (numbers s d n) + 1
-lower s zero n shaped = omega arith
-lower s (suc d) n shaped =
-    let least = lower_but MIN_LEN CAPACITY s d n (lower s d) (Shaped-but s d n shaped) in
+pub fewest_numbers : (s : Slab Node) (d n : ℕ) → Shaped s d n → (MIN_LEN + 1) ^ d ≤ length (numbers s d n) + 1
+fewest_numbers s zero n shaped = omega arith
+fewest_numbers s (suc d) n shaped =
+    let least = lower_but MIN_LEN CAPACITY s d n (fewest_numbers s d) (Shaped-but s d n shaped) in
     omega (arith, pow-suc (MIN_LEN + 1) d, mul_comm (MIN_LEN + 1) ((MIN_LEN + 1) ^ d), least)
 
-pub upper : (s : Slab Node) (d n : ℕ) → Shaped s d n → length (numbers s d n) + 1 ≤ (CAPACITY + 1) ^ d
-upper s zero n shaped = omega (arith, ap length (numbers_none s n))
-upper s (suc d) n shaped =
-    let most = upper_but MIN_LEN CAPACITY s d n (upper s d) (Shaped-but s d n shaped) in
+pub most_numbers : (s : Slab Node) (d n : ℕ) → Shaped s d n → length (numbers s d n) + 1 ≤ (CAPACITY + 1) ^ d
+most_numbers s zero n shaped = omega (arith, ap length (numbers_none s n))
+most_numbers s (suc d) n shaped =
+    let most = upper_but MIN_LEN CAPACITY s d n (most_numbers s d) (Shaped-but s d n shaped) in
     omega (arith, pow-suc (CAPACITY + 1) d, mul_comm (CAPACITY + 1) ((CAPACITY + 1) ^ d), most)
 
 -- a tree that is not empty
 pub tree_lower : (s : Slab Node) (d root : ℕ) → IsTree s (suc d) root → 2 * (MIN_LEN + 1) ^ d ≤ length (numbers s (suc d) root) + 1
-tree_lower s d root tree = lower_but 1 CAPACITY s d root (lower s d) tree.shaped
+tree_lower s d root tree = lower_but 1 CAPACITY s d root (fewest_numbers s d) tree.shaped
 
 pub tree_upper : (s : Slab Node) (d root : ℕ) → IsTree s (suc d) root → length (numbers s (suc d) root) + 1 ≤ (CAPACITY + 1) ^ suc d
 tree_upper s d root tree =
-    let most = upper_but 1 CAPACITY s d root (upper s d) tree.shaped in
+    let most = upper_but 1 CAPACITY s d root (most_numbers s d) tree.shaped in
     omega (arith, pow-suc (CAPACITY + 1) d, mul_comm (CAPACITY + 1) ((CAPACITY + 1) ^ d), most)
 
 -- a power outgrows its exponent

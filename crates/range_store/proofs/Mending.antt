@@ -7,9 +7,9 @@ use Rattle.slab.specs.Slab.{Slab, get}
 use Rattle.range_store.specs.declared.btree.node.Node.{Node}
 use Rattle.range_store.specs.declared.btree.node.TheConstants.{CAPACITY, MIN_LEN}
 use Rattle.range_store.specs.Nodes.{items_of, children_of, numbers, used, Shaped, ShapedBut, Shrinks, IsMendable, IsLevelled, child_size}
-use Rattle.range_store.proofs.Below.{Shaped-from_but, Shaped-but, wider}
+use Rattle.range_store.proofs.Below.{Shaped-from_but, Shaped-but, shaped_within_wider}
 use Rattle.range_store.proofs.Moves.{Moves-none}
-use Rattle.range_store.proofs.Weave.{parts}
+use Rattle.range_store.proofs.Weave.{list_splits_at}
 
 module _ {X : Type 0} (P : X → Type 0) where
   All-left : (xs ys : List X) → All P (xs ++ ys) → All P xs
@@ -40,7 +40,7 @@ module _ (s : Slab Node) (low n i : ℕ) (m : IsMendable s low n i) where
   many = m.node.branches
 
   kids : ks ≡ take i ks ++ (kid ∷ drop (i + 1) ks)
-  kids = parts ks i 0 (omega (arith, many, m.within))
+  kids = list_splits_at ks i 0 (omega (arith, many, m.within))
 
   present_of : (c : ℕ) → Shaped s (suc low) c → IsSome (get s c)
   present_of c shaped = (Shaped-but s low c shaped).node.present
@@ -66,7 +66,7 @@ module _ (s : Slab Node) (low n i : ℕ) (m : IsMendable s low n i) where
       }
 
   loose : (c : ℕ) → Shaped s (suc low) c → ShapedBut (MIN_LEN - 1) CAPACITY s low c
-  loose c shaped = wider (MIN_LEN - 1) MIN_LEN CAPACITY CAPACITY s low c (omega arith) (omega arith) (Shaped-but s low c shaped)
+  loose c shaped = shaped_within_wider (MIN_LEN - 1) MIN_LEN CAPACITY CAPACITY s low c (omega arith) (omega arith) (Shaped-but s low c shaped)
 
   with_behind : i < length xs → length (items_of (get s kid)) < MIN_LEN → IsLevelled s low n i
   with_behind within short =

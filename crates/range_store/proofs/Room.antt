@@ -10,7 +10,7 @@ use Rattle.range_store.specs.declared.btree.node.Node.{Node}
 use Rattle.range_store.specs.declared.btree.node.TheConstants.{MIN_LEN, CAPACITY}
 use Rattle.range_store.specs.Nodes.{items_of, children_of, numbers, used, Shaped, ShapedBut, HasTreeRoom}
 use Rattle.range_store.proofs.Below.{weave_numbers, children_length, child_count_cases, used_is, Shaped-but}
-use Rattle.range_store.proofs.Weave.{length-weave, parts}
+use Rattle.range_store.proofs.Weave.{length-weave, list_splits_at}
 
 -- how many items stand below these nodes
 abbrev pub sizes : Slab Node → ℕ → List ℕ → ℕ
@@ -45,7 +45,7 @@ HasTreeRoom-child most s d n i more inner within shaped room =
     let ks = children_of (get s n) in
     let kid = get_or ks i 0 in
     let many : length ks ≡ length (items_of (get s n)) + 1 = children_length 1 most s d n inner shaped in
-    let three : ks ≡ take i ks ++ (kid ∷ drop (i + 1) ks) = parts ks i 0 (omega (arith, many)) in
+    let three : ks ≡ take i ks ++ (kid ∷ drop (i + 1) ks) = list_splits_at ks i 0 (omega (arith, many)) in
     let sizes_all : sizes s d ks ≡ sizes s d (take i ks) + (length (numbers s d kid) + sizes s d (drop (i + 1) ks)) =
     ap (sizes s d) three ∙ sizes-append s d (take i ks) (kid ∷ drop (i + 1) ks) ∙ ap (λ m. sizes s d (take i ks) + m) (sum_by-cons (length {A = ℕ}) (numbers s d kid) (map (numbers s d) (drop (i + 1) ks))) in
     let used_all : length (flat_map (used s d) ks) ≡ length (flat_map (used s d) (take i ks)) + (length (used s d kid) + length (flat_map (used s d) (drop (i + 1) ks))) =

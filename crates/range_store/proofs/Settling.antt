@@ -8,7 +8,7 @@ use Rattle.range_store.specs.declared.btree.node.Node.{Node}
 use Rattle.range_store.specs.declared.btree.node.TheConstants.{CAPACITY, MIN_LEN}
 use Rattle.range_store.specs.Occurrences.{occurrences, occurrences-cons, occurrences-nil, occurrences_itself, occurrences_other}
 use Rattle.range_store.specs.Nodes.{weave, before, items_of, children_of, numbers, used, here, Shaped, IsTree, IsLooseTree, Shrinks}
-use Rattle.range_store.proofs.Below.{weave_numbers, used_is, used_leaf, numbers_leaf, Shaped-but, wider}
+use Rattle.range_store.proofs.Below.{weave_numbers, used_is, used_leaf, numbers_leaf, Shaped-but, shaped_within_wider}
 use Rattle.range_store.proofs.Frame.{same_below, SameBelow}
 use Rattle.range_store.proofs.Gaps.{SameGap, same_gap, gap_inside, turn_within, place_inside}
 use Rattle.range_store.proofs.Moves.{here_some}
@@ -36,10 +36,10 @@ stays_root s (suc d) root loose full =
       len = loose.len;
     }
 
-single : (ks : List ℕ) → length ks ≡ 1 → ks ≡ get_or ks 0 0 ∷ []
-single [] one = absurd (omega arith)
-single (k ∷ []) one = refl
-single (k ∷ j ∷ ks) one = absurd (omega arith)
+list_of_one : (ks : List ℕ) → length ks ≡ 1 → ks ≡ get_or ks 0 0 ∷ []
+list_of_one [] one = absurd (omega arith)
+list_of_one (k ∷ []) one = refl
+list_of_one (k ∷ j ∷ ks) one = absurd (omega arith)
 
 -- what stands under each number once the root went
 here_without : (s t : Slab Node) (root : ℕ) → here s root ≡ 1 → Updates s t root None → (k : ℕ) → here t k + occurrences k (root ∷ []) ≡ here s k
@@ -53,10 +53,10 @@ here_without s t root present gone k =
     ]
 
 -- a tree of one level that lost its last item
-pub emptied : (s t : Slab Node) (levels root : ℕ) → levels ≡ 1 → IsLooseTree s levels root → length (items_of (get s root)) ≡ 0 → Updates s t root None → slab_len t + 1 ≡ slab_len s → IsTree t 0 0 × (numbers t 0 0 ≡ numbers s levels root)
-emptied s t zero root one loose empty gone len = absurd (omega arith)
-emptied s t (suc (suc d)) root one loose empty gone len = absurd (omega arith)
-emptied s t (suc zero) root one loose empty gone len =
+pub empty_root_leaves_nothing : (s t : Slab Node) (levels root : ℕ) → levels ≡ 1 → IsLooseTree s levels root → length (items_of (get s root)) ≡ 0 → Updates s t root None → slab_len t + 1 ≡ slab_len s → IsTree t 0 0 × (numbers t 0 0 ≡ numbers s levels root)
+empty_root_leaves_nothing s t zero root one loose empty gone len = absurd (omega arith)
+empty_root_leaves_nothing s t (suc (suc d)) root one loose empty gone len = absurd (omega arith)
+empty_root_leaves_nothing s t (suc zero) root one loose empty gone len =
     let level : suc zero - 1 ≡ zero = omega arith in
     let shaped = rw level at loose.shaped in
     let alone = used_leaf s root shaped.node.branches in
@@ -68,22 +68,22 @@ emptied s t (suc zero) root one loose empty gone len =
     (tree, numbers_none t 0 ∙ sym (nil_from_length (items_of (get s root)) empty) ∙ sym (numbers_leaf s root shaped.node.branches))
 
 -- a taller tree whose root has one child alone
-pub lowered : (s t : Slab Node) (levels root : ℕ) → levels ≢ 1 → IsLooseTree s levels root → length (items_of (get s root)) ≡ 0 → Updates s t root None → slab_len t + 1 ≡ slab_len s → IsTree t (levels - 1) (get_or (children_of (get s root)) 0 0) × (numbers t (levels - 1) (get_or (children_of (get s root)) 0 0) ≡ numbers s levels root)
-lowered s t zero root more loose empty gone len = absurd (omega (arith, loose.some))
-lowered s t (suc zero) root more loose empty gone len = absurd (more refl)
-lowered s t (suc (suc e)) root more loose empty gone len =
+pub only_child_is_root : (s t : Slab Node) (levels root : ℕ) → levels ≢ 1 → IsLooseTree s levels root → length (items_of (get s root)) ≡ 0 → Updates s t root None → slab_len t + 1 ≡ slab_len s → IsTree t (levels - 1) (get_or (children_of (get s root)) 0 0) × (numbers t (levels - 1) (get_or (children_of (get s root)) 0 0) ≡ numbers s levels root)
+only_child_is_root s t zero root more loose empty gone len = absurd (omega (arith, loose.some))
+only_child_is_root s t (suc zero) root more loose empty gone len = absurd (more refl)
+only_child_is_root s t (suc (suc e)) root more loose empty gone len =
     let level : suc (suc e) - 1 ≡ suc e = omega arith in
     let shaped = rw level at loose.shaped in
     let ks = children_of (get s root) in
     let kid = get_or (children_of (get s root)) 0 0 in
-    let one : children_of (get s root) ≡ kid ∷ [] = single ks (omega (arith, shaped.node.branches, empty)) in
+    let one : children_of (get s root) ≡ kid ∷ [] = list_of_one ks (omega (arith, shaped.node.branches, empty)) in
     let used_all : used s (suc (suc e)) root ≡ root ∷ used s (suc e) kid = used_is s (suc e) root ∙ ap (λ zs. root ∷ flat_map (used s (suc e)) zs) one ∙ ap (λ zs. root ∷ zs) (append-nil (used s (suc e) kid)) in
     let present = here_some s root shaped.node.present in
     let occurs : (k : ℕ) → occurrences k (root ∷ []) + occurrences k (used s (suc e) kid) ≡ here s k = λ k. omega (arith, loose.once k, ap (occurrences k) used_all, occurrences-cons k root (used s (suc e) kid)) in
     let same : SameBelow s t (suc e) kid = same_below s t (suc e) kid (λ k among. gone.others k (λ at. let itself : occurrences k (root ∷ []) ≡ 1 = rw (← at) (occurrences_itself k) in let was : here s k ≡ 1 = rw at present in omega (arith, occurs k, itself, was))) in
     let kid_shaped : Shaped s (suc e) kid = shaped.children 0 0 (omega (arith, ap length one)) in
     let tree : IsTree t (suc e) kid = record {
-      shaped = wider 1 MIN_LEN CAPACITY CAPACITY t e kid (omega arith) (omega arith) (Shaped-but t e kid (same.shaped_same kid_shaped));
+      shaped = shaped_within_wider 1 MIN_LEN CAPACITY CAPACITY t e kid (omega arith) (omega arith) (Shaped-but t e kid (same.shaped_same kid_shaped));
       once = λ k. omega (arith, occurs k, here_without s t root present gone k, ap (occurrences k) same.used_same);
       len = omega (arith, len, loose.len, ap length used_all, ap length same.used_same);
     } in
@@ -101,7 +101,7 @@ lowered_gap s t (suc (suc e)) root g more loose empty gone is' =
     let is = rw level at is' in
     let ks = children_of (get s root) in
     let kid = get_or ks 0 0 in
-    let one : ks ≡ kid ∷ [] = single ks (omega (arith, shaped.node.branches, empty)) in
+    let one : ks ≡ kid ∷ [] = list_of_one ks (omega (arith, shaped.node.branches, empty)) in
     let first : turn g ≡ 0 = omega (arith, turn_within s e root g is, shaped.node.branches, empty) in
     let used_all : used s (suc (suc e)) root ≡ root ∷ used s (suc e) kid = used_is s (suc e) root ∙ ap (λ zs. root ∷ flat_map (used s (suc e)) zs) one ∙ ap (λ zs. root ∷ zs) (append-nil (used s (suc e) kid)) in
     let present = here_some s root shaped.node.present in

@@ -11,7 +11,7 @@ use Rattle.range_store.specs.Nodes.{weave, rest_of, front_of, before, after, ite
 use Rattle.range_store.specs.Contents.{IsContent}
 use Rattle.range_store.specs.Occurrences.{occurrences}
 use Rattle.range_store.proofs.Contents.{written_holds, held_numbers, held_used, held_shape}
-use Rattle.range_store.proofs.Weave.{parts, weave_splice}
+use Rattle.range_store.proofs.Weave.{list_splits_at, weave_splice}
 use Rattle.range_store.proofs.Frame.{IsNode-same}
 use Rattle.range_store.proofs.Below.{children_length, numbers_at, weave_numbers, used_is, numbers_leaf}
 use Rattle.range_store.proofs.Moves.{Moves-then, Writes-moves}
@@ -47,7 +47,7 @@ module _ (s t : Slab Node) (b n i : ℕ) (list : List ℕ) (inner : b ≢ 0) (sh
   many = children_length 1 CAPACITY s b n (omega arith) shaped
 
   ks_parts : ks ≡ us ++ (kid ∷ vs)
-  ks_parts = parts ks i 0 (omega (arith, many))
+  ks_parts = list_splits_at ks i 0 (omega (arith, many))
 
   kid_run : Runs s t b n us (kid ∷ []) vs (kid ∷ [])
   kid_run = record {
@@ -139,8 +139,8 @@ module _ (s t u : Slab Node) (b n i q : ℕ) (inner : b ≢ 0) (shaped : ShapedB
   moved' : Moves s t (used s b (get_or (children_of (get s n)) i 0)) (used t b (get_or (children_of (get s n)) i 0))
   moved' = rw back at child.moved
 
-  pub shortened : Shrinks s u b n (remove (numbers s (suc b) n) (length (before (items_of (get s n)) (map (numbers s b) (children_of (get s n))) i) + q))
-  shortened =
+  pub shorter_child_shrinks_node : Shrinks s u b n (remove (numbers s (suc b) n) (length (before (items_of (get s n)) (map (numbers s b) (children_of (get s n))) i) + q))
+  shorter_child_shrinks_node =
       let kept = kid_kept s t b n i _ inner shaped owned low listed' moved' in
       record {
         listed =

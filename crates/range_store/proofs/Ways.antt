@@ -7,42 +7,42 @@ use Rattle.range_store.specs.declared.btree.way.Gap.{Gap}
 use Rattle.range_store.specs.declared.btree.way.Found.{Found}
 use Rattle.range_store.specs.Nodes.{items_of, children_of, numbers, before, after, ShapedBut}
 use Rattle.range_store.specs.Gaps.{turn, inside, IsGap, place, IsFound, IsLast}
-use Rattle.range_store.proofs.Below.{children_length, numbers_at, length-before_more, none_after_last, wider, numbers_leaf}
+use Rattle.range_store.proofs.Below.{children_length, numbers_at, length-before_more, none_after_last, shaped_within_wider, numbers_leaf}
 use Rattle.range_store.proofs.Gaps.{gap_above, place_above, place_inside, gap_inside, turn_within, place_within, leaf_gap, leaf_place}
 use Rattle.range_store.proofs.Rank.{kid_shaped, rank_in_child, rank_at_item}
 use Rattle.std.proofs.lemmas.List.{length-append}
 
 module _ (s : Slab Node) (b n : ℕ) (inner : b ≢ 0) (shaped : ShapedBut 1 CAPACITY s b n) where
-  pub level : suc (b - 1) ≡ b
-  level = omega arith
+  pub level_of_children : suc (b - 1) ≡ b
+  level_of_children = omega arith
 
   deeper : ShapedBut 1 CAPACITY s (suc (b - 1)) n
-  deeper = rw (← level) at shaped
+  deeper = rw (← level_of_children) at shaped
 
   pub child_within : (i : ℕ) → i ≤ length (items_of (get s n)) → i < length (children_of (get s n))
   child_within i low = omega (arith, children_length 1 CAPACITY s b n (omega arith) shaped)
 
   pub below_kid : (i : ℕ) → i ≤ length (items_of (get s n)) → ShapedBut 1 CAPACITY s (b - 1) (get_or (children_of (get s n)) i 0)
-  below_kid i low = wider 1 MIN_LEN CAPACITY CAPACITY s (b - 1) _ (omega arith) (omega arith) (kid_shaped 1 CAPACITY s (b - 1) n i deeper low)
+  below_kid i low = shaped_within_wider 1 MIN_LEN CAPACITY CAPACITY s (b - 1) _ (omega arith) (omega arith) (kid_shaped 1 CAPACITY s (b - 1) n i deeper low)
 
   pub below_turn : (g : Gap) → IsGap s b n g → turn g ≤ length (items_of (get s n))
   below_turn g is =
-      omega (arith, turn_within s (b - 1) n g (rw (← level) at is), children_length 1 CAPACITY s b n (omega arith) shaped)
+      omega (arith, turn_within s (b - 1) n g (rw (← level_of_children) at is), children_length 1 CAPACITY s b n (omega arith) shaped)
 
   pub below_inside : (g : Gap) → IsGap s b n g → IsGap s (b - 1) (get_or (children_of (get s n)) (turn g) 0) (inside g)
-  below_inside g is = gap_inside s (b - 1) n g (rw (← level) at is)
+  below_inside g is = gap_inside s (b - 1) n g (rw (← level_of_children) at is)
 
   pub below_gap : (i : ℕ) (g h : Gap) → turn h ≡ i → inside h ≡ g → i ≤ length (items_of (get s n)) → IsGap s (b - 1) (get_or (children_of (get s n)) i 0) g → IsGap s b n h
-  below_gap i g h at within low is = rw level at (gap_above s (b - 1) n i g h at within (child_within i low) is)
+  below_gap i g h at within low is = rw level_of_children at (gap_above s (b - 1) n i g h at within (child_within i low) is)
 
   pub below_place : (i : ℕ) (g h : Gap) → turn h ≡ i → inside h ≡ g → place s b n h ≡ length (before (items_of (get s n)) (map (numbers s b) (children_of (get s n))) i) + place s (b - 1) (get_or (children_of (get s n)) i 0) g
-  below_place i g h at within = rw level at (place_above s (b - 1) n i g h at within)
+  below_place i g h at within = rw level_of_children at (place_above s (b - 1) n i g h at within)
 
   pub below_here : (g : Gap) → place s b n g ≡ length (before (items_of (get s n)) (map (numbers s b) (children_of (get s n))) (turn g)) + place s (b - 1) (get_or (children_of (get s n)) (turn g) 0) (inside g)
-  below_here g = rw level at (place_inside s (b - 1) n g)
+  below_here g = rw level_of_children at (place_inside s (b - 1) n g)
 
   pub below_most : (i : ℕ) (g : Gap) → i ≤ length (items_of (get s n)) → IsGap s (b - 1) (get_or (children_of (get s n)) i 0) g → place s (b - 1) (get_or (children_of (get s n)) i 0) g ≤ length (numbers s b (get_or (children_of (get s n)) i 0))
-  below_most i g low is = rw level at (place_within s (b - 1) _ g 1 CAPACITY (below_kid i low) is)
+  below_most i g low is = rw level_of_children at (place_within s (b - 1) _ g 1 CAPACITY (below_kid i low) is)
 
   -- what is found below the child at i is found below the node
   pub found_above : (i rest : ℕ) (f h : Found) → i ≤ length (items_of (get s n)) → turn h.gap ≡ i → inside h.gap ≡ f.gap → h.number ≡ f.number → IsFound s (b - 1) (get_or (children_of (get s n)) i 0) rest f → IsFound s b n (length (before (items_of (get s n)) (map (numbers s b) (children_of (get s n))) i) + rest) h
@@ -50,12 +50,12 @@ module _ (s : Slab Node) (b n : ℕ) (inner : b ≢ 0) (shaped : ShapedBut 1 CAP
       let xs = items_of (get s n) in
       let lists = map (numbers s b) (children_of (get s n)) in
       let kid = get_or (children_of (get s n)) i 0 in
-      let less : rest < length (numbers s b kid) = rw level at found.within in
+      let less : rest < length (numbers s b kid) = rw level_of_children at found.within in
       let whole = numbers_at 1 CAPACITY s b n (omega arith) shaped i low in
       let same = rank_in_child 1 CAPACITY s b n i rest (length (before xs lists i) + rest) (omega arith) shaped low refl less in
       record {
         within = omega (arith, less, ap length whole, length-append (before xs lists i) (numbers s b kid ++ after xs lists i), length-append (numbers s b kid) (after xs lists i));
-        number = number ∙ (rw level at found.number) ∙ sym same;
+        number = number ∙ (rw level_of_children at found.number) ∙ sym same;
         gap = below_gap i f.gap h.gap at within low found.gap;
         place = omega (arith, below_place i f.gap h.gap at within, found.place);
       }
@@ -92,7 +92,7 @@ module _ (s : Slab Node) (b n : ℕ) (inner : b ≢ 0) (shaped : ShapedBut 1 CAP
   last_above i rest None low within some last = absurd (cc)
   last_above i rest (Some x) low within some last' =
       let front = length (before (items_of (get s n)) (map (numbers s b) (children_of (get s n))) i) in
-      let last = rw level at last' in
+      let last = rw level_of_children at last' in
       let same = rank_in_child 1 CAPACITY s b n i (rest - 1) (front + (rest - 1)) (omega arith) shaped low refl (omega (arith, last.0)) in
       let place : front + rest - 1 ≡ front + (rest - 1) = omega (arith, last.0) in
       (omega (arith, last.0), last.1 ∙ sym same ∙ ap (λ m. get_or (numbers s (suc b) n) m 0) (sym place))

@@ -73,11 +73,11 @@ module _ {X : Type 0} where
 
 module _ {X : Type 0} where
   -- the parts round the element at i
-  pub parts : (ks : List X) (i : ℕ) (d : X) → i < length ks → ks ≡ take i ks ++ (get_or ks i d ∷ drop (i + 1) ks)
-  parts ks i d within = sym (ap (λ zs. take i ks ++ zs) (sym (drop_more ks i d within)) ∙ take-append-drop i ks)
+  pub list_splits_at : (ks : List X) (i : ℕ) (d : X) → i < length ks → ks ≡ take i ks ++ (get_or ks i d ∷ drop (i + 1) ks)
+  list_splits_at ks i d within = sym (ap (λ zs. take i ks ++ zs) (sym (drop_more ks i d within)) ∙ take-append-drop i ks)
 
   parts_at : (ks : List X) (h : ℕ) (d : X) → h < length ks → ks ≡ take h ks ++ (get_or ks h d ∷ drop (suc h) ks)
-  parts_at ks h d within = rw add-one at (parts ks h d within)
+  parts_at ks h d within = rw add-one at (list_splits_at ks h d within)
 
   list_parts_at : (ks : List (List X)) (h : ℕ) (d : List X) → h < length ks → ks ≡ take h ks ++ (get_or ks h d ∷ drop (suc h) ks)
   list_parts_at ks h d within = rw add-one at (sym (ap (λ zs. take h ks ++ zs) (sym (drop_more ks h d within)) ∙ take-append-drop h ks))

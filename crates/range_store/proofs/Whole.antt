@@ -16,9 +16,9 @@ use Rattle.range_store.proofs.Levels.{tree_lower}
 use Rattle.range_store.proofs.Rank.{root_shaped}
 
 -- so many levels as a way has digits are enough for all numbers that a `usize` counts
-pub deep : (s : Slab Node) (levels root : ℕ) → IsRoomy s levels root → levels - 1 < DEEPEST
-deep s zero root roomy = omega arith
-deep s (suc d) root roomy =
+pub tree_is_not_too_deep : (s : Slab Node) (levels root : ℕ) → IsRoomy s levels root → levels - 1 < DEEPEST
+tree_is_not_too_deep s zero root roomy = omega arith
+tree_is_not_too_deep s (suc d) root roomy =
     elim (cases_lt d DEEPEST) [
       | inl low ↦ omega (arith, low)
       | inr high ↦

@@ -56,17 +56,17 @@ by_initial [] = None
 by_initial (c ∷ cs) =
     if c == 105 then Some InsertWord else (if c == 116 then Some TryWord else (if c == 114 then Some RemoveWord else (if c == 103 then Some GetWord else (if c == 104 then Some HasWord else (if c == 109 then Some MeetsWord else (if c == 117 then Some UpdateWord else None))))))
 
-begins : (w : Word) → by_initial (text_of w) ≡ Some w
-begins InsertWord = refl
-begins TryWord = refl
-begins RemoveWord = refl
-begins UpdateWord = refl
-begins GetWord = refl
-begins HasWord = refl
-begins MeetsWord = refl
+word_begins_its_text : (w : Word) → by_initial (text_of w) ≡ Some w
+word_begins_its_text InsertWord = refl
+word_begins_its_text TryWord = refl
+word_begins_its_text RemoveWord = refl
+word_begins_its_text UpdateWord = refl
+word_begins_its_text GetWord = refl
+word_begins_its_text HasWord = refl
+word_begins_its_text MeetsWord = refl
 
 text_unique : (v w : Word) → text_of v ≡ text_of w → v ≡ w
-text_unique v w e = let same : Some v ≡ Some w = sym (begins v) ∙ (ap by_initial e ∙ begins w) in cc
+text_unique v w e = let same : Some v ≡ Some w = sym (word_begins_its_text v) ∙ (ap by_initial e ∙ word_begins_its_text w) in cc
 
 module _ {K : Type 0} (IsKey : K → Type 0) (as_number : K → ℤ) where
   -- what the fields behind a word spell

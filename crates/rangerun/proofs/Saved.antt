@@ -12,17 +12,17 @@ use Rattle.btree_range_map.specs.Keys.{signed_shape}
 use Rattle.btree_range_map.specs.Shapes.{bound_shape, range_shape, pair_shape, map_shape}
 use Rattle.rangerun.specs.Saving.{integer_has_no_float}
 
-neither : (a b : Bool) → a ≡ false → b ≡ false → (a || b) ≡ false
-neither a b p q = rw (p, q) refl
+neither_true : (a b : Bool) → a ≡ false → b ≡ false → (a || b) ≡ false
+neither_true a b p q = rw (p, q) refl
 
 module _ {K : Type 0} (shape : K → Data) (has_none : (key : K) → has_float (shape key) ≡ false) where
   bound_has_no_float : (b : Bound K) → has_float (bound_shape shape b) ≡ false
-  bound_has_no_float (Included k) = neither (has_float (shape k)) false (has_none k) refl
-  bound_has_no_float (Excluded k) = neither (has_float (shape k)) false (has_none k) refl
+  bound_has_no_float (Included k) = neither_true (has_float (shape k)) false (has_none k) refl
+  bound_has_no_float (Excluded k) = neither_true (has_float (shape k)) false (has_none k) refl
   bound_has_no_float Unbounded = refl
 
   both_have_no_float : (d e : Data) → has_float d ≡ false → has_float e ≡ false → has_float (pair_shape d e) ≡ false
-  both_have_no_float d e p q = neither (has_float d) (has_float e || false) p (neither (has_float e) false q refl)
+  both_have_no_float d e p q = neither_true (has_float d) (has_float e || false) p (neither_true (has_float e) false q refl)
 
   item_has_no_float : (i : Item (AnyRange K) ℤ) → has_float (pair_shape (range_shape shape i.key) (signed_shape i.value)) ≡ false
   item_has_no_float i =
@@ -34,10 +34,10 @@ module _ {K : Type 0} (shape : K → Data) (has_none : (key : K) → has_float (
       → items_have_float (items_of (map (λ i. pair_shape (range_shape shape i.key) (signed_shape i.value)) items)) ≡ false
   items_have_no_float [] = refl
   items_have_no_float (i ∷ items) =
-      neither (has_float (pair_shape (range_shape shape i.key) (signed_shape i.value))) _ (item_has_no_float i) (items_have_no_float items)
+      neither_true (has_float (pair_shape (range_shape shape i.key) (signed_shape i.value))) _ (item_has_no_float i) (items_have_no_float items)
 
   pub map_has_no_float : (items : List (Item (AnyRange K) ℤ)) → has_float (map_shape shape signed_shape items) ≡ false
-  map_has_no_float items = neither _ false (items_have_no_float items) refl
+  map_has_no_float items = neither_true _ false (items_have_no_float items) refl
 
 pub if_ok_as : {A E : Type 0} (r : Result A E) (P Q : A → Type 0) → ((x : A) → P x → Q x) → IfOk r P → IfOk r Q
 if_ok_as (Ok x) P Q follows held = follows x held

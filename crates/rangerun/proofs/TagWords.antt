@@ -10,29 +10,29 @@ use Rattle.rangerun.proofs.LineWords.{lacks_space}
 use Rattle.rangerun.proofs.Spelled.{has_byte, split_unique}
 
 -- texts that differ at a place are different
-differ : (xs ys : List ℕ) (i a b : ℕ) → get_or xs i 0 ≡ a → get_or ys i 0 ≡ b → a ≢ b → xs ≡ ys → ⊥
-differ xs ys i a b here there other same = other (sym here ∙ (ap (λ l. get_or l i 0) same ∙ there))
+lists_differ_at : (xs ys : List ℕ) (i a b : ℕ) → get_or xs i 0 ≡ a → get_or ys i 0 ≡ b → a ≢ b → xs ≡ ys → ⊥
+lists_differ_at xs ys i a b here there other same = other (sym here ∙ (ap (λ l. get_or l i 0) same ∙ there))
 
-pub begun : (text word known fields : List ℕ) → IsSplitAt 32 text word fields → word ≡ known → text ≡ known ++ 32 ∷ fields
-begun text word known fields cut is = cut.0 ∙ ap (λ w. w ++ 32 ∷ fields) is
+pub text_begins_with_word : (text word known fields : List ℕ) → IsSplitAt 32 text word fields → word ≡ known → text ≡ known ++ 32 ∷ fields
+text_begins_with_word text word known fields cut is = cut.0 ∙ ap (λ w. w ++ 32 ∷ fields) is
 
 -- a word is refused where what stands behind it is
 pub none_of_set : (text fields : List ℕ) → text ≡ codes "set" ++ 32 ∷ fields → ((n : ℤ) → SpellsNumber fields n → ⊥) → (tag : Tag) → SpellsTag text tag → ⊥
 none_of_set text fields is none (Set value) (v, spelled, e) = none value (subst (λ t. SpellsNumber t value) (ap (λ l. drop 4 l) (sym e ∙ is)) spelled)
-none_of_set text fields is none (Fill value) (v, spelled, e) = differ (codes "set" ++ 32 ∷ fields) (codes "fill" ++ 32 ∷ v) 0 115 102 refl refl (omega arith) (sym is ∙ e)
-none_of_set text fields is none Clear e = differ (codes "set" ++ 32 ∷ fields) (codes "clear") 0 115 99 refl refl (omega arith) (sym is ∙ e)
-none_of_set text fields is none (Fail value error) (p, spelled, e) = differ (codes "set" ++ 32 ∷ fields) (codes "fail" ++ 32 ∷ p) 0 115 102 refl refl (omega arith) (sym is ∙ e)
+none_of_set text fields is none (Fill value) (v, spelled, e) = lists_differ_at (codes "set" ++ 32 ∷ fields) (codes "fill" ++ 32 ∷ v) 0 115 102 refl refl (omega arith) (sym is ∙ e)
+none_of_set text fields is none Clear e = lists_differ_at (codes "set" ++ 32 ∷ fields) (codes "clear") 0 115 99 refl refl (omega arith) (sym is ∙ e)
+none_of_set text fields is none (Fail value error) (p, spelled, e) = lists_differ_at (codes "set" ++ 32 ∷ fields) (codes "fail" ++ 32 ∷ p) 0 115 102 refl refl (omega arith) (sym is ∙ e)
 
 pub none_of_fill : (text fields : List ℕ) → text ≡ codes "fill" ++ 32 ∷ fields → ((n : ℤ) → SpellsNumber fields n → ⊥) → (tag : Tag) → SpellsTag text tag → ⊥
-none_of_fill text fields is none (Set value) (v, spelled, e) = differ (codes "fill" ++ 32 ∷ fields) (codes "set" ++ 32 ∷ v) 0 102 115 refl refl (omega arith) (sym is ∙ e)
+none_of_fill text fields is none (Set value) (v, spelled, e) = lists_differ_at (codes "fill" ++ 32 ∷ fields) (codes "set" ++ 32 ∷ v) 0 102 115 refl refl (omega arith) (sym is ∙ e)
 none_of_fill text fields is none (Fill value) (v, spelled, e) = none value (subst (λ t. SpellsNumber t value) (ap (λ l. drop 5 l) (sym e ∙ is)) spelled)
-none_of_fill text fields is none Clear e = differ (codes "fill" ++ 32 ∷ fields) (codes "clear") 0 102 99 refl refl (omega arith) (sym is ∙ e)
-none_of_fill text fields is none (Fail value error) (p, spelled, e) = differ (codes "fill" ++ 32 ∷ fields) (codes "fail" ++ 32 ∷ p) 1 105 97 refl refl (omega arith) (sym is ∙ e)
+none_of_fill text fields is none Clear e = lists_differ_at (codes "fill" ++ 32 ∷ fields) (codes "clear") 0 102 99 refl refl (omega arith) (sym is ∙ e)
+none_of_fill text fields is none (Fail value error) (p, spelled, e) = lists_differ_at (codes "fill" ++ 32 ∷ fields) (codes "fail" ++ 32 ∷ p) 1 105 97 refl refl (omega arith) (sym is ∙ e)
 
 pub none_of_fail : (text fields : List ℕ) → text ≡ codes "fail" ++ 32 ∷ fields → ((n m : ℤ) → SpellsPair fields n m → ⊥) → (tag : Tag) → SpellsTag text tag → ⊥
-none_of_fail text fields is none (Set value) (v, spelled, e) = differ (codes "fail" ++ 32 ∷ fields) (codes "set" ++ 32 ∷ v) 0 102 115 refl refl (omega arith) (sym is ∙ e)
-none_of_fail text fields is none (Fill value) (v, spelled, e) = differ (codes "fail" ++ 32 ∷ fields) (codes "fill" ++ 32 ∷ v) 1 97 105 refl refl (omega arith) (sym is ∙ e)
-none_of_fail text fields is none Clear e = differ (codes "fail" ++ 32 ∷ fields) (codes "clear") 0 102 99 refl refl (omega arith) (sym is ∙ e)
+none_of_fail text fields is none (Set value) (v, spelled, e) = lists_differ_at (codes "fail" ++ 32 ∷ fields) (codes "set" ++ 32 ∷ v) 0 102 115 refl refl (omega arith) (sym is ∙ e)
+none_of_fail text fields is none (Fill value) (v, spelled, e) = lists_differ_at (codes "fail" ++ 32 ∷ fields) (codes "fill" ++ 32 ∷ v) 1 97 105 refl refl (omega arith) (sym is ∙ e)
+none_of_fail text fields is none Clear e = lists_differ_at (codes "fail" ++ 32 ∷ fields) (codes "clear") 0 102 99 refl refl (omega arith) (sym is ∙ e)
 none_of_fail text fields is none (Fail value error) (p, spelled, e) = none value error (subst (λ t. SpellsPair t value error) (ap (λ l. drop 5 l) (sym e ∙ is)) spelled)
 
 -- and so is a text that begins with none of the words

@@ -4,7 +4,7 @@ use Rattle.std.proofs.lemmas.Iterator.{YieldsList-from_chars}
 use Rattle.std.proofs.lemmas.Iterator.Consumers.{YieldsList-turn, YieldsList-end}
 use Rattle.std.proofs.lemmas.List.{length_push}
 use Rattle.charmoves.specs.Automata.{rules_of, Accepts}
-use Rattle.charmoves.proofs.Paths.{one_more, finished}
+use Rattle.charmoves.proofs.Paths.{one_more, end_of_text_decides}
 use Rattle.charmoves.proofs.moves.Moves.accepts.Goals as goal
 
 pub loop-c-preserved : goal.loop-c-preserved
@@ -19,4 +19,4 @@ pub returns : goal.returns
 returns c =
     let text = chars c.args.text.now in
     let end = YieldsList-end (YieldsList-from_chars c.args.text.now c.utf8.text cc) c.loop-c.yielded _ c.loop-c.yielded_by _ _ c.in-None.is c.next.ensures.steps in
-    record { path = finished (rules_of c.args.self.now) text (Accepts (rules_of c.args.self.now) text) c.loop-c.states (length c.loop-c.yielded) c.is_disjoint.result end.1 c.is_disjoint.ensures c.loop-c.invariant }
+    record { path = end_of_text_decides (rules_of c.args.self.now) text (Accepts (rules_of c.args.self.now) text) c.loop-c.states (length c.loop-c.yielded) c.is_disjoint.result end.1 c.is_disjoint.ensures c.loop-c.invariant }

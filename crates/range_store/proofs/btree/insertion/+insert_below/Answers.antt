@@ -9,7 +9,7 @@ use Rattle.range_store.proofs.Gaps.{way_small, leaf_index, leaf_place}
 use Rattle.range_store.proofs.Below.{children_length}
 use Rattle.range_store.proofs.Room.{HasTreeRoom-child}
 use Rattle.range_store.proofs.Seats.{seat_alone, seat_inside, seat_side}
-use Rattle.range_store.proofs.Ways.{level, child_within, below_kid, below_turn, below_inside, below_here, below_most}
+use Rattle.range_store.proofs.Ways.{level_of_children, child_within, below_kid, below_turn, below_inside, below_here, below_most}
 use Rattle.range_store.proofs.Leaves.{leaf_content, leaf_moved, leaf_listed, leaf_longer, leaf_seat, leaf_seat_place}
 use Rattle.range_store.proofs.Growing.{kid_owned, none_replaces, none_gap, some_items, some_children, grown_kept, grown_moved, grown_content, grown_listed, grown_longer, grown_seat, content_room, settled_replaces}
 use Rattle.range_store.proofs.btree.insertion.+insert_below.Goals as goal
@@ -57,7 +57,7 @@ insert_below-inserted-requires t c =
     let low = below_turn c.args.nodes.now c.args.below c.args.number c.if-below-eq0.false c.requires.shaped c.args.gap c.requires.gap in
     let kid = below_kid c.args.nodes.now c.args.below c.args.number c.if-below-eq0.false c.requires.shaped (turn c.args.gap) low in
     let is = below_inside c.args.nodes.now c.args.below c.args.number c.if-below-eq0.false c.requires.shaped c.args.gap c.requires.gap in
-    let back = level c.args.nodes.now c.args.below c.args.number c.if-below-eq0.false c.requires.shaped in
+    let back = level_of_children c.args.nodes.now c.args.below c.args.number c.if-below-eq0.false c.requires.shaped in
     let owned = kid_owned c.args.nodes.now c.args.below c.args.number (turn c.args.gap) c.requires.owned (child_within c.args.nodes.now c.args.below c.args.number c.if-below-eq0.false c.requires.shaped _ low) in
     let room = HasTreeRoom-child CAPACITY c.args.nodes.now c.args.below c.args.number (turn c.args.gap) 1 (omega arith) low c.requires.shaped c.requires.room in
     (omega (arith, c.if-below-eq0.false), rw (c.child_at-child.ensures, c.first_turn-index.ensures, c.seen_inside.ensures) (kid, (rw (← back) at owned, (is, (omega (arith, c.requires.deep), rw (← back) at room)))))

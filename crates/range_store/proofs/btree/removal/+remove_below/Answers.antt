@@ -8,8 +8,8 @@ use Rattle.range_store.proofs.Gaps.{leaf_gap, leaf_index, leaf_place}
 use Rattle.range_store.proofs.Growing.{kid_owned}
 use Rattle.range_store.proofs.Rank.{kid_shaped}
 use Rattle.range_store.proofs.Seats.{seat_place_inner}
-use Rattle.range_store.proofs.Shortening.{leaf_shrinks, kid_kept, kid_front, kid_mendable, shortened}
-use Rattle.range_store.proofs.Ways.{level, child_within, below_kid, below_turn, below_inside, below_here, below_most}
+use Rattle.range_store.proofs.Shortening.{leaf_shrinks, kid_kept, kid_front, kid_mendable, shorter_child_shrinks_node}
+use Rattle.range_store.proofs.Ways.{level_of_children, child_within, below_kid, below_turn, below_inside, below_here, below_most}
 use Rattle.range_store.proofs.btree.removal.+remove_below.Goals as goal
 
 pub take_item-requires-clause-within : goal.take_item-requires-clause-within
@@ -38,7 +38,7 @@ remove_below-inner-requires t c =
     let low = below_turn c.args.nodes.now c.args.below c.args.number c.if-below-eq0.false c.requires.shaped c.args.gap c.requires.gap in
     let kid = below_kid c.args.nodes.now c.args.below c.args.number c.if-below-eq0.false c.requires.shaped (turn c.args.gap) low in
     let is = below_inside c.args.nodes.now c.args.below c.args.number c.if-below-eq0.false c.requires.shaped c.args.gap c.requires.gap in
-    let back = level c.args.nodes.now c.args.below c.args.number c.if-below-eq0.false c.requires.shaped in
+    let back = level_of_children c.args.nodes.now c.args.below c.args.number c.if-below-eq0.false c.requires.shaped in
     let owned = kid_owned c.args.nodes.now c.args.below c.args.number (turn c.args.gap) c.requires.owned (child_within c.args.nodes.now c.args.below c.args.number c.if-below-eq0.false c.requires.shaped _ low) in
     (omega (arith, c.if-below-eq0.false), rw (c.child_at-child.ensures, c.first_turn-index.ensures, c.seen_inside.ensures) (kid, (rw (← back) at owned, (omega (arith, c.requires.deep), (is, c.requires.in_leaf)))))
 
@@ -46,7 +46,7 @@ pub mend-requires-clause-mendable : goal.mend-requires-clause-mendable
 mend-requires-clause-mendable t c =
     let i = turn c.args.gap in
     let low = below_turn c.args.nodes.now c.args.below c.args.number c.if-below-eq0.false c.requires.shaped c.args.gap c.requires.gap in
-    let back = level c.args.nodes.now c.args.below c.args.number c.if-below-eq0.false c.requires.shaped in
+    let back = level_of_children c.args.nodes.now c.args.below c.args.number c.if-below-eq0.false c.requires.shaped in
     let child = rw (c.child_at-child.ensures, c.first_turn-index.ensures, c.seen_inside.ensures) at c.remove_below-inner.ensures.shrinks in
     let listed = rw back at child.listed in
     let moved = rw back at child.moved in
@@ -57,7 +57,7 @@ pub mend-requires-clause-gap : goal.mend-requires-clause-gap
 mend-requires-clause-gap t c =
     let i = turn c.args.gap in
     let low = below_turn c.args.nodes.now c.args.below c.args.number c.if-below-eq0.false c.requires.shaped c.args.gap c.requires.gap in
-    let back = level c.args.nodes.now c.args.below c.args.number c.if-below-eq0.false c.requires.shaped in
+    let back = level_of_children c.args.nodes.now c.args.below c.args.number c.if-below-eq0.false c.requires.shaped in
     let child = rw (c.child_at-child.ensures, c.first_turn-index.ensures, c.seen_inside.ensures) at c.remove_below-inner.ensures.shrinks in
     let listed = rw back at child.listed in
     let moved = rw back at child.moved in
@@ -68,7 +68,7 @@ pub returns-clause-shrinks : goal.returns-clause-shrinks
 returns-clause-shrinks t c =
     let i = turn c.args.gap in
     let low = below_turn c.args.nodes.now c.args.below c.args.number c.if-below-eq0.false c.requires.shaped c.args.gap c.requires.gap in
-    let back = level c.args.nodes.now c.args.below c.args.number c.if-below-eq0.false c.requires.shaped in
+    let back = level_of_children c.args.nodes.now c.args.below c.args.number c.if-below-eq0.false c.requires.shaped in
     let child = rw (c.child_at-child.ensures, c.first_turn-index.ensures, c.seen_inside.ensures) at c.remove_below-inner.ensures.shrinks in
     let listed = rw back at child.listed in
     let moved = rw back at child.moved in
@@ -76,17 +76,17 @@ returns-clause-shrinks t c =
     let q = place c.args.nodes.now (c.args.below - 1) (get_or (children_of (get c.args.nodes.now c.args.number)) (turn c.args.gap) 0) (inside c.args.gap) in
     let within = below_most c.args.nodes.now c.args.below c.args.number c.if-below-eq0.false c.requires.shaped i (inside c.args.gap) low (below_inside c.args.nodes.now c.args.below c.args.number c.if-below-eq0.false c.requires.shaped c.args.gap c.requires.gap) in
     let same : length (before (items_of (get c.args.nodes.now c.args.number)) (map (numbers c.args.nodes.now c.args.below) (children_of (get c.args.nodes.now c.args.number))) i) + (q - 1) ≡ place c.args.nodes.now c.args.below c.args.number c.args.gap - 1 = omega (arith, below_here c.args.nodes.now c.args.below c.args.number c.if-below-eq0.false c.requires.shaped c.args.gap, at) in
-    rw (← same) (shortened c.args.nodes.now c.remove_below-inner.new.nodes c.mend.new.nodes c.args.below c.args.number i (q - 1) c.if-below-eq0.false c.requires.shaped c.requires.owned low (omega (arith, within, at)) child c.mend.ensures.shrinks)
+    rw (← same) (shorter_child_shrinks_node c.args.nodes.now c.remove_below-inner.new.nodes c.mend.new.nodes c.args.below c.args.number i (q - 1) c.if-below-eq0.false c.requires.shaped c.requires.owned low (omega (arith, within, at)) child c.mend.ensures.shrinks)
 
 pub returns-clause-gap : goal.returns-clause-gap
 returns-clause-gap t c =
-    rw (level c.args.nodes.now c.args.below c.args.number c.if-below-eq0.false c.requires.shaped) at c.mend.ensures.gap
+    rw (level_of_children c.args.nodes.now c.args.below c.args.number c.if-below-eq0.false c.requires.shaped) at c.mend.ensures.gap
 
 pub returns-clause-place : goal.returns-clause-place
 returns-clause-place t c =
     let i = turn c.args.gap in
     let low = below_turn c.args.nodes.now c.args.below c.args.number c.if-below-eq0.false c.requires.shaped c.args.gap c.requires.gap in
-    let back = level c.args.nodes.now c.args.below c.args.number c.if-below-eq0.false c.requires.shaped in
+    let back = level_of_children c.args.nodes.now c.args.below c.args.number c.if-below-eq0.false c.requires.shaped in
     let child = rw (c.child_at-child.ensures, c.first_turn-index.ensures, c.seen_inside.ensures) at c.remove_below-inner.ensures.shrinks in
     let listed = rw back at child.listed in
     let moved = rw back at child.moved in

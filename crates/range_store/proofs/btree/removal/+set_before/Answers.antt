@@ -5,7 +5,7 @@ use Rattle.range_store.specs.Gaps.{turn, inside, place}
 use Rattle.range_store.proofs.Gaps.{leaf_place}
 use Rattle.range_store.proofs.Growing.{kid_owned}
 use Rattle.range_store.proofs.Setting.{rewritten_above, kept_above, rewritten_here, kept_here, place_here}
-use Rattle.range_store.proofs.Ways.{level, child_within, below_kid, below_turn, below_inside, below_here, below_most}
+use Rattle.range_store.proofs.Ways.{level_of_children, child_within, below_kid, below_turn, below_inside, below_here, below_most}
 use Rattle.range_store.proofs.btree.removal.+set_before.Goals as goal
 
 pub returns-then-below-eq0-clause-none : goal.returns-then-below-eq0-clause-none
@@ -20,7 +20,7 @@ set_before-requires t c =
     let low = below_turn c.args.nodes.now c.args.below c.args.number c.if-below-eq0.false c.requires.shaped c.args.gap c.requires.gap in
     let kid = below_kid c.args.nodes.now c.args.below c.args.number c.if-below-eq0.false c.requires.shaped (turn c.args.gap) low in
     let is = below_inside c.args.nodes.now c.args.below c.args.number c.if-below-eq0.false c.requires.shaped c.args.gap c.requires.gap in
-    let back = level c.args.nodes.now c.args.below c.args.number c.if-below-eq0.false c.requires.shaped in
+    let back = level_of_children c.args.nodes.now c.args.below c.args.number c.if-below-eq0.false c.requires.shaped in
     let owned = kid_owned c.args.nodes.now c.args.below c.args.number (turn c.args.gap) c.requires.owned (child_within c.args.nodes.now c.args.below c.args.number c.if-below-eq0.false c.requires.shaped _ low) in
     (omega (arith, c.if-below-eq0.false), rw (c.child_at-child.ensures, c.first_turn-index.ensures, c.seen_inside.ensures) (kid, (rw (← back) at owned, (is, c.requires.at_start))))
 

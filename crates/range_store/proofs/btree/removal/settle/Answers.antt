@@ -1,5 +1,5 @@
 use Rattle.std.proofs.Common.{arith}
-use Rattle.range_store.proofs.Settling.{stays_root, emptied, lowered, lowered_gap}
+use Rattle.range_store.proofs.Settling.{stays_root, empty_root_leaves_nothing, only_child_is_root, lowered_gap}
 use Rattle.range_store.proofs.btree.removal.settle.Goals as goal
 
 pub returns-then-item_count-gt0-clause-tree : goal.returns-then-item_count-gt0-clause-tree
@@ -7,19 +7,19 @@ returns-then-item_count-gt0-clause-tree c = stays_root c.args.nodes.now c.args.l
 
 pub returns-then-levels-eq1-clause-tree : goal.returns-then-levels-eq1-clause-tree
 returns-then-levels-eq1-clause-tree c =
-    (emptied c.args.nodes.now c.remove.new.self c.args.levels c.args.root c.if-levels-eq1.true c.requires.tree (omega (arith, c.item_count.ensures)) c.remove.ensures.updates c.remove.ensures.len).0
+    (empty_root_leaves_nothing c.args.nodes.now c.remove.new.self c.args.levels c.args.root c.if-levels-eq1.true c.requires.tree (omega (arith, c.item_count.ensures)) c.remove.ensures.updates c.remove.ensures.len).0
 
 pub returns-then-levels-eq1-clause-numbers : goal.returns-then-levels-eq1-clause-numbers
 returns-then-levels-eq1-clause-numbers c =
-    (emptied c.args.nodes.now c.remove.new.self c.args.levels c.args.root c.if-levels-eq1.true c.requires.tree (omega (arith, c.item_count.ensures)) c.remove.ensures.updates c.remove.ensures.len).1
+    (empty_root_leaves_nothing c.args.nodes.now c.remove.new.self c.args.levels c.args.root c.if-levels-eq1.true c.requires.tree (omega (arith, c.item_count.ensures)) c.remove.ensures.updates c.remove.ensures.len).1
 
 pub returns-clause-tree : goal.returns-clause-tree
 returns-clause-tree c =
-    rw c.child_at-child.ensures (lowered c.args.nodes.now c.remove-2.new.self c.args.levels c.args.root c.if-levels-eq1.false c.requires.tree (omega (arith, c.item_count.ensures)) c.remove-2.ensures.updates c.remove-2.ensures.len).0
+    rw c.child_at-child.ensures (only_child_is_root c.args.nodes.now c.remove-2.new.self c.args.levels c.args.root c.if-levels-eq1.false c.requires.tree (omega (arith, c.item_count.ensures)) c.remove-2.ensures.updates c.remove-2.ensures.len).0
 
 pub returns-clause-numbers : goal.returns-clause-numbers
 returns-clause-numbers c =
-    rw c.child_at-child.ensures (lowered c.args.nodes.now c.remove-2.new.self c.args.levels c.args.root c.if-levels-eq1.false c.requires.tree (omega (arith, c.item_count.ensures)) c.remove-2.ensures.updates c.remove-2.ensures.len).1
+    rw c.child_at-child.ensures (only_child_is_root c.args.nodes.now c.remove-2.new.self c.args.levels c.args.root c.if-levels-eq1.false c.requires.tree (omega (arith, c.item_count.ensures)) c.remove-2.ensures.updates c.remove-2.ensures.len).1
 
 pub returns-clause-gap : goal.returns-clause-gap
 returns-clause-gap c = λ some. rw (c.child_at-child.ensures, c.seen_inside.ensures) (lowered_gap c.args.nodes.now c.remove-2.new.self c.args.levels c.args.root c.args.gap c.if-levels-eq1.false c.requires.tree (omega (arith, c.item_count.ensures)) c.remove-2.ensures.updates c.requires.gap).0

@@ -8,7 +8,7 @@ use Rattle.range_store.specs.Gaps.{place}
 use Rattle.range_store.proofs.Below.{numbers_leaf}
 use Rattle.range_store.proofs.Gaps.{leaf_gap, leaf_place, way_small}
 use Rattle.range_store.proofs.Searching.{node_stored, node_falls, kid_stored, kid_falls, search_step}
-use Rattle.range_store.proofs.Ways.{level, below_kid, below_gap, below_place, below_most, last_above, last_here, none_before, items_known}
+use Rattle.range_store.proofs.Ways.{level_of_children, below_kid, below_gap, below_place, below_most, last_above, last_here, none_before, items_known}
 use Rattle.range_store.proofs.btree.searching.+search_below.Goals as goal
 
 pub halve-index-requires-clause-stored : goal.halve-index-requires-clause-stored
@@ -51,7 +51,7 @@ search_below-passed-requires g t c κs within =
     let items = c.as_slice-list.ensures.value ∙ sym (items_known c.args.nodes.now c.args.number c.index.result.now c.index.ensures) in
     let count : c.halve-index.result ≡ count_by (passes c.args.items.now (g.P.Probe.test c.args.probe.now)) (items_of (get c.args.nodes.now c.args.number)) = c.halve-index.ensures.count ∙ ap (count_by (passes c.args.items.now (g.P.Probe.test c.args.probe.now))) items in
     let low : c.halve-index.result ≤ length (items_of (get c.args.nodes.now c.args.number)) = omega (arith, count, count_by-le-length (passes c.args.items.now (g.P.Probe.test c.args.probe.now)) (items_of (get c.args.nodes.now c.args.number))) in
-    let back = level c.args.nodes.now c.args.below c.args.number c.if-below-eq0.false c.requires.shaped in
+    let back = level_of_children c.args.nodes.now c.args.below c.args.number c.if-below-eq0.false c.requires.shaped in
     let kid = below_kid c.args.nodes.now c.args.below c.args.number c.if-below-eq0.false c.requires.shaped c.halve-index.result low in
     let stored = kid_stored c.args.items.now (passes c.args.items.now (g.P.Probe.test c.args.probe.now)) 1 CAPACITY c.args.nodes.now c.args.below c.args.number c.requires.shaped (omega (arith, c.if-below-eq0.false)) c.halve-index.result low c.requires.stored in
     let falls = kid_falls c.args.items.now (passes c.args.items.now (g.P.Probe.test c.args.probe.now)) 1 CAPACITY c.args.nodes.now c.args.below c.args.number c.requires.shaped (omega (arith, c.if-below-eq0.false)) c.halve-index.result low c.requires.falls in
@@ -75,7 +75,7 @@ returns-then-is_some-clause-count g t c =
     let count : c.halve-index.result ≡ count_by (passes c.args.items.now (g.P.Probe.test c.args.probe.now)) (items_of (get c.args.nodes.now c.args.number)) = c.halve-index.ensures.count ∙ ap (count_by (passes c.args.items.now (g.P.Probe.test c.args.probe.now))) items in
     let low : c.halve-index.result ≤ length (items_of (get c.args.nodes.now c.args.number)) = omega (arith, count, count_by-le-length (passes c.args.items.now (g.P.Probe.test c.args.probe.now)) (items_of (get c.args.nodes.now c.args.number))) in
     let at = below_place c.args.nodes.now c.args.below c.args.number c.if-below-eq0.false c.requires.shaped c.halve-index.result c.search_below-passed.result.gap _ c.seen_above.ensures.turn c.seen_above.ensures.inside in
-    let inner = rw (level c.args.nodes.now c.args.below c.args.number c.if-below-eq0.false c.requires.shaped) at (rw (c.child_at-child.ensures, c.halve-index.ensures.kept) at c.search_below-passed.ensures.count) in
+    let inner = rw (level_of_children c.args.nodes.now c.args.below c.args.number c.if-below-eq0.false c.requires.shaped) at (rw (c.child_at-child.ensures, c.halve-index.ensures.kept) at c.search_below-passed.ensures.count) in
     let step = rw (← count) at (search_step c.args.items.now (passes c.args.items.now (g.P.Probe.test c.args.probe.now)) 1 CAPACITY c.args.nodes.now c.args.below c.args.number c.requires.shaped (omega (arith, c.if-below-eq0.false)) c.requires.falls) in
     omega (arith, at, inner, step)
 
@@ -93,7 +93,7 @@ returns-else-is_some-clause-count g t c =
     let count : c.halve-index.result ≡ count_by (passes c.args.items.now (g.P.Probe.test c.args.probe.now)) (items_of (get c.args.nodes.now c.args.number)) = c.halve-index.ensures.count ∙ ap (count_by (passes c.args.items.now (g.P.Probe.test c.args.probe.now))) items in
     let low : c.halve-index.result ≤ length (items_of (get c.args.nodes.now c.args.number)) = omega (arith, count, count_by-le-length (passes c.args.items.now (g.P.Probe.test c.args.probe.now)) (items_of (get c.args.nodes.now c.args.number))) in
     let at = below_place c.args.nodes.now c.args.below c.args.number c.if-below-eq0.false c.requires.shaped c.halve-index.result c.search_below-passed.result.gap _ c.seen_above.ensures.turn c.seen_above.ensures.inside in
-    let inner = rw (level c.args.nodes.now c.args.below c.args.number c.if-below-eq0.false c.requires.shaped) at (rw (c.child_at-child.ensures, c.halve-index.ensures.kept) at c.search_below-passed.ensures.count) in
+    let inner = rw (level_of_children c.args.nodes.now c.args.below c.args.number c.if-below-eq0.false c.requires.shaped) at (rw (c.child_at-child.ensures, c.halve-index.ensures.kept) at c.search_below-passed.ensures.count) in
     let step = rw (← count) at (search_step c.args.items.now (passes c.args.items.now (g.P.Probe.test c.args.probe.now)) 1 CAPACITY c.args.nodes.now c.args.below c.args.number c.requires.shaped (omega (arith, c.if-below-eq0.false)) c.requires.falls) in
     omega (arith, at, inner, step)
 

@@ -1,7 +1,7 @@
 use Rattle.std.proofs.Common.{◌-◌, length, refl, sym, ap, ◌∙◌, arith}
 use Rattle.range_store.proofs.Below.{numbers_leaf}
 use Rattle.range_store.proofs.Gaps.{leaf_gap, leaf_place, way_small}
-use Rattle.range_store.proofs.Ways.{level, below_kid, below_gap, below_place, past_last}
+use Rattle.range_store.proofs.Ways.{level_of_children, below_kid, below_gap, below_place, past_last}
 use Rattle.range_store.proofs.btree.way.+end_gap.Goals as goal
 
 pub returns-then-below-eq0-clause-gap : goal.returns-then-below-eq0-clause-gap
@@ -30,4 +30,4 @@ returns-clause-place t c =
     let at = below_place s c.args.below c.args.number c.if-below-eq0.false c.requires.shaped c.item_count-many.result c.end_gap.result _ c.seen_above.ensures.turn c.seen_above.ensures.inside in
     let end = rw c.child_at-child.ensures at c.end_gap.ensures.place in
     let last = past_last s c.args.below c.args.number c.if-below-eq0.false c.requires.shaped c.item_count-many.result c.item_count-many.ensures in
-    omega (arith, at, rw (level s c.args.below c.args.number c.if-below-eq0.false c.requires.shaped) at end, last)
+    omega (arith, at, rw (level_of_children s c.args.below c.args.number c.if-below-eq0.false c.requires.shaped) at end, last)

@@ -3,7 +3,7 @@ use Rattle.slab.specs.Slab.{get}
 use Rattle.range_store.specs.Nodes.{items_of}
 use Rattle.range_store.specs.Gaps.{turn}
 use Rattle.range_store.proofs.Gaps.{way_small}
-use Rattle.range_store.proofs.Ways.{level, child_within, below_kid, below_turn, below_inside, below_here, found_above, found_between, past_last}
+use Rattle.range_store.proofs.Ways.{level_of_children, child_within, below_kid, below_turn, below_inside, below_here, found_above, found_between, past_last}
 use Rattle.range_store.proofs.btree.way.+following.Goals as goal
 
 -- the child through which the way goes, and the gap below it
@@ -44,7 +44,7 @@ seen_above-requires-then-index-item_count-clause-way t c =
 pub returns-then-index-item_count : goal.returns-then-index-item_count
 returns-then-index-item_count t c =
     let none = rw (c.in_default.is, c.child_at-child.ensures, c.first_turn-index.ensures, c.seen_inside.ensures) at c.following.ensures in
-    let none' = rw (level c.args.nodes.now c.args.below c.args.number c.if-below-eq0.false c.requires.shaped) at none in
+    let none' = rw (level_of_children c.args.nodes.now c.args.below c.args.number c.if-below-eq0.false c.requires.shaped) at none in
     let low : c.first_turn-index.result < length (items_of (get c.args.nodes.now c.args.number)) = omega (arith, c.if-index-item_count.true, c.item_count.ensures) in
     let found = found_between c.args.nodes.now c.args.below c.args.number c.if-below-eq0.false c.requires.shaped c.first_turn-index.result c.first_gap.result _ low c.seen_above-then-index-item_count.ensures.turn c.seen_above-then-index-item_count.ensures.inside c.item_at.ensures (rw c.child_at-next.ensures at c.first_gap.ensures.gap) (rw c.child_at-next.ensures at c.first_gap.ensures.place) in
     rw (below_here c.args.nodes.now c.args.below c.args.number c.if-below-eq0.false c.requires.shaped c.args.gap, none', ← c.first_turn-index.ensures) found
@@ -52,7 +52,7 @@ returns-then-index-item_count t c =
 pub returns : goal.returns
 returns t c =
     let none = rw (c.in_default.is, c.child_at-child.ensures, c.first_turn-index.ensures, c.seen_inside.ensures) at c.following.ensures in
-    let none' = rw (level c.args.nodes.now c.args.below c.args.number c.if-below-eq0.false c.requires.shaped) at none in
+    let none' = rw (level_of_children c.args.nodes.now c.args.below c.args.number c.if-below-eq0.false c.requires.shaped) at none in
     let low = below_turn c.args.nodes.now c.args.below c.args.number c.if-below-eq0.false c.requires.shaped c.args.gap c.requires.gap in
     let last = past_last c.args.nodes.now c.args.below c.args.number c.if-below-eq0.false c.requires.shaped (turn c.args.gap) (omega (arith, low, c.first_turn-index.ensures, c.if-index-item_count.false, c.item_count.ensures)) in
     omega (arith, below_here c.args.nodes.now c.args.below c.args.number c.if-below-eq0.false c.requires.shaped c.args.gap, none', last)

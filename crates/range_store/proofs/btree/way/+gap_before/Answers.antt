@@ -3,7 +3,7 @@ use Rattle.slab.specs.Slab.{get}
 use Rattle.range_store.specs.Nodes.{items_of, children_of, numbers, before}
 use Rattle.range_store.specs.Gaps.{turn}
 use Rattle.range_store.proofs.Gaps.{leaf_gap, leaf_place, leaf_index, way_small}
-use Rattle.range_store.proofs.Ways.{level, child_within, below_kid, below_turn, below_inside, below_gap, below_place, below_here, before_next}
+use Rattle.range_store.proofs.Ways.{level_of_children, child_within, below_kid, below_turn, below_inside, below_gap, below_place, below_here, before_next}
 use Rattle.range_store.proofs.btree.way.+gap_before.Goals as goal
 
 pub child_at-child-requires-clause-within : goal.child_at-child-requires-clause-within
@@ -72,7 +72,7 @@ returns t c =
     let next : i + 1 ≡ turn c.args.gap = omega (arith, c.first_turn-index.ensures, c.if-index-eq0.false) in
     let none = rw (c.in_default.is, c.child_at-child.ensures, c.first_turn-index.ensures, c.seen_inside.ensures) at c.gap_before.ensures in
     let is = rw c.child_at-last.ensures at c.end_gap.ensures.gap in
-    let end = rw (level c.args.nodes.now c.args.below c.args.number c.if-below-eq0.false c.requires.shaped) at (rw c.child_at-last.ensures at c.end_gap.ensures.place) in
+    let end = rw (level_of_children c.args.nodes.now c.args.below c.args.number c.if-below-eq0.false c.requires.shaped) at (rw c.child_at-last.ensures at c.end_gap.ensures.place) in
     let place = below_place c.args.nodes.now c.args.below c.args.number c.if-below-eq0.false c.requires.shaped i c.end_gap.result _ c.seen_above-2.ensures.turn c.seen_above-2.ensures.inside in
     let more = rw next at (before_next c.args.nodes.now c.args.below c.args.number c.if-below-eq0.false c.requires.shaped i low) in
     (below_gap c.args.nodes.now c.args.below c.args.number c.if-below-eq0.false c.requires.shaped i c.end_gap.result _ c.seen_above-2.ensures.turn c.seen_above-2.ensures.inside (omega arith) is, omega (arith, place, end, more, below_here c.args.nodes.now c.args.below c.args.number c.if-below-eq0.false c.requires.shaped c.args.gap, none))

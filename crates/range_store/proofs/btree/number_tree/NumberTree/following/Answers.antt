@@ -1,7 +1,7 @@
 use Rattle.std.proofs.Common.{◌+◌, ◌<◌, length, sym, refl, ◌∙◌, arith}
 use Rattle.slab.specs.Slab.{get}
 use Rattle.range_store.specs.Nodes.{items_of}
-use Rattle.range_store.proofs.Whole.{deep, tree_leaf, tree_beside, tree_item}
+use Rattle.range_store.proofs.Whole.{tree_is_not_too_deep, tree_leaf, tree_beside, tree_item}
 use Rattle.range_store.proofs.btree.number_tree.NumberTree.following.Goals as goal
 
 pub item_count-requires : goal.item_count-requires
@@ -18,4 +18,4 @@ returns-then-gap-item_count c =
     (next.0, omega (arith, next.1), item.1, c.item_at-number.ensures ∙ sym item.0)
 
 pub following-requires-clause-deep : goal.following-requires-clause-deep
-following-requires-clause-deep c = deep c.args.self.now.nodes c.args.self.now.levels c.args.self.now.root c.args.self.now.whole
+following-requires-clause-deep c = tree_is_not_too_deep c.args.self.now.nodes c.args.self.now.levels c.args.self.now.root c.args.self.now.whole

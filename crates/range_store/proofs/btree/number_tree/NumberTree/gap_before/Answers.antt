@@ -1,5 +1,5 @@
 use Rattle.std.proofs.Common.{◌-◌, refl, arith}
-use Rattle.range_store.proofs.Whole.{deep, tree_leaf, tree_beside}
+use Rattle.range_store.proofs.Whole.{tree_is_not_too_deep, tree_leaf, tree_beside}
 use Rattle.range_store.proofs.btree.number_tree.NumberTree.gap_before.Goals as goal
 
 pub returns-then-gap-gt0 : goal.returns-then-gap-gt0
@@ -8,4 +8,4 @@ returns-then-gap-gt0 c =
     (back.0, omega (arith, back.1, c.if-gap-gt0.true))
 
 pub gap_before-requires-clause-deep : goal.gap_before-requires-clause-deep
-gap_before-requires-clause-deep c = deep c.args.self.now.nodes c.args.self.now.levels c.args.self.now.root c.args.self.now.whole
+gap_before-requires-clause-deep c = tree_is_not_too_deep c.args.self.now.nodes c.args.self.now.levels c.args.self.now.root c.args.self.now.whole

@@ -14,7 +14,7 @@ use Rattle.range_store.proofs.Planting.{first_tree, one_more, kept_root, kept_ga
 use Rattle.range_store.proofs.Rank.{first_room, root_shaped}
 use Rattle.range_store.proofs.Seats.{seat_side, seat_inside}
 use Rattle.range_store.proofs.Settling.{tree_owned}
-use Rattle.range_store.proofs.Whole.{deep, gap_within, tree_leaf}
+use Rattle.range_store.proofs.Whole.{tree_is_not_too_deep, gap_within, tree_leaf}
 use Rattle.range_store.proofs.InPlace.{IsLeafChange, put_in_leaf}
 use Rattle.range_store.proofs.btree.number_tree.NumberTree.insert.Goals as goal
 use Rattle.range_store.proofs.btree.number_tree.NumberTree.insert.Goals.{After-put, After-store-self, After-insert_below-inserted, After-store-self-in-Some-split, After-seen_above, In-None}
@@ -163,7 +163,7 @@ insert_below-inserted-requires-clause-owned c =
     rw level (tree_owned c.args.self.now.nodes c.args.self.now.levels c.args.self.now.root c.args.self.now.whole.tree)
 
 pub insert_below-inserted-requires-clause-deep : goal.insert_below-inserted-requires-clause-deep
-insert_below-inserted-requires-clause-deep c = deep c.args.self.now.nodes c.args.self.now.levels c.args.self.now.root c.args.self.now.whole
+insert_below-inserted-requires-clause-deep c = tree_is_not_too_deep c.args.self.now.nodes c.args.self.now.levels c.args.self.now.root c.args.self.now.whole
 
 pub insert_below-inserted-requires-clause-room : goal.insert_below-inserted-requires-clause-room
 insert_below-inserted-requires-clause-room c =
@@ -236,7 +236,7 @@ seen_above-requires-clause-index c =
 pub seen_above-requires-clause-way : goal.seen_above-requires-clause-way
 seen_above-requires-clause-way c =
     let below = seat_inside c.insert_below-inserted.new.nodes (c.args.self.now.levels - 1) _ _ c.insert_below-inserted.result.side c.insert_below-inserted.result.gap (rw c.in-Some-split.is at c.insert_below-inserted.ensures.gap) in
-    way_small c.insert_below-inserted.new.nodes (c.args.self.now.levels - 1) _ c.insert_below-inserted.result.gap (deep c.args.self.now.nodes c.args.self.now.levels c.args.self.now.root c.args.self.now.whole) below
+    way_small c.insert_below-inserted.new.nodes (c.args.self.now.levels - 1) _ c.insert_below-inserted.result.gap (tree_is_not_too_deep c.args.self.now.nodes c.args.self.now.levels c.args.self.now.root c.args.self.now.whole) below
 
 pub returns-in-Some-split-clause-numbers : goal.returns-in-Some-split-clause-numbers
 returns-in-Some-split-clause-numbers c =

@@ -7,7 +7,7 @@ use Rattle.range_store.proofs.InLeaf.{place_index}
 use Rattle.range_store.proofs.Rank.{numbers_none}
 use Rattle.range_store.proofs.Settling.{loosened_numbers}
 use Rattle.range_store.proofs.InPlace.{IsLeafChange, take_from_leaf}
-use Rattle.range_store.proofs.Whole.{deep, gap_within, tree_leaf}
+use Rattle.range_store.proofs.Whole.{tree_is_not_too_deep, gap_within, tree_leaf}
 use Rattle.range_store.proofs.btree.number_tree.NumberTree.remove_in_leaf.Goals as goal
 use Rattle.range_store.proofs.btree.number_tree.NumberTree.remove_in_leaf.Goals.{After-take_item}
 
@@ -45,7 +45,7 @@ returns-then-item_count-gt-MIN_LEN-clause-gap c =
     (record { some = c.requires.gap.some; gap = (taken a).gap }, omega (arith, (taken a).place_is, c.requires.in_leaf))
 
 pub remove_below-left-requires-clause-deep : goal.remove_below-left-requires-clause-deep
-remove_below-left-requires-clause-deep c = deep c.args.self.now.nodes c.args.self.now.levels c.args.self.now.root c.args.self.now.whole
+remove_below-left-requires-clause-deep c = tree_is_not_too_deep c.args.self.now.nodes c.args.self.now.levels c.args.self.now.root c.args.self.now.whole
 
 pub invariant_of-self-2 : goal.invariant_of-self-2
 invariant_of-self-2 c =
