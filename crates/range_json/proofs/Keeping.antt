@@ -12,7 +12,9 @@ use Rattle.range_keys.specs.Order.{KeyOrder, IsLawful}
 use Rattle.range_keys.specs.Position.{start_position, end_position}
 use Rattle.range_keys.specs.PositionOrder.{position_total}
 use Rattle.range_algebra.specs.declared.any.AnyRange.{AnyRange}
-use Rattle.range_algebra.specs.Chains.{Leads, chain_before, chain_left, chain_right, every_left, every_right}
+use Rattle.range_algebra.proofs.Lists.{every_left, every_right}
+use Rattle.range_map.specs.Chains.{Leads}
+use Rattle.range_map.proofs.Chains.{chain_before, chain_left, chain_right}
 use Rattle.range_algebra.specs.Compared.{starts_at_end}
 use Rattle.range_algebra.specs.Cuts.{past, lower, upper}
 use Rattle.range_algebra.specs.Intervals.{Le, Lt, Every}

@@ -28,7 +28,7 @@ use Rattle.range_json.specs.MapFaults.{element_fault, IsElementRead, IsMapRead, 
 use Rattle.range_json.specs.Values.{IsBoundValue, IsRangeValue, AreRangeValues, AreItemValues}
 use Rattle.range_json.proofs.Reading.{list_back, all_equal, all_more}
 use Rattle.range_json.proofs.Keeping.{apart_from_last, stored_front, one_between}
-use Rattle.range_algebra.specs.Chains.{any_none}
+use Rattle.range_algebra.proofs.Lists.{any_none}
 use Rattle.range_map.specs.Frames.{JoinsOrMeets}
 
 zip_last : {X : Type 0} (R : X → X → Type 0) (xs ys : List X) (x y : X) → AllZip R xs ys → R x y → AllZip R (xs ++ x ∷ []) (ys ++ y ∷ [])

@@ -8,10 +8,9 @@ use Rattle.range_keys.specs.declared.inner.position.Position.{Position}
 use Rattle.range_algebra.specs.declared.any.AnyRange.{AnyRange}
 use Rattle.range_algebra.specs.Range.{IsKnownRange}
 use Rattle.range_algebra.specs.Cuts.{lower, upper}
-use Rattle.range_algebra.specs.Chains.{any_left, any_right, any_split}
+use Rattle.range_map.specs.Chains.{IsBoundTo}
 use Rattle.range_algebra.specs.Intervals.{Le, Lt, Any, Every}
-use Rattle.range_algebra.proofs.Lists.{parts}
-use Rattle.range_algebra.specs.Joins.{IsBoundTo}
+use Rattle.range_algebra.proofs.Lists.{parts, any_left, any_right, any_split}
 use Rattle.range_algebra.specs.Orders.{le_refl, lt_le, le_lt_trans, lt_not_le, cases, not_le}
 use Rattle.range_store.specs.declared.storage.Item.{Item}
 use Rattle.range_map.specs.ItemCuts.{item_lower, item_upper}

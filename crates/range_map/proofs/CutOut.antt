@@ -10,9 +10,10 @@ use Rattle.range_algebra.specs.Range.{IsKnownRange, IsEmptyRange}
 use Rattle.range_store.specs.declared.storage.Item.{Item}
 use Rattle.range_algebra.specs.Intervals.{Le, Lt, Every}
 use Rattle.range_algebra.specs.Orders.{lt_le, le_trans}
-use Rattle.range_algebra.specs.Chains.{every_weaker, every_append, every_left, every_right, chain_above, chain_right, chain_before}
-use Rattle.range_algebra.specs.Sides.{IsLeft, IsRight, left_whole, left_cut, right_whole, right_cut}
-use Rattle.range_algebra.specs.Joins.{IsUnbound, unbound}
+use Rattle.range_map.specs.Chains.{IsLeft, IsRight, IsUnbound}
+use Rattle.range_map.proofs.Chains.{chain_above, chain_right, chain_before}
+use Rattle.range_map.proofs.ChainSides.{left_whole, left_cut, right_whole, right_cut}
+use Rattle.range_map.proofs.ChainJoins.{unbound}
 use Rattle.range_algebra.specs.Cuts.{lower, upper}
 use Rattle.range_map.specs.ItemCuts.{item_lower, item_upper}
 use Rattle.range_map.specs.Stored.{IsStored}
@@ -20,7 +21,7 @@ use Rattle.range_map.specs.Bindings.{IsUnboundAfter}
 use Rattle.range_map.specs.Window.{IsWindow, IsLeftPart, IsRightPart, option_items}
 use Rattle.range_map.specs.declared.change.window.Window.{Window}
 use Rattle.range_map.proofs.Forms.{places, nonempty_good, Known, Chained, stored_known, stored_chain, unbound_after}
-use Rattle.range_algebra.proofs.Lists.{parts, parts_at}
+use Rattle.range_algebra.proofs.Lists.{parts, parts_at, every_weaker, every_append, every_left, every_right}
 
 module _ {K : Type 0} (order : KeyOrder K) (lawful : IsLawful order) {V : Type 0} (same : V → V → Bool) (equal : IsEquivalence same) where
   abbrev pub Left : List (Item (AnyRange K) V) → List (Item (AnyRange K) V) → Position K → Type 0

@@ -13,7 +13,8 @@ use Rattle.range_algebra.specs.Range.{IsKnownRange}
 use Rattle.range_algebra.specs.RangeOrder.{range_cmp}
 use Rattle.range_algebra.specs.Intervals.{Le, Lt, Any, Every}
 use Rattle.range_algebra.specs.Orders.{le_refl, lt_le, eq_le, eq_ge, le_trans, lt_not_le, cases, both, le_lt_trans, lt_le_trans}
-use Rattle.range_algebra.specs.Chains.{any_left, every_weaker, every_append, follows_above, chain_tail}
+use Rattle.range_algebra.proofs.Lists.{any_left, every_weaker, every_append}
+use Rattle.range_map.proofs.Chains.{follows_above, chain_tail}
 use Rattle.range_algebra.specs.Combined.{common}
 use Rattle.range_algebra.proofs.Commons.{gt_le, later_is, earlier_is, later_over as starts_over, earlier_under as ends_under}
 use Rattle.range_algebra.specs.Cuts.{lower, upper}

@@ -11,21 +11,19 @@ use Rattle.range_algebra.specs.Range.{IsKnownRange, IsEmptyRange}
 use Rattle.range_store.specs.declared.storage.Item.{Item}
 use Rattle.range_algebra.specs.Intervals.{Le, Lt, Every}
 use Rattle.range_algebra.specs.Orders.{lt_le, le_trans}
-use Rattle.range_algebra.specs.Chains.{every_weaker, every_append, every_right, Leads}
-use Rattle.range_algebra.specs.Joins.{unbound}
+use Rattle.range_map.specs.Chains.{Leads, Trails}
+use Rattle.range_map.proofs.ChainJoins.{unbound, left_apart, left_joined, right_apart, right_joined, leading_last, trailing_first, bound}
 use Rattle.range_algebra.specs.Cuts.{past, lower, upper}
 use Rattle.range_map.specs.ItemCuts.{item_lower, item_upper}
 use Rattle.range_map.specs.Stored.{IsStored}
 use Rattle.range_map.specs.Window.{IsWindow, IsLeftPart, IsRightPart, option_items}
 use Rattle.range_map.specs.declared.change.window.Window.{Window}
 use Rattle.range_map.proofs.Forms.{places, nonempty_good, Known, stored_known, stored_chain, chain_stored, unbound_after}
-use Rattle.range_algebra.proofs.Lists.{every_at, parts}
+use Rattle.range_algebra.proofs.Lists.{every_at, parts, every_weaker, every_append, every_right}
 use Rattle.std.specs.Cmp.{tied_itself}
 use Rattle.std.specs.declared.ops.Bound.{Bound}
 use Rattle.std.specs.Option.{unwrap_or}
 use Rattle.range_algebra.specs.Orders.{eq_le, eq_ge}
-use Rattle.range_algebra.specs.Chains.{Trails}
-use Rattle.range_algebra.specs.Joins.{left_apart, left_joined, right_apart, right_joined, leading_last, trailing_first, bound}
 use Rattle.range_algebra.specs.Relations.{Touches}
 use Rattle.range_map.specs.Changes.{IsInserted, IsRemoved}
 use Rattle.range_map.specs.Ranges.{Overlap}

@@ -14,7 +14,9 @@ use Rattle.range_algebra.specs.Clones.{IsBoundClone, SameBound, same_start}
 use Rattle.range_algebra.specs.Range.{IsKnownRange}
 use Rattle.range_algebra.specs.Intervals.{Any, Every}
 use Rattle.range_algebra.specs.Orders.{lt_le, eq_le, eq_ge, le_trans, cases, le_lt_trans, lt_le_trans}
-use Rattle.range_algebra.specs.Chains.{any_left, any_right, any_split, every_weaker, every_append, every_left, every_right, Leads, Respects, strictly_leads, chain_left, chain_right, chain_before, join, back}
+use Rattle.range_algebra.proofs.Lists.{any_left, any_right, any_split, every_weaker, every_append, every_left, every_right}
+use Rattle.range_map.specs.Chains.{Leads, Respects}
+use Rattle.range_map.proofs.Chains.{strictly_leads, chain_left, chain_right, chain_before, join, back}
 use Rattle.range_algebra.specs.Relations.{Touches}
 use Rattle.range_store.specs.declared.storage.Item.{Item}
 use Rattle.range_map.specs.Answers.{Answered}

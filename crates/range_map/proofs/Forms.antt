@@ -18,8 +18,7 @@ use Rattle.range_algebra.specs.Compared.{inverted, start_is_at, starts_at_end}
 use Rattle.range_store.specs.declared.storage.Item.{Item}
 use Rattle.range_algebra.specs.Intervals.{Le, Lt, Every}
 use Rattle.range_algebra.specs.Orders.{eq_ge, le_trans, lt_not_le, cases, not_le, not_lt, both}
-use Rattle.range_algebra.specs.Chains.{IsChain, Has, Respects}
-use Rattle.range_algebra.specs.Joins.{IsBoundTo, IsUnbound}
+use Rattle.range_map.specs.Chains.{IsChain, Has, Respects, IsBoundTo, IsUnbound}
 use Rattle.range_algebra.specs.Cuts.{past, lower, upper}
 use Rattle.range_map.specs.ItemCuts.{item_lower, item_upper}
 use Rattle.range_map.specs.Stored.{IsStored}

@@ -20,13 +20,12 @@ use Rattle.range_store.specs.Places.{IsAt, IsFrontOf}
 use Rattle.range_store.proofs.PlacesLemmas.{place_at}
 use Rattle.range_algebra.specs.Intervals.{Le, Lt, Every}
 use Rattle.range_algebra.specs.Orders.{lt_not_le, not_lt, lt_le_trans, le_lt_trans, lt_trans, lt_of}
-use Rattle.range_algebra.specs.Chains.{every_weaker}
 use Rattle.range_map.specs.Stored.{IsStored}
 use Rattle.range_map.specs.Bindings.{IsStoredFor, IsBound, BindsTo}
 use Rattle.range_map.specs.Window.{IsFound, IsJustBefore}
 use Rattle.range_map.proofs.Forms.{places}
 use Rattle.range_map.proofs.Listed.{IsListed, listed, not_greater}
-use Rattle.range_algebra.proofs.Lists.{every_at, every_take, every_drop, parts, drop_all}
+use Rattle.range_algebra.proofs.Lists.{every_at, every_take, every_drop, parts, drop_all, every_weaker}
 
 less_is : (o : Ordering) → o ≡ Less → is_lt o ≡ true
 less_is o e = ap is_lt e

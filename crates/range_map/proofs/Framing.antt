@@ -10,9 +10,9 @@ use Rattle.range_algebra.specs.declared.any.AnyRange.{AnyRange}
 use Rattle.range_algebra.specs.Range.{IsKnownRange}
 use Rattle.range_algebra.specs.Intervals.{Le, Lt, Any, Every}
 use Rattle.range_algebra.specs.Orders.{lt_trans, lt_not_le, le_lt_trans}
-use Rattle.range_algebra.specs.Chains.{any_left, any_right, any_none, every_weaker, every_append, every_left, every_right, chain_before}
+use Rattle.range_map.proofs.Chains.{chain_before}
 use Rattle.range_algebra.specs.Cuts.{lower, upper}
-use Rattle.range_algebra.proofs.Lists.{parts, parts_at, every_at}
+use Rattle.range_algebra.proofs.Lists.{parts, parts_at, every_at, any_left, any_right, any_none, every_weaker, every_append, every_left, every_right}
 use Rattle.range_map.proofs.Edging.{element}
 use Rattle.range_store.specs.declared.storage.Item.{Item}
 use Rattle.range_map.specs.ItemCuts.{item_lower, item_upper}

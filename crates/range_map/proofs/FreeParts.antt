@@ -12,7 +12,7 @@ use Rattle.range_keys.specs.declared.inner.position.Position.{Position}
 use Rattle.range_keys.specs.declared.inner.position.Position.TheVariants.{Beside}
 use Rattle.range_keys.specs.declared.inner.position.Side.TheVariants.{At}
 use Rattle.range_algebra.specs.declared.any.AnyRange.{AnyRange}
-use Rattle.range_algebra.specs.Chains.{any_left, any_right, every_append, every_left, every_right, every_weaker}
+use Rattle.range_algebra.proofs.Lists.{any_left, any_right, every_append, every_left, every_right, every_weaker}
 use Rattle.range_algebra.specs.Compared.{inverted, starts_past_end}
 use Rattle.range_algebra.specs.Cuts.{past}
 use Rattle.range_algebra.specs.Intervals.{Le, Lt, Any, Every}

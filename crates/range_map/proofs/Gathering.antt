@@ -20,9 +20,10 @@ use Rattle.range_algebra.specs.Cuts.{past}
 use Rattle.range_algebra.specs.Range.{Holds, IsKnownBound, IsKnownRange, IsEmptyRange}
 use Rattle.range_algebra.specs.Intervals.{Any, Every}
 use Rattle.range_algebra.specs.Orders.{le_refl, lt_le, eq_le, eq_ge, le_trans, lt_not_le, cases, not_le, lt_le_trans}
-use Rattle.range_algebra.specs.Chains.{Leads, any_left, any_right, every_weaker, every_append, every_right, chain_before, chain_right, follows_above}
+use Rattle.range_map.specs.Chains.{Leads}
+use Rattle.range_map.proofs.Chains.{chain_before, chain_right, follows_above}
 use Rattle.range_algebra.proofs.Commons.{later_is, earlier_is}
-use Rattle.range_algebra.proofs.Lists.{every_at, parts_at}
+use Rattle.range_algebra.proofs.Lists.{every_at, parts_at, any_left, any_right, every_weaker, every_append, every_right}
 use Rattle.range_algebra.proofs.Places.{held_between}
 use Rattle.range_store.specs.declared.storage.Item.{Item}
 use Rattle.range_map.specs.Answers.{MayAnswer, Answered, IsAsAnswered, FailsAt, IsGathered}

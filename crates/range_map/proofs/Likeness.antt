@@ -19,7 +19,7 @@ use Rattle.range_algebra.specs.Clones.{SameBound, same_start, same_end}
 use Rattle.range_algebra.specs.Compared.{starts_at_end}
 use Rattle.range_algebra.specs.Range.{Holds, IsEmptyRange}
 use Rattle.range_algebra.specs.Orders.{eq_le, eq_ge, le_trans, lt_le_trans, le_lt_trans, both}
-use Rattle.range_algebra.specs.Chains.{every_weaker}
+use Rattle.range_algebra.proofs.Lists.{every_weaker}
 use Rattle.range_algebra.proofs.Holding.{holds_by_position}
 use Rattle.range_store.specs.declared.storage.Item.{Item}
 use Rattle.range_map.specs.Answers.{piece_of, FailsAt, IsUpdated}

@@ -17,10 +17,10 @@ use Rattle.range_algebra.specs.declared.any.AnyRange.{AnyRange}
 use Rattle.range_algebra.specs.Range.{Holds, IsKnownBound, IsKnownRange, IsEmptyRange}
 use Rattle.range_algebra.specs.Intervals.{Le, Lt, Any, Every}
 use Rattle.range_algebra.specs.Orders.{le_refl, lt_le, le_trans, lt_not_le, cases, not_le, not_lt, lt_le_trans}
-use Rattle.range_algebra.specs.Chains.{any_none, any_split, every_weaker, chain_above, chain_right}
+use Rattle.range_map.proofs.Chains.{chain_above, chain_right}
 use Rattle.range_algebra.proofs.Completeness.{nonempty_holds}
 use Rattle.range_algebra.proofs.Holding.{holds_by_position}
-use Rattle.range_algebra.proofs.Lists.{parts}
+use Rattle.range_algebra.proofs.Lists.{parts, any_none, any_split, every_weaker}
 use Rattle.range_store.specs.declared.storage.Item.{Item}
 use Rattle.range_map.specs.Bindings.{IsBound, BindsTo, Binds}
 use Rattle.range_map.specs.ItemCuts.{item_lower, item_upper}

@@ -6,7 +6,7 @@ use Rattle.range_keys.specs.PositionOrder.{position_total}
 use Rattle.range_keys.specs.declared.inner.position.Position.{Position}
 use Rattle.range_keys.specs.declared.inner.position.Position.TheVariants.{Beside}
 use Rattle.range_keys.specs.declared.inner.position.Side.TheVariants.{At}
-use Rattle.range_algebra.specs.Chains.{chain_above, chain_tail}
+use Rattle.range_map.proofs.Chains.{chain_above, chain_tail}
 use Rattle.range_algebra.specs.Intervals.{Le, Lt, Every}
 use Rattle.range_algebra.specs.Orders.{lt_not_le, le_trans}
 use Rattle.range_algebra.specs.Range.{Holds}

@@ -1,7 +1,7 @@
 -- What is to become of the items on each side of a range that is bound.
 use Rattle.std.proofs.Common.{◌≡◌, ℕ, ◌+◌, ◌-◌, ◌<◌, ◌≤◌, List, length, get_or, refl, ap, sym, ◌∙◌, arith, subst, Option, Some, None, Bool, true, false, IsTrue, [], ◌∷◌, ◌++◌, take, drop, inl, inr}
 use Rattle.std.proofs.lemmas.List.{append-nil, take_more, drop_more}
-use Rattle.range_algebra.specs.Chains.{any_left, any_right}
+use Rattle.range_algebra.proofs.Lists.{any_left, any_right}
 use Rattle.range_algebra.specs.Intervals.{Every}
 use Rattle.range_algebra.specs.Relations.{Touches}
 use Rattle.range_map.specs.Frames.{IsPart}

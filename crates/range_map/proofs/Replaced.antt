@@ -7,12 +7,11 @@ use Rattle.std.specs.declared.ops.Bound.{Bound}
 use Rattle.range_keys.specs.Order.{KeyOrder, IsLawful}
 use Rattle.range_keys.specs.declared.inner.position.Position.TheVariants.{Beside}
 use Rattle.range_keys.specs.declared.inner.position.Side.TheVariants.{At}
-use Rattle.range_algebra.specs.Chains.{any_left, any_right, every_weaker, every_append, every_left, every_right}
 use Rattle.range_algebra.specs.Clones.{SameBound}
 use Rattle.range_algebra.specs.Intervals.{Any, Every}
 use Rattle.range_algebra.specs.Range.{IsKnownBound, IsKnownRange, IsEmptyRange}
 use Rattle.range_algebra.specs.declared.any.AnyRange.{AnyRange}
-use Rattle.range_algebra.proofs.Lists.{parts}
+use Rattle.range_algebra.proofs.Lists.{parts, any_left, any_right, every_weaker, every_append, every_left, every_right}
 use Rattle.range_algebra.proofs.Places.{held_between}
 use Rattle.range_store.specs.Places.{IsAt}
 use Rattle.range_store.specs.declared.storage.Item.{Item}

@@ -16,8 +16,7 @@ use Rattle.range_algebra.specs.Compared.{starts_at_end}
 use Rattle.range_algebra.specs.Cuts.{past}
 use Rattle.range_algebra.specs.Intervals.{Lt, Every}
 use Rattle.range_algebra.specs.Orders.{eq_ge, lt_not_le, le_lt_trans, lt_trans}
-use Rattle.range_algebra.specs.Chains.{every_weaker}
-use Rattle.range_algebra.proofs.Lists.{every_at}
+use Rattle.range_algebra.proofs.Lists.{every_at, every_weaker}
 use Rattle.range_algebra.proofs.Places.{turned}
 use Rattle.range_store.specs.declared.storage.Item.{Item}
 use Rattle.range_map.specs.Neighbours.{EachNext}

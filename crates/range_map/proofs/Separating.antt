@@ -10,16 +10,16 @@ use Rattle.range_keys.specs.Order.{KeyOrder, IsLawful}
 use Rattle.range_keys.specs.Position.{end_position, position_cmp}
 use Rattle.range_keys.specs.PositionOrder.{position_total}
 use Rattle.range_keys.specs.declared.inner.position.Position.{Position}
-use Rattle.range_algebra.specs.Chains.{any_none, any_split, chain_above, chain_before, chain_right, every_append, every_left, every_right, every_weaker, strictly_leads, strictly_trails}
+use Rattle.range_map.proofs.Chains.{chain_above, chain_before, chain_right, strictly_leads, strictly_trails}
+use Rattle.range_map.proofs.ChainSides.{left_whole, right_whole}
+use Rattle.range_map.proofs.ChainJoins.{bound, left_apart, right_apart}
 use Rattle.range_algebra.specs.Compared.{starts_at_end}
 use Rattle.range_algebra.specs.Cuts.{lower, upper}
 use Rattle.range_algebra.specs.Intervals.{Every, Le, Lt}
-use Rattle.range_algebra.specs.Joins.{bound, left_apart, right_apart}
 use Rattle.range_algebra.specs.Orders.{eq_ge, eq_le, le_lt_trans, le_refl, lt_le, lt_le_trans, lt_not_le, lt_trans, not_le}
 use Rattle.range_algebra.specs.Range.{IsEmptyRange, IsKnownRange}
-use Rattle.range_algebra.specs.Sides.{left_whole, right_whole}
 use Rattle.range_algebra.specs.declared.any.AnyRange.{AnyRange}
-use Rattle.range_algebra.proofs.Lists.{drop_all, parts}
+use Rattle.range_algebra.proofs.Lists.{drop_all, parts, any_none, any_split, every_append, every_left, every_right, every_weaker}
 use Rattle.range_store.proofs.PlacesLemmas.{kept_at, place_at}
 use Rattle.range_store.specs.Places.{IsAt, place_before}
 use Rattle.range_store.specs.declared.storage.Item.{Item}

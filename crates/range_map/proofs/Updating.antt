@@ -11,7 +11,7 @@ use Rattle.range_algebra.specs.declared.any.AnyRange.{AnyRange}
 use Rattle.range_algebra.specs.Range.{Holds, IsKnownRange}
 use Rattle.range_algebra.specs.Intervals.{Any, Every}
 use Rattle.range_algebra.specs.Orders.{le_refl, lt_le, both}
-use Rattle.range_algebra.specs.Chains.{any_right, every_weaker, every_left, every_right}
+use Rattle.range_algebra.proofs.Lists.{any_right, every_weaker, every_left, every_right}
 use Rattle.range_store.specs.declared.storage.Item.{Item}
 use Rattle.range_map.specs.Answers.{MayAnswer, Answered, IsAsAnswered, IsGivenBy, IsGathered, IsUpdated, AreAnswersTo}
 use Rattle.range_map.specs.Bindings.{Binds, IsSomeOf}

@@ -6,7 +6,7 @@ use Rattle.std.specs.Cmp.{IsEquivalence, tied_back}
 use Rattle.std.specs.List.{AllZip, AllByRecursion}
 use Rattle.std.specs.declared.cmp.Ordering.TheVariants.{Equal}
 use Rattle.range_keys.specs.Order.{KeyOrder, IsLawful}
-use Rattle.range_algebra.specs.Chains.{any_none, every_right}
+use Rattle.range_algebra.proofs.Lists.{any_none, every_right}
 use Rattle.range_algebra.specs.Clones.{IsRangeClone, range_clone}
 use Rattle.range_algebra.specs.Range.{Holds, IsKnownRange}
 use Rattle.range_algebra.specs.RangeOrder.{range_cmp, range_total}
