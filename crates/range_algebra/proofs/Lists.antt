@@ -1,8 +1,43 @@
--- Lists by parts and by index.
-use Rattle.std.proofs.Common.{◌≡◌, ℕ, zero, suc, ◌+◌, ◌<◌, ◌≤◌, List, [], ◌∷◌, ◌++◌, length, take, drop, get_or, refl, ap, sym, ◌∙◌, arith, length-drop, take-append-drop}
+-- Lists by parts and by index, and what some or each of their items is.
+use Rattle.std.proofs.Common.{◌≡◌, ℕ, zero, suc, ◌+◌, ◌<◌, ◌≤◌, List, [], ◌∷◌, ◌++◌, length, take, drop, get_or, ◌⊎◌, inl, inr, refl, ap, sym, ◌∙◌, arith, length-drop, take-append-drop}
 use Rattle.std.specs.List.{AllWithin}
 use Rattle.std.proofs.lemmas.List.{get_or-drop, get_or-take, drop_more, length-take-le}
-use Rattle.range_algebra.specs.Intervals.{Every}
+use Rattle.range_algebra.specs.Intervals.{Any, Every}
+
+pub any_left : {X : Type 0} (P : X → Type 0) (xs ys : List X) → Any P xs → Any P (xs ++ ys)
+any_left P [] ys h = absurd h
+any_left P (x ∷ xs) ys (inl h) = inl h
+any_left P (x ∷ xs) ys (inr h) = inr (any_left P xs ys h)
+
+pub any_right : {X : Type 0} (P : X → Type 0) (xs ys : List X) → Any P ys → Any P (xs ++ ys)
+any_right P [] ys h = h
+any_right P (x ∷ xs) ys h = inr (any_right P xs ys h)
+
+pub any_split : {X : Type 0} (P : X → Type 0) (xs ys : List X) → Any P (xs ++ ys) → Any P xs ⊎ Any P ys
+any_split P [] ys h = inr h
+any_split P (x ∷ xs) ys (inl h) = inl (inl h)
+any_split P (x ∷ xs) ys (inr h) = elim (any_split P xs ys h) [ inl k ↦ inl (inr k) | inr k ↦ inr k ]
+
+pub any_none : {X : Type 0} (P Q : X → Type 0) (xs : List X) → Every Q xs → ((x : X) → Q x → P x → ⊥) → Any P xs → ⊥
+any_none P Q [] all f h = h
+any_none P Q (x ∷ xs) all f (inl h) = f x all.0 h
+any_none P Q (x ∷ xs) all f (inr h) = any_none P Q xs all.1 f h
+
+pub every_weaker : {X : Type 0} (P Q : X → Type 0) (xs : List X) → ((x : X) → P x → Q x) → Every P xs → Every Q xs
+every_weaker P Q [] f h = tt
+every_weaker P Q (x ∷ xs) f h = (f x h.0, every_weaker P Q xs f h.1)
+
+pub every_append : {X : Type 0} (P : X → Type 0) (xs ys : List X) → Every P xs → Every P ys → Every P (xs ++ ys)
+every_append P [] ys h k = k
+every_append P (x ∷ xs) ys h k = (h.0, every_append P xs ys h.1 k)
+
+pub every_left : {X : Type 0} (P : X → Type 0) (xs ys : List X) → Every P (xs ++ ys) → Every P xs
+every_left P [] ys h = tt
+every_left P (x ∷ xs) ys h = (h.0, every_left P xs ys h.1)
+
+pub every_right : {X : Type 0} (P : X → Type 0) (xs ys : List X) → Every P (xs ++ ys) → Every P ys
+every_right P [] ys h = h
+every_right P (x ∷ xs) ys h = every_right P xs ys h.1
 
 pub every_all : {X : Type 0} (P : X → Type 0) (xs : List X) → ((k : ℕ) (d : X) → k < length xs → P (get_or xs k d)) → Every P xs
 every_all P [] h = tt
@@ -22,11 +57,11 @@ pub every_drop : {X : Type 0} (P : X → Type 0) (xs : List X) (n : ℕ) → n �
 every_drop P xs n le h =
     every_all P (drop n xs) (λ k d within. rw (get_or-drop n xs k d) (h (n + k) d (omega arith) (omega (arith, length-drop n xs))))
 
-pub parts : {X : Type 0} (xs : List X) (n : ℕ) → xs ≡ take n xs ++ drop n xs
-parts xs n = sym (take-append-drop n xs)
+pub list_is_take_and_drop : {X : Type 0} (xs : List X) (n : ℕ) → xs ≡ take n xs ++ drop n xs
+list_is_take_and_drop xs n = sym (take-append-drop n xs)
 
 pub parts_at : {X : Type 0} (xs : List X) (n : ℕ) (d : X) → n < length xs → xs ≡ take n xs ++ get_or xs n d ∷ drop (n + 1) xs
-parts_at xs n d within = parts xs n ∙ ap (λ ys. take n xs ++ ys) (drop_more xs n d within)
+parts_at xs n d within = list_is_take_and_drop xs n ∙ ap (λ ys. take n xs ++ ys) (drop_more xs n d within)
 
 drop_none : {X : Type 0} (n : ℕ) → drop {A = X} n [] ≡ []
 drop_none zero = refl

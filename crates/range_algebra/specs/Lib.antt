@@ -1,11 +1,9 @@
-pub mod Chains
 pub mod Clones
 pub mod Combined
 pub mod Compared
 pub mod Cuts
 pub mod Extremes
 pub mod Intervals
-pub mod Joins
 pub mod Measures
 pub mod Numbers
 pub mod Orders
@@ -15,5 +13,4 @@ pub mod Range
 pub mod RangeOrder
 pub mod References
 pub mod Relations
-pub mod Sides
 pub mod Texts

@@ -13,7 +13,7 @@ use Rattle.range_keys.specs.Position.{start_position, end_position, position_cmp
 use Rattle.range_keys.specs.PositionOrder.{position_total}
 use Rattle.range_keys.specs.declared.inner.position.Position.{Position}
 use Rattle.range_algebra.specs.declared.any.AnyRange.{AnyRange}
-use Rattle.range_algebra.specs.Chains.{any_right}
+use Rattle.range_algebra.proofs.Lists.{any_right}
 use Rattle.range_algebra.specs.Clones.{IsBoundClone, range_clone}
 use Rattle.range_algebra.specs.RangeOrder.{range_cmp}
 use Rattle.range_store.specs.declared.storage.Item.{Item}
@@ -56,8 +56,8 @@ read_at R (c ∷ front) d rest (y ∷ ys) h =
     record { xs = y ∷ later.xs; x = later.x; ys = later.ys; split = ap (λ zs. y ∷ zs) later.split; before = (h.0, later.before); at = later.at }
 
 module _ {K : Type 0} (order : KeyOrder K) (lawful : IsLawful order) where
-  alike : (p q r s : Position K) → position_cmp order.cmp p q ≡ Equal → position_cmp order.cmp r s ≡ Equal → position_cmp order.cmp p r ≡ position_cmp order.cmp q s
-  alike p q r s e f =
+  equal_positions_compare_alike : (p q r s : Position K) → position_cmp order.cmp p q ≡ Equal → position_cmp order.cmp r s ≡ Equal → position_cmp order.cmp p r ≡ position_cmp order.cmp q s
+  equal_positions_compare_alike p q r s e f =
       let total = position_total order.cmp lawful.total in
       total.congr p q r e ∙ alike_right total r s q f
 
@@ -70,11 +70,11 @@ module _ {K : Type 0} (order : KeyOrder K) (lawful : IsLawful order) where
   -- equal ranges meet equal ranges
   meet_too : (r s q t : AnyRange K) → range_cmp order r q ≡ Equal → range_cmp order s t ≡ Equal → MeetNonempty order r s → MeetNonempty order q t
   meet_too r s q t e f h = (
-    λ empty. h.0 (alike (start_position order r.start) (start_position order q.start) (end_position order r.end) (end_position order q.end) (starts_same r q e) (ends_same r q e) ∙ empty),
-    λ empty. h.1 (alike (start_position order s.start) (start_position order t.start) (end_position order s.end) (end_position order t.end) (starts_same s t f) (ends_same s t f) ∙ empty),
+    λ empty. h.0 (equal_positions_compare_alike (start_position order r.start) (start_position order q.start) (end_position order r.end) (end_position order q.end) (starts_same r q e) (ends_same r q e) ∙ empty),
+    λ empty. h.1 (equal_positions_compare_alike (start_position order s.start) (start_position order t.start) (end_position order s.end) (end_position order t.end) (starts_same s t f) (ends_same s t f) ∙ empty),
     (
-      λ before. h.2.0 (alike (end_position order r.end) (end_position order q.end) (start_position order s.start) (start_position order t.start) (ends_same r q e) (starts_same s t f) ∙ before),
-      λ before. h.2.1 (alike (end_position order s.end) (end_position order t.end) (start_position order r.start) (start_position order q.start) (ends_same s t f) (starts_same r q e) ∙ before),
+      λ before. h.2.0 (equal_positions_compare_alike (end_position order r.end) (end_position order q.end) (start_position order s.start) (start_position order t.start) (ends_same r q e) (starts_same s t f) ∙ before),
+      λ before. h.2.1 (equal_positions_compare_alike (end_position order s.end) (end_position order t.end) (start_position order r.start) (start_position order q.start) (ends_same s t f) (starts_same r q e) ∙ before),
     ),
   )
 

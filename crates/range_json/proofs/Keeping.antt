@@ -12,7 +12,9 @@ use Rattle.range_keys.specs.Order.{KeyOrder, IsLawful}
 use Rattle.range_keys.specs.Position.{start_position, end_position}
 use Rattle.range_keys.specs.PositionOrder.{position_total}
 use Rattle.range_algebra.specs.declared.any.AnyRange.{AnyRange}
-use Rattle.range_algebra.specs.Chains.{Leads, chain_before, chain_left, chain_right, every_left, every_right}
+use Rattle.range_algebra.proofs.Lists.{every_left, every_right}
+use Rattle.range_map.specs.Chains.{Leads}
+use Rattle.range_map.proofs.Chains.{chain_before, chain_left, chain_right}
 use Rattle.range_algebra.specs.Compared.{starts_at_end}
 use Rattle.range_algebra.specs.Cuts.{past, lower, upper}
 use Rattle.range_algebra.specs.Intervals.{Le, Lt, Every}
@@ -75,9 +77,9 @@ module _ {K V : Type 0} (order : KeyOrder K) (lawful : IsLawful order) (same : V
   abbrev Goods : List (Item (AnyRange K) V) → Type 0
   Goods = Every (λ i. IsKnownRange order i.key × Lt (places order lawful) (item_lower order i) (item_upper order i))
 
-  goods : (xs : List (Item (AnyRange K) V)) → Known order lawful same equal xs → Chained order lawful same equal xs → Goods xs
-  goods [] known chain = tt
-  goods (x ∷ xs) known chain = ((known.0, chain.0), goods xs known.1 (chain_right (places order lawful) (position_total order.cmp lawful.total) same equal (item_lower order) (item_upper order) (λ j. j.value) (x ∷ []) xs chain))
+  chained_items_have_places : (xs : List (Item (AnyRange K) V)) → Known order lawful same equal xs → Chained order lawful same equal xs → Goods xs
+  chained_items_have_places [] known chain = tt
+  chained_items_have_places (x ∷ xs) known chain = ((known.0, chain.0), chained_items_have_places xs known.1 (chain_right (places order lawful) (position_total order.cmp lawful.total) same equal (item_lower order) (item_upper order) (λ j. j.value) (x ∷ []) xs chain))
 
   none_joined : (xs : List (Item (AnyRange K) V)) (x : Item (AnyRange K) V) → Goods xs → IsKnownRange order x.key → Lt (places order lawful) (item_lower order x) (item_upper order x) → Every (λ i. LeadsTo i x) xs → Every (λ i. ¬ JoinsOrMeets order same x.key x.value i) xs
   none_joined [] x good known_x good_x leads = tt
@@ -102,7 +104,7 @@ module _ {K V : Type 0} (order : KeyOrder K) (lawful : IsLawful order) (same : V
       let known = stored_known order lawful same equal (xs ++ x ∷ []) whole in
       let leads = chain_before cmp total same equal (item_lower order) (item_upper order) (λ j. j.value) xs x [] chain in
       let last = chain_right cmp total same equal (item_lower order) (item_upper order) (λ j. j.value) xs (x ∷ []) chain in
-      let good = goods xs (every_left (λ i. IsKnownRange order i.key) xs (x ∷ []) known) (chain_left cmp total same equal (item_lower order) (item_upper order) (λ j. j.value) xs (x ∷ []) chain) in
+      let good = chained_items_have_places xs (every_left (λ i. IsKnownRange order i.key) xs (x ∷ []) known) (chain_left cmp total same equal (item_lower order) (item_upper order) (λ j. j.value) xs (x ∷ []) chain) in
       none_joined xs x good (every_right (λ i. IsKnownRange order i.key) xs (x ∷ []) known).0 last.0 leads
 
   -- a list in the form stands as it is, where its last item is put to the others
@@ -114,7 +116,7 @@ module _ {K V : Type 0} (order : KeyOrder K) (lawful : IsLawful order) (same : V
       let known = stored_known order lawful same equal (xs ++ x ∷ []) whole in
       let leads = chain_before cmp total same equal (item_lower order) (item_upper order) (λ j. j.value) xs x [] chain in
       let last = chain_right cmp total same equal (item_lower order) (item_upper order) (λ j. j.value) xs (x ∷ []) chain in
-      let good = goods xs (every_left (λ i. IsKnownRange order i.key) xs (x ∷ []) known) (chain_left cmp total same equal (item_lower order) (item_upper order) (λ j. j.value) xs (x ∷ []) chain) in
+      let good = chained_items_have_places xs (every_left (λ i. IsKnownRange order i.key) xs (x ∷ []) known) (chain_left cmp total same equal (item_lower order) (item_upper order) (λ j. j.value) xs (x ∷ []) chain) in
       let apart = apart_from_last xs x whole in
       let empty : frame.run ≡ [] = no_item (JoinsOrMeets order same x.key x.value) frame.front frame.run frame.behind (subst (λ is. Every (λ i. ¬ JoinsOrMeets order same x.key x.value i) is) frame.before apart) frame.such.concerned in
       let split : xs ≡ frame.front ++ frame.behind = frame.before ∙ ap (λ is. frame.front ++ is ++ frame.behind) empty ∙ ap (λ is. is ++ frame.behind) (append-nil frame.front) in

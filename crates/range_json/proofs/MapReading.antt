@@ -30,8 +30,8 @@ is_greater Equal = inr (λ e. cc)
 is_greater Greater = inl refl
 
 module _ {K : Type 0} (order : KeyOrder K) where
-  turned : (r s : AnyRange K) → MeetNonempty order r s → MeetNonempty order s r
-  turned r s h = (h.1, h.0, (h.2.1, h.2.0))
+  meeting_turned : (r s : AnyRange K) → MeetNonempty order r s → MeetNonempty order s r
+  meeting_turned r s h = (h.1, h.0, (h.2.1, h.2.0))
 
   empty_or_not : (r : AnyRange K) → IsEmptyRange order r ⊎ (¬ IsEmptyRange order r)
   empty_or_not r = is_greater (position_cmp order.cmp (start_position order r.start) (end_position order r.end))
@@ -66,7 +66,7 @@ module _ {K V : Type 0} (order : KeyOrder K) where
   apart_more (y ∷ xs) x h none = (
     λ one. elim ((one_of y.key xs x).0 one) [
       | inl later ↦ h.0 later
-      | inr last ↦ none (inl (turned order x.key y.key last))
+      | inr last ↦ none (inl (meeting_turned order x.key y.key last))
     ],
     apart_more xs x h.1 (λ later. none (inr later)),
   )

@@ -116,16 +116,16 @@ no_such : {A : Type 0} (x : A) → None ≡ Some x → ⊥
 no_such x e = search (rules, e)
 
 -- an array's elements are its list
-pub stands : (d : Data) (vs : List Value) → as_array d ≡ Some (items_view vs) → elements_of d ≡ Some (map view vs)
-stands null vs e = absurd (no_such _ e)
-stands (boolean b) vs e = absurd (no_such _ e)
-stands (number n) vs e = absurd (no_such _ e)
-stands (string s) vs e = absurd (no_such _ e)
-stands (array ds) vs e =
+pub array_has_elements : (d : Data) (vs : List Value) → as_array d ≡ Some (items_view vs) → elements_of d ≡ Some (map view vs)
+array_has_elements null vs e = absurd (no_such _ e)
+array_has_elements (boolean b) vs e = absurd (no_such _ e)
+array_has_elements (number n) vs e = absurd (no_such _ e)
+array_has_elements (string s) vs e = absurd (no_such _ e)
+array_has_elements (array ds) vs e =
     let same : ds ≡ items_of (map view vs) = search (rules, e) in
     ap (λ is. Some (list_of is)) same ∙ ap (λ l. Some l) (list_back (map view vs))
-stands (object ms) vs e = absurd (no_such _ e)
+array_has_elements (object ms) vs e = absurd (no_such _ e)
 
-pub again : (xs : List Value) (v : Value) (more : List Value) → (xs ++ v ∷ []) ++ more ≡ xs ++ v ∷ more
-again [] v more = refl
-again (x ∷ xs) v more = ap (λ l. x ∷ l) (again xs v more)
+pub append_one_more : (xs : List Value) (v : Value) (more : List Value) → (xs ++ v ∷ []) ++ more ≡ xs ++ v ∷ more
+append_one_more [] v more = refl
+append_one_more (x ∷ xs) v more = ap (λ l. x ∷ l) (append_one_more xs v more)

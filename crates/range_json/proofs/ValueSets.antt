@@ -16,8 +16,8 @@ use Rattle.range_json.specs.Shapes.{elements_of}
 use Rattle.range_json.specs.ValueSets.{reads_all, reads_values, reads_some, values_shape, IsValueSet, AreValuesRead}
 use Rattle.range_json.proofs.Reading.{list_back, read_more}
 
-both : (a b : Bool) → a ≡ true → b ≡ true → (a && b) ≡ true
-both a b e f = rw e f
+both_true : (a b : Bool) → a ≡ true → b ≡ true → (a && b) ≡ true
+both_true a b e f = rw e f
 
 either_is : (a b : Bool) → cond a true b ≡ (b || (a || false))
 either_is true true = refl
@@ -39,7 +39,7 @@ module _ {V : Type 0} (cmp : V → V → Ordering) (reads : Data → Bool) (is_r
         let more = map-append view vs (v ∷ []) in
         let member = λ (q : V). eq_by_cmp cmp q in
         let laws = eq_by_cmp_equiv total in record {
-          sound = rw more (list_all-append reads (map view vs) (view v ∷ []) ∙ both (list_all reads (map view vs)) (reads (view v) && true) h.sound (both (reads (view v)) true fine refl));
+          sound = rw more (list_all-append reads (map view vs) (view v ∷ []) ∙ both_true (list_all reads (map view vs)) (reads (view v) && true) h.sound (both_true (reads (view v)) true fine refl));
           values = h.values ++ x ∷ [];
           read = rw more (read_more is_read (map view vs) h.values (view v) x h.read read);
           set = (λ q. updates.0 q ∙ ap (λ b. cond b true (contains cmp old q)) (laws.symm x q) ∙ ap (λ b. cond (member q x) true b) (h.set.0 q) ∙ either_is (member q x) (list_any (member q) h.values) ∙ sym (list_any-append (member q) h.values (x ∷ [])), ordered);

@@ -10,9 +10,10 @@ use Rattle.range_algebra.specs.Range.{IsKnownRange, IsEmptyRange}
 use Rattle.range_store.specs.declared.storage.Item.{Item}
 use Rattle.range_algebra.specs.Intervals.{Le, Lt, Every}
 use Rattle.range_algebra.specs.Orders.{lt_le, le_trans}
-use Rattle.range_algebra.specs.Chains.{every_weaker, every_append, every_left, every_right, chain_above, chain_right, chain_before}
-use Rattle.range_algebra.specs.Sides.{IsLeft, IsRight, left_whole, left_cut, right_whole, right_cut}
-use Rattle.range_algebra.specs.Joins.{IsUnbound, unbound}
+use Rattle.range_map.specs.Chains.{IsLeft, IsRight, IsUnbound}
+use Rattle.range_map.proofs.Chains.{chain_above, chain_right, chain_before}
+use Rattle.range_map.proofs.ChainSides.{left_whole, left_cut, right_whole, right_cut}
+use Rattle.range_map.proofs.ChainJoins.{places_between_are_unbound}
 use Rattle.range_algebra.specs.Cuts.{lower, upper}
 use Rattle.range_map.specs.ItemCuts.{item_lower, item_upper}
 use Rattle.range_map.specs.Stored.{IsStored}
@@ -20,7 +21,7 @@ use Rattle.range_map.specs.Bindings.{IsUnboundAfter}
 use Rattle.range_map.specs.Window.{IsWindow, IsLeftPart, IsRightPart, option_items}
 use Rattle.range_map.specs.declared.change.window.Window.{Window}
 use Rattle.range_map.proofs.Forms.{places, nonempty_good, Known, Chained, stored_known, stored_chain, unbound_after}
-use Rattle.range_algebra.proofs.Lists.{parts, parts_at}
+use Rattle.range_algebra.proofs.Lists.{list_is_take_and_drop, parts_at, every_weaker, every_append, every_left, every_right}
 
 module _ {K : Type 0} (order : KeyOrder K) (lawful : IsLawful order) {V : Type 0} (same : V → V → Bool) (equal : IsEquivalence same) where
   abbrev pub Left : List (Item (AnyRange K) V) → List (Item (AnyRange K) V) → Position K → Type 0
@@ -78,10 +79,10 @@ module _ {K : Type 0} (order : KeyOrder K) (lawful : IsLawful order) {V : Type 0
   right_known x r (Some y) part = (part.4, tt)
 
   pub known_take : (items : List (Item (AnyRange K) V)) (n : ℕ) → Known order lawful same equal items → Known order lawful same equal (take n items)
-  known_take items n known = every_left _ (take n items) (drop n items) (rw (parts items n) at known)
+  known_take items n known = every_left _ (take n items) (drop n items) (rw (list_is_take_and_drop items n) at known)
 
   pub known_drop : (items : List (Item (AnyRange K) V)) (n : ℕ) → Known order lawful same equal items → Known order lawful same equal (drop n items)
-  known_drop items n known = every_right _ (take n items) (drop n items) (rw (parts items n) at known)
+  known_drop items n known = every_right _ (take n items) (drop n items) (rw (list_is_take_and_drop items n) at known)
 
   -- a range that meets nothing
   pub unmet_is_unbound : {P : Type 0} (is_good : P → Type 0) (rank : P → ℕ) (items : List (Item (AnyRange K) V)) (r : AnyRange K) (w : Window P) (place : ℕ) →
@@ -94,7 +95,7 @@ module _ {K : Type 0} (order : KeyOrder K) (lawful : IsLawful order) {V : Type 0
       let good = (nonempty_good order lawful r known).0 full in
       let at : place + w.count ≡ place = omega (arith, none) in
       let behind : Every (λ i. Le cmp (upper order r) (item_lower order i)) (drop place items) = rw at at window.behind in
-      let on_left = left_all items (take place items) (drop place items) (lower order r) (parts items place) chain window.below (every_weaker _ _ (drop place items) (λ i h. le_trans cmp total (lower order r) (upper order r) (item_lower order i) (lt_le cmp total (lower order r) (upper order r) good) h) behind) in
-      let on_right = right_all items (take place items) (drop place items) (upper order r) (parts items place) chain (every_weaker _ _ (take place items) (λ i h. le_trans cmp total (item_upper order i) (lower order r) (upper order r) h (lt_le cmp total (lower order r) (upper order r) good)) window.below) behind in
-      let result = unbound (places order lawful) (position_total order.cmp lawful.total) same equal (item_lower order) (item_upper order) (λ i. i.value) items (take place items) (drop place items) (lower order r) (upper order r) on_left on_right good in
-      unbound_after order lawful same equal items items r known all all (subst (λ (ys : List (Item (AnyRange K) V)). IsUnbound (places order lawful) (position_total order.cmp lawful.total) same equal (item_lower order) (item_upper order) (λ i. i.value) items ys (lower order r) (upper order r)) (sym (parts items place)) result)
+      let on_left = left_all items (take place items) (drop place items) (lower order r) (list_is_take_and_drop items place) chain window.below (every_weaker _ _ (drop place items) (λ i h. le_trans cmp total (lower order r) (upper order r) (item_lower order i) (lt_le cmp total (lower order r) (upper order r) good) h) behind) in
+      let on_right = right_all items (take place items) (drop place items) (upper order r) (list_is_take_and_drop items place) chain (every_weaker _ _ (take place items) (λ i h. le_trans cmp total (item_upper order i) (lower order r) (upper order r) h (lt_le cmp total (lower order r) (upper order r) good)) window.below) behind in
+      let result = places_between_are_unbound (places order lawful) (position_total order.cmp lawful.total) same equal (item_lower order) (item_upper order) (λ i. i.value) items (take place items) (drop place items) (lower order r) (upper order r) on_left on_right good in
+      unbound_after order lawful same equal items items r known all all (subst (λ (ys : List (Item (AnyRange K) V)). IsUnbound (places order lawful) (position_total order.cmp lawful.total) same equal (item_lower order) (item_upper order) (λ i. i.value) items ys (lower order r) (upper order r)) (sym (list_is_take_and_drop items place)) result)

@@ -13,7 +13,8 @@ use Rattle.range_algebra.specs.Range.{IsKnownRange}
 use Rattle.range_algebra.specs.RangeOrder.{range_cmp}
 use Rattle.range_algebra.specs.Intervals.{Le, Lt, Any, Every}
 use Rattle.range_algebra.specs.Orders.{le_refl, lt_le, eq_le, eq_ge, le_trans, lt_not_le, cases, both, le_lt_trans, lt_le_trans}
-use Rattle.range_algebra.specs.Chains.{any_left, every_weaker, every_append, follows_above, chain_tail}
+use Rattle.range_algebra.proofs.Lists.{any_left, every_weaker, every_append}
+use Rattle.range_map.proofs.Chains.{follows_above, chain_tail}
 use Rattle.range_algebra.specs.Combined.{common}
 use Rattle.range_algebra.proofs.Commons.{gt_le, later_is, earlier_is, later_over as starts_over, earlier_under as ends_under}
 use Rattle.range_algebra.specs.Cuts.{lower, upper}
@@ -75,8 +76,8 @@ gt_of Less e = cc
 gt_of Equal e = cc
 gt_of Greater e = refl
 
-level : (o p : Ordering) → o ≡ Equal → p ≡ Equal → ordering_then o p ≡ Equal
-level o p e f = rw e f
+equal_then_equal : (o p : Ordering) → o ≡ Equal → p ≡ Equal → ordering_then o p ≡ Equal
+equal_then_equal o p e f = rw e f
 
 module _ {K : Type 0} (order : KeyOrder K) (lawful : IsLawful order) where
   abbrev pub PLe : Position K → Position K → Type 0
@@ -105,9 +106,9 @@ module _ {K : Type 0} (order : KeyOrder K) (lawful : IsLawful order) where
   pub earlier_under : (p q : Position K) → PLe (earlier order p q) p × PLe (earlier order p q) q
   earlier_under p q = earlier_by p q (is_gt (position_cmp order.cmp p q)) refl
 
-  pub pick : (P : Position K → Type 0) (b : Bool) (p q : Position K) → P p → P q → P (if b then p else q)
-  pick P true p q h k = h
-  pick P false p q h k = k
+  pub both_choices_hold : (P : Position K → Type 0) (b : Bool) (p q : Position K) → P p → P q → P (if b then p else q)
+  both_choices_hold P true p q h k = h
+  both_choices_hold P false p q h k = k
 
   -- the common part of two ranges starts at the later start and ends at the earlier end
   pub common_is : (r i : AnyRange K) → IsCommonPart order r i (common order r i)
@@ -126,8 +127,8 @@ module _ {K : Type 0} (order : KeyOrder K) (lawful : IsLawful order) where
       let latest = later_over p q in
       let first = earlier_under u v in
       record {
-        starts = both cmp total s (later order p q) (later_is order lawful r.start i.start (λ b. PLe (start_position order b) (later order p q)) latest.0 latest.1) (pick (λ x. PLe x s) (is_gt (cmp p q)) p q over.0 over.1);
-        ends = both cmp total e (earlier order u v) (pick (λ x. PLe e x) (is_gt (cmp u v)) v u under.1 under.0) (earlier_is order lawful r.end i.end (λ b. PLe (earlier order u v) (end_position order b)) first.0 first.1);
+        starts = both cmp total s (later order p q) (later_is order lawful r.start i.start (λ b. PLe (start_position order b) (later order p q)) latest.0 latest.1) (both_choices_hold (λ x. PLe x s) (is_gt (cmp p q)) p q over.0 over.1);
+        ends = both cmp total e (earlier order u v) (both_choices_hold (λ x. PLe e x) (is_gt (cmp u v)) v u under.1 under.0) (earlier_is order lawful r.end i.end (λ b. PLe (earlier order u v) (end_position order b)) first.0 first.1);
       }
 
   -- a common part lies in both
@@ -288,7 +289,7 @@ module _ {K : Type 0} (order : KeyOrder K) (lawful : IsLawful order) where
         same_extent key part h k =
             let cmp = position_cmp order.cmp in
             let total = position_total order.cmp lawful.total in
-            level (cmp (start_position order key.start) (start_position order part.start)) (cmp (end_position order key.end) (end_position order part.end)) (both cmp total (start_position order key.start) (start_position order part.start) k.starts h.starts) (both cmp total (end_position order key.end) (end_position order part.end) h.ends k.ends)
+            equal_then_equal (cmp (start_position order key.start) (start_position order part.start)) (cmp (end_position order key.end) (end_position order part.end)) (both cmp total (start_position order key.start) (start_position order part.start) k.starts h.starts) (both cmp total (end_position order key.end) (end_position order part.end) h.ends k.ends)
 
         same_common : (i key part : AnyRange K) → IsCommonPart order r i key → IsCommonPart order r i part → range_cmp order key part ≡ Equal
         same_common i key part h k =
@@ -296,7 +297,7 @@ module _ {K : Type 0} (order : KeyOrder K) (lawful : IsLawful order) where
             let total = position_total order.cmp lawful.total in
             let s = later order (start_position order r.start) (start_position order i.start) in
             let e = earlier order (end_position order r.end) (end_position order i.end) in
-            level (cmp (start_position order key.start) (start_position order part.start)) (cmp (end_position order key.end) (end_position order part.end))
+            equal_then_equal (cmp (start_position order key.start) (start_position order part.start)) (cmp (end_position order key.end) (end_position order part.end))
             (total.congr (start_position order key.start) s (start_position order part.start) h.starts ∙ tied_back total (start_position order part.start) s k.starts)
             (total.congr (end_position order key.end) e (end_position order part.end) h.ends ∙ tied_back total (end_position order part.end) e k.ends)
 

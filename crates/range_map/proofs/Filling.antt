@@ -14,7 +14,9 @@ use Rattle.range_algebra.specs.Clones.{IsBoundClone, SameBound, same_start}
 use Rattle.range_algebra.specs.Range.{IsKnownRange}
 use Rattle.range_algebra.specs.Intervals.{Any, Every}
 use Rattle.range_algebra.specs.Orders.{lt_le, eq_le, eq_ge, le_trans, cases, le_lt_trans, lt_le_trans}
-use Rattle.range_algebra.specs.Chains.{any_left, any_right, any_split, every_weaker, every_append, every_left, every_right, Leads, Respects, strictly_leads, chain_left, chain_right, chain_before, join, back}
+use Rattle.range_algebra.proofs.Lists.{any_left, any_right, any_split, every_weaker, every_append, every_left, every_right}
+use Rattle.range_map.specs.Chains.{Leads, Respects}
+use Rattle.range_map.proofs.Chains.{strictly_leads, chain_left, chain_right, chain_before, chains_join, back}
 use Rattle.range_algebra.specs.Relations.{Touches}
 use Rattle.range_store.specs.declared.storage.Item.{Item}
 use Rattle.range_map.specs.Answers.{Answered}
@@ -78,8 +80,8 @@ module _ {K : Type 0} (order : KeyOrder K) (lawful : IsLawful order) {V : Type 0
         let total = position_total order.cmp lawful.total in
         le_trans cmp total m (Lo order lawful key) n from (le_trans cmp total (Lo order lawful key) (Hi order lawful key) n (lt_le cmp total (Lo order lawful key) (Hi order lawful key) inside.2) upto)
 
-    further : (j : Item (AnyRange K) V) → LiesUpTo m j → LiesUpTo n j
-    further j h = (h.0, h.1, le_trans (position_cmp order.cmp) (position_total order.cmp lawful.total) (Hi order lawful j.key) m n h.2 on)
+    lies_further : (j : Item (AnyRange K) V) → LiesUpTo m j → LiesUpTo n j
+    lies_further j h = (h.0, h.1, le_trans (position_cmp order.cmp) (position_total order.cmp lawful.total) (Hi order lawful j.key) m n h.2 on)
 
     more_valued : (a : Answered K V) (middle : List (Item (AnyRange K) V)) → Every (λ j. Any (λ b. b.answer ≡ Some j.value) answers) middle → Every (λ j. Any (λ b. b.answer ≡ Some j.value) (answers ++ a ∷ [])) middle
     more_valued a middle h = every_weaker (λ j. Any (λ b. b.answer ≡ Some j.value) answers) (λ j. Any (λ b. b.answer ≡ Some j.value) (answers ++ a ∷ [])) middle (λ j g. any_left (λ b. b.answer ≡ Some j.value) answers (a ∷ []) g) h
@@ -90,7 +92,7 @@ module _ {K : Type 0} (order : KeyOrder K) (lawful : IsLawful order) {V : Type 0
         record {
           known = was.known;
           chain = was.chain;
-          inside = every_weaker (LiesUpTo m) (LiesUpTo n) middle further was.inside;
+          inside = every_weaker (LiesUpTo m) (LiesUpTo n) middle lies_further was.inside;
           has = λ p W alike.
               let P = λ (b : Answered K V). HoldsAt p b.key × Gives W b.answer in
               let old = was.has p W alike in
@@ -124,8 +126,8 @@ module _ {K : Type 0} (order : KeyOrder K) (lawful : IsLawful order) {V : Type 0
         let good = lt_le_trans cmp total p0 hi q0 (le_lt_trans cmp total p0 lo hi (eq_le cmp total p0 lo at) inside.2) (eq_ge cmp total q0 hi to) in
         record {
           known = every_append (λ i. IsKnownRange order i.key) middle (j ∷ []) was.known (known, tt);
-          chain = join cmp total same equal (item_lower order) (item_upper order) (λ i. i.value) middle j [] was.chain (good, tt) (lead_all v j at is middle was.chain was.inside (λ k d size. let last : k ≡ length middle - 1 = omega (arith, size) in rw last (apart d (omega (arith, size)))));
-          inside = every_append (LiesUpTo n) middle (j ∷ []) (every_weaker (LiesUpTo m) (LiesUpTo n) middle further was.inside) ((le_trans cmp total (Lo order lawful r) lo p0 inside.1 (eq_ge cmp total p0 lo at), le_trans cmp total q0 hi (Hi order lawful r) (eq_le cmp total q0 hi to) inside.3, le_trans cmp total q0 hi n (eq_le cmp total q0 hi to) upto), tt);
+          chain = chains_join cmp total same equal (item_lower order) (item_upper order) (λ i. i.value) middle j [] was.chain (good, tt) (lead_all v j at is middle was.chain was.inside (λ k d size. let last : k ≡ length middle - 1 = omega (arith, size) in rw last (apart d (omega (arith, size)))));
+          inside = every_append (LiesUpTo n) middle (j ∷ []) (every_weaker (LiesUpTo m) (LiesUpTo n) middle lies_further was.inside) ((le_trans cmp total (Lo order lawful r) lo p0 inside.1 (eq_ge cmp total p0 lo at), le_trans cmp total q0 hi (Hi order lawful r) (eq_le cmp total q0 hi to) inside.3, le_trans cmp total q0 hi n (eq_le cmp total q0 hi to) upto), tt);
           has = λ p W alike.
               let P = λ (b : Answered K V). HoldsAt p b.key × Gives W b.answer in
               let Q = λ (i : Item (AnyRange K) V). HoldsAt p i.key × (W i.value ≡ true) in
@@ -167,8 +169,8 @@ module _ {K : Type 0} (order : KeyOrder K) (lawful : IsLawful order) {V : Type 0
         let old_valued = every_right (λ i. Any (λ b. b.answer ≡ Some i.value) answers) front (last ∷ []) was.valued in
         record {
           known = every_append (λ i. IsKnownRange order i.key) front (j ∷ []) (every_left (λ i. IsKnownRange order i.key) front (last ∷ []) was.known) (known, tt);
-          chain = join cmp total same equal (item_lower order) (item_upper order) (λ i. i.value) front j [] (chain_left cmp total same equal (item_lower order) (item_upper order) (λ i. i.value) front (last ∷ []) was.chain) (good, tt) (rw (at, is) leads);
-          inside = every_append (LiesUpTo n) front (j ∷ []) (every_weaker (LiesUpTo m) (LiesUpTo n) front further (every_left (LiesUpTo m) front (last ∷ []) was.inside)) ((rw at within.0.0, le_trans cmp total q0 hi (Hi order lawful r) (eq_le cmp total q0 hi to) inside.3, le_trans cmp total q0 hi n (eq_le cmp total q0 hi to) upto), tt);
+          chain = chains_join cmp total same equal (item_lower order) (item_upper order) (λ i. i.value) front j [] (chain_left cmp total same equal (item_lower order) (item_upper order) (λ i. i.value) front (last ∷ []) was.chain) (good, tt) (rw (at, is) leads);
+          inside = every_append (LiesUpTo n) front (j ∷ []) (every_weaker (LiesUpTo m) (LiesUpTo n) front lies_further (every_left (LiesUpTo m) front (last ∷ []) was.inside)) ((rw at within.0.0, le_trans cmp total q0 hi (Hi order lawful r) (eq_le cmp total q0 hi to) inside.3, le_trans cmp total q0 hi n (eq_le cmp total q0 hi to) upto), tt);
           has = λ p W alike.
               let P = λ (b : Answered K V). HoldsAt p b.key × Gives W b.answer in
               let Q = λ (i : Item (AnyRange K) V). HoldsAt p i.key × (W i.value ≡ true) in

@@ -10,10 +10,10 @@ use Rattle.range_algebra.specs.declared.any.AnyRange.{AnyRange}
 use Rattle.range_algebra.specs.Range.{IsKnownRange}
 use Rattle.range_algebra.specs.Intervals.{Le, Lt, Any, Every}
 use Rattle.range_algebra.specs.Orders.{lt_trans, lt_not_le, le_lt_trans}
-use Rattle.range_algebra.specs.Chains.{any_left, any_right, any_none, every_weaker, every_append, every_left, every_right, chain_before}
+use Rattle.range_map.proofs.Chains.{chain_before}
 use Rattle.range_algebra.specs.Cuts.{lower, upper}
-use Rattle.range_algebra.proofs.Lists.{parts, parts_at, every_at}
-use Rattle.range_map.proofs.Edging.{element}
+use Rattle.range_algebra.proofs.Lists.{list_is_take_and_drop, parts_at, every_at, any_left, any_right, any_none, every_weaker, every_append, every_left, every_right}
+use Rattle.range_map.proofs.Edging.{element_at}
 use Rattle.range_store.specs.declared.storage.Item.{Item}
 use Rattle.range_map.specs.ItemCuts.{item_lower, item_upper}
 use Rattle.range_algebra.specs.Relations.{LiesBefore}
@@ -59,10 +59,10 @@ run_some xs place count within some e =
     omega (arith, size, none)
 
 pub parts_of : {X : Type 0} (xs : List X) (place count : ℕ) → drop place xs ≡ take count (drop place xs) ++ drop (place + count) xs
-parts_of xs place count = parts (drop place xs) count ∙ ap (λ ys. take count (drop place xs) ++ ys) (drop-drop count place xs)
+parts_of xs place count = list_is_take_and_drop (drop place xs) count ∙ ap (λ ys. take count (drop place xs) ++ ys) (drop-drop count place xs)
 
-pub reassociate : {X : Type 0} (a b c d e : List X) → (a ++ b) ++ (c ++ (d ++ e)) ≡ a ++ (b ++ c ++ d) ++ e
-reassociate a b c d e = simp append_assoc
+pub append_reassociates : {X : Type 0} (a b c d e : List X) → (a ++ b) ++ (c ++ (d ++ e)) ≡ a ++ (b ++ c ++ d) ++ e
+append_reassociates a b c d e = simp append_assoc
 
 pub reassociate_pieces : {X : Type 0} (a b c d e : List X) → a ++ b ++ c ++ d ++ e ≡ a ++ (b ++ c ++ d) ++ e
 reassociate_pieces a b c d e = simp append_assoc
@@ -124,10 +124,10 @@ module _ {K : Type 0} (order : KeyOrder K) (lawful : IsLawful order) {V : Type 0
   no_rest run r v None all made apart = refl
   no_rest run r v (Some y) all made apart = absurd (apart.0 (has_equal run y.value v made.0.value all))
 
-  goods : (xs ys : List (Item (AnyRange K) V)) → Chained order lawful same equal (xs ++ ys) → Every (λ i. Lt (places order lawful) (item_lower order i) (item_upper order i)) xs
-  goods [] ys h = tt
-  goods (x ∷ []) ys h = (h.0, tt)
-  goods (x ∷ y ∷ xs) ys h = (h.0, goods (y ∷ xs) ys h.1.1)
+  front_items_have_places : (xs ys : List (Item (AnyRange K) V)) → Chained order lawful same equal (xs ++ ys) → Every (λ i. Lt (places order lawful) (item_lower order i) (item_upper order i)) xs
+  front_items_have_places [] ys h = tt
+  front_items_have_places (x ∷ []) ys h = (h.0, tt)
+  front_items_have_places (x ∷ y ∷ xs) ys h = (h.0, front_items_have_places (y ∷ xs) ys h.1.1)
 
   module _ {P : Type 0} (is_good : P → Type 0) (rank : P → ℕ) (items : List (Item (AnyRange K) V)) (r : AnyRange K) (w : Window P) (place : ℕ) (stored : IsStored order same items) (known : IsKnownRange order r) (window : IsWindow order is_good rank items r w place) where
     not_before : Every (λ i. LiesBefore order i.key r → ⊥) (drop place items)
@@ -149,7 +149,7 @@ module _ {K : Type 0} (order : KeyOrder K) (lawful : IsLawful order) {V : Type 0
         let split = parts_at items (end - 1) d within in
         let ordered = chain_before cmp total same equal (item_lower order) (item_upper order) (λ i. i.value) (take (end - 1) items) last (drop (end - 1 + 1) items) (rw split at chain) in
         let meets = window.meets d some in
-        let full = goods (take (end - 1) items) (last ∷ drop (end - 1 + 1) items) (rw split at chain) in
+        let full = front_items_have_places (take (end - 1) items) (last ∷ drop (end - 1 + 1) items) (rw split at chain) in
         every_weaker _ _ (take end items) (λ i h k. lt_not_le cmp total (item_lower order i) (upper order r) h.1 ((before_is order lawful r.end i.key.start known.1 h.0.0).0 k)) (every_both (λ i. IsKnownRange order i.key) _ (take end items) (known_take order lawful same equal items end all)
         (subst (λ (ys : List (Item (AnyRange K) V)). Every (λ i. Lt cmp (item_lower order i) (upper order r)) ys) (sym (take_more items (end - 1) d within) ∙ ap (λ n. take n items) next)
         (every_append _ (take (end - 1) items) (last ∷ []) (every_weaker _ _ (take (end - 1) items) (λ i h. lt_trans cmp total (item_lower order i) (item_upper order i) (upper order r) h.1 (le_lt_trans cmp total (item_upper order i) (item_lower order last) (upper order r) h.0.0 meets)) (every_both _ _ (take (end - 1) items) ordered full)) (meets, tt))))
@@ -157,14 +157,14 @@ module _ {K : Type 0} (order : KeyOrder K) (lawful : IsLawful order) {V : Type 0
     -- each item of the window meets the range
     pub window_meets : (d : Item (AnyRange K) V) → 0 < w.count → Every (λ i. Overlap order i.key r) (take w.count (drop place items))
     window_meets d some =
-        let before = every_left (λ i. LiesBefore order i.key r → ⊥) (take w.count (drop place items)) (drop w.count (drop place items)) (rw (parts (drop place items) w.count) at not_before) in
+        let before = every_left (λ i. LiesBefore order i.key r → ⊥) (take w.count (drop place items)) (drop w.count (drop place items)) (rw (list_is_take_and_drop (drop place items) w.count) at not_before) in
         let front = take (place + w.count) items in
-        let behind = every_right (λ i. LiesBefore order r i.key → ⊥) (take place front) (drop place front) (rw (parts front place) at (not_behind d some)) in
+        let behind = every_right (λ i. LiesBefore order r i.key → ⊥) (take place front) (drop place front) (rw (list_is_take_and_drop front place) at (not_behind d some)) in
         every_both (λ i. LiesBefore order i.key r → ⊥) (λ i. LiesBefore order r i.key → ⊥) (take w.count (drop place items)) before (rw (drop-take place w.count items) at behind)
 
     meets_by : (n : ℕ) → w.count ≡ n → Every (λ i. Overlap order i.key r) (take w.count (drop place items))
     meets_by zero e = rw e tt
-    meets_by (suc n) e = window_meets (element items place (omega (arith, e, window.in_range))) (omega arith)
+    meets_by (suc n) e = window_meets (element_at items place (omega (arith, e, window.in_range))) (omega arith)
 
     pub all_meet : Every (λ i. Overlap order i.key r) (take w.count (drop place items))
     all_meet = meets_by w.count refl
@@ -173,7 +173,7 @@ module _ {K : Type 0} (order : KeyOrder K) (lawful : IsLawful order) {V : Type 0
     pub meets_some : 0 < w.count → MeetsSome order items r
     meets_some some =
         let within : place < length items = omega (arith, some, window.in_range) in
-        let x = element items place within in
+        let x = element_at items place within in
         let size = run_size items place w.count window.in_range in
         let met = every_at (λ i. Overlap order i.key r) (take w.count (drop place items)) 0 x all_meet (omega (arith, size)) in
         let plus : place + 0 ≡ place = omega arith in
@@ -191,7 +191,7 @@ module _ {K : Type 0} (order : KeyOrder K) (lawful : IsLawful order) {V : Type 0
         let behind : Every (λ i. Le (places order lawful) (upper order r) (item_lower order i)) (drop place items) = rw at at window.behind in
         let before = every_weaker _ _ (take place items) (λ i h m. m.0 ((before_is order lawful i.key.end r.start h.0.1 known.0).1 h.1)) (every_both (λ i. IsKnownRange order i.key) _ (take place items) (known_take order lawful same equal items place all) window.below) in
         let after = every_weaker _ _ (drop place items) (λ i h m. m.1 ((before_is order lawful r.end i.key.start known.1 h.0.0).1 h.1)) (every_both (λ i. IsKnownRange order i.key) _ (drop place items) (known_drop order lawful same equal items place all) behind) in
-        rw (parts items place) (every_append (λ i. Overlap order i.key r → ⊥) (take place items) (drop place items) before after)
+        rw (list_is_take_and_drop items place) (every_append (λ i. Overlap order i.key r → ⊥) (take place items) (drop place items) before after)
 
     -- nothing gives way to nothing
     pub not_cut : WasCutOut order same items items r
@@ -218,7 +218,7 @@ module _ {K : Type 0} (order : KeyOrder K) (lawful : IsLawful order) {V : Type 0
           run = met;
           others = option_items left ++ option_items right;
           behind = drop (place + w.count) items;
-          before = parts items place ∙ (ap (λ ys. take place items ++ ys) (parts_of items place w.count) ∙ sym (append_assoc (take place items) met (drop (place + w.count) items)));
+          before = list_is_take_and_drop items place ∙ (ap (λ ys. take place items ++ ys) (parts_of items place w.count) ∙ sym (append_assoc (take place items) met (drop (place + w.count) items)));
           after = list ∙ rw (append-nil (take place items ++ option_items left)) (ap (λ ys. ys ++ drop (place + w.count) items) (append_assoc (take place items) (option_items left) (option_items right)));
           such = record {
             concerned = all_meet;
@@ -255,7 +255,7 @@ module _ {K : Type 0} (order : KeyOrder K) (lawful : IsLawful order) {V : Type 0
           run = run;
           others = pieces;
           behind = drop end items;
-          before = parts items place ∙ (ap (λ ys. ys ++ drop place items) on_left.split ∙ (ap (λ ys. (take at items ++ on_left.extra) ++ ys) (middle ∙ ap (λ ys. met ++ ys) on_right.split) ∙ reassociate (take at items) on_left.extra met on_right.extra (drop end items)));
+          before = list_is_take_and_drop items place ∙ (ap (λ ys. ys ++ drop place items) on_left.split ∙ (ap (λ ys. (take at items ++ on_left.extra) ++ ys) (middle ∙ ap (λ ys. met ++ ys) on_right.split) ∙ append_reassociates (take at items) on_left.extra met on_right.extra (drop end items)));
           after = list ∙ reassociate_pieces (take at items) (option_items left) (option_items (Some m)) (option_items right) (drop end items);
           such = record {
             concerned = every_append _ (on_left.extra ++ met) on_right.extra (every_append _ on_left.extra met (every_weaker _ _ on_left.extra (λ i h. inr (inl h.0, h.1)) on_left.touched) (every_weaker _ _ met (λ i h. inl h) meets)) (every_weaker _ _ on_right.extra (λ i h. inr (inr h.0, h.1)) on_right.touched);

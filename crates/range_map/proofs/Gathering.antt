@@ -20,9 +20,10 @@ use Rattle.range_algebra.specs.Cuts.{past}
 use Rattle.range_algebra.specs.Range.{Holds, IsKnownBound, IsKnownRange, IsEmptyRange}
 use Rattle.range_algebra.specs.Intervals.{Any, Every}
 use Rattle.range_algebra.specs.Orders.{le_refl, lt_le, eq_le, eq_ge, le_trans, lt_not_le, cases, not_le, lt_le_trans}
-use Rattle.range_algebra.specs.Chains.{Leads, any_left, any_right, every_weaker, every_append, every_right, chain_before, chain_right, follows_above}
+use Rattle.range_map.specs.Chains.{Leads}
+use Rattle.range_map.proofs.Chains.{chain_before, chain_right, follows_above}
 use Rattle.range_algebra.proofs.Commons.{later_is, earlier_is}
-use Rattle.range_algebra.proofs.Lists.{every_at, parts_at}
+use Rattle.range_algebra.proofs.Lists.{every_at, parts_at, any_left, any_right, every_weaker, every_append, every_right}
 use Rattle.range_algebra.proofs.Places.{held_between}
 use Rattle.range_store.specs.declared.storage.Item.{Item}
 use Rattle.range_map.specs.Answers.{MayAnswer, Answered, IsAsAnswered, FailsAt, IsGathered}
@@ -41,9 +42,9 @@ use Rattle.range_map.proofs.Forms.{Known, Chained, Hold, before_is, nonempty_goo
 some_is : {X : Type 0} (x y : X) → Some x ≡ Some y → x ≡ y
 some_is x y e = cc
 
-element : {X : Type 0} (xs : List X) (k : ℕ) → k < length xs → X
-element [] k within = absurd (omega (arith, within))
-element (x ∷ xs) k within = x
+element_at : {X : Type 0} (xs : List X) (k : ℕ) → k < length xs → X
+element_at [] k within = absurd (omega (arith, within))
+element_at (x ∷ xs) k within = x
 
 -- one item of a run
 pub run_at : {X : Type 0} (P : X → Type 0) (items : List X) (place count k : ℕ) (x : X) → Every P (take count (drop place items)) → k < count → place + count ≤ length items → x ≡ get_or items (place + k) x → P x
@@ -60,8 +61,8 @@ item_at P items k x all within read = subst P (sym read) (every_at P items k x a
 pub listed_at : {X : Type 0} (items : List X) (n : ℕ) (x : X) → n < length items → x ≡ get_or items n x → items ≡ take n items ++ x ∷ drop (n + 1) items
 listed_at items n x within read = parts_at items n x within ∙ ap (λ y. take n items ++ y ∷ drop (n + 1) items) (sym read)
 
-pub taken : {X : Type 0} (items : List X) (n m : ℕ) (x : X) → n < length items → x ≡ get_or items n x → m ≡ n + 1 → take m items ≡ take n items ++ x ∷ []
-taken items n m x within read next = rw next (take_more items n x within ∙ ap (λ y. take n items ++ y ∷ []) (sym read))
+pub take_one_more : {X : Type 0} (items : List X) (n m : ℕ) (x : X) → n < length items → x ≡ get_or items n x → m ≡ n + 1 → take m items ≡ take n items ++ x ∷ []
+take_one_more items n m x within read next = rw next (take_more items n x within ∙ ap (λ y. take n items ++ y ∷ []) (sym read))
 
 pub last_good : {P : Type 0} (is_good : P → Type 0) (rank : P → ℕ) (last : Option P) (place count : ℕ) → IsLastOf is_good rank last place count → ForSome last is_good
 last_good is_good rank None place count h = λ p e. absurd (cc)
@@ -323,8 +324,8 @@ module _ {K : Type 0} (order : KeyOrder K) (lawful : IsLawful order) {V : Type 0
       }
 
     -- answers up to the end of the range
-    finished : (m : Position K) (new : List (Item (AnyRange K) V)) → PLe order lawful (Hi order lawful r) m → IsAnsweredUpTo m new → IsGathered order same calls f items r new
-    finished m new upto h =
+    answered_to_end_is_gathered : (m : Position K) (new : List (Item (AnyRange K) V)) → PLe order lawful (Hi order lawful r) m → IsAnsweredUpTo m new → IsGathered order same calls f items r new
+    answered_to_end_is_gathered m new upto h =
         let P = λ (a : Answered K V). IsInside order lawful items r a.key × PLe order lawful (Hi order lawful a.key) m in
         record {
           stored = chain_stored order lawful same equal new h.filled.known h.filled.chain;
@@ -369,7 +370,7 @@ module _ {K : Type 0} (order : KeyOrder K) (lawful : IsLawful order) {V : Type 0
       pub gathered : (is_clone : K → K → Type 0) (clones : (a b : Bound K) → IsBoundClone is_clone a b → SameBound order a b) (new : List (Item (AnyRange K) V)) → IsGapAsked order same is_clone calls f r before None old new → IsGathered order same calls f items r new
       gathered is_clone clones new h =
           let end = last_step is_clone clones new h in
-          finished end.0 new end.1 end.2
+          answered_to_end_is_gathered end.0 new end.1 end.2
 
 module _ {K : Type 0} (order : KeyOrder K) (lawful : IsLawful order) {V : Type 0} (same : V → V → Bool) (equal : IsEquivalence same) (r : AnyRange K) where
   full_by : (xs items : List (Item (AnyRange K) V)) → Known order lawful same equal xs → Chained order lawful same equal xs → Every (IsFull order lawful items r) xs
@@ -386,7 +387,7 @@ module _ {K : Type 0} (order : KeyOrder K) (lawful : IsLawful order) {V : Type 0
   key_full is_good rank items None place count key full at within h = λ i e. absurd (cc)
   key_full is_good rank items (Some p) place count key full at within h = λ i e.
       let some : rank p < length items = omega (arith, at.1, within) in
-      let d = element items (rank p) some in
+      let d = element_at items (rank p) some in
       let is : i ≡ (get_or items (rank p) d).key = some_is i (get_or items (rank p) d).key (sym e ∙ h d) in
       let there = every_at (IsFull order lawful items r) items (rank p) d full some in
       rw is ((nonempty_good order lawful (get_or items (rank p) d).key there.0).1 there.1)

@@ -1,5 +1,8 @@
 pub mod Appending
 pub mod Adding
+pub mod ChainJoins
+pub mod ChainSides
+pub mod Chains
 pub mod Coarse
 pub mod Copying
 pub mod Covering

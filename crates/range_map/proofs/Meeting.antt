@@ -17,10 +17,10 @@ use Rattle.range_algebra.specs.declared.any.AnyRange.{AnyRange}
 use Rattle.range_algebra.specs.Range.{Holds, IsKnownBound, IsKnownRange, IsEmptyRange}
 use Rattle.range_algebra.specs.Intervals.{Le, Lt, Any, Every}
 use Rattle.range_algebra.specs.Orders.{le_refl, lt_le, le_trans, lt_not_le, cases, not_le, not_lt, lt_le_trans}
-use Rattle.range_algebra.specs.Chains.{any_none, any_split, every_weaker, chain_above, chain_right}
+use Rattle.range_map.proofs.Chains.{chain_above, chain_right}
 use Rattle.range_algebra.proofs.Completeness.{nonempty_holds}
 use Rattle.range_algebra.proofs.Holding.{holds_by_position}
-use Rattle.range_algebra.proofs.Lists.{parts}
+use Rattle.range_algebra.proofs.Lists.{list_is_take_and_drop, any_none, any_split, every_weaker}
 use Rattle.range_store.specs.declared.storage.Item.{Item}
 use Rattle.range_map.specs.Bindings.{IsBound, BindsTo, Binds}
 use Rattle.range_map.specs.ItemCuts.{item_lower, item_upper}
@@ -66,8 +66,8 @@ module _ {K : Type 0} (order : KeyOrder K) (lawful : IsLawful order) where
       not_both (position_cmp order.cmp (Start r) (End r)) (le_trans (position_cmp order.cmp) (position_total order.cmp lawful.total) (Start r) (Beside k At) (End r) within.0 within.1) e
 
   -- the later of two starts
-  later : (a b : Bound K) → IsKnownBound order a → IsKnownBound order b → (c : Bound K) × IsKnownBound order c × PLe (start_position order a) (start_position order c) × PLe (start_position order b) (start_position order c) × ((p : Position K) → PLe (start_position order a) p → PLe (start_position order b) p → PLe (start_position order c) p)
-  later a b known others =
+  later_start : (a b : Bound K) → IsKnownBound order a → IsKnownBound order b → (c : Bound K) × IsKnownBound order c × PLe (start_position order a) (start_position order c) × PLe (start_position order b) (start_position order c) × ((p : Position K) → PLe (start_position order a) p → PLe (start_position order b) p → PLe (start_position order c) p)
+  later_start a b known others =
       let total = position_total order.cmp lawful.total in
       let cmp = position_cmp order.cmp in
       elim (cases cmp total (start_position order a) (start_position order b)) [
@@ -76,8 +76,8 @@ module _ {K : Type 0} (order : KeyOrder K) (lawful : IsLawful order) where
       ]
 
   -- the earlier of two ends
-  earlier : (a b : Bound K) → IsKnownBound order a → IsKnownBound order b → (c : Bound K) × IsKnownBound order c × PLe (end_position order c) (end_position order a) × PLe (end_position order c) (end_position order b) × ((p : Position K) → PLe p (end_position order a) → PLe p (end_position order b) → PLe p (end_position order c))
-  earlier a b known others =
+  earlier_end : (a b : Bound K) → IsKnownBound order a → IsKnownBound order b → (c : Bound K) × IsKnownBound order c × PLe (end_position order c) (end_position order a) × PLe (end_position order c) (end_position order b) × ((p : Position K) → PLe p (end_position order a) → PLe p (end_position order b) → PLe p (end_position order c))
+  earlier_end a b known others =
       let total = position_total order.cmp lawful.total in
       let cmp = position_cmp order.cmp in
       elim (cases cmp total (end_position order a) (end_position order b)) [
@@ -90,8 +90,8 @@ module _ {K : Type 0} (order : KeyOrder K) (lawful : IsLawful order) where
   shared_key r s complete known others full full_s meets =
       let total = position_total order.cmp lawful.total in
       let cmp = position_cmp order.cmp in
-      let from = later r.start s.start known.0 others.0 in
-      let upto = earlier r.end s.end known.1 others.1 in
+      let from = later_start r.start s.start known.0 others.0 in
+      let upto = earlier_end r.end s.end known.1 others.1 in
       let first = from.4 (End r) (not_greater (cmp (Start r) (End r)) full) (not_lt cmp total (Start s) (End r) meets.0) in
       let second = from.4 (End s) (not_lt cmp total (Start r) (End s) meets.1) (not_greater (cmp (Start s) (End s)) full_s) in
       let both : AnyRange K = record { start = from.0; end = upto.0 } in
@@ -155,7 +155,7 @@ module _ {K : Type 0} (order : KeyOrder K) (lawful : IsLawful order) where
           let total = position_total order.cmp lawful.total in
           let cmp = position_cmp order.cmp in
           let more : drop place items ≡ x ∷ drop (place + 1) items = drop_more items place x within ∙ ap (λ y. y ∷ drop (place + 1) items) (sym read) in
-          let split : items ≡ take place items ++ x ∷ drop (place + 1) items = parts items place ∙ ap (λ ys. take place items ++ ys) more in
+          let split : items ≡ take place items ++ x ∷ drop (place + 1) items = list_is_take_and_drop items place ∙ ap (λ ys. take place items ++ ys) more in
           let whole : Chained order lawful same equal (take place items ++ x ∷ drop (place + 1) items) = rw split at (stored_chain order lawful same equal items stored) in
           let chain = chain_right cmp total same equal (item_lower order) (item_upper order) (λ i. i.value) (take place items) (x ∷ drop (place + 1) items) whole in
           let above = chain_above cmp total same equal (item_lower order) (item_upper order) (λ i. i.value) (Start x.key) x (drop (place + 1) items) chain (le_refl cmp total (Start x.key)) in

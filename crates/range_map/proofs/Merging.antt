@@ -4,7 +4,8 @@ use Rattle.std.specs.Cmp.{IsEquivalence}
 use Rattle.range_keys.specs.Order.{KeyOrder, IsLawful}
 use Rattle.range_keys.specs.Position.{start_position, end_position}
 use Rattle.range_keys.specs.PositionOrder.{position_total}
-use Rattle.range_algebra.specs.Chains.{any_left, any_right, every_weaker, every_append, every_left, every_right, chain_right, chain_before, follows_above}
+use Rattle.range_algebra.proofs.Lists.{any_left, any_right, every_weaker, every_append, every_left, every_right}
+use Rattle.range_map.proofs.Chains.{chain_right, chain_before, follows_above}
 use Rattle.range_algebra.specs.Cuts.{lower, upper}
 use Rattle.range_algebra.specs.Intervals.{Lt, Any, Every}
 use Rattle.range_algebra.specs.Orders.{le_lt_trans, lt_le_trans, lt_trans, lt_not_le}

@@ -10,12 +10,13 @@ use Rattle.range_keys.specs.Order.{KeyOrder, IsLawful}
 use Rattle.range_keys.specs.Position.{start_position, end_position}
 use Rattle.range_keys.specs.PositionOrder.{position_total}
 use Rattle.range_keys.specs.declared.inner.position.Position.{Position}
-use Rattle.range_algebra.specs.Chains.{any_left, any_right, every_weaker, every_append, every_left, every_right, chain_before, chain_right, follows_above}
+use Rattle.range_algebra.proofs.Lists.{any_left, any_right, every_weaker, every_append, every_left, every_right}
+use Rattle.range_map.specs.Chains.{IsLeftOf, IsRightOf}
+use Rattle.range_map.proofs.Chains.{chain_before, chain_right, follows_above}
 use Rattle.range_algebra.specs.Clones.{SameBound}
 use Rattle.range_algebra.specs.Compared.{inverted}
 use Rattle.range_algebra.specs.Cuts.{past, lower, upper}
 use Rattle.range_algebra.specs.Intervals.{Le, Lt, Any, Every}
-use Rattle.range_algebra.specs.Joins.{IsLeftOf, IsRightOf}
 use Rattle.range_algebra.specs.Orders.{eq_ge, le_lt_trans, le_refl, lt_le, eq_le, le_trans, lt_trans, lt_le_trans, lt_not_le, not_lt}
 use Rattle.range_algebra.specs.Range.{IsKnownBound, IsKnownRange, IsEmptyRange}
 use Rattle.range_algebra.specs.Relations.{Touches}
@@ -39,9 +40,9 @@ use Rattle.range_map.specs.Stored.{IsStored}
 use Rattle.range_map.specs.Window.{IsWindow, option_items}
 use Rattle.range_map.proofs.CutOut.{known_take, known_drop}
 use Rattle.range_map.proofs.CutParts.{ends_never}
-use Rattle.range_map.proofs.Endings.{last_of, regrouped_last, ended, with_last, started_last}
+use Rattle.range_map.proofs.Endings.{last_of, regrouped_last, item_with_end, with_last, started_last}
 use Rattle.range_map.proofs.Forms.{places, Known, Chained, stored_known, stored_chain}
-use Rattle.range_map.proofs.Edging.{element, element_is}
+use Rattle.range_map.proofs.Edging.{element_at, element_is}
 use Rattle.range_map.proofs.Openings.{cut_joins_none}
 use Rattle.range_map.proofs.Planning.{left_cut_plan, right_cut_plan, left_plan_free, left_joined_at, right_plan_joined, right_plan_plain}
 use Rattle.range_map.proofs.Splicing.{IsFilled, IsSpliced, filled_apart, filled_joined, spliced_apart, spliced_joined}
@@ -217,27 +218,27 @@ module _ {K : Type 0} (order : KeyOrder K) (lawful : IsLawful order) {V : Type 0
     alike_value (x ∷ xs) v u e (inl h) = inl (equal.congr u v x.value e ∙ h)
     alike_value (x ∷ xs) v u e (inr h) = inr (alike_value xs v u e h)
 
-    ended_lower : (finish : Option (Bound K)) (z : Item (AnyRange K) V) → places order lawful (item_lower order (ended finish z)) (item_lower order z) ≡ Equal
+    ended_lower : (finish : Option (Bound K)) (z : Item (AnyRange K) V) → places order lawful (item_lower order (item_with_end finish z)) (item_lower order z) ≡ Equal
     ended_lower None z = tied_itself (position_total order.cmp lawful.total) (item_lower order z)
     ended_lower (Some b) z = tied_itself (position_total order.cmp lawful.total) (item_lower order z)
 
-    ended_upper : (finish : Option (Bound K)) (z : Item (AnyRange K) V) (e : Position K) → places order lawful (edge_end order same finish r) e ≡ Equal → places order lawful (item_upper order z) (upper order r) ≡ Equal → places order lawful (item_upper order (ended finish z)) e ≡ Equal
+    ended_upper : (finish : Option (Bound K)) (z : Item (AnyRange K) V) (e : Position K) → places order lawful (edge_end order same finish r) e ≡ Equal → places order lawful (item_upper order z) (upper order r) ≡ Equal → places order lawful (item_upper order (item_with_end finish z)) e ≡ Equal
     ended_upper None z e ends at = (position_total order.cmp lawful.total).congr (item_upper order z) (upper order r) e at ∙ ends
     ended_upper (Some b) z e ends at = ends
 
-    ended_value : (finish : Option (Bound K)) (z : Item (AnyRange K) V) → same (ended finish z).value z.value ≡ true
+    ended_value : (finish : Option (Bound K)) (z : Item (AnyRange K) V) → same (item_with_end finish z).value z.value ≡ true
     ended_value None z = equal.refl z.value
     ended_value (Some b) z = equal.refl z.value
 
-    ended_known : (finish : Option (Bound K)) (z : Item (AnyRange K) V) → IsKnownRange order z.key → IsKnownBound order (unwrap_or finish r.end) → IsKnownRange order (ended finish z).key
+    ended_known : (finish : Option (Bound K)) (z : Item (AnyRange K) V) → IsKnownRange order z.key → IsKnownBound order (unwrap_or finish r.end) → IsKnownRange order (item_with_end finish z).key
     ended_known None z known end = known
     ended_known (Some b) z known end = (known.0, end)
 
-    ended_end : (finish : Option (Bound K)) (z i : Item (AnyRange K) V) → finish ≡ Some i.key.end → (ended finish z).key.end ≡ i.key.end
+    ended_end : (finish : Option (Bound K)) (z i : Item (AnyRange K) V) → finish ≡ Some i.key.end → (item_with_end finish z).key.end ≡ i.key.end
     ended_end None z i is = absurd (cc)
     ended_end (Some b) z i is = cc
 
-    ended_same : (finish : Option (Bound K)) (z : Item (AnyRange K) V) → (ended finish z).value ≡ z.value
+    ended_same : (finish : Option (Bound K)) (z : Item (AnyRange K) V) → (item_with_end finish z).value ≡ z.value
     ended_same None z = refl
     ended_same (Some b) z = refl
 
@@ -248,7 +249,7 @@ module _ {K : Type 0} (order : KeyOrder K) (lawful : IsLawful order) {V : Type 0
         let s = started_last start init m in
         let z = s.1 in
         let body : with_first_start start middle ≡ s.0 ++ z ∷ [] = ap (with_first_start start) split ∙ s.2 in
-        let other = ended plan.finish z in
+        let other = item_with_end plan.finish z in
         let behind = option_items plan.rest ++ drop plan.end items in
         let grouped : front ++ with_first_start start middle ≡ (front ++ s.0) ++ z ∷ [] = ap (λ ys. front ++ ys) body ∙ sym (append_assoc front s.0 (z ∷ [])) in
         let list : (front ++ with_last_end plan.finish (with_first_start start middle)) ++ behind ≡ (front ++ s.0) ++ other ∷ behind = ap (λ ys. (front ++ ys) ++ behind) (ap (with_last_end plan.finish) body ∙ with_last plan.finish s.0 z) ∙ regrouped_last front s.0 behind other in
@@ -352,5 +353,5 @@ module _ {K : Type 0} (order : KeyOrder K) (lawful : IsLawful order) {V : Type 0
   right_touched v None b in_range reach none = right_plan_plain order lawful same equal is_good rank items r w place stored known full window v reach none
   right_touched v (Some q) b in_range reach found =
       let within = in_range q found.0 in
-      let x = element items (rank q) within in
+      let x = element_at items (rank q) within in
       right_plan_joined order lawful same equal is_good rank items r w place stored known full window v q x reach found.0 found.1 within (element_is items (rank q) within x) found.2

@@ -10,16 +10,16 @@ use Rattle.range_keys.specs.Order.{KeyOrder, IsLawful}
 use Rattle.range_keys.specs.Position.{end_position, position_cmp}
 use Rattle.range_keys.specs.PositionOrder.{position_total}
 use Rattle.range_keys.specs.declared.inner.position.Position.{Position}
-use Rattle.range_algebra.specs.Chains.{any_none, any_split, chain_above, chain_before, chain_right, every_append, every_left, every_right, every_weaker, strictly_leads, strictly_trails}
+use Rattle.range_map.proofs.Chains.{chain_above, chain_before, chain_right, strictly_leads, strictly_trails}
+use Rattle.range_map.proofs.ChainSides.{left_whole, right_whole}
+use Rattle.range_map.proofs.ChainJoins.{places_between_are_bound, left_apart, right_apart}
 use Rattle.range_algebra.specs.Compared.{starts_at_end}
 use Rattle.range_algebra.specs.Cuts.{lower, upper}
 use Rattle.range_algebra.specs.Intervals.{Every, Le, Lt}
-use Rattle.range_algebra.specs.Joins.{bound, left_apart, right_apart}
 use Rattle.range_algebra.specs.Orders.{eq_ge, eq_le, le_lt_trans, le_refl, lt_le, lt_le_trans, lt_not_le, lt_trans, not_le}
 use Rattle.range_algebra.specs.Range.{IsEmptyRange, IsKnownRange}
-use Rattle.range_algebra.specs.Sides.{left_whole, right_whole}
 use Rattle.range_algebra.specs.declared.any.AnyRange.{AnyRange}
-use Rattle.range_algebra.proofs.Lists.{drop_all, parts}
+use Rattle.range_algebra.proofs.Lists.{drop_all, list_is_take_and_drop, any_none, any_split, every_append, every_left, every_right, every_weaker}
 use Rattle.range_store.proofs.PlacesLemmas.{kept_at, place_at}
 use Rattle.range_store.specs.Places.{IsAt, place_before}
 use Rattle.range_store.specs.declared.storage.Item.{Item}
@@ -125,7 +125,7 @@ module _ {K : Type 0} (order : KeyOrder K) (lawful : IsLawful order) where
           let cmp = position_cmp order.cmp in
           let total = position_total order.cmp lawful.total in
           let more : drop n items ≡ x ∷ drop (n + 1) items = drop_more items n x within ∙ ap (λ y. y ∷ drop (n + 1) items) (sym read) in
-          let split : items ≡ take n items ++ x ∷ drop (n + 1) items = parts items n ∙ ap (λ ys. take n items ++ ys) more in
+          let split : items ≡ take n items ++ x ∷ drop (n + 1) items = list_is_take_and_drop items n ∙ ap (λ ys. take n items ++ ys) more in
           let whole : Chained order lawful same equal (take n items ++ x ∷ drop (n + 1) items) = rw split at (stored_chain order lawful same equal items stored) in
           let all_known : Known order lawful same equal (take n items ++ x ∷ drop (n + 1) items) = rw split at (stored_known order lawful same equal items stored) in
           let good = chain_right cmp total same equal (item_lower order) (item_upper order) (λ i. i.value) (take n items) (x ∷ drop (n + 1) items) whole in
@@ -139,7 +139,7 @@ module _ {K : Type 0} (order : KeyOrder K) (lawful : IsLawful order) where
           let cmp = position_cmp order.cmp in
           let total = position_total order.cmp lawful.total in
           let more : drop n items ≡ x ∷ drop (n + 1) items = drop_more items n x within ∙ ap (λ y. y ∷ drop (n + 1) items) (sym read) in
-          let split : items ≡ take n items ++ x ∷ drop (n + 1) items = parts items n ∙ ap (λ ys. take n items ++ ys) more in
+          let split : items ≡ take n items ++ x ∷ drop (n + 1) items = list_is_take_and_drop items n ∙ ap (λ ys. take n items ++ ys) more in
           let whole : Chained order lawful same equal (take n items ++ x ∷ drop (n + 1) items) = rw split at (stored_chain order lawful same equal items stored) in
           let all_known : Known order lawful same equal (take n items ++ x ∷ drop (n + 1) items) = rw split at (stored_known order lawful same equal items stored) in
           let chain = chain_right cmp total same equal (item_lower order) (item_upper order) (λ i. i.value) (take n items) (x ∷ drop (n + 1) items) whole in
@@ -231,7 +231,7 @@ module _ {K : Type 0} (order : KeyOrder K) (lawful : IsLawful order) where
         -- a range with such a place is connected to no item
         pub free_not : IsConnectedToSome order items r → ⊥
         free_not h =
-            let split : items ≡ take place items ++ drop place items = parts items place in
+            let split : items ≡ take place items ++ drop place items = list_is_take_and_drop items place in
             let all_known : Known order lawful same equal (take place items ++ drop place items) = rw split at (stored_known order lawful same equal items stored) in
             let whole : Chained order lawful same equal (take place items ++ drop place items) = rw split at (stored_chain order lawful same equal items stored) in
             let both = every_both (λ i. IsKnownRange order i.key) Good (take place items ++ drop place items) all_known (chain_good (take place items ++ drop place items) whole) in
@@ -251,7 +251,7 @@ module _ {K : Type 0} (order : KeyOrder K) (lawful : IsLawful order) where
             let x : Item (AnyRange K) V = record { key = r; value = v } in
             let c = lower order r in
             let d = upper order r in
-            let split : items ≡ take place items ++ drop place items = parts items place in
+            let split : items ≡ take place items ++ drop place items = list_is_take_and_drop items place in
             let all_known : Known order lawful same equal (take place items ++ drop place items) = rw split at (stored_known order lawful same equal items stored) in
             let whole : Chained order lawful same equal (take place items ++ drop place items) = rw split at (stored_chain order lawful same equal items stored) in
             let value : Item (AnyRange K) V → V = λ i. i.value in
@@ -259,7 +259,7 @@ module _ {K : Type 0} (order : KeyOrder K) (lawful : IsLawful order) where
             let right = right_whole cmp total same equal (item_lower order) (item_upper order) value (take place items) (drop place items) d whole (every_weaker _ _ (take place items) (λ i h. lt_le cmp total (item_upper order i) d (lt_trans cmp total (item_upper order i) c d h range_good)) front) (every_weaker _ _ (drop place items) (λ i h. lt_le cmp total d (item_lower order i) h) back) in
             let on_left = left_apart cmp total same equal (item_lower order) (item_upper order) value (take place items ++ drop place items) (take place items) c v left (every_weaker _ _ (take place items) (λ i h. strictly_leads cmp total same equal (item_lower order) (item_upper order) value i c v h) front) in
             let on_right = right_apart cmp total same equal (item_lower order) (item_upper order) value (take place items ++ drop place items) (drop place items) d v right (every_weaker _ _ (drop place items) (λ i h. strictly_trails cmp total same equal (item_lower order) (item_upper order) value i d v h) back) in
-            let changed = bound cmp total same equal (item_lower order) (item_upper order) value (take place items ++ drop place items) (take place items) (drop place items) x c d c d v on_left on_right range_good (tied_itself total c) (tied_itself total d) (equal.refl v) in
+            let changed = places_between_are_bound cmp total same equal (item_lower order) (item_upper order) value (take place items ++ drop place items) (take place items) (drop place items) x c d c d v on_left on_right range_good (tied_itself total c) (tied_itself total d) (equal.refl v) in
             let new_known : Known order lawful same equal (take place items ++ x ∷ drop place items) = every_append (λ i. IsKnownRange order i.key) (take place items) (x ∷ drop place items) (every_left (λ i. IsKnownRange order i.key) (take place items) (drop place items) all_known) (known, every_right (λ i. IsKnownRange order i.key) (take place items) (drop place items) all_known) in
             let after = bound_after order lawful same equal (take place items ++ drop place items) (take place items ++ x ∷ drop place items) r v known all_known new_known changed in
             let joined : take place items ++ drop place items ≡ items = sym split in

@@ -6,19 +6,20 @@ use Rattle.std.specs.declared.cmp.Ordering.TheVariants.{Equal}
 use Rattle.std.specs.Cmp.{IsTotalOrder, IsEquivalence}
 use Rattle.range_algebra.specs.Intervals.{Le, Lt, Every}
 use Rattle.range_algebra.specs.Orders.{lt_le, eq_le, eq_ge, le_trans, lt_le_trans, le_lt_trans, lt_trans}
-use Rattle.range_algebra.specs.Chains.{any_left, any_right, any_split, every_weaker, every_append, Follows, back, chain_left, chain_right, chain_above, strictly_leads, chain_before, join, join_apart, follows_like}
-use Rattle.range_algebra.specs.Sides.{Chain, Holding, Alike, Leading, Trailing, IsLeft, IsRight, none_below, none_above, only_first, only_second}
-use Rattle.range_algebra.specs.Joins.{IsLeftOf, IsRightOf}
+use Rattle.range_algebra.proofs.Lists.{any_left, any_right, any_split, every_weaker, every_append}
+use Rattle.range_map.specs.Chains.{Follows, IsChain, Has, Respects, Leading, Trailing, IsLeft, IsRight, IsLeftOf, IsRightOf}
+use Rattle.range_map.proofs.Chains.{back, chain_left, chain_right, chain_above, strictly_leads, chain_before, chains_join, join_apart, follows_like}
+use Rattle.range_map.proofs.ChainSides.{none_below, none_above, only_first, only_second}
 
 module _ {L V X : Type 0} (cmp : L → L → Ordering) (total : IsTotalOrder cmp) (same : V → V → Bool) (equal : IsEquivalence same) (lo hi : X → L) (value : X → V) where
   abbrev Chained : List X → Type 0
-  Chained xs = Chain cmp total same equal lo hi value xs
+  Chained xs = IsChain cmp total same equal lo hi value xs
 
   abbrev Hold : (V → Bool) → L → List X → Type 0
-  Hold W p xs = Holding cmp total same equal lo hi value W p xs
+  Hold W p xs = Has cmp total same equal lo hi value W p xs
 
   abbrev Shared : (V → Bool) → Type 0
-  Shared W = Alike cmp total same equal lo hi value W
+  Shared W = Respects cmp total same equal lo hi value W
 
   -- below a place the list holds what the items hold, and from there on what the middle does
   pub record IsFilled (items middle new : List X) (c : L) : Type 0 where
@@ -36,7 +37,7 @@ module _ {L V X : Type 0} (cmp : L → L → Ordering) (total : IsTotalOrder cmp
   chain_apart : (front middle : List X) (c : L) → Chained front → Every (λ x. Le cmp (hi x) c) front → Chained middle → Every (λ x. Lt cmp c (lo x)) middle → Chained (front ++ middle)
   chain_apart front [] c chain ends other starts = rw (append-nil front) chain
   chain_apart front (m ∷ ms) c chain ends other starts =
-      join cmp total same equal lo hi value front m ms chain other (every_weaker _ _ front (λ z h. strictly_leads cmp total same equal lo hi value z (lo m) (value m) (le_lt_trans cmp total (hi z) c (lo m) h starts.0)) ends)
+      chains_join cmp total same equal lo hi value front m ms chain other (every_weaker _ _ front (λ z h. strictly_leads cmp total same equal lo hi value z (lo m) (value m) (le_lt_trans cmp total (hi z) c (lo m) h starts.0)) ends)
 
   -- a middle that starts later than the place
   pub filled_apart : (items front middle : List X) (c : L) → IsLeft cmp total same equal lo hi value items front c → Chained middle → Every (λ x. Lt cmp c (lo x)) middle → IsFilled items middle (front ++ middle) c
@@ -46,11 +47,11 @@ module _ {L V X : Type 0} (cmp : L → L → Ordering) (total : IsTotalOrder cmp
         chain = chain_apart front middle c left.chain left.ends chain starts;
         ends = λ u le all. every_append _ front middle (every_weaker _ _ front (λ z h. le_trans cmp total (hi z) c u h le) left.ends) all;
         below = λ p W alike l. (
-          λ h. (left.holds p W alike l).0 (only_first cmp total same equal lo hi value (none_below cmp total same equal lo hi value p c W middle l above) (any_split _ front middle h)),
+          λ h. (left.holds p W alike l).0 (only_first (none_below cmp total same equal lo hi value p c W middle l above) (any_split _ front middle h)),
           λ h. any_left _ front middle ((left.holds p W alike l).1 h),
         );
         from = λ p W alike le. (
-          λ h. only_second cmp total same equal lo hi value (none_above cmp total same equal lo hi value p c W front le left.ends) (any_split _ front middle h),
+          λ h. only_second (none_above cmp total same equal lo hi value p c W front le left.ends) (any_split _ front middle h),
           λ h. any_right _ front middle h,
         );
       }
@@ -72,12 +73,12 @@ module _ {L V X : Type 0} (cmp : L → L → Ordering) (total : IsTotalOrder cmp
       let ends : Every (λ x. Le cmp (hi x) c) front = every_weaker _ _ front (λ z h. le_trans cmp total (hi z) s c h.0 left.below) left.leads in
       let above = chain_above cmp total same equal lo hi value c m ms chain c_high in
       record {
-        chain = join cmp total same equal lo hi value front other ms left.chain (good, follows_like cmp total same equal lo hi value m other ms at_hi alike_value chain.1) leads;
+        chain = chains_join cmp total same equal lo hi value front other ms left.chain (good, follows_like cmp total same equal lo hi value m other ms at_hi alike_value chain.1) leads;
         ends = λ u le all. every_append _ front (other ∷ ms) (every_weaker _ _ front (λ z h. le_trans cmp total (hi z) c u h le) ends) (le_trans cmp total (hi other) (hi m) u hi_low all.0, all.1);
         below = λ p W alike l. (
           λ h. (left.holds p W alike l).0 (elim (any_split _ front (other ∷ ms) h) [
             | inl k ↦ inl k
-            | inr k ↦ let held = only_first cmp total same equal lo hi value (none_below cmp total same equal lo hi value p c W ms l above.1) k in inr (le_trans cmp total s (lo other) p s_high held.0.0, alike (value other) (value m) alike_value held.1)
+            | inr k ↦ let held = only_first (none_below cmp total same equal lo hi value p c W ms l above.1) k in inr (le_trans cmp total s (lo other) p s_high held.0.0, alike (value other) (value m) alike_value held.1)
           ]),
           λ h. elim ((left.holds p W alike l).1 h) [
             | inl k ↦ any_left _ front (other ∷ ms) k
@@ -85,7 +86,7 @@ module _ {L V X : Type 0} (cmp : L → L → Ordering) (total : IsTotalOrder cmp
           ],
         );
         from = λ p W alike le. (
-          λ h. elim (only_second cmp total same equal lo hi value (none_above cmp total same equal lo hi value p c W front le ends) (any_split _ front (other ∷ ms) h)) [
+          λ h. elim (only_second (none_above cmp total same equal lo hi value p c W front le ends) (any_split _ front (other ∷ ms) h)) [
             | inl k ↦ inl ((le_trans cmp total (lo m) c p c_low le, lt_le_trans cmp total p (hi other) (hi m) k.0.1 hi_low), alike (value other) (value m) alike_value k.1)
             | inr k ↦ inr k
           ],
@@ -104,16 +105,16 @@ module _ {L V X : Type 0} (cmp : L → L → Ordering) (total : IsTotalOrder cmp
       record {
         chain = join_apart cmp total same equal lo hi value filled behind u d lt fill.chain right.chain ends right.starts;
         inside = λ p W alike from upto. (
-          λ h. (fill.from p W alike from).0 (only_first cmp total same equal lo hi value (none_below cmp total same equal lo hi value p d W behind upto right.starts) (any_split _ filled behind h)),
+          λ h. (fill.from p W alike from).0 (only_first (none_below cmp total same equal lo hi value p d W behind upto right.starts) (any_split _ filled behind h)),
           λ h. any_left _ filled behind ((fill.from p W alike from).1 h),
         );
         outside = λ p W alike where_. elim where_ [
           | inl l ↦ (
-            λ h. (fill.below p W alike l).0 (only_first cmp total same equal lo hi value (none_below cmp total same equal lo hi value p d W behind (lt_trans cmp total p c d l (le_lt_trans cmp total c u d le lt)) right.starts) (any_split _ filled behind h)),
+            λ h. (fill.below p W alike l).0 (only_first (none_below cmp total same equal lo hi value p d W behind (lt_trans cmp total p c d l (le_lt_trans cmp total c u d le lt)) right.starts) (any_split _ filled behind h)),
             λ h. any_left _ filled behind ((fill.below p W alike l).1 h),
           )
           | inr above ↦ (
-            λ h. (right.holds p W alike above).0 (only_second cmp total same equal lo hi value (none_above cmp total same equal lo hi value p d W filled above below) (any_split _ filled behind h)),
+            λ h. (right.holds p W alike above).0 (only_second (none_above cmp total same equal lo hi value p d W filled above below) (any_split _ filled behind h)),
             λ h. any_right _ filled behind ((right.holds p W alike above).1 h),
           )
         ];
@@ -144,20 +145,20 @@ module _ {L V X : Type 0} (cmp : L → L → Ordering) (total : IsTotalOrder cmp
       let upto : (p : L) (W : V → Bool) → Shared W → Lt cmp p d → Hold W p (front ++ other ∷ behind) ↔ Hold W p (front ++ z ∷ []) = λ p W alike l. (
         λ h. elim (any_split _ front (other ∷ behind) h) [
           | inl k ↦ any_left _ front (z ∷ []) k
-          | inr k ↦ let held = only_first cmp total same equal lo hi value (none_below cmp total same equal lo hi value p d W behind l starts) k in any_right _ front (z ∷ []) (inl ((le_trans cmp total (lo z) (lo other) p lo_high held.0.0, lt_le_trans cmp total p d (hi z) l (eq_ge cmp total (hi z) d at_d)), alike (value other) (value z) alike_value held.1))
+          | inr k ↦ let held = only_first (none_below cmp total same equal lo hi value p d W behind l starts) k in any_right _ front (z ∷ []) (inl ((le_trans cmp total (lo z) (lo other) p lo_high held.0.0, lt_le_trans cmp total p d (hi z) l (eq_ge cmp total (hi z) d at_d)), alike (value other) (value z) alike_value held.1))
         ],
         λ h. elim (any_split _ front (z ∷ []) h) [
           | inl k ↦ any_left _ front (other ∷ behind) k
-          | inr k ↦ let held = only_first cmp total same equal lo hi value (λ n. n) k in any_right _ front (other ∷ behind) (inl ((le_trans cmp total (lo other) (lo z) p lo_low held.0.0, lt_le_trans cmp total p d (hi other) l d_high), alike (value z) (value other) value_back held.1))
+          | inr k ↦ let held = only_first (λ n. n) k in any_right _ front (other ∷ behind) (inl ((le_trans cmp total (lo other) (lo z) p lo_low held.0.0, lt_le_trans cmp total p d (hi other) l d_high), alike (value z) (value other) value_back held.1))
         ],
       ) in
       record {
-        chain = join cmp total same equal lo hi value front other behind (chain_left cmp total same equal lo hi value front (z ∷ []) fill.chain) (good, trailing_follows other behind e (value z) e_low e_high alike_value right.chain right.trails) leads;
+        chain = chains_join cmp total same equal lo hi value front other behind (chain_left cmp total same equal lo hi value front (z ∷ []) fill.chain) (good, trailing_follows other behind e (value z) e_low e_high alike_value right.chain right.trails) leads;
         inside = λ p W alike from l. (λ h. (fill.from p W alike from).0 ((upto p W alike l).0 h), λ h. (upto p W alike l).1 ((fill.from p W alike from).1 h));
         outside = λ p W alike where_. elim where_ [
           | inl l ↦ let under = lt_trans cmp total p c d l lt in (λ h. (fill.below p W alike l).0 ((upto p W alike under).0 h), λ h. (upto p W alike under).1 ((fill.below p W alike l).1 h))
           | inr above ↦ (
-            λ h. (right.holds p W alike above).0 (elim (only_second cmp total same equal lo hi value (none_above cmp total same equal lo hi value p d W front above ends) (any_split _ front (other ∷ behind) h)) [
+            λ h. (right.holds p W alike above).0 (elim (only_second (none_above cmp total same equal lo hi value p d W front above ends) (any_split _ front (other ∷ behind) h)) [
               | inl k ↦ inr (lt_le_trans cmp total p (hi other) e k.0.1 e_low, alike (value other) (value z) alike_value k.1)
               | inr k ↦ inl k
             ]),

@@ -11,14 +11,14 @@ use Rattle.range_algebra.specs.Range.{IsKnownRange}
 use Rattle.range_store.specs.declared.storage.Item.{Item}
 use Rattle.range_store.specs.Places.{place_before}
 use Rattle.range_algebra.specs.Intervals.{Le, Lt, Every}
-use Rattle.range_algebra.specs.Chains.{every_weaker, every_left, every_right, chain_above, chain_right}
+use Rattle.range_map.proofs.Chains.{chain_above, chain_right}
 use Rattle.range_algebra.specs.Cuts.{lower, upper}
 use Rattle.range_map.specs.ItemCuts.{item_lower, item_upper}
 use Rattle.range_map.specs.Stored.{IsStored}
 use Rattle.range_map.specs.Window.{IsFound, IsWalk, IsWindow}
 use Rattle.range_algebra.proofs.Places.{reaching_is_before_past}
 use Rattle.range_map.proofs.Forms.{places, before_is, Known, Chained, stored_known, stored_chain}
-use Rattle.range_algebra.proofs.Lists.{every_at, parts}
+use Rattle.range_algebra.proofs.Lists.{every_at, list_is_take_and_drop, every_weaker, every_left, every_right}
 
 pub every_both : {X : Type 0} (P Q : X → Type 0) (xs : List X) → Every P xs → Every Q xs → Every (λ x. P x × Q x) xs
 every_both P Q [] h k = tt
@@ -40,8 +40,8 @@ module _ {K : Type 0} (order : KeyOrder K) (lawful : IsLawful order) {V : Type 0
       let place = place_before rank (length items) from in
       let all = stored_known order lawful same equal items stored in
       let chain = stored_chain order lawful same equal items stored in
-      let known_parts : (n : ℕ) → Known order lawful same equal (take n items ++ drop n items) = λ n. rw (parts items n) at all in
-      let chain_parts : (n : ℕ) → Chained order lawful same equal (take n items ++ drop n items) = λ n. rw (parts items n) at chain in
+      let known_parts : (n : ℕ) → Known order lawful same equal (take n items ++ drop n items) = λ n. rw (list_is_take_and_drop items n) at all in
+      let chain_parts : (n : ℕ) → Chained order lawful same equal (take n items ++ drop n items) = λ n. rw (list_is_take_and_drop items n) at chain in
       record {
         position = found.position;
         previous = found.previous;

@@ -21,8 +21,7 @@ use Rattle.range_store.specs.declared.storage.Item.{Item}
 use Rattle.range_map.specs.declared.change.cut.Parts.{Parts}
 use Rattle.range_map.specs.declared.change.window.Window.{Window}
 use Rattle.range_algebra.specs.Intervals.{Every, Le}
-use Rattle.range_algebra.specs.Sides.{IsLeft, IsRight}
-use Rattle.range_algebra.specs.Joins.{IsLeftOf, IsRightOf}
+use Rattle.range_map.specs.Chains.{IsLeft, IsRight, IsLeftOf, IsRightOf}
 use Rattle.range_algebra.specs.Cuts.{past, lower, upper}
 use Rattle.range_map.specs.ItemCuts.{item_lower, item_upper}
 use Rattle.range_algebra.specs.Relations.{Touches}

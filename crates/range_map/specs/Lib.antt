@@ -2,6 +2,7 @@ pub mod Answers
 pub mod Askable
 pub mod Asking
 pub mod Bindings
+pub mod Chains
 pub mod Changes
 pub mod Coarse
 pub mod Copies

@@ -22,7 +22,7 @@ use Rattle.range_map.specs.Pieces.{IsFreePart, IsPiece}
 use Rattle.range_map.specs.Ranges.{Overlap}
 use Rattle.range_map.specs.Stored.{IsStored}
 use Rattle.range_map.proofs.Forms.{before_is, nonempty_good, touches_is}
-use Rattle.range_map.proofs.Listed.{IsListed, listed, stored_by, not_greater}
+use Rattle.range_map.proofs.Listed.{IsListed, stored_list_is_listed, stored_by, not_greater}
 use Rattle.range_sets.specs.KeySets.{IsStoredSet}
 
 -- the ranges as the items of a set
@@ -43,8 +43,8 @@ module _ {K : Type 0} (order : KeyOrder K) (lawful : IsLawful order) where
   abbrev joint : AnyRange K → AnyRange K → AnyRange K
   joint g h = record { start = g.start; end = h.end }
 
-  beside : (r s : AnyRange K) → (Overlap order r s → ⊥) → LiesBefore order r s ⊎ LiesBefore order s r
-  beside r s apart = elim (less_or_not (position_cmp order.cmp (End r) (Start s))) [
+  apart_is_before_or_after : (r s : AnyRange K) → (Overlap order r s → ⊥) → LiesBefore order r s ⊎ LiesBefore order s r
+  apart_is_before_or_after r s apart = elim (less_or_not (position_cmp order.cmp (End r) (Start s))) [
     | inl l ↦ inl l
     | inr a ↦ elim (less_or_not (position_cmp order.cmp (End s) (Start r))) [ inl l ↦ inr l | inr b ↦ absurd (apart (a, b)) ]
   ]
@@ -64,9 +64,9 @@ module _ {K : Type 0} (order : KeyOrder K) (lawful : IsLawful order) where
   -- where two ranges that touch miss an item, so does the range over both
   joint_misses : (i g h : AnyRange K) → IsKnownRange order i → (IsEmptyRange order i → ⊥) → IsKnownRange order g → IsKnownRange order h → (IsEmptyRange order h → ⊥) → LiesBefore order g h → Touches order g h → (Overlap order i g → ⊥) → (Overlap order i h → ⊥) → Overlap order i (joint g h) → ⊥
   joint_misses i g h known full known_g known_h full_h before touching miss_g miss_h meets =
-      elim (beside i g miss_g) [
+      elim (apart_is_before_or_after i g miss_g) [
         | inl l ↦ meets.0 l
-        | inr l ↦ elim (beside i h miss_h) [ inl m ↦ none_between i g h known full known_g known_h full_h before touching l m | inr m ↦ meets.1 m ]
+        | inr l ↦ elim (apart_is_before_or_after i h miss_h) [ inl m ↦ none_between i g h known full known_g known_h full_h before touching l m | inr m ↦ meets.1 m ]
       ]
 
   module _ {V : Type 0} where
@@ -119,4 +119,4 @@ module _ {K : Type 0} (order : KeyOrder K) (lawful : IsLawful order) where
   -- the front of a list in the form of a set is in that form
   pub front_stored : (front behind : List (AnyRange K)) → IsStoredSet order (set_items (front ++ behind)) → IsStoredSet order (set_items front)
   front_stored front behind h =
-      stored_by order lawful (λ _ _. true) (set_items front) (front_listed front behind (listed order lawful (λ _ _. true) (set_items (front ++ behind)) h))
+      stored_by order lawful (λ _ _. true) (set_items front) (front_listed front behind (stored_list_is_listed order lawful (λ _ _. true) (set_items (front ++ behind)) h))

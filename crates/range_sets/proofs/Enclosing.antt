@@ -7,7 +7,7 @@ use Rattle.range_keys.specs.Position.{start_position, end_position, position_cmp
 use Rattle.range_keys.specs.PositionOrder.{position_total}
 use Rattle.range_keys.specs.declared.inner.position.Position.{Position}
 use Rattle.range_algebra.specs.declared.any.AnyRange.{AnyRange}
-use Rattle.range_algebra.specs.Chains.{every_left, every_right}
+use Rattle.range_algebra.proofs.Lists.{every_left, every_right}
 use Rattle.range_algebra.specs.Compared.{inverted}
 use Rattle.range_algebra.specs.Cuts.{past}
 use Rattle.range_algebra.specs.Intervals.{Le, Lt, Any, Every}
@@ -44,8 +44,8 @@ module _ {K : Type 0} (order : KeyOrder K) (lawful : IsLawful order) where
   between_at P s e a b f g le h = rw (f, g) (between_is P a b le h)
 
   -- what misses each range that stands between two bounds misses the one that does
-  missed : (r : AnyRange K) (s e : Option (Bound K)) (a b : Bound K) → s ≡ Some a → e ≡ Some b → PLe (Start a) (End b) → Every (λ g. ¬ Overlap order g r) (between order s e) → Overlap order (record { start = a; end = b }) r → ⊥
-  missed r s e a b f g le all = between_at (λ gaps. Every (λ g. ¬ Overlap order g r) gaps → Overlap order (record { start = a; end = b }) r → ⊥) s e a b f g le (λ h. h.0) all
+  gap_would_overlap : (r : AnyRange K) (s e : Option (Bound K)) (a b : Bound K) → s ≡ Some a → e ≡ Some b → PLe (Start a) (End b) → Every (λ g. ¬ Overlap order g r) (between order s e) → Overlap order (record { start = a; end = b }) r → ⊥
+  gap_would_overlap r s e a b f g le all = between_at (λ gaps. Every (λ g. ¬ Overlap order g r) gaps → Overlap order (record { start = a; end = b }) r → ⊥) s e a b f g le (λ h. h.0) all
 
   -- a bound that another start lies before has a bound on its other side
   turned_start : (x p : Bound K) → IsKnownBound order p → PLt (Start p) (Start x) → (b : Bound K) × (inverted x ≡ Some b)
@@ -80,14 +80,14 @@ module _ {K : Type 0} (order : KeyOrder K) (lawful : IsLawful order) where
       lt_not_le (position_cmp order.cmp) (position_total order.cmp lawful.total) (End e) (End q) l (ends_before order lawful q a e known (turned_back order lawful e a turns) under)
 
   -- a range behind a bound that misses the gap up to a start does not start before it
-  front : (s : Option (Bound K)) (x : Bound K) (r : AnyRange K) → IsKnownBound order x → IsFull order lawful r → From order lawful s r → Every (λ g. ¬ Overlap order g r) (between order s (inverted x)) → PLt (Start r.start) (Start x) → ⊥
-  front None x r known full from all l = absurd from
-  front (Some a) x r known full from all l =
+  start_is_not_before_item : (s : Option (Bound K)) (x : Bound K) (r : AnyRange K) → IsKnownBound order x → IsFull order lawful r → From order lawful s r → Every (λ g. ¬ Overlap order g r) (between order s (inverted x)) → PLt (Start r.start) (Start x) → ⊥
+  start_is_not_before_item None x r known full from all l = absurd from
+  start_is_not_before_item (Some a) x r known full from all l =
       let total = position_total order.cmp lawful.total in
       let cmp = position_cmp order.cmp in
       let turn = turned_start x r.start full.0.0 l in
       let reach = reach_before r.start x turn.0 full.0.0 known turn.1 l in
-      missed r (Some a) (inverted x) a turn.0 refl turn.1 (le_trans cmp total (Start a) (Start r.start) (End turn.0) from reach) all (
+      gap_would_overlap r (Some a) (inverted x) a turn.0 refl turn.1 (le_trans cmp total (Start a) (Start r.start) (End turn.0) from reach) all (
         λ before. lt_not_le cmp total (End turn.0) (Start r.start) before reach,
         λ before. lt_not_le cmp total (End r.end) (Start a) before (le_trans cmp total (Start a) (Start r.start) (End r.end) from full.1),
       )
@@ -101,7 +101,7 @@ module _ {K : Type 0} (order : KeyOrder K) (lawful : IsLawful order) where
       let under = end_reaches e turn.0 r.end full.0.1 turn.1 l in
       let last = ends_full order lawful r.end full.0.1 in
       let reach = le_trans cmp total (Start turn.0) (End r.end) (End Unbounded) (not_lt cmp total (Start turn.0) (End r.end) under) last in
-      missed r (inverted e) (Some Unbounded) turn.0 Unbounded turn.1 refl reach all (
+      gap_would_overlap r (inverted e) (Some Unbounded) turn.0 Unbounded turn.1 refl reach all (
         λ before. lt_not_le cmp total (End Unbounded) (Start r.start) before (le_trans cmp total (Start r.start) (End r.end) (End Unbounded) full.1 last),
         under,
       )
@@ -118,7 +118,7 @@ module _ {K : Type 0} (order : KeyOrder K) (lawful : IsLawful order) where
       let second = turned_start next.start r.start full.0.0 ahead in
       let b = second.0 in
       let up = le_lt_trans cmp total (Start a) (past order (End e)) (Start next.start) (eq_ge cmp total (past order (End e)) (Start a) (inverted_bound_is_past order lawful e a first.1)) (not_le cmp total (past order (End e)) (Start next.start) apart) in
-      missed r (inverted e) (inverted next.start) a b first.1 second.1 (reach_before a next.start b known_a known_next.0 second.1 up) all (
+      gap_would_overlap r (inverted e) (inverted next.start) a b first.1 second.1 (reach_before a next.start b known_a known_next.0 second.1 up) all (
         λ behind. lt_not_le cmp total (Start r.start) (Start next.start) ahead (start_after r.start next.start b full.0.0 known_next.0 second.1 behind),
         end_reaches e a r.end full.0.1 first.1 l,
       )
@@ -148,9 +148,9 @@ module _ {K : Type 0} (order : KeyOrder K) (lawful : IsLawful order) where
     next_known j [] h = h.1
     next_known j (k ∷ rest) h = h.1
 
-    over : (i : Item (AnyRange K) V) (rest : List (Item (AnyRange K) V)) (r : AnyRange K) → IsSetList (i ∷ rest) → IsFull order lawful r → Every (λ g. ¬ Overlap order g r) (free_from order (inverted i.key.end) rest) → PLe (Start r.start) (End i.key.end) → PLt (End i.key.end) (End r.end) → ⊥
-    over i [] r h full all starts l = over_last i.key.end r full all l
-    over i (j ∷ rest) r h full all starts l =
+    end_is_not_past_item : (i : Item (AnyRange K) V) (rest : List (Item (AnyRange K) V)) (r : AnyRange K) → IsSetList (i ∷ rest) → IsFull order lawful r → Every (λ g. ¬ Overlap order g r) (free_from order (inverted i.key.end) rest) → PLe (Start r.start) (End i.key.end) → PLt (End i.key.end) (End r.end) → ⊥
+    end_is_not_past_item i [] r h full all starts l = over_last i.key.end r full all l
+    end_is_not_past_item i (j ∷ rest) r h full all starts l =
         let known = first_known j rest h.4 in
         let some = next_known j rest h.4 in
         let le = (before_is order lawful i.key.end j.key.start h.0.1 known.0).0 h.2 in
@@ -158,28 +158,28 @@ module _ {K : Type 0} (order : KeyOrder K) (lawful : IsLawful order) where
         over_next i.key.end j.key r h.0.1 full known some h.2 (λ back. h.3 (touching.1 back) refl) (every_left (λ g. ¬ Overlap order g r) (between order (inverted i.key.end) (inverted j.key.start)) (free_from order (inverted j.key.end) rest) all) starts l
 
     -- a range behind a bound that misses all that is free there lies in an item
-    pub inside : (s : Option (Bound K)) (items : List (Item (AnyRange K) V)) (r : AnyRange K) → IsSetList items → IsFull order lawful r → From order lawful s r → Every (λ g. ¬ Overlap order g r) (free_from order s items) → Any (λ i. LiesIn order r i.key) items
-    inside None [] r h full from all = absurd from
-    inside (Some a) [] r h full from all =
+    pub missing_gaps_is_within_item : (s : Option (Bound K)) (items : List (Item (AnyRange K) V)) (r : AnyRange K) → IsSetList items → IsFull order lawful r → From order lawful s r → Every (λ g. ¬ Overlap order g r) (free_from order s items) → Any (λ i. LiesIn order r i.key) items
+    missing_gaps_is_within_item None [] r h full from all = absurd from
+    missing_gaps_is_within_item (Some a) [] r h full from all =
         let total = position_total order.cmp lawful.total in
         let cmp = position_cmp order.cmp in
         let reach = le_trans cmp total (Start r.start) (End r.end) (End Unbounded) full.1 (ends_full order lawful r.end full.0.1) in
-        absurd (missed r (Some a) (Some Unbounded) a Unbounded refl refl (le_trans cmp total (Start a) (Start r.start) (End Unbounded) from reach) all (
+        absurd (gap_would_overlap r (Some a) (Some Unbounded) a Unbounded refl refl (le_trans cmp total (Start a) (Start r.start) (End Unbounded) from reach) all (
           λ before. lt_not_le cmp total (End Unbounded) (Start r.start) before reach,
           λ before. lt_not_le cmp total (End r.end) (Start a) before (le_trans cmp total (Start a) (Start r.start) (End r.end) from full.1),
         ))
-    inside s (i ∷ rest) r h full from all =
+    missing_gaps_is_within_item s (i ∷ rest) r h full from all =
         let total = position_total order.cmp lawful.total in
         let cmp = position_cmp order.cmp in
         let gaps = free_from order (inverted i.key.end) rest in
         let known = first_known i rest h in
         let behind = every_right (λ g. ¬ Overlap order g r) (between order s (inverted i.key.start)) gaps all in
         elim (cases cmp total (Start r.start) (Start i.key.start)) [
-          | inl l ↦ absurd (front s i.key.start r known.0 full from (every_left (λ g. ¬ Overlap order g r) (between order s (inverted i.key.start)) gaps all) l)
+          | inl l ↦ absurd (start_is_not_before_item s i.key.start r known.0 full from (every_left (λ g. ¬ Overlap order g r) (between order s (inverted i.key.start)) gaps all) l)
           | inr starts ↦ elim (cases cmp total (End i.key.end) (Start r.start)) [
-            | inl l ↦ inr (inside (inverted i.key.end) rest r (rest_listed i rest h) full (from_next i.key.end r known.1 full l) behind)
+            | inl l ↦ inr (missing_gaps_is_within_item (inverted i.key.end) rest r (rest_listed i rest h) full (from_next i.key.end r known.1 full l) behind)
             | inr within ↦ elim (cases cmp total (End i.key.end) (End r.end)) [
-              | inl l ↦ absurd (over i rest r h full behind within l)
+              | inl l ↦ absurd (end_is_not_past_item i rest r h full behind within l)
               | inr ends ↦ inl (record { starts = starts; ends = ends })
             ]
           ]

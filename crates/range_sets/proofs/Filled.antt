@@ -2,7 +2,7 @@
 use Rattle.std.proofs.Common.{◌≡◌, inl, inr, subst, sym, Bool, IsTrue, List, ◌++◌, Result, Ok, Err, true, false, OnErr, refl}
 use Rattle.range_keys.specs.Order.{KeyOrder}
 use Rattle.range_keys.specs.Position.{start_position, end_position, position_cmp}
-use Rattle.range_algebra.specs.Chains.{any_none, every_append, every_left, every_right, every_weaker}
+use Rattle.range_algebra.proofs.Lists.{any_none, every_append, every_left, every_right, every_weaker}
 use Rattle.range_algebra.specs.Intervals.{Every}
 use Rattle.range_algebra.specs.Range.{IsEmptyRange}
 use Rattle.range_algebra.specs.declared.any.AnyRange.{AnyRange}

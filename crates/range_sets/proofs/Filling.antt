@@ -6,7 +6,7 @@ use Rattle.std.specs.Cmp.{IsEquivalence, tied_back}
 use Rattle.std.specs.List.{AllZip, AllByRecursion}
 use Rattle.std.specs.declared.cmp.Ordering.TheVariants.{Equal}
 use Rattle.range_keys.specs.Order.{KeyOrder, IsLawful}
-use Rattle.range_algebra.specs.Chains.{any_none, every_right}
+use Rattle.range_algebra.proofs.Lists.{any_none, every_right}
 use Rattle.range_algebra.specs.Clones.{IsRangeClone, range_clone}
 use Rattle.range_algebra.specs.Range.{Holds, IsKnownRange}
 use Rattle.range_algebra.specs.RangeOrder.{range_cmp, range_total}
@@ -47,8 +47,8 @@ module _ {K : Type 0} (order : KeyOrder K) where
     pub form : IsStoredSet order items
     pub space : length rest ≤ room
 
-  pub begun : (gaps : List (AnyRange K)) (items : Items) (room : ℕ) → items ≡ [] → length gaps ≤ room → IsFilled gaps gaps items room
-  begun gaps items room none space = rw none (record { done = []; split = refl; copied = tt; form = record { known = tt; nonempty = tt; rising = tt }; space = space })
+  pub filling_begins : (gaps : List (AnyRange K)) (items : Items) (room : ℕ) → items ≡ [] → length gaps ≤ room → IsFilled gaps gaps items room
+  filling_begins gaps items room none space = rw none (record { done = []; split = refl; copied = tt; form = record { known = tt; nonempty = tt; rising = tt }; space = space })
 
   as_copy : (items : Items) (ranges : List (AnyRange K)) → AllZip SameRange items ranges → IsCopyOf order (λ _ _. true) items (set_items ranges)
   as_copy [] [] zip = tt
@@ -62,8 +62,8 @@ module _ {K : Type 0} (order : KeyOrder K) where
     clone_same is_clone equal g r h = tied_back (range_total order lawful) g r (range_clone order lawful is_clone equal g r h)
 
     -- with the clone of the next gap the items are in the form of a set
-    pub fits : (gaps rest others : List (AnyRange K)) (items : Items) (room : ℕ) (g r : AnyRange K) → IsStoredSet order (set_items gaps) → IsFilled gaps rest items room → rest ≡ g ∷ others → IsKnownRange order r → range_cmp order r g ≡ Equal → IsStoredSet order (items ++ record { key = r; value = tt } ∷ [])
-    fits gaps rest others items room g r form filled next known same =
+    pub next_gap_fits : (gaps rest others : List (AnyRange K)) (items : Items) (room : ℕ) (g r : AnyRange K) → IsStoredSet order (set_items gaps) → IsFilled gaps rest items room → rest ≡ g ∷ others → IsKnownRange order r → range_cmp order r g ≡ Equal → IsStoredSet order (items ++ record { key = r; value = tt } ∷ [])
+    next_gap_fits gaps rest others items room g r form filled next known same =
         let more = items ++ record { key = r; value = tt } ∷ [] in
         let front = filled.done ++ g ∷ [] in
         let all : front ++ others ≡ gaps = append_assoc filled.done (g ∷ []) others ∙ (ap (λ l. filled.done ++ l) (sym next) ∙ filled.split) in
@@ -74,7 +74,7 @@ module _ {K : Type 0} (order : KeyOrder K) where
 
     pub filled_more : (gaps rest others : List (AnyRange K)) (items next : Items) (room left : ℕ) (g r : AnyRange K) → IsStoredSet order (set_items gaps) → IsFilled gaps rest items room → rest ≡ g ∷ others → IsKnownRange order r → range_cmp order r g ≡ Equal → next ≡ items ++ record { key = r; value = tt } ∷ [] → room ≡ left + 1 → IsFilled gaps others next left
     filled_more gaps rest others items next room left g r form filled came known same put room_is =
-        let more = fits gaps rest others items room g r form filled came known same in
+        let more = next_gap_fits gaps rest others items room g r form filled came known same in
         let shorter = ap length came in
         rw put (record {
           done = filled.done ++ g ∷ [];

@@ -10,7 +10,7 @@ use Rattle.range_keys.specs.PositionOrder.{position_total}
 use Rattle.range_keys.specs.declared.inner.position.Position.{Position}
 use Rattle.range_keys.proofs.Orderings.{both_equal, equal_then_equal}
 use Rattle.range_algebra.specs.declared.any.AnyRange.{AnyRange}
-use Rattle.range_algebra.specs.Chains.{every_weaker}
+use Rattle.range_algebra.proofs.Lists.{every_weaker}
 use Rattle.range_algebra.specs.Intervals.{Le, Lt, Any, Every}
 use Rattle.range_algebra.specs.Orders.{eq_le, eq_ge, lt_le, le_trans, lt_not_le, lt_le_trans, le_lt_trans, lt_trans, both}
 use Rattle.range_algebra.specs.RangeOrder.{range_cmp}
@@ -66,8 +66,8 @@ module _ {K : Type 0} (order : KeyOrder K) (lawful : IsLawful order) where
       let cmp = position_cmp order.cmp in
       lt_not_le cmp total (End r) (Start s) before (le_trans cmp total (Start s) (End s) (End r) full.1 within.ends)
 
-  apart : (r s : AnyRange K) → IsFull order lawful r → IsFull order lawful s → LiesBefore order r s → LiesBefore order s r → ⊥
-  apart r s full full_s before after =
+  not_before_each_other : (r s : AnyRange K) → IsFull order lawful r → IsFull order lawful s → LiesBefore order r s → LiesBefore order s r → ⊥
+  not_before_each_other r s full full_s before after =
       let total = position_total order.cmp lawful.total in
       let cmp = position_cmp order.cmp in
       lt_not_le cmp total (End r) (Start s) before (le_trans cmp total (Start s) (End s) (End r) full_s.1 (lt_le cmp total (End s) (End r) (lt_le_trans cmp total (End s) (Start r) (End r) after full.1)))
@@ -105,11 +105,11 @@ module _ {K : Type 0} (order : KeyOrder K) (lawful : IsLawful order) where
         (λ back. absurd (behind_not_within s (range x) full.0 before.0 (within_trans (range x) r s back within)), none_back r s xs within full.1 before.1)
 
     -- a range that lies in one of a row holds at most that one
-    pub only : (r : AnyRange K) (xs : List A) → FullAll xs → Pairs (λ x y. LiesBefore order (range x) (range y)) xs → InSome r xs → Every (λ x. LiesIn order (range x) r → LiesIn order r (range x)) xs
-    only r [] full pairs within = tt
-    only r (x ∷ xs) full pairs (inl h) = (λ _. h, none_back r (range x) xs h full.1 pairs.0)
-    only r (x ∷ xs) full pairs (inr h) =
-        (λ back. absurd (lies_in_none r (range x) full.0 (behind_first (range x) r xs pairs.0 h) back), only r xs full.1 pairs.1 h)
+    pub only_one_lies_in_range : (r : AnyRange K) (xs : List A) → FullAll xs → Pairs (λ x y. LiesBefore order (range x) (range y)) xs → InSome r xs → Every (λ x. LiesIn order (range x) r → LiesIn order r (range x)) xs
+    only_one_lies_in_range r [] full pairs within = tt
+    only_one_lies_in_range r (x ∷ xs) full pairs (inl h) = (λ _. h, none_back r (range x) xs h full.1 pairs.0)
+    only_one_lies_in_range r (x ∷ xs) full pairs (inr h) =
+        (λ back. absurd (lies_in_none r (range x) full.0 (behind_first (range x) r xs pairs.0 h) back), only_one_lies_in_range r xs full.1 pairs.1 h)
       where
         lies_in_none : (r s : AnyRange K) → IsFull order lawful s → LiesBefore order s r → LiesIn order s r → ⊥
         lies_in_none r s full before within =
@@ -140,16 +140,16 @@ module _ {K : Type 0} (order : KeyOrder K) (lawful : IsLawful order) where
         let l = behind_first other (other y) (range x) ys before' h in
         absurd (lt_not_le cmp total (End (other y)) (Start (range x)) l (le_trans cmp total (Start (range x)) (Start (other y)) (End (other y)) k.starts full'.0.1))
     first_same x y xs ys full full' before before' (inr h) (inr k) =
-        absurd (apart (range x) (other y) full.0 full'.0 (behind_first range (range x) (other y) xs before k) (behind_first other (other y) (range x) ys before' h))
+        absurd (not_before_each_other (range x) (other y) full.0 full'.0 (behind_first range (range x) (other y) xs before k) (behind_first other (other y) (range x) ys before' h))
 
   module _ {A B : Type 0} (range : A → AnyRange K) (other : B → AnyRange K) where
     -- two rows of which each range lies in some of the other row
-    pub matched : (xs : List A) (ys : List B) → FullAll range xs → FullAll other ys → Pairs (λ x z. LiesBefore order (range x) (range z)) xs → Pairs (λ y z. LiesBefore order (other y) (other z)) ys → Every (λ x. InSome other (range x) ys) xs → Every (λ y. InSome range (other y) xs) ys → AllZip (λ x y. range_cmp order (range x) (other y) ≡ Equal) xs ys
-    matched [] [] full full' pairs pairs' all all' = tt
-    matched [] (y ∷ ys) full full' pairs pairs' all all' = absurd all'.0
-    matched (x ∷ xs) [] full full' pairs pairs' all all' = absurd all.0
-    matched (x ∷ xs) (y ∷ ys) full full' pairs pairs' all all' =
+    pub mutual_cover_matches : (xs : List A) (ys : List B) → FullAll range xs → FullAll other ys → Pairs (λ x z. LiesBefore order (range x) (range z)) xs → Pairs (λ y z. LiesBefore order (other y) (other z)) ys → Every (λ x. InSome other (range x) ys) xs → Every (λ y. InSome range (other y) xs) ys → AllZip (λ x y. range_cmp order (range x) (other y) ≡ Equal) xs ys
+    mutual_cover_matches [] [] full full' pairs pairs' all all' = tt
+    mutual_cover_matches [] (y ∷ ys) full full' pairs pairs' all all' = absurd all'.0
+    mutual_cover_matches (x ∷ xs) [] full full' pairs pairs' all all' = absurd all.0
+    mutual_cover_matches (x ∷ xs) (y ∷ ys) full full' pairs pairs' all all' =
         let first = first_same range other x y xs ys full full' pairs.0 pairs'.0 all.0 all'.0 in (
           same_range (range x) (other y) first.0 first.1,
-          matched xs ys full.1 full'.1 pairs.1 pairs'.1 (rest_within range other x y xs ys first.1 full.1 pairs.0 all.1) (rest_within other range y x ys xs first.0 full'.1 pairs'.0 all'.1),
+          mutual_cover_matches xs ys full.1 full'.1 pairs.1 pairs'.1 (rest_within range other x y xs ys first.1 full.1 pairs.0 all.1) (rest_within other range y x ys xs first.0 full'.1 pairs'.0 all'.1),
         )

@@ -38,32 +38,32 @@ module _ {K : Type 0} (order : KeyOrder K) {S V : Type 0} (same : S → S → Bo
   IsOnce items k = (s t : S) → BindsTo order same items k s → BindsTo order same items k t → IsTrue (same s t)
 
   module _ (k : K) where
-    paired : (items : Items) (s : S) (w : V) → BindsTo order same items k s → IsTrue (has s w) → HasPair order has items k w
-    paired [] s w b h = absurd b
-    paired (i ∷ rest) s w (inl b) h = inl (b.0, respects i.value s b.1 w ∙ h)
-    paired (i ∷ rest) s w (inr b) h = inr (paired rest s w b h)
+    bound_set_gives_pair : (items : Items) (s : S) (w : V) → BindsTo order same items k s → IsTrue (has s w) → HasPair order has items k w
+    bound_set_gives_pair [] s w b h = absurd b
+    bound_set_gives_pair (i ∷ rest) s w (inl b) h = inl (b.0, respects i.value s b.1 w ∙ h)
+    bound_set_gives_pair (i ∷ rest) s w (inr b) h = inr (bound_set_gives_pair rest s w b h)
 
     pair_bound : (items : Items) (w : V) → HasPair order has items k w → IsBound order items k
     pair_bound [] w h = h
     pair_bound (i ∷ rest) w (inl h) = inl h.0
     pair_bound (i ∷ rest) w (inr h) = inr (pair_bound rest w h)
 
-    found : (items : Items) (w : V) → HasPair order has items k w → (s : S) × BindsTo order same items k s × IsTrue (has s w)
-    found [] w p = absurd p
-    found (i ∷ rest) w (inl p) = (i.value, inl (p.0, equal.refl i.value), p.1)
-    found (i ∷ rest) w (inr p) = let (s, b, m) = found rest w p in (s, inr b, m)
+    pair_is_in_bound_set : (items : Items) (w : V) → HasPair order has items k w → (s : S) × BindsTo order same items k s × IsTrue (has s w)
+    pair_is_in_bound_set [] w p = absurd p
+    pair_is_in_bound_set (i ∷ rest) w (inl p) = (i.value, inl (p.0, equal.refl i.value), p.1)
+    pair_is_in_bound_set (i ∷ rest) w (inr p) = let (s, b, m) = pair_is_in_bound_set rest w p in (s, inr b, m)
 
     -- a value that is paired with the key is in the set that it is bound to
     in_bound : (items : Items) (s : S) (w : V) → IsOnce items k → BindsTo order same items k s → HasPair order has items k w → IsTrue (has s w)
-    in_bound items s w once b h = let (t, c, m) = found items w h in sym (respects t s (once t s c b) w) ∙ m
+    in_bound items s w once b h = let (t, c, m) = pair_is_in_bound_set items w h in sym (respects t s (once t s c b) w) ∙ m
 
     pub values_at : (items : Items) (b : Option S) → IsOnce items k → Binds order same items k b → AreValuesAt order has items k b
     values_at items None once bound = λ w. (λ h. absurd (bound (pair_bound items w h)), λ e. cc)
-    values_at items (Some s) once bound = λ w. (λ h. in_bound items s w once bound h, λ h. paired items s w bound h)
+    values_at items (Some s) once bound = λ w. (λ h. in_bound items s w once bound h, λ h. bound_set_gives_pair items s w bound h)
 
     -- what binds alike pairs alike
     pairs_as : (items others : Items) (w : V) → ((b : Option S) → Binds order same items k b → Binds order same others k b) → HasPair order has items k w → HasPair order has others k w
-    pairs_as items others w alike h = let (s, b, m) = found items w h in paired others s w (alike (Some s) b) m
+    pairs_as items others w alike h = let (s, b, m) = pair_is_in_bound_set items w h in bound_set_gives_pair others s w (alike (Some s) b) m
 
     as_itself : (answer : Option S) → IsAsAnswered same answer answer
     as_itself None = refl
@@ -102,8 +102,8 @@ module _ {K : Type 0} (order : KeyOrder K) {S V : Type 0} (same : S → S → Bo
       pub before : HasPair order has items k w ↔ IsTrue (among has old w)
       pub after : HasPair order has next k w ↔ IsTrue (among has answer w)
 
-    moved : (k : K) → order.is_key k → Holds order r k → (w : V) → IsMoved k w
-    moved k key held w =
+    held_key_moves : (k : K) → order.is_key k → Holds order r k → (w : V) → IsMoved k w
+    held_key_moves k key held w =
         let at = now.held k key held in record {
           old = at.old;
           answer = at.answer;
@@ -116,7 +116,7 @@ module _ {K : Type 0} (order : KeyOrder K) {S V : Type 0} (same : S → S → Bo
       pub added : ((old answer : Option S) → may old (Ok answer) → HasAlso has eq old answer v) → HasPairsAlso order has eq items next r v
       added told k key w = elim (held_or_not order lawful r k) [
         | inl held ↦
-            let m = moved k key held w in
+            let m = held_key_moves k key held w in
             let e = told m.old m.answer m.given w in
             let o = or_true (eq v w) (among has m.old w) in (
               λ h. elim (o.0 (sym e ∙ m.after.0 h)) [ inl new ↦ inr (held, new) | inr old ↦ inl (m.before.1 old) ],
@@ -131,7 +131,7 @@ module _ {K : Type 0} (order : KeyOrder K) {S V : Type 0} (same : S → S → Bo
       pub removed : ((old answer : Option S) → may old (Ok answer) → HasAllBut has eq old answer v) → HasPairsWithout order has eq items next r v
       removed told k key w = elim (held_or_not order lawful r k) [
         | inl held ↦
-            let m = moved k key held w in
+            let m = held_key_moves k key held w in
             let e = told m.old m.answer m.given w in
             let o = but_true (eq v w) (among has m.old w) in (
               λ h. let both = o.0 (sym e ∙ m.after.0 h) in (m.before.1 both.0, λ p. both.1 p.1),

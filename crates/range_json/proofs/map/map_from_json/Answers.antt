@@ -4,7 +4,7 @@ use Rattle.serde_json.specs.View.{view}
 use Rattle.range_json.specs.MapFaults.{IsMapFault, IsFirstFault, IsFaultOf}
 use Rattle.range_json.specs.declared.error.JsonError.TheVariants.{Memory, Meets}
 use Rattle.range_json.proofs.MapReading.{IsPut, map_begun, map_more, map_fails, map_meets, none_stored}
-use Rattle.range_json.proofs.Reading.{again}
+use Rattle.range_json.proofs.Reading.{append_one_more}
 use Rattle.range_json.proofs.map.map_from_json.Goals as goal
 
 pub loop-index-init : goal.loop-index-init
@@ -43,7 +43,7 @@ returns-in_err-element_from_json-clause-fault g c =
     let more : take (n + 1) vs ≡ take n vs ++ v ∷ [] = take_more vs n v within ∙ ap (λ w. take n vs ++ w ∷ []) (sym c.index-elements-index.is) in
     let size : length (take n vs) ≡ n = length-take-le n vs (omega (arith, within)) in
     let rest = drop (n + 1) vs in
-    let all : take n vs ++ v ∷ rest ≡ vs = sym (again (take n vs) v rest) ∙ ap (λ l. l ++ rest) (sym more) ∙ take-append-drop (n + 1) vs in
+    let all : take n vs ++ v ∷ rest ≡ vs = sym (append_one_more (take n vs) v rest) ∙ ap (λ l. l ++ rest) (sym more) ∙ take-append-drop (n + 1) vs in
     let e = c.in_err-element_from_json.field-0.0 in
     let told : (e ≡ Memory) ⊎ IsMapFault order g.K.Json.reads g.V.Json.reads g.K.Json.is_read g.V.Json.is_read (view c.args.value.now) e = elim c.in_err-element_from_json.ensures.fault [
       | inl memory ↦ inl memory
@@ -61,7 +61,7 @@ returns-in_err-insert_element-clause-fault g c =
     let more : take (n + 1) vs ≡ take n vs ++ v ∷ [] = take_more vs n v within ∙ ap (λ w. take n vs ++ w ∷ []) (sym c.index-elements-index.is) in
     let size : length (take n vs) ≡ n = length-take-le n vs (omega (arith, within)) in
     let rest = drop (n + 1) vs in
-    let all : take n vs ++ v ∷ rest ≡ vs = sym (again (take n vs) v rest) ∙ ap (λ l. l ++ rest) (sym more) ∙ take-append-drop (n + 1) vs in
+    let all : take n vs ++ v ∷ rest ≡ vs = sym (append_one_more (take n vs) v rest) ∙ ap (λ l. l ++ rest) (sym more) ∙ take-append-drop (n + 1) vs in
     let e = c.in_err-insert_element.field-0.0 in
     let told : (e ≡ Memory) ⊎ IsMapFault order g.K.Json.reads g.V.Json.reads g.K.Json.is_read g.V.Json.is_read (view c.args.value.now) e = elim c.in_err-insert_element.ensures.met [
       | inl memory ↦ inl memory

@@ -9,7 +9,7 @@ use Rattle.range_json.specs.declared.error.JsonError.TheVariants.{Memory, Meets}
 use Rattle.range_json.specs.ValueSets.{reads_some_values, same_values, AreValuesRead}
 use Rattle.range_json.proofs.MapReading.{IsPut, map_begun, map_more, map_fails, map_meets, none_stored}
 use Rattle.range_json.proofs.Multimaps.{fails_with}
-use Rattle.range_json.proofs.Reading.{again}
+use Rattle.range_json.proofs.Reading.{append_one_more}
 use Rattle.range_json.proofs.multimap.multimap_from_json.Goals as goal
 
 pub loop-index-init : goal.loop-index-init
@@ -48,7 +48,7 @@ returns-in_err-element_with_values-clause-fault g c =
     let more : take (n + 1) vs ≡ take n vs ++ v ∷ [] = take_more vs n v within ∙ ap (λ w. take n vs ++ w ∷ []) (sym c.index-elements-index.is) in
     let size : length (take n vs) ≡ n = length-take-le n vs (omega (arith, within)) in
     let rest = drop (n + 1) vs in
-    let all : take n vs ++ v ∷ rest ≡ vs = sym (again (take n vs) v rest) ∙ ap (λ l. l ++ rest) (sym more) ∙ take-append-drop (n + 1) vs in
+    let all : take n vs ++ v ∷ rest ≡ vs = sym (append_one_more (take n vs) v rest) ∙ ap (λ l. l ++ rest) (sym more) ∙ take-append-drop (n + 1) vs in
     let e = c.in_err-element_with_values.field-0.0 in
     let told : (e ≡ Memory) ⊎ IsMultimapFault order g.K.Json.reads g.V.Json.reads g.K.Json.is_read g.V.Json.is_read g.V.Ord.cmp (view c.args.value.now) e = elim c.in_err-element_with_values.ensures.fault [
       | inl memory ↦ inl memory
@@ -67,7 +67,7 @@ returns-in_err-insert_values-clause-fault g c =
     let more : take (n + 1) vs ≡ take n vs ++ v ∷ [] = take_more vs n v within ∙ ap (λ w. take n vs ++ w ∷ []) (sym c.index-elements-index.is) in
     let size : length (take n vs) ≡ n = length-take-le n vs (omega (arith, within)) in
     let rest = drop (n + 1) vs in
-    let all : take n vs ++ v ∷ rest ≡ vs = sym (again (take n vs) v rest) ∙ ap (λ l. l ++ rest) (sym more) ∙ take-append-drop (n + 1) vs in
+    let all : take n vs ++ v ∷ rest ≡ vs = sym (append_one_more (take n vs) v rest) ∙ ap (λ l. l ++ rest) (sym more) ∙ take-append-drop (n + 1) vs in
     let e = c.in_err-insert_values.field-0.0 in
     let told : (e ≡ Memory) ⊎ IsMultimapFault order g.K.Json.reads g.V.Json.reads g.K.Json.is_read g.V.Json.is_read g.V.Ord.cmp (view c.args.value.now) e = elim c.in_err-insert_values.ensures.met [
       | inl memory ↦ inl memory

@@ -5,7 +5,7 @@ use Rattle.serde_json.specs.View.{view}
 use Rattle.range_json.specs.Faults.{range_fault, first_fault, array_fault, set_fault}
 use Rattle.range_json.specs.declared.error.JsonError.TheVariants.{Memory}
 use Rattle.range_sets.proofs.Membership.{all_of}
-use Rattle.range_json.proofs.Reading.{set_begun, set_more, set_fails, again, IsSetSoFar}
+use Rattle.range_json.proofs.Reading.{set_begun, set_more, set_fails, append_one_more, IsSetSoFar}
 use Rattle.range_json.proofs.MapReading.{none_stored}
 use Rattle.range_json.proofs.set.set_from_json.Goals as goal
 
@@ -62,7 +62,7 @@ returns-in_err-range-clause-fault g c =
     let more : take (n + 1) vs ≡ take n vs ++ v ∷ [] = take_more vs n v within ∙ ap (λ w. take n vs ++ w ∷ []) (sym c.index-elements-index.is) in
     let size : length (take n vs) ≡ n = length-take-le n vs (omega (arith, within)) in
     let rest = drop (n + 1) vs in
-    let all : take n vs ++ v ∷ rest ≡ vs = sym (again (take n vs) v rest) ∙ ap (λ l. l ++ rest) (sym more) ∙ take-append-drop (n + 1) vs in
+    let all : take n vs ++ v ∷ rest ≡ vs = sym (append_one_more (take n vs) v rest) ∙ ap (λ l. l ++ rest) (sym more) ∙ take-append-drop (n + 1) vs in
     let array = c.in_ok-elements.ensures.found in
     let e = c.in_err-range.field-0.0 in
     let told : (e ≡ Memory) ⊎ (set_fault g.T.Json.reads (view c.args.value.now) ≡ Some e) = elim c.in_err-range.ensures.fault [

@@ -1,7 +1,7 @@
 use Rattle.std.proofs.lemmas.Grind.{common_steps}
 use Rattle.std.proofs.Common.{◌≡◌, ◌+◌, ◌-◌, ◌∷◌, ◌++◌, [], length, take, ap, sym, ◌∙◌, arith, length-append, append_assoc}
 use Rattle.std.proofs.lemmas.List.{append-nil}
-use Rattle.range_algebra.proofs.Lists.{parts}
+use Rattle.range_algebra.proofs.Lists.{list_is_take_and_drop}
 use Rattle.range_store.specs.Places.{place_before}
 use Rattle.range_store.proofs.PlacesLemmas.{place_at, at_place}
 use Rattle.range_map.proofs.Endings.{put_next, put_all, prefix_is_all}
@@ -18,7 +18,7 @@ loop-item-init g c =
     record {
       parted = c.into_iter-item-iterator.ensures.into_iter_gives.0;
       position = rw plus (at_place (storage.is_good stored) (storage.rank stored) (length before) c.args.run.at c.requires.good);
-      changed = rw (none, append-nil (take place before)) (parts before place);
+      changed = rw (none, append-nil (take place before)) (list_is_take_and_drop before place);
       fewer = omega arith;
       space = rw c.into_iter-item-iterator.ensures.into_iter_gives.0 c.requires.space;
     }

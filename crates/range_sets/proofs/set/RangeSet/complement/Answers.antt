@@ -2,7 +2,7 @@ use Rattle.std.proofs.Common.{sym, ◌∙◌, true, arith, rules}
 use Rattle.std.specs.Cmp.{Equal-is}
 use Rattle.range_algebra.specs.References.{range_of}
 use Rattle.range_sets.proofs.Complementing.{gaps_stored}
-use Rattle.range_sets.proofs.Filling.{begun, clone_same, fits, filled_more, all_copied, others_held}
+use Rattle.range_sets.proofs.Filling.{filling_begins, clone_same, next_gap_fits, filled_more, all_copied, others_held}
 use Rattle.range_sets.proofs.set.RangeSet.complement.Goals as goal
 
 pub append-requires-clause-form : goal.append-requires-clause-form
@@ -16,7 +16,7 @@ append-requires-clause-form g c =
     let range = c.in_ok-range.range in
     let same = clone_same order lawful g.T.Clone.is_clone equal gap range c.in_ok-range.ensures in
     let form = gaps_stored order lawful (λ _ _. true) (items c.args.self.now) c.gaps-gaps.result c.in_form.ensures c.gaps-gaps.ensures.gaps in
-    fits order lawful c.gaps-gaps.result c.loop-gap.gaps c.next.new.self (items c.loop-gap.others) (g.C.Storage.room c.loop-gap.others) gap range form c.loop-gap.invariant c.in-Some-next.ensures.steps c.known.ensures same
+    next_gap_fits order lawful c.gaps-gaps.result c.loop-gap.gaps c.next.new.self (items c.loop-gap.others) (g.C.Storage.room c.loop-gap.others) gap range form c.loop-gap.invariant c.in-Some-next.ensures.steps c.known.ensures same
 
 pub loop-gap-preserved : goal.loop-gap-preserved
 loop-gap-preserved g c =
@@ -42,7 +42,7 @@ returns-clause-held g c =
 pub loop-gap-init : goal.loop-gap-init
 loop-gap-init g c =
     let room = g.C.Storage.room c.reserve.new.map in
-    begun g.T.MaybeBounded.order c.gaps-gaps.result (g.C.Storage.items c.reserve.new.map) room (c.reserve.ensures.list ∙ c.new-others.ensures) (omega (arith, c.in-Some.ensures, c.range_count.ensures.value, c.in_ok-reserve.ensures.space, c.gaps-gaps.ensures.few))
+    filling_begins g.T.MaybeBounded.order c.gaps-gaps.result (g.C.Storage.items c.reserve.new.map) room (c.reserve.ensures.list ∙ c.new-others.ensures) (omega (arith, c.in-Some.ensures, c.range_count.ensures.value, c.in_ok-reserve.ensures.space, c.gaps-gaps.ensures.few))
 
 pub returns-clause-gaps : goal.returns-clause-gaps
 returns-clause-gaps g c = search rules

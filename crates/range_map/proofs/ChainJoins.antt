@@ -1,22 +1,18 @@
 -- What a new item joins, and the chain with it.
-use Rattle.std.proofs.Common.{◌≡◌, sym, ◌∙◌, Bool, true, List, [], ◌∷◌, ◌++◌, ◌⊎◌, inl, inr, ◌↔◌}
+use Rattle.std.proofs.Common.{◌≡◌, sym, ◌∙◌, Bool, true, List, [], ◌∷◌, ◌++◌, inl, inr}
 use Rattle.std.specs.declared.cmp.Ordering.{Ordering}
 use Rattle.std.specs.declared.cmp.Ordering.TheVariants.{Equal}
 use Rattle.std.specs.Cmp.{IsTotalOrder, IsEquivalence}
 use Rattle.range_algebra.specs.Intervals.{Le, Lt, Every}
 use Rattle.range_algebra.specs.Orders.{le_refl, lt_le, eq_le, eq_ge, le_trans, lt_not_le, lt_le_trans, le_lt_trans, lt_trans}
-use Rattle.range_algebra.specs.Chains.{any_left, any_right, any_split, every_weaker, every_append, every_right, Leads, Trails, Follows, back, chain_left, chain_right, chain_tail, follows_above, strictly_leads, strictly_trails, chain_before, join, join_apart}
-use Rattle.range_algebra.specs.Sides.{Chain, Holding, Alike, Leading, Trailing, IsLeft, IsRight, none_below, none_above, only_first, only_second}
+use Rattle.range_algebra.proofs.Lists.{any_left, any_right, any_split, every_weaker, every_append, every_right}
+use Rattle.range_map.specs.Chains.{Leads, Trails, Follows, IsChain, Leading, Trailing, IsLeft, IsRight, IsLeftOf, IsRightOf, IsBoundTo, IsUnbound}
+use Rattle.range_map.proofs.Chains.{back, chain_left, chain_right, chain_tail, follows_above, strictly_leads, strictly_trails, chain_before, chains_join, join_apart}
+use Rattle.range_map.proofs.ChainSides.{none_below, none_above, only_first, only_second}
 
 module _ {L V X : Type 0} (cmp : L → L → Ordering) (total : IsTotalOrder cmp) (same : V → V → Bool) (equal : IsEquivalence same) (lo hi : X → L) (value : X → V) where
-  abbrev Chained : List X → Type 0
-  Chained xs = Chain cmp total same equal lo hi value xs
-
-  abbrev Hold : (V → Bool) → L → List X → Type 0
-  Hold W p xs = Holding cmp total same equal lo hi value W p xs
-
-  abbrev Shared : (V → Bool) → Type 0
-  Shared W = Alike cmp total same equal lo hi value W
+  abbrev Chain : List X → Type 0
+  Chain xs = IsChain cmp total same equal lo hi value xs
 
   abbrev AllLead : L → V → List X → Type 0
   AllLead p v xs = Leading cmp total same equal lo hi value p v xs
@@ -24,40 +20,26 @@ module _ {L V X : Type 0} (cmp : L → L → Ordering) (total : IsTotalOrder cmp
   abbrev AllTrail : L → V → List X → Type 0
   AllTrail p v xs = Trailing cmp total same equal lo hi value p v xs
 
-  -- the items below a place are these and the new one, which starts at `s`
-  pub record IsLeftOf (items kept : List X) (c s : L) (v : V) : Type 0 where
-    pub chain : Chained kept
-    pub leads : AllLead s v kept
-    pub below : Le cmp s c
-    pub holds : (p : L) (W : V → Bool) → Shared W → Lt cmp p c → (Hold W p kept ⊎ (Le cmp s p × (W v ≡ true))) ↔ Hold W p items
-
-  -- the items from a place on are the new one, which ends at `e`, and these
-  pub record IsRightOf (items kept : List X) (d e : L) (v : V) : Type 0 where
-    pub chain : Chained kept
-    pub trails : AllTrail e v kept
-    pub above : Le cmp d e
-    pub holds : (p : L) (W : V → Bool) → Shared W → Le cmp d p → (Hold W p kept ⊎ (Lt cmp p e × (W v ≡ true))) ↔ Hold W p items
-
-  pub leading_last : (front : List X) (y : X) (c : L) (v : V) → Chained (front ++ y ∷ []) → Leads cmp total same equal lo hi value y c v → AllLead c v (front ++ y ∷ [])
+  pub leading_last : (front : List X) (y : X) (c : L) (v : V) → Chain (front ++ y ∷ []) → Leads cmp total same equal lo hi value y c v → AllLead c v (front ++ y ∷ [])
   leading_last front y c v chain leads =
       let before = chain_before cmp total same equal lo hi value front y [] chain in
       let good = chain_right cmp total same equal lo hi value front (y ∷ []) chain in
       every_append _ front (y ∷ []) (every_weaker _ _ front (λ z h. strictly_leads cmp total same equal lo hi value z c v (le_lt_trans cmp total (hi z) (lo y) c h.0 (lt_le_trans cmp total (lo y) (hi y) c good.0 leads.0))) before) (leads, tt)
 
-  pub trailing_first : (y : X) (ys : List X) (d : L) (v : V) → Chained (y ∷ ys) → Trails cmp total same equal lo hi value d v y → AllTrail d v (y ∷ ys)
+  pub trailing_first : (y : X) (ys : List X) (d : L) (v : V) → Chain (y ∷ ys) → Trails cmp total same equal lo hi value d v y → AllTrail d v (y ∷ ys)
   trailing_first y ys d v chain trails =
       let above = follows_above cmp total same equal lo hi value y ys chain.1 in
       (trails, every_weaker _ _ ys (λ z h. strictly_trails cmp total same equal lo hi value z d v (le_lt_trans cmp total d (lo y) (lo z) trails.0 (lt_le_trans cmp total (lo y) (hi y) (lo z) chain.0 h))) above)
 
-  pub left_apart : (items kept : List X) (c : L) (v : V) → IsLeft cmp total same equal lo hi value items kept c → AllLead c v kept → IsLeftOf items kept c c v
+  pub left_apart : (items kept : List X) (c : L) (v : V) → IsLeft cmp total same equal lo hi value items kept c → AllLead c v kept → IsLeftOf cmp total same equal lo hi value items kept c c v
   left_apart items kept c v left leads = record {
     chain = left.chain;
     leads = leads;
     below = le_refl cmp total c;
-    holds = λ p W alike l. (λ h. (left.holds p W alike l).0 (only_first cmp total same equal lo hi value (λ k. lt_not_le cmp total p c l k.0) h), λ h. inl ((left.holds p W alike l).1 h));
+    holds = λ p W alike l. (λ h. (left.holds p W alike l).0 (only_first (λ k. lt_not_le cmp total p c l k.0) h), λ h. inl ((left.holds p W alike l).1 h));
   }
 
-  pub left_joined : (items front : List X) (y : X) (c : L) (v : V) → IsLeft cmp total same equal lo hi value items (front ++ y ∷ []) c → Le cmp c (hi y) → same (value y) v ≡ true → IsLeftOf items front c (lo y) v
+  pub left_joined : (items front : List X) (y : X) (c : L) (v : V) → IsLeft cmp total same equal lo hi value items (front ++ y ∷ []) c → Le cmp c (hi y) → same (value y) v ≡ true → IsLeftOf cmp total same equal lo hi value items front c (lo y) v
   left_joined items front y c v left reaches alike_value =
       let before = chain_before cmp total same equal lo hi value front y [] left.chain in
       let good = chain_right cmp total same equal lo hi value front (y ∷ []) left.chain in
@@ -73,24 +55,24 @@ module _ {L V X : Type 0} (cmp : L → L → Ordering) (total : IsTotalOrder cmp
           ]),
           λ h. elim (any_split _ front (y ∷ []) ((left.holds p W alike l).1 h)) [
             | inl k ↦ inl k
-            | inr k ↦ let held = only_first cmp total same equal lo hi value (λ e. e) k in inr (held.0.0, alike (value y) v alike_value held.1)
+            | inr k ↦ let held = only_first (λ e. e) k in inr (held.0.0, alike (value y) v alike_value held.1)
           ],
         );
       }
 
-  pub right_apart : (items kept : List X) (d : L) (v : V) → IsRight cmp total same equal lo hi value items kept d → AllTrail d v kept → IsRightOf items kept d d v
+  pub right_apart : (items kept : List X) (d : L) (v : V) → IsRight cmp total same equal lo hi value items kept d → AllTrail d v kept → IsRightOf cmp total same equal lo hi value items kept d d v
   right_apart items kept d v right trails = record {
     chain = right.chain;
     trails = trails;
     above = le_refl cmp total d;
-    holds = λ p W alike l. (λ h. (right.holds p W alike l).0 (only_first cmp total same equal lo hi value (λ k. lt_not_le cmp total p d k.0 l) h), λ h. inl ((right.holds p W alike l).1 h));
+    holds = λ p W alike l. (λ h. (right.holds p W alike l).0 (only_first (λ k. lt_not_le cmp total p d k.0 l) h), λ h. inl ((right.holds p W alike l).1 h));
   }
 
   follows_trails : (y : X) (ys : List X) → Follows cmp total same equal lo hi value y ys → AllTrail (hi y) (value y) ys
   follows_trails y [] f = tt
   follows_trails y (z ∷ zs) f = trailing_first z zs (hi y) (value y) f.1 f.0
 
-  pub right_joined : (items behind : List X) (y : X) (d : L) (v : V) → IsRight cmp total same equal lo hi value items (y ∷ behind) d → Le cmp (lo y) d → same (value y) v ≡ true → IsRightOf items behind d (hi y) v
+  pub right_joined : (items behind : List X) (y : X) (d : L) (v : V) → IsRight cmp total same equal lo hi value items (y ∷ behind) d → Le cmp (lo y) d → same (value y) v ≡ true → IsRightOf cmp total same equal lo hi value items behind d (hi y) v
   right_joined items behind y d v right reaches alike_value =
       let follows = right.chain.1 in
       let value_back = back cmp total same equal lo hi value (value y) v alike_value in
@@ -110,20 +92,8 @@ module _ {L V X : Type 0} (cmp : L → L → Ordering) (total : IsTotalOrder cmp
         );
       }
 
-  -- what a chain becomes where a range from `c` up to `d` is bound to `v`
-  pub record IsBoundTo (items new : List X) (c d : L) (v : V) : Type 0 where
-    pub chain : Chained new
-    pub inside : (p : L) (W : V → Bool) → Shared W → Le cmp c p → Lt cmp p d → Hold W p new ↔ (W v ≡ true)
-    pub outside : (p : L) (W : V → Bool) → Shared W → Lt cmp p c ⊎ Le cmp d p → Hold W p new ↔ Hold W p items
-
-  -- what a chain becomes where a range from `c` up to `d` is unbound
-  pub record IsUnbound (items new : List X) (c d : L) : Type 0 where
-    pub chain : Chained new
-    pub inside : (p : L) (W : V → Bool) → Le cmp c p → Lt cmp p d → Hold W p new → ⊥
-    pub outside : (p : L) (W : V → Bool) → Shared W → Lt cmp p c ⊎ Le cmp d p → Hold W p new ↔ Hold W p items
-
-  pub unbound : (items front behind : List X) (c d : L) → IsLeft cmp total same equal lo hi value items front c → IsRight cmp total same equal lo hi value items behind d → Lt cmp c d → IsUnbound items (front ++ behind) c d
-  unbound items front behind c d left right l = record {
+  pub places_between_are_unbound : (items front behind : List X) (c d : L) → IsLeft cmp total same equal lo hi value items front c → IsRight cmp total same equal lo hi value items behind d → Lt cmp c d → IsUnbound cmp total same equal lo hi value items (front ++ behind) c d
+  places_between_are_unbound items front behind c d left right l = record {
     chain = join_apart cmp total same equal lo hi value front behind c d l left.chain right.chain left.ends right.starts;
     inside = λ p W from upto h. elim (any_split _ front behind h) [
       | inl k ↦ none_above cmp total same equal lo hi value p c W front from left.ends k
@@ -131,23 +101,23 @@ module _ {L V X : Type 0} (cmp : L → L → Ordering) (total : IsTotalOrder cmp
     ];
     outside = λ p W alike where_. elim where_ [
       | inl below ↦ (
-        λ h. (left.holds p W alike below).0 (only_first cmp total same equal lo hi value (none_below cmp total same equal lo hi value p d W behind (lt_trans cmp total p c d below l) right.starts) (any_split _ front behind h)),
+        λ h. (left.holds p W alike below).0 (only_first (none_below cmp total same equal lo hi value p d W behind (lt_trans cmp total p c d below l) right.starts) (any_split _ front behind h)),
         λ h. any_left _ front behind ((left.holds p W alike below).1 h),
       )
       | inr above ↦ (
-        λ h. (right.holds p W alike above).0 (only_second cmp total same equal lo hi value (none_above cmp total same equal lo hi value p c W front (le_trans cmp total c d p (lt_le cmp total c d l) above) left.ends) (any_split _ front behind h)),
+        λ h. (right.holds p W alike above).0 (only_second (none_above cmp total same equal lo hi value p c W front (le_trans cmp total c d p (lt_le cmp total c d l) above) left.ends) (any_split _ front behind h)),
         λ h. any_right _ front behind ((right.holds p W alike above).1 h),
       )
     ];
   }
 
-  bound_follows : (m : X) (ys : List X) (e : L) (v : V) → Le cmp (hi m) e → Le cmp e (hi m) → same (value m) v ≡ true → Chained ys → AllTrail e v ys → Follows cmp total same equal lo hi value m ys
+  bound_follows : (m : X) (ys : List X) (e : L) (v : V) → Le cmp (hi m) e → Le cmp e (hi m) → same (value m) v ≡ true → Chain ys → AllTrail e v ys → Follows cmp total same equal lo hi value m ys
   bound_follows m [] e v h k s chain trails = tt
   bound_follows m (y ∷ ys) e v h k s chain trails =
       ((le_trans cmp total (hi m) e (lo y) h trails.0.0, λ q t. trails.0.1 (le_trans cmp total (lo y) (hi m) e q h) (sym (equal.congr (value m) v (value y) s) ∙ t)), chain)
 
-  pub bound : (items front behind : List X) (m : X) (c d s e : L) (v : V) → IsLeftOf items front c s v → IsRightOf items behind d e v → Lt cmp c d → cmp (lo m) s ≡ Equal → cmp (hi m) e ≡ Equal → same (value m) v ≡ true → IsBoundTo items (front ++ m ∷ behind) c d v
-  bound items front behind m c d s e v left right l at_lo at_hi alike_value =
+  pub places_between_are_bound : (items front behind : List X) (m : X) (c d s e : L) (v : V) → IsLeftOf cmp total same equal lo hi value items front c s v → IsRightOf cmp total same equal lo hi value items behind d e v → Lt cmp c d → cmp (lo m) s ≡ Equal → cmp (hi m) e ≡ Equal → same (value m) v ≡ true → IsBoundTo cmp total same equal lo hi value items (front ++ m ∷ behind) c d v
+  places_between_are_bound items front behind m c d s e v left right l at_lo at_hi alike_value =
       let value_back = back cmp total same equal lo hi value (value m) v alike_value in
       let s_low = eq_le cmp total (lo m) s at_lo in
       let s_high = eq_ge cmp total (lo m) s at_lo in
@@ -158,9 +128,9 @@ module _ {L V X : Type 0} (cmp : L → L → Ordering) (total : IsTotalOrder cmp
       let starts : Every (λ x. Le cmp d (lo x)) behind = every_weaker _ _ behind (λ z h. le_trans cmp total d e (lo z) right.above h.0) right.trails in
       let leads : AllLead (lo m) (value m) front = every_weaker _ _ front (λ z h. (le_trans cmp total (hi z) s (lo m) h.0 s_high, λ k t. h.1 (le_trans cmp total s (lo m) (hi z) s_high k) (equal.congr (value z) (value m) v t ∙ alike_value))) left.leads in
       record {
-        chain = join cmp total same equal lo hi value front m behind left.chain (good, bound_follows m behind e v e_low e_high alike_value right.chain right.trails) leads;
+        chain = chains_join cmp total same equal lo hi value front m behind left.chain (good, bound_follows m behind e v e_low e_high alike_value right.chain right.trails) leads;
         inside = λ p W alike from upto. (
-          λ h. elim (only_second cmp total same equal lo hi value (none_above cmp total same equal lo hi value p c W front from ends) (any_split _ front (m ∷ behind) h)) [
+          λ h. elim (only_second (none_above cmp total same equal lo hi value p c W front from ends) (any_split _ front (m ∷ behind) h)) [
             | inl k ↦ alike (value m) v alike_value k.1
             | inr k ↦ absurd (none_below cmp total same equal lo hi value p d W behind upto starts k)
           ],
@@ -170,7 +140,7 @@ module _ {L V X : Type 0} (cmp : L → L → Ordering) (total : IsTotalOrder cmp
           | inl below ↦ (
             λ h. (left.holds p W alike below).0 (elim (any_split _ front (m ∷ behind) h) [
               | inl k ↦ inl k
-              | inr k ↦ let held = only_first cmp total same equal lo hi value (none_below cmp total same equal lo hi value p d W behind (lt_trans cmp total p c d below l) starts) k in inr (le_trans cmp total s (lo m) p s_high held.0.0, alike (value m) v alike_value held.1)
+              | inr k ↦ let held = only_first (none_below cmp total same equal lo hi value p d W behind (lt_trans cmp total p c d below l) starts) k in inr (le_trans cmp total s (lo m) p s_high held.0.0, alike (value m) v alike_value held.1)
             ]),
             λ h. elim ((left.holds p W alike below).1 h) [
               | inl k ↦ any_left _ front (m ∷ behind) k
@@ -178,7 +148,7 @@ module _ {L V X : Type 0} (cmp : L → L → Ordering) (total : IsTotalOrder cmp
             ],
           )
           | inr above ↦ (
-            λ h. (right.holds p W alike above).0 (elim (only_second cmp total same equal lo hi value (none_above cmp total same equal lo hi value p c W front (le_trans cmp total c d p (lt_le cmp total c d l) above) ends) (any_split _ front (m ∷ behind) h)) [
+            λ h. (right.holds p W alike above).0 (elim (only_second (none_above cmp total same equal lo hi value p c W front (le_trans cmp total c d p (lt_le cmp total c d l) above) ends) (any_split _ front (m ∷ behind) h)) [
               | inl k ↦ inr (lt_le_trans cmp total p (hi m) e k.0.1 e_low, alike (value m) v alike_value k.1)
               | inr k ↦ inl k
             ]),
