@@ -17,8 +17,8 @@ module _ {L V X : Type 0} (cmp : L → L → Ordering) (total : IsTotalOrder cmp
   abbrev IsFollowed : X → List X → Type 0
   IsFollowed x xs = Follows cmp total same equal lo hi value x xs
 
-  pub back : (a b : V) → same a b ≡ true → same b a ≡ true
-  back a b h = equal.symm b a ∙ h
+  pub same_is_symmetric : (a b : V) → same a b ≡ true → same b a ≡ true
+  same_is_symmetric a b h = equal.symm b a ∙ h
 
   pub chain_left : (xs ys : List X) → Chain (xs ++ ys) → Chain xs
   chain_left [] ys h = tt
@@ -79,4 +79,4 @@ module _ {L V X : Type 0} (cmp : L → L → Ordering) (total : IsTotalOrder cmp
   pub follows_like : (x y : X) (ys : List X) → cmp (hi y) (hi x) ≡ Equal → same (value y) (value x) ≡ true → IsFollowed x ys → IsFollowed y ys
   follows_like x y [] e s f = tt
   follows_like x y (z ∷ zs) e s f =
-      ((le_trans cmp total (hi y) (hi x) (lo z) (eq_le cmp total (hi y) (hi x) e) f.0.0, λ k t. f.0.1 (le_trans cmp total (lo z) (hi y) (hi x) k (eq_le cmp total (hi y) (hi x) e)) (equal.congr (value x) (value y) (value z) (back (value y) (value x) s) ∙ t)), f.1)
+      ((le_trans cmp total (hi y) (hi x) (lo z) (eq_le cmp total (hi y) (hi x) e) f.0.0, λ k t. f.0.1 (le_trans cmp total (lo z) (hi y) (hi x) k (eq_le cmp total (hi y) (hi x) e)) (equal.congr (value x) (value y) (value z) (same_is_symmetric (value y) (value x) s) ∙ t)), f.1)

@@ -49,11 +49,11 @@ element_at [] n within = absurd (omega arith)
 element_at (x ∷ xs) zero within = x
 element_at (x ∷ xs) (suc n) within = element_at xs n (omega arith)
 
-pub element_is : {X : Type 0} (xs : List X) (n : ℕ) (within : n < length xs) (d : X) → element_at xs n within ≡ get_or xs n d
+pub element_at_is_read : {X : Type 0} (xs : List X) (n : ℕ) (within : n < length xs) (d : X) → element_at xs n within ≡ get_or xs n d
 unfolding element_at
-element_is [] n within d = absurd (omega arith)
-element_is (x ∷ xs) zero within d = refl
-element_is (x ∷ xs) (suc n) within d = element_is xs n (omega arith) d
+element_at_is_read [] n within d = absurd (omega arith)
+element_at_is_read (x ∷ xs) zero within d = refl
+element_at_is_read (x ∷ xs) (suc n) within d = element_at_is_read xs n (omega arith) d
 
 edge_start_is : {K : Type 0} (order : KeyOrder K) {V : Type 0} (same : V → V → Bool) (o : Option (Bound K)) (r : AnyRange K) → start_position order (unwrap_or o r.start) ≡ edge_start order same o r
 edge_start_is order same None r = refl
@@ -68,8 +68,8 @@ module _ {K : Type 0} (order : KeyOrder K) (lawful : IsLawful order) {V : Type 0
     range_has_places : Lt (places order lawful) (lower order r) (upper order r)
     range_has_places = (nonempty_good order lawful r known).0 full
 
-    behind_none : w.count ≡ 0 → Every (λ i. Le (places order lawful) (upper order r) (item_lower order i)) (drop place items)
-    behind_none none = let at : place + w.count ≡ place = omega (arith, none) in rw at at window.behind
+    rest_starts_after_range : w.count ≡ 0 → Every (λ i. Le (places order lawful) (upper order r) (item_lower order i)) (drop place items)
+    rest_starts_after_range none = let at : place + w.count ≡ place = omega (arith, none) in rw at at window.behind
 
     left_reaches : (x y : Item (AnyRange K) V) (rest : Option (Item (AnyRange K) V)) → IsLeftPart order same x r rest → rest ≡ Some y → Le (places order lawful) (lower order r) (item_upper order y)
     left_reaches x y None part e = absurd (cc)
@@ -80,7 +80,7 @@ module _ {K : Type 0} (order : KeyOrder K) (lawful : IsLawful order) {V : Type 0
         let cmp = places order lawful in
         let total = position_total order.cmp lawful.total in
         record {
-          left = rw (append-nil (take place items)) (left_all order lawful same equal items (take place items) (drop place items) (lower order r) (list_is_take_and_drop items place) (stored_chain order lawful same equal items stored) window.below (every_weaker _ _ (drop place items) (λ i h. le_trans cmp total (lower order r) (upper order r) (item_lower order i) (lt_le cmp total (lower order r) (upper order r) range_has_places) h) (behind_none none)));
+          left = rw (append-nil (take place items)) (left_all order lawful same equal items (take place items) (drop place items) (lower order r) (list_is_take_and_drop items place) (stored_chain order lawful same equal items stored) window.below (every_weaker _ _ (drop place items) (λ i h. le_trans cmp total (lower order r) (upper order r) (item_lower order i) (lt_le cmp total (lower order r) (upper order r) range_has_places) h) (rest_starts_after_range none)));
           known = tt;
           reaches = λ y e. absurd (cc);
         }
@@ -103,7 +103,7 @@ module _ {K : Type 0} (order : KeyOrder K) (lawful : IsLawful order) {V : Type 0
         let total = position_total order.cmp lawful.total in
         let at : place + w.count ≡ place = omega (arith, none) in
         rw at (record {
-          right = right_all order lawful same equal items (take place items) (drop place items) (upper order r) (list_is_take_and_drop items place) (stored_chain order lawful same equal items stored) (every_weaker _ _ (take place items) (λ i h. le_trans cmp total (item_upper order i) (lower order r) (upper order r) h (lt_le cmp total (lower order r) (upper order r) range_has_places)) window.below) (behind_none none);
+          right = right_all order lawful same equal items (take place items) (drop place items) (upper order r) (list_is_take_and_drop items place) (stored_chain order lawful same equal items stored) (every_weaker _ _ (take place items) (λ i h. le_trans cmp total (item_upper order i) (lower order r) (upper order r) h (lt_le cmp total (lower order r) (upper order r) range_has_places)) window.below) (rest_starts_after_range none);
           known = tt;
           reaches = λ y e. absurd (cc);
         })
@@ -124,7 +124,7 @@ module _ {K : Type 0} (order : KeyOrder K) (lawful : IsLawful order) {V : Type 0
     left_rest_by (suc n) e reach =
         let within : place < length items = omega (arith, e, window.in_range) in
         let x = element_at items place within in
-        let read = element_is items place within x in
+        let read = element_at_is_read items place within x in
         left_rest_some (omega arith) x read None (reach x (omega arith) read)
 
     right_rest_by : (n : ℕ) → w.count ≡ n → ReachesAfter order is_good rank items r place w.count None → IsRightRest order same lawful equal items r (place + w.count) None
@@ -132,7 +132,7 @@ module _ {K : Type 0} (order : KeyOrder K) (lawful : IsLawful order) {V : Type 0
     right_rest_by (suc n) e reach =
         let within : place + w.count - 1 < length items = omega (arith, e, window.in_range) in
         let x = element_at items (place + w.count - 1) within in
-        let read = element_is items (place + w.count - 1) within x in
+        let read = element_at_is_read items (place + w.count - 1) within x in
         right_rest_some (omega arith) x read None (reach x (omega arith) read)
 
     pub left_rest_whole : ReachesBefore order is_good rank items r place w.count None → IsLeftRest order same lawful equal items r place None

@@ -136,8 +136,8 @@ module _ {K : Type 0} (order : KeyOrder K) (lawful : IsLawful order) {V : Type 0
         let total = position_total order.cmp lawful.total in
         every_weaker _ _ (drop place items) (λ i h k. lt_not_le cmp total (lower order r) (item_upper order i) h.1 ((before_is order lawful i.key.end r.start h.0.1 known.0).0 k)) (every_both (λ i. IsKnownRange order i.key) _ (drop place items) (known_drop order lawful same equal items place (stored_known order lawful same equal items stored)) window.above)
 
-    not_behind : (d : Item (AnyRange K) V) → 0 < w.count → Every (λ i. LiesBefore order r i.key → ⊥) (take (place + w.count) items)
-    not_behind d some =
+    window_items_reach_range : (d : Item (AnyRange K) V) → 0 < w.count → Every (λ i. LiesBefore order r i.key → ⊥) (take (place + w.count) items)
+    window_items_reach_range d some =
         let cmp = places order lawful in
         let total = position_total order.cmp lawful.total in
         let chain = stored_chain order lawful same equal items stored in
@@ -159,7 +159,7 @@ module _ {K : Type 0} (order : KeyOrder K) (lawful : IsLawful order) {V : Type 0
     window_meets d some =
         let before = every_left (λ i. LiesBefore order i.key r → ⊥) (take w.count (drop place items)) (drop w.count (drop place items)) (rw (list_is_take_and_drop (drop place items) w.count) at not_before) in
         let front = take (place + w.count) items in
-        let behind = every_right (λ i. LiesBefore order r i.key → ⊥) (take place front) (drop place front) (rw (list_is_take_and_drop front place) at (not_behind d some)) in
+        let behind = every_right (λ i. LiesBefore order r i.key → ⊥) (take place front) (drop place front) (rw (list_is_take_and_drop front place) at (window_items_reach_range d some)) in
         every_both (λ i. LiesBefore order i.key r → ⊥) (λ i. LiesBefore order r i.key → ⊥) (take w.count (drop place items)) before (rw (drop-take place w.count items) at behind)
 
     meets_by : (n : ℕ) → w.count ≡ n → Every (λ i. Overlap order i.key r) (take w.count (drop place items))

@@ -26,7 +26,7 @@ use Rattle.range_map.specs.Answers.{piece_of, FailsAt, IsUpdated}
 use Rattle.range_map.specs.Frames.{IsMergedInto}
 use Rattle.range_map.specs.Pieces.{later, earlier, IsCommonPart, LiesIn, IsFreePart, IsPiece}
 use Rattle.range_map.specs.Ranges.{Overlap}
-use Rattle.range_map.proofs.Cutting.{PLe, any_over, later_over, earlier_under, both_choices_hold}
+use Rattle.range_map.proofs.Cutting.{PLe, any_over, later_over, earlier_under, either_choice_holds}
 use Rattle.range_map.proofs.Forms.{not_both}
 use Rattle.range_map.proofs.Merging.{way_follows}
 
@@ -38,10 +38,10 @@ equal_of Greater h = cc
 is_equal : (o : Ordering) → o ≡ Equal → IsTrue (is_eq o)
 is_equal o e = rw e refl
 
-not_otherwise_is_greater : (o : Ordering) → (is_gt o ≡ false → ⊥) → o ≡ Greater
-not_otherwise_is_greater Less h = absurd (h refl)
-not_otherwise_is_greater Equal h = absurd (h refl)
-not_otherwise_is_greater Greater h = refl
+not_false_is_greater : (o : Ordering) → (is_gt o ≡ false → ⊥) → o ≡ Greater
+not_false_is_greater Less h = absurd (h refl)
+not_false_is_greater Equal h = absurd (h refl)
+not_false_is_greater Greater h = refl
 
 module _ {K : Type 0} (order : KeyOrder K) (lawful : IsLawful order) where
   equal_positions_chain : (p q s : Position K) → position_cmp order.cmp p q ≡ Equal → position_cmp order.cmp q s ≡ Equal → position_cmp order.cmp p s ≡ Equal
@@ -53,12 +53,12 @@ module _ {K : Type 0} (order : KeyOrder K) (lawful : IsLawful order) where
   later_under : (p q u : Position K) → PLe order lawful q p → PLe order lawful (later order q u) (later order p u)
   later_under p q u le =
       let over = later_over order lawful p u in
-      both_choices_hold order lawful (λ y. PLe order lawful y (later order p u)) (is_gt (position_cmp order.cmp q u)) q u (le_trans (position_cmp order.cmp) (position_total order.cmp lawful.total) q p (later order p u) le over.0) over.1
+      either_choice_holds order lawful (λ y. PLe order lawful y (later order p u)) (is_gt (position_cmp order.cmp q u)) q u (le_trans (position_cmp order.cmp) (position_total order.cmp lawful.total) q p (later order p u) le over.0) over.1
 
   earlier_over : (p q u : Position K) → PLe order lawful p q → PLe order lawful (earlier order p u) (earlier order q u)
   earlier_over p q u le =
       let under = earlier_under order lawful p u in
-      both_choices_hold order lawful (λ y. PLe order lawful (earlier order p u) y) (is_gt (position_cmp order.cmp q u)) u q under.1 (le_trans (position_cmp order.cmp) (position_total order.cmp lawful.total) (earlier order p u) p q under.0 le)
+      either_choice_holds order lawful (λ y. PLe order lawful (earlier order p u) y) (is_gt (position_cmp order.cmp q u)) u q under.1 (le_trans (position_cmp order.cmp) (position_total order.cmp lawful.total) (earlier order p u) p q under.0 le)
 
   module _ (r s : AnyRange K) (starts : position_cmp order.cmp (start_position order r.start) (start_position order s.start) ≡ Equal) (ends : position_cmp order.cmp (end_position order r.end) (end_position order s.end) ≡ Equal) where
     pub holds_too : (k : K) → order.is_key k → Holds order r k → Holds order s k
@@ -145,7 +145,7 @@ module _ {K : Type 0} (order : KeyOrder K) (lawful : IsLawful order) where
         let q = end_position order r.end in
         let p' = start_position order s.start in
         let q' = end_position order s.end in
-        not_otherwise_is_greater (cmp p q) (λ le. not_both (cmp p' q') (le_trans cmp total p' p q' (eq_le cmp total p' p starts_alike) (le_trans cmp total p q q' le (eq_ge cmp total q' q ends_alike))) h)
+        not_false_is_greater (cmp p q) (λ le. not_both (cmp p' q') (le_trans cmp total p' p q' (eq_le cmp total p' p starts_alike) (le_trans cmp total p q q' le (eq_ge cmp total q' q ends_alike))) h)
 
     module _ {V : Type 0} (same : V → V → Bool) (others : List (Item (AnyRange K) V)) where
       concerned_too : (i : Item (AnyRange K) V) → Overlap order i.key s ⊎ IsMergedInto order same others s i → Overlap order i.key r ⊎ IsMergedInto order same others r i

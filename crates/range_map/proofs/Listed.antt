@@ -27,10 +27,10 @@ not_greater Less h = refl
 not_greater Equal h = refl
 not_greater Greater h = absurd (h refl)
 
-not_both_is_implied : (t c : Bool) → IsTrue (not t || not c) ↔ (IsTrue t → IsTrue c → ⊥)
-not_both_is_implied true true = (λ h _ _. cc, λ h. absurd (h refl refl))
-not_both_is_implied true false = (λ h _ k. cc, λ h. refl)
-not_both_is_implied false c = (λ h k _. cc, λ h. refl)
+one_false_is_not_both : (t c : Bool) → IsTrue (not t || not c) ↔ (IsTrue t → IsTrue c → ⊥)
+one_false_is_not_both true true = (λ h _ _. cc, λ h. absurd (h refl refl))
+one_false_is_not_both true false = (λ h _ k. cc, λ h. refl)
+one_false_is_not_both false c = (λ h k _. cc, λ h. refl)
 
 pub before_by_parts : (a b t x d u v w c : Bool) → IsTrue (is_before (if a then (if b then Before t else Intersecting false x) else (if d then After u else Intersecting v w)) c) ↔ (IsTrue a × IsTrue b × IsTrue (not t || not c))
 before_by_parts true true t x d u v w c = (λ h. (refl, refl, h), λ h. h.2)
@@ -54,7 +54,7 @@ module _ {K : Type 0} (order : KeyOrder K) (lawful : IsLawful order) {V : Type 0
       let other_end = end_position order j.key.end in
       let touch = starts_at_end order i.key.end other in
       let parts = before_by_parts (is_lt (cmp start other)) (is_lt (cmp end other)) touch (is_eq (cmp end other_end)) (is_gt (cmp start other_end)) (starts_at_end order j.key.end start) (is_eq (cmp start other)) (is_eq (cmp end other_end)) (same i.value j.value) in
-      let test = not_both_is_implied touch (same i.value j.value) in (
+      let test = one_false_is_not_both touch (same i.value j.value) in (
         λ h. let p = parts.0 h in ((less_test (cmp end other)).0 p.1, test.0 p.2),
         λ h. parts.1 ((less_test (cmp start other)).1 (le_lt_trans cmp (position_total order.cmp lawful.total) start end other (not_greater (cmp start end) full) h.0), (less_test (cmp end other)).1 h.0, test.1 h.1),
       )

@@ -42,7 +42,7 @@ use Rattle.range_map.proofs.CutOut.{known_take, known_drop}
 use Rattle.range_map.proofs.CutParts.{ends_never}
 use Rattle.range_map.proofs.Endings.{last_of, regrouped_last, item_with_end, with_last, started_last}
 use Rattle.range_map.proofs.Forms.{places, Known, Chained, stored_known, stored_chain}
-use Rattle.range_map.proofs.Edging.{element_at, element_is}
+use Rattle.range_map.proofs.Edging.{element_at, element_at_is_read}
 use Rattle.range_map.proofs.Openings.{cut_joins_none}
 use Rattle.range_map.proofs.Planning.{left_cut_plan, right_cut_plan, left_plan_free, left_joined_at, right_plan_joined, right_plan_plain}
 use Rattle.range_map.proofs.Splicing.{IsFilled, IsSpliced, filled_apart, filled_joined, spliced_apart, spliced_joined}
@@ -70,15 +70,15 @@ module _ {K : Type 0} (order : KeyOrder K) (lawful : IsLawful order) where
   within_end part r known others within =
       not_lt (places order lawful) (position_total order.cmp lawful.total) (upper order part) (upper order r) (λ over. within_by part r (inverted r.end) refl known others within.ends over)
 
-joined_none : {K V P : Type 0} (is_good : P → Type 0) (rank : P → ℕ) (items : List (Item (AnyRange K) V)) (edge : Edge K P) (at from : ℕ) (rest : Option (Item (AnyRange K) V)) → IsLeftShape is_good rank items edge at from rest None → joined_count edge ≡ 0
-joined_none is_good rank items Plain at from rest shape = refl
-joined_none is_good rank items (Cut p b) at from rest shape = refl
-joined_none is_good rank items (Joined p) at from rest shape = absurd (let e = shape.4.2 in cc)
+joins_none_before : {K V P : Type 0} (is_good : P → Type 0) (rank : P → ℕ) (items : List (Item (AnyRange K) V)) (edge : Edge K P) (at from : ℕ) (rest : Option (Item (AnyRange K) V)) → IsLeftShape is_good rank items edge at from rest None → joined_count edge ≡ 0
+joins_none_before is_good rank items Plain at from rest shape = refl
+joins_none_before is_good rank items (Cut p b) at from rest shape = refl
+joins_none_before is_good rank items (Joined p) at from rest shape = absurd (let e = shape.4.2 in cc)
 
-joined_none_behind : {K V P : Type 0} (is_good : P → Type 0) (rank : P → ℕ) (items : List (Item (AnyRange K) V)) (edge : Edge K P) (upto end : ℕ) (rest : Option (Item (AnyRange K) V)) → IsRightShape is_good rank items edge upto end rest None → joined_count edge ≡ 0
-joined_none_behind is_good rank items Plain upto end rest shape = refl
-joined_none_behind is_good rank items (Cut p b) upto end rest shape = refl
-joined_none_behind is_good rank items (Joined p) upto end rest shape = absurd (let e = shape.4.2 in cc)
+joins_none_after : {K V P : Type 0} (is_good : P → Type 0) (rank : P → ℕ) (items : List (Item (AnyRange K) V)) (edge : Edge K P) (upto end : ℕ) (rest : Option (Item (AnyRange K) V)) → IsRightShape is_good rank items edge upto end rest None → joined_count edge ≡ 0
+joins_none_after is_good rank items Plain upto end rest shape = refl
+joins_none_after is_good rank items (Cut p b) upto end rest shape = refl
+joins_none_after is_good rank items (Joined p) upto end rest shape = absurd (let e = shape.4.2 in cc)
 
 -- only an item that joins gives way beyond the window
 pub seam_count : {K P : Type 0} (joined reaching : Option P) (b : Bound K) → joined_count (seam_edge joined reaching b) ≡ length (option_items joined)
@@ -180,7 +180,7 @@ module _ {K : Type 0} (order : KeyOrder K) (lawful : IsLawful order) {V : Type 0
 
     left_cutting : (middle : List (Item (AnyRange K) V)) (first : Option P) (edge : Edge K P) (from : Option P) → IsStored order same items → IsStored order same middle → Every (λ i. Lt (places order lawful) (lower order r) (item_lower order i)) middle → IsLeftCutting order same lawful equal is_good rank items r place count first edge from → IsLeftFill middle first edge from
     left_cutting middle first edge from stored others starts cut =
-        let none = joined_none is_good rank items edge place (place + length (option_items first)) cut.rest cut.shape in
+        let none = joins_none_before is_good rank items edge place (place + length (option_items first)) cut.rest cut.shape in
         record {
           at = place;
           begin = place + length (option_items first);
@@ -287,7 +287,7 @@ module _ {K : Type 0} (order : KeyOrder K) (lawful : IsLawful order) {V : Type 0
 
     right_cutting : (middle front : List (Item (AnyRange K) V)) (start : Option (Bound K)) (last : Option P) (edge : Edge K P) (u : Position K) → IsStored order same items → place + count ≤ length items → Le (places order lawful) (lower order r) u → Lt (places order lawful) u (upper order r) → Every (λ i. Le (places order lawful) (item_upper order i) u) middle → Filled items middle (front ++ with_first_start start middle) (lower order r) → Known order lawful same equal (front ++ with_first_start start middle) → IsRightCutting order same lawful equal is_good rank items r place count last edge → IsRightFill middle front start last edge
     right_cutting middle front start last edge u stored within le lt all fill known cut =
-        let none = joined_none_behind is_good rank items edge cut.upto (place + count) cut.rest cut.shape in
+        let none = joins_none_after is_good rank items edge cut.upto (place + count) cut.rest cut.shape in
         let behind = option_items cut.rest ++ drop (place + count) items in
         record {
           upto = cut.upto;
@@ -354,4 +354,4 @@ module _ {K : Type 0} (order : KeyOrder K) (lawful : IsLawful order) {V : Type 0
   right_touched v (Some q) b in_range reach found =
       let within = in_range q found.0 in
       let x = element_at items (rank q) within in
-      right_plan_joined order lawful same equal is_good rank items r w place stored known full window v q x reach found.0 found.1 within (element_is items (rank q) within x) found.2
+      right_plan_joined order lawful same equal is_good rank items r w place stored known full window v q x reach found.0 found.1 within (element_at_is_read items (rank q) within x) found.2

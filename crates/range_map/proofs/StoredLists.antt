@@ -160,8 +160,8 @@ module _ {K : Type 0} (order : KeyOrder K) (lawful : IsLawful order) (complete :
   keyed_full : (r : AnyRange K) → ¬ IsKeyless order r → ¬ IsEmptyRange order r
   keyed_full r keyed empty = keyed (empty_is_keyless order lawful r empty)
 
-  filled_range_has_key : (r : AnyRange K) → IsKnownRange order r → ¬ IsKeyless order r → (k : K) × order.is_key k × Holds order r k
-  filled_range_has_key r known keyed =
+  keyed_range_has_key : (r : AnyRange K) → IsKnownRange order r → ¬ IsKeyless order r → (k : K) × order.is_key k × Holds order r k
+  keyed_range_has_key r known keyed =
       nonempty_holds order lawful complete r known (not_greater (position_cmp order.cmp (start_position order r.start) (end_position order r.end)) (keyed_full r keyed))
 
   -- over complete keys a coarse list of ranges of keys has the map's form
@@ -170,8 +170,8 @@ module _ {K : Type 0} (order : KeyOrder K) (lawful : IsLawful order) (complete :
   coarse_stored (i ∷ []) known coarse = record { known = known; nonempty = (keyed_full i.key coarse.keyed.0, tt); rising = (tt, tt) }
   coarse_stored (i ∷ j ∷ rest) known coarse =
       let behind = coarse_stored (j ∷ rest) known.1 (record { keyed = coarse.keyed.1; rising = coarse.rising.1; parted = coarse.parted.1 }) in
-      let first = filled_range_has_key i.key known.0 coarse.keyed.0 in
-      let next = filled_range_has_key j.key known.1.0 coarse.keyed.1.0 in
+      let first = keyed_range_has_key i.key known.0 coarse.keyed.0 in
+      let next = keyed_range_has_key j.key known.1.0 coarse.keyed.1.0 in
       record {
         known = known;
         nonempty = (keyed_full i.key coarse.keyed.0, behind.nonempty);
