@@ -19,8 +19,8 @@ use Rattle.range_store.proofs.Moves.{Moves-like, Moves-then, Moves-beside, Moves
 use Rattle.range_store.proofs.Room.{children_le}
 use Rattle.range_store.proofs.Seats.{length-before, seat_run, seat_side, seat_written}
 use Rattle.range_store.proofs.Contents.{written_settles, written_holds, written_agree}
-use Rattle.range_store.specs.declared.btree.way.Gap.{Gap}
-use Rattle.range_store.specs.Gaps.{turn, inside, IsGap, place, IsSeat, seat_place}
+use Rattle.range_store.specs.declared.btree.way.Edge.{Edge}
+use Rattle.range_store.specs.Edges.{turn, inside, IsEdge, place, IsSeat, seat_place}
 
 -- the run ms of the children of n, before vs and after us, became ts
 pub record Runs (s t : Slab Node) (b n : ℕ) (us ms vs ts : List ℕ) : Type 0 where
@@ -207,7 +207,7 @@ module _ (s t : Slab Node) (b n i rest item : ℕ) (split : Option Split) (inner
       let place : length (before xs lists i) + rest ≤ length (numbers s (suc b) n) = omega (arith, ap length whole, length-append (before xs lists i) (numbers s b kid ++ after xs lists i), length-append (numbers s b kid) (after xs lists i), within) in
       ap length grown_listed ∙ length-insert (numbers s (suc b) n) (length (before xs lists i) + rest) item place
 
-  pub grown_seat : (side : ℕ) (g : Gap) → IsSeat t (suc (b - 1)) (separators split) (tops kid split) side g → IsSeat t b new_xs new_ks (i + side) g × (seat_place t b new_xs new_ks (i + side) g ≡ length (before xs lists i) + seat_place t (suc (b - 1)) (separators split) (tops kid split) side g)
+  pub grown_seat : (side : ℕ) (g : Edge) → IsSeat t (suc (b - 1)) (separators split) (tops kid split) side g → IsSeat t b new_xs new_ks (i + side) g × (seat_place t b new_xs new_ks (i + side) g ≡ length (before xs lists i) + seat_place t (suc (b - 1)) (separators split) (tops kid split) side g)
   grown_seat side g seat =
       let all = seat_run t (b - 1) us (tops kid split) vs (take i xs) (separators split) (drop i xs) i side g us_many front_many (tops_many split) seat in
       let here = ap (λ m. seat_place t m new_xs new_ks (i + side) g) level in
@@ -262,14 +262,14 @@ module _ (s t : Slab Node) (b n i rest item : ℕ) (inner : b ≢ 0) (shaped : S
       settled_replaces s t t b n xs' ks' _ None (grown_moved s t b n i rest item None inner shaped owned low within child) (grown_listed s t b n i rest item None inner shaped owned low within child) (omega (arith, same_length))
       (written_settles t t b n xs' ks' content written (omega (arith, same_length, shaped.node.fits)))
 
-  pub none_gap : (side : ℕ) (g h : Gap) → turn h ≡ i → inside h ≡ g → IsSeat t (suc (b - 1)) (separators None) (tops (get_or (children_of (get s n)) i 0) None) side g → IsGap t b n h × (place t b n h ≡ length (before (items_of (get s n)) (map (numbers s b) (children_of (get s n))) i) + seat_place t (suc (b - 1)) (separators None) (tops (get_or (children_of (get s n)) i 0) None) side g)
-  none_gap side g h at into seat =
+  pub none_edge : (side : ℕ) (g h : Edge) → turn h ≡ i → inside h ≡ g → IsSeat t (suc (b - 1)) (separators None) (tops (get_or (children_of (get s n)) i 0) None) side g → IsEdge t b n h × (place t b n h ≡ length (before (items_of (get s n)) (map (numbers s b) (children_of (get s n))) i) + seat_place t (suc (b - 1)) (separators None) (tops (get_or (children_of (get s n)) i 0) None) side g)
+  none_edge side g h at into seat =
       let up = grown_seat s t b n i rest item None inner shaped owned low within child side g seat in
       let one = seat_side t (b - 1) (separators None) (tops (get_or (children_of (get s n)) i 0) None) side g seat in
       let holds = written_holds t t b n xs' ks' content written in
       let agree = written_agree t t b n xs' ks' content written in
-      let gap = seat_written t t n xs' ks' (i + side) g h b holds agree (λ none. absurd (inner none)) (λ some. omega (arith, at, one)) (λ some. into) up.0 in
-      (gap.0, gap.1 ∙ up.1)
+      let edge = seat_written t t n xs' ks' (i + side) g h b holds agree (λ none. absurd (inner none)) (λ some. omega (arith, at, one)) (λ some. into) up.0 in
+      (edge.0, edge.1 ∙ up.1)
 
 -- a node that may be cut has the item between the halves of its child, and the second of them
 module _ (s t : Slab Node) (b n i rest item : ℕ) (split : Split) (inner : b ≢ 0) (shaped : ShapedBut 1 CAPACITY s b n) (owned : Owned s (suc b) n) (low : i ≤ length (items_of (get s n))) (within : rest ≤ length (numbers s b (get_or (children_of (get s n)) i 0))) (child : Replaces s t (b - 1) (get_or (children_of (get s n)) i 0) (Some split) (insert (numbers s (suc (b - 1)) (get_or (children_of (get s n)) i 0)) rest item)) where

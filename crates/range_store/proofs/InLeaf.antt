@@ -1,4 +1,4 @@
--- A gap within its leaf.
+-- An edge within its leaf.
 use Rattle.std.proofs.Common.{◌≡◌, ℕ, zero, suc, ◌+◌, ◌/◌, ◌%◌, ◌<◌, ◌≤◌, List, [], ◌∷◌, ◌++◌, length, take, drop, get_or, map, refl, sym, ap, ◌∙◌, arith, IsSome, append_assoc}
 use Rattle.std.specs.List.{remove}
 use Rattle.std.proofs.Math.ListN.{set}
@@ -7,39 +7,39 @@ use Rattle.slab.specs.Slab.{Slab, get}
 use Rattle.range_store.specs.declared.btree.node.Node.{Node}
 use Rattle.range_store.specs.declared.btree.node.TheConstants.{CAPACITY, MIN_LEN}
 use Rattle.range_store.specs.declared.btree.way.TheConstants.{WIDTH}
-use Rattle.range_store.specs.declared.btree.way.Gap.{Gap}
+use Rattle.range_store.specs.declared.btree.way.Edge.{Edge}
 use Rattle.range_store.specs.Nodes.{items_of, children_of, numbers, before, after, ShapedBut}
-use Rattle.range_store.specs.Gaps.{turn, inside, IsGap, place}
+use Rattle.range_store.specs.Edges.{turn, inside, IsEdge, place}
 use Rattle.range_store.proofs.Below.{shaped_within_wider, numbers_leaf, numbers_at}
 use Rattle.range_store.proofs.Edits.{set_parts, remove_parts, remove_behind}
 use Rattle.range_store.proofs.Rank.{kid_shaped, rank_in_child}
 
 -- what stands before it there stands before it below the node
-pub place_index : (s : Slab Node) (d n : ℕ) (g : Gap) → g.index ≤ place s d n g
+pub place_index : (s : Slab Node) (d n : ℕ) (g : Edge) → g.index ≤ place s d n g
 unfolding place
 place_index s zero n g = omega arith
 place_index s (suc d) n g = omega (arith, place_index s d (get_or (children_of (get s n)) (turn g) 0) (inside g))
 
--- the leaf that a gap lies in
-pub record IsLeafOf (s : Slab Node) (g : Gap) : Type 0 where
+-- the leaf that an edge lies in
+pub record IsLeafOf (s : Slab Node) (g : Edge) : Type 0 where
   pub present : IsSome (get s g.leaf)
   pub some : 0 < length (items_of (get s g.leaf))
   pub fits : length (items_of (get s g.leaf)) ≤ CAPACITY
   pub childless : length (children_of (get s g.leaf)) ≡ 0
   pub within : g.index ≤ length (items_of (get s g.leaf))
 
-pub leaf_of_gap : (s : Slab Node) (d n : ℕ) (g : Gap) → ShapedBut 1 CAPACITY s d n → IsGap s d n g → IsLeafOf s g
-unfolding IsGap
-leaf_of_gap s zero n g shaped is =
+pub leaf_of_edge : (s : Slab Node) (d n : ℕ) (g : Edge) → ShapedBut 1 CAPACITY s d n → IsEdge s d n g → IsLeafOf s g
+unfolding IsEdge
+leaf_of_edge s zero n g shaped is =
     rw is.0 (record { present = shaped.node.present; some = shaped.node.enough; fits = shaped.node.fits; childless = shaped.node.branches; within = is.2 })
-leaf_of_gap s (suc d) n g shaped is =
+leaf_of_edge s (suc d) n g shaped is =
     let low : turn g ≤ length (items_of (get s n)) = omega (arith, is.0, shaped.node.branches) in
-    let below = leaf_of_gap s d _ (inside g) (shaped_within_wider 1 MIN_LEN CAPACITY CAPACITY s d _ (omega arith) (omega arith) (kid_shaped 1 CAPACITY s d n (turn g) shaped low)) is.1 in
+    let below = leaf_of_edge s d _ (inside g) (shaped_within_wider 1 MIN_LEN CAPACITY CAPACITY s d _ (omega arith) (omega arith) (kid_shaped 1 CAPACITY s d n (turn g) shaped low)) is.1 in
     record { present = below.present; some = below.some; fits = below.fits; childless = below.childless; within = below.within }
 
--- another gap in it
-pub leaf_beside : (s : Slab Node) (d n : ℕ) (g h : Gap) → h.leaf ≡ g.leaf → h.way ≡ g.way → h.index ≤ length (items_of (get s g.leaf)) → IsGap s d n g → IsGap s d n h × (place s d n h + g.index ≡ place s d n g + h.index)
-unfolding IsGap place
+-- another edge in it
+pub leaf_beside : (s : Slab Node) (d n : ℕ) (g h : Edge) → h.leaf ≡ g.leaf → h.way ≡ g.way → h.index ≤ length (items_of (get s g.leaf)) → IsEdge s d n g → IsEdge s d n h × (place s d n h + g.index ≡ place s d n g + h.index)
+unfolding IsEdge place
 leaf_beside s zero n g h leaf way index is =
     let within : h.index ≤ length (items_of (get s n)) = rw is.0 at index in
     ((leaf ∙ is.0, way ∙ is.1, within), omega arith)
@@ -48,9 +48,9 @@ leaf_beside s (suc d) n g h leaf way index is =
     let rest = leaf_beside s d (get_or (children_of (get s n)) (turn g) 0) (inside g) (inside h) leaf (ap (λ w. w / WIDTH) way) index is.1 in
     rw first ((is.0, rest.0), omega (arith, rest.1))
 
--- the item after it stands after the gap
-pub leaf_item : (s : Slab Node) (d n : ℕ) (g : Gap) (least most : ℕ) → ShapedBut least most s d n → g.index < length (items_of (get s g.leaf)) → IsGap s d n g → (get_or (numbers s (suc d) n) (place s d n g) 0 ≡ get_or (items_of (get s g.leaf)) g.index 0) × (place s d n g < length (numbers s (suc d) n))
-unfolding IsGap place
+-- the item after it stands after the edge
+pub leaf_item : (s : Slab Node) (d n : ℕ) (g : Edge) (least most : ℕ) → ShapedBut least most s d n → g.index < length (items_of (get s g.leaf)) → IsEdge s d n g → (get_or (numbers s (suc d) n) (place s d n g) 0 ≡ get_or (items_of (get s g.leaf)) g.index 0) × (place s d n g < length (numbers s (suc d) n))
+unfolding IsEdge place
 leaf_item s zero n g least most shaped low is =
     let all = numbers_leaf s n shaped.node.branches in
     let within : g.index < length (items_of (get s n)) = rw is.0 at low in

@@ -8,9 +8,9 @@ use Rattle.slab.specs.Slab.{Slab, get, slab_len, Updates}
 use Rattle.range_store.specs.declared.btree.node.Node.{Node}
 use Rattle.range_store.specs.declared.btree.node.Split.{Split}
 use Rattle.range_store.specs.declared.btree.node.TheConstants.{CAPACITY, MIN_LEN}
-use Rattle.range_store.specs.declared.btree.way.Gap.{Gap}
+use Rattle.range_store.specs.declared.btree.way.Edge.{Edge}
 use Rattle.range_store.specs.Nodes.{weave, items_of, children_of, child_count, numbers, used, Shaped, ShapedBut, here, Writes, Removes}
-use Rattle.range_store.specs.Gaps.{turn, inside, seat_of, IsGap, place, IsSeat, seat_place}
+use Rattle.range_store.specs.Edges.{turn, inside, seat_of, IsEdge, place, IsSeat, seat_place}
 use Rattle.range_store.specs.Contents.{IsContent, IsPair, Rejoins}
 use Rattle.range_store.specs.Occurrences.{occurrences, occurrences-append, occurrences-cons, occurrences_itself}
 use Rattle.range_store.proofs.Weave.{weave_cut}
@@ -162,16 +162,16 @@ module _ (s : Slab Node) (d l x r : ℕ) (pair : IsPair s d l r) where
         swapped' : SameNodes (l ∷ r ∷ F) (r ∷ l ∷ F)
         swapped' = record { occur = λ k. omega (arith, occurrences-cons k l (r ∷ F), occurrences-cons k r F, occurrences-cons k r (l ∷ F), occurrences-cons k l F); len = refl }
 
--- the seat of a gap among the items of both, from that in the left or in the right one
-module _ (s : Slab Node) (l x r : ℕ) (g : Gap) where
+-- the seat of an edge among the items of both, from that in the left or in the right one
+module _ (s : Slab Node) (l x r : ℕ) (g : Edge) where
   abbrev all_items : List ℕ
   all_items = items_of (get s l) ++ (x ∷ items_of (get s r))
 
   abbrev all_children : List ℕ
   all_children = children_of (get s l) ++ children_of (get s r)
 
-  pub seat_from_left : (d : ℕ) → IsPair s d l r → IsGap s d l g → IsSeat s d all_items all_children (seat_of d g) (inside g) × (seat_place s d all_items all_children (seat_of d g) (inside g) ≡ place s d l g)
-  unfolding IsGap place IsSeat seat_place
+  pub seat_from_left : (d : ℕ) → IsPair s d l r → IsEdge s d l g → IsSeat s d all_items all_children (seat_of d g) (inside g) × (seat_place s d all_items all_children (seat_of d g) (inside g) ≡ place s d l g)
+  unfolding IsEdge place IsSeat seat_place
   seat_from_left zero pair is = (omega (arith, is.2, length-append (items_of (get s l)) (x ∷ items_of (get s r))), refl)
   seat_from_left (suc e) pair is =
       let run = seat_run s e [] (children_of (get s l)) (children_of (get s r)) [] (items_of (get s l)) (x ∷ items_of (get s r)) 0 (turn g) (inside g) refl refl pair.left.node.branches is in
@@ -179,8 +179,8 @@ module _ (s : Slab Node) (l x r : ℕ) (g : Gap) where
       let run' = rw start at run in
       (run'.0, run'.1 ∙ omega arith)
 
-  pub seat_from_right : (d : ℕ) → IsPair s d l r → IsGap s d r g → IsSeat s d all_items all_children (length (items_of (get s l)) + 1 + seat_of d g) (inside g) × (seat_place s d all_items all_children (length (items_of (get s l)) + 1 + seat_of d g) (inside g) ≡ length (numbers s (suc d) l) + 1 + place s d r g)
-  unfolding IsGap place IsSeat seat_place
+  pub seat_from_right : (d : ℕ) → IsPair s d l r → IsEdge s d r g → IsSeat s d all_items all_children (length (items_of (get s l)) + 1 + seat_of d g) (inside g) × (seat_place s d all_items all_children (length (items_of (get s l)) + 1 + seat_of d g) (inside g) ≡ length (numbers s (suc d) l) + 1 + place s d r g)
+  unfolding IsEdge place IsSeat seat_place
   seat_from_right zero pair is =
       (omega (arith, is.2, length-append (items_of (get s l)) (x ∷ items_of (get s r))), omega (arith, ap length (numbers_leaf s l pair.left.node.branches)))
   seat_from_right (suc e) pair is =

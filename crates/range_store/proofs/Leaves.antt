@@ -6,9 +6,9 @@ use Rattle.std.proofs.lemmas.List.Edits.{length-insert}
 use Rattle.slab.specs.Slab.{Slab, get}
 use Rattle.range_store.specs.declared.btree.node.Node.{Node}
 use Rattle.range_store.specs.declared.btree.node.TheConstants.{CAPACITY}
-use Rattle.range_store.specs.declared.btree.way.Gap.{Gap}
+use Rattle.range_store.specs.declared.btree.way.Edge.{Edge}
 use Rattle.range_store.specs.Nodes.{weave, items_of, children_of, numbers, used, ShapedBut, Owned, Moves}
-use Rattle.range_store.specs.Gaps.{IsSeat, seat_place}
+use Rattle.range_store.specs.Edges.{IsSeat, seat_place}
 use Rattle.range_store.specs.Contents.{IsContent}
 use Rattle.range_store.specs.Occurrences.{occurrences}
 use Rattle.range_store.proofs.Below.{used_is, numbers_leaf}
@@ -33,10 +33,10 @@ module _ (s : Slab Node) (n i item : ℕ) (shaped : ShapedBut 1 CAPACITY s 0 n) 
   leaf_longer low =
       omega (arith, ap length leaf_listed, ap (λ zs. length (insert zs i item)) (numbers_leaf s n shaped.node.branches), length-insert (items_of (get s n)) i item low, ap length (numbers_leaf s n shaped.node.branches))
 
-pub leaf_seat : (s : Slab Node) (xs ks : List ℕ) (i : ℕ) (g : Gap) → i ≤ length xs → IsSeat s 0 xs ks i g
+pub leaf_seat : (s : Slab Node) (xs ks : List ℕ) (i : ℕ) (g : Edge) → i ≤ length xs → IsSeat s 0 xs ks i g
 unfolding IsSeat
 leaf_seat s xs ks i g low = low
 
-pub leaf_seat_place : (s : Slab Node) (xs ks : List ℕ) (i : ℕ) (g : Gap) → seat_place s 0 xs ks i g ≡ i
+pub leaf_seat_place : (s : Slab Node) (xs ks : List ℕ) (i : ℕ) (g : Edge) → seat_place s 0 xs ks i g ≡ i
 unfolding seat_place
 leaf_seat_place s xs ks i g = refl

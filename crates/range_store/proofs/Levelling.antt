@@ -5,9 +5,9 @@ use Rattle.std.proofs.lemmas.List.{append-nil, append_assoc, length-append, leng
 use Rattle.slab.specs.Slab.{Slab, get}
 use Rattle.range_store.specs.declared.btree.node.Node.{Node}
 use Rattle.range_store.specs.declared.btree.node.Split.{Split}
-use Rattle.range_store.specs.declared.btree.way.Gap.{Gap}
+use Rattle.range_store.specs.declared.btree.way.Edge.{Edge}
 use Rattle.range_store.specs.Nodes.{weave, rest_of, front_of, before, items_of, children_of, numbers, used, Moves, Writes, tops, separators, rights, Shrinks, IsLevelled}
-use Rattle.range_store.specs.Gaps.{turn, inside, IsGap, place, IsSeat, seat_place}
+use Rattle.range_store.specs.Edges.{turn, inside, IsEdge, place, IsSeat, seat_place}
 use Rattle.range_store.specs.Contents.{IsContent, IsPair, Rejoins}
 use Rattle.range_store.specs.Occurrences.{occurrences, occurrences-append, occurrences-cons}
 use Rattle.range_store.proofs.Weave.{list_splits_at, weave_splice}
@@ -140,12 +140,12 @@ module _ (s : Slab Node) (low n j : ℕ) (levelled : IsLevelled s low n j) where
             shape = λ least more. held_shape t u (suc low) n new_xs new_ks holds least (omega (arith, new_length, more)) (omega (arith, new_length, few split, levelled.node.fits)) new_content.branches new_content.shaped;
           }
 
-      pub levelled_gap : (side : ℕ) (g h : Gap) → turn h ≡ j + side → inside h ≡ g → IsSeat t (suc low) (separators split) (tops l split) side g → IsGap u (suc low) n h × (place u (suc low) n h ≡ length (before xs (map (numbers s (suc low)) ks) j) + seat_place t (suc low) (separators split) (tops l split) side g)
-      levelled_gap side g h at into seat =
+      pub levelled_edge : (side : ℕ) (g h : Edge) → turn h ≡ j + side → inside h ≡ g → IsSeat t (suc low) (separators split) (tops l split) side g → IsEdge u (suc low) n h × (place u (suc low) n h ≡ length (before xs (map (numbers s (suc low)) ks) j) + seat_place t (suc low) (separators split) (tops l split) side g)
+      levelled_edge side g h at into seat =
           let run = seat_run t low us (tops l split) vs (take j xs) (separators split) (drop (j + 1) xs) j side g us_many front_many (tops_many split) seat in
           let holds = written_holds t u (suc low) n new_xs new_ks new_content written in
           let agree = written_agree t u (suc low) n new_xs new_ks new_content written in
-          let gap = seat_written t u n new_xs new_ks (j + side) g h (suc low) holds agree (λ none. absurd (omega (arith, none))) (λ some. at) (λ some. into) run.0 in
+          let edge = seat_written t u n new_xs new_ks (j + side) g h (suc low) holds agree (λ none. absurd (omega (arith, none))) (λ some. at) (λ some. into) run.0 in
           let front = length-before xs (map (numbers s (suc low)) ks) j (omega (arith, levelled.within)) (omega (arith, many, levelled.within, length-map ks (numbers s (suc low)))) in
           let same : map (numbers t (suc low)) us ≡ take j (map (numbers s (suc low)) ks) = (same_before s t (suc low) n us (l ∷ r ∷ []) vs (tops l split) pair_run).numbers_same ∙ sym (take-map (numbers s (suc low)) j ks) in
-          (gap.0, omega (arith, gap.1, run.1, front, ap (sum_by length) same))
+          (edge.0, omega (arith, edge.1, run.1, front, ap (sum_by length) same))

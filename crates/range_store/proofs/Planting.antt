@@ -8,9 +8,9 @@ use Rattle.slab.specs.Slab.{Slab, get, HasRoomFor}
 use Rattle.range_store.specs.declared.btree.node.Node.{Node}
 use Rattle.range_store.specs.declared.btree.node.Split.{Split}
 use Rattle.range_store.specs.declared.btree.node.TheConstants.{CAPACITY, MIN_LEN}
-use Rattle.range_store.specs.declared.btree.way.Gap.{Gap}
+use Rattle.range_store.specs.declared.btree.way.Edge.{Edge}
 use Rattle.range_store.specs.Nodes.{children_of, numbers, used, Shaped, ShapedBut, IsTree, IsRoomy, HasTreeRoom, here, Replaces, Stores}
-use Rattle.range_store.specs.Gaps.{turn, inside, IsGap, place, IsSeat, seat_place}
+use Rattle.range_store.specs.Edges.{turn, inside, IsEdge, place, IsSeat, seat_place}
 use Rattle.range_store.specs.Occurrences.{occurrences, occurrences-cons, occurrences-nil, occurrences_itself, occurrences_other}
 use Rattle.range_store.proofs.Below.{numbers_leaf, used_leaf, Shaped-from_but}
 use Rattle.range_store.proofs.Contents.{Holds, held_numbers, held_used, held_shape}
@@ -85,9 +85,9 @@ kept_root s t (suc d) root list some tree step' =
     let step = rw level at step' in
     record { tree = kept_tree s t d root list tree step; numbers_are = sym (append-nil (numbers t (suc d) root)) ∙ step.listed }
 
-pub kept_gap : (t : Slab Node) (d root side : ℕ) (g : Gap) → IsSeat t (suc d) [] (root ∷ []) side g → IsGap t d root g × (place t d root g ≡ seat_place t (suc d) [] (root ∷ []) side g)
+pub kept_edge : (t : Slab Node) (d root side : ℕ) (g : Edge) → IsSeat t (suc d) [] (root ∷ []) side g → IsEdge t d root g × (place t d root g ≡ seat_place t (suc d) [] (root ∷ []) side g)
 unfolding IsSeat seat_place
-kept_gap t d root side g seat = let first : side ≡ 0 = omega (arith, seat.0) in (rw first at seat.1, rw first (omega arith))
+kept_edge t d root side g seat = let first : side ≡ 0 = omega (arith, seat.0) in (rw first at seat.1, rw first (omega arith))
 
 module _ (s t u : Slab Node) (d root n : ℕ) (split : Split) (list : List ℕ) (tree : IsTree s (suc d) root) (step : Replaces s t d root (Some split) list) (stored : Stores t u n (split.middle ∷ []) (root ∷ split.right ∷ [])) where
   abbrev ts : List ℕ
@@ -118,7 +118,7 @@ module _ (s t u : Slab Node) (d root n : ℕ) (split : Split) (list : List ℕ) 
   taller_numbers : numbers u (suc (suc d)) n ≡ list
   taller_numbers = held_numbers t u (suc d) n (split.middle ∷ []) ts holds ∙ step.listed
 
-  taller_seat : (side : ℕ) (g h : Gap) → turn h ≡ side → inside h ≡ g → IsSeat t (suc d) (split.middle ∷ []) ts side g → IsGap u (suc d) n h × (place u (suc d) n h ≡ seat_place t (suc d) (split.middle ∷ []) ts side g)
+  taller_seat : (side : ℕ) (g h : Edge) → turn h ≡ side → inside h ≡ g → IsSeat t (suc d) (split.middle ∷ []) ts side g → IsEdge u (suc d) n h × (place u (suc d) n h ≡ seat_place t (suc d) (split.middle ∷ []) ts side g)
   taller_seat side g h at within seat =
       seat_written t u n (split.middle ∷ []) ts side g h (suc d) holds agree (λ no. absurd (omega (arith, no))) (λ some. at) (λ some. within) seat
 
@@ -130,9 +130,9 @@ taller_root s t u (suc d) root n split list some tree step' stored =
     let step = rw level at step' in
     rw more (record { tree = taller_tree s t u d root n split list tree step stored; numbers_are = taller_numbers s t u d root n split list tree step stored })
 
-pub taller_gap : (s t u : Slab Node) (levels root n side : ℕ) (split : Split) (list : List ℕ) (g h : Gap) → 0 < levels → IsTree s levels root → Replaces s t (levels - 1) root (Some split) list → Stores t u n (split.middle ∷ []) (root ∷ split.right ∷ []) → turn h ≡ side → inside h ≡ g → IsSeat t (suc (levels - 1)) (split.middle ∷ []) (root ∷ split.right ∷ []) side g → IsGap u (levels + 1 - 1) n h × (place u (levels + 1 - 1) n h ≡ seat_place t (suc (levels - 1)) (split.middle ∷ []) (root ∷ split.right ∷ []) side g)
-taller_gap s t u zero root n side split list g h some tree step stored at within seat = absurd (omega arith)
-taller_gap s t u (suc d) root n side split list g h some tree step' stored at within seat' =
+pub taller_edge : (s t u : Slab Node) (levels root n side : ℕ) (split : Split) (list : List ℕ) (g h : Edge) → 0 < levels → IsTree s levels root → Replaces s t (levels - 1) root (Some split) list → Stores t u n (split.middle ∷ []) (root ∷ split.right ∷ []) → turn h ≡ side → inside h ≡ g → IsSeat t (suc (levels - 1)) (split.middle ∷ []) (root ∷ split.right ∷ []) side g → IsEdge u (levels + 1 - 1) n h × (place u (levels + 1 - 1) n h ≡ seat_place t (suc (levels - 1)) (split.middle ∷ []) (root ∷ split.right ∷ []) side g)
+taller_edge s t u zero root n side split list g h some tree step stored at within seat = absurd (omega arith)
+taller_edge s t u (suc d) root n side split list g h some tree step' stored at within seat' =
     let level : suc d - 1 ≡ d = omega arith in
     let lower : suc d + 1 - 1 ≡ suc d = omega arith in
     let step = rw level at step' in

@@ -4,14 +4,14 @@ use Rattle.std.specs.Prelude.{MatchOption}
 use Rattle.std.specs.List.{remove}
 use Rattle.std.specs.Option.{ForSome}
 use Rattle.std.proofs.lemmas.List.{nil_from_length}
-use Rattle.range_store.specs.Gaps.{IsLast}
+use Rattle.range_store.specs.Edges.{IsLast}
 use Rattle.range_store.specs.Holding.{box_items, box_length, box_rank, box_place, IsBoxAt, IsGood}
-use Rattle.range_store.specs.Trees.{tree_numbers, tree_place, gap_or_end, IsAt, IsTreeGap}
+use Rattle.range_store.specs.Trees.{tree_numbers, tree_place, edge_or_end, IsAt, IsTreeEdge}
 use Rattle.range_store.specs.declared.btree.BoxPosition.{BoxPosition}
 use Rattle.range_store.specs.declared.btree.BoxStorage.{BoxStorage}
 use Rattle.range_store.specs.declared.btree.number_tree.NumberTree.{NumberTree}
 use Rattle.range_store.specs.declared.btree.way.Found.{Found}
-use Rattle.range_store.specs.declared.btree.way.Gap.{Gap}
+use Rattle.range_store.specs.declared.btree.way.Edge.{Edge}
 
 module _ {X : Type 0} where
   remove_last : (xs : List X) (j : ℕ) (d : X) → j + 1 ≡ length xs → remove xs j ++ (get_or xs j d ∷ []) ≡ xs
@@ -34,17 +34,17 @@ pub match_weaker : {P : Type 0} (o : Option P) (A A' : Type 0) (B B' : P → Typ
 match_weaker None A A' B B' none some h = none h
 match_weaker (Some p) A A' B B' none some h = some p h
 
--- the gap after all numbers, if there are any
-pub end_place : (t : NumberTree) (o : Option Gap) → MatchOption o (tree_numbers t ≡ []) (λ g. IsTreeGap t g × (tree_place t g ≡ length (tree_numbers t))) → gap_or_end t o ≡ length (tree_numbers t)
+-- the edge after all numbers, if there are any
+pub end_place : (t : NumberTree) (o : Option Edge) → MatchOption o (tree_numbers t ≡ []) (λ g. IsTreeEdge t g × (tree_place t g ≡ length (tree_numbers t))) → edge_or_end t o ≡ length (tree_numbers t)
 end_place t None h = refl
 end_place t (Some g) h = h.1
 
 module _ {T : Type 0} (s : BoxStorage T) where
-  -- a number that was found, with the gap after it
-  pub good_from : (rank : ℕ) (found : Found) → IsTreeGap s.tree found.gap → tree_place s.tree found.gap ≡ rank + 1 → rank < length (tree_numbers s.tree) → found.number ≡ get_or (tree_numbers s.tree) rank 0 → IsGood s found × (box_rank s found ≡ rank)
-  good_from rank found gap place within number =
-      let same : tree_place s.tree found.gap - 1 ≡ rank = omega (arith, place) in
-      (record { gap = gap; some = omega (arith, place); within = omega (arith, place, within); number_is = rw same number }, same)
+  -- a number that was found, with the edge after it
+  pub good_from : (rank : ℕ) (found : Found) → IsTreeEdge s.tree found.edge → tree_place s.tree found.edge ≡ rank + 1 → rank < length (tree_numbers s.tree) → found.number ≡ get_or (tree_numbers s.tree) rank 0 → IsGood s found × (box_rank s found ≡ rank)
+  good_from rank found edge place within number =
+      let same : tree_place s.tree found.edge - 1 ≡ rank = omega (arith, place) in
+      (record { edge = edge; some = omega (arith, place); within = omega (arith, place, within); number_is = rw same number }, same)
 
   pub position_at : (rank : ℕ) (found : Option Found) (p : Option BoxPosition) → MatchOption p (found ≡ None) (λ q. found ≡ Some q.found) → IsAt s.tree found rank → IsBoxAt s p rank
   position_at rank found None none at = rw none at at ∙ sym (box_length s)
@@ -53,16 +53,16 @@ module _ {T : Type 0} (s : BoxStorage T) where
       good_from rank q.found at'.0 at'.1 at'.2 at'.3
 
   -- the last of so many numbers
-  pub position_last : (many : ℕ) (found : Option Found) (p : Option BoxPosition) → many ≤ length (tree_numbers s.tree) → MatchOption p (found ≡ None) (λ q. found ≡ Some q.found) → MatchOption found (many ≡ 0) (λ f. IsTreeGap s.tree f.gap × (tree_place s.tree f.gap ≡ many) × IsLast (tree_numbers s.tree) (tree_place s.tree f.gap) (Some f.number)) → MatchOption p (many ≡ 0) (λ q. IsGood s q.found × (box_rank s q.found + 1 ≡ many))
+  pub position_last : (many : ℕ) (found : Option Found) (p : Option BoxPosition) → many ≤ length (tree_numbers s.tree) → MatchOption p (found ≡ None) (λ q. found ≡ Some q.found) → MatchOption found (many ≡ 0) (λ f. IsTreeEdge s.tree f.edge × (tree_place s.tree f.edge ≡ many) × IsLast (tree_numbers s.tree) (tree_place s.tree f.edge) (Some f.number)) → MatchOption p (many ≡ 0) (λ q. IsGood s q.found × (box_rank s q.found + 1 ≡ many))
   position_last many found None within none at = rw none at at
   position_last many found (Some q) within some at =
       let at' = rw some at at in
-      (record { gap = at'.0; some = at'.2.0; within = omega (arith, at'.1, at'.2.0, within); number_is = at'.2.1 }, omega (arith, at'.1, at'.2.0))
+      (record { edge = at'.0; some = at'.2.0; within = omega (arith, at'.1, at'.2.0, within); number_is = at'.2.1 }, omega (arith, at'.1, at'.2.0))
 
-  -- the number before a gap
-  pub position_before : (gap : Gap) (found : Option Found) (p : Option BoxPosition) → IsTreeGap s.tree gap → tree_place s.tree gap ≤ length (tree_numbers s.tree) → MatchOption p (found ≡ None) (λ q. found ≡ Some q.found) → MatchOption found (tree_place s.tree gap ≡ 0) (λ f. (f.gap ≡ gap) × (0 < tree_place s.tree gap) × (f.number ≡ get_or (tree_numbers s.tree) (tree_place s.tree gap - 1) 0)) → MatchOption p (tree_place s.tree gap ≡ 0) (λ q. IsGood s q.found × (box_rank s q.found + 1 ≡ tree_place s.tree gap))
-  position_before gap found p is_gap within position at =
-      position_last (tree_place s.tree gap) found p within position (match_weaker found _ _ _ _ (λ none. none) (λ f h. (rw h.0 is_gap, rw h.0 refl, (rw h.0 h.1, rw h.0 h.2))) at)
+  -- the number before an edge
+  pub position_before : (edge : Edge) (found : Option Found) (p : Option BoxPosition) → IsTreeEdge s.tree edge → tree_place s.tree edge ≤ length (tree_numbers s.tree) → MatchOption p (found ≡ None) (λ q. found ≡ Some q.found) → MatchOption found (tree_place s.tree edge ≡ 0) (λ f. (f.edge ≡ edge) × (0 < tree_place s.tree edge) × (f.number ≡ get_or (tree_numbers s.tree) (tree_place s.tree edge - 1) 0)) → MatchOption p (tree_place s.tree edge ≡ 0) (λ q. IsGood s q.found × (box_rank s q.found + 1 ≡ tree_place s.tree edge))
+  position_before edge found p is_edge within position at =
+      position_last (tree_place s.tree edge) found p within position (match_weaker found _ _ _ _ (λ none. none) (λ f h. (rw h.0 is_edge, rw h.0 refl, (rw h.0 h.1, rw h.0 h.2))) at)
 
   pub place_within : (before : Option BoxPosition) → ForSome before (λ p. IsGood s p.found) → box_place s before ≤ length (tree_numbers s.tree)
   place_within None good = omega (arith, box_length s)

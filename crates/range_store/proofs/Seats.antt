@@ -1,4 +1,4 @@
--- Gaps in a node that is to be written, by their seats.
+-- Edges in a node that is to be written, by their seats.
 use Rattle.std.proofs.Common.{◌≡◌, ◌≢◌, ℕ, zero, suc, ◌+◌, ◌-◌, ◌^◌, ◌<◌, ◌≤◌, List, [], ◌∷◌, ◌++◌, length, get_or, take, drop, map, refl, sym, ap, ◌∙◌, inr, arith, Option, Some, None, take-add, take-take, take_all, get_or-take, get_or-drop}
 use Rattle.std.specs.List.{flat_map, sum_by}
 use Rattle.std.proofs.lemmas.List.{length-append, length-map, length-take-le, length-drop, take-map, drop-map, map-append, nil_from_length, get_or-append-add, get_or_append_left, take-append-le}
@@ -6,11 +6,11 @@ use Rattle.std.proofs.lemmas.List.Sums.{sum_by-cons, sum_by-append}
 use Rattle.slab.specs.Slab.{Slab}
 use Rattle.range_store.specs.declared.btree.node.Node.{Node}
 use Rattle.range_store.specs.declared.btree.node.Split.{Split}
-use Rattle.range_store.specs.declared.btree.way.Gap.{Gap}
+use Rattle.range_store.specs.declared.btree.way.Edge.{Edge}
 use Rattle.range_store.specs.declared.btree.way.TheConstants.{DEEPEST}
 use Rattle.range_store.specs.Nodes.{weave, front_of, before, child_count, numbers, used, tops, separators}
-use Rattle.range_store.specs.Gaps.{turn, inside, IsGap, place, IsSeat, seat_place}
-use Rattle.range_store.proofs.Gaps.{same_gap, agree_kid, way_small}
+use Rattle.range_store.specs.Edges.{turn, inside, IsEdge, place, IsSeat, seat_place}
+use Rattle.range_store.proofs.Edges.{same_edge, agree_kid, way_small}
 use Rattle.range_store.proofs.Frame.{AgreeAt}
 use Rattle.range_store.proofs.Contents.{Holds}
 use Rattle.range_store.proofs.Weave.{length-weave}
@@ -29,28 +29,28 @@ module _ {X : Type 0} where
       let second = length-take-le i ks within in
       omega (arith, length-front_of (take i xs) (take i ks) (first ∙ sym second), first)
 
--- a gap at a seat of a node that was written
-module _ (s t : Slab Node) (n : ℕ) (xs ks : List ℕ) (i : ℕ) (g h : Gap) where
-  pub seat_written : (d : ℕ) → Holds s t d n xs ks → AgreeAt s t (flat_map (used s d) ks) → (d ≡ 0 → h ≡ record { leaf = n; way = 0; index = i }) → (0 < d → turn h ≡ i) → (0 < d → inside h ≡ g) → IsSeat s d xs ks i g → IsGap t d n h × (place t d n h ≡ seat_place s d xs ks i g)
-  unfolding IsGap place IsSeat seat_place
+-- an edge at a seat of a node that was written
+module _ (s t : Slab Node) (n : ℕ) (xs ks : List ℕ) (i : ℕ) (g h : Edge) where
+  pub seat_written : (d : ℕ) → Holds s t d n xs ks → AgreeAt s t (flat_map (used s d) ks) → (d ≡ 0 → h ≡ record { leaf = n; way = 0; index = i }) → (0 < d → turn h ≡ i) → (0 < d → inside h ≡ g) → IsSeat s d xs ks i g → IsEdge t d n h × (place t d n h ≡ seat_place s d xs ks i g)
+  unfolding IsEdge place IsSeat seat_place
   seat_written zero holds agree leaf at within seat =
       rw (leaf refl) ((refl, refl, rw holds.items_are seat), refl)
   seat_written (suc d) holds agree leaf at within seat =
-      let kid = same_gap s t d (get_or ks i 0) g (agree_kid s t (suc d) i ks agree seat.0) seat.1 in
-      rw (at (omega arith), within (omega arith), holds.items_are, holds.children_are, holds.same.numbers_same) ((seat.0, kid.gap seat.1), ap (λ m. length (before xs (map (numbers s (suc d)) ks) i) + m) kid.place)
+      let kid = same_edge s t d (get_or ks i 0) g (agree_kid s t (suc d) i ks agree seat.0) seat.1 in
+      rw (at (omega arith), within (omega arith), holds.items_are, holds.children_are, holds.same.numbers_same) ((seat.0, kid.edge seat.1), ap (λ m. length (before xs (map (numbers s (suc d)) ks) i) + m) kid.place)
 
-pub seat_small : (s : Slab Node) (d : ℕ) (xs ks : List ℕ) (i : ℕ) (g : Gap) → length ks ≡ child_count d (length xs) → IsSeat s d xs ks i g → i ≤ length xs
+pub seat_small : (s : Slab Node) (d : ℕ) (xs ks : List ℕ) (i : ℕ) (g : Edge) → length ks ≡ child_count d (length xs) → IsSeat s d xs ks i g → i ≤ length xs
 unfolding IsSeat
 seat_small s zero xs ks i g branches seat = seat
 seat_small s (suc d) xs ks i g branches seat = omega (arith, seat.0, branches)
 
-pub seat_way : (s : Slab Node) (d : ℕ) (xs ks : List ℕ) (i : ℕ) (g : Gap) → d < DEEPEST → 0 < d → IsSeat s d xs ks i g → g.way < 2 ^ 124
+pub seat_way : (s : Slab Node) (d : ℕ) (xs ks : List ℕ) (i : ℕ) (g : Edge) → d < DEEPEST → 0 < d → IsSeat s d xs ks i g → g.way < 2 ^ 124
 unfolding IsSeat
 seat_way s zero xs ks i g deep some seat = absurd (omega arith)
 seat_way s (suc d) xs ks i g deep some seat = way_small s d _ g (omega (arith, deep)) seat.1
 
--- a cut at `half` leaves a gap in the first part, at the same seat
-module _ (s : Slab Node) (half : ℕ) (xs ks : List ℕ) (i : ℕ) (g : Gap) (low : half < length xs) where
+-- a cut at `half` leaves an edge in the first part, at the same seat
+module _ (s : Slab Node) (half : ℕ) (xs ks : List ℕ) (i : ℕ) (g : Edge) (low : half < length xs) where
   lists_take : (d : ℕ) → map (numbers s d) (take (half + 1) ks) ≡ take (half + 1) (map (numbers s d) ks)
   lists_take d = sym (take-map (numbers s d) (half + 1) ks)
 
@@ -89,24 +89,24 @@ module _ (s : Slab Node) (half : ℕ) (xs ks : List ℕ) (i : ℕ) (g : Gap) (lo
       let left = length-weave (take half xs) (take (half + 1) lists) (inr (omega (arith, length-take-le half xs (omega arith), length-take-le (half + 1) lists (omega (arith, many, low))))) in
       ((omega (arith, length-drop (half + 1) ks, seat.0), rw kid seat.1), rw (kid, lists_take (suc d), lists_drop (suc d)) (omega (arith, second, all, sums, left, length-take-le half xs (omega arith))))
 
--- a gap below a node, or below the one after it, among the two
-module _ (s : Slab Node) (d n : ℕ) (g : Gap) where
-  pub seat_alone : (split : Option Split) → IsGap s d n g → IsSeat s (suc d) (separators split) (tops n split) 0 g × (seat_place s (suc d) (separators split) (tops n split) 0 g ≡ place s d n g)
+-- an edge below a node, or below the one after it, among the two
+module _ (s : Slab Node) (d n : ℕ) (g : Edge) where
+  pub seat_alone : (split : Option Split) → IsEdge s d n g → IsSeat s (suc d) (separators split) (tops n split) 0 g × (seat_place s (suc d) (separators split) (tops n split) 0 g ≡ place s d n g)
   unfolding IsSeat seat_place
   seat_alone None is = ((omega arith, is), omega arith)
   seat_alone (Some split) is = ((omega arith, is), omega arith)
 
-  pub seat_beside : (split : Split) → IsGap s d split.right g → IsSeat s (suc d) (separators (Some split)) (tops n (Some split)) 1 g × (seat_place s (suc d) (separators (Some split)) (tops n (Some split)) 1 g ≡ length (numbers s (suc d) n) + 1 + place s d split.right g)
+  pub seat_beside : (split : Split) → IsEdge s d split.right g → IsSeat s (suc d) (separators (Some split)) (tops n (Some split)) 1 g × (seat_place s (suc d) (separators (Some split)) (tops n (Some split)) 1 g ≡ length (numbers s (suc d) n) + 1 + place s d split.right g)
   unfolding IsSeat seat_place
   seat_beside split is =
       ((omega arith, is), omega (arith, length-append (numbers s (suc d) n ++ (split.middle ∷ [])) [], length-append (numbers s (suc d) n) (split.middle ∷ [])))
 
-pub seat_below : (s : Slab Node) (b : ℕ) (xs ks : List ℕ) (i : ℕ) (g : Gap) → b ≢ 0 → i < length ks → IsGap s (b - 1) (get_or ks i 0) g → IsSeat s b xs ks i g
+pub seat_below : (s : Slab Node) (b : ℕ) (xs ks : List ℕ) (i : ℕ) (g : Edge) → b ≢ 0 → i < length ks → IsEdge s (b - 1) (get_or ks i 0) g → IsSeat s b xs ks i g
 unfolding IsSeat
 seat_below s zero xs ks i g inner within is = absurd (inner refl)
 seat_below s (suc d) xs ks i g inner within is = let level : suc d - 1 ≡ d = omega arith in (within, rw level at is)
 
-pub seat_place_below : (s : Slab Node) (b : ℕ) (xs ks : List ℕ) (i : ℕ) (g : Gap) → b ≢ 0 → seat_place s b xs ks i g ≡ length (before xs (map (numbers s b) ks) i) + place s (b - 1) (get_or ks i 0) g
+pub seat_place_below : (s : Slab Node) (b : ℕ) (xs ks : List ℕ) (i : ℕ) (g : Edge) → b ≢ 0 → seat_place s b xs ks i g ≡ length (before xs (map (numbers s b) ks) i) + place s (b - 1) (get_or ks i 0) g
 unfolding seat_place
 seat_place_below s zero xs ks i g inner = absurd (inner refl)
 seat_place_below s (suc d) xs ks i g inner = let level : suc d - 1 ≡ d = omega arith in rw level refl
@@ -116,8 +116,8 @@ take-append-add [] rest n k e = let same : n ≡ k = omega (arith, e) in ap (λ 
 take-append-add (x ∷ ds) rest zero k e = absurd (omega arith)
 take-append-add (x ∷ ds) rest (suc n) k e = ap (λ zs. x ∷ zs) (take-append-add ds rest n k (omega arith))
 
--- a gap in a run of children, among all of them
-module _ (s : Slab Node) (d : ℕ) (us ts vs xs seps ys : List ℕ) (i j : ℕ) (g : Gap) (many : length us ≡ i) (items : length xs ≡ i) (more : length ts ≡ length seps + 1) where
+-- an edge in a run of children, among all of them
+module _ (s : Slab Node) (d : ℕ) (us ts vs xs seps ys : List ℕ) (i j : ℕ) (g : Edge) (many : length us ≡ i) (items : length xs ≡ i) (more : length ts ≡ length seps + 1) where
   pub seat_run : IsSeat s (suc d) seps ts j g → IsSeat s (suc d) (xs ++ (seps ++ ys)) (us ++ (ts ++ vs)) (i + j) g × (seat_place s (suc d) (xs ++ (seps ++ ys)) (us ++ (ts ++ vs)) (i + j) g ≡ i + sum_by length (map (numbers s (suc d)) us) + seat_place s (suc d) seps ts j g)
   unfolding IsSeat seat_place
   seat_run seat =
@@ -133,14 +133,14 @@ module _ (s : Slab Node) (d : ℕ) (us ts vs xs seps ys : List ℕ) (i j : ℕ) 
       let sums : sum_by length (take (i + j) (map f us ++ (map f ts ++ map f vs))) ≡ sum_by length (map f us) + sum_by length (take j (map f ts)) = ap (sum_by length) first ∙ sum_by-append (length {A = ℕ}) (map f us) (take j (map f ts)) in
       ((omega (arith, length-append us (ts ++ vs), length-append ts vs, many, seat.0), rw kid seat.1), rw (kid, lists) (omega (arith, all, inner, sums)))
 
-pub seat_side : (s : Slab Node) (d : ℕ) (xs ks : List ℕ) (i : ℕ) (g : Gap) → IsSeat s (suc d) xs ks i g → i < length ks
+pub seat_side : (s : Slab Node) (d : ℕ) (xs ks : List ℕ) (i : ℕ) (g : Edge) → IsSeat s (suc d) xs ks i g → i < length ks
 unfolding IsSeat
 seat_side s d xs ks i g seat = seat.0
 
-pub seat_inside : (s : Slab Node) (d : ℕ) (xs ks : List ℕ) (i : ℕ) (g : Gap) → IsSeat s (suc d) xs ks i g → IsGap s d (get_or ks i 0) g
+pub seat_inside : (s : Slab Node) (d : ℕ) (xs ks : List ℕ) (i : ℕ) (g : Edge) → IsSeat s (suc d) xs ks i g → IsEdge s d (get_or ks i 0) g
 unfolding IsSeat
 seat_inside s d xs ks i g seat = seat.1
 
-pub seat_place_inner : (s : Slab Node) (d : ℕ) (xs ks : List ℕ) (i : ℕ) (g : Gap) → seat_place s (suc d) xs ks i g ≡ length (before xs (map (numbers s (suc d)) ks) i) + place s d (get_or ks i 0) g
+pub seat_place_inner : (s : Slab Node) (d : ℕ) (xs ks : List ℕ) (i : ℕ) (g : Edge) → seat_place s (suc d) xs ks i g ≡ length (before xs (map (numbers s (suc d)) ks) i) + place s d (get_or ks i 0) g
 unfolding seat_place
 seat_place_inner s d xs ks i g = refl

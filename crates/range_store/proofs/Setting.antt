@@ -6,15 +6,15 @@ use Rattle.std.proofs.lemmas.List.{length-append, get_or-map, set-append_left}
 use Rattle.slab.specs.Slab.{Slab, get}
 use Rattle.range_store.specs.declared.btree.node.Node.{Node}
 use Rattle.range_store.specs.declared.btree.node.TheConstants.{CAPACITY, MIN_LEN}
-use Rattle.range_store.specs.declared.btree.way.Gap.{Gap}
+use Rattle.range_store.specs.declared.btree.way.Edge.{Edge}
 use Rattle.range_store.specs.Nodes.{weave, before, after, items_of, children_of, child_count, numbers, used, Shaped, ShapedBut, Owned, Moves, Writes}
-use Rattle.range_store.specs.Gaps.{turn, inside, IsGap, place}
+use Rattle.range_store.specs.Edges.{turn, inside, IsEdge, place}
 use Rattle.range_store.specs.Contents.{IsContent, IsRewritten}
 use Rattle.range_store.specs.Occurrences.{occurrences}
 use Rattle.range_store.proofs.Below.{children_length, lists_length, numbers_at, used_is, weave_numbers, Shaped-from_but}
 use Rattle.range_store.proofs.Contents.{Holds, written_holds, written_agree, held_numbers, held_used, held_shape}
 use Rattle.range_store.proofs.Frame.{IsNode-same}
-use Rattle.range_store.proofs.Gaps.{gap_above, place_inside}
+use Rattle.range_store.proofs.Edges.{edge_above, place_inside}
 use Rattle.range_store.proofs.Moves.{Writes-moves}
 use Rattle.range_store.proofs.Rank.{kid_shaped}
 use Rattle.range_store.proofs.Seats.{length-before, seat_written, seat_below, seat_place_below}
@@ -86,14 +86,14 @@ module _ (s t : Slab Node) (b n i q item : ℕ) (inner : b ≢ 0) (shaped : Shap
     };
   }
 
-  pub kept_above : (g : Gap) → turn g ≡ i → IsGap t (b - 1) (get_or (children_of (get s n)) i 0) (inside g) → place t (b - 1) (get_or (children_of (get s n)) i 0) (inside g) ≡ place s (b - 1) (get_or (children_of (get s n)) i 0) (inside g) → IsGap t b n g × (place t b n g ≡ place s b n g)
+  pub kept_above : (g : Edge) → turn g ≡ i → IsEdge t (b - 1) (get_or (children_of (get s n)) i 0) (inside g) → place t (b - 1) (get_or (children_of (get s n)) i 0) (inside g) ≡ place s (b - 1) (get_or (children_of (get s n)) i 0) (inside g) → IsEdge t b n g × (place t b n g ≡ place s b n g)
   kept_above g at is same =
       let few : i < length (children_of (get t n)) = rw kept (child_within s b n inner shaped i low) in
-      let gap = rw back at (gap_above t (b - 1) n i (inside g) g at refl few (rw kept is)) in
+      let edge = rw back at (edge_above t (b - 1) n i (inside g) g at refl few (rw kept is)) in
       let now = rw (back, kept, at) at (place_inside t (b - 1) n g) in
       let old = rw at at (below_here s b n inner shaped g) in
       let fronts = rw kept at (kid_front s t b n i _ inner shaped owned low listed moved) in
-      (gap, omega (arith, now, old, fronts, same))
+      (edge, omega (arith, now, old, fronts, same))
 
 -- another item in the place of the one at j
 module _ (s t : Slab Node) (b n j item : ℕ) (inner : b ≢ 0) (shaped : ShapedBut 1 CAPACITY s b n) (owned : Owned s (suc b) n) (low : j < length (items_of (get s n))) (written : Writes s t n (set (items_of (get s n)) j item) (children_of (get s n))) where
@@ -133,20 +133,20 @@ module _ (s t : Slab Node) (b n j item : ℕ) (inner : b ≢ 0) (shaped : Shaped
         shape = λ least small old. held_shape s t b n (set xs j item) ks holds least (omega (arith, as_many, old.node.enough)) (omega (arith, as_many, shaped.node.fits)) branches shaped.children;
       }
 
-  pub kept_here : (g : Gap) → IsGap s b n g → IsGap t b n g × (place t b n g ≡ place s b n g)
+  pub kept_here : (g : Edge) → IsEdge s b n g → IsEdge t b n g × (place t b n g ≡ place s b n g)
   kept_here g is =
       let at = below_turn s b n inner shaped g is in
       let few = child_within s b n inner shaped (turn g) at in
       let seat = seat_below s b (set xs j item) ks (turn g) (inside g) inner few (below_inside s b n inner shaped g is) in
       let agree = written_agree s t b n (set xs j item) ks content written in
-      let gap = seat_written s t n (set xs j item) ks (turn g) (inside g) g b holds agree (λ none. absurd (inner none)) (λ some. refl) (λ some. refl) seat in
+      let edge = seat_written s t n (set xs j item) ks (turn g) (inside g) g b holds agree (λ none. absurd (inner none)) (λ some. refl) (λ some. refl) seat in
       let many = lists_length 1 CAPACITY s b n (omega arith) shaped in
       let first = length-before (set xs j item) lists (turn g) (omega (arith, at, as_many)) (omega (arith, at, many)) in
       let second = length-before xs lists (turn g) at (omega (arith, at, many)) in
-      (gap.0, omega (arith, gap.1, seat_place_below s b (set xs j item) ks (turn g) (inside g) inner, first, second, below_here s b n inner shaped g))
+      (edge.0, omega (arith, edge.1, seat_place_below s b (set xs j item) ks (turn g) (inside g) inner, first, second, below_here s b n inner shaped g))
 
--- a gap at the beginning of a child stands after the item before that
-pub place_here : (s : Slab Node) (b n : ℕ) (inner : b ≢ 0) (shaped : ShapedBut 1 CAPACITY s b n) (g : Gap) (j : ℕ) → IsGap s b n g → j + 1 ≡ turn g → place s (b - 1) (get_or (children_of (get s n)) (turn g) 0) (inside g) ≡ 0 → place s b n g ≡ length (before (items_of (get s n)) (map (numbers s b) (children_of (get s n))) j) + length (numbers s b (get_or (children_of (get s n)) j 0)) + 1
+-- an edge at the beginning of a child stands after the item before that
+pub place_here : (s : Slab Node) (b n : ℕ) (inner : b ≢ 0) (shaped : ShapedBut 1 CAPACITY s b n) (g : Edge) (j : ℕ) → IsEdge s b n g → j + 1 ≡ turn g → place s (b - 1) (get_or (children_of (get s n)) (turn g) 0) (inside g) ≡ 0 → place s b n g ≡ length (before (items_of (get s n)) (map (numbers s b) (children_of (get s n))) j) + length (numbers s b (get_or (children_of (get s n)) j 0)) + 1
 place_here s b n inner shaped g j is next first =
     let low : j < length (items_of (get s n)) = omega (arith, below_turn s b n inner shaped g is, next) in
     let more = rw next at (before_next s b n inner shaped j low) in

@@ -10,11 +10,11 @@ use Rattle.range_store.specs.Occurrences.{occurrences, occurrences-cons, occurre
 use Rattle.range_store.specs.Nodes.{weave, before, items_of, children_of, numbers, used, here, Shaped, IsTree, IsLooseTree, Shrinks}
 use Rattle.range_store.proofs.Below.{weave_numbers, used_is, used_leaf, numbers_leaf, Shaped-but, shaped_within_wider}
 use Rattle.range_store.proofs.Frame.{same_below, SameBelow}
-use Rattle.range_store.proofs.Gaps.{SameGap, same_gap, gap_inside, turn_within, place_inside}
+use Rattle.range_store.proofs.Edges.{SameEdge, same_edge, edge_inside, turn_within, place_inside}
 use Rattle.range_store.proofs.Moves.{here_some}
 use Rattle.range_store.proofs.Rank.{numbers_none, used_none}
-use Rattle.range_store.specs.declared.btree.way.Gap.{Gap}
-use Rattle.range_store.specs.Gaps.{turn, inside, IsGap, place}
+use Rattle.range_store.specs.declared.btree.way.Edge.{Edge}
+use Rattle.range_store.specs.Edges.{turn, inside, IsEdge, place}
 use Rattle.range_store.specs.Contents.{IsRewritten}
 
 -- the numbers after an item went below the root
@@ -90,11 +90,11 @@ only_child_is_root s t (suc (suc e)) root more loose empty gone len =
     let list : numbers t (suc e) kid ≡ numbers s (suc (suc e)) root = same.numbers_same ∙ sym (weave_numbers s (suc e) root ∙ ap (λ zs. weave zs (map (numbers s (suc e)) (children_of (get s root)))) (nil_from_length (items_of (get s root)) empty) ∙ ap (λ zs. weave [] (map (numbers s (suc e)) zs)) one ∙ append-nil (numbers s (suc e) kid)) in
     rw level (tree, list)
 
--- a gap below the only child of the root
-pub lowered_gap : (s t : Slab Node) (levels root : ℕ) (g : Gap) → levels ≢ 1 → IsLooseTree s levels root → length (items_of (get s root)) ≡ 0 → Updates s t root None → IsGap s (levels - 1) root g → IsGap t (levels - 1 - 1) (get_or (children_of (get s root)) 0 0) (inside g) × (place t (levels - 1 - 1) (get_or (children_of (get s root)) 0 0) (inside g) ≡ place s (levels - 1) root g)
-lowered_gap s t zero root g more loose empty gone is = absurd (omega (arith, loose.some))
-lowered_gap s t (suc zero) root g more loose empty gone is = absurd (more refl)
-lowered_gap s t (suc (suc e)) root g more loose empty gone is' =
+-- an edge below the only child of the root
+pub lowered_edge : (s t : Slab Node) (levels root : ℕ) (g : Edge) → levels ≢ 1 → IsLooseTree s levels root → length (items_of (get s root)) ≡ 0 → Updates s t root None → IsEdge s (levels - 1) root g → IsEdge t (levels - 1 - 1) (get_or (children_of (get s root)) 0 0) (inside g) × (place t (levels - 1 - 1) (get_or (children_of (get s root)) 0 0) (inside g) ≡ place s (levels - 1) root g)
+lowered_edge s t zero root g more loose empty gone is = absurd (omega (arith, loose.some))
+lowered_edge s t (suc zero) root g more loose empty gone is = absurd (more refl)
+lowered_edge s t (suc (suc e)) root g more loose empty gone is' =
     let level : suc (suc e) - 1 ≡ suc e = omega arith in
     let lower : suc e - 1 ≡ e = omega arith in
     let shaped = rw level at loose.shaped in
@@ -106,11 +106,11 @@ lowered_gap s t (suc (suc e)) root g more loose empty gone is' =
     let used_all : used s (suc (suc e)) root ≡ root ∷ used s (suc e) kid = used_is s (suc e) root ∙ ap (λ zs. root ∷ flat_map (used s (suc e)) zs) one ∙ ap (λ zs. root ∷ zs) (append-nil (used s (suc e) kid)) in
     let present = here_some s root shaped.node.present in
     let occurs : (k : ℕ) → occurrences k (root ∷ []) + occurrences k (used s (suc e) kid) ≡ here s k = λ k. omega (arith, loose.once k, ap (occurrences k) used_all, occurrences-cons k root (used s (suc e) kid)) in
-    let below : IsGap s e kid (inside g) = rw first at (gap_inside s e root g is) in
-    let same : SameGap s t e kid (inside g) = same_gap s t e kid (inside g) (λ k among. gone.others k (λ at. let itself : occurrences k (root ∷ []) ≡ 1 = rw (← at) (occurrences_itself k) in let was : here s k ≡ 1 = rw at present in omega (arith, occurs k, itself, was))) below in
+    let below : IsEdge s e kid (inside g) = rw first at (edge_inside s e root g is) in
+    let same : SameEdge s t e kid (inside g) = same_edge s t e kid (inside g) (λ k among. gone.others k (λ at. let itself : occurrences k (root ∷ []) ≡ 1 = rw (← at) (occurrences_itself k) in let was : here s k ≡ 1 = rw at present in omega (arith, occurs k, itself, was))) below in
     let here' = rw first at (place_inside s e root g) in
     let start : length (before (items_of (get s root)) (map (numbers s (suc e)) ks) 0) ≡ 0 = refl in
-    rw (level, lower) (same.gap below, omega (arith, same.place, here', start))
+    rw (level, lower) (same.edge below, omega (arith, same.place, here', start))
 
 pub tree_owned : (s : Slab Node) (levels root : ℕ) → IsTree s levels root → (k : ℕ) → occurrences k (used s levels root) ≤ here s k
 tree_owned s levels root tree k = omega (arith, tree.once k)

@@ -1,14 +1,14 @@
--- A node above the leaves, and the gaps and items below its children.
+-- A node above the leaves, and the edges and items below its children.
 use Rattle.std.proofs.Common.{◌≡◌, ◌≢◌, List, ℕ, zero, suc, ◌+◌, ◌-◌, ◌<◌, ◌≤◌, ◌++◌, length, get_or, map, refl, sym, ap, ◌∙◌, arith, Option, Some, None, IsSome}
 use Rattle.slab.specs.Slab.{Slab, get}
 use Rattle.range_store.specs.declared.btree.node.Node.{Node}
 use Rattle.range_store.specs.declared.btree.node.TheConstants.{CAPACITY, MIN_LEN}
-use Rattle.range_store.specs.declared.btree.way.Gap.{Gap}
+use Rattle.range_store.specs.declared.btree.way.Edge.{Edge}
 use Rattle.range_store.specs.declared.btree.way.Found.{Found}
 use Rattle.range_store.specs.Nodes.{items_of, children_of, numbers, before, after, ShapedBut}
-use Rattle.range_store.specs.Gaps.{turn, inside, IsGap, place, IsFound, IsLast}
+use Rattle.range_store.specs.Edges.{turn, inside, IsEdge, place, IsFound, IsLast}
 use Rattle.range_store.proofs.Below.{children_length, numbers_at, length-before_more, none_after_last, shaped_within_wider, numbers_leaf}
-use Rattle.range_store.proofs.Gaps.{gap_above, place_above, place_inside, gap_inside, turn_within, place_within, leaf_gap, leaf_place}
+use Rattle.range_store.proofs.Edges.{edge_above, place_above, place_inside, edge_inside, turn_within, place_within, leaf_edge, leaf_place}
 use Rattle.range_store.proofs.Rank.{kid_shaped, rank_in_child, rank_at_item}
 use Rattle.std.proofs.lemmas.List.{length-append}
 
@@ -25,27 +25,27 @@ module _ (s : Slab Node) (b n : ℕ) (inner : b ≢ 0) (shaped : ShapedBut 1 CAP
   pub below_kid : (i : ℕ) → i ≤ length (items_of (get s n)) → ShapedBut 1 CAPACITY s (b - 1) (get_or (children_of (get s n)) i 0)
   below_kid i low = shaped_within_wider 1 MIN_LEN CAPACITY CAPACITY s (b - 1) _ (omega arith) (omega arith) (kid_shaped 1 CAPACITY s (b - 1) n i deeper low)
 
-  pub below_turn : (g : Gap) → IsGap s b n g → turn g ≤ length (items_of (get s n))
+  pub below_turn : (g : Edge) → IsEdge s b n g → turn g ≤ length (items_of (get s n))
   below_turn g is =
       omega (arith, turn_within s (b - 1) n g (rw (← level_of_children) at is), children_length 1 CAPACITY s b n (omega arith) shaped)
 
-  pub below_inside : (g : Gap) → IsGap s b n g → IsGap s (b - 1) (get_or (children_of (get s n)) (turn g) 0) (inside g)
-  below_inside g is = gap_inside s (b - 1) n g (rw (← level_of_children) at is)
+  pub below_inside : (g : Edge) → IsEdge s b n g → IsEdge s (b - 1) (get_or (children_of (get s n)) (turn g) 0) (inside g)
+  below_inside g is = edge_inside s (b - 1) n g (rw (← level_of_children) at is)
 
-  pub below_gap : (i : ℕ) (g h : Gap) → turn h ≡ i → inside h ≡ g → i ≤ length (items_of (get s n)) → IsGap s (b - 1) (get_or (children_of (get s n)) i 0) g → IsGap s b n h
-  below_gap i g h at within low is = rw level_of_children at (gap_above s (b - 1) n i g h at within (child_within i low) is)
+  pub below_edge : (i : ℕ) (g h : Edge) → turn h ≡ i → inside h ≡ g → i ≤ length (items_of (get s n)) → IsEdge s (b - 1) (get_or (children_of (get s n)) i 0) g → IsEdge s b n h
+  below_edge i g h at within low is = rw level_of_children at (edge_above s (b - 1) n i g h at within (child_within i low) is)
 
-  pub below_place : (i : ℕ) (g h : Gap) → turn h ≡ i → inside h ≡ g → place s b n h ≡ length (before (items_of (get s n)) (map (numbers s b) (children_of (get s n))) i) + place s (b - 1) (get_or (children_of (get s n)) i 0) g
+  pub below_place : (i : ℕ) (g h : Edge) → turn h ≡ i → inside h ≡ g → place s b n h ≡ length (before (items_of (get s n)) (map (numbers s b) (children_of (get s n))) i) + place s (b - 1) (get_or (children_of (get s n)) i 0) g
   below_place i g h at within = rw level_of_children at (place_above s (b - 1) n i g h at within)
 
-  pub below_here : (g : Gap) → place s b n g ≡ length (before (items_of (get s n)) (map (numbers s b) (children_of (get s n))) (turn g)) + place s (b - 1) (get_or (children_of (get s n)) (turn g) 0) (inside g)
+  pub below_here : (g : Edge) → place s b n g ≡ length (before (items_of (get s n)) (map (numbers s b) (children_of (get s n))) (turn g)) + place s (b - 1) (get_or (children_of (get s n)) (turn g) 0) (inside g)
   below_here g = rw level_of_children at (place_inside s (b - 1) n g)
 
-  pub below_most : (i : ℕ) (g : Gap) → i ≤ length (items_of (get s n)) → IsGap s (b - 1) (get_or (children_of (get s n)) i 0) g → place s (b - 1) (get_or (children_of (get s n)) i 0) g ≤ length (numbers s b (get_or (children_of (get s n)) i 0))
+  pub below_most : (i : ℕ) (g : Edge) → i ≤ length (items_of (get s n)) → IsEdge s (b - 1) (get_or (children_of (get s n)) i 0) g → place s (b - 1) (get_or (children_of (get s n)) i 0) g ≤ length (numbers s b (get_or (children_of (get s n)) i 0))
   below_most i g low is = rw level_of_children at (place_within s (b - 1) _ g 1 CAPACITY (below_kid i low) is)
 
   -- what is found below the child at i is found below the node
-  pub found_above : (i rest : ℕ) (f h : Found) → i ≤ length (items_of (get s n)) → turn h.gap ≡ i → inside h.gap ≡ f.gap → h.number ≡ f.number → IsFound s (b - 1) (get_or (children_of (get s n)) i 0) rest f → IsFound s b n (length (before (items_of (get s n)) (map (numbers s b) (children_of (get s n))) i) + rest) h
+  pub found_above : (i rest : ℕ) (f h : Found) → i ≤ length (items_of (get s n)) → turn h.edge ≡ i → inside h.edge ≡ f.edge → h.number ≡ f.number → IsFound s (b - 1) (get_or (children_of (get s n)) i 0) rest f → IsFound s b n (length (before (items_of (get s n)) (map (numbers s b) (children_of (get s n))) i) + rest) h
   found_above i rest f h low at within number found =
       let xs = items_of (get s n) in
       let lists = map (numbers s b) (children_of (get s n)) in
@@ -56,12 +56,12 @@ module _ (s : Slab Node) (b n : ℕ) (inner : b ≢ 0) (shaped : ShapedBut 1 CAP
       record {
         within = omega (arith, less, ap length whole, length-append (before xs lists i) (numbers s b kid ++ after xs lists i), length-append (numbers s b kid) (after xs lists i));
         number = number ∙ (rw level_of_children at found.number) ∙ sym same;
-        gap = below_gap i f.gap h.gap at within low found.gap;
-        place = omega (arith, below_place i f.gap h.gap at within, found.place);
+        edge = below_edge i f.edge h.edge at within low found.edge;
+        place = omega (arith, below_place i f.edge h.edge at within, found.place);
       }
 
-  -- the item after the child at i, with a gap at the beginning of the next child
-  pub found_between : (i : ℕ) (g : Gap) (h : Found) → i < length (items_of (get s n)) → turn h.gap ≡ i + 1 → inside h.gap ≡ g → h.number ≡ get_or (items_of (get s n)) i 0 → IsGap s (b - 1) (get_or (children_of (get s n)) (i + 1) 0) g → place s (b - 1) (get_or (children_of (get s n)) (i + 1) 0) g ≡ 0 → IsFound s b n (length (before (items_of (get s n)) (map (numbers s b) (children_of (get s n))) i) + length (numbers s b (get_or (children_of (get s n)) i 0))) h
+  -- the item after the child at i, with an edge at the beginning of the next child
+  pub found_between : (i : ℕ) (g : Edge) (h : Found) → i < length (items_of (get s n)) → turn h.edge ≡ i + 1 → inside h.edge ≡ g → h.number ≡ get_or (items_of (get s n)) i 0 → IsEdge s (b - 1) (get_or (children_of (get s n)) (i + 1) 0) g → place s (b - 1) (get_or (children_of (get s n)) (i + 1) 0) g ≡ 0 → IsFound s b n (length (before (items_of (get s n)) (map (numbers s b) (children_of (get s n))) i) + length (numbers s b (get_or (children_of (get s n)) i 0))) h
   found_between i g h low at within number is first =
       let xs = items_of (get s n) in
       let lists = map (numbers s b) (children_of (get s n)) in
@@ -73,8 +73,8 @@ module _ (s : Slab Node) (b n : ℕ) (inner : b ≢ 0) (shaped : ShapedBut 1 CAP
       record {
         within = less;
         number = number ∙ sym same;
-        gap = below_gap (i + 1) g h.gap at within (omega arith) is;
-        place = omega (arith, below_place (i + 1) g h.gap at within, first, more);
+        edge = below_edge (i + 1) g h.edge at within (omega arith) is;
+        place = omega (arith, below_place (i + 1) g h.edge at within, first, more);
       }
 
   -- after the last child stands nothing
@@ -87,7 +87,7 @@ module _ (s : Slab Node) (b n : ℕ) (inner : b ≢ 0) (shaped : ShapedBut 1 CAP
       let none : length (after xs lists i) ≡ 0 = rw last (ap length (none_after_last 1 CAPACITY s b n (omega arith) shaped)) in
       omega (arith, ap length whole, length-append (before xs lists i) (numbers s b kid ++ after xs lists i), length-append (numbers s b kid) (after xs lists i), none)
 
-  -- the item before a gap below the child at i, if there is one there
+  -- the item before an edge below the child at i, if there is one there
   pub last_above : (i rest : ℕ) (r : Option ℕ) → i ≤ length (items_of (get s n)) → rest ≤ length (numbers s b (get_or (children_of (get s n)) i 0)) → IsSome r → IsLast (numbers s (suc (b - 1)) (get_or (children_of (get s n)) i 0)) rest r → IsLast (numbers s (suc b) n) (length (before (items_of (get s n)) (map (numbers s b) (children_of (get s n))) i) + rest) r
   last_above i rest None low within some last = absurd (cc)
   last_above i rest (Some x) low within some last' =
@@ -97,7 +97,7 @@ module _ (s : Slab Node) (b n : ℕ) (inner : b ≢ 0) (shaped : ShapedBut 1 CAP
       let place : front + rest - 1 ≡ front + (rest - 1) = omega (arith, last.0) in
       (omega (arith, last.0), last.1 ∙ sym same ∙ ap (λ m. get_or (numbers s (suc b) n) m 0) (sym place))
 
-  -- a gap at the end of the child at i is one before the next child
+  -- an edge at the end of the child at i is one before the next child
   pub before_next : (i : ℕ) → i < length (items_of (get s n)) → length (before (items_of (get s n)) (map (numbers s b) (children_of (get s n))) (i + 1)) ≡ length (before (items_of (get s n)) (map (numbers s b) (children_of (get s n))) i) + length (numbers s b (get_or (children_of (get s n)) i 0)) + 1
   before_next i low = length-before_more 1 CAPACITY s b n (omega arith) shaped i low
 
@@ -125,13 +125,13 @@ none_before list rest (Some x) none last = absurd (none refl)
 pub items_known : (s : Slab Node) (n : ℕ) (node : Node) → get s n ≡ Some node → items_of (get s n) ≡ node.items.items
 items_known s n node found = rw found refl
 
--- an item of a leaf, with the gap after it
-pub leaf_found : (s : Slab Node) (n i : ℕ) (h : Found) → ShapedBut 1 CAPACITY s 0 n → i < length (items_of (get s n)) → h.number ≡ get_or (items_of (get s n)) i 0 → h.gap.leaf ≡ n → h.gap.way ≡ 0 → h.gap.index ≡ i + 1 → IsFound s 0 n i h
+-- an item of a leaf, with the edge after it
+pub leaf_found : (s : Slab Node) (n i : ℕ) (h : Found) → ShapedBut 1 CAPACITY s 0 n → i < length (items_of (get s n)) → h.number ≡ get_or (items_of (get s n)) i 0 → h.edge.leaf ≡ n → h.edge.way ≡ 0 → h.edge.index ≡ i + 1 → IsFound s 0 n i h
 leaf_found s n i h shaped low number leaf way index =
     let all = numbers_leaf s n shaped.node.branches in
     record {
       within = omega (arith, low, ap length all);
       number = number ∙ ap (λ xs. get_or xs i 0) (sym all);
-      gap = leaf_gap s n h.gap leaf way (omega arith);
-      place = leaf_place s n h.gap ∙ index;
+      edge = leaf_edge s n h.edge leaf way (omega arith);
+      place = leaf_place s n h.edge ∙ index;
     }

@@ -7,11 +7,11 @@ use Rattle.range_store.specs.declared.btree.node.Node.{Node}
 use Rattle.range_store.specs.declared.btree.node.TheConstants.{CAPACITY, MIN_LEN}
 use Rattle.range_store.specs.declared.btree.way.TheConstants.{DEEPEST}
 use Rattle.range_store.specs.declared.btree.number_tree.NumberTree.{NumberTree}
-use Rattle.range_store.specs.declared.btree.way.Gap.{Gap}
-use Rattle.range_store.specs.Trees.{tree_numbers, IsTreeGap, tree_place}
+use Rattle.range_store.specs.declared.btree.way.Edge.{Edge}
+use Rattle.range_store.specs.Trees.{tree_numbers, IsTreeEdge, tree_place}
 use Rattle.range_store.specs.Nodes.{IsRoomy, ShapedBut, items_of}
-use Rattle.range_store.proofs.Gaps.{place_within}
-use Rattle.range_store.proofs.InLeaf.{IsLeafOf, leaf_of_gap, leaf_beside, leaf_item}
+use Rattle.range_store.proofs.Edges.{place_within}
+use Rattle.range_store.proofs.InLeaf.{IsLeafOf, leaf_of_edge, leaf_beside, leaf_item}
 use Rattle.range_store.proofs.Levels.{tree_lower}
 use Rattle.range_store.proofs.Rank.{root_shaped}
 
@@ -28,14 +28,14 @@ tree_is_not_too_deep s (suc d) root roomy =
           absurd (omega (arith, tree_lower s d root roomy.tree, more, limit, roomy.counted))
     ]
 
--- no gap lies past the end
-pub gap_within : (t : NumberTree) (g : Gap) → IsTreeGap t g → tree_place t g ≤ length (tree_numbers t)
-gap_within t g is =
+-- no edge lies past the end
+pub edge_within : (t : NumberTree) (g : Edge) → IsTreeEdge t g → tree_place t g ≤ length (tree_numbers t)
+edge_within t g is =
     let level : suc (t.levels - 1) ≡ t.levels = omega (arith, is.some) in
-    rw level at (place_within t.nodes (t.levels - 1) t.root g 1 CAPACITY (root_shaped t.nodes t.levels t.root is.some t.whole.tree) is.gap)
+    rw level at (place_within t.nodes (t.levels - 1) t.root g 1 CAPACITY (root_shaped t.nodes t.levels t.root is.some t.whole.tree) is.edge)
 
--- a gap in the leaf of another, and the item there
-module _ (t : NumberTree) (g : Gap) (is : IsTreeGap t g) where
+-- an edge in the leaf of another, and the item there
+module _ (t : NumberTree) (g : Edge) (is : IsTreeEdge t g) where
   level : suc (t.levels - 1) ≡ t.levels
   level = omega (arith, is.some)
 
@@ -43,12 +43,12 @@ module _ (t : NumberTree) (g : Gap) (is : IsTreeGap t g) where
   shaped = root_shaped t.nodes t.levels t.root is.some t.whole.tree
 
   pub tree_leaf : IsLeafOf t.nodes g
-  tree_leaf = leaf_of_gap t.nodes (t.levels - 1) t.root g shaped is.gap
+  tree_leaf = leaf_of_edge t.nodes (t.levels - 1) t.root g shaped is.edge
 
-  pub tree_beside : (h : Gap) → h.leaf ≡ g.leaf → h.way ≡ g.way → h.index ≤ length (items_of (get t.nodes g.leaf)) → IsTreeGap t h × (tree_place t h + g.index ≡ tree_place t g + h.index)
+  pub tree_beside : (h : Edge) → h.leaf ≡ g.leaf → h.way ≡ g.way → h.index ≤ length (items_of (get t.nodes g.leaf)) → IsTreeEdge t h × (tree_place t h + g.index ≡ tree_place t g + h.index)
   tree_beside h leaf way index =
-      let other = leaf_beside t.nodes (t.levels - 1) t.root g h leaf way index is.gap in
-      (record { some = is.some; gap = other.0 }, other.1)
+      let other = leaf_beside t.nodes (t.levels - 1) t.root g h leaf way index is.edge in
+      (record { some = is.some; edge = other.0 }, other.1)
 
   pub tree_item : g.index < length (items_of (get t.nodes g.leaf)) → (get_or (tree_numbers t) (tree_place t g) 0 ≡ get_or (items_of (get t.nodes g.leaf)) g.index 0) × (tree_place t g < length (tree_numbers t))
-  tree_item low = rw level at (leaf_item t.nodes (t.levels - 1) t.root g 1 CAPACITY shaped low is.gap)
+  tree_item low = rw level at (leaf_item t.nodes (t.levels - 1) t.root g 1 CAPACITY shaped low is.edge)

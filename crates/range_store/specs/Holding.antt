@@ -5,7 +5,7 @@ use Rattle.slab.specs.Slab.{slab_len, with_value}
 use Rattle.range_store.specs.Depth.{HasLevels}
 use Rattle.range_store.specs.Listed.{listed, number_or_none, with_storage, listed-with, still_len, storage_stored, length-listed}
 use Rattle.range_store.specs.Places.{place_before, IsAt}
-use Rattle.range_store.specs.Trees.{tree_numbers, tree_room, IsTreeGap, tree_place}
+use Rattle.range_store.specs.Trees.{tree_numbers, tree_room, IsTreeEdge, tree_place}
 use Rattle.range_store.specs.declared.btree.BoxPosition.{BoxPosition}
 use Rattle.range_store.specs.declared.btree.BoxStorage.{BoxStorage}
 use Rattle.range_store.specs.declared.btree.way.Found.{Found}
@@ -16,16 +16,16 @@ module _ {T : Type 0} where
   abbrev pub box_items : BoxStorage T → List T
   box_items s = listed s.items (tree_numbers s.tree)
 
-  -- the rank of the item before a gap
+  -- the rank of the item before an edge
   abbrev pub box_rank : BoxStorage T → Found → ℕ
-  box_rank s p = tree_place s.tree p.gap - 1
+  box_rank s p = tree_place s.tree p.edge - 1
 
-  -- a number of the tree, and the gap after it
+  -- a number of the tree, and the edge after it
   pub record IsGood (s : BoxStorage T) (p : Found) : Type 0 where
-    pub gap : IsTreeGap s.tree p.gap
-    pub some : 0 < tree_place s.tree p.gap
-    pub within : tree_place s.tree p.gap - 1 < length (tree_numbers s.tree)
-    pub number_is : p.number ≡ slice_index (tree_numbers s.tree) (tree_place s.tree p.gap - 1)
+    pub edge : IsTreeEdge s.tree p.edge
+    pub some : 0 < tree_place s.tree p.edge
+    pub within : tree_place s.tree p.edge - 1 < length (tree_numbers s.tree)
+    pub number_is : p.number ≡ slice_index (tree_numbers s.tree) (tree_place s.tree p.edge - 1)
 
   -- how many more items are sure to fit
   abbrev pub box_room : BoxStorage T → ℕ

@@ -1,8 +1,8 @@
 pub mod Contents
 pub mod Counting
 pub mod Depth
+pub mod Edges
 pub mod Falling
-pub mod Gaps
 pub mod Holding
 pub mod Lending
 pub mod Listed

@@ -4,7 +4,7 @@ ghost use Rattle.std.specs.Option.{ForSome};
 ghost use Rattle.std.proofs.Common.{refl};
 ghost use Rattle.range_store.specs.Depth.{HasLevels};
 ghost use Rattle.range_store.specs.Listed.{IsStorage};
-ghost use Rattle.range_store.specs.Trees.{tree_numbers, IsTreeGap, gap_or_end};
+ghost use Rattle.range_store.specs.Trees.{tree_numbers, IsTreeEdge, edge_or_end};
 
 mod insertion;
 mod node;
@@ -17,13 +17,13 @@ mod way;
 pub use crate::btree::node::{CAPACITY, MIN_LEN};
 use crate::btree::number_tree::NumberTree;
 use crate::btree::searching::HALVINGS;
-use crate::btree::way::{Found, Gap};
+use crate::btree::way::{Edge, Found};
 use crate::storage::{Probe, Storage};
 use slab::Slab;
 use std::alloc::{AllocError, Global};
 use std::mem;
 
-/// Where an item of a `BoxStorage` stands: its number there, and the way to the gap after it.
+/// Where an item of a `BoxStorage` stands: its number there, and the way to the edge after it.
 #[derive(Clone, Copy)]
 pub struct BoxPosition {
     found: Found,
@@ -63,20 +63,20 @@ impl<T> BoxStorage<T> {
         ensures following { IsBoxAt self.new result.1 (box_rank self.old p) }
         ensures space { box_room self.old ≤ box_room self.new }
     {
-        let following = self.tree.remove(p.gap);
+        let following = self.tree.remove(p.edge);
         let item = self.items.remove(p.number);
         (item, position(following))
     }
 
-    // The gap before an item, or at the end of the list, if the list has items.
-    fn gap_at(&self, before: Option<BoxPosition>) -> Option<Gap>
+    // The edge before an item, or at the end of the list, if the list has items.
+    fn edge_at(&self, before: Option<BoxPosition>) -> Option<Edge>
         requires { ForSome before (λ p. IsGood self.now p.found) }
-        ensures gap { MatchOption result (tree_numbers self.now.tree ≡ [])
-            (IsTreeGap self.now.tree) }
-        ensures place { gap_or_end self.now.tree result ≡ box_place self.now before }
+        ensures edge { MatchOption result (tree_numbers self.now.tree ≡ [])
+            (IsTreeEdge self.now.tree) }
+        ensures place { edge_or_end self.now.tree result ≡ box_place self.now before }
     {
         match before {
-            Some(p) => self.tree.gap_before(p.found.gap),
+            Some(p) => self.tree.edge_before(p.found.edge),
             None => self.tree.end(),
         }
     }
@@ -135,12 +135,12 @@ impl<T: Drop> Storage<T> for BoxStorage<T> {
     }
 
     fn next(&self, p: BoxPosition) -> Option<BoxPosition> {
-        position(self.tree.following(p.found.gap))
+        position(self.tree.following(p.found.edge))
     }
 
     fn prev(&self, p: BoxPosition) -> Option<BoxPosition> {
-        let gap = self.tree.gap_before(p.found.gap)?;
-        position(self.tree.preceding(gap))
+        let edge = self.tree.edge_before(p.found.edge)?;
+        position(self.tree.preceding(edge))
     }
 
     fn get(&self, p: BoxPosition) -> &T {
@@ -173,12 +173,12 @@ impl<T: Drop> Storage<T> for BoxStorage<T> {
         ensures position { IsGood self.new result.found
             × (box_rank self.new result.found ≡ box_place self.old before) }
     {
-        let gap = self.gap_at(before);
+        let edge = self.edge_at(before);
         let number = self.items.insert_reserved(item);
         let _many = self.items.len();
-        let gap = self.tree.insert(gap, number);
+        let edge = self.tree.insert(edge, number);
         BoxPosition {
-            found: Found { number, gap },
+            found: Found { number, edge },
         }
     }
 
@@ -215,7 +215,7 @@ impl<T: Drop> Storage<T> for BoxStorage<T> {
 
     ghost room_with = { λ s p x. room_with_stored s (box_rank s p.found) x };
 
-    ghost good_with = { λ s p x q h. record { gap = h.gap; some = h.some; within = h.within; number_is = h.number_is } };
+    ghost good_with = { λ s p x q h. record { edge = h.edge; some = h.some; within = h.within; number_is = h.number_is } };
 
     ghost rank_with = { λ s p x q. refl };
 

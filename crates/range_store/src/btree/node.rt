@@ -2,7 +2,7 @@
 ghost use Rattle.std.specs.Prelude.{◌≡◌, ◌⊎◌, ℕ, ◌+◌, ◌-◌, ◌*◌, ◌<◌, ◌≤◌, List, [], ◌∷◌, ◌++◌, length, take, drop, slice_index, slice_set, insert, remove, None};
 ghost use Rattle.slab.specs.Slab.{get, HasRoomFor, ContainsKey};
 ghost use Rattle.range_store.specs.Nodes.{items_of, children_of, with_child, separators, rights, Writes, Stores};
-ghost use Rattle.range_store.specs.Gaps.{IsLast};
+ghost use Rattle.range_store.specs.Edges.{IsLast};
 
 use arrayvec::ArrayVec;
 use slab::Slab;

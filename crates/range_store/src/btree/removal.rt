@@ -3,7 +3,7 @@ ghost use Rattle.std.specs.Prelude.{◌≡◌, ◌⊎◌, ℕ, suc, ◌+◌, ◌
 ghost use Rattle.std.specs.List.{All};
 ghost use Rattle.slab.specs.Slab.{get, ContainsKey};
 ghost use Rattle.range_store.specs.Nodes.{numbers, items_of, children_of, separators, tops, ShapedBut, Owned, Shrinks, IsMendable, IsLevelled, IsTree, IsLooseTree, IsLender, child_size};
-ghost use Rattle.range_store.specs.Gaps.{IsGap, place, seat_of, IsSeat, seat_place};
+ghost use Rattle.range_store.specs.Edges.{IsEdge, place, seat_of, IsSeat, seat_place};
 ghost use Rattle.range_store.specs.Contents.{IsPair, Rejoins, IsRewritten};
 
 use crate::btree::insertion::Parts;
@@ -11,11 +11,11 @@ use crate::btree::node::{
     CAPACITY, MIN_LEN, Node, Split, child_at, first_part, item_at, item_count, joined, second_part,
     set_item, set_pair, take_item, write,
 };
-use crate::btree::way::{DEEPEST, Gap, first_turn, gap_at, seat, seen_above, seen_inside};
+use crate::btree::way::{DEEPEST, Edge, edge_at, first_turn, seat, seen_above, seen_inside};
 use slab::Slab;
 
 // Makes one node of two and the item between them if there are few items, else gives both as many.
-// Tells where the gap at a seat among all of them comes to lie.
+// Tells where the edge at a seat among all of them comes to lie.
 pub fn rejoin(
     nodes: &mut Slab<Node>,
     low: usize,
@@ -23,7 +23,7 @@ pub fn rejoin(
     middle: usize,
     right: usize,
     seat: usize,
-    inner: Gap,
+    inner: Edge,
 ) -> Parts
     requires pair { IsPair nodes.old low left right }
     requires deep { low < DEEPEST }
@@ -34,10 +34,10 @@ pub fn rejoin(
     ensures shared { MIN_LEN + MIN_LEN
         < length (items_of (get nodes.old left)) + 1 + length (items_of (get nodes.old right))
         → IsSome result.split }
-    ensures gap { IsSeat nodes.new (suc low) (separators result.split) (tops left result.split)
-        result.side result.gap }
+    ensures edge { IsSeat nodes.new (suc low) (separators result.split) (tops left result.split)
+        result.side result.edge }
     ensures place { seat_place nodes.new (suc low) (separators result.split)
-        (tops left result.split) result.side result.gap
+        (tops left result.split) result.side result.edge
         ≡ seat_place nodes.old low
         (items_of (get nodes.old left) ++ middle ∷ items_of (get nodes.old right))
         (children_of (get nodes.old left) ++ children_of (get nodes.old right)) seat inner }
@@ -50,7 +50,7 @@ pub fn rejoin(
         return Parts {
             split: None,
             side: 0,
-            gap: gap_at(low, left, seat, inner),
+            edge: edge_at(low, left, seat, inner),
         };
     }
     let half = many / 2;
@@ -62,63 +62,63 @@ pub fn rejoin(
         return Parts {
             split,
             side: 0,
-            gap: gap_at(low, left, seat, inner),
+            edge: edge_at(low, left, seat, inner),
         };
     }
     Parts {
         split,
         side: 1,
-        gap: gap_at(low, right, seat - half - 1, inner),
+        edge: edge_at(low, right, seat - half - 1, inner),
     }
 }
 
-// The seat of a gap among the items of two neighbours, from that in the first (`side` is 0) or the
+// The seat of an edge among the items of two neighbours, from that in the first (`side` is 0) or the
 // second.
-pub fn seat_in_pair(nodes: &Slab<Node>, low: usize, left: usize, side: usize, gap: Gap) -> usize
+pub fn seat_in_pair(nodes: &Slab<Node>, low: usize, left: usize, side: usize, edge: Edge) -> usize
     requires present { ContainsKey nodes.now left }
     requires fits { length (items_of (get nodes.now left)) ≤ CAPACITY }
-    requires small { seat_of low gap ≤ CAPACITY }
-    ensures left { side ≡ 0 → result ≡ seat_of low gap }
+    requires small { seat_of low edge ≤ CAPACITY }
+    ensures left { side ≡ 0 → result ≡ seat_of low edge }
     ensures right { 0 < side
-        → result ≡ length (items_of (get nodes.now left)) + 1 + seat_of low gap }
+        → result ≡ length (items_of (get nodes.now left)) + 1 + seat_of low edge }
 {
     if side == 0 {
-        return seat(low, gap);
+        return seat(low, edge);
     }
-    item_count(nodes, left) + 1 + seat(low, gap)
+    item_count(nodes, left) + 1 + seat(low, edge)
 }
 
 // Levels the child at `index` with the one after it: they become one, or two with as many items.
-// Tells where a gap below one of them, the child at `turn`, comes to lie.
+// Tells where an edge below one of them, the child at `turn`, comes to lie.
 pub fn level(
     nodes: &mut Slab<Node>,
     low: usize,
     number: usize,
     index: usize,
     turn: usize,
-    gap: Gap,
-) -> Gap
+    edge: Edge,
+) -> Edge
     requires levelled { IsLevelled nodes.old low number index }
     requires deep { low + 1 < DEEPEST }
     requires near { (turn ≡ index) ⊎ (turn ≡ index + 1) }
-    requires gap { IsGap nodes.old low (slice_index (children_of (get nodes.old number)) turn) gap }
+    requires edge { IsEdge nodes.old low (slice_index (children_of (get nodes.old number)) turn) edge }
     ensures shrinks { Shrinks nodes.old nodes.new (suc low) number
         (numbers nodes.old (suc (suc low)) number) }
     ensures shared { MIN_LEN + MIN_LEN
         < child_size nodes.old number index + 1 + child_size nodes.old number (index + 1)
         → length (items_of (get nodes.new number)) ≡ length (items_of (get nodes.old number)) }
-    ensures gap { IsGap nodes.new (suc low) number result }
+    ensures edge { IsEdge nodes.new (suc low) number result }
     ensures place { place nodes.new (suc low) number result
         ≡ seat_place nodes.old (suc low) (items_of (get nodes.old number))
-        (children_of (get nodes.old number)) turn gap }
+        (children_of (get nodes.old number)) turn edge }
 {
     let left = child_at(nodes, number, index);
     let right = child_at(nodes, number, index + 1);
     let middle = item_at(nodes, number, index);
-    let seat = seat_in_pair(nodes, low, left, turn - index, gap);
-    let parts = rejoin(nodes, low, left, middle, right, seat, seen_inside(gap));
+    let seat = seat_in_pair(nodes, low, left, turn - index, edge);
+    let parts = rejoin(nodes, low, left, middle, right, seat, seen_inside(edge));
     set_pair(nodes, number, index, parts.split);
-    seen_above(parts.gap, index + parts.side)
+    seen_above(parts.edge, index + parts.side)
 }
 
 // Where the pair begins with which a short child is levelled: a neighbour with an item to spare is
@@ -152,85 +152,85 @@ pub fn pair_start(nodes: &Slab<Node>, number: usize, index: usize) -> usize
 }
 
 // Gives the child at `index` an item if it is short: from a neighbour that has one to spare, else
-// by joining the two. Tells where a gap below that child comes to lie.
-pub fn mend(nodes: &mut Slab<Node>, low: usize, number: usize, index: usize, gap: Gap) -> Gap
+// by joining the two. Tells where an edge below that child comes to lie.
+pub fn mend(nodes: &mut Slab<Node>, low: usize, number: usize, index: usize, edge: Edge) -> Edge
     requires mendable { IsMendable nodes.old low number index }
     requires deep { low + 1 < DEEPEST }
-    requires gap { IsGap nodes.old low (slice_index (children_of (get nodes.old number)) index)
-        gap }
+    requires edge { IsEdge nodes.old low (slice_index (children_of (get nodes.old number)) index)
+        edge }
     ensures shrinks { Shrinks nodes.old nodes.new (suc low) number
         (numbers nodes.old (suc (suc low)) number) }
     ensures lent { (k : ℕ) → IsLender nodes.old number index k
         → length (items_of (get nodes.new number)) ≡ length (items_of (get nodes.old number)) }
-    ensures gap { IsGap nodes.new (suc low) number result }
+    ensures edge { IsEdge nodes.new (suc low) number result }
     ensures place { place nodes.new (suc low) number result
         ≡ seat_place nodes.old (suc low) (items_of (get nodes.old number))
-        (children_of (get nodes.old number)) index gap }
+        (children_of (get nodes.old number)) index edge }
 {
     let child = child_at(nodes, number, index);
     if item_count(nodes, child) >= MIN_LEN {
-        return seen_above(gap, index);
+        return seen_above(edge, index);
     }
     let first = pair_start(nodes, number, index);
-    level(nodes, low, number, first, index, gap)
+    level(nodes, low, number, first, index, edge)
 }
 
-// Takes the item before a gap out of the subtree of a node, which may be short then. The item
-// stands in a leaf. Tells where the gap then lies.
-pub fn remove_below(nodes: &mut Slab<Node>, below: usize, number: usize, gap: Gap) -> Gap
+// Takes the item before an edge out of the subtree of a node, which may be short then. The item
+// stands in a leaf. Tells where the edge then lies.
+pub fn remove_below(nodes: &mut Slab<Node>, below: usize, number: usize, edge: Edge) -> Edge
     requires shaped { ShapedBut 1 CAPACITY nodes.old below number }
     requires owned { Owned nodes.old (suc below) number }
     requires deep { below < DEEPEST }
-    requires gap { IsGap nodes.old below number gap }
-    requires in_leaf { 0 < gap.index }
+    requires edge { IsEdge nodes.old below number edge }
+    requires in_leaf { 0 < edge.index }
     ensures shrinks { Shrinks nodes.old nodes.new below number
-        (remove (numbers nodes.old (suc below) number) (place nodes.old below number gap - 1)) }
-    ensures gap { IsGap nodes.new below number result }
-    ensures place { place nodes.new below number result + 1 ≡ place nodes.old below number gap }
+        (remove (numbers nodes.old (suc below) number) (place nodes.old below number edge - 1)) }
+    ensures edge { IsEdge nodes.new below number result }
+    ensures place { place nodes.new below number result + 1 ≡ place nodes.old below number edge }
 {
     if below == 0 {
-        take_item(nodes, number, gap.index - 1);
-        return Gap {
+        take_item(nodes, number, edge.index - 1);
+        return Edge {
             leaf: number,
             way: 0,
-            index: gap.index - 1,
+            index: edge.index - 1,
         };
     }
-    let index = first_turn(gap);
+    let index = first_turn(edge);
     let child = child_at(nodes, number, index);
-    let inner = remove_below(nodes, below - 1, child, seen_inside(gap));
+    let inner = remove_below(nodes, below - 1, child, seen_inside(edge));
     mend(nodes, below - 1, number, index, inner)
 }
 
-// Puts another item in the place of the one before a gap at the beginning of a leaf, if there is one
+// Puts another item in the place of the one before an edge at the beginning of a leaf, if there is one
 // below the node.
 pub fn set_before(
     nodes: &mut Slab<Node>,
     below: usize,
     number: usize,
-    gap: Gap,
+    edge: Edge,
     item: usize,
 ) -> bool
     requires shaped { ShapedBut 1 CAPACITY nodes.old below number }
     requires owned { Owned nodes.old (suc below) number }
-    requires gap { IsGap nodes.old below number gap }
-    requires at_start { gap.index ≡ 0 }
-    ensures found { result ≡ true → 0 < place nodes.old below number gap }
+    requires edge { IsEdge nodes.old below number edge }
+    requires at_start { edge.index ≡ 0 }
+    ensures found { result ≡ true → 0 < place nodes.old below number edge }
     ensures set { result ≡ true
         → IsRewritten nodes.old nodes.new below number
-        (slice_set (numbers nodes.old (suc below) number) (place nodes.old below number gap - 1)
+        (slice_set (numbers nodes.old (suc below) number) (place nodes.old below number edge - 1)
         item) }
-    ensures kept { IsGap nodes.new below number gap
-        × (place nodes.new below number gap ≡ place nodes.old below number gap) }
+    ensures kept { IsEdge nodes.new below number edge
+        × (place nodes.new below number edge ≡ place nodes.old below number edge) }
     ensures none { result ≡ false
-        → (place nodes.old below number gap ≡ 0) × (nodes.new ≡ nodes.old) }
+        → (place nodes.old below number edge ≡ 0) × (nodes.new ≡ nodes.old) }
 {
     if below == 0 {
         return false;
     }
-    let index = first_turn(gap);
+    let index = first_turn(edge);
     let child = child_at(nodes, number, index);
-    if set_before(nodes, below - 1, child, seen_inside(gap), item) {
+    if set_before(nodes, below - 1, child, seen_inside(edge), item) {
         return true;
     }
     if index == 0 {
@@ -247,27 +247,27 @@ pub struct Root {
     pub levels: usize,
 }
 
-// A tree after a removal, and where a gap then lies, if it has a level.
+// A tree after a removal, and where an edge then lies, if it has a level.
 #[derive(Clone, Copy)]
 pub struct Settled {
     pub root: Root,
-    pub gap: Gap,
+    pub edge: Edge,
 }
 
 // The tree after a removal: a root with no item goes, and its only child takes its place, if it has
 // one.
-pub fn settle(nodes: &mut Slab<Node>, levels: usize, root: usize, gap: Gap) -> Settled
+pub fn settle(nodes: &mut Slab<Node>, levels: usize, root: usize, edge: Edge) -> Settled
     requires tree { IsLooseTree nodes.old levels root }
-    requires gap { IsGap nodes.old (levels - 1) root gap }
+    requires edge { IsEdge nodes.old (levels - 1) root edge }
     ensures tree { IsTree nodes.new result.root.levels result.root.number }
     ensures numbers { numbers nodes.new result.root.levels result.root.number
         ≡ numbers nodes.old levels root }
     ensures capacity { nodes.new.capacity ≡ nodes.old.capacity }
-    ensures gap { 0 < result.root.levels
-        → IsGap nodes.new (result.root.levels - 1) result.root.number result.gap }
+    ensures edge { 0 < result.root.levels
+        → IsEdge nodes.new (result.root.levels - 1) result.root.number result.edge }
     ensures place { 0 < result.root.levels
-        → place nodes.new (result.root.levels - 1) result.root.number result.gap
-        ≡ place nodes.old (levels - 1) root gap }
+        → place nodes.new (result.root.levels - 1) result.root.number result.edge
+        ≡ place nodes.old (levels - 1) root edge }
 {
     if item_count(nodes, root) > 0 {
         return Settled {
@@ -275,7 +275,7 @@ pub fn settle(nodes: &mut Slab<Node>, levels: usize, root: usize, gap: Gap) -> S
                 number: root,
                 levels,
             },
-            gap,
+            edge,
         };
     }
     if levels == 1 {
@@ -285,7 +285,7 @@ pub fn settle(nodes: &mut Slab<Node>, levels: usize, root: usize, gap: Gap) -> S
                 number: 0,
                 levels: 0,
             },
-            gap,
+            edge,
         };
     }
     let child = child_at(nodes, root, 0);
@@ -295,6 +295,6 @@ pub fn settle(nodes: &mut Slab<Node>, levels: usize, root: usize, gap: Gap) -> S
             number: child,
             levels: levels - 1,
         },
-        gap: seen_inside(gap),
+        edge: seen_inside(edge),
     }
 }

@@ -4,10 +4,10 @@ ghost use Rattle.range_store.specs.Counting.{AddsSteps};
 ghost use Rattle.range_store.specs.Falling.{Falls, passes};
 ghost use Rattle.range_store.specs.Listed.{Stored};
 ghost use Rattle.range_store.specs.Nodes.{numbers, ShapedBut};
-ghost use Rattle.range_store.specs.Gaps.{IsGap, place, IsLast};
+ghost use Rattle.range_store.specs.Edges.{IsEdge, place, IsLast};
 
 use crate::btree::node::{CAPACITY, Node, child_at, last_of};
-use crate::btree::way::{DEEPEST, Gap, seen_above};
+use crate::btree::way::{DEEPEST, Edge, seen_above};
 use crate::storage::Probe;
 use slab::Slab;
 
@@ -38,10 +38,10 @@ pub fn halve<T, P: Probe<T>>(list: &[usize], items: &Slab<T>, probe: &mut P) -> 
     low
 }
 
-// The gap after the items that pass, and the last of them.
+// The edge after the items that pass, and the last of them.
 #[derive(Clone, Copy)]
 pub struct Passed {
-    pub gap: Gap,
+    pub edge: Edge,
     pub last: Option<usize>,
 }
 
@@ -58,11 +58,11 @@ pub fn search_below<T, P: Probe<T>>(
     requires stored { Stored items.now (numbers nodes.now (suc below) number) }
     requires falls { Falls (passes items.now (P.test probe.old))
         (numbers nodes.now (suc below) number) }
-    ensures gap { IsGap nodes.now below number result.gap }
-    ensures count { place nodes.now below number result.gap
+    ensures edge { IsEdge nodes.now below number result.edge }
+    ensures count { place nodes.now below number result.edge
         ≡ count_by (passes items.now (P.test probe.old)) (numbers nodes.now (suc below) number) }
     ensures last { IsLast (numbers nodes.now (suc below) number)
-        (place nodes.now below number result.gap) result.last }
+        (place nodes.now below number result.edge) result.last }
     ensures kept { P.test probe.new ≡ P.test probe.old }
     ensures asked { AddsSteps (P.steps_taken probe.old) (P.steps_taken probe.new) (suc below)
         (HALVINGS * suc below) }
@@ -71,17 +71,17 @@ pub fn search_below<T, P: Probe<T>>(
     let index = halve(list, items, probe);
     let here = last_of(list, index);
     if below == 0 {
-        let gap = Gap {
+        let edge = Edge {
             leaf: number,
             way: 0,
             index,
         };
-        return Passed { gap, last: here };
+        return Passed { edge, last: here };
     }
     let child = child_at(nodes, number, index);
     let passed = search_below(nodes, items, below - 1, child, probe);
     Passed {
-        gap: seen_above(passed.gap, index),
+        edge: seen_above(passed.edge, index),
         last: if passed.last.is_some() {
             passed.last
         } else {

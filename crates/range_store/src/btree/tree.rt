@@ -3,9 +3,9 @@ ghost use Rattle.std.specs.Prelude.{◌≡◌, ℕ, ◌+◌, ◌-◌, ◌*◌, �
 ghost use Rattle.range_store.specs.Counting.{AddsSteps};
 ghost use Rattle.range_store.specs.Depth.{HasLevels};
 ghost use Rattle.range_store.specs.Falling.{Falls, passes};
-ghost use Rattle.range_store.specs.Gaps.{IsLast};
+ghost use Rattle.range_store.specs.Edges.{IsLast};
 ghost use Rattle.range_store.specs.Listed.{Stored};
-ghost use Rattle.range_store.specs.Trees.{tree_numbers, tree_room, IsTreeGap, tree_place, IsAt, gap_or_end};
+ghost use Rattle.range_store.specs.Trees.{tree_numbers, tree_room, IsTreeEdge, tree_place, IsAt, edge_or_end};
 
 use crate::btree::insertion::insert_below;
 use crate::btree::node::{
@@ -15,7 +15,7 @@ use crate::btree::number_tree::NumberTree;
 use crate::btree::removal::{Settled, remove_below, set_before, settle};
 use crate::btree::searching::{HALVINGS, Passed, search_below};
 use crate::btree::way::{
-    Found, Gap, end_gap, first_gap, following, gap_before, item_before, seen_above,
+    Edge, Found, edge_before, end_edge, first_edge, following, item_before, seen_above,
 };
 use crate::storage::Probe;
 use slab::Slab;
@@ -58,76 +58,76 @@ impl NumberTree {
         self.levels
     }
 
-    /// The gap before all numbers.
-    pub fn start(&self) -> Option<Gap>
+    /// The edge before all numbers.
+    pub fn start(&self) -> Option<Edge>
         ensures { MatchOption result (tree_numbers self.now ≡ [])
-            (λ g. IsTreeGap self.now g × (tree_place self.now g ≡ 0)) }
+            (λ g. IsTreeEdge self.now g × (tree_place self.now g ≡ 0)) }
     {
         if self.levels == 0 {
             return None;
         }
-        Some(first_gap(&self.nodes, self.levels - 1, self.root))
+        Some(first_edge(&self.nodes, self.levels - 1, self.root))
     }
 
-    /// The gap after all numbers.
-    pub fn end(&self) -> Option<Gap>
+    /// The edge after all numbers.
+    pub fn end(&self) -> Option<Edge>
         ensures { MatchOption result (tree_numbers self.now ≡ [])
-            (λ g. IsTreeGap self.now g × (tree_place self.now g ≡ length (tree_numbers self.now))) }
+            (λ g. IsTreeEdge self.now g × (tree_place self.now g ≡ length (tree_numbers self.now))) }
     {
         if self.levels == 0 {
             return None;
         }
-        Some(end_gap(&self.nodes, self.levels - 1, self.root))
+        Some(end_edge(&self.nodes, self.levels - 1, self.root))
     }
 
-    /// The number after a gap.
-    pub fn following(&self, gap: Gap) -> Option<Found>
-        requires { IsTreeGap self.now gap }
-        ensures { IsAt self.now result (tree_place self.now gap) }
+    /// The number after an edge.
+    pub fn following(&self, edge: Edge) -> Option<Found>
+        requires { IsTreeEdge self.now edge }
+        ensures { IsAt self.now result (tree_place self.now edge) }
     {
-        if gap.index < item_count(&self.nodes, gap.leaf) {
-            let number = item_at(&self.nodes, gap.leaf, gap.index);
+        if edge.index < item_count(&self.nodes, edge.leaf) {
+            let number = item_at(&self.nodes, edge.leaf, edge.index);
             return Some(Found {
                 number,
-                gap: Gap {
-                    leaf: gap.leaf,
-                    way: gap.way,
-                    index: gap.index + 1,
+                edge: Edge {
+                    leaf: edge.leaf,
+                    way: edge.way,
+                    index: edge.index + 1,
                 },
             });
         }
-        following(&self.nodes, self.levels - 1, self.root, gap)
+        following(&self.nodes, self.levels - 1, self.root, edge)
     }
 
-    /// The number before a gap.
-    pub fn preceding(&self, gap: Gap) -> Option<Found>
-        requires { IsTreeGap self.now gap }
-        ensures { MatchOption result (tree_place self.now gap ≡ 0)
-            (λ f. (f.gap ≡ gap) × (0 < tree_place self.now gap)
-            × (f.number ≡ slice_index (tree_numbers self.now) (tree_place self.now gap - 1))) }
+    /// The number before an edge.
+    pub fn preceding(&self, edge: Edge) -> Option<Found>
+        requires { IsTreeEdge self.now edge }
+        ensures { MatchOption result (tree_place self.now edge ≡ 0)
+            (λ f. (f.edge ≡ edge) × (0 < tree_place self.now edge)
+            × (f.number ≡ slice_index (tree_numbers self.now) (tree_place self.now edge - 1))) }
     {
-        if gap.index > 0 {
-            let number = item_at(&self.nodes, gap.leaf, gap.index - 1);
-            return Some(Found { number, gap });
+        if edge.index > 0 {
+            let number = item_at(&self.nodes, edge.leaf, edge.index - 1);
+            return Some(Found { number, edge });
         }
-        let number = item_before(&self.nodes, self.levels - 1, self.root, gap)?;
-        Some(Found { number, gap })
+        let number = item_before(&self.nodes, self.levels - 1, self.root, edge)?;
+        Some(Found { number, edge })
     }
 
-    /// The gap before the number before a gap.
-    pub fn gap_before(&self, gap: Gap) -> Option<Gap>
-        requires { IsTreeGap self.now gap }
-        ensures { MatchOption result (tree_place self.now gap ≡ 0)
-            (λ h. IsTreeGap self.now h × (tree_place self.now h + 1 ≡ tree_place self.now gap)) }
+    /// The edge before the number before an edge.
+    pub fn edge_before(&self, edge: Edge) -> Option<Edge>
+        requires { IsTreeEdge self.now edge }
+        ensures { MatchOption result (tree_place self.now edge ≡ 0)
+            (λ h. IsTreeEdge self.now h × (tree_place self.now h + 1 ≡ tree_place self.now edge)) }
     {
-        if gap.index > 0 {
-            return Some(Gap {
-                leaf: gap.leaf,
-                way: gap.way,
-                index: gap.index - 1,
+        if edge.index > 0 {
+            return Some(Edge {
+                leaf: edge.leaf,
+                way: edge.way,
+                index: edge.index - 1,
             });
         }
-        gap_before(&self.nodes, self.levels - 1, self.root, gap)
+        edge_before(&self.nodes, self.levels - 1, self.root, edge)
     }
 
     /// Reserves capacity for `additional` more numbers.
@@ -137,8 +137,8 @@ impl NumberTree {
         ensures no_less { tree_room self.old ≤ tree_room self.new }
         ensures numbers { tree_numbers self.new ≡ tree_numbers self.old }
         ensures levels { self.new.levels ≡ self.old.levels }
-        ensures gaps { (g : Gap) → IsTreeGap self.old g
-            → IsTreeGap self.new g × (tree_place self.new g ≡ tree_place self.old g) }
+        ensures edges { (g : Edge) → IsTreeEdge self.old g
+            → IsTreeEdge self.new g × (tree_place self.new g ≡ tree_place self.old g) }
     {
         if additional > usize::MAX - len {
             return Err(AllocError);
@@ -147,96 +147,96 @@ impl NumberTree {
         self.nodes.reserve(wanted.saturating_sub(self.nodes.len()))
     }
 
-    /// Puts a number into a gap, or into an empty tree, and tells the gap after it.
-    pub fn insert(&mut self, gap: Option<Gap>, number: usize) -> Gap
-        requires gap { MatchOption gap (tree_numbers self.old ≡ []) (IsTreeGap self.old) }
+    /// Puts a number at an edge, or into an empty tree, and tells the edge after it.
+    pub fn insert(&mut self, edge: Option<Edge>, number: usize) -> Edge
+        requires edge { MatchOption edge (tree_numbers self.old ≡ []) (IsTreeEdge self.old) }
         requires room { 1 ≤ tree_room self.old }
         requires small { length (tree_numbers self.old) + 1 < 2 ^ 64 }
         ensures numbers { tree_numbers self.new
-            ≡ insert (tree_numbers self.old) (gap_or_end self.old gap) number }
+            ≡ insert (tree_numbers self.old) (edge_or_end self.old edge) number }
         ensures room { tree_room self.new + 1 ≡ tree_room self.old }
-        ensures gap { IsTreeGap self.new result }
-        ensures place { tree_place self.new result ≡ gap_or_end self.old gap + 1 }
+        ensures edge { IsTreeEdge self.new result }
+        ensures place { tree_place self.new result ≡ edge_or_end self.old edge + 1 }
     {
-        let Some(gap) = gap else {
+        let Some(edge) = edge else {
             self.root = store(&mut self.nodes, leaf_of(number));
             self.levels = 1;
-            return Gap {
+            return Edge {
                 leaf: self.root,
                 way: 0,
                 index: 1,
             };
         };
-        if item_count(&self.nodes, gap.leaf) < CAPACITY {
-            put(&mut self.nodes, gap.leaf, gap.index, number, None);
-            return Gap {
-                leaf: gap.leaf,
-                way: gap.way,
-                index: gap.index + 1,
+        if item_count(&self.nodes, edge.leaf) < CAPACITY {
+            put(&mut self.nodes, edge.leaf, edge.index, number, None);
+            return Edge {
+                leaf: edge.leaf,
+                way: edge.way,
+                index: edge.index + 1,
             };
         }
-        let inserted = insert_below(&mut self.nodes, self.levels - 1, self.root, gap, number);
+        let inserted = insert_below(&mut self.nodes, self.levels - 1, self.root, edge, number);
         match inserted.split {
-            None => inserted.gap,
+            None => inserted.edge,
             Some(split) => {
                 self.root = store(&mut self.nodes, node_over(self.root, split));
                 self.levels += 1;
-                seen_above(inserted.gap, inserted.side)
+                seen_above(inserted.edge, inserted.side)
             }
         }
     }
 
-    /// Takes the number before a gap out, and tells what followed it.
-    pub fn remove(&mut self, gap: Gap) -> Option<Found>
-        requires gap { IsTreeGap self.old gap }
-        requires some { 0 < tree_place self.old gap }
+    /// Takes the number before an edge out, and tells what followed it.
+    pub fn remove(&mut self, edge: Edge) -> Option<Found>
+        requires edge { IsTreeEdge self.old edge }
+        requires some { 0 < tree_place self.old edge }
         ensures numbers { tree_numbers self.new
-            ≡ remove (tree_numbers self.old) (tree_place self.old gap - 1) }
+            ≡ remove (tree_numbers self.old) (tree_place self.old edge - 1) }
         ensures room { tree_room self.new ≡ tree_room self.old + 1 }
-        ensures following { IsAt self.new result (tree_place self.old gap - 1) }
+        ensures following { IsAt self.new result (tree_place self.old edge - 1) }
     {
-        if gap.index > 0 {
-            let gap = self.remove_in_leaf(gap)?;
-            return self.following(gap);
+        if edge.index > 0 {
+            let edge = self.remove_in_leaf(edge)?;
+            return self.following(edge);
         }
-        let number = item_at(&self.nodes, gap.leaf, 0);
-        let _set = set_before(&mut self.nodes, self.levels - 1, self.root, gap, number);
-        let behind = Gap {
-            leaf: gap.leaf,
-            way: gap.way,
+        let number = item_at(&self.nodes, edge.leaf, 0);
+        let _set = set_before(&mut self.nodes, self.levels - 1, self.root, edge, number);
+        let behind = Edge {
+            leaf: edge.leaf,
+            way: edge.way,
             index: 1,
         };
-        let gap = self.remove_in_leaf(behind)?;
-        Some(Found { number, gap })
+        let edge = self.remove_in_leaf(behind)?;
+        Some(Found { number, edge })
     }
 
-    // Takes the number before a gap out of its leaf. Tells where the gap then lies, if the tree is
+    // Takes the number before an edge out of its leaf. Tells where the edge then lies, if the tree is
     // not empty.
-    fn remove_in_leaf(&mut self, gap: Gap) -> Option<Gap>
-        requires gap { IsTreeGap self.old gap }
-        requires in_leaf { 0 < gap.index }
+    fn remove_in_leaf(&mut self, edge: Edge) -> Option<Edge>
+        requires edge { IsTreeEdge self.old edge }
+        requires in_leaf { 0 < edge.index }
         ensures numbers { tree_numbers self.new
-            ≡ remove (tree_numbers self.old) (tree_place self.old gap - 1) }
+            ≡ remove (tree_numbers self.old) (tree_place self.old edge - 1) }
         ensures capacity { self.new.nodes.capacity ≡ self.old.nodes.capacity }
-        ensures gap { MatchOption result (tree_numbers self.new ≡ [])
-            (λ g. IsTreeGap self.new g × (tree_place self.new g + 1 ≡ tree_place self.old gap)) }
+        ensures edge { MatchOption result (tree_numbers self.new ≡ [])
+            (λ g. IsTreeEdge self.new g × (tree_place self.new g + 1 ≡ tree_place self.old edge)) }
     {
-        if item_count(&self.nodes, gap.leaf) > MIN_LEN {
-            take_item(&mut self.nodes, gap.leaf, gap.index - 1);
-            return Some(Gap {
-                leaf: gap.leaf,
-                way: gap.way,
-                index: gap.index - 1,
+        if item_count(&self.nodes, edge.leaf) > MIN_LEN {
+            take_item(&mut self.nodes, edge.leaf, edge.index - 1);
+            return Some(Edge {
+                leaf: edge.leaf,
+                way: edge.way,
+                index: edge.index - 1,
             });
         }
-        let left = remove_below(&mut self.nodes, self.levels - 1, self.root, gap);
-        let Settled { root, gap } = settle(&mut self.nodes, self.levels, self.root, left);
+        let left = remove_below(&mut self.nodes, self.levels - 1, self.root, edge);
+        let Settled { root, edge } = settle(&mut self.nodes, self.levels, self.root, left);
         self.root = root.number;
         self.levels = root.levels;
         if self.levels == 0 {
             return None;
         }
-        Some(gap)
+        Some(edge)
     }
 
     /// Which numbers' items pass the probe's test, which holds on a front of them alone.
@@ -245,10 +245,10 @@ impl NumberTree {
         requires falls { Falls (passes items.now (P.test probe.old)) (tree_numbers self.now) }
         ensures last { MatchOption result
             (count_by (passes items.now (P.test probe.old)) (tree_numbers self.now) ≡ 0)
-            (λ f. IsTreeGap self.now f.gap
-            × (tree_place self.now f.gap
+            (λ f. IsTreeEdge self.now f.edge
+            × (tree_place self.now f.edge
             ≡ count_by (passes items.now (P.test probe.old)) (tree_numbers self.now))
-            × IsLast (tree_numbers self.now) (tree_place self.now f.gap) (Some f.number)) }
+            × IsLast (tree_numbers self.now) (tree_place self.now f.edge) (Some f.number)) }
         ensures kept { P.test probe.new ≡ P.test probe.old }
         ensures asked { AddsSteps (P.steps_taken probe.old) (P.steps_taken probe.new)
             self.now.levels (HALVINGS * self.now.levels) }
@@ -256,7 +256,7 @@ impl NumberTree {
         if self.levels == 0 {
             return None;
         }
-        let Passed { gap, last } = search_below(
+        let Passed { edge, last } = search_below(
             &self.nodes,
             items,
             self.levels - 1,
@@ -264,6 +264,6 @@ impl NumberTree {
             probe,
         );
         let number = last?;
-        Some(Found { number, gap })
+        Some(Found { number, edge })
     }
 }

@@ -4,11 +4,11 @@ use Rattle.slab.specs.Slab.{get}
 use Rattle.range_store.specs.declared.btree.node.TheConstants.{CAPACITY}
 use Rattle.range_store.specs.Falling.{passes}
 use Rattle.range_store.specs.Nodes.{items_of, children_of, numbers, before}
-use Rattle.range_store.specs.Gaps.{place}
+use Rattle.range_store.specs.Edges.{place}
 use Rattle.range_store.proofs.Below.{numbers_leaf}
-use Rattle.range_store.proofs.Gaps.{leaf_gap, leaf_place, way_small}
+use Rattle.range_store.proofs.Edges.{leaf_edge, leaf_place, way_small}
 use Rattle.range_store.proofs.Searching.{node_stored, node_falls, kid_stored, kid_falls, search_step}
-use Rattle.range_store.proofs.Ways.{level_of_children, below_kid, below_gap, below_place, below_most, last_above, last_here, none_before, items_known}
+use Rattle.range_store.proofs.Ways.{level_of_children, below_kid, below_edge, below_place, below_most, last_above, last_here, none_before, items_known}
 use Rattle.range_store.proofs.btree.searching.+search_below.Goals as goal
 
 pub halve-index-requires-clause-stored : goal.halve-index-requires-clause-stored
@@ -21,12 +21,12 @@ halve-index-requires-clause-falls g t c =
     let items = c.as_slice-list.ensures.value ∙ sym (items_known c.args.nodes.now c.args.number c.index.result.now c.index.ensures) in
     rw items (node_falls c.args.items.now (passes c.args.items.now (g.P.Probe.test c.args.probe.now)) 1 CAPACITY c.args.nodes.now c.args.below c.args.number c.requires.shaped c.requires.falls)
 
-pub returns-then-below-eq0-clause-gap : goal.returns-then-below-eq0-clause-gap
-returns-then-below-eq0-clause-gap g t c =
+pub returns-then-below-eq0-clause-edge : goal.returns-then-below-eq0-clause-edge
+returns-then-below-eq0-clause-edge g t c =
     let items = c.as_slice-list.ensures.value ∙ sym (items_known c.args.nodes.now c.args.number c.index.result.now c.index.ensures) in
     let count : c.halve-index.result ≡ count_by (passes c.args.items.now (g.P.Probe.test c.args.probe.now)) (items_of (get c.args.nodes.now c.args.number)) = c.halve-index.ensures.count ∙ ap (count_by (passes c.args.items.now (g.P.Probe.test c.args.probe.now))) items in
     let low : c.halve-index.result ≤ length (items_of (get c.args.nodes.now c.args.number)) = omega (arith, count, count_by-le-length (passes c.args.items.now (g.P.Probe.test c.args.probe.now)) (items_of (get c.args.nodes.now c.args.number))) in
-    rw c.if-below-eq0.true (leaf_gap c.args.nodes.now c.args.number _ refl refl low)
+    rw c.if-below-eq0.true (leaf_edge c.args.nodes.now c.args.number _ refl refl low)
 
 pub returns-then-below-eq0-clause-count : goal.returns-then-below-eq0-clause-count
 returns-then-below-eq0-clause-count g t c =
@@ -59,40 +59,40 @@ search_below-passed-requires g t c κs within =
 
 pub seen_above-requires-clause-way : goal.seen_above-requires-clause-way
 seen_above-requires-clause-way g t c =
-    way_small c.args.nodes.now (c.args.below - 1) _ _ (omega (arith, c.requires.deep)) c.search_below-passed.ensures.gap
+    way_small c.args.nodes.now (c.args.below - 1) _ _ (omega (arith, c.requires.deep)) c.search_below-passed.ensures.edge
 
-pub returns-then-is_some-clause-gap : goal.returns-then-is_some-clause-gap
-returns-then-is_some-clause-gap g t c =
+pub returns-then-is_some-clause-edge : goal.returns-then-is_some-clause-edge
+returns-then-is_some-clause-edge g t c =
     let items = c.as_slice-list.ensures.value ∙ sym (items_known c.args.nodes.now c.args.number c.index.result.now c.index.ensures) in
     let count : c.halve-index.result ≡ count_by (passes c.args.items.now (g.P.Probe.test c.args.probe.now)) (items_of (get c.args.nodes.now c.args.number)) = c.halve-index.ensures.count ∙ ap (count_by (passes c.args.items.now (g.P.Probe.test c.args.probe.now))) items in
     let low : c.halve-index.result ≤ length (items_of (get c.args.nodes.now c.args.number)) = omega (arith, count, count_by-le-length (passes c.args.items.now (g.P.Probe.test c.args.probe.now)) (items_of (get c.args.nodes.now c.args.number))) in
-    let is = rw c.child_at-child.ensures at c.search_below-passed.ensures.gap in
-    below_gap c.args.nodes.now c.args.below c.args.number c.if-below-eq0.false c.requires.shaped c.halve-index.result c.search_below-passed.result.gap _ c.seen_above.ensures.turn c.seen_above.ensures.inside low is
+    let is = rw c.child_at-child.ensures at c.search_below-passed.ensures.edge in
+    below_edge c.args.nodes.now c.args.below c.args.number c.if-below-eq0.false c.requires.shaped c.halve-index.result c.search_below-passed.result.edge _ c.seen_above.ensures.turn c.seen_above.ensures.inside low is
 
 pub returns-then-is_some-clause-count : goal.returns-then-is_some-clause-count
 returns-then-is_some-clause-count g t c =
     let items = c.as_slice-list.ensures.value ∙ sym (items_known c.args.nodes.now c.args.number c.index.result.now c.index.ensures) in
     let count : c.halve-index.result ≡ count_by (passes c.args.items.now (g.P.Probe.test c.args.probe.now)) (items_of (get c.args.nodes.now c.args.number)) = c.halve-index.ensures.count ∙ ap (count_by (passes c.args.items.now (g.P.Probe.test c.args.probe.now))) items in
     let low : c.halve-index.result ≤ length (items_of (get c.args.nodes.now c.args.number)) = omega (arith, count, count_by-le-length (passes c.args.items.now (g.P.Probe.test c.args.probe.now)) (items_of (get c.args.nodes.now c.args.number))) in
-    let at = below_place c.args.nodes.now c.args.below c.args.number c.if-below-eq0.false c.requires.shaped c.halve-index.result c.search_below-passed.result.gap _ c.seen_above.ensures.turn c.seen_above.ensures.inside in
+    let at = below_place c.args.nodes.now c.args.below c.args.number c.if-below-eq0.false c.requires.shaped c.halve-index.result c.search_below-passed.result.edge _ c.seen_above.ensures.turn c.seen_above.ensures.inside in
     let inner = rw (level_of_children c.args.nodes.now c.args.below c.args.number c.if-below-eq0.false c.requires.shaped) at (rw (c.child_at-child.ensures, c.halve-index.ensures.kept) at c.search_below-passed.ensures.count) in
     let step = rw (← count) at (search_step c.args.items.now (passes c.args.items.now (g.P.Probe.test c.args.probe.now)) 1 CAPACITY c.args.nodes.now c.args.below c.args.number c.requires.shaped (omega (arith, c.if-below-eq0.false)) c.requires.falls) in
     omega (arith, at, inner, step)
 
-pub returns-else-is_some-clause-gap : goal.returns-else-is_some-clause-gap
-returns-else-is_some-clause-gap g t c =
+pub returns-else-is_some-clause-edge : goal.returns-else-is_some-clause-edge
+returns-else-is_some-clause-edge g t c =
     let items = c.as_slice-list.ensures.value ∙ sym (items_known c.args.nodes.now c.args.number c.index.result.now c.index.ensures) in
     let count : c.halve-index.result ≡ count_by (passes c.args.items.now (g.P.Probe.test c.args.probe.now)) (items_of (get c.args.nodes.now c.args.number)) = c.halve-index.ensures.count ∙ ap (count_by (passes c.args.items.now (g.P.Probe.test c.args.probe.now))) items in
     let low : c.halve-index.result ≤ length (items_of (get c.args.nodes.now c.args.number)) = omega (arith, count, count_by-le-length (passes c.args.items.now (g.P.Probe.test c.args.probe.now)) (items_of (get c.args.nodes.now c.args.number))) in
-    let is = rw c.child_at-child.ensures at c.search_below-passed.ensures.gap in
-    below_gap c.args.nodes.now c.args.below c.args.number c.if-below-eq0.false c.requires.shaped c.halve-index.result c.search_below-passed.result.gap _ c.seen_above.ensures.turn c.seen_above.ensures.inside low is
+    let is = rw c.child_at-child.ensures at c.search_below-passed.ensures.edge in
+    below_edge c.args.nodes.now c.args.below c.args.number c.if-below-eq0.false c.requires.shaped c.halve-index.result c.search_below-passed.result.edge _ c.seen_above.ensures.turn c.seen_above.ensures.inside low is
 
 pub returns-else-is_some-clause-count : goal.returns-else-is_some-clause-count
 returns-else-is_some-clause-count g t c =
     let items = c.as_slice-list.ensures.value ∙ sym (items_known c.args.nodes.now c.args.number c.index.result.now c.index.ensures) in
     let count : c.halve-index.result ≡ count_by (passes c.args.items.now (g.P.Probe.test c.args.probe.now)) (items_of (get c.args.nodes.now c.args.number)) = c.halve-index.ensures.count ∙ ap (count_by (passes c.args.items.now (g.P.Probe.test c.args.probe.now))) items in
     let low : c.halve-index.result ≤ length (items_of (get c.args.nodes.now c.args.number)) = omega (arith, count, count_by-le-length (passes c.args.items.now (g.P.Probe.test c.args.probe.now)) (items_of (get c.args.nodes.now c.args.number))) in
-    let at = below_place c.args.nodes.now c.args.below c.args.number c.if-below-eq0.false c.requires.shaped c.halve-index.result c.search_below-passed.result.gap _ c.seen_above.ensures.turn c.seen_above.ensures.inside in
+    let at = below_place c.args.nodes.now c.args.below c.args.number c.if-below-eq0.false c.requires.shaped c.halve-index.result c.search_below-passed.result.edge _ c.seen_above.ensures.turn c.seen_above.ensures.inside in
     let inner = rw (level_of_children c.args.nodes.now c.args.below c.args.number c.if-below-eq0.false c.requires.shaped) at (rw (c.child_at-child.ensures, c.halve-index.ensures.kept) at c.search_below-passed.ensures.count) in
     let step = rw (← count) at (search_step c.args.items.now (passes c.args.items.now (g.P.Probe.test c.args.probe.now)) 1 CAPACITY c.args.nodes.now c.args.below c.args.number c.requires.shaped (omega (arith, c.if-below-eq0.false)) c.requires.falls) in
     omega (arith, at, inner, step)
@@ -102,10 +102,10 @@ returns-then-is_some-clause-last g t c =
     let items = c.as_slice-list.ensures.value ∙ sym (items_known c.args.nodes.now c.args.number c.index.result.now c.index.ensures) in
     let count : c.halve-index.result ≡ count_by (passes c.args.items.now (g.P.Probe.test c.args.probe.now)) (items_of (get c.args.nodes.now c.args.number)) = c.halve-index.ensures.count ∙ ap (count_by (passes c.args.items.now (g.P.Probe.test c.args.probe.now))) items in
     let low : c.halve-index.result ≤ length (items_of (get c.args.nodes.now c.args.number)) = omega (arith, count, count_by-le-length (passes c.args.items.now (g.P.Probe.test c.args.probe.now)) (items_of (get c.args.nodes.now c.args.number))) in
-    let is = rw c.child_at-child.ensures at c.search_below-passed.ensures.gap in
-    let at = below_place c.args.nodes.now c.args.below c.args.number c.if-below-eq0.false c.requires.shaped c.halve-index.result c.search_below-passed.result.gap _ c.seen_above.ensures.turn c.seen_above.ensures.inside in
+    let is = rw c.child_at-child.ensures at c.search_below-passed.ensures.edge in
+    let at = below_place c.args.nodes.now c.args.below c.args.number c.if-below-eq0.false c.requires.shaped c.halve-index.result c.search_below-passed.result.edge _ c.seen_above.ensures.turn c.seen_above.ensures.inside in
     let last = rw c.child_at-child.ensures at c.search_below-passed.ensures.last in
-    let most = below_most c.args.nodes.now c.args.below c.args.number c.if-below-eq0.false c.requires.shaped c.halve-index.result c.search_below-passed.result.gap low is in
+    let most = below_most c.args.nodes.now c.args.below c.args.number c.if-below-eq0.false c.requires.shaped c.halve-index.result c.search_below-passed.result.edge low is in
     rw at (last_above c.args.nodes.now c.args.below c.args.number c.if-below-eq0.false c.requires.shaped c.halve-index.result _ _ low most (grind (arith, c.is_some.ensures, c.if-is_some.true)) last)
 
 pub returns-else-is_some-clause-last : goal.returns-else-is_some-clause-last
@@ -113,8 +113,8 @@ returns-else-is_some-clause-last g t c =
     let items = c.as_slice-list.ensures.value ∙ sym (items_known c.args.nodes.now c.args.number c.index.result.now c.index.ensures) in
     let count : c.halve-index.result ≡ count_by (passes c.args.items.now (g.P.Probe.test c.args.probe.now)) (items_of (get c.args.nodes.now c.args.number)) = c.halve-index.ensures.count ∙ ap (count_by (passes c.args.items.now (g.P.Probe.test c.args.probe.now))) items in
     let low : c.halve-index.result ≤ length (items_of (get c.args.nodes.now c.args.number)) = omega (arith, count, count_by-le-length (passes c.args.items.now (g.P.Probe.test c.args.probe.now)) (items_of (get c.args.nodes.now c.args.number))) in
-    let is = rw c.child_at-child.ensures at c.search_below-passed.ensures.gap in
-    let at = below_place c.args.nodes.now c.args.below c.args.number c.if-below-eq0.false c.requires.shaped c.halve-index.result c.search_below-passed.result.gap _ c.seen_above.ensures.turn c.seen_above.ensures.inside in
+    let is = rw c.child_at-child.ensures at c.search_below-passed.ensures.edge in
+    let at = below_place c.args.nodes.now c.args.below c.args.number c.if-below-eq0.false c.requires.shaped c.halve-index.result c.search_below-passed.result.edge _ c.seen_above.ensures.turn c.seen_above.ensures.inside in
     let last = rw c.child_at-child.ensures at c.search_below-passed.ensures.last in
     let none = none_before _ _ _ (λ some. grind (arith, c.is_some.ensures, c.if-is_some.false, some)) last in
     let same : place c.args.nodes.now c.args.below c.args.number c.seen_above.result ≡ length (before (items_of (get c.args.nodes.now c.args.number)) (map (numbers c.args.nodes.now c.args.below) (children_of (get c.args.nodes.now c.args.number))) c.halve-index.result) = omega (arith, at, none) in

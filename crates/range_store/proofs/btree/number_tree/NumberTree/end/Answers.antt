@@ -5,5 +5,5 @@ use Rattle.range_store.proofs.btree.number_tree.NumberTree.end.Goals as goal
 pub returns-then-self-eq0 : goal.returns-then-self-eq0
 returns-then-self-eq0 c = rw c.if-self-eq0.true (numbers_none c.args.self.now.nodes c.args.self.now.root)
 
-pub end_gap-requires-clause-deep : goal.end_gap-requires-clause-deep
-end_gap-requires-clause-deep c = tree_is_not_too_deep c.args.self.now.nodes c.args.self.now.levels c.args.self.now.root c.args.self.now.whole
+pub end_edge-requires-clause-deep : goal.end_edge-requires-clause-deep
+end_edge-requires-clause-deep c = tree_is_not_too_deep c.args.self.now.nodes c.args.self.now.levels c.args.self.now.root c.args.self.now.whole

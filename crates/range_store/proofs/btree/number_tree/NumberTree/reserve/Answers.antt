@@ -1,7 +1,7 @@
 use Rattle.std.proofs.Common.{◌≡◌, ℕ, ◌-◌, length, ap, arith}
 use Rattle.std.proofs.lemmas.Result.{on_ok_weaker}
 use Rattle.slab.specs.Slab.{get, slab_len}
-use Rattle.range_store.proofs.Gaps.{same_gap}
+use Rattle.range_store.proofs.Edges.{same_edge}
 use Rattle.range_store.proofs.Rank.{numbers_kept, tree_kept}
 use Rattle.range_store.proofs.btree.number_tree.NumberTree.reserve.Goals as goal
 use Rattle.range_store.proofs.btree.number_tree.NumberTree.reserve.Goals.{After-reserve}
@@ -41,9 +41,9 @@ returns-clause-room c =
     let kept = ap length (numbers_kept c.args.self.now.nodes c.reserve.new.self (same a) (same_len a) c.args.self.now.levels c.args.self.now.root) in
     on_ok_weaker c.reserve.result (λ room. omega (arith, kept, c.requires, room, same_len a, c.len.ensures, c.saturating_sub.ensures)) c.reserve.ensures.room
 
-pub returns-clause-gaps : goal.returns-clause-gaps
-returns-clause-gaps c =
-    let a = (goal.at.returns-clause-gaps c).After-reserve in
+pub returns-clause-edges : goal.returns-clause-edges
+returns-clause-edges c =
+    let a = (goal.at.returns-clause-edges c).After-reserve in
     λ g at.
-    let kept = same_gap c.args.self.now.nodes c.reserve.new.self (c.args.self.now.levels - 1) c.args.self.now.root g (λ k among. same a k) at.gap in
-    (record { some = at.some; gap = kept.gap at.gap }, kept.place)
+    let kept = same_edge c.args.self.now.nodes c.reserve.new.self (c.args.self.now.levels - 1) c.args.self.now.root g (λ k among. same a k) at.edge in
+    (record { some = at.some; edge = kept.edge at.edge }, kept.place)

@@ -1,4 +1,0 @@
-use Rattle.range_store.proofs.btree.way.+gap_before.Given as goal
-
-abbrev pub decreases-gap_before : goal.decreases-gap_before
-decreases-gap_before l = l.below
