@@ -17,7 +17,7 @@ use Rattle.range_store.specs.declared.storage.Item.{Item}
 use Rattle.range_map.specs.FreeRanges.{item_ranges}
 use Rattle.range_map.specs.ListOrder.{same_list}
 use Rattle.range_map.specs.Stored.{IsStored}
-use Rattle.range_map.proofs.Copying.{copied, copy_stored, item_clone}
+use Rattle.range_map.proofs.Copying.{equal_items_are_copy, copy_stored, item_clone}
 use Rattle.range_sets.proofs.Likeness.{same_sets}
 use Rattle.range_sets.specs.KeySets.{IsStoredSet}
 use Rattle.range_sets.specs.SetOrder.{same_ranges}
@@ -114,7 +114,7 @@ module _ {K : Type 0} (order : KeyOrder K) (shape : K → Data) (reads : Data �
         map_back value_reads items others v stored h =
             let listed : map pair items ≡ h.ds = ok_is (map pair items) h.ds (ap Ok (sym (list_back (map pair items))) ∙ h.whole) in
             let copies = elements_back items h.elements v (subst (λ ds. AllZip (IsElementRead is_read value_is_read) ds h.elements) (sym listed) h.read.read) in
-            let form = copy_stored order lawful same equal h.elements items (copied order lawful same equal items h.elements copies) (All-from_recursion (λ i. IsKnownRange order i.key) h.elements h.read.known) stored in
+            let form = copy_stored order lawful same equal h.elements items (equal_items_are_copy order lawful same equal items h.elements copies) (All-from_recursion (λ i. IsKnownRange order i.key) h.elements h.read.known) stored in
             subst (λ is. IsTrue (same_list order same is items)) (sym (h.kept form)) (same_copies items h.elements copies)
 
 -- a list of what is made of items, cut at a place, is what is made of the items cut there
@@ -164,7 +164,7 @@ module _ {K V : Type 0} (order : KeyOrder K) (shape : K → Data) (reads : Data 
               let last = element_back order shape reads is_value is_read back lawful same equal value_shape value_is_value value_is_read value_back cut.x y values.1 (subst (λ d. IsElementRead is_read value_is_read d y) (sym cut.at) met.0.1.1) in
               let copies = zip_last (Copied order shape reads is_value is_read back lawful same equal) cut.xs first.earlier cut.x y front last in
               let whole = stored_front order lawful same equal (cut.xs ++ cut.x ∷ []) cut.ys (subst (IsStored order same) (cut.split ∙ sym (one_between cut.xs cut.x cut.ys)) stored) in
-              let form = copy_stored order lawful same equal (first.earlier ++ y ∷ []) (cut.xs ++ cut.x ∷ []) (copied order lawful same equal (cut.xs ++ cut.x ∷ []) (first.earlier ++ y ∷ []) copies) (All-from_recursion (λ i. IsKnownRange order i.key) (first.earlier ++ y ∷ []) (all_more (λ i. IsKnownRange order i.key) first.earlier y first.fine.known met.0.1.2)) whole in
+              let form = copy_stored order lawful same equal (first.earlier ++ y ∷ []) (cut.xs ++ cut.x ∷ []) (equal_items_are_copy order lawful same equal (cut.xs ++ cut.x ∷ []) (first.earlier ++ y ∷ []) copies) (All-from_recursion (λ i. IsKnownRange order i.key) (first.earlier ++ y ∷ []) (all_more (λ i. IsKnownRange order i.key) first.earlier y first.fine.known met.0.1.2)) whole in
               any_none (λ i. MeetNonempty order i.key y.key) (λ i. ¬ JoinsOrMeets order same y.key y.value i) first.earlier (apart_from_last order lawful same equal first.earlier y form) (λ i out meets. out (inl meets.2)) met.0.1.3
         ]
 
@@ -197,5 +197,5 @@ module _ {K : Type 0} (order : KeyOrder K) (shape : K → Data) (reads : Data �
         let ranges = map (range_shape shape) (item_ranges items) in
         let listed : ranges ≡ h.ds = some_is ranges h.ds (ap Some (sym (list_back ranges)) ∙ h.whole) in
         let copies = sets_back items h.ranges v (subst (λ ds. AllZip (IsRangeRead is_read) ds h.ranges) (sym listed) h.read) in
-        let form = copy_stored order lawful (λ _ _. true) all_equal (range_items h.ranges) items (copied order lawful (λ _ _. true) all_equal items (range_items h.ranges) copies) (All-from_recursion (λ i. IsKnownRange order i.key) (range_items h.ranges) (known_items h.ranges h.known)) stored in
+        let form = copy_stored order lawful (λ _ _. true) all_equal (range_items h.ranges) items (equal_items_are_copy order lawful (λ _ _. true) all_equal items (range_items h.ranges) copies) (All-from_recursion (λ i. IsKnownRange order i.key) (range_items h.ranges) (known_items h.ranges h.known)) stored in
         subst (λ is. IsTrue (same_ranges order is items)) (sym (h.kept form)) (subst IsTrue (same_sets order (range_items h.ranges) items) (same_copies order shape reads is_value is_read back lawful (λ _ _. true) all_equal items (range_items h.ranges) copies))

@@ -18,7 +18,7 @@ use Rattle.range_store.specs.declared.storage.Item.{Item}
 use Rattle.range_map.specs.Bindings.{IsBound}
 use Rattle.range_map.specs.FreeRanges.{item_ranges}
 use Rattle.range_map.specs.Stored.{IsStored}
-use Rattle.range_map.proofs.Listed.{IsListed, listed}
+use Rattle.range_map.proofs.Listed.{IsListed, stored_list_is_listed}
 
 zero_sum : (o : Option ℕ) → o ≡ measure_sum (Some 0) o
 zero_sum (Some n) = ap Some (omega arith)
@@ -152,4 +152,4 @@ module _ {K : Type 0} (order : KeyOrder K) (len : K → ℕ) (distance : K → K
         listed_in_order (i ∷ j ∷ rest) h = (h.0, h.1, h.2, listed_in_order (j ∷ rest) h.4)
 
         pub stored_in_order : (items : List (Item (AnyRange K) V)) → IsStored order same items → AreInOrder order (item_ranges items)
-        stored_in_order items h = listed_in_order items (listed order lawful same items h)
+        stored_in_order items h = listed_in_order items (stored_list_is_listed order lawful same items h)

@@ -24,19 +24,19 @@ pub last_longer : {X : Type 0} (items new : List X) (x : X) → new ≡ insert i
 last_longer items new x done = omega (arith, ap length done, length-insert items (length items) x (omega arith))
 
 module _ {K : Type 0} (order : KeyOrder K) (lawful : IsLawful order) {V : Type 0} (same : V → V → Bool) (equal : IsEquivalence same) (items : List (Item (AnyRange K) V)) (r : AnyRange K) (stored : IsStored order same items) (known : IsKnownRange order r) (full : IsEmptyRange order r → ⊥) (last : AllEndBefore order items r) where
-  front : AllEndBefore order (take (length items) items) r
-  front = rw (take-length items) last
+  whole_front_ends_before : AllEndBefore order (take (length items) items) r
+  whole_front_ends_before = rw (take-length items) last
 
   -- it meets none of them
   pub last_unmet : MeetsSome order items r → ⊥
   last_unmet meets =
-      free_not order lawful same equal items r stored known full (length items) front (rw (drop_all items (length items) refl) tt) (any_over _ _ items (λ i h. inl h) meets)
+      free_not order lawful same equal items r stored known full (length items) whole_front_ends_before (rw (drop_all items (length items) refl) tt) (any_over _ _ items (λ i h. inl h) meets)
 
   -- it stands at the end then
   pub last_inserted : (new : List (Item (AnyRange K) V)) (v : V) → new ≡ insert items (length items) (record { key = r; value = v }) → IsInserted order same items new r v
   last_inserted new v done =
       let x : Item (AnyRange K) V = record { key = r; value = v } in
-      let put = put_in order lawful same equal items r stored known full (length items) front (rw (drop_all items (length items) refl) tt) v in
+      let put = put_in order lawful same equal items r stored known full (length items) whole_front_ends_before (rw (drop_all items (length items) refl) tt) v in
       let whole : new ≡ items ++ (x ∷ []) = done ∙ rw (take-length items, drop_all items (length items) refl) refl in
       record {
         stored = rw done put.0;

@@ -7,7 +7,7 @@ use Rattle.range_algebra.specs.Intervals.{Le, Lt, Every}
 use Rattle.range_algebra.specs.Orders.{le_refl, lt_le, eq_le, eq_ge, le_trans, lt_not_le, lt_le_trans, le_lt_trans, lt_trans}
 use Rattle.range_algebra.proofs.Lists.{any_left, any_right, any_split, every_weaker, every_append, every_right}
 use Rattle.range_map.specs.Chains.{Leads, Trails, Follows, IsChain, Leading, Trailing, IsLeft, IsRight, IsLeftOf, IsRightOf, IsBoundTo, IsUnbound}
-use Rattle.range_map.proofs.Chains.{back, chain_left, chain_right, chain_tail, follows_above, strictly_leads, strictly_trails, chain_before, join, join_apart}
+use Rattle.range_map.proofs.Chains.{same_is_symmetric, chain_left, chain_right, chain_tail, follows_above, strictly_leads, strictly_trails, chain_before, chains_join, join_apart}
 use Rattle.range_map.proofs.ChainSides.{none_below, none_above, only_first, only_second}
 
 module _ {L V X : Type 0} (cmp : L → L → Ordering) (total : IsTotalOrder cmp) (same : V → V → Bool) (equal : IsEquivalence same) (lo hi : X → L) (value : X → V) where
@@ -46,12 +46,12 @@ module _ {L V X : Type 0} (cmp : L → L → Ordering) (total : IsTotalOrder cmp
       let ends = every_right _ front (y ∷ []) left.ends in
       record {
         chain = chain_left cmp total same equal lo hi value front (y ∷ []) left.chain;
-        leads = every_weaker _ _ front (λ z h. (h.0, λ k s. h.1 k (equal.congr (value z) v (value y) s ∙ back cmp total same equal lo hi value (value y) v alike_value))) before;
+        leads = every_weaker _ _ front (λ z h. (h.0, λ k s. h.1 k (equal.congr (value z) v (value y) s ∙ same_is_symmetric cmp total same equal lo hi value (value y) v alike_value))) before;
         below = le_trans cmp total (lo y) (hi y) c (lt_le cmp total (lo y) (hi y) good.0) ends.0;
         holds = λ p W alike l. (
           λ h. (left.holds p W alike l).0 (elim h [
             | inl k ↦ any_left _ front (y ∷ []) k
-            | inr k ↦ any_right _ front (y ∷ []) (inl ((k.0, lt_le_trans cmp total p c (hi y) l reaches), alike v (value y) (back cmp total same equal lo hi value (value y) v alike_value) k.1))
+            | inr k ↦ any_right _ front (y ∷ []) (inl ((k.0, lt_le_trans cmp total p c (hi y) l reaches), alike v (value y) (same_is_symmetric cmp total same equal lo hi value (value y) v alike_value) k.1))
           ]),
           λ h. elim (any_split _ front (y ∷ []) ((left.holds p W alike l).1 h)) [
             | inl k ↦ inl k
@@ -75,7 +75,7 @@ module _ {L V X : Type 0} (cmp : L → L → Ordering) (total : IsTotalOrder cmp
   pub right_joined : (items behind : List X) (y : X) (d : L) (v : V) → IsRight cmp total same equal lo hi value items (y ∷ behind) d → Le cmp (lo y) d → same (value y) v ≡ true → IsRightOf cmp total same equal lo hi value items behind d (hi y) v
   right_joined items behind y d v right reaches alike_value =
       let follows = right.chain.1 in
-      let value_back = back cmp total same equal lo hi value (value y) v alike_value in
+      let value_back = same_is_symmetric cmp total same equal lo hi value (value y) v alike_value in
       record {
         chain = chain_tail cmp total same equal lo hi value y behind follows;
         trails = every_weaker _ _ behind (λ z h. (h.0, λ k s. h.1 k (equal.congr (value y) v (value z) alike_value ∙ s))) (follows_trails y behind follows);
@@ -92,8 +92,8 @@ module _ {L V X : Type 0} (cmp : L → L → Ordering) (total : IsTotalOrder cmp
         );
       }
 
-  pub unbound : (items front behind : List X) (c d : L) → IsLeft cmp total same equal lo hi value items front c → IsRight cmp total same equal lo hi value items behind d → Lt cmp c d → IsUnbound cmp total same equal lo hi value items (front ++ behind) c d
-  unbound items front behind c d left right l = record {
+  pub places_between_are_unbound : (items front behind : List X) (c d : L) → IsLeft cmp total same equal lo hi value items front c → IsRight cmp total same equal lo hi value items behind d → Lt cmp c d → IsUnbound cmp total same equal lo hi value items (front ++ behind) c d
+  places_between_are_unbound items front behind c d left right l = record {
     chain = join_apart cmp total same equal lo hi value front behind c d l left.chain right.chain left.ends right.starts;
     inside = λ p W from upto h. elim (any_split _ front behind h) [
       | inl k ↦ none_above cmp total same equal lo hi value p c W front from left.ends k
@@ -116,9 +116,9 @@ module _ {L V X : Type 0} (cmp : L → L → Ordering) (total : IsTotalOrder cmp
   bound_follows m (y ∷ ys) e v h k s chain trails =
       ((le_trans cmp total (hi m) e (lo y) h trails.0.0, λ q t. trails.0.1 (le_trans cmp total (lo y) (hi m) e q h) (sym (equal.congr (value m) v (value y) s) ∙ t)), chain)
 
-  pub bound : (items front behind : List X) (m : X) (c d s e : L) (v : V) → IsLeftOf cmp total same equal lo hi value items front c s v → IsRightOf cmp total same equal lo hi value items behind d e v → Lt cmp c d → cmp (lo m) s ≡ Equal → cmp (hi m) e ≡ Equal → same (value m) v ≡ true → IsBoundTo cmp total same equal lo hi value items (front ++ m ∷ behind) c d v
-  bound items front behind m c d s e v left right l at_lo at_hi alike_value =
-      let value_back = back cmp total same equal lo hi value (value m) v alike_value in
+  pub places_between_are_bound : (items front behind : List X) (m : X) (c d s e : L) (v : V) → IsLeftOf cmp total same equal lo hi value items front c s v → IsRightOf cmp total same equal lo hi value items behind d e v → Lt cmp c d → cmp (lo m) s ≡ Equal → cmp (hi m) e ≡ Equal → same (value m) v ≡ true → IsBoundTo cmp total same equal lo hi value items (front ++ m ∷ behind) c d v
+  places_between_are_bound items front behind m c d s e v left right l at_lo at_hi alike_value =
+      let value_back = same_is_symmetric cmp total same equal lo hi value (value m) v alike_value in
       let s_low = eq_le cmp total (lo m) s at_lo in
       let s_high = eq_ge cmp total (lo m) s at_lo in
       let e_low = eq_le cmp total (hi m) e at_hi in
@@ -128,7 +128,7 @@ module _ {L V X : Type 0} (cmp : L → L → Ordering) (total : IsTotalOrder cmp
       let starts : Every (λ x. Le cmp d (lo x)) behind = every_weaker _ _ behind (λ z h. le_trans cmp total d e (lo z) right.above h.0) right.trails in
       let leads : AllLead (lo m) (value m) front = every_weaker _ _ front (λ z h. (le_trans cmp total (hi z) s (lo m) h.0 s_high, λ k t. h.1 (le_trans cmp total s (lo m) (hi z) s_high k) (equal.congr (value z) (value m) v t ∙ alike_value))) left.leads in
       record {
-        chain = join cmp total same equal lo hi value front m behind left.chain (good, bound_follows m behind e v e_low e_high alike_value right.chain right.trails) leads;
+        chain = chains_join cmp total same equal lo hi value front m behind left.chain (good, bound_follows m behind e v e_low e_high alike_value right.chain right.trails) leads;
         inside = λ p W alike from upto. (
           λ h. elim (only_second (none_above cmp total same equal lo hi value p c W front from ends) (any_split _ front (m ∷ behind) h)) [
             | inl k ↦ alike (value m) v alike_value k.1

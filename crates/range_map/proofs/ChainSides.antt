@@ -7,7 +7,7 @@ use Rattle.range_algebra.specs.Intervals.{Le, Lt, Every}
 use Rattle.range_algebra.specs.Orders.{lt_le, eq_le, eq_ge, le_trans, lt_not_le, lt_le_trans, le_lt_trans}
 use Rattle.range_algebra.proofs.Lists.{any_left, any_right, any_split, any_none, every_weaker, every_append}
 use Rattle.range_map.specs.Chains.{IsChain, Has, Leading, IsLeft, IsRight}
-use Rattle.range_map.proofs.Chains.{back, chain_left, chain_right, follows_above, chain_before, join, follows_like}
+use Rattle.range_map.proofs.Chains.{same_is_symmetric, chain_left, chain_right, follows_above, chain_before, chains_join, follows_like}
 
 pub only_first : {A B : Type 0} → (B → ⊥) → A ⊎ B → A
 only_first f (inl a) = a
@@ -48,7 +48,7 @@ module _ {L V X : Type 0} (cmp : L → L → Ordering) (total : IsTotalOrder cmp
       let before = chain_before cmp total same equal lo hi value front x rest chain in
       let leads : Leading cmp total same equal lo hi value (lo y) (value y) front = every_weaker _ _ front (λ z h. (le_trans cmp total (hi z) (lo x) (lo y) h.0 (eq_ge cmp total (lo y) (lo x) at_lo), λ k s. h.1 (le_trans cmp total (lo x) (lo y) (hi z) (eq_ge cmp total (lo y) (lo x) at_lo) k) (equal.congr (value z) (value y) (value x) s ∙ alike_value))) before in
       record {
-        chain = join cmp total same equal lo hi value front y [] (chain_left cmp total same equal lo hi value front (x ∷ rest) chain) (good, tt) leads;
+        chain = chains_join cmp total same equal lo hi value front y [] (chain_left cmp total same equal lo hi value front (x ∷ rest) chain) (good, tt) leads;
         ends = every_append _ front (y ∷ []) (every_weaker _ _ front (λ z h. le_trans cmp total (hi z) (lo y) c h.0 (le_trans cmp total (lo y) (lo x) c (eq_le cmp total (lo y) (lo x) at_lo) (lt_le cmp total (lo x) c starts))) leads) (eq_le cmp total (hi y) c at_hi, tt);
         holds = λ p W alike l. (
           λ h. elim (any_split _ front (y ∷ []) h) [
@@ -57,7 +57,7 @@ module _ {L V X : Type 0} (cmp : L → L → Ordering) (total : IsTotalOrder cmp
           ],
           λ h. elim (any_split _ front (x ∷ rest) h) [
             | inl k ↦ any_left _ front (y ∷ []) k
-            | inr k ↦ let held = only_first (none_below p (hi x) W rest (lt_le_trans cmp total p c (hi x) l reaches) above) k in any_right _ front (y ∷ []) (inl ((le_trans cmp total (lo y) (lo x) p (eq_le cmp total (lo y) (lo x) at_lo) held.0.0, lt_le_trans cmp total p c (hi y) l (eq_ge cmp total (hi y) c at_hi)), alike (value x) (value y) (back cmp total same equal lo hi value (value y) (value x) alike_value) held.1))
+            | inr k ↦ let held = only_first (none_below p (hi x) W rest (lt_le_trans cmp total p c (hi x) l reaches) above) k in any_right _ front (y ∷ []) (inl ((le_trans cmp total (lo y) (lo x) p (eq_le cmp total (lo y) (lo x) at_lo) held.0.0, lt_le_trans cmp total p c (hi y) l (eq_ge cmp total (hi y) c at_hi)), alike (value x) (value y) (same_is_symmetric cmp total same equal lo hi value (value y) (value x) alike_value) held.1))
           ],
         );
       }
@@ -88,7 +88,7 @@ module _ {L V X : Type 0} (cmp : L → L → Ordering) (total : IsTotalOrder cmp
             | inr k ↦ inr k
           ]),
           λ h. elim (only_second (none_above p d W rest l (every_weaker _ _ rest (λ z e. le_trans cmp total (hi z) (lo x) d e.0 reaches) before)) (any_split _ rest (x ∷ behind) h)) [
-            | inl k ↦ inl ((le_trans cmp total (lo y) d p (eq_le cmp total (lo y) d at_lo) l, lt_le_trans cmp total p (hi x) (hi y) k.0.1 (eq_ge cmp total (hi y) (hi x) at_hi)), alike (value x) (value y) (back cmp total same equal lo hi value (value y) (value x) alike_value) k.1)
+            | inl k ↦ inl ((le_trans cmp total (lo y) d p (eq_le cmp total (lo y) d at_lo) l, lt_le_trans cmp total p (hi x) (hi y) k.0.1 (eq_ge cmp total (hi y) (hi x) at_hi)), alike (value x) (value y) (same_is_symmetric cmp total same equal lo hi value (value y) (value x) alike_value) k.1)
             | inr k ↦ inr k
           ],
         );

@@ -17,8 +17,8 @@ module _ {L V X : Type 0} (cmp : L → L → Ordering) (total : IsTotalOrder cmp
   abbrev IsFollowed : X → List X → Type 0
   IsFollowed x xs = Follows cmp total same equal lo hi value x xs
 
-  pub back : (a b : V) → same a b ≡ true → same b a ≡ true
-  back a b h = equal.symm b a ∙ h
+  pub same_is_symmetric : (a b : V) → same a b ≡ true → same b a ≡ true
+  same_is_symmetric a b h = equal.symm b a ∙ h
 
   pub chain_left : (xs ys : List X) → Chain (xs ++ ys) → Chain xs
   chain_left [] ys h = tt
@@ -61,10 +61,10 @@ module _ {L V X : Type 0} (cmp : L → L → Ordering) (total : IsTotalOrder cmp
       let strict = le_lt_trans cmp total (hi x) (lo x') (lo y) h.1.0.0 (lt_le_trans cmp total (lo x') (hi x') (lo y) h.1.1.0 rest.0.0) in
       (strictly_leads x (lo y) (value y) strict, rest)
 
-  pub join : (xs : List X) (y : X) (ys : List X) → Chain xs → Chain (y ∷ ys) → Every (λ x. LeadsTo x (lo y) (value y)) xs → Chain (xs ++ y ∷ ys)
-  join [] y ys h k e = k
-  join (x ∷ []) y ys h k e = (h.0, (e.0, k))
-  join (x ∷ x' ∷ xs) y ys h k e = (h.0, (h.1.0, join (x' ∷ xs) y ys h.1.1 k e.1))
+  pub chains_join : (xs : List X) (y : X) (ys : List X) → Chain xs → Chain (y ∷ ys) → Every (λ x. LeadsTo x (lo y) (value y)) xs → Chain (xs ++ y ∷ ys)
+  chains_join [] y ys h k e = k
+  chains_join (x ∷ []) y ys h k e = (h.0, (e.0, k))
+  chains_join (x ∷ x' ∷ xs) y ys h k e = (h.0, (h.1.0, chains_join (x' ∷ xs) y ys h.1.1 k e.1))
 
   strict_follows : (x : X) (ys : List X) (c d : L) → Le cmp (hi x) c → Lt cmp c d → Chain ys → Every (λ y. Le cmp d (lo y)) ys → IsFollowed x ys
   strict_follows x [] c d h l k e = tt
@@ -79,4 +79,4 @@ module _ {L V X : Type 0} (cmp : L → L → Ordering) (total : IsTotalOrder cmp
   pub follows_like : (x y : X) (ys : List X) → cmp (hi y) (hi x) ≡ Equal → same (value y) (value x) ≡ true → IsFollowed x ys → IsFollowed y ys
   follows_like x y [] e s f = tt
   follows_like x y (z ∷ zs) e s f =
-      ((le_trans cmp total (hi y) (hi x) (lo z) (eq_le cmp total (hi y) (hi x) e) f.0.0, λ k t. f.0.1 (le_trans cmp total (lo z) (hi y) (hi x) k (eq_le cmp total (hi y) (hi x) e)) (equal.congr (value x) (value y) (value z) (back (value y) (value x) s) ∙ t)), f.1)
+      ((le_trans cmp total (hi y) (hi x) (lo z) (eq_le cmp total (hi y) (hi x) e) f.0.0, λ k t. f.0.1 (le_trans cmp total (lo z) (hi y) (hi x) k (eq_le cmp total (hi y) (hi x) e)) (equal.congr (value x) (value y) (value z) (same_is_symmetric (value y) (value x) s) ∙ t)), f.1)

@@ -115,11 +115,11 @@ module _ {K : Type 0} (order : KeyOrder K) (lawful : IsLawful order) where
         the_gap i j rest coarse k y v known in_type held between (inr (inr g)) =
             below_is_irreflexive k y (between.1 y in_type held) (ap is_gt (first_below j rest (rest_coarse i (j ∷ rest) coarse) y k in_type known held (binds_bound order same_value rest k v g)))
 
-    changes : (i : Item (AnyRange K) V) (rest : List (Item (AnyRange K) V)) → IsCoarse order same_value (i ∷ rest) → (a b : K) (v : V) → order.is_key a → order.is_key b → Holds order i.key a → IsBound order rest b
+    value_changes_between : (i : Item (AnyRange K) V) (rest : List (Item (AnyRange K) V)) → IsCoarse order same_value (i ∷ rest) → (a b : K) (v : V) → order.is_key a → order.is_key b → Holds order i.key a → IsBound order rest b
         → ((c : K) → order.is_key c → NotAbove order a c → NotAbove order c b → BindsTo order same_value (i ∷ rest) c v) → ⊥
-    changes i [] coarse a b v key key' h g all = g
-    changes i (j ∷ rest) coarse a b v key key' h (inl g) all = changes_to i j rest coarse a b v key key' h all b key' g (at_most_itself b)
-    changes i (j ∷ rest) coarse a b v key key' h (inr g) all =
+    value_changes_between i [] coarse a b v key key' h g all = g
+    value_changes_between i (j ∷ rest) coarse a b v key key' h (inl g) all = changes_to i j rest coarse a b v key key' h all b key' g (at_most_itself b)
+    value_changes_between i (j ∷ rest) coarse a b v key key' h (inr g) all =
         first_holds j rest (rest_coarse i (j ∷ rest) coarse) (λ y in_type held. changes_to i j rest coarse a b v key key' h all y in_type held (ap is_gt (first_below j rest (rest_coarse i (j ∷ rest) coarse) y b in_type key' held g)))
 
     -- what the one binds a key to, the other does
@@ -132,7 +132,7 @@ module _ {K : Type 0} (order : KeyOrder K) (lawful : IsLawful order) where
       where
         from_first : (y : K) → order.is_key y → Holds order j.key y → IsBound order others k → BindsTo order same_value (i ∷ items) y j.value → ⊥
         from_first y in_type held g (inl f) =
-            changes j others coarse' y k i.value in_type key held g (λ c known l u. there c known i.value (inl (ranges_are_convex i.key y k c f.0 h l u, values.refl i.value)))
+            value_changes_between j others coarse' y k i.value in_type key held g (λ c known l u. there c known i.value (inl (ranges_are_convex i.key y k c f.0 h l u, values.refl i.value)))
         from_first y in_type held g (inr f) =
             below_is_irreflexive y k (first_below j others coarse' y k in_type key held g) (ap is_gt (first_below i items coarse k y key in_type h (binds_bound order same_value items y j.value f)))
 
@@ -187,12 +187,12 @@ module _ {K : Type 0} (order : KeyOrder K) (lawful : IsLawful order) where
     later_together i items rest back a b (inl h) = inl h
     later_together i items rest back a b (inr h) = inr (back a b h)
 
-    pick : (items : List (Item (AnyRange K) V)) (k : K) → IsBound order items k → Picked items k
+    bound_key_picks_item : (items : List (Item (AnyRange K) V)) (k : K) → IsBound order items k → Picked items k
     unfolding Picked
-    pick [] k h = absurd h
-    pick (i ∷ rest) k (inl h) = (i, rest, (let e : length (i ∷ rest) ≡ suc (length rest) = refl in omega arith), h, λ l g. g, λ a b f g. inl (f, g), λ a b g. inr g)
-    pick (i ∷ rest) k (inr h) =
-        let found = pick rest k h in
+    bound_key_picks_item [] k h = absurd h
+    bound_key_picks_item (i ∷ rest) k (inl h) = (i, rest, (let e : length (i ∷ rest) ≡ suc (length rest) = refl in omega arith), h, λ l g. g, λ a b f g. inl (f, g), λ a b g. inr g)
+    bound_key_picks_item (i ∷ rest) k (inr h) =
+        let found = bound_key_picks_item rest k h in
         let count : length rest ≡ length found.1 + 1 = found.2 in (
           found.0,
           i ∷ found.1,
@@ -215,18 +215,18 @@ module _ {K : Type 0} (order : KeyOrder K) (lawful : IsLawful order) where
     past_first i rest coarse a c v key key' g l (inl h) = absurd (below_is_irreflexive c a (first_below i rest coarse c a key' key h.0 g) l)
     past_first i rest coarse a c v key key' g l (inr h) = h
 
-    shorter : (items others : List (Item (AnyRange K) V)) → IsCoarse order same_value items → ((k : K) → order.is_key k → IsBound order items k → IsBound order others k) → Together items others → length items ≤ length others
+    coarse_list_is_not_longer : (items others : List (Item (AnyRange K) V)) → IsCoarse order same_value items → ((k : K) → order.is_key k → IsBound order items k → IsBound order others k) → Together items others → length items ≤ length others
     unfolding Picked Together AllBoundTo
-    shorter [] others coarse bound together = omega arith
-    shorter (i ∷ items) others coarse bound together =
+    coarse_list_is_not_longer [] others coarse bound together = omega arith
+    coarse_list_is_not_longer (i ∷ items) others coarse bound together =
         stable_order (length (i ∷ items)) (length others)
         (λ no. first_holds i items coarse (λ k key h.
-        let found = pick others k (bound k key (inl h)) in
+        let found = bound_key_picks_item others k (bound k key (inl h)) in
         let count : length others ≡ length found.1 + 1 = found.2 in
         let fewer : length items ≤ length found.1 =
-        shorter items found.1 (rest_coarse i items coarse)
+        coarse_list_is_not_longer items found.1 (rest_coarse i items coarse)
         (λ l known g. elim (found.4 l (bound l known (inr g))) [
-          | inl f ↦ (let alike = together k l key known (inl h) (inr g) (found.5 k l found.3 f) in absurd (changes i items coarse k l alike.0 key known h g alike.1))
+          | inl f ↦ (let alike = together k l key known (inl h) (inr g) (found.5 k l found.3 f) in absurd (value_changes_between i items coarse k l alike.0 key known h g alike.1))
           | inr f ↦ f
         ])
         (λ a b known known' f g both.
@@ -246,6 +246,6 @@ module _ {K : Type 0} (order : KeyOrder K) (lawful : IsLawful order) where
     pub coarse_shortest : (items others : List (Item (AnyRange K) V)) → IsCoarse order same_value items → BindAlike order same_value items others → length items ≤ length others
     unfolding Together AllBoundTo
     coarse_shortest items others coarse alike =
-        shorter items others coarse
+        coarse_list_is_not_longer items others coarse
         (λ k key h. let found = bound_binds items k h in binds_bound order same_value others k found.0 ((alike k key (Some found.0)).0 found.1))
         (λ a b key key' f g both. let found = together_alike others a b both in (found.0, λ c known low up. (alike c known (Some found.0)).1 (found.1 c known low up)))

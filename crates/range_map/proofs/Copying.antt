@@ -23,15 +23,15 @@ use Rattle.range_map.specs.Copies.{IsCopyOf}
 use Rattle.range_algebra.specs.Relations.{LiesBefore, Touches}
 use Rattle.range_map.specs.Stored.{IsStored}
 use Rattle.range_map.proofs.Forms.{before_is, nonempty_good, touches_is}
-use Rattle.range_map.proofs.Listed.{IsListed, listed, stored_by}
+use Rattle.range_map.proofs.Listed.{IsListed, stored_list_is_listed, stored_by}
 
 both_parts : (o p : Ordering) → ordering_then o p ≡ Equal → (o ≡ Equal) × (p ≡ Equal)
 both_parts Less p h = cc
 both_parts Equal p h = (refl, h)
 both_parts Greater p h = cc
 
-level : (o p : Ordering) → o ≡ Equal → p ≡ Equal → ordering_then o p ≡ Equal
-level o p e f = rw e f
+equal_then_equal : (o p : Ordering) → o ≡ Equal → p ≡ Equal → ordering_then o p ≡ Equal
+equal_then_equal o p e f = rw e f
 
 both_true : (a b : Bool) → a ≡ true → b ≡ true → (a && b) ≡ true
 both_true a b e f = rw e f
@@ -53,7 +53,7 @@ module _ {K : Type 0} (order : KeyOrder K) (lawful : IsLawful order) where
   told_same None None q r h e = e
   told_same None (Some y) q r h e = absurd h
   told_same (Some x) None q r h e = absurd h
-  told_same (Some x) (Some y) q r h e = level (order.cmp x y) Equal h refl
+  told_same (Some x) (Some y) q r h e = equal_then_equal (order.cmp x y) Equal h refl
 
   -- the places past equal ends are equal
   past_same : (p q : Position K) → Same p q → Same (past order p) (past order q)
@@ -65,11 +65,11 @@ module _ {K : Type 0} (order : KeyOrder K) (lawful : IsLawful order) where
   past_same PlusInfinity MinusInfinity h = cc
   past_same PlusInfinity (Beside b t) h = cc
   past_same PlusInfinity PlusInfinity h = refl
-  past_same (Beside a Before) (Beside b Before) h = level (order.cmp a b) Equal (both_parts (order.cmp a b) Equal h).0 refl
+  past_same (Beside a Before) (Beside b Before) h = equal_then_equal (order.cmp a b) Equal (both_parts (order.cmp a b) Equal h).0 refl
   past_same (Beside a At) (Beside b At) h =
       let e = (both_parts (order.cmp a b) Equal h).0 in
-      told_same (order.succ a) (order.succ b) (Beside a After) (Beside b After) (lawful.succ_congr a b e) (level (order.cmp a b) Equal e refl)
-  past_same (Beside a After) (Beside b After) h = level (order.cmp a b) Equal (both_parts (order.cmp a b) Equal h).0 refl
+      told_same (order.succ a) (order.succ b) (Beside a After) (Beside b After) (lawful.succ_congr a b e) (equal_then_equal (order.cmp a b) Equal e refl)
+  past_same (Beside a After) (Beside b After) h = equal_then_equal (order.cmp a b) Equal (both_parts (order.cmp a b) Equal h).0 refl
   past_same (Beside a Before) (Beside b At) h = absurd (let e = (both_parts (order.cmp a b) Less h).1 in cc)
   past_same (Beside a Before) (Beside b After) h = absurd (let e = (both_parts (order.cmp a b) Less h).1 in cc)
   past_same (Beside a At) (Beside b Before) h = absurd (let e = (both_parts (order.cmp a b) Greater h).1 in cc)
@@ -77,8 +77,8 @@ module _ {K : Type 0} (order : KeyOrder K) (lawful : IsLawful order) where
   past_same (Beside a After) (Beside b Before) h = absurd (let e = (both_parts (order.cmp a b) Greater h).1 in cc)
   past_same (Beside a After) (Beside b At) h = absurd (let e = (both_parts (order.cmp a b) Greater h).1 in cc)
 
-  alike : (p q s t : Position K) → Same p q → Same s t → position_cmp order.cmp p s ≡ position_cmp order.cmp q t
-  alike p q s t e f =
+  equal_positions_compare_alike : (p q s t : Position K) → Same p q → Same s t → position_cmp order.cmp p s ≡ position_cmp order.cmp q t
+  equal_positions_compare_alike p q s t e f =
       let total = position_total order.cmp lawful.total in total.congr p q s e ∙ alike_right total s t q f
 
   starts_same : (r s : AnyRange K) → range_cmp order r s ≡ Equal → Same (start_position order r.start) (start_position order s.start)
@@ -91,11 +91,11 @@ module _ {K : Type 0} (order : KeyOrder K) (lawful : IsLawful order) where
 
   same_empty : (r s : AnyRange K) → range_cmp order r s ≡ Equal → IsEmptyRange order r → IsEmptyRange order s
   same_empty r s e h =
-      sym (alike (start_position order r.start) (start_position order s.start) (end_position order r.end) (end_position order s.end) (starts_same r s e) (ends_same r s e)) ∙ h
+      sym (equal_positions_compare_alike (start_position order r.start) (start_position order s.start) (end_position order r.end) (end_position order s.end) (starts_same r s e) (ends_same r s e)) ∙ h
 
   same_before : (r s r' s' : AnyRange K) → range_cmp order r r' ≡ Equal → range_cmp order s s' ≡ Equal → LiesBefore order r' s' → LiesBefore order r s
   same_before r s r' s' e f h =
-      alike (end_position order r.end) (end_position order r'.end) (start_position order s.start) (start_position order s'.start) (ends_same r r' e) (starts_same s s' f) ∙ h
+      equal_positions_compare_alike (end_position order r.end) (end_position order r'.end) (start_position order s.start) (start_position order s'.start) (ends_same r r' e) (starts_same s s' f) ∙ h
 
   same_touches : (r s r' s' : AnyRange K) → IsKnownRange order r → IsKnownRange order s → IsKnownRange order r' → IsKnownRange order s' → (IsEmptyRange order s → ⊥) → (IsEmptyRange order s' → ⊥) → LiesBefore order r s → LiesBefore order r' s' → range_cmp order r r' ≡ Equal → range_cmp order s s' ≡ Equal → Touches order r s → Touches order r' s'
   same_touches r s r' s' known others known' others' full full' before before' e f h =
@@ -144,15 +144,15 @@ module _ {K : Type 0} (order : KeyOrder K) (lawful : IsLawful order) where
 
     pub copy_stored : (copy items : List (Item (AnyRange K) V)) → IsCopyOf order same copy items → All (λ i. IsKnownRange order i.key) copy → IsStored order same items → IsStored order same copy
     copy_stored copy items zip known h =
-        stored_by order lawful same copy (copy_listed copy items zip (recursion_from_All (λ i. IsKnownRange order i.key) copy known) (listed order lawful same items h))
+        stored_by order lawful same copy (copy_listed copy items zip (recursion_from_All (λ i. IsKnownRange order i.key) copy known) (stored_list_is_listed order lawful same items h))
 
-    pub copied : (items copy : List (Item (AnyRange K) V)) → AllZip (λ x y. (is_eq (range_cmp order y.key x.key) && same y.value x.value) ≡ true) items copy → IsCopyOf order same copy items
-    copied [] [] zip = tt
-    copied [] (y ∷ ys) zip = absurd zip
-    copied (x ∷ xs) [] zip = absurd zip
-    copied (x ∷ xs) (y ∷ ys) zip =
+    pub equal_items_are_copy : (items copy : List (Item (AnyRange K) V)) → AllZip (λ x y. (is_eq (range_cmp order y.key x.key) && same y.value x.value) ≡ true) items copy → IsCopyOf order same copy items
+    equal_items_are_copy [] [] zip = tt
+    equal_items_are_copy [] (y ∷ ys) zip = absurd zip
+    equal_items_are_copy (x ∷ xs) [] zip = absurd zip
+    equal_items_are_copy (x ∷ xs) (y ∷ ys) zip =
         let both = true_parts (is_eq (range_cmp order y.key x.key)) (same y.value x.value) zip.0 in
-        ((equal_is (range_cmp order y.key x.key) both.0, both.1), copied xs ys zip.1)
+        ((equal_is (range_cmp order y.key x.key) both.0, both.1), equal_items_are_copy xs ys zip.1)
 
     -- the clone of an item equals it
     pub item_clone : (is_clone : K → K → Type 0) (keys : (x y : K) → is_clone x y → order.cmp x y ≡ Equal) (is_value_clone : V → V → Type 0) (values : (x y : V) → is_value_clone x y → same x y ≡ true) (x y : Item (AnyRange K) V) → (IsBoundClone is_clone x.key.start y.key.start × IsBoundClone is_clone x.key.end y.key.end) → is_value_clone x.value y.value → (is_eq (range_cmp order y.key x.key) && same y.value x.value) ≡ true

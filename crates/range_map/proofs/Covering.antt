@@ -42,8 +42,8 @@ module _ {K : Type 0} (order : KeyOrder K) (lawful : IsLawful order) where
     other_from : Le (places order lawful) (lower order s) place
     other_upto : Lt (places order lawful) place (upper order s)
 
-  shares : (r s : AnyRange K) → IsKnownRange order r → IsKnownRange order s → Lt (places order lawful) (lower order r) (upper order r) → Lt (places order lawful) (lower order s) (upper order s) → Overlap order r s → Shares r s
-  shares r s known others good good_s h =
+  overlapping_ranges_share_place : (r s : AnyRange K) → IsKnownRange order r → IsKnownRange order s → Lt (places order lawful) (lower order r) (upper order r) → Lt (places order lawful) (lower order s) (upper order s) → Overlap order r s → Shares r s
+  overlapping_ranges_share_place r s known others good good_s h =
       let cmp = places order lawful in
       let total = position_total order.cmp lawful.total in
       let met = (overlap_is r s known others).0 h in
@@ -52,17 +52,17 @@ module _ {K : Type 0} (order : KeyOrder K) (lawful : IsLawful order) where
         | inr g ↦ record { place = lower order r; from = le_refl cmp total (lower order r); upto = good; other_from = g; other_upto = met.0 }
       ]
 
-  sharing : (r s : AnyRange K) (p : Position K) → IsKnownRange order r → IsKnownRange order s → Le (places order lawful) (lower order r) p → Lt (places order lawful) p (upper order r) → Le (places order lawful) (lower order s) p → Lt (places order lawful) p (upper order s) → Overlap order r s
-  sharing r s p known others from upto other_from other_upto =
+  shared_place_is_overlap : (r s : AnyRange K) (p : Position K) → IsKnownRange order r → IsKnownRange order s → Le (places order lawful) (lower order r) p → Lt (places order lawful) p (upper order r) → Le (places order lawful) (lower order s) p → Lt (places order lawful) p (upper order s) → Overlap order r s
+  shared_place_is_overlap r s p known others from upto other_from other_upto =
       let cmp = places order lawful in
       let total = position_total order.cmp lawful.total in
       (overlap_is r s known others).1 (le_lt_trans cmp total (lower order r) p (upper order s) from other_upto, le_lt_trans cmp total (lower order s) p (upper order r) other_from upto)
 
   module _ {V : Type 0} (same : V → V → Bool) (equal : IsEquivalence same) where
-    goods : (items : List (Item (AnyRange K) V)) → Chained order lawful same equal items → Every (λ i. Lt (places order lawful) (item_lower order i) (item_upper order i)) items
-    goods [] h = tt
-    goods (i ∷ []) h = (h.0, tt)
-    goods (i ∷ j ∷ rest) h = (h.0, goods (j ∷ rest) h.1.1)
+    chained_items_have_places : (items : List (Item (AnyRange K) V)) → Chained order lawful same equal items → Every (λ i. Lt (places order lawful) (item_lower order i) (item_upper order i)) items
+    chained_items_have_places [] h = tt
+    chained_items_have_places (i ∷ []) h = (h.0, tt)
+    chained_items_have_places (i ∷ j ∷ rest) h = (h.0, chained_items_have_places (j ∷ rest) h.1.1)
 
     -- a place of the range that some item holds
     record IsCovered (s : AnyRange K) (items : List (Item (AnyRange K) V)) : Type 0 where
@@ -71,19 +71,19 @@ module _ {K : Type 0} (order : KeyOrder K) (lawful : IsLawful order) where
       upto : Lt (places order lawful) place (upper order s)
       held : Hold order lawful same equal (λ u. true) place items
 
-    covered : (s : AnyRange K) (items : List (Item (AnyRange K) V)) → IsKnownRange order s → Lt (places order lawful) (lower order s) (upper order s) → Known order lawful same equal items → Every (λ i. Lt (places order lawful) (item_lower order i) (item_upper order i)) items → MeetsSome order items s → IsCovered s items
-    covered s [] known good all full h = absurd h
-    covered s (i ∷ rest) known good all full (inl h) =
-        let at = shares i.key s all.0 known full.0 good h in
+    met_range_is_covered : (s : AnyRange K) (items : List (Item (AnyRange K) V)) → IsKnownRange order s → Lt (places order lawful) (lower order s) (upper order s) → Known order lawful same equal items → Every (λ i. Lt (places order lawful) (item_lower order i) (item_upper order i)) items → MeetsSome order items s → IsCovered s items
+    met_range_is_covered s [] known good all full h = absurd h
+    met_range_is_covered s (i ∷ rest) known good all full (inl h) =
+        let at = overlapping_ranges_share_place i.key s all.0 known full.0 good h in
         record { place = at.place; from = at.other_from; upto = at.other_upto; held = inl ((at.from, at.upto), refl) }
-    covered s (i ∷ rest) known good all full (inr h) =
-        let at = covered s rest known good all.1 full.1 h in
+    met_range_is_covered s (i ∷ rest) known good all full (inr h) =
+        let at = met_range_is_covered s rest known good all.1 full.1 h in
         record { place = at.place; from = at.from; upto = at.upto; held = inr at.held }
 
-    covering : (s : AnyRange K) (items : List (Item (AnyRange K) V)) (p : Position K) → IsKnownRange order s → Known order lawful same equal items → Le (places order lawful) (lower order s) p → Lt (places order lawful) p (upper order s) → Hold order lawful same equal (λ u. true) p items → MeetsSome order items s
-    covering s [] p known all from upto h = absurd h
-    covering s (i ∷ rest) p known all from upto (inl h) = inl (sharing i.key s p all.0 known h.0.0 h.0.1 from upto)
-    covering s (i ∷ rest) p known all from upto (inr h) = inr (covering s rest p known all.1 from upto h)
+    held_place_is_met : (s : AnyRange K) (items : List (Item (AnyRange K) V)) (p : Position K) → IsKnownRange order s → Known order lawful same equal items → Le (places order lawful) (lower order s) p → Lt (places order lawful) p (upper order s) → Hold order lawful same equal (λ u. true) p items → MeetsSome order items s
+    held_place_is_met s [] p known all from upto h = absurd h
+    held_place_is_met s (i ∷ rest) p known all from upto (inl h) = inl (shared_place_is_overlap i.key s p all.0 known h.0.0 h.0.1 from upto)
+    held_place_is_met s (i ∷ rest) p known all from upto (inr h) = inr (held_place_is_met s rest p known all.1 from upto h)
 
     -- what meets the range or a range of the list meets one of the list in which it was bound, and nothing else does
     pub meets_bound : (items new : List (Item (AnyRange K) V)) (r : AnyRange K) (v : V) → Known order lawful same equal items → Known order lawful same equal new → Chained order lawful same equal items → IsKnownRange order r → Lt (places order lawful) (lower order r) (upper order r) →
@@ -94,19 +94,19 @@ module _ {K : Type 0} (order : KeyOrder K) (lawful : IsLawful order) where
         let any = respects_any order lawful same equal in
         let good_s = (nonempty_good order lawful s known_s).0 full in (
           λ h.
-              let at = covered s new known_s good_s all_new (goods new changed.chain) h in
+              let at = met_range_is_covered s new known_s good_s all_new (chained_items_have_places new changed.chain) h in
               elim (cases cmp total at.place (lower order r)) [
-                | inl below ↦ inr (covering s items at.place known_s all at.from at.upto ((changed.outside at.place (λ u. true) any (inl below)).0 at.held))
+                | inl below ↦ inr (held_place_is_met s items at.place known_s all at.from at.upto ((changed.outside at.place (λ u. true) any (inl below)).0 at.held))
                 | inr from ↦ elim (cases cmp total at.place (upper order r)) [
-                  | inl upto ↦ inl (sharing r s at.place known known_s from upto at.from at.upto)
-                  | inr above ↦ inr (covering s items at.place known_s all at.from at.upto ((changed.outside at.place (λ u. true) any (inr above)).0 at.held))
+                  | inl upto ↦ inl (shared_place_is_overlap r s at.place known known_s from upto at.from at.upto)
+                  | inr above ↦ inr (held_place_is_met s items at.place known_s all at.from at.upto ((changed.outside at.place (λ u. true) any (inr above)).0 at.held))
                 ]
               ],
           λ h. elim h [
-            | inl met ↦ let at = shares r s known known_s good good_s met in covering s new at.place known_s all_new at.other_from at.other_upto ((changed.inside at.place (λ u. true) any at.from at.upto).1 refl)
+            | inl met ↦ let at = overlapping_ranges_share_place r s known known_s good good_s met in held_place_is_met s new at.place known_s all_new at.other_from at.other_upto ((changed.inside at.place (λ u. true) any at.from at.upto).1 refl)
             | inr met ↦
-                let at = covered s items known_s good_s all (goods items chain) met in
-                covering s new at.place known_s all_new at.from at.upto (elim (cases cmp total at.place (lower order r)) [
+                let at = met_range_is_covered s items known_s good_s all (chained_items_have_places items chain) met in
+                held_place_is_met s new at.place known_s all_new at.from at.upto (elim (cases cmp total at.place (lower order r)) [
                   | inl below ↦ (changed.outside at.place (λ u. true) any (inl below)).1 at.held
                   | inr from ↦ elim (cases cmp total at.place (upper order r)) [
                     | inl upto ↦ (changed.inside at.place (λ u. true) any from upto).1 refl

@@ -13,7 +13,7 @@ use Rattle.range_algebra.specs.Orders.{lt_le, le_trans}
 use Rattle.range_map.specs.Chains.{IsLeft, IsRight, IsUnbound}
 use Rattle.range_map.proofs.Chains.{chain_above, chain_right, chain_before}
 use Rattle.range_map.proofs.ChainSides.{left_whole, left_cut, right_whole, right_cut}
-use Rattle.range_map.proofs.ChainJoins.{unbound}
+use Rattle.range_map.proofs.ChainJoins.{places_between_are_unbound}
 use Rattle.range_algebra.specs.Cuts.{lower, upper}
 use Rattle.range_map.specs.ItemCuts.{item_lower, item_upper}
 use Rattle.range_map.specs.Stored.{IsStored}
@@ -97,5 +97,5 @@ module _ {K : Type 0} (order : KeyOrder K) (lawful : IsLawful order) {V : Type 0
       let behind : Every (λ i. Le cmp (upper order r) (item_lower order i)) (drop place items) = rw at at window.behind in
       let on_left = left_all items (take place items) (drop place items) (lower order r) (parts items place) chain window.below (every_weaker _ _ (drop place items) (λ i h. le_trans cmp total (lower order r) (upper order r) (item_lower order i) (lt_le cmp total (lower order r) (upper order r) good) h) behind) in
       let on_right = right_all items (take place items) (drop place items) (upper order r) (parts items place) chain (every_weaker _ _ (take place items) (λ i h. le_trans cmp total (item_upper order i) (lower order r) (upper order r) h (lt_le cmp total (lower order r) (upper order r) good)) window.below) behind in
-      let result = unbound (places order lawful) (position_total order.cmp lawful.total) same equal (item_lower order) (item_upper order) (λ i. i.value) items (take place items) (drop place items) (lower order r) (upper order r) on_left on_right good in
+      let result = places_between_are_unbound (places order lawful) (position_total order.cmp lawful.total) same equal (item_lower order) (item_upper order) (λ i. i.value) items (take place items) (drop place items) (lower order r) (upper order r) on_left on_right good in
       unbound_after order lawful same equal items items r known all all (subst (λ (ys : List (Item (AnyRange K) V)). IsUnbound (places order lawful) (position_total order.cmp lawful.total) same equal (item_lower order) (item_upper order) (λ i. i.value) items ys (lower order r) (upper order r)) (sym (parts items place)) result)

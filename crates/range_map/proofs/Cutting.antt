@@ -76,8 +76,8 @@ gt_of Less e = cc
 gt_of Equal e = cc
 gt_of Greater e = refl
 
-level : (o p : Ordering) → o ≡ Equal → p ≡ Equal → ordering_then o p ≡ Equal
-level o p e f = rw e f
+equal_then_equal : (o p : Ordering) → o ≡ Equal → p ≡ Equal → ordering_then o p ≡ Equal
+equal_then_equal o p e f = rw e f
 
 module _ {K : Type 0} (order : KeyOrder K) (lawful : IsLawful order) where
   abbrev pub PLe : Position K → Position K → Type 0
@@ -106,9 +106,9 @@ module _ {K : Type 0} (order : KeyOrder K) (lawful : IsLawful order) where
   pub earlier_under : (p q : Position K) → PLe (earlier order p q) p × PLe (earlier order p q) q
   earlier_under p q = earlier_by p q (is_gt (position_cmp order.cmp p q)) refl
 
-  pub pick : (P : Position K → Type 0) (b : Bool) (p q : Position K) → P p → P q → P (if b then p else q)
-  pick P true p q h k = h
-  pick P false p q h k = k
+  pub either_choice_holds : (P : Position K → Type 0) (b : Bool) (p q : Position K) → P p → P q → P (if b then p else q)
+  either_choice_holds P true p q h k = h
+  either_choice_holds P false p q h k = k
 
   -- the common part of two ranges starts at the later start and ends at the earlier end
   pub common_is : (r i : AnyRange K) → IsCommonPart order r i (common order r i)
@@ -127,8 +127,8 @@ module _ {K : Type 0} (order : KeyOrder K) (lawful : IsLawful order) where
       let latest = later_over p q in
       let first = earlier_under u v in
       record {
-        starts = both cmp total s (later order p q) (later_is order lawful r.start i.start (λ b. PLe (start_position order b) (later order p q)) latest.0 latest.1) (pick (λ x. PLe x s) (is_gt (cmp p q)) p q over.0 over.1);
-        ends = both cmp total e (earlier order u v) (pick (λ x. PLe e x) (is_gt (cmp u v)) v u under.1 under.0) (earlier_is order lawful r.end i.end (λ b. PLe (earlier order u v) (end_position order b)) first.0 first.1);
+        starts = both cmp total s (later order p q) (later_is order lawful r.start i.start (λ b. PLe (start_position order b) (later order p q)) latest.0 latest.1) (either_choice_holds (λ x. PLe x s) (is_gt (cmp p q)) p q over.0 over.1);
+        ends = both cmp total e (earlier order u v) (either_choice_holds (λ x. PLe e x) (is_gt (cmp u v)) v u under.1 under.0) (earlier_is order lawful r.end i.end (λ b. PLe (earlier order u v) (end_position order b)) first.0 first.1);
       }
 
   -- a common part lies in both
@@ -289,7 +289,7 @@ module _ {K : Type 0} (order : KeyOrder K) (lawful : IsLawful order) where
         same_extent key part h k =
             let cmp = position_cmp order.cmp in
             let total = position_total order.cmp lawful.total in
-            level (cmp (start_position order key.start) (start_position order part.start)) (cmp (end_position order key.end) (end_position order part.end)) (both cmp total (start_position order key.start) (start_position order part.start) k.starts h.starts) (both cmp total (end_position order key.end) (end_position order part.end) h.ends k.ends)
+            equal_then_equal (cmp (start_position order key.start) (start_position order part.start)) (cmp (end_position order key.end) (end_position order part.end)) (both cmp total (start_position order key.start) (start_position order part.start) k.starts h.starts) (both cmp total (end_position order key.end) (end_position order part.end) h.ends k.ends)
 
         same_common : (i key part : AnyRange K) → IsCommonPart order r i key → IsCommonPart order r i part → range_cmp order key part ≡ Equal
         same_common i key part h k =
@@ -297,7 +297,7 @@ module _ {K : Type 0} (order : KeyOrder K) (lawful : IsLawful order) where
             let total = position_total order.cmp lawful.total in
             let s = later order (start_position order r.start) (start_position order i.start) in
             let e = earlier order (end_position order r.end) (end_position order i.end) in
-            level (cmp (start_position order key.start) (start_position order part.start)) (cmp (end_position order key.end) (end_position order part.end))
+            equal_then_equal (cmp (start_position order key.start) (start_position order part.start)) (cmp (end_position order key.end) (end_position order part.end))
             (total.congr (start_position order key.start) s (start_position order part.start) h.starts ∙ tied_back total (start_position order part.start) s k.starts)
             (total.congr (end_position order key.end) e (end_position order part.end) h.ends ∙ tied_back total (end_position order part.end) e k.ends)
 
@@ -327,8 +327,8 @@ module _ {K : Type 0} (order : KeyOrder K) (lawful : IsLawful order) where
               let within = common_within r i.key key known_r f.0 known c.0 in
               (c, (le_trans cmp total (Lo i.key) (Lo key) p within.1 from, lt_le_trans cmp total p (Hi key) (Hi i.key) upto within.3)))
 
-          clash : (p : Position K) (key clear : AnyRange K) (v : V) → IsKnownRange order key → Any (λ i. IsCommonPart order r i.key key × (i.value ≡ v)) items → PLe (Lo key) p → PLt p (Hi key) → Every (λ i. PLe (Hi i.key) (Lo clear) ⊎ PLe (Hi clear) (Lo i.key)) items → PLe (Lo clear) p → PLt p (Hi clear) → ⊥
-          clash p key clear v known h from upto free from' upto' =
+          common_place_is_not_clear : (p : Position K) (key clear : AnyRange K) (v : V) → IsKnownRange order key → Any (λ i. IsCommonPart order r i.key key × (i.value ≡ v)) items → PLe (Lo key) p → PLt p (Hi key) → Every (λ i. PLe (Hi i.key) (Lo clear) ⊎ PLe (Hi clear) (Lo i.key)) items → PLe (Lo clear) p → PLt p (Hi clear) → ⊥
+          common_place_is_not_clear p key clear v known h from upto free from' upto' =
               let cmp = position_cmp order.cmp in
               let total = position_total order.cmp lawful.total in
               any_use (λ i. (IsCommonPart order r i.key key × (i.value ≡ v)) × Holding p i) (λ i. PLe (Hi i.key) (Lo clear) ⊎ PLe (Hi clear) (Lo i.key)) items (common_held p key v known h from upto) free (λ i g a. elim a [
@@ -355,12 +355,12 @@ module _ {K : Type 0} (order : KeyOrder K) (lawful : IsLawful order) where
               let total = position_total order.cmp lawful.total in
               let others = free_inside part piece.0 in
               let apart = every_weaker (λ i. IsFull i × (PLe (Hi i.key) (Lo part) ⊎ PLe (Hi part) (Lo i.key))) (λ i. PLe (Hi i.key) (Lo part) ⊎ PLe (Hi part) (Lo i.key)) items (λ i a. a.1) (free_apart part piece.0) in
-              absurd (clash (Lo part) key part w inside.0 h from upto apart (le_refl cmp total (Lo part)) others.2)
+              absurd (common_place_is_not_clear (Lo part) key part w inside.0 h from upto apart (le_refl cmp total (Lo part)) others.2)
           same_piece key part None (Some v) chain inside h known piece from upto =
               let cmp = position_cmp order.cmp in
               let total = position_total order.cmp lawful.total in
               let good = (nonempty_good order lawful part known).0 piece.0 in
-              absurd (clash (Lo part) part key v known piece.1 (le_refl cmp total (Lo part)) good h.free from upto)
+              absurd (common_place_is_not_clear (Lo part) part key v known piece.1 (le_refl cmp total (Lo part)) good h.free from upto)
           same_piece key part None None chain inside h known piece from upto =
               let others = free_inside part piece.0 in
               let inward = lies_in part key known inside.0 from (ends_before key part h others.3 (free_apart part piece.0) upto) in

@@ -12,7 +12,7 @@ use Rattle.range_store.specs.declared.storage.Item.{Item}
 use Rattle.range_algebra.specs.Intervals.{Le, Lt, Every}
 use Rattle.range_algebra.specs.Orders.{lt_le, le_trans}
 use Rattle.range_map.specs.Chains.{Leads, Trails}
-use Rattle.range_map.proofs.ChainJoins.{unbound, left_apart, left_joined, right_apart, right_joined, leading_last, trailing_first, bound}
+use Rattle.range_map.proofs.ChainJoins.{places_between_are_unbound, left_apart, left_joined, right_apart, right_joined, leading_last, trailing_first, places_between_are_bound}
 use Rattle.range_algebra.specs.Cuts.{past, lower, upper}
 use Rattle.range_map.specs.ItemCuts.{item_lower, item_upper}
 use Rattle.range_map.specs.Stored.{IsStored}
@@ -35,7 +35,7 @@ use Rattle.range_map.specs.Edits.{turned_bound, with_end}
 use Rattle.range_algebra.specs.Clones.{SameBound}
 use Rattle.range_algebra.specs.Range.{IsKnownBound}
 use Rattle.range_map.proofs.Covering.{meets_bound}
-use Rattle.range_map.proofs.Openings.{regrouped, regrouped_out}
+use Rattle.range_map.proofs.Openings.{opening_regroups, regrouped_out}
 use Rattle.range_map.proofs.CutParts.{cut_end, cut_start, known_turned, same_turned}
 use Rattle.range_map.specs.Edges.{IsLeftRest, IsRightRest, IsLeftEdge, IsRightEdge, TouchesBefore, TouchesNoneBefore, TouchesAfter, TouchesNoneAfter, edge_start, edge_end}
 use Rattle.range_map.proofs.Forms.{touches_is, bound_after}
@@ -44,16 +44,16 @@ use Rattle.range_map.proofs.CutOut.{Left, Right, left_all, right_all, left_of, r
 both_truths : (b : Bool) → b ≡ true → b ≡ false → ⊥
 both_truths b e f = let clash : true ≡ false = sym e ∙ f in cc
 
-pub element : {X : Type 0} (xs : List X) (n : ℕ) → n < length xs → X
-element [] n within = absurd (omega arith)
-element (x ∷ xs) zero within = x
-element (x ∷ xs) (suc n) within = element xs n (omega arith)
+pub element_at : {X : Type 0} (xs : List X) (n : ℕ) → n < length xs → X
+element_at [] n within = absurd (omega arith)
+element_at (x ∷ xs) zero within = x
+element_at (x ∷ xs) (suc n) within = element_at xs n (omega arith)
 
-pub element_is : {X : Type 0} (xs : List X) (n : ℕ) (within : n < length xs) (d : X) → element xs n within ≡ get_or xs n d
-unfolding element
-element_is [] n within d = absurd (omega arith)
-element_is (x ∷ xs) zero within d = refl
-element_is (x ∷ xs) (suc n) within d = element_is xs n (omega arith) d
+pub element_at_is_read : {X : Type 0} (xs : List X) (n : ℕ) (within : n < length xs) (d : X) → element_at xs n within ≡ get_or xs n d
+unfolding element_at
+element_at_is_read [] n within d = absurd (omega arith)
+element_at_is_read (x ∷ xs) zero within d = refl
+element_at_is_read (x ∷ xs) (suc n) within d = element_at_is_read xs n (omega arith) d
 
 edge_start_is : {K : Type 0} (order : KeyOrder K) {V : Type 0} (same : V → V → Bool) (o : Option (Bound K)) (r : AnyRange K) → start_position order (unwrap_or o r.start) ≡ edge_start order same o r
 edge_start_is order same None r = refl
@@ -65,11 +65,11 @@ edge_end_is order same (Some b) r = refl
 
 module _ {K : Type 0} (order : KeyOrder K) (lawful : IsLawful order) {V : Type 0} (same : V → V → Bool) (equal : IsEquivalence same) where
   module _ {P : Type 0} (is_good : P → Type 0) (rank : P → ℕ) (items : List (Item (AnyRange K) V)) (r : AnyRange K) (w : Window P) (place : ℕ) (stored : IsStored order same items) (known : IsKnownRange order r) (full : IsEmptyRange order r → ⊥) (window : IsWindow order is_good rank items r w place) where
-    good : Lt (places order lawful) (lower order r) (upper order r)
-    good = (nonempty_good order lawful r known).0 full
+    range_has_places : Lt (places order lawful) (lower order r) (upper order r)
+    range_has_places = (nonempty_good order lawful r known).0 full
 
-    behind_none : w.count ≡ 0 → Every (λ i. Le (places order lawful) (upper order r) (item_lower order i)) (drop place items)
-    behind_none none = let at : place + w.count ≡ place = omega (arith, none) in rw at at window.behind
+    rest_starts_after_range : w.count ≡ 0 → Every (λ i. Le (places order lawful) (upper order r) (item_lower order i)) (drop place items)
+    rest_starts_after_range none = let at : place + w.count ≡ place = omega (arith, none) in rw at at window.behind
 
     left_reaches : (x y : Item (AnyRange K) V) (rest : Option (Item (AnyRange K) V)) → IsLeftPart order same x r rest → rest ≡ Some y → Le (places order lawful) (lower order r) (item_upper order y)
     left_reaches x y None part e = absurd (cc)
@@ -80,7 +80,7 @@ module _ {K : Type 0} (order : KeyOrder K) (lawful : IsLawful order) {V : Type 0
         let cmp = places order lawful in
         let total = position_total order.cmp lawful.total in
         record {
-          left = rw (append-nil (take place items)) (left_all order lawful same equal items (take place items) (drop place items) (lower order r) (parts items place) (stored_chain order lawful same equal items stored) window.below (every_weaker _ _ (drop place items) (λ i h. le_trans cmp total (lower order r) (upper order r) (item_lower order i) (lt_le cmp total (lower order r) (upper order r) good) h) (behind_none none)));
+          left = rw (append-nil (take place items)) (left_all order lawful same equal items (take place items) (drop place items) (lower order r) (parts items place) (stored_chain order lawful same equal items stored) window.below (every_weaker _ _ (drop place items) (λ i h. le_trans cmp total (lower order r) (upper order r) (item_lower order i) (lt_le cmp total (lower order r) (upper order r) range_has_places) h) (rest_starts_after_range none)));
           known = tt;
           reaches = λ y e. absurd (cc);
         }
@@ -103,7 +103,7 @@ module _ {K : Type 0} (order : KeyOrder K) (lawful : IsLawful order) {V : Type 0
         let total = position_total order.cmp lawful.total in
         let at : place + w.count ≡ place = omega (arith, none) in
         rw at (record {
-          right = right_all order lawful same equal items (take place items) (drop place items) (upper order r) (parts items place) (stored_chain order lawful same equal items stored) (every_weaker _ _ (take place items) (λ i h. le_trans cmp total (item_upper order i) (lower order r) (upper order r) h (lt_le cmp total (lower order r) (upper order r) good)) window.below) (behind_none none);
+          right = right_all order lawful same equal items (take place items) (drop place items) (upper order r) (parts items place) (stored_chain order lawful same equal items stored) (every_weaker _ _ (take place items) (λ i h. le_trans cmp total (item_upper order i) (lower order r) (upper order r) h (lt_le cmp total (lower order r) (upper order r) range_has_places)) window.below) (rest_starts_after_range none);
           known = tt;
           reaches = λ y e. absurd (cc);
         })
@@ -123,16 +123,16 @@ module _ {K : Type 0} (order : KeyOrder K) (lawful : IsLawful order) {V : Type 0
     left_rest_by zero e reach = left_rest_none e
     left_rest_by (suc n) e reach =
         let within : place < length items = omega (arith, e, window.in_range) in
-        let x = element items place within in
-        let read = element_is items place within x in
+        let x = element_at items place within in
+        let read = element_at_is_read items place within x in
         left_rest_some (omega arith) x read None (reach x (omega arith) read)
 
     right_rest_by : (n : ℕ) → w.count ≡ n → ReachesAfter order is_good rank items r place w.count None → IsRightRest order same lawful equal items r (place + w.count) None
     right_rest_by zero e reach = right_rest_none e
     right_rest_by (suc n) e reach =
         let within : place + w.count - 1 < length items = omega (arith, e, window.in_range) in
-        let x = element items (place + w.count - 1) within in
-        let read = element_is items (place + w.count - 1) within x in
+        let x = element_at items (place + w.count - 1) within in
+        let read = element_at_is_read items (place + w.count - 1) within x in
         right_rest_some (omega arith) x read None (reach x (omega arith) read)
 
     pub left_rest_whole : ReachesBefore order is_good rank items r place w.count None → IsLeftRest order same lawful equal items r place None
@@ -199,13 +199,13 @@ module _ {K : Type 0} (order : KeyOrder K) (lawful : IsLawful order) {V : Type 0
         record {
           s = item_lower order x;
           starts = tied_itself total (item_lower order x);
-          left = rw (append-nil (take n items)) (left_joined (places order lawful) (position_total order.cmp lawful.total) same equal (item_lower order) (item_upper order) (λ i. i.value) items (take n items) x (lower order r) v left ((touches_is order lawful x.key.end r known good ends.0).0 touch.0) touch.1);
+          left = rw (append-nil (take n items)) (left_joined (places order lawful) (position_total order.cmp lawful.total) same equal (item_lower order) (item_upper order) (λ i. i.value) items (take n items) x (lower order r) v left ((touches_is order lawful x.key.end r known range_has_places ends.0).0 touch.0) touch.1);
           known = tt;
           known_start = (known_at n x within read).0;
         }
 
     first_of : (n : ℕ) → n < length items → Item (AnyRange K) V
-    first_of n within = element items n within
+    first_of n within = element_at items n within
 
     parts_lead : (n : ℕ) (v : V) (d : Item (AnyRange K) V) → place - 1 ≡ n → n < length items → Left order lawful same equal items (take place items) (lower order r) → TouchesNoneBefore order same items place r v → suc n ≡ place → Every (λ i. Leads (places order lawful) (position_total order.cmp lawful.total) same equal (item_lower order) (item_upper order) (λ i. i.value) i (lower order r) v) (take (suc n) items)
     parts_lead n v d before within left none e =
@@ -214,7 +214,7 @@ module _ {K : Type 0} (order : KeyOrder K) (lawful : IsLawful order) {V : Type 0
         let whole : Left order lawful same equal items (take n items ++ get_or items n d ∷ []) (lower order r) = subst (λ (ys : List (Item (AnyRange K) V)). Left order lawful same equal items ys (lower order r)) split left in
         let ends = every_right _ (take n items) (get_or items n d ∷ []) whole.ends in
         let apart : Touches order (get_or items n d).key r → same (get_or items n d).value v ≡ true → ⊥ = subst (λ (m : ℕ). Touches order (get_or items m d).key r → same (get_or items m d).value v ≡ true → ⊥) before (none d (omega arith)) in
-        subst (λ (m : ℕ). Every (λ i. Leads (places order lawful) (position_total order.cmp lawful.total) same equal (item_lower order) (item_upper order) (λ i. i.value) i (lower order r) v) (take m items)) (sym e) (rw split (leading_last (places order lawful) (position_total order.cmp lawful.total) same equal (item_lower order) (item_upper order) (λ i. i.value) (take n items) (get_or items n d) (lower order r) v whole.chain (ends.0, λ k t. apart ((touches_is order lawful (get_or items n d).key.end r known good ends.0).1 k) t)))
+        subst (λ (m : ℕ). Every (λ i. Leads (places order lawful) (position_total order.cmp lawful.total) same equal (item_lower order) (item_upper order) (λ i. i.value) i (lower order r) v) (take m items)) (sym e) (rw split (leading_last (places order lawful) (position_total order.cmp lawful.total) same equal (item_lower order) (item_upper order) (λ i. i.value) (take n items) (get_or items n d) (lower order r) v whole.chain (ends.0, λ k t. apart ((touches_is order lawful (get_or items n d).key.end r known range_has_places ends.0).1 k) t)))
 
     all_lead : (n : ℕ) (v : V) → n ≡ place → place ≤ length items → IsLeftRest order same lawful equal items r place None → TouchesNoneBefore order same items place r v → Every (λ i. Leads (places order lawful) (position_total order.cmp lawful.total) same equal (item_lower order) (item_upper order) (λ i. i.value) i (lower order r) v) (take n items)
     all_lead zero v e within rest none = tt
@@ -308,15 +308,15 @@ module _ {K : Type 0} (order : KeyOrder K) (lawful : IsLawful order) {V : Type 0
         let all = stored_known order lawful same equal items stored in
         let front = take at items ++ option_items left in
         let behind = option_items right ++ drop end items in
-        let list : new ≡ front ++ m ∷ behind = changed ∙ sym (regrouped (take at items) (option_items left) (option_items right) (drop end items) m) in
+        let list : new ≡ front ++ m ∷ behind = changed ∙ sym (opening_regroups (take at items) (option_items left) (option_items right) (drop end items) m) in
         let at_start : places order lawful (item_lower order m) on_left.s ≡ Equal = rw starts (rw (edge_start_is order same start r) on_left.starts) in
         let at_end : places order lawful (item_upper order m) on_right.e ≡ Equal = rw ends (rw (edge_end_is order same finish r) on_right.ends) in
-        let result = bound (places order lawful) (position_total order.cmp lawful.total) same equal (item_lower order) (item_upper order) (λ i. i.value) items front behind m (lower order r) (upper order r) on_left.s on_right.e v on_left.left on_right.right good at_start at_end values in
+        let result = places_between_are_bound (places order lawful) (position_total order.cmp lawful.total) same equal (item_lower order) (item_upper order) (λ i. i.value) items front behind m (lower order r) (upper order r) on_left.s on_right.e v on_left.left on_right.right range_has_places at_start at_end values in
         let known_m : IsKnownRange order m.key = (rw starts on_left.known_start, rw ends on_right.known_end) in
         let others = every_append _ front (m ∷ behind)
         (every_append _ (take at items) (option_items left) (known_take order lawful same equal items at all) on_left.known)
         (known_m, every_append _ (option_items right) (drop end items) on_right.known (known_drop order lawful same equal items end all)) in
-        record { stored = rw list (chain_stored order lawful same equal (front ++ m ∷ behind) others result.chain); bound = rw list (bound_after order lawful same equal items (front ++ m ∷ behind) r v known all others result); frame = frame; meets = rw list (meets_bound order lawful same equal items (front ++ m ∷ behind) r v all others (stored_chain order lawful same equal items stored) known good result) }
+        record { stored = rw list (chain_stored order lawful same equal (front ++ m ∷ behind) others result.chain); bound = rw list (bound_after order lawful same equal items (front ++ m ∷ behind) r v known all others result); frame = frame; meets = rw list (meets_bound order lawful same equal items (front ++ m ∷ behind) r v all others (stored_chain order lawful same equal items stored) known range_has_places result) }
 
     -- the list with the range unbound
     pub edges_remove : (new : List (Item (AnyRange K) V)) (at end : ℕ) (left right : Option (Item (AnyRange K) V)) →
@@ -329,7 +329,7 @@ module _ {K : Type 0} (order : KeyOrder K) (lawful : IsLawful order) {V : Type 0
         let front = take at items ++ option_items left in
         let behind = option_items right ++ drop end items in
         let list : new ≡ front ++ behind = changed ∙ sym (regrouped_out (take at items) (option_items left) (option_items right) (drop end items)) in
-        let result = unbound (places order lawful) (position_total order.cmp lawful.total) same equal (item_lower order) (item_upper order) (λ i. i.value) items front behind (lower order r) (upper order r) on_left.left on_right.right good in
+        let result = places_between_are_unbound (places order lawful) (position_total order.cmp lawful.total) same equal (item_lower order) (item_upper order) (λ i. i.value) items front behind (lower order r) (upper order r) on_left.left on_right.right range_has_places in
         let others = every_append _ front behind
         (every_append _ (take at items) (option_items left) (known_take order lawful same equal items at all) on_left.known)
         (every_append _ (option_items right) (drop end items) on_right.known (known_drop order lawful same equal items end all)) in

@@ -48,11 +48,11 @@ put_all before now new done place left less was few within changed =
     changed ∙ (ap (λ ys. ys ++ drop (place + length done + less) now) kept ∙ ap (λ ys. (take place before ++ done) ++ ys) tail)
 
 module _ {K V : Type 0} where
-  abbrev pub ended : Option (Bound K) → Item (AnyRange K) V → Item (AnyRange K) V
-  ended None z = z
-  ended (Some b) z = with_end z b
+  abbrev pub item_with_end : Option (Bound K) → Item (AnyRange K) V → Item (AnyRange K) V
+  item_with_end None z = z
+  item_with_end (Some b) z = with_end z b
 
-  pub with_last : (finish : Option (Bound K)) (front : List (Item (AnyRange K) V)) (z : Item (AnyRange K) V) → with_last_end finish (front ++ z ∷ []) ≡ front ++ ended finish z ∷ []
+  pub with_last : (finish : Option (Bound K)) (front : List (Item (AnyRange K) V)) (z : Item (AnyRange K) V) → with_last_end finish (front ++ z ∷ []) ≡ front ++ item_with_end finish z ∷ []
   with_last None front z = refl
   with_last (Some b) [] z = refl
   with_last (Some b) (i ∷ []) z = refl

@@ -16,7 +16,7 @@ use Rattle.range_algebra.specs.Intervals.{Any, Every}
 use Rattle.range_algebra.specs.Orders.{lt_le, eq_le, eq_ge, le_trans, cases, le_lt_trans, lt_le_trans}
 use Rattle.range_algebra.proofs.Lists.{any_left, any_right, any_split, every_weaker, every_append, every_left, every_right}
 use Rattle.range_map.specs.Chains.{Leads, Respects}
-use Rattle.range_map.proofs.Chains.{strictly_leads, chain_left, chain_right, chain_before, join, back}
+use Rattle.range_map.proofs.Chains.{strictly_leads, chain_left, chain_right, chain_before, chains_join, same_is_symmetric}
 use Rattle.range_algebra.specs.Relations.{Touches}
 use Rattle.range_store.specs.declared.storage.Item.{Item}
 use Rattle.range_map.specs.Answers.{Answered}
@@ -74,14 +74,14 @@ module _ {K : Type 0} (order : KeyOrder K) (lawful : IsLawful order) {V : Type 0
   filled_none m = record { known = tt; chain = tt; inside = tt; has = λ p W alike. (λ h. h, λ h. h); valued = tt }
 
   module _ (m n : Position K) (answers : List (Answered K V)) (key : AnyRange K) (inside : IsWithin key) (from : PLe order lawful m (Lo order lawful key)) (upto : PLe order lawful (Hi order lawful key) n) where
-    on : PLe order lawful m n
-    on =
+    later_place_is_not_before : PLe order lawful m n
+    later_place_is_not_before =
         let cmp = position_cmp order.cmp in
         let total = position_total order.cmp lawful.total in
         le_trans cmp total m (Lo order lawful key) n from (le_trans cmp total (Lo order lawful key) (Hi order lawful key) n (lt_le cmp total (Lo order lawful key) (Hi order lawful key) inside.2) upto)
 
-    further : (j : Item (AnyRange K) V) → LiesUpTo m j → LiesUpTo n j
-    further j h = (h.0, h.1, le_trans (position_cmp order.cmp) (position_total order.cmp lawful.total) (Hi order lawful j.key) m n h.2 on)
+    lies_up_to_later_place : (j : Item (AnyRange K) V) → LiesUpTo m j → LiesUpTo n j
+    lies_up_to_later_place j h = (h.0, h.1, le_trans (position_cmp order.cmp) (position_total order.cmp lawful.total) (Hi order lawful j.key) m n h.2 later_place_is_not_before)
 
     more_valued : (a : Answered K V) (middle : List (Item (AnyRange K) V)) → Every (λ j. Any (λ b. b.answer ≡ Some j.value) answers) middle → Every (λ j. Any (λ b. b.answer ≡ Some j.value) (answers ++ a ∷ [])) middle
     more_valued a middle h = every_weaker (λ j. Any (λ b. b.answer ≡ Some j.value) answers) (λ j. Any (λ b. b.answer ≡ Some j.value) (answers ++ a ∷ [])) middle (λ j g. any_left (λ b. b.answer ≡ Some j.value) answers (a ∷ []) g) h
@@ -92,7 +92,7 @@ module _ {K : Type 0} (order : KeyOrder K) (lawful : IsLawful order) {V : Type 0
         record {
           known = was.known;
           chain = was.chain;
-          inside = every_weaker (LiesUpTo m) (LiesUpTo n) middle further was.inside;
+          inside = every_weaker (LiesUpTo m) (LiesUpTo n) middle lies_up_to_later_place was.inside;
           has = λ p W alike.
               let P = λ (b : Answered K V). HoldsAt p b.key × Gives W b.answer in
               let old = was.has p W alike in
@@ -114,8 +114,8 @@ module _ {K : Type 0} (order : KeyOrder K) (lawful : IsLawful order) {V : Type 0
         let strict = le_lt_trans cmp total (Hi order lawful x.key) (Lo order lawful y.key) (Lo order lawful j.key) chain.1.0.0 (lt_le_trans cmp total (Lo order lawful y.key) (Hi order lawful y.key) (Lo order lawful j.key) chain.1.1.0 rest.0.0) in
         (strictly_leads cmp total same equal (item_lower order) (item_upper order) (λ i. i.value) x (item_lower order j) j.value strict, rest)
 
-    filled_behind : (v : V) (value : Option V) (j : Item (AnyRange K) V) (middle : List (Item (AnyRange K) V)) → IsFilledUpTo m answers middle → IsKnownRange order j.key → position_cmp order.cmp (Lo order lawful j.key) (Lo order lawful key) ≡ Equal → position_cmp order.cmp (Hi order lawful j.key) (Hi order lawful key) ≡ Equal → j.value ≡ v → JoinsNoLast order same middle key v → IsFilledUpTo n (answers ++ record { key = key; value = value; answer = Some v } ∷ []) (middle ++ j ∷ [])
-    filled_behind v value j middle was known at to is apart =
+    filled_with_item_after : (v : V) (value : Option V) (j : Item (AnyRange K) V) (middle : List (Item (AnyRange K) V)) → IsFilledUpTo m answers middle → IsKnownRange order j.key → position_cmp order.cmp (Lo order lawful j.key) (Lo order lawful key) ≡ Equal → position_cmp order.cmp (Hi order lawful j.key) (Hi order lawful key) ≡ Equal → j.value ≡ v → JoinsNoLast order same middle key v → IsFilledUpTo n (answers ++ record { key = key; value = value; answer = Some v } ∷ []) (middle ++ j ∷ [])
+    filled_with_item_after v value j middle was known at to is apart =
         let cmp = position_cmp order.cmp in
         let total = position_total order.cmp lawful.total in
         let a : Answered K V = record { key = key; value = value; answer = Some v } in
@@ -126,8 +126,8 @@ module _ {K : Type 0} (order : KeyOrder K) (lawful : IsLawful order) {V : Type 0
         let good = lt_le_trans cmp total p0 hi q0 (le_lt_trans cmp total p0 lo hi (eq_le cmp total p0 lo at) inside.2) (eq_ge cmp total q0 hi to) in
         record {
           known = every_append (λ i. IsKnownRange order i.key) middle (j ∷ []) was.known (known, tt);
-          chain = join cmp total same equal (item_lower order) (item_upper order) (λ i. i.value) middle j [] was.chain (good, tt) (lead_all v j at is middle was.chain was.inside (λ k d size. let last : k ≡ length middle - 1 = omega (arith, size) in rw last (apart d (omega (arith, size)))));
-          inside = every_append (LiesUpTo n) middle (j ∷ []) (every_weaker (LiesUpTo m) (LiesUpTo n) middle further was.inside) ((le_trans cmp total (Lo order lawful r) lo p0 inside.1 (eq_ge cmp total p0 lo at), le_trans cmp total q0 hi (Hi order lawful r) (eq_le cmp total q0 hi to) inside.3, le_trans cmp total q0 hi n (eq_le cmp total q0 hi to) upto), tt);
+          chain = chains_join cmp total same equal (item_lower order) (item_upper order) (λ i. i.value) middle j [] was.chain (good, tt) (lead_all v j at is middle was.chain was.inside (λ k d size. let last : k ≡ length middle - 1 = omega (arith, size) in rw last (apart d (omega (arith, size)))));
+          inside = every_append (LiesUpTo n) middle (j ∷ []) (every_weaker (LiesUpTo m) (LiesUpTo n) middle lies_up_to_later_place was.inside) ((le_trans cmp total (Lo order lawful r) lo p0 inside.1 (eq_ge cmp total p0 lo at), le_trans cmp total q0 hi (Hi order lawful r) (eq_le cmp total q0 hi to) inside.3, le_trans cmp total q0 hi n (eq_le cmp total q0 hi to) upto), tt);
           has = λ p W alike.
               let P = λ (b : Answered K V). HoldsAt p b.key × Gives W b.answer in
               let Q = λ (i : Item (AnyRange K) V). HoldsAt p i.key × (W i.value ≡ true) in
@@ -169,8 +169,8 @@ module _ {K : Type 0} (order : KeyOrder K) (lawful : IsLawful order) {V : Type 0
         let old_valued = every_right (λ i. Any (λ b. b.answer ≡ Some i.value) answers) front (last ∷ []) was.valued in
         record {
           known = every_append (λ i. IsKnownRange order i.key) front (j ∷ []) (every_left (λ i. IsKnownRange order i.key) front (last ∷ []) was.known) (known, tt);
-          chain = join cmp total same equal (item_lower order) (item_upper order) (λ i. i.value) front j [] (chain_left cmp total same equal (item_lower order) (item_upper order) (λ i. i.value) front (last ∷ []) was.chain) (good, tt) (rw (at, is) leads);
-          inside = every_append (LiesUpTo n) front (j ∷ []) (every_weaker (LiesUpTo m) (LiesUpTo n) front further (every_left (LiesUpTo m) front (last ∷ []) was.inside)) ((rw at within.0.0, le_trans cmp total q0 hi (Hi order lawful r) (eq_le cmp total q0 hi to) inside.3, le_trans cmp total q0 hi n (eq_le cmp total q0 hi to) upto), tt);
+          chain = chains_join cmp total same equal (item_lower order) (item_upper order) (λ i. i.value) front j [] (chain_left cmp total same equal (item_lower order) (item_upper order) (λ i. i.value) front (last ∷ []) was.chain) (good, tt) (rw (at, is) leads);
+          inside = every_append (LiesUpTo n) front (j ∷ []) (every_weaker (LiesUpTo m) (LiesUpTo n) front lies_up_to_later_place (every_left (LiesUpTo m) front (last ∷ []) was.inside)) ((rw at within.0.0, le_trans cmp total q0 hi (Hi order lawful r) (eq_le cmp total q0 hi to) inside.3, le_trans cmp total q0 hi n (eq_le cmp total q0 hi to) upto), tt);
           has = λ p W alike.
               let P = λ (b : Answered K V). HoldsAt p b.key × Gives W b.answer in
               let Q = λ (i : Item (AnyRange K) V). HoldsAt p i.key × (W i.value ≡ true) in
@@ -195,7 +195,7 @@ module _ {K : Type 0} (order : KeyOrder K) (lawful : IsLawful order) {V : Type 0
                     ]
                   ]
                   | inr g ↦ elim g [
-                    | inl e ↦ any_end Q front j ((rw at (le_trans cmp total low lo p (le_trans cmp total low high lo (lt_le cmp total low high tail.0) before) e.0.0), into e.0.1), rw is (alike v last.value (back cmp total same equal (item_lower order) (item_upper order) (λ (i : Item (AnyRange K) V). i.value) last.value v alike_values) e.1))
+                    | inl e ↦ any_end Q front j ((rw at (le_trans cmp total low lo p (le_trans cmp total low high lo (lt_le cmp total low high tail.0) before) e.0.0), into e.0.1), rw is (alike v last.value (same_is_symmetric cmp total same equal (item_lower order) (item_upper order) (λ (i : Item (AnyRange K) V). i.value) last.value v alike_values) e.1))
                     | inr e ↦ absurd e
                   ]
                 ],
@@ -208,7 +208,7 @@ module _ {K : Type 0} (order : KeyOrder K) (lawful : IsLawful order) {V : Type 0
       pub fill_more : (value answer : Option V) (old new : List (Item (AnyRange K) V)) → IsFilledUpTo m answers old → IsPut order same is_clone old new key answer → IsFilledUpTo n (answers ++ record { key = key; value = value; answer = answer } ∷ []) new
       fill_more value None old new was put = rw put (filled_free value old was)
       fill_more value (Some v) old new was (inl put) =
-          rw put.list (filled_behind v value (record { key = record { start = put.start; end = put.end }; value = v }) old was put.known (turn_equal (Lo order lawful key) (start_position order put.start) (same_start order lawful key.start put.start (clones key.start put.start put.start_clone))) (turn_equal (Hi order lawful key) (past_of put.end) (same_past order lawful key.end put.end (clones key.end put.end put.end_clone))) refl put.apart)
+          rw put.list (filled_with_item_after v value (record { key = record { start = put.start; end = put.end }; value = v }) old was put.known (turn_equal (Lo order lawful key) (start_position order put.start) (same_start order lawful key.start put.start (clones key.start put.start put.start_clone))) (turn_equal (Hi order lawful key) (past_of put.end) (same_past order lawful key.end put.end (clones key.end put.end put.end_clone))) refl put.apart)
       fill_more value (Some v) old new was (inr put) =
           let some : 0 < length old = put.joins.0 in
           let parts = split_last old (length old - 1) (omega (arith, some)) in

@@ -23,7 +23,7 @@ use Rattle.range_algebra.specs.Cuts.{past, lower, upper}
 use Rattle.range_map.specs.ItemCuts.{item_lower, item_upper}
 use Rattle.range_map.specs.Stored.{IsStored}
 use Rattle.range_map.specs.Bindings.{IsBound, BindsTo, Binds, IsSomeOf, IsBoundAfter, IsUnboundAfter}
-use Rattle.range_map.proofs.Listed.{IsListed, listed, stored_by, not_greater}
+use Rattle.range_map.proofs.Listed.{IsListed, stored_list_is_listed, stored_by, not_greater}
 use Rattle.range_algebra.proofs.Places.{reaches, turned, unbounded_end, held_between}
 
 pub not_both : (o : Ordering) → is_gt o ≡ false → o ≡ Greater → ⊥
@@ -87,7 +87,7 @@ module _ {K : Type 0} (order : KeyOrder K) (lawful : IsLawful order) where
     listed_known (i ∷ j ∷ rest) h = (h.0, listed_known (j ∷ rest) h.4)
 
     pub stored_known : (items : List (Item (AnyRange K) V)) → IsStored order same items → Known items
-    stored_known items h = listed_known items (listed order lawful same items h)
+    stored_known items h = listed_known items (stored_list_is_listed order lawful same items h)
 
     listed_chain : (items : List (Item (AnyRange K) V)) → IsListed order lawful same items → Chained items
     listed_chain [] h = tt
@@ -99,7 +99,7 @@ module _ {K : Type 0} (order : KeyOrder K) (lawful : IsLawful order) where
         ((nonempty_good i.key h.0).0 h.1, ((le, λ k s. h.3 ((touches_is i.key.end j.key known.0 chain.0 le).1 k) s), chain))
 
     pub stored_chain : (items : List (Item (AnyRange K) V)) → IsStored order same items → Chained items
-    stored_chain items h = listed_chain items (listed order lawful same items h)
+    stored_chain items h = listed_chain items (stored_list_is_listed order lawful same items h)
 
     chain_listed : (items : List (Item (AnyRange K) V)) → Known items → Chained items → IsListed order lawful same items
     chain_listed [] known chain = tt

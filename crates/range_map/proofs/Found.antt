@@ -24,7 +24,7 @@ use Rattle.range_map.specs.Stored.{IsStored}
 use Rattle.range_map.specs.Bindings.{IsStoredFor, IsBound, BindsTo}
 use Rattle.range_map.specs.Window.{IsFound, IsJustBefore}
 use Rattle.range_map.proofs.Forms.{places}
-use Rattle.range_map.proofs.Listed.{IsListed, listed, not_greater}
+use Rattle.range_map.proofs.Listed.{IsListed, stored_list_is_listed, not_greater}
 use Rattle.range_algebra.proofs.Lists.{every_at, every_take, every_drop, parts, drop_all, every_weaker}
 
 less_is : (o : Ordering) → o ≡ Less → is_lt o ≡ true
@@ -80,7 +80,7 @@ module _ {K : Type 0} (order : KeyOrder K) (lawful : IsLawful order) {V : Type 0
   listed_partitioned (x ∷ xs) p h (suc i) (suc j) d le within passes = listed_partitioned xs p (stored_tail x xs h) i j d (omega arith) (omega arith) passes
 
   pub found_partitions : (items : List (Item (AnyRange K) V)) (p : Position K) → IsStored order same items → IsPartitionedBy (λ i. is_lt (places order lawful (End i) p)) items
-  found_partitions items p h = listed_partitioned items p (listed order lawful same items h)
+  found_partitions items p h = listed_partitioned items p (stored_list_is_listed order lawful same items h)
 
   pub found_at : {P : Type 0} (is_good : P → Type 0) (rank : P → ℕ) (items : List (Item (AnyRange K) V)) (p : Position K) (before from : Option P) (place : ℕ) → IsAt is_good rank (length items) from place → IsJustBefore is_good rank before place → IsFrontOf (λ i. is_lt (places order lawful (End i) p)) items place → IsFound order is_good rank items p before from
   found_at is_good rank items p before from place at previous front =
@@ -128,7 +128,7 @@ module _ {K : Type 0} (order : KeyOrder K) (lawful : IsLawful order) {V : Type 0
       let cmp = places order lawful in
       let total = position_total order.cmp lawful.total in
       let more : drop place items ≡ x ∷ drop (place + 1) items = drop_more items place x within ∙ ap (λ y. y ∷ drop (place + 1) items) (sym read) in
-      let rest : IsListed order lawful same (x ∷ drop (place + 1) items) = rw more at (stored_drop place items (listed order lawful same items stored)) in
+      let rest : IsListed order lawful same (x ∷ drop (place + 1) items) = rw more at (stored_drop place items (stored_list_is_listed order lawful same items stored)) in
       let ends : Every (λ i. Le cmp (Beside k At) (End i)) (x ∷ drop (place + 1) items) = rw more at above in
       let none = every_join (λ i. Holds order i.key k → ⊥) (take place items) (x ∷ drop (place + 1) items) (every_weaker _ _ (take place items) (λ i l. below_not i k key l) below)
       (not_held, every_weaker _ _ (drop (place + 1) items) (λ i l. above_not i k key (le_lt_trans cmp total (Beside k At) (End x) (Start i) ends.0 l)) (starts_rise x (drop (place + 1) items) rest)) in

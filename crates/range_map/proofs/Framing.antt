@@ -13,7 +13,7 @@ use Rattle.range_algebra.specs.Orders.{lt_trans, lt_not_le, le_lt_trans}
 use Rattle.range_map.proofs.Chains.{chain_before}
 use Rattle.range_algebra.specs.Cuts.{lower, upper}
 use Rattle.range_algebra.proofs.Lists.{parts, parts_at, every_at, any_left, any_right, any_none, every_weaker, every_append, every_left, every_right}
-use Rattle.range_map.proofs.Edging.{element}
+use Rattle.range_map.proofs.Edging.{element_at}
 use Rattle.range_store.specs.declared.storage.Item.{Item}
 use Rattle.range_map.specs.ItemCuts.{item_lower, item_upper}
 use Rattle.range_algebra.specs.Relations.{LiesBefore}
@@ -61,8 +61,8 @@ run_some xs place count within some e =
 pub parts_of : {X : Type 0} (xs : List X) (place count : ℕ) → drop place xs ≡ take count (drop place xs) ++ drop (place + count) xs
 parts_of xs place count = parts (drop place xs) count ∙ ap (λ ys. take count (drop place xs) ++ ys) (drop-drop count place xs)
 
-pub reassociate : {X : Type 0} (a b c d e : List X) → (a ++ b) ++ (c ++ (d ++ e)) ≡ a ++ (b ++ c ++ d) ++ e
-reassociate a b c d e = simp append_assoc
+pub append_reassociates : {X : Type 0} (a b c d e : List X) → (a ++ b) ++ (c ++ (d ++ e)) ≡ a ++ (b ++ c ++ d) ++ e
+append_reassociates a b c d e = simp append_assoc
 
 pub reassociate_pieces : {X : Type 0} (a b c d e : List X) → a ++ b ++ c ++ d ++ e ≡ a ++ (b ++ c ++ d) ++ e
 reassociate_pieces a b c d e = simp append_assoc
@@ -124,10 +124,10 @@ module _ {K : Type 0} (order : KeyOrder K) (lawful : IsLawful order) {V : Type 0
   no_rest run r v None all made apart = refl
   no_rest run r v (Some y) all made apart = absurd (apart.0 (has_equal run y.value v made.0.value all))
 
-  goods : (xs ys : List (Item (AnyRange K) V)) → Chained order lawful same equal (xs ++ ys) → Every (λ i. Lt (places order lawful) (item_lower order i) (item_upper order i)) xs
-  goods [] ys h = tt
-  goods (x ∷ []) ys h = (h.0, tt)
-  goods (x ∷ y ∷ xs) ys h = (h.0, goods (y ∷ xs) ys h.1.1)
+  front_items_have_places : (xs ys : List (Item (AnyRange K) V)) → Chained order lawful same equal (xs ++ ys) → Every (λ i. Lt (places order lawful) (item_lower order i) (item_upper order i)) xs
+  front_items_have_places [] ys h = tt
+  front_items_have_places (x ∷ []) ys h = (h.0, tt)
+  front_items_have_places (x ∷ y ∷ xs) ys h = (h.0, front_items_have_places (y ∷ xs) ys h.1.1)
 
   module _ {P : Type 0} (is_good : P → Type 0) (rank : P → ℕ) (items : List (Item (AnyRange K) V)) (r : AnyRange K) (w : Window P) (place : ℕ) (stored : IsStored order same items) (known : IsKnownRange order r) (window : IsWindow order is_good rank items r w place) where
     not_before : Every (λ i. LiesBefore order i.key r → ⊥) (drop place items)
@@ -136,8 +136,8 @@ module _ {K : Type 0} (order : KeyOrder K) (lawful : IsLawful order) {V : Type 0
         let total = position_total order.cmp lawful.total in
         every_weaker _ _ (drop place items) (λ i h k. lt_not_le cmp total (lower order r) (item_upper order i) h.1 ((before_is order lawful i.key.end r.start h.0.1 known.0).0 k)) (every_both (λ i. IsKnownRange order i.key) _ (drop place items) (known_drop order lawful same equal items place (stored_known order lawful same equal items stored)) window.above)
 
-    not_behind : (d : Item (AnyRange K) V) → 0 < w.count → Every (λ i. LiesBefore order r i.key → ⊥) (take (place + w.count) items)
-    not_behind d some =
+    window_items_reach_range : (d : Item (AnyRange K) V) → 0 < w.count → Every (λ i. LiesBefore order r i.key → ⊥) (take (place + w.count) items)
+    window_items_reach_range d some =
         let cmp = places order lawful in
         let total = position_total order.cmp lawful.total in
         let chain = stored_chain order lawful same equal items stored in
@@ -149,7 +149,7 @@ module _ {K : Type 0} (order : KeyOrder K) (lawful : IsLawful order) {V : Type 0
         let split = parts_at items (end - 1) d within in
         let ordered = chain_before cmp total same equal (item_lower order) (item_upper order) (λ i. i.value) (take (end - 1) items) last (drop (end - 1 + 1) items) (rw split at chain) in
         let meets = window.meets d some in
-        let full = goods (take (end - 1) items) (last ∷ drop (end - 1 + 1) items) (rw split at chain) in
+        let full = front_items_have_places (take (end - 1) items) (last ∷ drop (end - 1 + 1) items) (rw split at chain) in
         every_weaker _ _ (take end items) (λ i h k. lt_not_le cmp total (item_lower order i) (upper order r) h.1 ((before_is order lawful r.end i.key.start known.1 h.0.0).0 k)) (every_both (λ i. IsKnownRange order i.key) _ (take end items) (known_take order lawful same equal items end all)
         (subst (λ (ys : List (Item (AnyRange K) V)). Every (λ i. Lt cmp (item_lower order i) (upper order r)) ys) (sym (take_more items (end - 1) d within) ∙ ap (λ n. take n items) next)
         (every_append _ (take (end - 1) items) (last ∷ []) (every_weaker _ _ (take (end - 1) items) (λ i h. lt_trans cmp total (item_lower order i) (item_upper order i) (upper order r) h.1 (le_lt_trans cmp total (item_upper order i) (item_lower order last) (upper order r) h.0.0 meets)) (every_both _ _ (take (end - 1) items) ordered full)) (meets, tt))))
@@ -159,12 +159,12 @@ module _ {K : Type 0} (order : KeyOrder K) (lawful : IsLawful order) {V : Type 0
     window_meets d some =
         let before = every_left (λ i. LiesBefore order i.key r → ⊥) (take w.count (drop place items)) (drop w.count (drop place items)) (rw (parts (drop place items) w.count) at not_before) in
         let front = take (place + w.count) items in
-        let behind = every_right (λ i. LiesBefore order r i.key → ⊥) (take place front) (drop place front) (rw (parts front place) at (not_behind d some)) in
+        let behind = every_right (λ i. LiesBefore order r i.key → ⊥) (take place front) (drop place front) (rw (parts front place) at (window_items_reach_range d some)) in
         every_both (λ i. LiesBefore order i.key r → ⊥) (λ i. LiesBefore order r i.key → ⊥) (take w.count (drop place items)) before (rw (drop-take place w.count items) at behind)
 
     meets_by : (n : ℕ) → w.count ≡ n → Every (λ i. Overlap order i.key r) (take w.count (drop place items))
     meets_by zero e = rw e tt
-    meets_by (suc n) e = window_meets (element items place (omega (arith, e, window.in_range))) (omega arith)
+    meets_by (suc n) e = window_meets (element_at items place (omega (arith, e, window.in_range))) (omega arith)
 
     pub all_meet : Every (λ i. Overlap order i.key r) (take w.count (drop place items))
     all_meet = meets_by w.count refl
@@ -173,7 +173,7 @@ module _ {K : Type 0} (order : KeyOrder K) (lawful : IsLawful order) {V : Type 0
     pub meets_some : 0 < w.count → MeetsSome order items r
     meets_some some =
         let within : place < length items = omega (arith, some, window.in_range) in
-        let x = element items place within in
+        let x = element_at items place within in
         let size = run_size items place w.count window.in_range in
         let met = every_at (λ i. Overlap order i.key r) (take w.count (drop place items)) 0 x all_meet (omega (arith, size)) in
         let plus : place + 0 ≡ place = omega arith in
@@ -255,7 +255,7 @@ module _ {K : Type 0} (order : KeyOrder K) (lawful : IsLawful order) {V : Type 0
           run = run;
           others = pieces;
           behind = drop end items;
-          before = parts items place ∙ (ap (λ ys. ys ++ drop place items) on_left.split ∙ (ap (λ ys. (take at items ++ on_left.extra) ++ ys) (middle ∙ ap (λ ys. met ++ ys) on_right.split) ∙ reassociate (take at items) on_left.extra met on_right.extra (drop end items)));
+          before = parts items place ∙ (ap (λ ys. ys ++ drop place items) on_left.split ∙ (ap (λ ys. (take at items ++ on_left.extra) ++ ys) (middle ∙ ap (λ ys. met ++ ys) on_right.split) ∙ append_reassociates (take at items) on_left.extra met on_right.extra (drop end items)));
           after = list ∙ reassociate_pieces (take at items) (option_items left) (option_items (Some m)) (option_items right) (drop end items);
           such = record {
             concerned = every_append _ (on_left.extra ++ met) on_right.extra (every_append _ on_left.extra met (every_weaker _ _ on_left.extra (λ i h. inr (inl h.0, h.1)) on_left.touched) (every_weaker _ _ met (λ i h. inl h) meets)) (every_weaker _ _ on_right.extra (λ i h. inr (inr h.0, h.1)) on_right.touched);

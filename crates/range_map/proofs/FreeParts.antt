@@ -32,7 +32,7 @@ use Rattle.range_map.specs.Stored.{IsStored}
 use Rattle.range_map.proofs.Cutting.{every_with}
 use Rattle.range_map.proofs.Forms.{not_both, before_is}
 use Rattle.range_map.proofs.JustBefore.{ends_before, ends_full}
-use Rattle.range_map.proofs.Listed.{IsListed, listed, not_greater}
+use Rattle.range_map.proofs.Listed.{IsListed, stored_list_is_listed, not_greater}
 
 -- what holds between each member and those after it
 abbrev pub Pairs : {X : Type 0} → (X → X → Type 0) → List X → Type 0
@@ -87,8 +87,8 @@ module _ {K : Type 0} (order : KeyOrder K) (lawful : IsLawful order) where
   known_inverted Unbounded h = tt
 
   -- a range starts after an end where it starts at the bound on the other side of it
-  behind_by : (e i : Bound K) (r : AnyRange K) → IsKnownBound order e → inverted e ≡ Some i → IsKnownBound order r.start → PLt (End e) (Start r.start) ↔ PLe (Start i) (Start r.start)
-  behind_by e i r known turns full =
+  after_end_is_from_turned : (e i : Bound K) (r : AnyRange K) → IsKnownBound order e → inverted e ≡ Some i → IsKnownBound order r.start → PLt (End e) (Start r.start) ↔ PLe (Start i) (Start r.start)
+  after_end_is_from_turned e i r known turns full =
       let total = position_total order.cmp lawful.total in
       let cmp = position_cmp order.cmp in
       let at = turned order lawful e i turns in
@@ -103,10 +103,10 @@ module _ {K : Type 0} (order : KeyOrder K) (lawful : IsLawful order) where
       let cmp = position_cmp order.cmp in
       lt_not_le cmp total (End Unbounded) (Start r.start) h (le_trans cmp total (Start r.start) (End r.end) (End Unbounded) full.1 (ends_full order lawful r.end full.0.1))
 
-  behind : (e : Bound K) (r : AnyRange K) → IsKnownBound order e → IsFull r → PLt (End e) (Start r.start) ↔ From (inverted e) r
-  behind (Included a) r known full = behind_by (Included a) (Excluded a) r known refl full.0.0
-  behind (Excluded a) r known full = behind_by (Excluded a) (Included a) r known refl full.0.0
-  behind Unbounded r known full = (λ h. beyond_all r full h, λ h. absurd h)
+  after_end_is_from : (e : Bound K) (r : AnyRange K) → IsKnownBound order e → IsFull r → PLt (End e) (Start r.start) ↔ From (inverted e) r
+  after_end_is_from (Included a) r known full = after_end_is_from_turned (Included a) (Excluded a) r known refl full.0.0
+  after_end_is_from (Excluded a) r known full = after_end_is_from_turned (Excluded a) (Included a) r known refl full.0.0
+  after_end_is_from Unbounded r known full = (λ h. beyond_all r full h, λ h. absurd h)
 
   -- a range that ends just before a start lies before it
   ends_just_before : (s i : Bound K) → IsKnownBound order s → inverted s ≡ Some i → PLt (End i) (Start s)
@@ -222,10 +222,10 @@ module _ {K : Type 0} (order : KeyOrder K) (lawful : IsLawful order) where
   unheld_start (Excluded a) k h e = cc
   unheld_start Unbounded k h e = h tt
 
-  holds_behind : (b : Bound K) (k : K) → (EndHolds order b k → ⊥) → HoldsFrom (inverted b) k
-  holds_behind (Included a) k h = (inverted_start order lawful (Included a) (Excluded a) k refl).1 h
-  holds_behind (Excluded a) k h = (inverted_start order lawful (Excluded a) (Included a) k refl).1 h
-  holds_behind Unbounded k h = absurd (h tt)
+  unheld_end_holds_from : (b : Bound K) (k : K) → (EndHolds order b k → ⊥) → HoldsFrom (inverted b) k
+  unheld_end_holds_from (Included a) k h = (inverted_start order lawful (Included a) (Excluded a) k refl).1 h
+  unheld_end_holds_from (Excluded a) k h = (inverted_start order lawful (Excluded a) (Included a) k refl).1 h
+  unheld_end_holds_from Unbounded k h = absurd (h tt)
 
   before_not_both : (r s : AnyRange K) (k : K) → order.is_key k → LiesBefore order r s → Holds order r k → Holds order s k → ⊥
   before_not_both r s k key l h g =
@@ -238,10 +238,10 @@ module _ {K : Type 0} (order : KeyOrder K) (lawful : IsLawful order) where
   abbrev NotBoth : K → AnyRange K → AnyRange K → Type 0
   NotBoth k r s = Holds order r k → Holds order s k → ⊥
 
-  once : (k : K) (ranges : List (AnyRange K)) → Pairs (NotBoth k) ranges → HeldBy k ranges → IsHeldOnce order ranges k
-  once k [] pairs h = absurd h
-  once k (r ∷ rest) pairs (inl h) = inl (h, every_weaker (NotBoth k r) (λ s. ¬ Holds order s k) rest (λ s f. f h) pairs.0)
-  once k (r ∷ rest) pairs (inr h) = inr (λ g. none rest pairs.0 g h, once k rest pairs.1 h)
+  key_is_held_once : (k : K) (ranges : List (AnyRange K)) → Pairs (NotBoth k) ranges → HeldBy k ranges → IsHeldOnce order ranges k
+  key_is_held_once k [] pairs h = absurd h
+  key_is_held_once k (r ∷ rest) pairs (inl h) = inl (h, every_weaker (NotBoth k r) (λ s. ¬ Holds order s k) rest (λ s f. f h) pairs.0)
+  key_is_held_once k (r ∷ rest) pairs (inr h) = inr (λ g. none rest pairs.0 g h, key_is_held_once k rest pairs.1 h)
     where
       none : (others : List (AnyRange K)) → Every (NotBoth k r) others → Holds order r k → HeldBy k others → ⊥
       none [] all g h = h
@@ -275,14 +275,14 @@ module _ {K : Type 0} (order : KeyOrder K) (lawful : IsLawful order) where
           ((h.2, every_weaker (λ k. LiesBefore order j.key k.key) (λ k. LiesBefore order i.key k.key) rest over others.0), others)
 
       pub stored_row : (items : List (Item (AnyRange K) V)) → IsStored order same items → IsRow items
-      stored_row items h = let l = listed order lawful same items h in record { full = listed_full items l; pairs = listed_pairs items l }
+      stored_row items h = let l = stored_list_is_listed order lawful same items h in record { full = listed_full items l; pairs = listed_pairs items l }
 
     -- the items stand after the bound
     abbrev Ahead : Option (Bound K) → List (Item (AnyRange K) V) → Type 0
     Ahead s items = Every (λ j. From s j.key) items
 
     ahead_next : (i : Item (AnyRange K) V) (rest : List (Item (AnyRange K) V)) → IsRow (i ∷ rest) → Ahead (inverted i.key.end) rest
-    ahead_next i rest row = every_with (λ j. IsFull j.key) (λ j. LiesBefore order i.key j.key) (λ j. From (inverted i.key.end) j.key) rest row.full.1 row.pairs.0 (λ j full l. (behind i.key.end j.key row.full.0.0.1 full).0 l)
+    ahead_next i rest row = every_with (λ j. IsFull j.key) (λ j. LiesBefore order i.key j.key) (λ j. From (inverted i.key.end) j.key) rest row.full.1 row.pairs.0 (λ j full l. (after_end_is_from i.key.end j.key row.full.0.0.1 full).0 l)
 
     -- free ranges are known and nonempty
     free_full : (s : Option (Bound K)) (items : List (Item (AnyRange K) V)) → KnownCut s → Every (λ i. IsFull i.key) items → Every IsFull (free_from order s items)
@@ -293,23 +293,23 @@ module _ {K : Type 0} (order : KeyOrder K) (lawful : IsLawful order) where
         (free_full (inverted i.key.end) rest (known_inverted i.key.end full.0.0.1) full.1)
 
     -- what starts after the end of an item starts after what the item starts after
-    behind_item : (s : Option (Bound K)) (i : Item (AnyRange K) V) (r : AnyRange K) → IsFull i.key → IsFull r → From s i.key → From (inverted i.key.end) r → From s r
-    behind_item None i r full full_r ahead h = ahead
-    behind_item (Some b) i r full full_r ahead h =
+    from_end_is_from_start : (s : Option (Bound K)) (i : Item (AnyRange K) V) (r : AnyRange K) → IsFull i.key → IsFull r → From s i.key → From (inverted i.key.end) r → From s r
+    from_end_is_from_start None i r full full_r ahead h = ahead
+    from_end_is_from_start (Some b) i r full full_r ahead h =
         let total = position_total order.cmp lawful.total in
         let cmp = position_cmp order.cmp in
-        let past = (behind i.key.end r full.0.1 full_r).1 h in
+        let past = (after_end_is_from i.key.end r full.0.1 full_r).1 h in
         le_trans cmp total (Start b) (Start i.key.start) (Start r.start) ahead (lt_le cmp total (Start i.key.start) (Start r.start) (le_lt_trans cmp total (Start i.key.start) (End i.key.end) (Start r.start) full.1 past))
 
-    free_behind : (s : Option (Bound K)) (items : List (Item (AnyRange K) V)) → IsRow items → Ahead s items → Every (From s) (free_from order s items)
-    free_behind s [] row ahead = each_between (From s) s (Some Unbounded) (λ a b e f le. (from_is s a (record { start = a; end = b }) e).1 (le_refl (position_cmp order.cmp) (position_total order.cmp lawful.total) (Start a)))
-    free_behind s (i ∷ rest) row ahead =
+    free_ranges_are_from : (s : Option (Bound K)) (items : List (Item (AnyRange K) V)) → IsRow items → Ahead s items → Every (From s) (free_from order s items)
+    free_ranges_are_from s [] row ahead = each_between (From s) s (Some Unbounded) (λ a b e f le. (from_is s a (record { start = a; end = b }) e).1 (le_refl (position_cmp order.cmp) (position_total order.cmp lawful.total) (Start a)))
+    free_ranges_are_from s (i ∷ rest) row ahead =
         let gaps = free_from order (inverted i.key.end) rest in
         let full = free_full (inverted i.key.end) rest (known_inverted i.key.end row.full.0.0.1) row.full.1 in
-        let others = free_behind (inverted i.key.end) rest (rest_row i rest row) (ahead_next i rest row) in
+        let others = free_ranges_are_from (inverted i.key.end) rest (rest_row i rest row) (ahead_next i rest row) in
         every_append (From s) (between order s (inverted i.key.start)) gaps
         (each_between (From s) s (inverted i.key.start) (λ a b e f le. (from_is s a (record { start = a; end = b }) e).1 (le_refl (position_cmp order.cmp) (position_total order.cmp lawful.total) (Start a))))
-        (every_with IsFull (From (inverted i.key.end)) (From s) gaps full others (λ r full_r h. behind_item s i r row.full.0 full_r ahead.0 h))
+        (every_with IsFull (From (inverted i.key.end)) (From s) gaps full others (λ r full_r h. from_end_is_from_start s i r row.full.0 full_r ahead.0 h))
 
     abbrev Misses : List (Item (AnyRange K) V) → AnyRange K → Type 0
     Misses items r = Every (λ i. ¬ Overlap order i.key r) items
@@ -327,32 +327,32 @@ module _ {K : Type 0} (order : KeyOrder K) (lawful : IsLawful order) where
     free_misses s (i ∷ rest) row =
         let gaps = free_from order (inverted i.key.end) rest in
         let full = free_full (inverted i.key.end) rest (known_inverted i.key.end row.full.0.0.1) row.full.1 in
-        let after = free_behind (inverted i.key.end) rest (rest_row i rest row) (ahead_next i rest row) in
-        let past = every_with IsFull (From (inverted i.key.end)) (λ r. LiesBefore order i.key r) gaps full after (λ r full_r h. (behind i.key.end r row.full.0.0.1 full_r).1 h) in
+        let after = free_ranges_are_from (inverted i.key.end) rest (rest_row i rest row) (ahead_next i rest row) in
+        let past = every_with IsFull (From (inverted i.key.end)) (λ r. LiesBefore order i.key r) gaps full after (λ r full_r h. (after_end_is_from i.key.end r row.full.0.0.1 full_r).1 h) in
         every_append (Misses (i ∷ rest)) (between order s (inverted i.key.start)) gaps
         (each_between (Misses (i ∷ rest)) s (inverted i.key.start) (λ a b e f le. misses_before i rest (record { start = a; end = b }) row (ends_just_before i.key.start b row.full.0.0.0 f)))
         (every_with (λ r. LiesBefore order i.key r) (Misses rest) (Misses (i ∷ rest)) gaps past (free_misses (inverted i.key.end) rest (rest_row i rest row)) (λ r l h. (λ meets. meets.0 l, h)))
 
     free_pairs : (s : Option (Bound K)) (items : List (Item (AnyRange K) V)) → IsRow items → Pairs (LiesBefore order) (free_from order s items)
-    free_pairs s [] row = alone s (Some Unbounded)
+    free_pairs s [] row = range_between_is_alone s (Some Unbounded)
       where
         alone_by : (t : Bool) (r : AnyRange K) → Pairs (LiesBefore order) (if t then [] else r ∷ [])
         alone_by true r = tt
         alone_by false r = (tt, tt)
 
-        alone : (s e : Option (Bound K)) → Pairs (LiesBefore order) (between order s e)
-        alone None e = tt
-        alone (Some a) None = tt
-        alone (Some a) (Some b) = alone_by (starts_past_end order a b) (record { start = a; end = b })
+        range_between_is_alone : (s e : Option (Bound K)) → Pairs (LiesBefore order) (between order s e)
+        range_between_is_alone None e = tt
+        range_between_is_alone (Some a) None = tt
+        range_between_is_alone (Some a) (Some b) = alone_by (starts_past_end order a b) (record { start = a; end = b })
     free_pairs s (i ∷ rest) row =
         let total = position_total order.cmp lawful.total in
         let cmp = position_cmp order.cmp in
         let gaps = free_from order (inverted i.key.end) rest in
         let full = free_full (inverted i.key.end) rest (known_inverted i.key.end row.full.0.0.1) row.full.1 in
-        let after = free_behind (inverted i.key.end) rest (rest_row i rest row) (ahead_next i rest row) in
-        let past = every_with IsFull (From (inverted i.key.end)) (λ r. LiesBefore order i.key r) gaps full after (λ r full_r h. (behind i.key.end r row.full.0.0.1 full_r).1 h) in
+        let after = free_ranges_are_from (inverted i.key.end) rest (rest_row i rest row) (ahead_next i rest row) in
+        let past = every_with IsFull (From (inverted i.key.end)) (λ r. LiesBefore order i.key r) gaps full after (λ r full_r h. (after_end_is_from i.key.end r row.full.0.0.1 full_r).1 h) in
         pairs_append (LiesBefore order) (between order s (inverted i.key.start)) gaps
-        (alone s (inverted i.key.start))
+        (range_between_is_alone s (inverted i.key.start))
         (free_pairs (inverted i.key.end) rest (rest_row i rest row))
         (each_between (λ g. Every (LiesBefore order g) gaps) s (inverted i.key.start) (λ a b e f le.
         let first = ends_just_before i.key.start b row.full.0.0.0 f in
@@ -362,20 +362,20 @@ module _ {K : Type 0} (order : KeyOrder K) (lawful : IsLawful order) where
         alone_by true r = tt
         alone_by false r = (tt, tt)
 
-        alone : (s e : Option (Bound K)) → Pairs (LiesBefore order) (between order s e)
-        alone None e = tt
-        alone (Some a) None = tt
-        alone (Some a) (Some b) = alone_by (starts_past_end order a b) (record { start = a; end = b })
+        range_between_is_alone : (s e : Option (Bound K)) → Pairs (LiesBefore order) (between order s e)
+        range_between_is_alone None e = tt
+        range_between_is_alone (Some a) None = tt
+        range_between_is_alone (Some a) (Some b) = alone_by (starts_past_end order a b) (record { start = a; end = b })
 
     module _ (F : AnyRange K → Type 0) (full : (r : AnyRange K) → F r → IsFull r) where
-      bars_behind : (i : Item (AnyRange K) V) → IsFull i.key → ((r : AnyRange K) → F r → ¬ Overlap order i.key r) → Bars F (inverted i.key.end)
-      bars_behind i known apart b e r such reach =
+      item_bars_after_end : (i : Item (AnyRange K) V) → IsFull i.key → ((r : AnyRange K) → F r → ¬ Overlap order i.key r) → Bars F (inverted i.key.end)
+      item_bars_after_end i known apart b e r such reach =
           let total = position_total order.cmp lawful.total in
           let cmp = position_cmp order.cmp in
           elim (lies_by i.key r (apart r such)) [
-            | inl l ↦ (from_is (inverted i.key.end) b r e).0 ((behind i.key.end r known.0.1 (full r such)).0 l)
+            | inl l ↦ (from_is (inverted i.key.end) b r e).0 ((after_end_is_from i.key.end r known.0.1 (full r such)).0 l)
             | inr l ↦
-                let over = (behind_by i.key.end b (record { start = b; end = b }) known.0.1 e (subst KnownCut e (known_inverted i.key.end known.0.1))).1 (le_refl cmp total (Start b)) in
+                let over = (after_end_is_from_turned i.key.end b (record { start = b; end = b }) known.0.1 e (subst KnownCut e (known_inverted i.key.end known.0.1))).1 (le_refl cmp total (Start b)) in
                 let below = lt_trans cmp total (End r.end) (End i.key.end) (Start b) (lt_le_trans cmp total (End r.end) (Start i.key.start) (End i.key.end) l known.1) over in
                 absurd (lt_not_le cmp total (End r.end) (Start b) below reach)
           ]
@@ -400,7 +400,7 @@ module _ {K : Type 0} (order : KeyOrder K) (lawful : IsLawful order) where
       free_wide s (i ∷ rest) known apart bars =
           every_append (IsWide F) (between order s (inverted i.key.start)) (free_from order (inverted i.key.end) rest)
           (wide_between s i bars known.0 (λ r such. (apart r such).0))
-          (free_wide (inverted i.key.end) rest known.1 (λ r such. (apart r such).1) (bars_behind i known.0 (λ r such. (apart r such).0)))
+          (free_wide (inverted i.key.end) rest known.1 (λ r such. (apart r such).1) (item_bars_after_end i known.0 (λ r such. (apart r such).0)))
 
     module _ (F : AnyRange K → Type 0) (part : AnyRange K) (full : IsFull part) (wide : (g : AnyRange K) → F g → LiesIn order part g → LiesIn order g part) where
       free_found : (s : Option (Bound K)) (items : List (Item (AnyRange K) V)) → Every (λ i. IsFull i.key) items → Misses items part → From s part → Every F (free_from order s items) → Any (λ g. range_cmp order g part ≡ Equal) (free_from order s items)
@@ -409,7 +409,7 @@ module _ {K : Type 0} (order : KeyOrder K) (lawful : IsLawful order) where
       free_found s (i ∷ rest) known apart from such =
           elim (lies_by i.key part apart.0) [
             | inl l ↦ any_right (λ g. range_cmp order g part ≡ Equal) (between order s (inverted i.key.start)) (free_from order (inverted i.key.end) rest)
-                (free_found (inverted i.key.end) rest known.1 apart.1 ((behind i.key.end part known.0.0.1 full).0 l) (every_right F (between order s (inverted i.key.start)) (free_from order (inverted i.key.end) rest) such))
+                (free_found (inverted i.key.end) rest known.1 apart.1 ((after_end_is_from i.key.end part known.0.0.1 full).0 l) (every_right F (between order s (inverted i.key.start)) (free_from order (inverted i.key.end) rest) such))
             | inr l ↦ found_between F part full wide s (inverted i.key.start) (free_from order (inverted i.key.end) rest) from (λ b e. ends_before order lawful part.end i.key.start b full.0.1 e l) (bounded_start F part full wide i.key.start l) such
           ]
 
@@ -446,15 +446,15 @@ module _ {K : Type 0} (order : KeyOrder K) (lawful : IsLawful order) where
       }
 
     -- each key after the bound is held by an item or stands free
-    covered : (s : Option (Bound K)) (items : List (Item (AnyRange K) V)) (k : K) → order.is_key k → HoldsFrom s k → HeldBy k (item_ranges items) ⊎ HeldBy k (free_from order s items)
-    covered s [] k key h = inr (held_between s (Some Unbounded) k key h (λ b e. let same : Unbounded ≡ b = same_some (Some Unbounded) Unbounded b refl e in rw (← same) tt) (λ e. cc))
-    covered s (i ∷ rest) k key h =
+    key_is_held_or_free : (s : Option (Bound K)) (items : List (Item (AnyRange K) V)) (k : K) → order.is_key k → HoldsFrom s k → HeldBy k (item_ranges items) ⊎ HeldBy k (free_from order s items)
+    key_is_held_or_free s [] k key h = inr (held_between s (Some Unbounded) k key h (λ b e. let same : Unbounded ≡ b = same_some (Some Unbounded) Unbounded b refl e in rw (← same) tt) (λ e. cc))
+    key_is_held_or_free s (i ∷ rest) k key h =
         let first = between order s (inverted i.key.start) in
         let gaps = free_from order (inverted i.key.end) rest in
         elim (start_decided order lawful i.key.start k) [
           | inl from ↦ elim (end_decided order lawful i.key.end k) [
             | inl upto ↦ inl (inl (from, upto))
-            | inr over ↦ elim (covered (inverted i.key.end) rest k key (holds_behind i.key.end k over)) [ inl g ↦ inl (inr g) | inr g ↦ inr (any_right (λ r. Holds order r k) first gaps g) ]
+            | inr over ↦ elim (key_is_held_or_free (inverted i.key.end) rest k key (unheld_end_holds_from i.key.end k over)) [ inl g ↦ inl (inr g) | inr g ↦ inr (any_right (λ r. Holds order r k) first gaps g) ]
           ]
           | inr under ↦ inr (any_left (λ r. Holds order r k) first gaps (held_between s (inverted i.key.start) k key h (λ b e. (inverted_end order lawful i.key.start b k e).1 under) (unheld_start i.key.start k under)))
         ]
@@ -481,8 +481,8 @@ module _ {K : Type 0} (order : KeyOrder K) (lawful : IsLawful order) where
         let others = pairs_weaker (LiesBefore order) (NotBoth k) gaps (λ r s l. before_not_both r s k key l) (free_pairs (Some Unbounded) items row) in
         let missed = turned_round items gaps (free_misses (Some Unbounded) items row) in
         let across = range_every (λ r. Every (NotBoth k r) gaps) items (every_weaker (λ i. Every (λ g. ¬ Overlap order i.key g) gaps) (λ i. Every (NotBoth k i.key) gaps) items (λ i m. every_weaker (λ g. ¬ Overlap order i.key g) (NotBoth k i.key) gaps (λ g apart. missed_not_both i.key g k key apart) m) missed) in
-        once k (ranges ++ gaps) (pairs_append (NotBoth k) ranges gaps own others across)
-        (elim (covered (Some Unbounded) items k key tt) [ inl h ↦ any_left (λ r. Holds order r k) ranges gaps h | inr h ↦ any_right (λ r. Holds order r k) ranges gaps h ])
+        key_is_held_once k (ranges ++ gaps) (pairs_append (NotBoth k) ranges gaps own others across)
+        (elim (key_is_held_or_free (Some Unbounded) items k key tt) [ inl h ↦ any_left (λ r. Holds order r k) ranges gaps h | inr h ↦ any_right (λ r. Holds order r k) ranges gaps h ])
 
 none_or_one : {X : Type 0} (t : Bool) (x : X) → length (if t then [] else x ∷ []) ≤ 1
 none_or_one true x = omega arith

@@ -50,23 +50,23 @@ module _ {K : Type 0} (order : KeyOrder K) (lawful : IsLawful order) (r : AnyRan
   first_start (Excluded k) a turns other = absurd (cc)
   first_start Unbounded a turns other = unbounded_start order lawful a other
 
-  good : (i : AnyRange K) → IsKnownRange order i → (IsEmptyRange order i → ⊥) → Le (position_cmp order.cmp) (lower order i) (upper order i)
-  good i others full = lt_le (position_cmp order.cmp) (position_total order.cmp lawful.total) (lower order i) (upper order i) ((nonempty_good order lawful i others).0 full)
+  nonempty_start_is_at_most_end : (i : AnyRange K) → IsKnownRange order i → (IsEmptyRange order i → ⊥) → Le (position_cmp order.cmp) (lower order i) (upper order i)
+  nonempty_start_is_at_most_end i others full = lt_le (position_cmp order.cmp) (position_total order.cmp lawful.total) (lower order i) (upper order i) ((nonempty_good order lawful i others).0 full)
 
   pub no_start : (before after : Option (AnyRange K)) (end : Option (Bound K)) → ForSome after (λ i. IsEmptyRange order i → ⊥) → IsGapStart order r before None → IsGapEnd order r after end → Le (position_cmp order.cmp) (gap_upper order r after) (gap_lower order r before)
   no_start None after end full h k = absurd (cc)
   no_start (Some b) None end full h k = last_end b.end r.end h.1 known.1
   no_start (Some b) (Some a) end full h k =
-      le_trans (position_cmp order.cmp) (position_total order.cmp lawful.total) (lower order a) (upper order a) (upper order b) (good a k.0 (full a refl)) (last_end b.end a.end h.1 k.0.1)
+      le_trans (position_cmp order.cmp) (position_total order.cmp lawful.total) (lower order a) (upper order a) (upper order b) (nonempty_start_is_at_most_end a k.0 (full a refl)) (last_end b.end a.end h.1 k.0.1)
 
   pub no_end : (before after : Option (AnyRange K)) (start : Option (Bound K)) → ForSome before (λ i. IsEmptyRange order i → ⊥) → IsGapStart order r before start → IsGapEnd order r after None → Le (position_cmp order.cmp) (gap_upper order r after) (gap_lower order r before)
   no_end before None start full h k = absurd (cc)
   no_end None (Some a) start full h k = first_start a.start r.start k.1 known.0
   no_end (Some b) (Some a) start full h k =
-      le_trans (position_cmp order.cmp) (position_total order.cmp lawful.total) (lower order a) (lower order b) (upper order b) (first_start a.start b.start k.1 h.0.0) (good b h.0 (full b refl))
+      le_trans (position_cmp order.cmp) (position_total order.cmp lawful.total) (lower order a) (lower order b) (upper order b) (first_start a.start b.start k.1 h.0.0) (nonempty_start_is_at_most_end b h.0 (full b refl))
 
-  pub no_room : (before after : Option (AnyRange K)) (s e : Bound K) → IsGapStart order r before (Some s) → IsGapEnd order r after (Some e) → true ≡ starts_past_end order s e → Le (position_cmp order.cmp) (gap_upper order r after) (gap_lower order r before)
-  no_room before after s e h k past_it =
+  pub no_place_between : (before after : Option (AnyRange K)) (s e : Bound K) → IsGapStart order r before (Some s) → IsGapEnd order r after (Some e) → true ≡ starts_past_end order s e → Le (position_cmp order.cmp) (gap_upper order r after) (gap_lower order r before)
+  no_place_between before after s e h k past_it =
       let cmp = position_cmp order.cmp in
       let total = position_total order.cmp lawful.total in
       let start = start_at before s h in

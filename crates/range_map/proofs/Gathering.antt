@@ -42,9 +42,9 @@ use Rattle.range_map.proofs.Forms.{Known, Chained, Hold, before_is, nonempty_goo
 some_is : {X : Type 0} (x y : X) → Some x ≡ Some y → x ≡ y
 some_is x y e = cc
 
-element : {X : Type 0} (xs : List X) (k : ℕ) → k < length xs → X
-element [] k within = absurd (omega (arith, within))
-element (x ∷ xs) k within = x
+some_element : {X : Type 0} (xs : List X) (k : ℕ) → k < length xs → X
+some_element [] k within = absurd (omega (arith, within))
+some_element (x ∷ xs) k within = x
 
 -- one item of a run
 pub run_at : {X : Type 0} (P : X → Type 0) (items : List X) (place count k : ℕ) (x : X) → Every P (take count (drop place items)) → k < count → place + count ≤ length items → x ≡ get_or items (place + k) x → P x
@@ -61,8 +61,8 @@ item_at P items k x all within read = subst P (sym read) (every_at P items k x a
 pub listed_at : {X : Type 0} (items : List X) (n : ℕ) (x : X) → n < length items → x ≡ get_or items n x → items ≡ take n items ++ x ∷ drop (n + 1) items
 listed_at items n x within read = parts_at items n x within ∙ ap (λ y. take n items ++ y ∷ drop (n + 1) items) (sym read)
 
-pub taken : {X : Type 0} (items : List X) (n m : ℕ) (x : X) → n < length items → x ≡ get_or items n x → m ≡ n + 1 → take m items ≡ take n items ++ x ∷ []
-taken items n m x within read next = rw next (take_more items n x within ∙ ap (λ y. take n items ++ y ∷ []) (sym read))
+pub take_one_more : {X : Type 0} (items : List X) (n m : ℕ) (x : X) → n < length items → x ≡ get_or items n x → m ≡ n + 1 → take m items ≡ take n items ++ x ∷ []
+take_one_more items n m x within read next = rw next (take_more items n x within ∙ ap (λ y. take n items ++ y ∷ []) (sym read))
 
 pub last_good : {P : Type 0} (is_good : P → Type 0) (rank : P → ℕ) (last : Option P) (place count : ℕ) → IsLastOf is_good rank last place count → ForSome last is_good
 last_good is_good rank None place count h = λ p e. absurd (cc)
@@ -252,14 +252,14 @@ module _ {K : Type 0} (order : KeyOrder K) (lawful : IsLawful order) {V : Type 0
       ends_at : PLt order lawful (Lo order lawful r) (Hi order lawful x.key)
       ends_at = not_le (position_cmp order.cmp) (position_total order.cmp lawful.total) (Lo order lawful r) (Hi order lawful x.key) (λ le. meets.0 ((before_is order lawful x.key.end r.start good_at.0.1 known.0).1 le))
 
-      run : Chained order lawful same equal (done ++ x ∷ rest)
-      run = rw list at chain
+      whole_list_is_chained : Chained order lawful same equal (done ++ x ∷ rest)
+      whole_list_is_chained = rw list at chain
 
       above_it : Every (λ i. PLe order lawful (Lo order lawful x.key) (Lo order lawful i.key)) (x ∷ rest)
       above_it =
           let cmp = position_cmp order.cmp in
           let total = position_total order.cmp lawful.total in
-          let tail = chain_right cmp total same equal (item_lower order) (item_upper order) (λ i. i.value) done (x ∷ rest) run in
+          let tail = chain_right cmp total same equal (item_lower order) (item_upper order) (λ i. i.value) done (x ∷ rest) whole_list_is_chained in
           (le_refl cmp total (Lo order lawful x.key), every_weaker (λ i. PLe order lawful (Hi order lawful x.key) (Lo order lawful i.key)) (λ i. PLe order lawful (Lo order lawful x.key) (Lo order lawful i.key)) rest (λ i le. le_trans cmp total (Lo order lawful x.key) (Hi order lawful x.key) (Lo order lawful i.key) (lt_le cmp total (Lo order lawful x.key) (Hi order lawful x.key) good_at.1) le) (follows_above cmp total same equal (item_lower order) (item_upper order) (λ i. i.value) x rest tail.1))
 
       within_it : PLe order lawful (Lo order lawful x.key) (Hi order lawful r)
@@ -269,8 +269,8 @@ module _ {K : Type 0} (order : KeyOrder K) (lawful : IsLawful order) {V : Type 0
       bounded_it = inr (inl (le_refl (position_cmp order.cmp) (position_total order.cmp lawful.total) (Lo order lawful x.key), le_refl (position_cmp order.cmp) (position_total order.cmp lawful.total) (Lo order lawful x.key)))
 
       -- the place so far is not after the part in common
-      behind_common : PLe order lawful (gap_lower order r before) (Lo order lawful (common order r x.key))
-      behind_common =
+      common_part_is_after : PLe order lawful (gap_lower order r before) (Lo order lawful (common order r x.key))
+      common_part_is_after =
           let cmp = position_cmp order.cmp in
           let total = position_total order.cmp lawful.total in
           let from = gap_lower order r before in
@@ -278,7 +278,7 @@ module _ {K : Type 0} (order : KeyOrder K) (lawful : IsLawful order) {V : Type 0
           let inner = both_within x good_at starts_at ends_at in
           elim was.edge [
             | inl le ↦ le_trans cmp total from (Lo order lawful r) c le inner.0
-            | inr some_item ↦ any_use (λ j. PLe order lawful from (Hi order lawful j.key) × PLe order lawful (Hi order lawful j.key) from) (λ j. Leads cmp total same equal (item_lower order) (item_upper order) (λ i. i.value) j (item_lower order x) x.value) done some_item (chain_before cmp total same equal (item_lower order) (item_upper order) (λ i. i.value) done x rest run) (λ j h leads. le_trans cmp total from (Hi order lawful j.key) c h.0 (le_trans cmp total (Hi order lawful j.key) (Lo order lawful x.key) c leads.0 inner.1))
+            | inr some_item ↦ any_use (λ j. PLe order lawful from (Hi order lawful j.key) × PLe order lawful (Hi order lawful j.key) from) (λ j. Leads cmp total same equal (item_lower order) (item_upper order) (λ i. i.value) j (item_lower order x) x.value) done some_item (chain_before cmp total same equal (item_lower order) (item_upper order) (λ i. i.value) done x rest whole_list_is_chained) (λ j h leads. le_trans cmp total from (Hi order lawful j.key) c h.0 (le_trans cmp total (Hi order lawful j.key) (Lo order lawful x.key) c leads.0 inner.1))
           ]
 
       done_it : (new : List (Item (AnyRange K) V)) → IsAnsweredUpTo (Hi order lawful x.key) new → IsUnderway (done ++ x ∷ []) (Hi order lawful x.key) new
@@ -286,7 +286,7 @@ module _ {K : Type 0} (order : KeyOrder K) (lawful : IsLawful order) {V : Type 0
           let cmp = position_cmp order.cmp in
           let total = position_total order.cmp lawful.total in
           let hi = Hi order lawful x.key in
-          let leads = chain_before cmp total same equal (item_lower order) (item_upper order) (λ i. i.value) done x rest run in
+          let leads = chain_before cmp total same equal (item_lower order) (item_upper order) (λ i. i.value) done x rest whole_list_is_chained in
           record {
             answers = h.answers;
             edge = inr (any_end (λ j. PLe order lawful hi (Hi order lawful j.key) × PLe order lawful (Hi order lawful j.key) hi) done x (le_refl cmp total hi, le_refl cmp total hi));
@@ -297,17 +297,17 @@ module _ {K : Type 0} (order : KeyOrder K) (lawful : IsLawful order) {V : Type 0
             given = h.given;
           }
 
-      pub step : (is_clone : K → K → Type 0) (clones : (a b : Bound K) → IsBoundClone is_clone a b → SameBound order a b) (new : List (Item (AnyRange K) V)) → IsItemAsked order same is_clone calls f r before x old new → IsUnderway (done ++ x ∷ []) (Hi order lawful x.key) new
-      step is_clone clones new (middle, inl none, (answer, says, put)) =
+      pub asked_item_is_underway : (is_clone : K → K → Type 0) (clones : (a b : Bound K) → IsBoundClone is_clone a b → SameBound order a b) (new : List (Item (AnyRange K) V)) → IsItemAsked order same is_clone calls f r before x old new → IsUnderway (done ++ x ∷ []) (Hi order lawful x.key) new
+      asked_item_is_underway is_clone clones new (middle, inl none, (answer, says, put)) =
           let at : IsAnsweredUpTo (gap_lower order r before) middle = rw none.1 (record { answers = was.answers; cut = was.cut; filled = was.filled; given = was.given }) in
-          done_it new (add_common x good_at starts_at ends_at is_clone clones (gap_lower order r before) middle new answer done rest list at none.0 behind_common says put)
-      step is_clone clones new (middle, inr (gap, is_gap, (first, said, placed)), (answer, says, put)) =
+          done_it new (add_common x good_at starts_at ends_at is_clone clones (gap_lower order r before) middle new answer done rest list at none.0 common_part_is_after says put)
+      asked_item_is_underway is_clone clones new (middle, inr (gap, is_gap, (first, said, placed)), (answer, says, put)) =
           let at = add_gap done (x ∷ rest) list (gap_lower order r before) (Lo order lawful x.key) gap is_gap.0 is_gap.1 is_gap.2 is_gap.3 was.edge was.at_least was.below within_it above_it bounded_it is_clone clones was.answers old middle first was.cut was.filled was.given said placed in
           let inner = both_within x good_at starts_at ends_at in
           done_it new (add_common x good_at starts_at ends_at is_clone clones (Lo order lawful x.key) middle new answer done rest list at (le_refl (position_cmp order.cmp) (position_total order.cmp lawful.total) (Lo order lawful x.key)) inner.1 says put)
 
-      pub fails : (e : E) → FailsAtGap order calls f r before (Some x.key) e ⊎ MayAnswer calls f (Some x.value) (Err e) → FailsAt order same calls f items r e
-      fails e (inl (gap, is_gap, says)) = record {
+      pub gap_or_item_fails : (e : E) → FailsAtGap order calls f r before (Some x.key) e ⊎ MayAnswer calls f (Some x.value) (Err e) → FailsAt order same calls f items r e
+      gap_or_item_fails e (inl (gap, is_gap, says)) = record {
         piece = gap;
         value = None;
         is_piece =
@@ -316,7 +316,7 @@ module _ {K : Type 0} (order : KeyOrder K) (lawful : IsLawful order) {V : Type 0
             a_piece order lawful items r known full gap None inside clear;
         says = says;
       }
-      fails e (inr says) = record {
+      gap_or_item_fails e (inr says) = record {
         piece = common order r x.key;
         value = Some x.value;
         is_piece = a_piece order lawful items r known full (common order r x.key) (Some x.value) (both_inside x good_at starts_at ends_at) (both_right x good_at starts_at ends_at done rest list);
@@ -324,8 +324,8 @@ module _ {K : Type 0} (order : KeyOrder K) (lawful : IsLawful order) {V : Type 0
       }
 
     -- answers up to the end of the range
-    finished : (m : Position K) (new : List (Item (AnyRange K) V)) → PLe order lawful (Hi order lawful r) m → IsAnsweredUpTo m new → IsGathered order same calls f items r new
-    finished m new upto h =
+    answered_to_end_is_gathered : (m : Position K) (new : List (Item (AnyRange K) V)) → PLe order lawful (Hi order lawful r) m → IsAnsweredUpTo m new → IsGathered order same calls f items r new
+    answered_to_end_is_gathered m new upto h =
         let P = λ (a : Answered K V). IsInside order lawful items r a.key × PLe order lawful (Hi order lawful a.key) m in
         record {
           stored = chain_stored order lawful same equal new h.filled.known h.filled.chain;
@@ -367,10 +367,10 @@ module _ {K : Type 0} (order : KeyOrder K) (lawful : IsLawful order) {V : Type 0
       last_step is_clone clones new (inr (gap, is_gap, (answer, says, put))) =
           (Hi order lawful r, up_to_end, add_gap done rest list (gap_lower order r before) (Hi order lawful r) gap is_gap.0 is_gap.1 is_gap.2 is_gap.3 was.edge was.at_least was.below up_to_end behind (inl up_to_end) is_clone clones was.answers old new answer was.cut was.filled was.given says put)
 
-      pub gathered : (is_clone : K → K → Type 0) (clones : (a b : Bound K) → IsBoundClone is_clone a b → SameBound order a b) (new : List (Item (AnyRange K) V)) → IsGapAsked order same is_clone calls f r before None old new → IsGathered order same calls f items r new
-      gathered is_clone clones new h =
+      pub last_gap_asked_is_gathered : (is_clone : K → K → Type 0) (clones : (a b : Bound K) → IsBoundClone is_clone a b → SameBound order a b) (new : List (Item (AnyRange K) V)) → IsGapAsked order same is_clone calls f r before None old new → IsGathered order same calls f items r new
+      last_gap_asked_is_gathered is_clone clones new h =
           let end = last_step is_clone clones new h in
-          finished end.0 new end.1 end.2
+          answered_to_end_is_gathered end.0 new end.1 end.2
 
 module _ {K : Type 0} (order : KeyOrder K) (lawful : IsLawful order) {V : Type 0} (same : V → V → Bool) (equal : IsEquivalence same) (r : AnyRange K) where
   full_by : (xs items : List (Item (AnyRange K) V)) → Known order lawful same equal xs → Chained order lawful same equal xs → Every (IsFull order lawful items r) xs
@@ -387,7 +387,7 @@ module _ {K : Type 0} (order : KeyOrder K) (lawful : IsLawful order) {V : Type 0
   key_full is_good rank items None place count key full at within h = λ i e. absurd (cc)
   key_full is_good rank items (Some p) place count key full at within h = λ i e.
       let some : rank p < length items = omega (arith, at.1, within) in
-      let d = element items (rank p) some in
+      let d = some_element items (rank p) some in
       let is : i ≡ (get_or items (rank p) d).key = some_is i (get_or items (rank p) d).key (sym e ∙ h d) in
       let there = every_at (IsFull order lawful items r) items (rank p) d full some in
       rw is ((nonempty_good order lawful (get_or items (rank p) d).key there.0).1 there.1)

@@ -26,7 +26,7 @@ use Rattle.range_map.specs.Answers.{piece_of, FailsAt, IsUpdated}
 use Rattle.range_map.specs.Frames.{IsMergedInto}
 use Rattle.range_map.specs.Pieces.{later, earlier, IsCommonPart, LiesIn, IsFreePart, IsPiece}
 use Rattle.range_map.specs.Ranges.{Overlap}
-use Rattle.range_map.proofs.Cutting.{PLe, any_over, later_over, earlier_under, pick}
+use Rattle.range_map.proofs.Cutting.{PLe, any_over, later_over, earlier_under, either_choice_holds}
 use Rattle.range_map.proofs.Forms.{not_both}
 use Rattle.range_map.proofs.Merging.{way_follows}
 
@@ -38,27 +38,27 @@ equal_of Greater h = cc
 is_equal : (o : Ordering) → o ≡ Equal → IsTrue (is_eq o)
 is_equal o e = rw e refl
 
-greater : (o : Ordering) → (is_gt o ≡ false → ⊥) → o ≡ Greater
-greater Less h = absurd (h refl)
-greater Equal h = absurd (h refl)
-greater Greater h = refl
+not_false_is_greater : (o : Ordering) → (is_gt o ≡ false → ⊥) → o ≡ Greater
+not_false_is_greater Less h = absurd (h refl)
+not_false_is_greater Equal h = absurd (h refl)
+not_false_is_greater Greater h = refl
 
 module _ {K : Type 0} (order : KeyOrder K) (lawful : IsLawful order) where
-  tied : (p q s : Position K) → position_cmp order.cmp p q ≡ Equal → position_cmp order.cmp q s ≡ Equal → position_cmp order.cmp p s ≡ Equal
-  tied p q s h k = (position_total order.cmp lawful.total).congr p q s h ∙ k
+  equal_positions_chain : (p q s : Position K) → position_cmp order.cmp p q ≡ Equal → position_cmp order.cmp q s ≡ Equal → position_cmp order.cmp p s ≡ Equal
+  equal_positions_chain p q s h k = (position_total order.cmp lawful.total).congr p q s h ∙ k
 
-  back : (p q : Position K) → position_cmp order.cmp p q ≡ Equal → position_cmp order.cmp q p ≡ Equal
-  back p q h = tied_back (position_total order.cmp lawful.total) p q h
+  equal_positions_turn : (p q : Position K) → position_cmp order.cmp p q ≡ Equal → position_cmp order.cmp q p ≡ Equal
+  equal_positions_turn p q h = tied_back (position_total order.cmp lawful.total) p q h
 
   later_under : (p q u : Position K) → PLe order lawful q p → PLe order lawful (later order q u) (later order p u)
   later_under p q u le =
       let over = later_over order lawful p u in
-      pick order lawful (λ y. PLe order lawful y (later order p u)) (is_gt (position_cmp order.cmp q u)) q u (le_trans (position_cmp order.cmp) (position_total order.cmp lawful.total) q p (later order p u) le over.0) over.1
+      either_choice_holds order lawful (λ y. PLe order lawful y (later order p u)) (is_gt (position_cmp order.cmp q u)) q u (le_trans (position_cmp order.cmp) (position_total order.cmp lawful.total) q p (later order p u) le over.0) over.1
 
   earlier_over : (p q u : Position K) → PLe order lawful p q → PLe order lawful (earlier order p u) (earlier order q u)
   earlier_over p q u le =
       let under = earlier_under order lawful p u in
-      pick order lawful (λ y. PLe order lawful (earlier order p u) y) (is_gt (position_cmp order.cmp q u)) u q under.1 (le_trans (position_cmp order.cmp) (position_total order.cmp lawful.total) (earlier order p u) p q under.0 le)
+      either_choice_holds order lawful (λ y. PLe order lawful (earlier order p u) y) (is_gt (position_cmp order.cmp q u)) u q under.1 (le_trans (position_cmp order.cmp) (position_total order.cmp lawful.total) (earlier order p u) p q under.0 le)
 
   module _ (r s : AnyRange K) (starts : position_cmp order.cmp (start_position order r.start) (start_position order s.start) ≡ Equal) (ends : position_cmp order.cmp (end_position order r.end) (end_position order s.end) ≡ Equal) where
     pub holds_too : (k : K) → order.is_key k → Holds order r k → Holds order s k
@@ -79,8 +79,8 @@ module _ {K : Type 0} (order : KeyOrder K) (lawful : IsLawful order) where
         let b = end_position order s.end in
         let v = end_position order i.end in
         record {
-          starts = tied (start_position order part.start) (later order p u) (later order q u) h.starts (both cmp total (later order p u) (later order q u) (later_under q p u (eq_le cmp total p q starts)) (later_under p q u (eq_ge cmp total p q starts)));
-          ends = tied (end_position order part.end) (earlier order a v) (earlier order b v) h.ends (both cmp total (earlier order a v) (earlier order b v) (earlier_over a b v (eq_le cmp total a b ends)) (earlier_over b a v (eq_ge cmp total a b ends)));
+          starts = equal_positions_chain (start_position order part.start) (later order p u) (later order q u) h.starts (both cmp total (later order p u) (later order q u) (later_under q p u (eq_le cmp total p q starts)) (later_under p q u (eq_ge cmp total p q starts)));
+          ends = equal_positions_chain (end_position order part.end) (earlier order a v) (earlier order b v) h.ends (both cmp total (earlier order a v) (earlier order b v) (earlier_over a b v (eq_le cmp total a b ends)) (earlier_over b a v (eq_ge cmp total a b ends)));
         }
 
     lies_too : (part : AnyRange K) → LiesIn order part r → LiesIn order part s
@@ -106,23 +106,23 @@ module _ {K : Type 0} (order : KeyOrder K) (lawful : IsLawful order) where
   -- equal ranges have the same pieces
   pub piece_too : {V : Type 0} (items : List (Item (AnyRange K) V)) (r s : AnyRange K) → position_cmp order.cmp (start_position order r.start) (start_position order s.start) ≡ Equal → position_cmp order.cmp (end_position order r.end) (end_position order s.end) ≡ Equal → (part : AnyRange K) (value : Option V) → IsPiece order items r part value → IsPiece order items s part value
   piece_too items r s starts ends part None h =
-      let start_back = back (start_position order r.start) (start_position order s.start) starts in
-      let end_back = back (end_position order r.end) (end_position order s.end) ends in
+      let start_back = equal_positions_turn (start_position order r.start) (start_position order s.start) starts in
+      let end_back = equal_positions_turn (end_position order r.end) (end_position order s.end) ends in
       (free_too r s starts ends items part h.0, λ other free wide. h.1 other (free_too s r start_back end_back items other free) wide)
   piece_too items r s starts ends part (Some v) h = (h.0, any_over (λ i. IsCommonPart order r i.key part × (i.value ≡ v)) (λ i. IsCommonPart order s i.key part × (i.value ≡ v)) items (λ i t. (common_too r s starts ends i.key part t.0, t.1)) h.1)
 
   touches_start : (e : Bound K) (r s : AnyRange K) → position_cmp order.cmp (start_position order r.start) (start_position order s.start) ≡ Equal → IsTrue (starts_at_end order e (start_position order r.start)) → IsTrue (starts_at_end order e (start_position order s.start))
   touches_start (Included a) r s starts h =
-      is_equal (position_cmp order.cmp (start_position order (Excluded a)) (start_position order s.start)) (tied (start_position order (Excluded a)) (start_position order r.start) (start_position order s.start) (equal_of (position_cmp order.cmp (start_position order (Excluded a)) (start_position order r.start)) h) starts)
+      is_equal (position_cmp order.cmp (start_position order (Excluded a)) (start_position order s.start)) (equal_positions_chain (start_position order (Excluded a)) (start_position order r.start) (start_position order s.start) (equal_of (position_cmp order.cmp (start_position order (Excluded a)) (start_position order r.start)) h) starts)
   touches_start (Excluded a) r s starts h =
-      is_equal (position_cmp order.cmp (start_position order (Included a)) (start_position order s.start)) (tied (start_position order (Included a)) (start_position order r.start) (start_position order s.start) (equal_of (position_cmp order.cmp (start_position order (Included a)) (start_position order r.start)) h) starts)
+      is_equal (position_cmp order.cmp (start_position order (Included a)) (start_position order s.start)) (equal_positions_chain (start_position order (Included a)) (start_position order r.start) (start_position order s.start) (equal_of (position_cmp order.cmp (start_position order (Included a)) (start_position order r.start)) h) starts)
   touches_start Unbounded r s starts h = absurd (cc)
 
   touches_end : (e f : Bound K) (p : Position K) → SameBound order f e → IsTrue (starts_at_end order e p) → IsTrue (starts_at_end order f p)
   touches_end (Included a) (Included b) p alike h =
-      is_equal (position_cmp order.cmp (start_position order (Excluded b)) p) (tied (start_position order (Excluded b)) (start_position order (Excluded a)) p (same_start order lawful (Excluded b) (Excluded a) alike) (equal_of (position_cmp order.cmp (start_position order (Excluded a)) p) h))
+      is_equal (position_cmp order.cmp (start_position order (Excluded b)) p) (equal_positions_chain (start_position order (Excluded b)) (start_position order (Excluded a)) p (same_start order lawful (Excluded b) (Excluded a) alike) (equal_of (position_cmp order.cmp (start_position order (Excluded a)) p) h))
   touches_end (Excluded a) (Excluded b) p alike h =
-      is_equal (position_cmp order.cmp (start_position order (Included b)) p) (tied (start_position order (Included b)) (start_position order (Included a)) p (same_start order lawful (Included b) (Included a) alike) (equal_of (position_cmp order.cmp (start_position order (Included a)) p) h))
+      is_equal (position_cmp order.cmp (start_position order (Included b)) p) (equal_positions_chain (start_position order (Included b)) (start_position order (Included a)) p (same_start order lawful (Included b) (Included a) alike) (equal_of (position_cmp order.cmp (start_position order (Included a)) p) h))
   touches_end Unbounded f p alike h = absurd (cc)
   touches_end (Included a) (Excluded b) p alike h = absurd alike
   touches_end (Included a) Unbounded p alike h = absurd alike
@@ -132,10 +132,10 @@ module _ {K : Type 0} (order : KeyOrder K) (lawful : IsLawful order) where
   -- what is true of an update of a clone is true of one of the range
   module _ (r s : AnyRange K) (start : SameBound order r.start s.start) (end : SameBound order r.end s.end) where
     starts_alike : position_cmp order.cmp (start_position order s.start) (start_position order r.start) ≡ Equal
-    starts_alike = back (start_position order r.start) (start_position order s.start) (same_start order lawful r.start s.start start)
+    starts_alike = equal_positions_turn (start_position order r.start) (start_position order s.start) (same_start order lawful r.start s.start start)
 
     ends_alike : position_cmp order.cmp (end_position order s.end) (end_position order r.end) ≡ Equal
-    ends_alike = back (end_position order r.end) (end_position order s.end) (same_end order lawful r.end s.end end)
+    ends_alike = equal_positions_turn (end_position order r.end) (end_position order s.end) (same_end order lawful r.end s.end end)
 
     pub clone_empty : IsEmptyRange order s → IsEmptyRange order r
     clone_empty h =
@@ -145,7 +145,7 @@ module _ {K : Type 0} (order : KeyOrder K) (lawful : IsLawful order) where
         let q = end_position order r.end in
         let p' = start_position order s.start in
         let q' = end_position order s.end in
-        greater (cmp p q) (λ le. not_both (cmp p' q') (le_trans cmp total p' p q' (eq_le cmp total p' p starts_alike) (le_trans cmp total p q q' le (eq_ge cmp total q' q ends_alike))) h)
+        not_false_is_greater (cmp p q) (λ le. not_both (cmp p' q') (le_trans cmp total p' p q' (eq_le cmp total p' p starts_alike) (le_trans cmp total p q q' le (eq_ge cmp total q' q ends_alike))) h)
 
     module _ {V : Type 0} (same : V → V → Bool) (others : List (Item (AnyRange K) V)) where
       concerned_too : (i : Item (AnyRange K) V) → Overlap order i.key s ⊎ IsMergedInto order same others s i → Overlap order i.key r ⊎ IsMergedInto order same others r i

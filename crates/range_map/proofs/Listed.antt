@@ -27,10 +27,10 @@ not_greater Less h = refl
 not_greater Equal h = refl
 not_greater Greater h = absurd (h refl)
 
-apart : (t c : Bool) → IsTrue (not t || not c) ↔ (IsTrue t → IsTrue c → ⊥)
-apart true true = (λ h _ _. cc, λ h. absurd (h refl refl))
-apart true false = (λ h _ k. cc, λ h. refl)
-apart false c = (λ h k _. cc, λ h. refl)
+one_false_is_not_both : (t c : Bool) → IsTrue (not t || not c) ↔ (IsTrue t → IsTrue c → ⊥)
+one_false_is_not_both true true = (λ h _ _. cc, λ h. absurd (h refl refl))
+one_false_is_not_both true false = (λ h _ k. cc, λ h. refl)
+one_false_is_not_both false c = (λ h k _. cc, λ h. refl)
 
 pub before_by_parts : (a b t x d u v w c : Bool) → IsTrue (is_before (if a then (if b then Before t else Intersecting false x) else (if d then After u else Intersecting v w)) c) ↔ (IsTrue a × IsTrue b × IsTrue (not t || not c))
 before_by_parts true true t x d u v w c = (λ h. (refl, refl, h), λ h. h.2)
@@ -45,8 +45,8 @@ module _ {K : Type 0} (order : KeyOrder K) (lawful : IsLawful order) {V : Type 0
   IsListed (i ∷ []) = IsKnownRange order i.key × (IsEmptyRange order i.key → ⊥)
   IsListed (i ∷ j ∷ rest) = IsKnownRange order i.key × (IsEmptyRange order i.key → ⊥) × LiesBefore order i.key j.key × (Touches order i.key j.key → IsTrue (same i.value j.value) → ⊥) × IsListed (j ∷ rest)
 
-  followed : (i j : Item (AnyRange K) V) → (IsEmptyRange order i.key → ⊥) → IsFollowedBy order same i j ↔ (LiesBefore order i.key j.key × (Touches order i.key j.key → IsTrue (same i.value j.value) → ⊥))
-  followed i j full =
+  followed_is_before_and_apart : (i j : Item (AnyRange K) V) → (IsEmptyRange order i.key → ⊥) → IsFollowedBy order same i j ↔ (LiesBefore order i.key j.key × (Touches order i.key j.key → IsTrue (same i.value j.value) → ⊥))
+  followed_is_before_and_apart i j full =
       let cmp = position_cmp order.cmp in
       let start = start_position order i.key.start in
       let end = end_position order i.key.end in
@@ -54,7 +54,7 @@ module _ {K : Type 0} (order : KeyOrder K) (lawful : IsLawful order) {V : Type 0
       let other_end = end_position order j.key.end in
       let touch = starts_at_end order i.key.end other in
       let parts = before_by_parts (is_lt (cmp start other)) (is_lt (cmp end other)) touch (is_eq (cmp end other_end)) (is_gt (cmp start other_end)) (starts_at_end order j.key.end start) (is_eq (cmp start other)) (is_eq (cmp end other_end)) (same i.value j.value) in
-      let test = apart touch (same i.value j.value) in (
+      let test = one_false_is_not_both touch (same i.value j.value) in (
         λ h. let p = parts.0 h in ((less_test (cmp end other)).0 p.1, test.0 p.2),
         λ h. parts.1 ((less_test (cmp start other)).1 (le_lt_trans cmp (position_total order.cmp lawful.total) start end other (not_greater (cmp start end) full) h.0), (less_test (cmp end other)).1 h.0, test.1 h.1),
       )
@@ -63,11 +63,11 @@ module _ {K : Type 0} (order : KeyOrder K) (lawful : IsLawful order) {V : Type 0
   by_parts [] known full rising = tt
   by_parts (i ∷ []) known full rising = (known.0, full.0)
   by_parts (i ∷ j ∷ rest) known full rising =
-      let next = (followed i j full.0).0 rising.0 in
+      let next = (followed_is_before_and_apart i j full.0).0 rising.0 in
       (known.0, full.0, next.0, next.1, by_parts (j ∷ rest) known.1 full.1 rising.1)
 
-  pub listed : (items : List (Item (AnyRange K) V)) → IsStored order same items → IsListed items
-  listed items h = by_parts items h.known h.nonempty h.rising
+  pub stored_list_is_listed : (items : List (Item (AnyRange K) V)) → IsStored order same items → IsListed items
+  stored_list_is_listed items h = by_parts items h.known h.nonempty h.rising
 
   all_known : (items : List (Item (AnyRange K) V)) → IsListed items → AllByRecursion (λ i. IsKnownRange order i.key) items
   all_known [] h = tt
@@ -82,7 +82,7 @@ module _ {K : Type 0} (order : KeyOrder K) (lawful : IsLawful order) {V : Type 0
   all_rising : (items : List (Item (AnyRange K) V)) → IsListed items → EachNext (IsFollowedBy order same) items
   all_rising [] h = tt
   all_rising (i ∷ []) h = (tt, tt)
-  all_rising (i ∷ j ∷ rest) h = ((followed i j h.1).1 (h.2, h.3), all_rising (j ∷ rest) h.4)
+  all_rising (i ∷ j ∷ rest) h = ((followed_is_before_and_apart i j h.1).1 (h.2, h.3), all_rising (j ∷ rest) h.4)
 
   pub stored_by : (items : List (Item (AnyRange K) V)) → IsListed items → IsStored order same items
   stored_by items h = record { known = all_known items h; nonempty = all_full items h; rising = all_rising items h }

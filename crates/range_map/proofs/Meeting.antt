@@ -66,8 +66,8 @@ module _ {K : Type 0} (order : KeyOrder K) (lawful : IsLawful order) where
       not_both (position_cmp order.cmp (Start r) (End r)) (le_trans (position_cmp order.cmp) (position_total order.cmp lawful.total) (Start r) (Beside k At) (End r) within.0 within.1) e
 
   -- the later of two starts
-  later : (a b : Bound K) → IsKnownBound order a → IsKnownBound order b → (c : Bound K) × IsKnownBound order c × PLe (start_position order a) (start_position order c) × PLe (start_position order b) (start_position order c) × ((p : Position K) → PLe (start_position order a) p → PLe (start_position order b) p → PLe (start_position order c) p)
-  later a b known others =
+  later_start_exists : (a b : Bound K) → IsKnownBound order a → IsKnownBound order b → (c : Bound K) × IsKnownBound order c × PLe (start_position order a) (start_position order c) × PLe (start_position order b) (start_position order c) × ((p : Position K) → PLe (start_position order a) p → PLe (start_position order b) p → PLe (start_position order c) p)
+  later_start_exists a b known others =
       let total = position_total order.cmp lawful.total in
       let cmp = position_cmp order.cmp in
       elim (cases cmp total (start_position order a) (start_position order b)) [
@@ -76,8 +76,8 @@ module _ {K : Type 0} (order : KeyOrder K) (lawful : IsLawful order) where
       ]
 
   -- the earlier of two ends
-  earlier : (a b : Bound K) → IsKnownBound order a → IsKnownBound order b → (c : Bound K) × IsKnownBound order c × PLe (end_position order c) (end_position order a) × PLe (end_position order c) (end_position order b) × ((p : Position K) → PLe p (end_position order a) → PLe p (end_position order b) → PLe p (end_position order c))
-  earlier a b known others =
+  earlier_end_exists : (a b : Bound K) → IsKnownBound order a → IsKnownBound order b → (c : Bound K) × IsKnownBound order c × PLe (end_position order c) (end_position order a) × PLe (end_position order c) (end_position order b) × ((p : Position K) → PLe p (end_position order a) → PLe p (end_position order b) → PLe p (end_position order c))
+  earlier_end_exists a b known others =
       let total = position_total order.cmp lawful.total in
       let cmp = position_cmp order.cmp in
       elim (cases cmp total (end_position order a) (end_position order b)) [
@@ -90,8 +90,8 @@ module _ {K : Type 0} (order : KeyOrder K) (lawful : IsLawful order) where
   shared_key r s complete known others full full_s meets =
       let total = position_total order.cmp lawful.total in
       let cmp = position_cmp order.cmp in
-      let from = later r.start s.start known.0 others.0 in
-      let upto = earlier r.end s.end known.1 others.1 in
+      let from = later_start_exists r.start s.start known.0 others.0 in
+      let upto = earlier_end_exists r.end s.end known.1 others.1 in
       let first = from.4 (End r) (not_greater (cmp (Start r) (End r)) full) (not_lt cmp total (Start s) (End r) meets.0) in
       let second = from.4 (End s) (not_lt cmp total (Start r) (End s) meets.1) (not_greater (cmp (Start s) (End s)) full_s) in
       let both : AnyRange K = record { start = from.0; end = upto.0 } in
@@ -168,12 +168,12 @@ module _ {K : Type 0} (order : KeyOrder K) (lawful : IsLawful order) where
           ]
 
       -- the first that does not end before a nonempty range decides
-      pub decides : (items : List (Item (AnyRange K) V)) (r : AnyRange K) (p e : Position K) (place : ℕ) (x : Item (AnyRange K) V) (past : Bool) → p ≡ Start r → e ≡ End r → IsStored order same items → (IsEmptyRange order r → ⊥) → place < length items → x ≡ get_or items place x → Every (λ i. PLt (End i.key) p) (take place items) → Every (λ i. PLe p (End i.key)) (drop place items) → past ≡ is_gt (position_cmp order.cmp (Start x.key) e) → IsTrue (not past) ↔ ((IsEmptyRange order r → ⊥) × MeetsSome order items r)
-      decides items r p e place x true start end stored full within read below above past = (
+      pub first_not_before_decides : (items : List (Item (AnyRange K) V)) (r : AnyRange K) (p e : Position K) (place : ℕ) (x : Item (AnyRange K) V) (past : Bool) → p ≡ Start r → e ≡ End r → IsStored order same items → (IsEmptyRange order r → ⊥) → place < length items → x ≡ get_or items place x → Every (λ i. PLt (End i.key) p) (take place items) → Every (λ i. PLe p (End i.key)) (drop place items) → past ≡ is_gt (position_cmp order.cmp (Start x.key) e) → IsTrue (not past) ↔ ((IsEmptyRange order r → ⊥) × MeetsSome order items r)
+      first_not_before_decides items r p e place x true start end stored full within read below above past = (
         λ h. absurd (cc),
         λ h. absurd (past_meets items r place x stored within read (rw start at below) (rw end at past) h.1),
       )
-      decides items r p e place x false start end stored full within read below above past = (
+      first_not_before_decides items r p e place x false start end stored full within read below above past = (
         λ h. (full, met_at items r place x within read (rw start at above) (rw end at past)),
         λ h. refl,
       )

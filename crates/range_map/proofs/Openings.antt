@@ -15,17 +15,17 @@ use Rattle.range_map.specs.Edges.{joined_count, edge_at, IsGoodEdge, IsLeftShape
 use Rattle.range_map.specs.declared.change.edges.Edge.{Edge}
 use Rattle.range_map.specs.declared.change.edges.Edge.TheVariants.{Plain, Cut, Joined}
 
-pub regrouped : {X : Type 0} (a b c e : List X) (m : X) → (a ++ b) ++ m ∷ (c ++ e) ≡ a ++ b ++ (m ∷ []) ++ c ++ e
-regrouped a b c e m = sym (append_assoc (a ++ b ++ (m ∷ [])) c e ∙ append_assoc (a ++ b) (m ∷ []) (c ++ e))
+pub opening_regroups : {X : Type 0} (a b c e : List X) (m : X) → (a ++ b) ++ m ∷ (c ++ e) ≡ a ++ b ++ (m ∷ []) ++ c ++ e
+opening_regroups a b c e m = sym (append_assoc (a ++ b ++ (m ∷ [])) c e ∙ append_assoc (a ++ b) (m ∷ []) (c ++ e))
 
 pub regrouped_out : {X : Type 0} (a b c e : List X) → (a ++ b) ++ (c ++ e) ≡ a ++ b ++ [] ++ c ++ e
 regrouped_out a b c e = sym (rw (append-nil (a ++ b)) (append_assoc (a ++ b) c e))
 
 -- an item that stands where it stood
-pub standing : {X : Type 0} (xs : List X) (n m : ℕ) (x : X) → n < length xs → x ≡ get_or xs n x → m ≡ n + 1 → xs ≡ take n xs ++ [] ++ (x ∷ []) ++ [] ++ drop m xs
-standing xs n m x within read next =
+pub standing_item_splits_list : {X : Type 0} (xs : List X) (n m : ℕ) (x : X) → n < length xs → x ≡ get_or xs n x → m ≡ n + 1 → xs ≡ take n xs ++ [] ++ (x ∷ []) ++ [] ++ drop m xs
+standing_item_splits_list xs n m x within read next =
     let split : xs ≡ take n xs ++ x ∷ drop m xs = parts_at xs n x within ∙ (ap (λ y. take n xs ++ y ∷ drop (n + 1) xs) (sym read) ∙ ap (λ k. take n xs ++ x ∷ drop k xs) (sym next)) in
-    split ∙ (ap (λ ys. ys ++ x ∷ drop m xs) (sym (append-nil (take n xs))) ∙ regrouped (take n xs) [] [] (drop m xs) x)
+    split ∙ (ap (λ ys. ys ++ x ∷ drop m xs) (sym (append-nil (take n xs))) ∙ opening_regroups (take n xs) [] [] (drop m xs) x)
 
 pub cut_joins_none : {K P : Type 0} (item : Option P) (b : Bound K) → joined_count (edge_at item b) ≡ 0
 cut_joins_none None b = refl

@@ -22,7 +22,7 @@ use Rattle.range_map.specs.Reach.{ReachesBefore, ReachesAfter}
 use Rattle.range_map.specs.Edges.{edge_at, IsLeftShape, IsRightShape, IsLeftRest, IsRightRest, TouchesBefore, TouchesNoneBefore, TouchesAfter, TouchesNoneAfter}
 use Rattle.range_map.specs.Plans.{IsLeftFrame, IsRightFrame, IsLeftPlan, IsRightPlan}
 use Rattle.range_map.specs.declared.change.edges.Edge.TheVariants.{Plain, Cut, Joined}
-use Rattle.range_map.proofs.Edging.{element, element_is, left_rest_whole, left_rest_cut, right_rest_whole, right_rest_cut, left_edge_inside, left_edge_rest, left_edge_joined, left_edge_none, right_edge_inside, right_edge_rest, right_edge_joined, right_edge_none}
+use Rattle.range_map.proofs.Edging.{element_at, element_at_is_read, left_rest_whole, left_rest_cut, right_rest_whole, right_rest_cut, left_edge_inside, left_edge_rest, left_edge_joined, left_edge_none, right_edge_inside, right_edge_rest, right_edge_joined, right_edge_none}
 
 none_last : {X : Type 0} (xs : List X) (y : X) → xs ++ y ∷ [] ≡ [] → ⊥
 none_last [] y e = cc
@@ -159,7 +159,7 @@ module _ {K : Type 0} (order : KeyOrder K) (lawful : IsLawful order) {V : Type 0
 
   -- the item is the one at the position
   pub left_joined_at : (q : P) → ReachesBefore order is_good rank items r place w.count None → is_good q → rank q + 1 ≡ place → rank q < length items → TouchesBefore order same items place r v → IsLeftPlan order same lawful equal is_good rank items r v place w.count None (Joined q) (Some q)
-  left_joined_at q reach is at within touching = left_plan_joined q (element items (rank q) within) reach is at within (element_is items (rank q) within (element items (rank q) within)) touching
+  left_joined_at q reach is at within touching = left_plan_joined q (element_at items (rank q) within) reach is at within (element_at_is_read items (rank q) within (element_at items (rank q) within)) touching
 
   pub left_plan_free : (from : Option P) → IsAt is_good rank (length items) from place → ReachesBefore order is_good rank items r place w.count None → TouchesNoneBefore order same items place r v → IsLeftPlan order same lawful equal is_good rank items r v place w.count None Plain from
   left_plan_free from run reach none = record {
@@ -303,8 +303,8 @@ module _ {K : Type 0} (order : KeyOrder K) (lawful : IsLawful order) {V : Type 0
   }
   left_cut_plan (Some p) b reach known_b same_b =
       let within : place < length items = omega (arith, reach.2, window.in_range) in
-      let x = element items place within in
-      let here = element_is items place within x in
+      let x = element_at items place within in
+      let here = element_at_is_read items place within x in
       record {
         rest = Some (with_end x b);
         shape = (reach.0, reach.1, omega arith, refl, (x, here, refl));
@@ -330,8 +330,8 @@ module _ {K : Type 0} (order : KeyOrder K) (lawful : IsLawful order) {V : Type 0
   }
   right_cut_plan (Some p) b upto at reach known_b same_b =
       let within : place + w.count - 1 < length items = omega (arith, reach.2, window.in_range) in
-      let x = element items (place + w.count - 1) within in
-      let here = element_is items (place + w.count - 1) within x in
+      let x = element_at items (place + w.count - 1) within in
+      let here = element_at_is_read items (place + w.count - 1) within x in
       let index : place + w.count - 1 ≡ upto = omega (arith, at) in
       record {
         rest = Some (with_start x b);

@@ -50,8 +50,8 @@ module _ {K : Type 0} (order : KeyOrder K) (lawful : IsLawful order) (k : K) (ke
       (holds_by_position order lawful s k key).1 (le_trans cmp total (start_position order s.start) start here starts within.0, le_trans cmp total here end (end_position order s.end) within.1 ends)
 
   -- ranges that hold a key in common meet
-  meet : (r s : AnyRange K) → Holds order r k → Holds order s k → Overlap order r s
-  meet r s held other =
+  shared_key_is_overlap : (r s : AnyRange K) → Holds order r k → Holds order s k → Overlap order r s
+  shared_key_is_overlap r s held other =
       let cmp = position_cmp order.cmp in
       let total = position_total order.cmp lawful.total in
       let here : Position K = Beside k At in
@@ -69,7 +69,7 @@ module _ {K : Type 0} (order : KeyOrder K) (lawful : IsLawful order) (k : K) (ke
 
     none_bound : (items : List (Item (AnyRange K) V)) (part : AnyRange K) → Every (λ i. ¬ Overlap order i.key part) items → Holds order part k → ¬ IsBound order items k
     none_bound [] part free held bound = bound
-    none_bound (i ∷ items) part free held (inl here) = free.0 (meet i.key part here held)
+    none_bound (i ∷ items) part free held (inl here) = free.0 (shared_key_is_overlap i.key part here held)
     none_bound (i ∷ items) part free held (inr rest) = none_bound items part free.1 held rest
 
     -- a piece tells what its keys are bound to

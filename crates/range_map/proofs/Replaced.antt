@@ -27,7 +27,7 @@ use Rattle.range_map.proofs.CutParts.{known_turned, same_turned}
 use Rattle.range_map.proofs.Endings.{every_started, every_ended, any_ended, own_values}
 use Rattle.range_map.proofs.Cutting.{any_with}
 use Rattle.range_map.proofs.Forms.{Known, nonempty_good, stored_known, chain_stored, same_binds, unheld_lies_outside}
-use Rattle.range_map.proofs.Framing.{parts_of, reassociate, reassociate_pieces}
+use Rattle.range_map.proofs.Framing.{parts_of, append_reassociates, reassociate_pieces}
 use Rattle.range_map.proofs.Merging.{crossing_meets}
 use Rattle.range_map.proofs.Openings.{upto_end}
 use Rattle.range_map.proofs.Seaming.{seam_count, Crosses, TakesStartOf, IsLeftFill, IsRightFill, left_fill, right_fill}
@@ -74,7 +74,7 @@ module _ {K : Type 0} (order : KeyOrder K) (lawful : IsLawful order) {V : Type 0
           run = run;
           others = rest ++ body ++ beyond;
           behind = tail;
-          before = parts items place ∙ (ap (λ ys. ys ++ drop place items) left.split ∙ (ap (λ ys. (front ++ left.extra) ++ ys) (parts_of items place count ∙ ap (λ ys. met ++ ys) right.split) ∙ reassociate front left.extra met right.extra tail));
+          before = parts items place ∙ (ap (λ ys. ys ++ drop place items) left.split ∙ (ap (λ ys. (front ++ left.extra) ++ ys) (parts_of items place count ∙ ap (λ ys. met ++ ys) right.split) ∙ append_reassociates front left.extra met right.extra tail));
           after = changed ∙ reassociate_pieces front rest body beyond tail;
           such = record {
             concerned = every_append _ (left.extra ++ met) right.extra (every_append _ left.extra met (every_weaker _ _ left.extra (λ i h. inr (inl (h.0, within_pieces rest body beyond (λ j. j.key.start ≡ i.key.start) i known known_body (took_start i h.1)))) left.touched) (every_weaker _ _ met (λ i h. inl h) meets)) (every_weaker _ _ right.extra (λ i h. inr (inr (h.0, within_pieces rest body beyond (λ j. j.key.end ≡ i.key.end) i known known_body h.1))) right.touched);

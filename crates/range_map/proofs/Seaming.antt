@@ -40,9 +40,9 @@ use Rattle.range_map.specs.Stored.{IsStored}
 use Rattle.range_map.specs.Window.{IsWindow, option_items}
 use Rattle.range_map.proofs.CutOut.{known_take, known_drop}
 use Rattle.range_map.proofs.CutParts.{ends_never}
-use Rattle.range_map.proofs.Endings.{last_of, regrouped_last, ended, with_last, started_last}
+use Rattle.range_map.proofs.Endings.{last_of, regrouped_last, item_with_end, with_last, started_last}
 use Rattle.range_map.proofs.Forms.{places, Known, Chained, stored_known, stored_chain}
-use Rattle.range_map.proofs.Edging.{element, element_is}
+use Rattle.range_map.proofs.Edging.{element_at, element_at_is_read}
 use Rattle.range_map.proofs.Openings.{cut_joins_none}
 use Rattle.range_map.proofs.Planning.{left_cut_plan, right_cut_plan, left_plan_free, left_joined_at, right_plan_joined, right_plan_plain}
 use Rattle.range_map.proofs.Splicing.{IsFilled, IsSpliced, filled_apart, filled_joined, spliced_apart, spliced_joined}
@@ -70,15 +70,15 @@ module _ {K : Type 0} (order : KeyOrder K) (lawful : IsLawful order) where
   within_end part r known others within =
       not_lt (places order lawful) (position_total order.cmp lawful.total) (upper order part) (upper order r) (λ over. within_by part r (inverted r.end) refl known others within.ends over)
 
-joined_none : {K V P : Type 0} (is_good : P → Type 0) (rank : P → ℕ) (items : List (Item (AnyRange K) V)) (edge : Edge K P) (at from : ℕ) (rest : Option (Item (AnyRange K) V)) → IsLeftShape is_good rank items edge at from rest None → joined_count edge ≡ 0
-joined_none is_good rank items Plain at from rest shape = refl
-joined_none is_good rank items (Cut p b) at from rest shape = refl
-joined_none is_good rank items (Joined p) at from rest shape = absurd (let e = shape.4.2 in cc)
+joins_none_before : {K V P : Type 0} (is_good : P → Type 0) (rank : P → ℕ) (items : List (Item (AnyRange K) V)) (edge : Edge K P) (at from : ℕ) (rest : Option (Item (AnyRange K) V)) → IsLeftShape is_good rank items edge at from rest None → joined_count edge ≡ 0
+joins_none_before is_good rank items Plain at from rest shape = refl
+joins_none_before is_good rank items (Cut p b) at from rest shape = refl
+joins_none_before is_good rank items (Joined p) at from rest shape = absurd (let e = shape.4.2 in cc)
 
-joined_none_behind : {K V P : Type 0} (is_good : P → Type 0) (rank : P → ℕ) (items : List (Item (AnyRange K) V)) (edge : Edge K P) (upto end : ℕ) (rest : Option (Item (AnyRange K) V)) → IsRightShape is_good rank items edge upto end rest None → joined_count edge ≡ 0
-joined_none_behind is_good rank items Plain upto end rest shape = refl
-joined_none_behind is_good rank items (Cut p b) upto end rest shape = refl
-joined_none_behind is_good rank items (Joined p) upto end rest shape = absurd (let e = shape.4.2 in cc)
+joins_none_after : {K V P : Type 0} (is_good : P → Type 0) (rank : P → ℕ) (items : List (Item (AnyRange K) V)) (edge : Edge K P) (upto end : ℕ) (rest : Option (Item (AnyRange K) V)) → IsRightShape is_good rank items edge upto end rest None → joined_count edge ≡ 0
+joins_none_after is_good rank items Plain upto end rest shape = refl
+joins_none_after is_good rank items (Cut p b) upto end rest shape = refl
+joins_none_after is_good rank items (Joined p) upto end rest shape = absurd (let e = shape.4.2 in cc)
 
 -- only an item that joins gives way beyond the window
 pub seam_count : {K P : Type 0} (joined reaching : Option P) (b : Bound K) → joined_count (seam_edge joined reaching b) ≡ length (option_items joined)
@@ -180,7 +180,7 @@ module _ {K : Type 0} (order : KeyOrder K) (lawful : IsLawful order) {V : Type 0
 
     left_cutting : (middle : List (Item (AnyRange K) V)) (first : Option P) (edge : Edge K P) (from : Option P) → IsStored order same items → IsStored order same middle → Every (λ i. Lt (places order lawful) (lower order r) (item_lower order i)) middle → IsLeftCutting order same lawful equal is_good rank items r place count first edge from → IsLeftFill middle first edge from
     left_cutting middle first edge from stored others starts cut =
-        let none = joined_none is_good rank items edge place (place + length (option_items first)) cut.rest cut.shape in
+        let none = joins_none_before is_good rank items edge place (place + length (option_items first)) cut.rest cut.shape in
         record {
           at = place;
           begin = place + length (option_items first);
@@ -218,27 +218,27 @@ module _ {K : Type 0} (order : KeyOrder K) (lawful : IsLawful order) {V : Type 0
     alike_value (x ∷ xs) v u e (inl h) = inl (equal.congr u v x.value e ∙ h)
     alike_value (x ∷ xs) v u e (inr h) = inr (alike_value xs v u e h)
 
-    ended_lower : (finish : Option (Bound K)) (z : Item (AnyRange K) V) → places order lawful (item_lower order (ended finish z)) (item_lower order z) ≡ Equal
+    ended_lower : (finish : Option (Bound K)) (z : Item (AnyRange K) V) → places order lawful (item_lower order (item_with_end finish z)) (item_lower order z) ≡ Equal
     ended_lower None z = tied_itself (position_total order.cmp lawful.total) (item_lower order z)
     ended_lower (Some b) z = tied_itself (position_total order.cmp lawful.total) (item_lower order z)
 
-    ended_upper : (finish : Option (Bound K)) (z : Item (AnyRange K) V) (e : Position K) → places order lawful (edge_end order same finish r) e ≡ Equal → places order lawful (item_upper order z) (upper order r) ≡ Equal → places order lawful (item_upper order (ended finish z)) e ≡ Equal
+    ended_upper : (finish : Option (Bound K)) (z : Item (AnyRange K) V) (e : Position K) → places order lawful (edge_end order same finish r) e ≡ Equal → places order lawful (item_upper order z) (upper order r) ≡ Equal → places order lawful (item_upper order (item_with_end finish z)) e ≡ Equal
     ended_upper None z e ends at = (position_total order.cmp lawful.total).congr (item_upper order z) (upper order r) e at ∙ ends
     ended_upper (Some b) z e ends at = ends
 
-    ended_value : (finish : Option (Bound K)) (z : Item (AnyRange K) V) → same (ended finish z).value z.value ≡ true
+    ended_value : (finish : Option (Bound K)) (z : Item (AnyRange K) V) → same (item_with_end finish z).value z.value ≡ true
     ended_value None z = equal.refl z.value
     ended_value (Some b) z = equal.refl z.value
 
-    ended_known : (finish : Option (Bound K)) (z : Item (AnyRange K) V) → IsKnownRange order z.key → IsKnownBound order (unwrap_or finish r.end) → IsKnownRange order (ended finish z).key
+    ended_known : (finish : Option (Bound K)) (z : Item (AnyRange K) V) → IsKnownRange order z.key → IsKnownBound order (unwrap_or finish r.end) → IsKnownRange order (item_with_end finish z).key
     ended_known None z known end = known
     ended_known (Some b) z known end = (known.0, end)
 
-    ended_end : (finish : Option (Bound K)) (z i : Item (AnyRange K) V) → finish ≡ Some i.key.end → (ended finish z).key.end ≡ i.key.end
+    ended_end : (finish : Option (Bound K)) (z i : Item (AnyRange K) V) → finish ≡ Some i.key.end → (item_with_end finish z).key.end ≡ i.key.end
     ended_end None z i is = absurd (cc)
     ended_end (Some b) z i is = cc
 
-    ended_same : (finish : Option (Bound K)) (z : Item (AnyRange K) V) → (ended finish z).value ≡ z.value
+    ended_same : (finish : Option (Bound K)) (z : Item (AnyRange K) V) → (item_with_end finish z).value ≡ z.value
     ended_same None z = refl
     ended_same (Some b) z = refl
 
@@ -249,7 +249,7 @@ module _ {K : Type 0} (order : KeyOrder K) (lawful : IsLawful order) {V : Type 0
         let s = started_last start init m in
         let z = s.1 in
         let body : with_first_start start middle ≡ s.0 ++ z ∷ [] = ap (with_first_start start) split ∙ s.2 in
-        let other = ended plan.finish z in
+        let other = item_with_end plan.finish z in
         let behind = option_items plan.rest ++ drop plan.end items in
         let grouped : front ++ with_first_start start middle ≡ (front ++ s.0) ++ z ∷ [] = ap (λ ys. front ++ ys) body ∙ sym (append_assoc front s.0 (z ∷ [])) in
         let list : (front ++ with_last_end plan.finish (with_first_start start middle)) ++ behind ≡ (front ++ s.0) ++ other ∷ behind = ap (λ ys. (front ++ ys) ++ behind) (ap (with_last_end plan.finish) body ∙ with_last plan.finish s.0 z) ∙ regrouped_last front s.0 behind other in
@@ -287,7 +287,7 @@ module _ {K : Type 0} (order : KeyOrder K) (lawful : IsLawful order) {V : Type 0
 
     right_cutting : (middle front : List (Item (AnyRange K) V)) (start : Option (Bound K)) (last : Option P) (edge : Edge K P) (u : Position K) → IsStored order same items → place + count ≤ length items → Le (places order lawful) (lower order r) u → Lt (places order lawful) u (upper order r) → Every (λ i. Le (places order lawful) (item_upper order i) u) middle → Filled items middle (front ++ with_first_start start middle) (lower order r) → Known order lawful same equal (front ++ with_first_start start middle) → IsRightCutting order same lawful equal is_good rank items r place count last edge → IsRightFill middle front start last edge
     right_cutting middle front start last edge u stored within le lt all fill known cut =
-        let none = joined_none_behind is_good rank items edge cut.upto (place + count) cut.rest cut.shape in
+        let none = joins_none_after is_good rank items edge cut.upto (place + count) cut.rest cut.shape in
         let behind = option_items cut.rest ++ drop (place + count) items in
         record {
           upto = cut.upto;
@@ -353,5 +353,5 @@ module _ {K : Type 0} (order : KeyOrder K) (lawful : IsLawful order) {V : Type 0
   right_touched v None b in_range reach none = right_plan_plain order lawful same equal is_good rank items r w place stored known full window v reach none
   right_touched v (Some q) b in_range reach found =
       let within = in_range q found.0 in
-      let x = element items (rank q) within in
-      right_plan_joined order lawful same equal is_good rank items r w place stored known full window v q x reach found.0 found.1 within (element_is items (rank q) within x) found.2
+      let x = element_at items (rank q) within in
+      right_plan_joined order lawful same equal is_good rank items r w place stored known full window v q x reach found.0 found.1 within (element_at_is_read items (rank q) within x) found.2

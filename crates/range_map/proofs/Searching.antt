@@ -30,9 +30,9 @@ equal_is Less h = absurd (cc)
 equal_is Equal h = refl
 equal_is Greater h = absurd (cc)
 
-untouched : (t c : Bool) → (IsTrue t → ⊥) → IsTrue (not t || not c)
-untouched true c h = absurd (h refl)
-untouched false c h = refl
+false_is_not_both : (t c : Bool) → (IsTrue t → ⊥) → IsTrue (not t || not c)
+false_is_not_both true c h = absurd (h refl)
+false_is_not_both false c h = refl
 
 module _ {K : Type 0} (order : KeyOrder K) (lawful : IsLawful order) where
   abbrev PLt : Position K → Position K → Type 0
@@ -71,7 +71,7 @@ module _ {K : Type 0} (order : KeyOrder K) (lawful : IsLawful order) where
       (before_by_parts (is_lt (cmp (Start e) (Start s))) (is_lt (cmp (End e) (Start s))) touch' (is_eq (cmp (End e) (End s))) (is_gt (cmp (Start e) (End s))) (starts_at_end order s.end (Start e)) (is_eq (cmp (Start e) (Start s))) (is_eq (cmp (End e) (End s))) connected).1 (
         (less_test (cmp (Start e) (Start s))).1 starts,
         (less_test (cmp (End e) (Start s))).1 ends,
-        untouched touch' connected (λ t. lt_not_le cmp total (past order (End e)) (Start s) apart (eq_ge cmp total (past order (End e)) (Start s) (touching_same e.end (Start s) t))),
+        false_is_not_both touch' connected (λ t. lt_not_le cmp total (past order (End e)) (Start s) apart (eq_ge cmp total (past order (End e)) (Start s) (touching_same e.end (Start s) t))),
       )
 
   module _ {V : Type 0} where

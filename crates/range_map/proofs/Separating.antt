@@ -12,7 +12,7 @@ use Rattle.range_keys.specs.PositionOrder.{position_total}
 use Rattle.range_keys.specs.declared.inner.position.Position.{Position}
 use Rattle.range_map.proofs.Chains.{chain_above, chain_before, chain_right, strictly_leads, strictly_trails}
 use Rattle.range_map.proofs.ChainSides.{left_whole, right_whole}
-use Rattle.range_map.proofs.ChainJoins.{bound, left_apart, right_apart}
+use Rattle.range_map.proofs.ChainJoins.{places_between_are_bound, left_apart, right_apart}
 use Rattle.range_algebra.specs.Compared.{starts_at_end}
 use Rattle.range_algebra.specs.Cuts.{lower, upper}
 use Rattle.range_algebra.specs.Intervals.{Every, Le, Lt}
@@ -167,9 +167,9 @@ module _ {K : Type 0} (order : KeyOrder K) (lawful : IsLawful order) where
       all_before is_good rank good_in_range last b at answer h =
           rw (take-length items) at (clear_before is_good rank good_in_range last (length items) b (last_place is_good rank items last at) answer h)
 
-      taken_before : {P : Type 0} (is_good : P → Type 0) (rank : P → ℕ) (good_in_range : (p : P) → is_good p → rank p < length items) (before : Option P) (place : ℕ) (b : Bool) → IsJustBefore is_good rank before place → IsAnswerAt order (λ i. LiesApart order i.key r) rank items before b → Every (λ i. PLt (end_position order i.key.end) (lower order r)) (take place items) → b ≡ false → IsConnectedToSome order items r
-      taken_before is_good rank good_in_range None place b at answer below f = absurd (let clash : false ≡ true = sym f ∙ answer in cc)
-      taken_before is_good rank good_in_range (Some q) place b at answer below f =
+      refused_previous_is_connected : {P : Type 0} (is_good : P → Type 0) (rank : P → ℕ) (good_in_range : (p : P) → is_good p → rank p < length items) (before : Option P) (place : ℕ) (b : Bool) → IsJustBefore is_good rank before place → IsAnswerAt order (λ i. LiesApart order i.key r) rank items before b → Every (λ i. PLt (end_position order i.key.end) (lower order r)) (take place items) → b ≡ false → IsConnectedToSome order items r
+      refused_previous_is_connected is_good rank good_in_range None place b at answer below f = absurd (let clash : false ≡ true = sym f ∙ answer in cc)
+      refused_previous_is_connected is_good rank good_in_range (Some q) place b at answer below f =
           let within = good_in_range q at.0 in
           let found = item_at items (rank q) within in
           let x = found.0 in
@@ -179,9 +179,9 @@ module _ {K : Type 0} (order : KeyOrder K) (lawful : IsLawful order) where
           let refused : LiesApart order x.key r → ⊥ = λ h. let t = (answer x found.1).1 h in let clash : false ≡ true = sym f ∙ t in cc in
           any_at (λ i. IsConnectedTo order i.key r) items (rank q) x within found.1 (inr (inl (must_touch (LiesBefore order x.key r) (starts_at_end order x.key.end (lower order r)) last refused)))
 
-      taken_behind : {P : Type 0} (is_good : P → Type 0) (rank : P → ℕ) (good_in_range : (p : P) → is_good p → rank p < length items) (from : Option P) (place : ℕ) (b : Bool) → IsAt is_good rank (length items) from place → IsAnswerAt order (λ i. LiesApart order r i.key) rank items from b → Every (λ i. PLe (lower order r) (end_position order i.key.end)) (drop place items) → b ≡ false → IsConnectedToSome order items r
-      taken_behind is_good rank good_in_range None place b at answer above f = absurd (let clash : false ≡ true = sym f ∙ answer in cc)
-      taken_behind is_good rank good_in_range (Some q) place b at answer above f =
+      refused_next_is_connected : {P : Type 0} (is_good : P → Type 0) (rank : P → ℕ) (good_in_range : (p : P) → is_good p → rank p < length items) (from : Option P) (place : ℕ) (b : Bool) → IsAt is_good rank (length items) from place → IsAnswerAt order (λ i. LiesApart order r i.key) rank items from b → Every (λ i. PLe (lower order r) (end_position order i.key.end)) (drop place items) → b ≡ false → IsConnectedToSome order items r
+      refused_next_is_connected is_good rank good_in_range None place b at answer above f = absurd (let clash : false ≡ true = sym f ∙ answer in cc)
+      refused_next_is_connected is_good rank good_in_range (Some q) place b at answer above f =
           let cmp = position_cmp order.cmp in
           let total = position_total order.cmp lawful.total in
           let within = good_in_range q at.0 in
@@ -198,8 +198,8 @@ module _ {K : Type 0} (order : KeyOrder K) (lawful : IsLawful order) where
       taken_by : {P : Type 0} (is_good : P → Type 0) (rank : P → ℕ) (good_in_range : (p : P) → is_good p → rank p < length items) (before from : Option P) (place : ℕ) (free a b : Bool) → IsJustBefore is_good rank before place → IsAt is_good rank (length items) from place → Every (λ i. PLt (end_position order i.key.end) (lower order r)) (take place items) → Every (λ i. PLe (lower order r) (end_position order i.key.end)) (drop place items) → IsAnswerAt order (λ i. LiesApart order i.key r) rank items before a → IsAnswerAt order (λ i. LiesApart order r i.key) rank items from b → free ≡ (a && b) → free ≡ false → IsConnectedToSome order items r
       taken_by is_good rank good_in_range before from place free a b previous position below above first second both f =
           elim (one_fails free a b both f) [
-            | inl e ↦ taken_before is_good rank good_in_range before place a previous first below e
-            | inr e ↦ taken_behind is_good rank good_in_range from place b position second above e
+            | inl e ↦ refused_previous_is_connected is_good rank good_in_range before place a previous first below e
+            | inr e ↦ refused_next_is_connected is_good rank good_in_range from place b position second above e
           ]
 
       -- what the answers for its neighbours say of a range
@@ -218,15 +218,15 @@ module _ {K : Type 0} (order : KeyOrder K) (lawful : IsLawful order) where
         range_good : PLt (lower order r) (upper order r)
         range_good = (nonempty_good order lawful r known).0 full
 
-        before_not : (i : Item (AnyRange K) V) → (IsKnownRange order i.key × Good i) × Before r i → IsConnectedTo order i.key r → ⊥
-        before_not i h (inl meets) = (apart_not i.key r h.0.0 known h.0.1 range_good h.1).0 meets
-        before_not i h (inr (inl t)) = (apart_not i.key r h.0.0 known h.0.1 range_good h.1).1 t
-        before_not i h (inr (inr t)) = (apart_not i.key r h.0.0 known h.0.1 range_good h.1).2 t
+        item_before_is_unconnected : (i : Item (AnyRange K) V) → (IsKnownRange order i.key × Good i) × Before r i → IsConnectedTo order i.key r → ⊥
+        item_before_is_unconnected i h (inl meets) = (apart_not i.key r h.0.0 known h.0.1 range_good h.1).0 meets
+        item_before_is_unconnected i h (inr (inl t)) = (apart_not i.key r h.0.0 known h.0.1 range_good h.1).1 t
+        item_before_is_unconnected i h (inr (inr t)) = (apart_not i.key r h.0.0 known h.0.1 range_good h.1).2 t
 
-        behind_not : (i : Item (AnyRange K) V) → (IsKnownRange order i.key × Good i) × Behind r i → IsConnectedTo order i.key r → ⊥
-        behind_not i h (inl meets) = (apart_not r i.key known h.0.0 range_good h.0.1 h.1).0 (meets.1, meets.0)
-        behind_not i h (inr (inl t)) = (apart_not r i.key known h.0.0 range_good h.0.1 h.1).2 t
-        behind_not i h (inr (inr t)) = (apart_not r i.key known h.0.0 range_good h.0.1 h.1).1 t
+        item_after_is_unconnected : (i : Item (AnyRange K) V) → (IsKnownRange order i.key × Good i) × Behind r i → IsConnectedTo order i.key r → ⊥
+        item_after_is_unconnected i h (inl meets) = (apart_not r i.key known h.0.0 range_good h.0.1 h.1).0 (meets.1, meets.0)
+        item_after_is_unconnected i h (inr (inl t)) = (apart_not r i.key known h.0.0 range_good h.0.1 h.1).2 t
+        item_after_is_unconnected i h (inr (inr t)) = (apart_not r i.key known h.0.0 range_good h.0.1 h.1).1 t
 
         -- a range with such a place is connected to no item
         pub free_not : IsConnectedToSome order items r → ⊥
@@ -239,8 +239,8 @@ module _ {K : Type 0} (order : KeyOrder K) (lawful : IsLawful order) where
             let first = every_both (λ i. IsKnownRange order i.key × Good i) (Before r) (take place items) (every_left (λ i. IsKnownRange order i.key × Good i) (take place items) (drop place items) both) front in
             let second = every_both (λ i. IsKnownRange order i.key × Good i) (Behind r) (drop place items) (every_right (λ i. IsKnownRange order i.key × Good i) (take place items) (drop place items) both) back in
             elim (any_split (λ i. IsConnectedTo order i.key r) (take place items) (drop place items) some) [
-              | inl k ↦ any_none (λ i. IsConnectedTo order i.key r) (λ i. (IsKnownRange order i.key × Good i) × Before r i) (take place items) first before_not k
-              | inr k ↦ any_none (λ i. IsConnectedTo order i.key r) (λ i. (IsKnownRange order i.key × Good i) × Behind r i) (drop place items) second behind_not k
+              | inl k ↦ any_none (λ i. IsConnectedTo order i.key r) (λ i. (IsKnownRange order i.key × Good i) × Before r i) (take place items) first item_before_is_unconnected k
+              | inr k ↦ any_none (λ i. IsConnectedTo order i.key r) (λ i. (IsKnownRange order i.key × Good i) × Behind r i) (drop place items) second item_after_is_unconnected k
             ]
 
         -- and can be put in there
@@ -259,7 +259,7 @@ module _ {K : Type 0} (order : KeyOrder K) (lawful : IsLawful order) where
             let right = right_whole cmp total same equal (item_lower order) (item_upper order) value (take place items) (drop place items) d whole (every_weaker _ _ (take place items) (λ i h. lt_le cmp total (item_upper order i) d (lt_trans cmp total (item_upper order i) c d h range_good)) front) (every_weaker _ _ (drop place items) (λ i h. lt_le cmp total d (item_lower order i) h) back) in
             let on_left = left_apart cmp total same equal (item_lower order) (item_upper order) value (take place items ++ drop place items) (take place items) c v left (every_weaker _ _ (take place items) (λ i h. strictly_leads cmp total same equal (item_lower order) (item_upper order) value i c v h) front) in
             let on_right = right_apart cmp total same equal (item_lower order) (item_upper order) value (take place items ++ drop place items) (drop place items) d v right (every_weaker _ _ (drop place items) (λ i h. strictly_trails cmp total same equal (item_lower order) (item_upper order) value i d v h) back) in
-            let changed = bound cmp total same equal (item_lower order) (item_upper order) value (take place items ++ drop place items) (take place items) (drop place items) x c d c d v on_left on_right range_good (tied_itself total c) (tied_itself total d) (equal.refl v) in
+            let changed = places_between_are_bound cmp total same equal (item_lower order) (item_upper order) value (take place items ++ drop place items) (take place items) (drop place items) x c d c d v on_left on_right range_good (tied_itself total c) (tied_itself total d) (equal.refl v) in
             let new_known : Known order lawful same equal (take place items ++ x ∷ drop place items) = every_append (λ i. IsKnownRange order i.key) (take place items) (x ∷ drop place items) (every_left (λ i. IsKnownRange order i.key) (take place items) (drop place items) all_known) (known, every_right (λ i. IsKnownRange order i.key) (take place items) (drop place items) all_known) in
             let after = bound_after order lawful same equal (take place items ++ drop place items) (take place items ++ x ∷ drop place items) r v known all_known new_known changed in
             let joined : take place items ++ drop place items ≡ items = sym split in

@@ -8,7 +8,7 @@ use Rattle.range_algebra.specs.Intervals.{Le, Lt, Every}
 use Rattle.range_algebra.specs.Orders.{lt_le, eq_le, eq_ge, le_trans, lt_le_trans, le_lt_trans, lt_trans}
 use Rattle.range_algebra.proofs.Lists.{any_left, any_right, any_split, every_weaker, every_append}
 use Rattle.range_map.specs.Chains.{Follows, IsChain, Has, Respects, Leading, Trailing, IsLeft, IsRight, IsLeftOf, IsRightOf}
-use Rattle.range_map.proofs.Chains.{back, chain_left, chain_right, chain_above, strictly_leads, chain_before, join, join_apart, follows_like}
+use Rattle.range_map.proofs.Chains.{same_is_symmetric, chain_left, chain_right, chain_above, strictly_leads, chain_before, chains_join, join_apart, follows_like}
 use Rattle.range_map.proofs.ChainSides.{none_below, none_above, only_first, only_second}
 
 module _ {L V X : Type 0} (cmp : L → L → Ordering) (total : IsTotalOrder cmp) (same : V → V → Bool) (equal : IsEquivalence same) (lo hi : X → L) (value : X → V) where
@@ -37,7 +37,7 @@ module _ {L V X : Type 0} (cmp : L → L → Ordering) (total : IsTotalOrder cmp
   chain_apart : (front middle : List X) (c : L) → Chained front → Every (λ x. Le cmp (hi x) c) front → Chained middle → Every (λ x. Lt cmp c (lo x)) middle → Chained (front ++ middle)
   chain_apart front [] c chain ends other starts = rw (append-nil front) chain
   chain_apart front (m ∷ ms) c chain ends other starts =
-      join cmp total same equal lo hi value front m ms chain other (every_weaker _ _ front (λ z h. strictly_leads cmp total same equal lo hi value z (lo m) (value m) (le_lt_trans cmp total (hi z) c (lo m) h starts.0)) ends)
+      chains_join cmp total same equal lo hi value front m ms chain other (every_weaker _ _ front (λ z h. strictly_leads cmp total same equal lo hi value z (lo m) (value m) (le_lt_trans cmp total (hi z) c (lo m) h starts.0)) ends)
 
   -- a middle that starts later than the place
   pub filled_apart : (items front middle : List X) (c : L) → IsLeft cmp total same equal lo hi value items front c → Chained middle → Every (λ x. Lt cmp c (lo x)) middle → IsFilled items middle (front ++ middle) c
@@ -59,7 +59,7 @@ module _ {L V X : Type 0} (cmp : L → L → Ordering) (total : IsTotalOrder cmp
   -- a middle that starts at the place, whose first item takes the start that it joins
   pub filled_joined : (items front : List X) (m other : X) (ms : List X) (c s : L) → IsLeftOf cmp total same equal lo hi value items front c s (value m) → Chained (m ∷ ms) → cmp (lo m) c ≡ Equal → cmp (lo other) s ≡ Equal → cmp (hi other) (hi m) ≡ Equal → same (value other) (value m) ≡ true → IsFilled items (m ∷ ms) (front ++ other ∷ ms) c
   filled_joined items front m other ms c s left chain at_c at_s at_hi alike_value =
-      let value_back = back cmp total same equal lo hi value (value other) (value m) alike_value in
+      let value_back = same_is_symmetric cmp total same equal lo hi value (value other) (value m) alike_value in
       let c_low = eq_le cmp total (lo m) c at_c in
       let c_high = eq_ge cmp total (lo m) c at_c in
       let s_low = eq_le cmp total (lo other) s at_s in
@@ -73,7 +73,7 @@ module _ {L V X : Type 0} (cmp : L → L → Ordering) (total : IsTotalOrder cmp
       let ends : Every (λ x. Le cmp (hi x) c) front = every_weaker _ _ front (λ z h. le_trans cmp total (hi z) s c h.0 left.below) left.leads in
       let above = chain_above cmp total same equal lo hi value c m ms chain c_high in
       record {
-        chain = join cmp total same equal lo hi value front other ms left.chain (good, follows_like cmp total same equal lo hi value m other ms at_hi alike_value chain.1) leads;
+        chain = chains_join cmp total same equal lo hi value front other ms left.chain (good, follows_like cmp total same equal lo hi value m other ms at_hi alike_value chain.1) leads;
         ends = λ u le all. every_append _ front (other ∷ ms) (every_weaker _ _ front (λ z h. le_trans cmp total (hi z) c u h le) ends) (le_trans cmp total (hi other) (hi m) u hi_low all.0, all.1);
         below = λ p W alike l. (
           λ h. (left.holds p W alike l).0 (elim (any_split _ front (other ∷ ms) h) [
@@ -128,7 +128,7 @@ module _ {L V X : Type 0} (cmp : L → L → Ordering) (total : IsTotalOrder cmp
   -- a middle that ends at the second place, whose last item takes the end that it joins
   pub spliced_joined : (items middle front behind : List X) (z other : X) (c d e : L) → IsFilled items middle (front ++ z ∷ []) c → Lt cmp c d → cmp (hi z) d ≡ Equal → IsRightOf cmp total same equal lo hi value items behind d e (value z) → cmp (lo other) (lo z) ≡ Equal → cmp (hi other) e ≡ Equal → same (value other) (value z) ≡ true → IsSpliced items middle (front ++ other ∷ behind) c d
   spliced_joined items middle front behind z other c d e fill lt at_d right at_lo at_e alike_value =
-      let value_back = back cmp total same equal lo hi value (value other) (value z) alike_value in
+      let value_back = same_is_symmetric cmp total same equal lo hi value (value other) (value z) alike_value in
       let lo_low = eq_le cmp total (lo other) (lo z) at_lo in
       let lo_high = eq_ge cmp total (lo other) (lo z) at_lo in
       let e_low = eq_le cmp total (hi other) e at_e in
@@ -153,7 +153,7 @@ module _ {L V X : Type 0} (cmp : L → L → Ordering) (total : IsTotalOrder cmp
         ],
       ) in
       record {
-        chain = join cmp total same equal lo hi value front other behind (chain_left cmp total same equal lo hi value front (z ∷ []) fill.chain) (good, trailing_follows other behind e (value z) e_low e_high alike_value right.chain right.trails) leads;
+        chain = chains_join cmp total same equal lo hi value front other behind (chain_left cmp total same equal lo hi value front (z ∷ []) fill.chain) (good, trailing_follows other behind e (value z) e_low e_high alike_value right.chain right.trails) leads;
         inside = λ p W alike from l. (λ h. (fill.from p W alike from).0 ((upto p W alike l).0 h), λ h. (upto p W alike l).1 ((fill.from p W alike from).1 h));
         outside = λ p W alike where_. elim where_ [
           | inl l ↦ let under = lt_trans cmp total p c d l lt in (λ h. (fill.below p W alike l).0 ((upto p W alike under).0 h), λ h. (upto p W alike under).1 ((fill.below p W alike l).1 h))

@@ -27,8 +27,8 @@ both_so : (s t : Bool) → s ≡ true → t ≡ true → (s && t) ≡ true
 both_so s t e f = rw (e, f) refl
 
 module _ {K : Type 0} (order : KeyOrder K) (lawful : IsLawful order) {V : Type 0} (same_value : V → V → Bool) (values : IsEquivalence same_value) where
-  later : (i : Item (AnyRange K) V) (rest : List (Item (AnyRange K) V)) → IsStored order same_value (i ∷ rest) → IsStored order same_value rest
-  later i rest stored = record { known = stored.known.1; nonempty = stored.nonempty.1; rising = stored.rising.1 }
+  tail_is_stored : (i : Item (AnyRange K) V) (rest : List (Item (AnyRange K) V)) → IsStored order same_value (i ∷ rest) → IsStored order same_value rest
+  tail_is_stored i rest stored = record { known = stored.known.1; nonempty = stored.nonempty.1; rising = stored.rising.1 }
 
   module _ (complete : IsComplete order) where
     has_key : (i : Item (AnyRange K) V) (rest : List (Item (AnyRange K) V)) → IsStored order same_value (i ∷ rest) → ¬ IsKeyless order i.key
@@ -42,7 +42,7 @@ module _ {K : Type 0} (order : KeyOrder K) (lawful : IsLawful order) {V : Type 0
     stored_coarse (i ∷ []) stored = record { keyed = (has_key i [] stored, tt); rising = (tt, tt); parted = (tt, tt) }
     stored_coarse (i ∷ j ∷ rest) stored =
         let before = before_is order lawful i.key j.key (same_value i.value j.value) stored.rising.0 in
-        let behind = stored_coarse (j ∷ rest) (later i (j ∷ rest) stored) in
+        let behind = stored_coarse (j ∷ rest) (tail_is_stored i (j ∷ rest) stored) in
         record {
           keyed = (has_key i (j ∷ rest) stored, behind.keyed);
           rising = (ends_below order lawful i.key j.key before.0, behind.rising);
@@ -63,7 +63,7 @@ module _ {K : Type 0} (order : KeyOrder K) (lawful : IsLawful order) {V : Type 0
         both_so (eq_by_cmp (range_cmp order) i.key j.key && same_value i.value j.value) (same_list order same_value items others)
         (both_so (eq_by_cmp (range_cmp order) i.key j.key) (same_value i.value j.value)
         (ap is_eq (same_is_equal order lawful complete i.key j.key stored.known.0 stored'.known.0 stored.nonempty.0 stored'.nonempty.0 alike.0.0)) alike.0.1)
-        (alike_equal items others (later i items stored) (later j others stored') alike.1)
+        (alike_equal items others (tail_is_stored i items stored) (tail_is_stored j others stored') alike.1)
 
   equal_alike : (items others : List (Item (AnyRange K) V)) → IsTrue (same_list order same_value items others) → AreAlike order same_value items others
   equal_alike [] [] e = tt
@@ -77,11 +77,11 @@ module _ {K : Type 0} (order : KeyOrder K) (lawful : IsLawful order) {V : Type 0
         equal_alike items others there,
       )
 
-  turn : (items others : List (Item (AnyRange K) V)) → AreAlike order same_value items others → AreAlike order same_value others items
-  turn [] [] alike = tt
-  turn [] (j ∷ others) alike = alike
-  turn (i ∷ items) [] alike = alike
-  turn (i ∷ items) (j ∷ others) alike = ((λ k key. ((alike.0.0 k key).1, (alike.0.0 k key).0), values.symm j.value i.value ∙ alike.0.1), turn items others alike.1)
+  alike_turned : (items others : List (Item (AnyRange K) V)) → AreAlike order same_value items others → AreAlike order same_value others items
+  alike_turned [] [] alike = tt
+  alike_turned [] (j ∷ others) alike = alike
+  alike_turned (i ∷ items) [] alike = alike
+  alike_turned (i ∷ items) (j ∷ others) alike = ((λ k key. ((alike.0.0 k key).1, (alike.0.0 k key).0), values.symm j.value i.value ∙ alike.0.1), alike_turned items others alike.1)
 
   alike_follows : (items others : List (Item (AnyRange K) V)) → AreAlike order same_value items others → Follows order lawful same_value values items others
   alike_follows [] others alike k key v h = absurd h
@@ -100,7 +100,7 @@ module _ {K : Type 0} (order : KeyOrder K) (lawful : IsLawful order) {V : Type 0
   alike_binds items others alike k key b = by_answer b
     where
       back : AreAlike order same_value others items
-      back = turn items others alike
+      back = alike_turned items others alike
 
       by_answer : (b : Option V) → Binds order same_value items k b ↔ Binds order same_value others k b
       by_answer None = (λ none h. none (alike_bound others items back k key h), λ none h. none (alike_bound items others alike k key h))
@@ -160,8 +160,8 @@ module _ {K : Type 0} (order : KeyOrder K) (lawful : IsLawful order) (complete :
   keyed_full : (r : AnyRange K) → ¬ IsKeyless order r → ¬ IsEmptyRange order r
   keyed_full r keyed empty = keyed (empty_is_keyless order lawful r empty)
 
-  member : (r : AnyRange K) → IsKnownRange order r → ¬ IsKeyless order r → (k : K) × order.is_key k × Holds order r k
-  member r known keyed =
+  keyed_range_has_key : (r : AnyRange K) → IsKnownRange order r → ¬ IsKeyless order r → (k : K) × order.is_key k × Holds order r k
+  keyed_range_has_key r known keyed =
       nonempty_holds order lawful complete r known (not_greater (position_cmp order.cmp (start_position order r.start) (end_position order r.end)) (keyed_full r keyed))
 
   -- over complete keys a coarse list of ranges of keys has the map's form
@@ -170,8 +170,8 @@ module _ {K : Type 0} (order : KeyOrder K) (lawful : IsLawful order) (complete :
   coarse_stored (i ∷ []) known coarse = record { known = known; nonempty = (keyed_full i.key coarse.keyed.0, tt); rising = (tt, tt) }
   coarse_stored (i ∷ j ∷ rest) known coarse =
       let behind = coarse_stored (j ∷ rest) known.1 (record { keyed = coarse.keyed.1; rising = coarse.rising.1; parted = coarse.parted.1 }) in
-      let first = member i.key known.0 coarse.keyed.0 in
-      let next = member j.key known.1.0 coarse.keyed.1.0 in
+      let first = keyed_range_has_key i.key known.0 coarse.keyed.0 in
+      let next = keyed_range_has_key j.key known.1.0 coarse.keyed.1.0 in
       record {
         known = known;
         nonempty = (keyed_full i.key coarse.keyed.0, behind.nonempty);

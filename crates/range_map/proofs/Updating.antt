@@ -21,17 +21,17 @@ use Rattle.range_map.specs.Lookups.{IsConnectedTo}
 use Rattle.range_map.specs.Pieces.{later, earlier, IsCommonPart, IsPiece}
 use Rattle.range_map.specs.Ranges.{Overlap}
 use Rattle.range_map.specs.Replaced.{IsReplaced}
-use Rattle.range_map.proofs.Cutting.{PLe, PLt, Lo, Hi, IsFull, IsInside, IsRight, any_use, any_over, every_with, later_over, earlier_under, pick, cut_none, cut_more, cut_all, a_piece}
+use Rattle.range_map.proofs.Cutting.{PLe, PLt, Lo, Hi, IsFull, IsInside, IsRight, any_use, any_over, every_with, later_over, earlier_under, either_choice_holds, cut_none, cut_more, cut_all, a_piece}
 use Rattle.range_map.proofs.Extents.{end_le}
 use Rattle.range_map.proofs.Forms.{Chained}
 use Rattle.range_map.proofs.Merging.{rest_stands, way_follows}
 
 module _ {K : Type 0} (order : KeyOrder K) {V : Type 0} (same : V → V → Bool) (equal : IsEquivalence same) {F E : Type 0} (calls : Shared F (Option (Bor V) × Unit {0}) (Result (Option V) E)) (f : F) (items new : List (Item (AnyRange K) V)) (r : AnyRange K) where
-  turned : (a b : V) → IsTrue (same a b) → IsTrue (same b a)
-  turned a b h = equal.symm b a ∙ h
+  same_is_symmetric : (a b : V) → IsTrue (same a b) → IsTrue (same b a)
+  same_is_symmetric a b h = equal.symm b a ∙ h
 
   given_by : (answers : List (Answered K V)) (j : Item (AnyRange K) V) (v : V) → same v j.value ≡ true → Any (λ a. a.answer ≡ Some j.value) answers → IsGivenBy same answers v
-  given_by answers j v alike h = any_over (λ a. a.answer ≡ Some j.value) (λ a. IsAsAnswered same a.answer (Some v)) answers (λ a is. subst (λ o. IsAsAnswered same o (Some v)) (sym is) (turned v j.value alike)) h
+  given_by answers j v alike h = any_over (λ a. a.answer ≡ Some j.value) (λ a. IsAsAnswered same a.answer (Some v)) answers (λ a is. subst (λ o. IsAsAnswered same o (Some v)) (sym is) (same_is_symmetric v j.value alike)) h
 
   -- what was gathered stands in the place of the range
   pub by_middle : (middle : List (Item (AnyRange K) V)) → IsGathered order same calls f items r middle → IsReplaced order same items new middle r → IsUpdated order same calls f items new r
@@ -77,7 +77,7 @@ module _ {K : Type 0} (order : KeyOrder K) {V : Type 0} (same : V → V → Bool
           such = record {
             concerned = every_with (JoinsOrMeets order same r v) _ (λ i. Overlap order i.key r ⊎ IsMergedInto order same h.others r i) h.run h.such.concerned met (λ i t a. inl (meets_alone i v t a));
             valued = every_weaker (IsNewItem order same h.run r v) (λ j. HasValue order same h.run j.value ⊎ IsGivenBy same (one_answer old (Some v)) j.value) h.others (λ j t. elim t.value [
-              | inl own ↦ inr (inl (turned j.value v own))
+              | inl own ↦ inr (inl (same_is_symmetric j.value v own))
               | inr other ↦ inl other
             ]) h.such.made;
           };
@@ -132,8 +132,8 @@ module _ {K : Type 0} (order : KeyOrder K) (lawful : IsLawful order) {V : Type 0
       let v = end_position order x.key.end in
       let under = end_le order lawful r.end x.key.end known.1 known_x.1 (lt_le cmp total (Hi order lawful r) (Hi order lawful x.key) ends) in
       record {
-        starts = both cmp total p (later order p q) (later_over order lawful p q).0 (pick order lawful (λ y. PLe order lawful y p) (is_gt (cmp p q)) p q (le_refl cmp total p) (lt_le cmp total q p starts));
-        ends = both cmp total u (earlier order u v) (pick order lawful (λ y. PLe order lawful u y) (is_gt (cmp u v)) v u under (le_refl cmp total u)) (earlier_under order lawful u v).0;
+        starts = both cmp total p (later order p q) (later_over order lawful p q).0 (either_choice_holds order lawful (λ y. PLe order lawful y p) (is_gt (cmp p q)) p q (le_refl cmp total p) (lt_le cmp total q p starts));
+        ends = both cmp total u (earlier order u v) (either_choice_holds order lawful (λ y. PLe order lawful u y) (is_gt (cmp u v)) v u under (le_refl cmp total u)) (earlier_under order lawful u v).0;
       }
 
   whole_right : IsRight order lawful items r r (Some x.value)

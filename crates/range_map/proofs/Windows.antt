@@ -25,9 +25,9 @@ every_both P Q [] h k = tt
 every_both P Q (x ∷ xs) h k = ((h.0, k.0), every_both P Q xs h.1 k.1)
 
 module _ {K : Type 0} (order : KeyOrder K) (lawful : IsLawful order) {V : Type 0} (same : V → V → Bool) (equal : IsEquivalence same) where
-  behind_is : (e : Position K) (r : AnyRange K) (ys : List (Item (AnyRange K) V)) → e ≡ end_position order r.end → IsKnownRange order r → Known order lawful same equal ys → Chained order lawful same equal ys → ((d : Item (AnyRange K) V) → 0 < length ys → Lt (places order lawful) e (start_position order (get_or ys 0 d).key.start)) → Every (λ i. Le (places order lawful) (upper order r) (item_lower order i)) ys
-  behind_is e r [] at known others chain h = tt
-  behind_is e r (y ∷ ys) at known others chain h =
+  rest_starts_after_range : (e : Position K) (r : AnyRange K) (ys : List (Item (AnyRange K) V)) → e ≡ end_position order r.end → IsKnownRange order r → Known order lawful same equal ys → Chained order lawful same equal ys → ((d : Item (AnyRange K) V) → 0 < length ys → Lt (places order lawful) e (start_position order (get_or ys 0 d).key.start)) → Every (λ i. Le (places order lawful) (upper order r) (item_lower order i)) ys
+  rest_starts_after_range e r [] at known others chain h = tt
+  rest_starts_after_range e r (y ∷ ys) at known others chain h =
       chain_above (places order lawful) (position_total order.cmp lawful.total) same equal (item_lower order) (item_upper order) (λ i. i.value) (upper order r) y ys chain
       ((before_is order lawful r.end y.key.start known.1 others.0.0).0 (rw at at (h y (omega arith))))
 
@@ -51,7 +51,7 @@ module _ {K : Type 0} (order : KeyOrder K) (lawful : IsLawful order) {V : Type 0
         below = every_weaker _ _ (take place items) (λ i h. (before_is order lawful i.key.end r.start h.0.1 known.0).0 (rw at_start at h.1)) (every_both (λ i. IsKnownRange order i.key) _ (take place items) (every_left _ (take place items) (drop place items) (known_parts place)) found.below);
         above = every_weaker _ _ (drop place items) (λ i h. (reaches order lawful r.start i.key.end known.0 h.0.1).0 (rw at_start at h.1)) (every_both (λ i. IsKnownRange order i.key) _ (drop place items) (every_right _ (take place items) (drop place items) (known_parts place)) found.above);
         meets = λ d some. let x = get_or items (place + count - 1) d in (reaches order lawful x.key.start r.end (every_at (λ i. IsKnownRange order i.key) items (place + count - 1) d all (omega (arith, walk.in_range))).0 known.1).0 (rw at_end at (walk.meets d some));
-        behind = behind_is e r (drop (place + count) items) at_end known (every_right _ (take (place + count) items) (drop (place + count) items) (known_parts (place + count)))
+        behind = rest_starts_after_range e r (drop (place + count) items) at_end known (every_right _ (take (place + count) items) (drop (place + count) items) (known_parts (place + count)))
             (chain_right (places order lawful) (position_total order.cmp lawful.total) same equal (item_lower order) (item_upper order) (λ i. i.value) (take (place + count) items) (drop (place + count) items) (chain_parts (place + count)))
             (λ d some. let index : place + count + 0 ≡ place + count = omega arith in rw (get_or-drop (place + count) items 0 d, index) (walk.stops d (omega (arith, length-drop (place + count) items, walk.in_range))));
       }

@@ -20,7 +20,7 @@ use Rattle.range_map.specs.Pieces.{LiesIn, IsFreePart, IsPiece}
 use Rattle.range_map.specs.Ranges.{Overlap}
 use Rattle.range_map.proofs.FreeParts.{IsFull, IsRow, gaps_are, stored_row}
 use Rattle.range_map.proofs.JustBefore.{ends_full}
-use Rattle.range_map.proofs.Listed.{listed, not_greater}
+use Rattle.range_map.proofs.Listed.{stored_list_is_listed, not_greater}
 use Rattle.range_sets.specs.Complements.{EqualGapsOf}
 use Rattle.range_sets.specs.KeySets.{IsStoredSet}
 use Rattle.range_sets.proofs.Enclosing.{inside}
@@ -106,7 +106,7 @@ module _ {K : Type 0} (order : KeyOrder K) (lawful : IsLawful order) where
     within : (r : AnyRange K) → IsFree r → InSome order lawful (λ i. i.key) r items
     within r free =
         let full = free_full r free in
-        inside order lawful (Some Unbounded) items r (listed order lawful (λ _ _. true) items form) full (unbounded_start order lawful r.start full.0.0) (misses r free)
+        inside order lawful (Some Unbounded) items r (stored_list_is_listed order lawful (λ _ _. true) items form) full (unbounded_start order lawful r.start full.0.0) (misses r free)
 
     item_free : (i : Stored) → IsFull order lawful i.key → Every (λ j. ¬ Overlap order j.key i.key) others → IsFree i.key
     item_free i full missed = record {

@@ -22,7 +22,7 @@ use Rattle.range_map.specs.Pieces.{IsFreePart, IsPiece}
 use Rattle.range_map.specs.Ranges.{Overlap}
 use Rattle.range_map.specs.Stored.{IsStored}
 use Rattle.range_map.proofs.Forms.{before_is, nonempty_good, touches_is}
-use Rattle.range_map.proofs.Listed.{IsListed, listed, stored_by, not_greater}
+use Rattle.range_map.proofs.Listed.{IsListed, stored_list_is_listed, stored_by, not_greater}
 use Rattle.range_sets.specs.KeySets.{IsStoredSet}
 
 -- the ranges as the items of a set
@@ -119,4 +119,4 @@ module _ {K : Type 0} (order : KeyOrder K) (lawful : IsLawful order) where
   -- the front of a list in the form of a set is in that form
   pub front_stored : (front behind : List (AnyRange K)) → IsStoredSet order (set_items (front ++ behind)) → IsStoredSet order (set_items front)
   front_stored front behind h =
-      stored_by order lawful (λ _ _. true) (set_items front) (front_listed front behind (listed order lawful (λ _ _. true) (set_items (front ++ behind)) h))
+      stored_by order lawful (λ _ _. true) (set_items front) (front_listed front behind (stored_list_is_listed order lawful (λ _ _. true) (set_items (front ++ behind)) h))

@@ -5,7 +5,7 @@ use Rattle.range_store.specs.Places.{place_before}
 use Rattle.range_map.specs.Edits.{with_end}
 use Rattle.range_map.specs.Window.{option_items}
 use Rattle.range_map.proofs.Lengths.{changed_length, le_of, le_sum, two_more}
-use Rattle.range_map.proofs.Openings.{standing}
+use Rattle.range_map.proofs.Openings.{standing_item_splits_list}
 use Rattle.range_map.proofs.Framing.{gave_way, all_meet}
 use Rattle.range_map.proofs.Planning.{left_frame_inside, left_frame_cut, right_frame_inside, right_frame_cut}
 use Rattle.range_map.proofs.Edging.{edges_insert, left_edge_inside, right_edge_inside, left_rest_cut, right_rest_cut, left_edge_rest, right_edge_rest}
@@ -33,7 +33,7 @@ returns-then-joins-clause-ok g c =
     let values = sym c.if-joins.ensures in
     let left = left_edge_inside order lawful same equal (storage.is_good stored) (storage.rank stored) items r w place c.requires.stored c.known.ensures c.requires.nonempty c.requires.window c.args.value x here first.2 (first.3 x here) values in
     let right = right_edge_inside order lawful same equal (storage.is_good stored) (storage.rank stored) items r w place c.requires.stored c.known.ensures c.requires.nonempty c.requires.window c.args.value x here_end last.2 (last.3 x here_end) values in
-    let list = standing items place (place + w.count) x (omega (arith, c.requires.window.in_range, first.2)) here one in
+    let list = standing_item_splits_list items place (place + w.count) x (omega (arith, c.requires.window.in_range, first.2)) here one in
     let frame = gave_way order lawful same equal (storage.is_good stored) (storage.rank stored) items r w place c.requires.stored c.known.ensures c.requires.window items c.args.value x place (place + w.count) None None (Some x.key.start) (Some x.key.end) (all_meet order lawful same equal (storage.is_good stored) (storage.rank stored) items r w place c.requires.stored c.known.ensures c.requires.window) (left_frame_inside order lawful same equal (storage.is_good stored) (storage.rank stored) items r w place c.requires.stored c.known.ensures c.requires.nonempty c.requires.window c.args.value x here first.2) (right_frame_inside order lawful same equal (storage.is_good stored) (storage.rank stored) items r w place c.requires.stored c.known.ensures c.requires.nonempty c.requires.window c.args.value x here_end last.2) (omega arith) refl refl values (λ e. absurd (omega (arith, c.requires.one, e))) list in
     edges_insert order lawful same equal (storage.is_good stored) (storage.rank stored) items r w place c.requires.stored c.known.ensures c.requires.nonempty c.requires.window items c.args.value x place (place + w.count) None None (Some x.key.start) (Some x.key.end) left right refl refl values frame list
 

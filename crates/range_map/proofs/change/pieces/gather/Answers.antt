@@ -12,7 +12,7 @@ use Rattle.range_map.specs.Ranges.{Overlap}
 use Rattle.range_map.proofs.Cutting.{IsFull}
 use Rattle.range_map.proofs.Forms.{stored_known, stored_chain, nonempty_good}
 use Rattle.range_map.proofs.Framing.{all_meet}
-use Rattle.range_map.proofs.Gathering.{underway_none, step, fails, fails_last, gathered, all_full, key_full, last_good, run_at, item_at, listed_at, taken}
+use Rattle.range_map.proofs.Gathering.{underway_none, asked_item_is_underway, gap_or_item_fails, fails_last, last_gap_asked_is_gathered, all_full, key_full, last_good, run_at, item_at, listed_at, take_one_more}
 use Rattle.range_map.proofs.change.pieces.gather.Goals as goal
 
 pub loop-met-init : goal.loop-met-init
@@ -140,7 +140,7 @@ returns-in_err-ask_item-clause-closure g c =
     let list = listed_at items (place + met) x within read in
     let before = option_copied c.key_at-before.result in
     let was = c.loop-met.invariant.underway lawful equal before c.key_at-before.ensures in
-    λ e failed. fails order lawful same equal g.F.Fn c.args.f.now items r c.known.ensures full chain some (take (place + met) items) (drop (place + met + 1) items) x list meets before c.loop-met.middle.items was e (c.ask_item.ensures.closure e (search rules))
+    λ e failed. gap_or_item_fails order lawful same equal g.F.Fn c.args.f.now items r c.known.ensures full chain some (take (place + met) items) (drop (place + met + 1) items) x list meets before c.loop-met.middle.items was e (c.ask_item.ensures.closure e (search rules))
 
 pub next-at-requires : goal.next-at-requires
 next-at-requires g c =
@@ -179,7 +179,7 @@ loop-met-preserved g c =
       underway = λ lawful' equal' key h.
           let was' = c.loop-met.invariant.underway lawful' equal' before c.key_at-before.ensures in
           let is = h x ∙ ap (λ y. Some y) (ap (λ (i : Item (AnyRange g.row.K.Denot) g.row.V.Denot). i.key) (sym c.get.ensures)) in
-          rw (is, taken items (place + met) (place + (met + 1)) x within read (omega arith)) (step order lawful' same equal' g.F.Fn c.args.f.now items r c.known.ensures (all_full order lawful' same equal' r items (stored_known order lawful' same equal' items c.requires.stored) (stored_chain order lawful' same equal' items c.requires.stored)) (stored_chain order lawful' same equal' items c.requires.stored) ((nonempty_good order lawful' r c.known.ensures).0 c.requires.nonempty) (take (place + met) items) (drop (place + met + 1) items) x list meets before c.loop-met.middle.items was' g.K.Clone.is_clone (bound_clone order lawful' g.K.Clone.is_clone equal_keys) c.ask_item.new.items.items c.in_ok-ask_item.ensures.ok);
+          rw (is, take_one_more items (place + met) (place + (met + 1)) x within read (omega arith)) (asked_item_is_underway order lawful' same equal' g.F.Fn c.args.f.now items r c.known.ensures (all_full order lawful' same equal' r items (stored_known order lawful' same equal' items c.requires.stored) (stored_chain order lawful' same equal' items c.requires.stored)) (stored_chain order lawful' same equal' items c.requires.stored) ((nonempty_good order lawful' r c.known.ensures).0 c.requires.nonempty) (take (place + met) items) (drop (place + met + 1) items) x list meets before c.loop-met.middle.items was' g.K.Clone.is_clone (bound_clone order lawful' g.K.Clone.is_clone equal_keys) c.ask_item.new.items.items c.in_ok-ask_item.ensures.ok);
     }
 
 pub key_at-requires : goal.key_at-requires
@@ -253,4 +253,4 @@ returns-clause-ok g c =
     let some = (nonempty_good order lawful r c.known.ensures).0 c.requires.nonempty in
     let before = option_copied c.key_at.result in
     let was = rw all at (c.loop-met.invariant.underway lawful equal before c.key_at.ensures) in
-    gathered order lawful same equal g.F.Fn c.args.f.now items r c.known.ensures full chain some (take (place + w.count) items) (drop (place + w.count) items) (parts items (place + w.count)) c.requires.window.behind before c.loop-met.middle.items was g.K.Clone.is_clone clones c.ask_gap.new.items.items c.in_ok-ask_gap.ensures.ok
+    last_gap_asked_is_gathered order lawful same equal g.F.Fn c.args.f.now items r c.known.ensures full chain some (take (place + w.count) items) (drop (place + w.count) items) (parts items (place + w.count)) c.requires.window.behind before c.loop-met.middle.items was g.K.Clone.is_clone clones c.ask_gap.new.items.items c.in_ok-ask_gap.ensures.ok

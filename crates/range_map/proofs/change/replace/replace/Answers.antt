@@ -16,8 +16,8 @@ use Rattle.range_map.proofs.change.replace.replace.Goals.{After-item_count-3}
 use Rattle.range_map.proofs.change.replace.replace.Goals as goal
 
 -- how the run is divided between the items that join and those that are cut
-plan : (g : Over) (c : After-item_count-3 g) → IsReplacement g.K.MaybeBounded.order g.met.K.PartialEnum.lawful g.V.PartialEq.eq g.met.V.Eq.laws (g.C.Storage.is_good c.args.stored.now) (g.C.Storage.rank c.args.stored.now) (g.C.Storage.items c.args.stored.now) c.args.range (place_before (g.C.Storage.rank c.args.stored.now) (length (g.C.Storage.items c.args.stored.now)) c.args.window.now.from) c.args.window.now.count c.args.middle.items c.args.first c.args.last c.joined_left-before.result c.joined_right-behind.result c.run_start-from.result
-plan g c =
+plan_is_replacement : (g : Over) (c : After-item_count-3 g) → IsReplacement g.K.MaybeBounded.order g.met.K.PartialEnum.lawful g.V.PartialEq.eq g.met.V.Eq.laws (g.C.Storage.is_good c.args.stored.now) (g.C.Storage.rank c.args.stored.now) (g.C.Storage.items c.args.stored.now) c.args.range (place_before (g.C.Storage.rank c.args.stored.now) (length (g.C.Storage.items c.args.stored.now)) c.args.window.now.from) c.args.window.now.count c.args.middle.items c.args.first c.args.last c.joined_left-before.result c.joined_right-behind.result c.run_start-from.result
+plan_is_replacement g c =
     let order = g.K.MaybeBounded.order in
     let lawful = g.met.K.PartialEnum.lawful in
     let equal_values = g.V.PartialEq.eq in
@@ -41,13 +41,13 @@ plan g c =
 pub overflow_add-count : goal.overflow_add-count
 overflow_add-count g c =
     let stored = c.args.stored.now in
-    let plan = plan g (goal.at.overflow_add-count g c).After-item_count-3 in
+    let plan = plan_is_replacement g (goal.at.overflow_add-count g c).After-item_count-3 in
     omega (arith, plan.upto, plan.within, g.met.C.Storage.length_fits stored, c.item_count.ensures, c.item_count-2.ensures, c.item_count-3.ensures)
 
 pub overflow_add-count-2 : goal.overflow_add-count-2
 overflow_add-count-2 g c =
     let stored = c.args.stored.now in
-    let plan = plan g (goal.at.overflow_add-count-2 g c).After-item_count-3 in
+    let plan = plan_is_replacement g (goal.at.overflow_add-count-2 g c).After-item_count-3 in
     omega (arith, plan.upto, plan.within, g.met.C.Storage.length_fits stored, c.item_count.ensures, c.item_count-2.ensures, c.item_count-3.ensures, c.item_count-4.ensures)
 
 pub change_to-requires-clause-left : goal.change_to-requires-clause-left
@@ -58,7 +58,7 @@ change_to-requires-clause-left g c =
     let r = c.args.range in
     let first = c.args.first in
     let joined = c.joined_left-before.result in
-    let plan = plan g (goal.at.change_to-requires-clause-left g c).After-item_count-3 in
+    let plan = plan_is_replacement g (goal.at.change_to-requires-clause-left g c).After-item_count-3 in
     let left = plan.left in
     let ready = c.reserve.new.self in
     let same = c.reserve.ensures.list in
@@ -75,7 +75,7 @@ change_to-requires-clause-right g c =
     let r = c.args.range in
     let last = c.args.last in
     let other = c.joined_right-behind.result in
-    let plan = plan g (goal.at.change_to-requires-clause-right g c).After-item_count-3 in
+    let plan = plan_is_replacement g (goal.at.change_to-requires-clause-right g c).After-item_count-3 in
     let right = plan.right in
     let ready = c.reserve.new.self in
     let same = c.reserve.ensures.list in
@@ -91,7 +91,7 @@ change_to-requires-clause-good g c =
     let items = storage.items stored in
     let joined = c.joined_left-before.result in
     let from = c.run_start-from.result in
-    let plan = plan g (goal.at.change_to-requires-clause-good g c).After-item_count-3 in
+    let plan = plan_is_replacement g (goal.at.change_to-requires-clause-good g c).After-item_count-3 in
     let left = plan.left in
     let ready = c.reserve.new.self in
     let kept = c.reserve.ensures.positions in
@@ -106,7 +106,7 @@ change_to-requires-clause-in_range g c =
     let w = c.args.window.now in
     let joined = c.joined_left-before.result in
     let from = c.run_start-from.result in
-    let plan = plan g (goal.at.change_to-requires-clause-in_range g c).After-item_count-3 in
+    let plan = plan_is_replacement g (goal.at.change_to-requires-clause-in_range g c).After-item_count-3 in
     let left = plan.left in
     let right = plan.right in
     let ready = c.reserve.new.self in
@@ -137,7 +137,7 @@ returns-clause-ok g c =
     let joined = c.joined_left-before.result in
     let other = c.joined_right-behind.result in
     let from = c.run_start-from.result in
-    let plan = plan g (goal.at.returns-clause-ok g c).After-item_count-3 in
+    let plan = plan_is_replacement g (goal.at.returns-clause-ok g c).After-item_count-3 in
     let left = plan.left in
     let right = plan.right in
     let ready = c.reserve.new.self in

@@ -4,7 +4,7 @@ use Rattle.range_algebra.specs.declared.any.AnyRange.{AnyRange}
 use Rattle.range_store.specs.declared.storage.Item.{Item}
 use Rattle.range_store.specs.Places.{place_before}
 use Rattle.range_map.specs.Window.{option_items}
-use Rattle.range_map.proofs.Openings.{kept_place, regrouped, regrouped_out}
+use Rattle.range_map.proofs.Openings.{kept_place, opening_regroups, regrouped_out}
 use Rattle.range_map.proofs.change.splice.change.Goals as goal
 
 pub replace_run-requires-clause-in_range : goal.replace_run-requires-clause-in_range
@@ -41,7 +41,7 @@ returns-in-Some g c = λ at end before behind start finish left_shape right_shap
     let ends : c.joined-in-Some.result ≡ unwrap_or finish c.in-Some.field-0.key.end = c.joined-in-Some.ensures ∙ (ap (λ o. unwrap_or o own.result.1) opened.end_is ∙ ap (unwrap_or finish) own.ensures.end) in
     let done = rw here at c.replace_run.ensures in
     let item : Item (AnyRange g.row.K.Denot) g.row.V.Denot = record { key = record { start = c.joined.result; end = c.joined-in-Some.result }; value = c.in-Some.field-0.value } in
-    rw (c.in-Some.is, ← starts, ← ends) (done ∙ (ap (λ ys. ys ++ item ∷ drop upto (storage.items ready)) opened.front ∙ (ap (λ ys. (take at items ++ option_items before) ++ item ∷ ys) opened.behind ∙ regrouped (take at items) (option_items before) (option_items behind) (drop end items) item)))
+    rw (c.in-Some.is, ← starts, ← ends) (done ∙ (ap (λ ys. ys ++ item ∷ drop upto (storage.items ready)) opened.front ∙ (ap (λ ys. (take at items ++ option_items before) ++ item ∷ ys) opened.behind ∙ opening_regroups (take at items) (option_items before) (option_items behind) (drop end items) item)))
 
 pub returns-in-None : goal.returns-in-None
 returns-in-None g c = λ at end before behind start finish left_shape right_shape le.

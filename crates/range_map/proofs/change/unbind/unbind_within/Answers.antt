@@ -7,7 +7,7 @@ use Rattle.range_map.specs.Window.{option_items}
 use Rattle.range_map.proofs.Framing.{cut_way}
 use Rattle.range_map.proofs.Lengths.{changed_length, le_of, le_sum, one_more}
 use Rattle.range_map.proofs.Planning.{left_part, right_part}
-use Rattle.range_map.proofs.Edging.{element, element_is, edges_remove, left_rest_cut, right_rest_cut}
+use Rattle.range_map.proofs.Edging.{element_at, element_at_is_read, edges_remove, left_rest_cut, right_rest_cut}
 use Rattle.range_map.proofs.change.unbind.unbind_within.Goals as goal
 
 pub returns : goal.returns
@@ -26,8 +26,8 @@ returns g c =
     let first = c.requires.first in
     let rank = storage.rank stored c.args.p in
     let within = g.met.C.Storage.good_is_in_range stored c.args.p first.0 in
-    let x = element items rank within in
-    let read : x ≡ get_or items rank x = element_is items rank within x in
+    let x = element_at items rank within in
+    let read : x ≡ get_or items rank x = element_at_is_read items rank within x in
     let here : x ≡ get_or items place x = read ∙ ap (λ n. get_or items n x) first.1 in
     let one : place + w.count ≡ place + 1 = ap (λ n. place + n) c.requires.one in
     let at_end : place ≡ place + w.count - 1 = omega (arith, one) in

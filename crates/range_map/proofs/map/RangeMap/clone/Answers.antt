@@ -1,6 +1,6 @@
 use Rattle.std.proofs.Common.{get_or, sym, ◌∙◌}
 use Rattle.std.specs.Cmp.{Equal-is}
-use Rattle.range_map.proofs.Copying.{copied, copy_stored, item_clone}
+use Rattle.range_map.proofs.Copying.{equal_items_are_copy, copy_stored, item_clone}
 use Rattle.range_map.proofs.map.RangeMap.clone.Goals as goal
 
 pub clone-requires : goal.clone-requires
@@ -13,14 +13,14 @@ pub invariant_of-result : goal.invariant_of-result
 invariant_of-result g c =
     let items = g.C.Storage.items c.self.inside.stored in
     let copy = g.C.Storage.items c.in_ok-stored.stored in
-    let equal = copied g.K.MaybeBounded.order g.met.K.PartialEnum.lawful g.V.PartialEq.eq g.met.V.Eq.laws items copy c.in_ok-stored.ensures in
+    let equal = equal_items_are_copy g.K.MaybeBounded.order g.met.K.PartialEnum.lawful g.V.PartialEq.eq g.met.V.Eq.laws items copy c.in_ok-stored.ensures in
     copy_stored g.K.MaybeBounded.order g.met.K.PartialEnum.lawful g.V.PartialEq.eq g.met.V.Eq.laws copy items equal c.known_items.ensures c.self.invariant
 
 pub returns-clause-equal : goal.returns-clause-equal
 returns-clause-equal g c =
     let items = g.C.Storage.items c.self.inside.stored in
     let copy = g.C.Storage.items c.in_ok-stored.stored in
-    rw (← c.self.view_is) (copied g.K.MaybeBounded.order g.met.K.PartialEnum.lawful g.V.PartialEq.eq g.met.V.Eq.laws items copy c.in_ok-stored.ensures)
+    rw (← c.self.view_is) (equal_items_are_copy g.K.MaybeBounded.order g.met.K.PartialEnum.lawful g.V.PartialEq.eq g.met.V.Eq.laws items copy c.in_ok-stored.ensures)
 
 pub returns-clause-form : goal.returns-clause-form
 returns-clause-form g c = invariant_of-result g c

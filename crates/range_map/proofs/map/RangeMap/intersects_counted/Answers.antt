@@ -2,7 +2,7 @@ use Rattle.std.proofs.Common.{◌<◌, length, ap, rules, arith}
 use Rattle.range_keys.specs.Position.{bound_of, start_position, end_position}
 use Rattle.range_algebra.specs.Range.{IsEmptyRange}
 use Rattle.range_map.specs.Lookups.{MeetsSome}
-use Rattle.range_map.proofs.Meeting.{binding_meets, meeting_binds, decides, none_decides}
+use Rattle.range_map.proofs.Meeting.{binding_meets, meeting_binds, first_not_before_decides, none_decides}
 use Rattle.range_map.proofs.map.RangeMap.intersects_counted.Goals as goal
 
 pub returns-in-None-clause-meets : goal.returns-in-None-clause-meets
@@ -36,7 +36,7 @@ returns-clause-meets g c =
     let place = storage.rank stored c.in-Some.p in
     let within : place < length items = g.met.C.Storage.good_is_in_range stored c.in-Some.p position.0 in
     let full : IsEmptyRange order (g.R.AsRange.range c.args.range) → ⊥ = λ h. let e = c.is_empty.ensures.by_position.1 h in let f = c.if-is_empty.false in cc in
-    rw (← c.self.view_is) (decides order lawful g.V.PartialEq.eq g.met.V.Eq.laws items (g.R.AsRange.range c.args.range) (start_position order (bound_of c.start.result)) (end_position order (bound_of c.end.result)) place c.get.result.now c.starts_past.result start end c.self.invariant full within c.get.ensures (rw c.in-Some.is at c.find-from.ensures.found.below) (rw c.in-Some.is at c.find-from.ensures.found.above) c.starts_past.ensures.past)
+    rw (← c.self.view_is) (first_not_before_decides order lawful g.V.PartialEq.eq g.met.V.Eq.laws items (g.R.AsRange.range c.args.range) (start_position order (bound_of c.start.result)) (end_position order (bound_of c.end.result)) place c.get.result.now c.starts_past.result start end c.self.invariant full within c.get.ensures (rw c.in-Some.is at c.find-from.ensures.found.below) (rw c.in-Some.is at c.find-from.ensures.found.above) c.starts_past.ensures.past)
 
 pub returns-clause-bound : goal.returns-clause-bound
 returns-clause-bound g c =
