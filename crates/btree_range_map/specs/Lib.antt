@@ -31,10 +31,7 @@ pub use Rattle.range_store.specs.Places
 pub use Rattle.range_map.specs.Answers
 pub use Rattle.range_map.specs.Askable
 pub use Rattle.range_map.specs.Bindings
-pub use Rattle.range_map.specs.Coarse
-pub use Rattle.range_map.specs.Copies
 pub use Rattle.range_map.specs.Costs
-pub use Rattle.range_map.specs.Depths
 pub use Rattle.range_map.specs.Frames
 pub use Rattle.range_map.specs.FreeRanges
 pub use Rattle.range_map.specs.Gaps
@@ -43,7 +40,6 @@ pub use Rattle.range_map.specs.ListOrder
 pub use Rattle.range_map.specs.Lookups
 pub use Rattle.range_map.specs.Neighbours
 pub use Rattle.range_map.specs.Pieces
-pub use Rattle.range_map.specs.Ranges
 pub use Rattle.range_map.specs.Rebinding
 pub use Rattle.range_map.specs.Replaced
 pub use Rattle.range_map.specs.Searches

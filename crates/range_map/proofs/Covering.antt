@@ -13,9 +13,8 @@ use Rattle.range_algebra.specs.Intervals.{Le, Lt, Any, Every}
 use Rattle.range_algebra.proofs.Lists.{list_is_take_and_drop, any_left, any_right, any_split}
 use Rattle.range_algebra.specs.Orders.{le_refl, lt_le, le_lt_trans, lt_not_le, cases, not_le}
 use Rattle.range_store.specs.declared.storage.Item.{Item}
-use Rattle.range_map.specs.ItemCuts.{item_lower, item_upper}
-use Rattle.range_map.specs.Lookups.{MeetsSome, MeetAlso}
-use Rattle.range_map.specs.Ranges.{Overlap}
+use Rattle.range_map.specs.Stored.{item_lower, item_upper}
+use Rattle.range_map.specs.Lookups.{MeetsSome, MeetAlso, Overlap}
 use Rattle.range_map.proofs.Forms.{places, nonempty_good, before_is, Known, Chained, Hold, respects_any}
 
 pub on_ok : {A E : Type 0} (P Q : Type 0) (r : Result A E) → (P → Q) → OnOk r P → OnOk r Q

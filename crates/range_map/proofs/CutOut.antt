@@ -15,8 +15,7 @@ use Rattle.range_map.proofs.Chains.{chain_above, chain_right, chain_before}
 use Rattle.range_map.proofs.ChainSides.{left_whole, left_cut, right_whole, right_cut}
 use Rattle.range_map.proofs.ChainJoins.{places_between_are_unbound}
 use Rattle.range_algebra.specs.Cuts.{lower, upper}
-use Rattle.range_map.specs.ItemCuts.{item_lower, item_upper}
-use Rattle.range_map.specs.Stored.{IsStored}
+use Rattle.range_map.specs.Stored.{item_lower, item_upper, IsStored}
 use Rattle.range_map.specs.Bindings.{IsUnboundAfter}
 use Rattle.range_map.specs.Window.{IsWindow, IsLeftPart, IsRightPart, option_items}
 use Rattle.range_map.specs.declared.change.window.Window.{Window}

@@ -4,7 +4,7 @@ use Rattle.std.specs.Prelude.{nat_lt}
 use Rattle.std.proofs.Math.Nat.{pow-suc}
 use Rattle.std.proofs.lemmas.Bool.Decides.{leb_tells}
 use Rattle.range_store.specs.declared.btree.node.TheConstants.{MIN_LEN}
-use Rattle.range_map.specs.Depths.{IsGreatestLevel, greatest_level, greatest_level_to}
+use Rattle.range_map.specs.Costs.{IsGreatestLevel, greatest_level, greatest_level_to}
 
 -- a power outgrows its exponent
 pow_more : (d : ℕ) → d + 1 ≤ (MIN_LEN + 1) ^ d

@@ -14,8 +14,7 @@ use Rattle.range_algebra.specs.Orders.{lt_le, le_trans}
 use Rattle.range_map.specs.Chains.{Leads, Trails}
 use Rattle.range_map.proofs.ChainJoins.{places_between_are_unbound, left_apart, left_joined, right_apart, right_joined, leading_last, trailing_first, places_between_are_bound}
 use Rattle.range_algebra.specs.Cuts.{past, lower, upper}
-use Rattle.range_map.specs.ItemCuts.{item_lower, item_upper}
-use Rattle.range_map.specs.Stored.{IsStored}
+use Rattle.range_map.specs.Stored.{item_lower, item_upper, IsStored}
 use Rattle.range_map.specs.Window.{IsWindow, IsLeftPart, IsRightPart, option_items}
 use Rattle.range_map.specs.declared.change.window.Window.{Window}
 use Rattle.range_map.proofs.Forms.{places, nonempty_good, Known, stored_known, stored_chain, chain_stored, unbound_after}
@@ -26,7 +25,7 @@ use Rattle.std.specs.Option.{unwrap_or}
 use Rattle.range_algebra.specs.Orders.{eq_le, eq_ge}
 use Rattle.range_algebra.specs.Relations.{Touches}
 use Rattle.range_map.specs.Changes.{IsInserted, IsRemoved}
-use Rattle.range_map.specs.Ranges.{Overlap}
+use Rattle.range_map.specs.Lookups.{Overlap}
 use Rattle.range_map.specs.Frames.{GaveWayTo, WasCutOut}
 use Rattle.range_map.proofs.Forms.{before_is}
 use Rattle.range_map.proofs.Windows.{every_both}

@@ -22,7 +22,7 @@ use Rattle.range_store.specs.declared.storage.Item.{Item}
 use Rattle.range_map.specs.Answers.{Answered}
 use Rattle.range_map.specs.Asking.{JoinsNoLast, IsPut}
 use Rattle.range_map.specs.Edits.{with_end}
-use Rattle.range_map.specs.ItemCuts.{item_lower, item_upper}
+use Rattle.range_map.specs.Stored.{item_lower, item_upper}
 use Rattle.range_map.proofs.CutParts.{same_past}
 use Rattle.range_map.proofs.Cutting.{PLe, PLt, Lo, Hi, any_end}
 use Rattle.range_map.proofs.Forms.{Known, Chained, Hold, touches_is}

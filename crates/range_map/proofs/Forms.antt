@@ -20,8 +20,7 @@ use Rattle.range_algebra.specs.Intervals.{Le, Lt, Every}
 use Rattle.range_algebra.specs.Orders.{eq_ge, le_trans, lt_not_le, cases, not_le, not_lt, both}
 use Rattle.range_map.specs.Chains.{IsChain, Has, Respects, IsBoundTo, IsUnbound}
 use Rattle.range_algebra.specs.Cuts.{past, lower, upper}
-use Rattle.range_map.specs.ItemCuts.{item_lower, item_upper}
-use Rattle.range_map.specs.Stored.{IsStored}
+use Rattle.range_map.specs.Stored.{item_lower, item_upper, IsStored}
 use Rattle.range_map.specs.Bindings.{IsBound, BindsTo, Binds, IsSomeOf, IsBoundAfter, IsUnboundAfter}
 use Rattle.range_map.proofs.Listed.{IsListed, stored_list_is_listed, stored_by, not_greater}
 use Rattle.range_algebra.proofs.Places.{reaching_is_before_past, inverted_bound_is_past, unbounded_end, held_between}

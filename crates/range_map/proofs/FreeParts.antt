@@ -27,7 +27,7 @@ use Rattle.range_store.specs.declared.storage.Item.{Item}
 use Rattle.range_map.specs.FreeRanges.{full_range, item_ranges, IsHeldOnce, AreGaps, between, free_from}
 use Rattle.range_map.specs.Neighbours.{BeforeFirst, EachNext}
 use Rattle.range_map.specs.Pieces.{LiesIn, IsFreePart, IsPiece}
-use Rattle.range_map.specs.Ranges.{Overlap}
+use Rattle.range_map.specs.Lookups.{Overlap}
 use Rattle.range_map.specs.Stored.{IsStored}
 use Rattle.range_map.proofs.Cutting.{every_with}
 use Rattle.range_map.proofs.Forms.{not_both, before_is}

@@ -25,7 +25,7 @@ use Rattle.range_store.specs.declared.storage.Item.{Item}
 use Rattle.range_map.specs.Answers.{piece_of, FailsAt, IsUpdated}
 use Rattle.range_map.specs.Frames.{IsMergedInto}
 use Rattle.range_map.specs.Pieces.{later, earlier, IsCommonPart, LiesIn, IsFreePart, IsPiece}
-use Rattle.range_map.specs.Ranges.{Overlap}
+use Rattle.range_map.specs.Lookups.{Overlap}
 use Rattle.range_map.proofs.Cutting.{PLe, any_over, later_over, earlier_under, either_choice_holds}
 use Rattle.range_map.proofs.Forms.{not_both}
 use Rattle.range_map.proofs.Merging.{way_follows}

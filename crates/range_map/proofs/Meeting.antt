@@ -23,10 +23,8 @@ use Rattle.range_algebra.proofs.Holding.{holds_by_position}
 use Rattle.range_algebra.proofs.Lists.{list_is_take_and_drop, any_none, any_split, every_weaker}
 use Rattle.range_store.specs.declared.storage.Item.{Item}
 use Rattle.range_map.specs.Bindings.{IsBound, BindsTo, Binds}
-use Rattle.range_map.specs.ItemCuts.{item_lower, item_upper}
-use Rattle.range_map.specs.Lookups.{MeetsSome, BindsKeyOf}
-use Rattle.range_map.specs.Ranges.{Overlap}
-use Rattle.range_map.specs.Stored.{IsStored}
+use Rattle.range_map.specs.Stored.{item_lower, item_upper, IsStored}
+use Rattle.range_map.specs.Lookups.{MeetsSome, BindsKeyOf, Overlap}
 use Rattle.range_map.proofs.Forms.{not_both, Chained, stored_chain}
 use Rattle.range_map.proofs.Listed.{not_greater}
 

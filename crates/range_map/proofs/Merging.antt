@@ -14,9 +14,8 @@ use Rattle.range_algebra.specs.declared.any.AnyRange.{AnyRange}
 use Rattle.range_algebra.proofs.Places.{reaching_is_before_past}
 use Rattle.range_store.specs.declared.storage.Item.{Item}
 use Rattle.range_map.specs.Frames.{IsMergedInto, StandOrMerge, RunGaveWay}
-use Rattle.range_map.specs.ItemCuts.{item_lower, item_upper}
-use Rattle.range_map.specs.Lookups.{IsConnectedTo}
-use Rattle.range_map.specs.Ranges.{Overlap}
+use Rattle.range_map.specs.Stored.{item_lower, item_upper}
+use Rattle.range_map.specs.Lookups.{IsConnectedTo, Overlap}
 use Rattle.range_map.proofs.Cutting.{every_with, IsFull}
 use Rattle.range_map.proofs.Forms.{places, Chained}
 use Rattle.range_map.proofs.Separating.{apart_not}

@@ -20,7 +20,7 @@ use Rattle.range_store.specs.declared.storage.Item.{Item}
 use Rattle.range_map.specs.Answers.{Answered, IsAsAnswered, MayAnswer, IsUpdated, piece_of}
 use Rattle.range_map.specs.Bindings.{Binds, BindsTo, IsBound}
 use Rattle.range_map.specs.Pieces.{IsPiece, IsCommonPart, later, earlier}
-use Rattle.range_map.specs.Ranges.{Overlap}
+use Rattle.range_map.specs.Lookups.{Overlap}
 use Rattle.range_map.specs.Rebinding.{IsRebound, AreRebound}
 
 module _ {K : Type 0} (order : KeyOrder K) (lawful : IsLawful order) (k : K) (key : order.is_key k) where

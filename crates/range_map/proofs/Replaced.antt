@@ -18,7 +18,7 @@ use Rattle.range_store.specs.declared.storage.Item.{Item}
 use Rattle.range_map.specs.declared.change.edges.Edge.{Edge}
 use Rattle.range_map.specs.Edits.{turned_bound}
 use Rattle.range_map.specs.Frames.{HasValue}
-use Rattle.range_map.specs.Ranges.{Overlap}
+use Rattle.range_map.specs.Lookups.{Overlap}
 use Rattle.range_map.specs.Replaced.{AreWithin, IsReplaced}
 use Rattle.range_map.specs.Seams.{seam_edge, with_first_start, with_last_end, IsLeftSeam, IsRightSeam}
 use Rattle.range_map.specs.Stored.{IsStored}

@@ -30,13 +30,12 @@ use Rattle.range_map.specs.declared.change.window.Window.{Window}
 use Rattle.range_map.specs.Edges.{IsLeftShape, IsRightShape, joined_count, edge_at, edge_start, edge_end, TouchesBefore, TouchesNoneBefore, TouchesAfter, TouchesNoneAfter}
 use Rattle.range_map.specs.Edits.{turned_bound, with_start}
 use Rattle.range_map.specs.Frames.{HasValue}
-use Rattle.range_map.specs.ItemCuts.{item_lower, item_upper}
+use Rattle.range_map.specs.Stored.{item_lower, item_upper, IsStored}
 use Rattle.range_map.specs.Pieces.{LiesIn}
 use Rattle.range_map.specs.Plans.{IsLeftPlan, IsRightPlan}
 use Rattle.range_map.specs.Reach.{ReachesBefore, ReachesAfter}
 use Rattle.range_map.specs.Replaced.{AreWithin}
 use Rattle.range_map.specs.Seams.{seam_edge, with_first_start, with_last_end, IsLeftCutting, IsRightCutting, IsLeftSeam, IsRightSeam}
-use Rattle.range_map.specs.Stored.{IsStored}
 use Rattle.range_map.specs.Window.{IsWindow, option_items}
 use Rattle.range_map.proofs.CutOut.{known_take, known_drop}
 use Rattle.range_map.proofs.CutParts.{ends_never}

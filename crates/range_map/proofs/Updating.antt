@@ -17,9 +17,8 @@ use Rattle.range_map.specs.Answers.{MayAnswer, Answered, IsAsAnswered, IsGivenBy
 use Rattle.range_map.specs.Bindings.{Binds, IsSomeOf}
 use Rattle.range_map.specs.Changes.{IsInserted, IsRemoved}
 use Rattle.range_map.specs.Frames.{StandOrMerge, IsMergedInto, GaveWay, HasValue, JoinsOrMeets, IsNewItem, IsPart, GaveWayTo, WasCutOut}
-use Rattle.range_map.specs.Lookups.{IsConnectedTo}
+use Rattle.range_map.specs.Lookups.{IsConnectedTo, Overlap}
 use Rattle.range_map.specs.Pieces.{later, earlier, IsCommonPart, IsPiece}
-use Rattle.range_map.specs.Ranges.{Overlap}
 use Rattle.range_map.specs.Replaced.{IsReplaced}
 use Rattle.range_map.proofs.Cutting.{PLe, PLt, Lo, Hi, IsFull, IsInside, IsRight, any_use, any_over, every_with, later_over, earlier_under, either_choice_holds, cut_none, cut_more, cut_all, a_piece}
 use Rattle.range_map.proofs.Extents.{end_le}

@@ -13,8 +13,7 @@ use Rattle.range_store.specs.Places.{place_before}
 use Rattle.range_algebra.specs.Intervals.{Le, Lt, Every}
 use Rattle.range_map.proofs.Chains.{chain_above, chain_right}
 use Rattle.range_algebra.specs.Cuts.{lower, upper}
-use Rattle.range_map.specs.ItemCuts.{item_lower, item_upper}
-use Rattle.range_map.specs.Stored.{IsStored}
+use Rattle.range_map.specs.Stored.{item_lower, item_upper, IsStored}
 use Rattle.range_map.specs.Window.{IsFound, IsWalk, IsWindow}
 use Rattle.range_algebra.proofs.Places.{reaching_is_before_past}
 use Rattle.range_map.proofs.Forms.{places, before_is, Known, Chained, stored_known, stored_chain}

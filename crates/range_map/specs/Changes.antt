@@ -5,8 +5,7 @@ use Rattle.range_algebra.specs.declared.any.AnyRange.{AnyRange}
 use Rattle.range_store.specs.declared.storage.Item.{Item}
 use Rattle.range_map.specs.Stored.{IsStored}
 use Rattle.range_algebra.specs.Intervals.{Every}
-use Rattle.range_map.specs.Ranges.{Overlap}
-use Rattle.range_map.specs.Lookups.{MeetAlso}
+use Rattle.range_map.specs.Lookups.{Overlap, MeetAlso}
 use Rattle.range_map.specs.Frames.{GaveWayTo, WasCutOut}
 use Rattle.range_map.specs.Bindings.{IsBoundAfter, IsUnboundAfter}
 

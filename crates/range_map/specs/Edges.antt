@@ -23,7 +23,7 @@ use Rattle.range_map.specs.declared.change.window.Window.{Window}
 use Rattle.range_algebra.specs.Intervals.{Every, Le}
 use Rattle.range_map.specs.Chains.{IsLeft, IsRight, IsLeftOf, IsRightOf}
 use Rattle.range_algebra.specs.Cuts.{past, lower, upper}
-use Rattle.range_map.specs.ItemCuts.{item_lower, item_upper}
+use Rattle.range_map.specs.Stored.{item_lower, item_upper}
 use Rattle.range_algebra.specs.Relations.{Touches}
 use Rattle.range_map.specs.Window.{option_items}
 

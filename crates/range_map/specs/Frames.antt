@@ -8,7 +8,7 @@ use Rattle.range_algebra.specs.declared.any.AnyRange.{AnyRange}
 use Rattle.range_store.specs.declared.storage.Item.{Item}
 use Rattle.range_map.specs.Edits.{turned_bound}
 use Rattle.range_algebra.specs.Relations.{Touches}
-use Rattle.range_map.specs.Ranges.{Overlap}
+use Rattle.range_map.specs.Lookups.{Overlap}
 
 -- a run of the list gave way to others, as the relation says, and all else stands as before
 pub record RunGaveWay {T : Type 0} (items new : List T) (AreSuch : List T → List T → Type 0) : Type 0 where

@@ -3,7 +3,7 @@ use Rattle.std.specs.Prelude.{◌≡◌, ℕ, ◌++◌, refl, Bool, IsTrue, List
 use Rattle.std.specs.declared.cmp.Ordering.{Ordering}
 use Rattle.std.specs.declared.cmp.Ordering.TheVariants.{Equal}
 use Rattle.std.specs.Hash.{slice, items_Alike}
-use Rattle.std.specs.List.{fold}
+use Rattle.std.specs.List.{fold, AllZip}
 use Rattle.std.specs.Ordering.{eq_by_cmp, on, then_cmp}
 use Rattle.std.specs.Cmp.{IsEquivalence, IsTotalOrder, on_equiv, and_equiv, on_total, then_total, eq_by_cmp_equiv, both_tied, first_so, second_so}
 use Rattle.std.specs.Cmp.Lexicographic.{pointwise, slice_cmp, lists_equiv, lists_total, lists_ties}
@@ -71,3 +71,8 @@ module _ {K : Type 0} (order : KeyOrder K) {V : Type 0} where
     -- equal lists are fed alike
     pub lists_fed : (items others : List (Item (AnyRange K) V)) → IsTrue (same_list same_value items others) → list_input key_input value_input items ≡ list_input key_input value_input others
     lists_fed = (items_Alike (record { fed = items_fed })).fed
+
+module _ {K : Type 0} (order : KeyOrder K) {V : Type 0} (same_value : V → V → Bool) where
+  -- equal ranges with equal values, in the same places
+  abbrev pub IsCopyOf : List (Item (AnyRange K) V) → List (Item (AnyRange K) V) → Type 0
+  IsCopyOf = AllZip (λ i j. (range_cmp order i.key j.key ≡ Equal) × IsTrue (same_value i.value j.value))

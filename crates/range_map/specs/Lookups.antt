@@ -6,8 +6,11 @@ use Rattle.range_algebra.specs.Range.{Holds, IsEmptyRange, IsKnownRange}
 use Rattle.range_algebra.specs.declared.any.AnyRange.{AnyRange}
 use Rattle.range_store.specs.declared.storage.Item.{Item}
 use Rattle.range_map.specs.Bindings.{IsBound}
-use Rattle.range_algebra.specs.Relations.{Touches}
-use Rattle.range_map.specs.Ranges.{Overlap}
+use Rattle.range_algebra.specs.Relations.{Touches, LiesBefore}
+
+-- neither lies before the other
+abbrev pub Overlap : {K : Type 0} → KeyOrder K → AnyRange K → AnyRange K → Type 0
+Overlap order r s = (¬ LiesBefore order r s) × (¬ LiesBefore order s r)
 
 module _ {K : Type 0} (order : KeyOrder K) where
   -- the ranges meet, or one starts where the other ends

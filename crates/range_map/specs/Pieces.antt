@@ -12,7 +12,7 @@ use Rattle.range_algebra.specs.declared.any.AnyRange.{AnyRange}
 use Rattle.range_store.specs.declared.storage.Item.{Item}
 use Rattle.range_map.specs.Neighbours.{EachNext}
 use Rattle.range_algebra.specs.Relations.{LiesBefore}
-use Rattle.range_map.specs.Ranges.{Overlap}
+use Rattle.range_map.specs.Lookups.{Overlap}
 
 module _ {K : Type 0} (order : KeyOrder K) where
   abbrev pub later : Position K → Position K → Position K

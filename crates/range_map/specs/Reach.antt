@@ -7,7 +7,7 @@ use Rattle.range_store.specs.declared.storage.Item.{Item}
 use Rattle.range_algebra.specs.Intervals.{Le, Lt}
 use Rattle.range_algebra.specs.Cuts.{lower, upper}
 use Rattle.range_store.specs.Places.{place_before}
-use Rattle.range_map.specs.ItemCuts.{item_lower, item_upper}
+use Rattle.range_map.specs.Stored.{item_lower, item_upper}
 use Rattle.range_map.specs.declared.change.window.Window.{Window}
 
 module _ {K : Type 0} (order : KeyOrder K) {V : Type 0} {P : Type 0} (is_good : P → Type 0) (rank : P → ℕ) (items : List (Item (AnyRange K) V)) (r : AnyRange K) (place count : ℕ) where

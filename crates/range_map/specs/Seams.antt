@@ -18,7 +18,7 @@ use Rattle.range_map.specs.declared.change.edges.Edge.TheVariants.{Joined}
 use Rattle.range_map.specs.Edges.{IsLeftRest, IsRightRest, IsLeftShape, IsRightShape, edge_at}
 use Rattle.range_map.specs.Edits.{turned_bound, with_start, with_end}
 use Rattle.range_map.specs.Frames.{HasValue}
-use Rattle.range_map.specs.ItemCuts.{item_lower, item_upper}
+use Rattle.range_map.specs.Stored.{item_lower, item_upper}
 use Rattle.range_map.specs.Plans.{IsLeftPlan, IsRightPlan}
 use Rattle.range_map.specs.Window.{option_items}
 use Rattle.range_map.specs.declared.change.window.Window.{Window}

@@ -1,4 +1,4 @@
--- The form in which a map keeps its list.
+-- The form in which a map keeps its list, and the places of a stored item.
 use Rattle.std.specs.Prelude.{Bool, IsTrue, List}
 use Rattle.std.specs.List.{AllByRecursion}
 use Rattle.range_keys.specs.Order.{KeyOrder}
@@ -7,6 +7,8 @@ use Rattle.range_algebra.specs.Compared.{range_ordering, is_before}
 use Rattle.range_algebra.specs.declared.any.AnyRange.{AnyRange}
 use Rattle.range_store.specs.declared.storage.Item.{Item}
 use Rattle.range_map.specs.Neighbours.{EachNext}
+use Rattle.range_keys.specs.declared.inner.position.Position.{Position}
+use Rattle.range_algebra.specs.Cuts.{lower, upper}
 
 module _ {K : Type 0} (order : KeyOrder K) {V : Type 0} (same_value : V → V → Bool) where
   -- the one lies before the other, and they touch only where their values differ
@@ -18,3 +20,12 @@ module _ {K : Type 0} (order : KeyOrder K) {V : Type 0} (same_value : V → V �
     pub known : AllByRecursion (λ i. IsKnownRange order i.key) items
     pub nonempty : AllByRecursion (λ i. ¬ IsEmptyRange order i.key) items
     pub rising : EachNext IsFollowedBy items
+
+module _ {K : Type 0} (order : KeyOrder K) where
+  -- the place at which its range starts
+  abbrev pub item_lower : {V : Type 0} → Item (AnyRange K) V → Position K
+  item_lower i = lower order i.key
+
+  -- the place past its range's end
+  abbrev pub item_upper : {V : Type 0} → Item (AnyRange K) V → Position K
+  item_upper i = upper order i.key

@@ -10,7 +10,7 @@ use Rattle.range_store.specs.declared.storage.Item.{Item}
 use Rattle.range_store.specs.Places.{IsAt, place_before}
 use Rattle.range_algebra.specs.Intervals.{Le, Lt, Every}
 use Rattle.range_algebra.specs.Cuts.{lower, upper}
-use Rattle.range_map.specs.ItemCuts.{item_lower, item_upper}
+use Rattle.range_map.specs.Stored.{item_lower, item_upper}
 use Rattle.range_map.specs.declared.change.window.Window.{Window}
 
 -- a good position just below the place, or none at the front

@@ -4,8 +4,7 @@ ghost use Rattle.std.specs.Option.{option_copied};
 ghost use Rattle.range_map.specs.Stored.{IsStored};
 ghost use Rattle.range_keys.specs.Order.{IsComplete};
 ghost use Rattle.range_store.specs.Counting.{AddsSteps};
-ghost use Rattle.range_map.specs.Bindings.{Binds, IsCoarse, IsStoredFor};
-ghost use Rattle.range_map.specs.Coarse.{IsOnlyCoarse, IsLeastCount};
+ghost use Rattle.range_map.specs.Bindings.{Binds, IsCoarse, IsStoredFor, IsOnlyCoarse, IsLeastCount};
 
 mod clone;
 mod compare;

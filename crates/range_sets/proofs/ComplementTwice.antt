@@ -17,7 +17,7 @@ use Rattle.range_store.specs.declared.storage.Item.{Item}
 use Rattle.range_map.specs.FreeRanges.{full_range, AreGaps, free_from}
 use Rattle.range_map.specs.ListOrder.{same_list}
 use Rattle.range_map.specs.Pieces.{LiesIn, IsFreePart, IsPiece}
-use Rattle.range_map.specs.Ranges.{Overlap}
+use Rattle.range_map.specs.Lookups.{Overlap}
 use Rattle.range_map.proofs.FreeParts.{IsFull, IsRow, gaps_are, stored_row}
 use Rattle.range_map.proofs.JustBefore.{ends_full}
 use Rattle.range_map.proofs.Listed.{stored_list_is_listed, not_greater}

@@ -11,9 +11,8 @@ use Rattle.range_store.specs.declared.btree.BoxStorage.{BoxStorage}
 use Rattle.range_store.specs.declared.btree.node.TheConstants.{CAPACITY}
 use Rattle.range_store.specs.declared.btree.searching.TheConstants.{HALVINGS}
 use Rattle.range_store.specs.declared.storage.Item.{Item}
-use Rattle.range_map.specs.Costs.{TakesAtLeast, TakesAsChange}
+use Rattle.range_map.specs.Costs.{TakesAtLeast, TakesAsChange, IsGreatestLevel}
 use Rattle.range_sets.specs.CountedRuns.{HasNoMemory, IsDone, ChangeTakes, LookupTakes, TakesFor, IsDue, IsRunOfDue, IsCountedRun}
-use Rattle.range_map.specs.Depths.{IsGreatestLevel}
 use Rattle.range_sets.specs.Runs.{IsStep, IsRun, HasNoUpdate}
 use Rattle.range_sets.specs.declared.command.Command.{Command}
 use Rattle.range_sets.specs.declared.command.Command.TheVariants.{Insert, InsertDisconnected, Remove, Update, Get, Contains, Intersects, Count}

@@ -17,7 +17,7 @@ use Rattle.range_algebra.proofs.Places.{reaching_is_before_past, inverted_bound_
 use Rattle.range_store.specs.declared.storage.Item.{Item}
 use Rattle.range_map.specs.FreeRanges.{between, free_from}
 use Rattle.range_map.specs.Pieces.{LiesIn}
-use Rattle.range_map.specs.Ranges.{Overlap}
+use Rattle.range_map.specs.Lookups.{Overlap}
 use Rattle.range_map.proofs.Forms.{before_is, nonempty_good, touches_is}
 use Rattle.range_map.proofs.FreeParts.{From, IsFull}
 use Rattle.range_map.proofs.JustBefore.{ends_before, ends_full}

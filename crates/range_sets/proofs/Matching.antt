@@ -17,7 +17,7 @@ use Rattle.range_algebra.specs.RangeOrder.{range_cmp}
 use Rattle.range_algebra.specs.Relations.{LiesBefore}
 use Rattle.range_map.specs.Neighbours.{EachNext}
 use Rattle.range_map.specs.Pieces.{LiesIn}
-use Rattle.range_map.specs.Ranges.{Overlap}
+use Rattle.range_map.specs.Lookups.{Overlap}
 use Rattle.range_map.proofs.FreeParts.{Pairs, IsFull}
 
 module _ {K : Type 0} (order : KeyOrder K) (lawful : IsLawful order) where

@@ -14,7 +14,7 @@ use Rattle.range_algebra.specs.declared.any.AnyRange.{AnyRange}
 use Rattle.range_store.specs.declared.storage.Item.{Item}
 use Rattle.range_map.specs.Answers.{Answered, IsAsAnswered, IsGivenBy, MayAnswer, IsUpdated}
 use Rattle.range_map.specs.Bindings.{IsBound, BindsTo, Binds}
-use Rattle.range_map.specs.Copies.{IsCopyOf}
+use Rattle.range_map.specs.ListOrder.{IsCopyOf}
 use Rattle.range_map.specs.Frames.{HasValue}
 use Rattle.range_map.specs.Rebinding.{AreRebound}
 use Rattle.range_sets.specs.Members.{HasNone, HaveSame, HasAlso, HasAllBut, among}

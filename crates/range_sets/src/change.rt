@@ -4,8 +4,7 @@ ghost use Rattle.range_algebra.specs.Range.{ClonesAreEqual, IsEmptyRange};
 ghost use Rattle.range_algebra.specs.Intervals.{Every};
 ghost use Rattle.range_map.specs.Costs.{TakesAtLeast, TakesAsChange};
 ghost use Rattle.range_map.specs.Frames.{GaveWayTo, WasCutOut};
-ghost use Rattle.range_map.specs.Lookups.{MeetAlso};
-ghost use Rattle.range_map.specs.Ranges.{Overlap};
+ghost use Rattle.range_map.specs.Lookups.{MeetAlso, Overlap};
 ghost use Rattle.range_sets.specs.KeySets.{HoldsAlso, HoldsWithout, IsStoredSet};
 
 use crate::set::RangeSet;

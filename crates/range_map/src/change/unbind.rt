@@ -6,7 +6,7 @@ ghost use Rattle.range_map.specs.Stored.{IsStored};
 ghost use Rattle.range_map.specs.Window.{option_items, IsWindowOf};
 ghost use Rattle.range_map.specs.Reach.{IsFirstReaching, IsLastReaching};
 ghost use Rattle.range_algebra.specs.Intervals.{Every};
-ghost use Rattle.range_map.specs.Ranges.{Overlap};
+ghost use Rattle.range_map.specs.Lookups.{Overlap};
 ghost use Rattle.range_map.specs.Costs.{TakesAtLeast, TakesAsChange};
 ghost use Rattle.range_map.specs.Changes.{IsRemoved};
 

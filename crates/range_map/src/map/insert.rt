@@ -5,8 +5,7 @@ ghost use Rattle.range_algebra.specs.Range.{ClonesAreEqual, IsEmptyRange};
 ghost use Rattle.range_map.specs.Stored.{IsStored};
 ghost use Rattle.range_map.specs.Costs.{TakesAtLeast, TakesAsChange};
 ghost use Rattle.range_map.specs.Frames.{GaveWayTo};
-ghost use Rattle.range_map.specs.Bindings.{IsBoundAfter, IsCoarse};
-ghost use Rattle.range_map.specs.Coarse.{IsOnlyCoarse};
+ghost use Rattle.range_map.specs.Bindings.{IsBoundAfter, IsCoarse, IsOnlyCoarse};
 ghost use Rattle.range_map.specs.Lookups.{MeetAlso};
 
 use crate::change::bind::{bind, bind_in_order};

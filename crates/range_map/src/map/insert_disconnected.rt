@@ -4,8 +4,7 @@ ghost use Rattle.range_store.specs.Places.{place_before};
 ghost use Rattle.range_keys.specs.Order.{IsComplete};
 ghost use Rattle.range_algebra.specs.Range.{IsEmptyRange};
 ghost use Rattle.range_map.specs.Stored.{IsStored};
-ghost use Rattle.range_map.specs.Bindings.{IsBoundAfter, IsCoarse};
-ghost use Rattle.range_map.specs.Coarse.{IsOnlyCoarse};
+ghost use Rattle.range_map.specs.Bindings.{IsBoundAfter, IsCoarse, IsOnlyCoarse};
 ghost use Rattle.range_map.specs.Lookups.{IsConnectedToSome, IsPutInto, MeetAlso};
 ghost use Rattle.range_map.specs.Gaps.{IsGap, IsConnectedError, handed_back};
 

@@ -4,11 +4,10 @@ ghost use Rattle.range_keys.specs.Order.{IsComplete};
 ghost use Rattle.range_algebra.specs.Range.{ClonesAreEqual, IsEmptyRange};
 ghost use Rattle.range_map.specs.Stored.{IsStored};
 ghost use Rattle.range_algebra.specs.Intervals.{Every};
-ghost use Rattle.range_map.specs.Ranges.{Overlap};
+ghost use Rattle.range_map.specs.Lookups.{Overlap};
 ghost use Rattle.range_map.specs.Costs.{TakesAtLeast, TakesAsChange};
 ghost use Rattle.range_map.specs.Frames.{WasCutOut};
-ghost use Rattle.range_map.specs.Bindings.{IsUnboundAfter, IsCoarse};
-ghost use Rattle.range_map.specs.Coarse.{IsOnlyCoarse};
+ghost use Rattle.range_map.specs.Bindings.{IsUnboundAfter, IsCoarse, IsOnlyCoarse};
 
 use crate::change::unbind::unbind;
 use crate::error::MapError;

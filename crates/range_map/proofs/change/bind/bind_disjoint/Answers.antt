@@ -1,6 +1,6 @@
 use Rattle.std.proofs.Common.{◌≡◌, refl, ◌<◌, length, arith, rules}
 use Rattle.range_algebra.proofs.Lists.{any_none}
-use Rattle.range_map.specs.Ranges.{Overlap}
+use Rattle.range_map.specs.Lookups.{Overlap}
 use Rattle.range_store.specs.Places.{place_before}
 use Rattle.range_map.proofs.Framing.{meets_some, none_meets}
 use Rattle.range_map.proofs.change.bind.bind_disjoint.Goals as goal

@@ -8,7 +8,7 @@ use Rattle.range_algebra.specs.declared.any.AnyRange.{AnyRange}
 use Rattle.range_store.specs.declared.storage.Item.{Item}
 use Rattle.range_store.specs.Places.{place_before}
 use Rattle.range_map.specs.Answers.{MayBeAsked}
-use Rattle.range_map.specs.Ranges.{Overlap}
+use Rattle.range_map.specs.Lookups.{Overlap}
 use Rattle.range_map.proofs.Cutting.{IsFull}
 use Rattle.range_map.proofs.Forms.{stored_known, stored_chain, nonempty_good}
 use Rattle.range_map.proofs.Framing.{all_meet}

@@ -7,7 +7,7 @@ use Rattle.range_algebra.specs.Cuts.{upper}
 use Rattle.range_algebra.specs.Intervals.{Le}
 use Rattle.range_algebra.specs.Orders.{not_lt}
 use Rattle.range_store.specs.Places.{place_before}
-use Rattle.range_map.specs.ItemCuts.{item_upper}
+use Rattle.range_map.specs.Stored.{item_upper}
 use Rattle.range_map.proofs.change.reach.reaching_after.Goals as goal
 
 pub returns-else-ends_after-clause-reaching : goal.returns-else-ends_after-clause-reaching

@@ -7,7 +7,7 @@ use Rattle.range_algebra.specs.Cuts.{lower}
 use Rattle.range_algebra.specs.Intervals.{Le}
 use Rattle.range_algebra.specs.Orders.{not_lt}
 use Rattle.range_store.specs.Places.{place_before}
-use Rattle.range_map.specs.ItemCuts.{item_lower}
+use Rattle.range_map.specs.Stored.{item_lower}
 use Rattle.range_map.proofs.change.reach.reaching_before.Goals as goal
 
 pub returns-then-starts_before-clause-reaching : goal.returns-then-starts_before-clause-reaching

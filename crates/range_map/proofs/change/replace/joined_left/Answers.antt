@@ -8,7 +8,7 @@ use Rattle.range_algebra.specs.Orders.{both, not_lt}
 use Rattle.range_algebra.specs.declared.any.AnyRange.{AnyRange}
 use Rattle.range_store.specs.declared.storage.Item.{Item}
 use Rattle.range_store.specs.Places.{place_before, IsAt}
-use Rattle.range_map.specs.ItemCuts.{item_lower}
+use Rattle.range_map.specs.Stored.{item_lower}
 use Rattle.range_map.proofs.Forms.{places}
 use Rattle.range_map.proofs.Planning.{left_plan_inside, left_plan_cut}
 use Rattle.range_map.proofs.Seaming.{got_only, got_none, left_cut_out, left_touched}

@@ -8,7 +8,7 @@ use Rattle.range_algebra.specs.Orders.{both, not_lt}
 use Rattle.range_algebra.specs.declared.any.AnyRange.{AnyRange}
 use Rattle.range_store.specs.declared.storage.Item.{Item}
 use Rattle.range_store.specs.Places.{place_before}
-use Rattle.range_map.specs.ItemCuts.{item_upper}
+use Rattle.range_map.specs.Stored.{item_upper}
 use Rattle.range_map.proofs.Forms.{places}
 use Rattle.range_map.proofs.Planning.{right_plan_inside, right_plan_cut}
 use Rattle.range_map.proofs.Seaming.{got_only, got_none, within_end, right_cut_any, right_touched}
