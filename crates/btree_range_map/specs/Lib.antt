@@ -34,7 +34,7 @@ pub use Rattle.range_map.specs.Bindings
 pub use Rattle.range_map.specs.Costs
 pub use Rattle.range_map.specs.Frames
 pub use Rattle.range_map.specs.FreeRanges
-pub use Rattle.range_map.specs.Gaps
+pub use Rattle.range_map.specs.Apart
 pub use Rattle.range_map.specs.Iterating
 pub use Rattle.range_map.specs.ListOrder
 pub use Rattle.range_map.specs.Lookups

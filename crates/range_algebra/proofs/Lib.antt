@@ -1,8 +1,8 @@
 pub mod Canonical
 pub mod Commons
 pub mod Completeness
+pub mod Distances
 pub mod Ends
-pub mod Gaps
 pub mod Holding
 pub mod Joined
 pub mod Lists

@@ -22,7 +22,7 @@ use Rattle.range_algebra.specs.Range.{Holds, IsKnownBound, IsKnownRange, IsEmpty
 use Rattle.range_algebra.specs.Relations.{LiesBefore}
 use Rattle.range_algebra.specs.Measures.{told_bound, measure_between, measure_sum, range_measure, list_measure, AreInOrder}
 use Rattle.range_algebra.specs.Numbers.{IsNumberOfKeys}
-use Rattle.range_algebra.proofs.Gaps.{IsPlace, gap, gap_adds, gap_fits}
+use Rattle.range_algebra.proofs.Distances.{IsPlace, gap, gap_adds, gap_fits}
 use Rattle.range_algebra.proofs.Holding.{holds_by_position}
 use Rattle.range_algebra.proofs.Measuring.{included_included, included_excluded, excluded_included, excluded_excluded, told_start, told_end, known_start, known_end, reach_full, told_reach, full_measure, measure_is_number}
 use Rattle.range_algebra.proofs.Numbers.{number_none, number_both}

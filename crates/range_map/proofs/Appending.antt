@@ -14,7 +14,7 @@ use Rattle.range_algebra.proofs.Lists.{drop_all}
 use Rattle.range_store.specs.declared.storage.Item.{Item}
 use Rattle.range_map.specs.Changes.{IsInserted}
 use Rattle.range_map.specs.Frames.{GaveWayTo}
-use Rattle.range_map.specs.Gaps.{AllEndBefore}
+use Rattle.range_map.specs.Apart.{AllEndBefore}
 use Rattle.range_map.specs.Lookups.{MeetsSome}
 use Rattle.range_map.specs.Stored.{IsStored}
 use Rattle.range_map.proofs.Covering.{meets_put}

@@ -1,5 +1,5 @@
-pub mod Appending
 pub mod Adding
+pub mod Appending
 pub mod ChainJoins
 pub mod ChainSides
 pub mod Chains
@@ -8,8 +8,8 @@ pub mod Copying
 pub mod Covering
 pub mod CutOut
 pub mod CutParts
-pub mod Depths
 pub mod Cutting
+pub mod Depths
 pub mod Edging
 pub mod Endings
 pub mod Extents

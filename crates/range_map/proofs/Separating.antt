@@ -24,7 +24,7 @@ use Rattle.range_store.proofs.PlacesLemmas.{kept_at, place_at}
 use Rattle.range_store.specs.Places.{IsAt, place_before}
 use Rattle.range_store.specs.declared.storage.Item.{Item}
 use Rattle.range_map.specs.Bindings.{IsBoundAfter}
-use Rattle.range_map.specs.Gaps.{IsAnswerAt, IsGap, LiesApart}
+use Rattle.range_map.specs.Apart.{IsAnswerAt, IsGap, LiesApart}
 use Rattle.range_map.specs.Stored.{item_lower, item_upper, IsStored}
 use Rattle.range_map.specs.Lookups.{IsConnectedTo, IsConnectedToSome, Overlap}
 use Rattle.range_algebra.specs.Relations.{LiesBefore, Touches}

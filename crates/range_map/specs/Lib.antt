@@ -1,4 +1,5 @@
 pub mod Answers
+pub mod Apart
 pub mod Askable
 pub mod Asking
 pub mod Bindings
@@ -9,7 +10,6 @@ pub mod Edges
 pub mod Edits
 pub mod Frames
 pub mod FreeRanges
-pub mod Gaps
 pub mod Iterating
 pub mod ListOrder
 pub mod Lookups

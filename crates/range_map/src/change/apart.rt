@@ -3,7 +3,7 @@ ghost use Rattle.std.specs.Prelude.{◌≡◌, ◌↔◌, ◌+◌, ◌≤◌, le
 ghost use Rattle.std.specs.Option.{ForSome};
 ghost use Rattle.range_algebra.specs.Range.{IsEmptyRange};
 ghost use Rattle.range_map.specs.Stored.{IsStored};
-ghost use Rattle.range_map.specs.Gaps.{IsAnswerAt, LiesApart, AllEndBefore};
+ghost use Rattle.range_map.specs.Apart.{IsAnswerAt, LiesApart, AllEndBefore};
 ghost use Rattle.range_map.specs.Lookups.{MeetsSome};
 ghost use Rattle.range_map.specs.Changes.{IsInserted};
 
