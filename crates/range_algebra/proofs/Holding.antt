@@ -13,7 +13,7 @@ use Rattle.range_keys.specs.PositionOrder.{position_total}
 use Rattle.range_algebra.specs.Range.{StartHolds, EndHolds, Holds, IsKeyless, IsEmptyRange, LiesWithin}
 use Rattle.range_keys.specs.declared.inner.position.Position.TheVariants.{MinusInfinity, Beside, PlusInfinity}
 use Rattle.range_keys.specs.declared.inner.position.Side.TheVariants.{Before, At, After}
-use Rattle.range_keys.proofs.Orderings.{any_then_equal, not_greater_unless_greater}
+use Rattle.range_keys.proofs.Orderings.{any_then_equal, not_greater_unless_greater, lt_is_less}
 use Rattle.range_algebra.specs.Orders.{lt_not_le}
 use Rattle.range_algebra.specs.declared.any.AnyRange.{AnyRange}
 
@@ -102,19 +102,14 @@ module _ {K : Type 0} (order : KeyOrder K) (partial_cmp : K → K → Option Ord
   le_is Equal = (λ _. refl, λ _. refl)
   le_is Greater = (λ e. cc, λ e. cc)
 
-  lt_is : (o : Ordering) → is_lt o ≡ true ↔ o ≡ Less
-  lt_is Less = (λ _. refl, λ _. refl)
-  lt_is Equal = (λ e. cc, λ e. cc)
-  lt_is Greater = (λ e. cc, λ e. cc)
-
   from_start : (b : Bound K) (k : K) → is_from_start partial_cmp b k ≡ true ↔ StartHolds order b k
   from_start (Included a) k = rw (agrees a k) (le_is (order.cmp a k))
-  from_start (Excluded a) k = rw (agrees a k) (lt_is (order.cmp a k))
+  from_start (Excluded a) k = rw (agrees a k) (lt_is_less (order.cmp a k))
   from_start Unbounded k = (λ _. tt, λ _. refl)
 
   up_to_end : (b : Bound K) (k : K) → is_up_to_end partial_cmp b k ≡ true ↔ EndHolds order b k
   up_to_end (Included b) k = rw (agrees k b) (le_is (order.cmp k b))
-  up_to_end (Excluded b) k = rw (agrees k b) (lt_is (order.cmp k b))
+  up_to_end (Excluded b) k = rw (agrees k b) (lt_is_less (order.cmp k b))
   up_to_end Unbounded k = (λ _. tt, λ _. refl)
 
   both_true : (a b : Bool) → (a && b) ≡ true ↔ (a ≡ true) × (b ≡ true)

@@ -1,6 +1,6 @@
 -- Lists by parts and by index, and what some or each of their items is.
 use Rattle.std.proofs.Common.{◌≡◌, ℕ, zero, suc, ◌+◌, ◌<◌, ◌≤◌, List, [], ◌∷◌, ◌++◌, length, take, drop, get_or, ◌⊎◌, inl, inr, refl, ap, sym, ◌∙◌, arith, length-drop, take-append-drop}
-use Rattle.std.specs.List.{AllWithin}
+use Rattle.std.specs.List.{AllWithin, AllByRecursion}
 use Rattle.std.proofs.lemmas.List.{get_or-drop, get_or-take, drop_more, length-take-le}
 use Rattle.range_algebra.specs.Intervals.{Any, Every}
 
@@ -38,6 +38,11 @@ every_left P (x ∷ xs) ys h = (h.0, every_left P xs ys h.1)
 pub every_right : {X : Type 0} (P : X → Type 0) (xs ys : List X) → Every P (xs ++ ys) → Every P ys
 every_right P [] ys h = h
 every_right P (x ∷ xs) ys h = every_right P xs ys h.1
+
+-- what holds of all and of one more
+pub all_more : {X : Type 0} (P : X → Type 0) (xs : List X) (x : X) → AllByRecursion P xs → P x → AllByRecursion P (xs ++ x ∷ [])
+all_more P [] x h p = (p, tt)
+all_more P (y ∷ xs) x h p = (h.0, all_more P xs x h.1 p)
 
 pub every_all : {X : Type 0} (P : X → Type 0) (xs : List X) → ((k : ℕ) (d : X) → k < length xs → P (get_or xs k d)) → Every P xs
 every_all P [] h = tt

@@ -14,7 +14,7 @@ use Rattle.range_keys.specs.PositionOrder.{position_total}
 use Rattle.range_keys.specs.declared.inner.position.Position.{Position}
 use Rattle.range_keys.specs.declared.inner.position.Position.TheVariants.{Beside}
 use Rattle.range_keys.specs.declared.inner.position.Side.TheVariants.{Before, At, After}
-use Rattle.range_keys.proofs.Orderings.{any_then_equal, equal_then_any, not_greater}
+use Rattle.range_keys.proofs.Orderings.{any_then_equal, equal_then_any, not_greater, less_unless_equal}
 use Rattle.range_algebra.specs.declared.any.AnyRange.{AnyRange}
 use Rattle.range_algebra.specs.Intervals.{Le, Lt}
 use Rattle.range_algebra.specs.Orders.{lt_le_trans, le_lt_trans, lt_trans}
@@ -46,10 +46,6 @@ module _ {K : Type 0} (order : KeyOrder K) (lawful : IsLawful order) where
   unfolding PLe
   places_order_keys a b h = sym (ap is_gt (any_then_equal (order.cmp a b))) ∙ h
 
-  lower_place_is_lower_key : (a b : K) → PLt (Beside a At) (Beside b At) → Below order a b
-  unfolding PLt
-  lower_place_is_lower_key a b h = sym (any_then_equal (order.cmp a b)) ∙ h
-
   equal_bounds_reach : (s e s' e' : Bound K) → s ≡ s' → e ≡ e' → Le (position_cmp order.cmp) (start_position order s) (end_position order e) → PLe (start_position order s') (end_position order e')
   unfolding PLe
   equal_bounds_reach s e s' e' p q h = (λ i. is_gt (position_cmp order.cmp (start_position order (sym p i)) (end_position order (sym q i)))) ∙ h
@@ -64,14 +60,14 @@ module _ {K : Type 0} (order : KeyOrder K) (lawful : IsLawful order) where
   included_excluded s e a b p q h =
       let total = position_total order.cmp lawful.total in
       let h' : Le (position_cmp order.cmp) (Beside a At) (end_position order (Excluded b)) = equal_bounds_reach s e (Included a) (Excluded b) p q h in
-      lower_place_is_lower_key a b (le_lt_trans (position_cmp order.cmp) total (Beside a At) (end_position order (Excluded b)) (Beside b At) h' (end_before b (order.pred b) refl))
+      less_unless_equal (order.cmp a b) (le_lt_trans (position_cmp order.cmp) total (Beside a At) (end_position order (Excluded b)) (Beside b At) h' (end_before b (order.pred b) refl))
 
   pub excluded_included : (s e : Bound K) (a b : K) → s ≡ Excluded a → e ≡ Included b → Le (position_cmp order.cmp) (start_position order s) (end_position order e) → Below order a b
   unfolding PLe PLt
   excluded_included s e a b p q h =
       let total = position_total order.cmp lawful.total in
       let h' : Le (position_cmp order.cmp) (start_position order (Excluded a)) (Beside b At) = equal_bounds_reach s e (Excluded a) (Included b) p q h in
-      lower_place_is_lower_key a b (lt_le_trans (position_cmp order.cmp) total (Beside a At) (start_position order (Excluded a)) (Beside b At) (start_after a (order.succ a) refl) h')
+      less_unless_equal (order.cmp a b) (lt_le_trans (position_cmp order.cmp) total (Beside a At) (start_position order (Excluded a)) (Beside b At) (start_after a (order.succ a) refl) h')
 
   pub excluded_excluded : (s e : Bound K) (a b : K) → s ≡ Excluded a → e ≡ Excluded b → Le (position_cmp order.cmp) (start_position order s) (end_position order e) → Below order a b
   unfolding PLe PLt
@@ -79,7 +75,7 @@ module _ {K : Type 0} (order : KeyOrder K) (lawful : IsLawful order) where
       let total = position_total order.cmp lawful.total in
       let h' : Le (position_cmp order.cmp) (start_position order (Excluded a)) (end_position order (Excluded b)) = equal_bounds_reach s e (Excluded a) (Excluded b) p q h in
       let low = lt_le_trans (position_cmp order.cmp) total (Beside a At) (start_position order (Excluded a)) (end_position order (Excluded b)) (start_after a (order.succ a) refl) h' in
-      lower_place_is_lower_key a b (lt_trans (position_cmp order.cmp) total (Beside a At) (end_position order (Excluded b)) (Beside b At) low (end_before b (order.pred b) refl))
+      less_unless_equal (order.cmp a b) (lt_trans (position_cmp order.cmp) total (Beside a At) (end_position order (Excluded b)) (Beside b At) low (end_before b (order.pred b) refl))
 
   -- a told end stands where the unbounded bound does
   told_start_by : (o : Option K) → order.least ≡ o → (s : Bound K) → start_position order (told_bound o s) ≡ start_position order s

@@ -3,8 +3,8 @@ use Rattle.std.proofs.Common.{◌≡◌, refl, ◌↔◌, true, false, Bool, Opt
 use Rattle.std.specs.declared.ops.Bound.{Bound}
 use Rattle.std.specs.declared.ops.Bound.TheVariants.{Included, Excluded, Unbounded}
 use Rattle.range_keys.specs.Order.{KeyOrder, IsLawful, Below, NotAbove}
-use Rattle.range_keys.specs.Position.{start_position, end_position}
-use Rattle.range_keys.proofs.Orderings.{gt_is_greater}
+use Rattle.range_keys.specs.Position.{start_position, end_position, position_cmp}
+use Rattle.range_keys.proofs.Orderings.{gt_is_greater, greater_or_not}
 use Rattle.range_algebra.specs.declared.any.AnyRange.{AnyRange}
 use Rattle.range_algebra.specs.declared.range.parts.Difference.TheVariants.{Before, Empty}
 use Rattle.range_algebra.specs.Orders.{le_trans, lt_not_le, cases, not_le, not_lt, lt_le_trans, le_lt_trans}
@@ -14,6 +14,10 @@ use Rattle.range_algebra.specs.Combined.{later_start, earlier_end}
 use Rattle.range_algebra.specs.Parts.{is_empty_range, unless_empty, part_to, part_from, part_before, part_after, pieces, difference, DifferenceHolds, LieRound, RangeHolds}
 use Rattle.range_algebra.proofs.Holding.{empty_is_keyless}
 use Rattle.range_algebra.proofs.Commons.{places, start_both, end_both}
+
+-- whether a range is empty is decided
+pub empty_or_not : {K : Type 0} (order : KeyOrder K) (r : AnyRange K) → IsEmptyRange order r ⊎ (¬ IsEmptyRange order r)
+empty_or_not order r = greater_or_not (position_cmp order.cmp (start_position order r.start) (end_position order r.end))
 
 module _ {K : Type 0} (order : KeyOrder K) (lawful : IsLawful order) where
   -- whether a bound holds a key is decided

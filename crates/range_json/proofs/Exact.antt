@@ -2,16 +2,16 @@
 use Rattle.std.proofs.Common.{◌≡◌, refl, sym, ap, subst, ◌∙◌, inl, inr, List, [], ◌∷◌, ◌++◌, Bool, Option, Some, None}
 use Rattle.std.specs.Cmp.{alike_right}
 use Rattle.std.specs.List.{AllZip}
-use Rattle.std.specs.Ordering.{ordering_then}
-use Rattle.std.specs.declared.cmp.Ordering.{Ordering}
-use Rattle.std.specs.declared.cmp.Ordering.TheVariants.{Less, Equal, Greater}
+use Rattle.std.specs.declared.cmp.Ordering.TheVariants.{Equal}
 use Rattle.std.specs.declared.ops.Bound.{Bound}
 use Rattle.std.specs.declared.ops.Bound.TheVariants.{Included, Excluded, Unbounded}
+use Rattle.std.proofs.lemmas.Option.{same_Some, none-some}
 use Rattle.serde_json.specs.Data.{Data}
 use Rattle.range_keys.specs.Order.{KeyOrder, IsLawful}
 use Rattle.range_keys.specs.Position.{start_position, end_position, position_cmp}
 use Rattle.range_keys.specs.PositionOrder.{position_total}
 use Rattle.range_keys.specs.declared.inner.position.Position.{Position}
+use Rattle.range_keys.proofs.Orderings.{both_equal}
 use Rattle.range_algebra.specs.declared.any.AnyRange.{AnyRange}
 use Rattle.range_algebra.proofs.Lists.{any_right}
 use Rattle.range_algebra.specs.Clones.{IsBoundClone, range_clone}
@@ -26,17 +26,6 @@ use Rattle.range_json.proofs.Reading.{fault_first}
 -- keys that are read of one JSON value are equal
 abbrev pub HasOneReading : {K : Type 0} → KeyOrder K → (Data → K → Type 0) → Type 0
 HasOneReading {K} order key_is_read = (d : Data) (x y : K) → key_is_read d x → key_is_read d y → order.cmp x y ≡ Equal
-
-some_is : {X : Type 0} (x y : X) → Some x ≡ Some y → x ≡ y
-some_is x y e = cc
-
-some_none : {X : Type 0} (f : X) → None ≡ Some f → ⊥
-some_none f e = cc
-
-both_parts : (o p : Ordering) → ordering_then o p ≡ Equal → (o ≡ Equal) × (p ≡ Equal)
-both_parts Less p h = cc
-both_parts Equal p h = (refl, h)
-both_parts Greater p h = cc
 
 -- the place of an element among those that are read
 record IsReadAt {X : Type 0} (R : Data → X → Type 0) (front : List Data) (d : Data) (elements : List X) : Type 0 where
@@ -62,10 +51,10 @@ module _ {K : Type 0} (order : KeyOrder K) (lawful : IsLawful order) where
       total.congr p q r e ∙ alike_right total r s q f
 
   starts_same : (r s : AnyRange K) → range_cmp order r s ≡ Equal → position_cmp order.cmp (start_position order r.start) (start_position order s.start) ≡ Equal
-  starts_same r s e = (both_parts (position_cmp order.cmp (start_position order r.start) (start_position order s.start)) (position_cmp order.cmp (end_position order r.end) (end_position order s.end)) e).0
+  starts_same r s e = (both_equal (position_cmp order.cmp (start_position order r.start) (start_position order s.start)) (position_cmp order.cmp (end_position order r.end) (end_position order s.end)) e).0
 
   ends_same : (r s : AnyRange K) → range_cmp order r s ≡ Equal → position_cmp order.cmp (end_position order r.end) (end_position order s.end) ≡ Equal
-  ends_same r s e = (both_parts (position_cmp order.cmp (start_position order r.start) (start_position order s.start)) (position_cmp order.cmp (end_position order r.end) (end_position order s.end)) e).1
+  ends_same r s e = (both_equal (position_cmp order.cmp (start_position order r.start) (start_position order s.start)) (position_cmp order.cmp (end_position order r.end) (end_position order s.end)) e).1
 
   -- equal ranges meet equal ranges
   meet_too : (r s q t : AnyRange K) → range_cmp order r q ≡ Equal → range_cmp order s t ≡ Equal → MeetNonempty order r s → MeetNonempty order q t
@@ -102,7 +91,7 @@ module _ {K : Type 0} (order : KeyOrder K) (lawful : IsLawful order) where
 
     range_one : (d : Data) (r s : AnyRange K) → IsRangeRead is_read d r → IsRangeRead is_read d s → range_cmp order r s ≡ Equal
     range_one d r s (ds, e, starts, ends) (es, f, other_starts, other_ends) =
-        let same : es ≡ ds = some_is es ds (sym f ∙ e) in
+        let same : es ≡ ds = same_Some es ds (sym f ∙ e) in
         range_clone order lawful Alike (λ a b h. h) r s (
           parts_one (bound_of ds.0) r.start s.start starts (subst (λ p. ArePartsRead is_read (bound_of p.0) s.start) same other_starts),
           parts_one (bound_of ds.1) r.end s.end ends (subst (λ p. ArePartsRead is_read (bound_of p.1) s.end) same other_ends),
@@ -111,7 +100,7 @@ module _ {K : Type 0} (order : KeyOrder K) (lawful : IsLawful order) where
     module _ {V : Type 0} (value_is_read : Data → V → Type 0) where
       element_one : (d : Data) (x y : Item (AnyRange K) V) → IsElementRead is_read value_is_read d x → IsElementRead is_read value_is_read d y → range_cmp order x.key y.key ≡ Equal
       element_one d x y (ds, e, range, value) (es, f, other, other_value) =
-          let same : es ≡ ds = some_is es ds (sym f ∙ e) in
+          let same : es ≡ ds = same_Some es ds (sym f ∙ e) in
           range_one ds.0 x.key y.key range (subst (λ p. IsRangeRead is_read p.0 y.key) same other)
 
       one_too : (front : List Data) (xs ys : List (Item (AnyRange K) V)) (r s : AnyRange K) → AllZip (IsElementRead is_read value_is_read) front xs → AllZip (IsElementRead is_read value_is_read) front ys → range_cmp order r s ≡ Equal → MeetsOne order r xs → MeetsOne order s ys
@@ -139,7 +128,7 @@ module _ {K : Type 0} (order : KeyOrder K) (lawful : IsLawful order) where
             let sound : first_fault fault 0 (first.front ++ first.d ∷ first.rest) ≡ None = subst (λ es. first_fault fault 0 es ≡ None) first.split read.sound in
             let place = read_at (IsElementRead is_read value_is_read) first.front first.d first.rest elements (subst (λ es. AllZip (IsElementRead is_read value_is_read) es elements) first.split read.read) in
             elim first.fault [
-              | inl own ↦ some_none f (sym sound ∙ fault_first fault first.front first.d first.rest f first.fine.sound own)
+              | inl own ↦ none-some f (sym sound ∙ fault_first fault first.front first.d first.rest f first.fine.sound own)
               | inr met ↦
                   let x = met.0.1.0 in
                   apart_at place.xs place.ys place.x (subst (AreApart order) place.split read.apart) (one_too first.front first.earlier place.xs x.key place.x.key first.fine.read place.before (element_one first.d x place.x met.0.1.1 place.at) met.0.1.3)

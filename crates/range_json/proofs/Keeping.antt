@@ -3,14 +3,12 @@ use Rattle.std.proofs.Common.{◌≡◌, refl, sym, ap, subst, ◌∙◌, inl, i
 use Rattle.std.proofs.lemmas.List.{append-nil}
 use Rattle.std.specs.Cmp.{IsEquivalence}
 use Rattle.std.specs.List.{AllByRecursion}
-use Rattle.std.specs.Ordering.{is_eq}
-use Rattle.std.specs.declared.cmp.Ordering.{Ordering}
-use Rattle.std.specs.declared.cmp.Ordering.TheVariants.{Less, Equal, Greater}
 use Rattle.std.specs.declared.ops.Bound.{Bound}
 use Rattle.std.specs.declared.ops.Bound.TheVariants.{Included, Excluded, Unbounded}
 use Rattle.range_keys.specs.Order.{KeyOrder, IsLawful}
 use Rattle.range_keys.specs.Position.{start_position, end_position}
 use Rattle.range_keys.specs.PositionOrder.{position_total}
+use Rattle.range_keys.proofs.Orderings.{eq_is_equal}
 use Rattle.range_algebra.specs.declared.any.AnyRange.{AnyRange}
 use Rattle.range_algebra.proofs.Lists.{every_left, every_right}
 use Rattle.range_map.specs.Chains.{Leads}
@@ -25,11 +23,6 @@ use Rattle.range_store.specs.declared.storage.Item.{Item}
 use Rattle.range_map.specs.Frames.{GaveWayTo, JoinsOrMeets}
 use Rattle.range_map.specs.Stored.{item_lower, item_upper, IsStored}
 use Rattle.range_map.proofs.Forms.{places, before_is, touches_is, Chained, Known, stored_chain, stored_known, chain_stored}
-
-is_equal : (o : Ordering) → IsTrue (is_eq o) → o ≡ Equal
-is_equal Less h = cc
-is_equal Equal h = refl
-is_equal Greater h = cc
 
 no_item : {X : Type 0} (P : X → Type 0) (xs ys zs : List X) → Every (λ x. ¬ P x) (xs ++ ys ++ zs) → Every P ys → ys ≡ []
 no_item P xs [] zs none all = refl
@@ -49,10 +42,10 @@ module _ {K V : Type 0} (order : KeyOrder K) (lawful : IsLawful order) (same : V
   touching_at : (e : Bound K) (s : AnyRange K) → IsTrue (starts_at_end order e (lower order s)) → Le (places order lawful) (past order (end_position order e)) (lower order s)
   touching_at (Included a) s h =
       let total = position_total order.cmp lawful.total in
-      le_trans (places order lawful) total (past order (end_position order (Included a))) (start_position order (Excluded a)) (lower order s) (eq_le (places order lawful) total (past order (end_position order (Included a))) (start_position order (Excluded a)) (inverted_bound_is_past order lawful (Included a) (Excluded a) refl)) (eq_le (places order lawful) total (start_position order (Excluded a)) (lower order s) (is_equal (places order lawful (start_position order (Excluded a)) (lower order s)) h))
+      le_trans (places order lawful) total (past order (end_position order (Included a))) (start_position order (Excluded a)) (lower order s) (eq_le (places order lawful) total (past order (end_position order (Included a))) (start_position order (Excluded a)) (inverted_bound_is_past order lawful (Included a) (Excluded a) refl)) (eq_le (places order lawful) total (start_position order (Excluded a)) (lower order s) ((eq_is_equal (places order lawful (start_position order (Excluded a)) (lower order s))).0 h))
   touching_at (Excluded a) s h =
       let total = position_total order.cmp lawful.total in
-      le_trans (places order lawful) total (past order (end_position order (Excluded a))) (start_position order (Included a)) (lower order s) (eq_le (places order lawful) total (past order (end_position order (Excluded a))) (start_position order (Included a)) (inverted_bound_is_past order lawful (Excluded a) (Included a) refl)) (eq_le (places order lawful) total (start_position order (Included a)) (lower order s) (is_equal (places order lawful (start_position order (Included a)) (lower order s)) h))
+      le_trans (places order lawful) total (past order (end_position order (Excluded a))) (start_position order (Included a)) (lower order s) (eq_le (places order lawful) total (past order (end_position order (Excluded a))) (start_position order (Included a)) (inverted_bound_is_past order lawful (Excluded a) (Included a) refl)) (eq_le (places order lawful) total (start_position order (Included a)) (lower order s) ((eq_is_equal (places order lawful (start_position order (Included a)) (lower order s))).0 h))
   touching_at Unbounded s h = absurd (cc)
 
   abbrev LeadsTo : Item (AnyRange K) V → Item (AnyRange K) V → Type 0

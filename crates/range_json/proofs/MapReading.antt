@@ -2,39 +2,30 @@
 use Rattle.std.specs.Cmp.{IsEquivalence}
 use Rattle.std.proofs.Common.{◌≡◌, refl, sym, ap, subst, ◌⊎◌, ◌↔◌, inl, inr, List, [], ◌∷◌, ◌++◌, map, length, Bool, IsTrue, Option, Some, None}
 use Rattle.std.proofs.lemmas.List.{map-append}
-use Rattle.std.specs.declared.cmp.Ordering.{Ordering}
-use Rattle.std.specs.declared.cmp.Ordering.TheVariants.{Less, Equal, Greater}
 use Rattle.serde_json.specs.Data.{Data}
 use Rattle.serde_json.specs.View.{view}
 use Rattle.serde_json.specs.declared.value.Value.{Value}
 use Rattle.range_keys.specs.Order.{KeyOrder, IsLawful}
-use Rattle.range_keys.specs.Position.{start_position, end_position, position_cmp}
 use Rattle.range_algebra.specs.declared.any.AnyRange.{AnyRange}
 use Rattle.range_algebra.specs.Range.{Holds, IsEmptyRange, IsKnownRange}
-use Rattle.range_algebra.proofs.Pieces.{start_decided, end_decided}
+use Rattle.range_algebra.proofs.Lists.{all_more}
+use Rattle.range_algebra.proofs.Pieces.{empty_or_not}
+use Rattle.range_algebra.proofs.Meeting.{held_or_not}
 use Rattle.range_store.specs.declared.storage.Item.{Item}
 use Rattle.range_map.specs.Bindings.{IsBound, BindsTo, Binds, BindAlike, IsBoundAfter}
 use Rattle.range_map.specs.Frames.{GaveWayTo}
 use Rattle.range_map.specs.Lookups.{MeetsSome, MeetAlso}
 use Rattle.range_map.specs.Stored.{IsStored}
-use Rattle.range_map.proofs.Meeting.{binding_meets}
+use Rattle.range_map.proofs.Meeting.{binding_meets, binds_bound}
 use Rattle.range_json.specs.declared.error.JsonError.{JsonError}
 use Rattle.range_json.specs.declared.error.JsonError.TheVariants.{Meets}
 use Rattle.range_json.specs.MapFaults.{element_fault, IsElementRead, MeetNonempty, MeetsOne, AreApart, AreRead, IsFirstFault}
 use Rattle.range_json.proofs.Keeping.{of_last, stored_before, stands_last}
-use Rattle.range_json.proofs.Reading.{all_more, no_fault_more, read_more, same_length}
-
-is_greater : (o : Ordering) → (o ≡ Greater) ⊎ (¬ (o ≡ Greater))
-is_greater Less = inr (λ e. cc)
-is_greater Equal = inr (λ e. cc)
-is_greater Greater = inl refl
+use Rattle.range_json.proofs.Reading.{no_fault_more, read_more, same_length}
 
 module _ {K : Type 0} (order : KeyOrder K) where
   meeting_turned : (r s : AnyRange K) → MeetNonempty order r s → MeetNonempty order s r
   meeting_turned r s h = (h.1, h.0, (h.2.1, h.2.0))
-
-  empty_or_not : (r : AnyRange K) → IsEmptyRange order r ⊎ (¬ IsEmptyRange order r)
-  empty_or_not r = is_greater (position_cmp order.cmp (start_position order r.start) (end_position order r.end))
 
 module _ {K V : Type 0} (order : KeyOrder K) where
   -- an element's range met no stored one, and its keys were bound
@@ -98,17 +89,7 @@ module _ {K V : Type 0} (order : KeyOrder K) where
       ],
     )
 
-    bound_by : (xs : List (Item (AnyRange K) V)) (k : K) (v : V) → BindsTo order same xs k v → IsBound order xs k
-    bound_by [] k v h = h
-    bound_by (y ∷ xs) k v h = elim h [ inl here ↦ inl here.0 | inr later ↦ inr (bound_by xs k v later) ]
-
     module _ (lawful : IsLawful order) where
-      held_or_not : (r : AnyRange K) (k : K) → Holds order r k ⊎ (¬ Holds order r k)
-      held_or_not r k = elim (start_decided order lawful r.start k) [
-        | inr out ↦ inr (λ h. out h.0)
-        | inl starts ↦ elim (end_decided order lawful r.end k) [ inr out ↦ inr (λ h. out h.1) | inl ends ↦ inl (starts, ends) ]
-      ]
-
       module _ (old new earlier : List (Item (AnyRange K) V)) (x : Item (AnyRange K) V) (alike : BindAlike order same old earlier) (put : IsPut order same old new x) (k : K) (key : order.is_key k) where
         free : Holds order x.key k → ¬ IsBound order old k
         free held bound = put.apart (binding_meets order lawful old x.key (k, key, held, bound))
@@ -118,7 +99,7 @@ module _ {K V : Type 0} (order : KeyOrder K) where
         held_alike held (Some v) = (
           λ h. (binds_more earlier x k v).1 (inr (held, (put.bound.held k key held (Some v)).0 h)),
           λ h. elim ((binds_more earlier x k v).0 h) [
-            | inl one ↦ absurd (free held (bound_by old k v ((alike k key (Some v)).1 one)))
+            | inl one ↦ absurd (free held (binds_bound order same old k v ((alike k key (Some v)).1 one)))
             | inr last ↦ (put.bound.held k key held (Some v)).1 last.1
           ],
         )
@@ -140,7 +121,7 @@ module _ {K V : Type 0} (order : KeyOrder K) where
         )
 
       alike_more : (old new earlier : List (Item (AnyRange K) V)) (x : Item (AnyRange K) V) → BindAlike order same old earlier → IsPut order same old new x → BindAlike order same new (earlier ++ x ∷ [])
-      alike_more old new earlier x alike put k key b = elim (held_or_not x.key k) [
+      alike_more old new earlier x alike put k key b = elim (held_or_not order lawful x.key k) [
         | inl held ↦ held_alike old new earlier x alike put k key held b
         | inr out ↦ other_alike old new earlier x alike put k key out b
       ]

@@ -1,5 +1,4 @@
 -- What is read of a list while a loop goes over it.
-use Rattle.std.specs.Cmp.{IsEquivalence}
 use Rattle.range_keys.specs.Order.{IsLawful}
 use Rattle.range_algebra.specs.Range.{IsEmptyRange, IsKnownRange}
 use Rattle.range_map.specs.Frames.{GaveWayTo}
@@ -13,17 +12,15 @@ use Rattle.serde_json.specs.View.{view, items_of, items_view}
 use Rattle.serde_json.specs.declared.value.Value.{Value}
 use Rattle.range_keys.specs.Order.{KeyOrder}
 use Rattle.range_algebra.specs.declared.any.AnyRange.{AnyRange}
+use Rattle.range_algebra.proofs.Lists.{all_more}
 use Rattle.range_store.specs.declared.storage.Item.{Item}
 use Rattle.range_sets.specs.KeySets.{HoldsAllAlso, HoldsAlso, IsStoredSet}
 use Rattle.range_sets.proofs.Membership.{one_more, none_added}
+use Rattle.range_sets.proofs.Filling.{all_equal}
 use Rattle.range_json.specs.declared.error.JsonError.{JsonError}
 use Rattle.range_json.specs.Shapes.{list_of, elements_of}
 use Rattle.range_json.specs.Faults.{before, first_fault, range_fault, range_items, IsRangeRead}
-
--- the elements of an array are the list that it is made of
-pub list_back : (ds : List Data) → list_of (items_of ds) ≡ ds
-list_back [] = refl
-list_back (d ∷ ds) = ap (λ es. d ∷ es) (list_back ds)
+use Rattle.range_json.specs.SetReadBack.{list_back}
 
 abbrev Fault : Type 0
 Fault = Option JsonError
@@ -56,11 +53,6 @@ module _ (fault : ℕ → Data → Fault) where
   pub no_fault_more : (ds : List Data) (d : Data) → first_fault fault 0 ds ≡ None → fault (length ds) d ≡ None → first_fault fault 0 (ds ++ d ∷ []) ≡ None
   no_fault_more ds d h at = from_start ds (d ∷ []) h ∙ ap (λ f. before f None) at
 
--- what holds of all and of one more
-pub all_more : {X : Type 0} (P : X → Type 0) (xs : List X) (x : X) → AllByRecursion P xs → P x → AllByRecursion P (xs ++ x ∷ [])
-all_more P [] x h p = (p, tt)
-all_more P (y ∷ xs) x h p = (h.0, all_more P xs x h.1 p)
-
 -- one more is read behind those that are
 pub read_more : {X : Type 0} (R : Data → X → Type 0) (ds : List Data) (xs : List X) (d : Data) (x : X) → AllZip R ds xs → R d x → AllZip R (ds ++ d ∷ []) (xs ++ x ∷ [])
 read_more R [] [] d x h k = (k, tt)
@@ -71,9 +63,6 @@ read_more R (e ∷ ds) (y ∷ xs) d x h k = (h.0, read_more R ds xs d x h.1 k)
 pub same_length : (vs : List Value) → length (map view vs) ≡ length vs
 same_length [] = refl
 same_length (v ∷ vs) = ap suc (same_length vs)
-
-pub all_equal : IsEquivalence {K = Unit {0}} (λ _ _. true)
-all_equal = record { refl = λ x. refl; symm = λ x y. refl; congr = λ x y z e. refl }
 
 abbrev item_of : {K : Type 0} → AnyRange K → Item (AnyRange K) (Unit {0})
 item_of r = record { key = r; value = tt }

@@ -7,6 +7,7 @@ use Rattle.std.specs.Ordering.{is_eq}
 use Rattle.std.specs.declared.cmp.Ordering.TheVariants.{Equal}
 use Rattle.std.specs.declared.ops.Bound.{Bound}
 use Rattle.std.specs.declared.ops.Bound.TheVariants.{Included, Excluded, Unbounded}
+use Rattle.std.proofs.lemmas.Option.{same_Some, none-some}
 use Rattle.serde_json.specs.Data.{Data}
 use Rattle.range_keys.specs.Order.{KeyOrder, IsLawful}
 use Rattle.range_algebra.specs.declared.any.AnyRange.{AnyRange}
@@ -26,19 +27,17 @@ use Rattle.range_json.specs.Shapes.{bound_shape, range_shape, pair_shape, set_sh
 use Rattle.range_json.specs.Faults.{key_fault, bound_fault, range_fault, first_fault, set_fault, range_items, IsBoundRead, IsRangeRead, IsSetRead}
 use Rattle.range_json.specs.MapFaults.{element_fault, IsElementRead, IsMapRead, IsFirstFault, MeetNonempty}
 use Rattle.range_json.specs.Values.{IsBoundValue, IsRangeValue, AreRangeValues, AreItemValues}
-use Rattle.range_json.proofs.Reading.{list_back, all_equal, all_more}
 use Rattle.range_json.proofs.Keeping.{apart_from_last, stored_front, one_between}
-use Rattle.range_algebra.proofs.Lists.{any_none}
+use Rattle.range_algebra.proofs.Lists.{any_none, all_more}
 use Rattle.range_map.specs.Frames.{JoinsOrMeets}
+use Rattle.range_sets.proofs.Filling.{all_equal}
+use Rattle.range_json.specs.SetReadBack.{list_back}
 
 zip_last : {X : Type 0} (R : X → X → Type 0) (xs ys : List X) (x y : X) → AllZip R xs ys → R x y → AllZip R (xs ++ x ∷ []) (ys ++ y ∷ [])
 zip_last R [] [] x y h r = (r, tt)
 zip_last R [] (z ∷ ys) x y h r = absurd h
 zip_last R (z ∷ xs) [] x y h r = absurd h
 zip_last R (z ∷ xs) (w ∷ ys) x y h r = (h.0, zip_last R xs ys x y h.1 r)
-
-some_is : {X : Type 0} (x y : X) → Some x ≡ Some y → x ≡ y
-some_is x y e = cc
 
 ok_is : (x y : List Data) → ◌≡◌ {A = Result (List Data) JsonError} (Ok x) (Ok y) → x ≡ y
 ok_is x y e = cc
@@ -75,7 +74,7 @@ module _ {K : Type 0} (order : KeyOrder K) (shape : K → Data) (reads : Data �
     -- a written range is read with equal bounds
     pub bounds_back : (r s : AnyRange K) → IsRangeValue is_value r → IsRangeRead is_read (range_shape shape r) s → IsBoundClone Alike r.start s.start × IsBoundClone Alike r.end s.end
     bounds_back r s v (ds, e, starts, ends) =
-        let same : (bound_shape shape r.start, bound_shape shape r.end) ≡ ds = some_is (bound_shape shape r.start, bound_shape shape r.end) ds e in (
+        let same : (bound_shape shape r.start, bound_shape shape r.end) ≡ ds = same_Some (bound_shape shape r.start, bound_shape shape r.end) ds e in (
           bound_back r.start s.start v.0 (subst (λ d. IsBoundRead is_read d s.start) (ap (λ p. p.0) (sym same)) starts),
           bound_back r.end s.end v.1 (subst (λ d. IsBoundRead is_read d s.end) (ap (λ p. p.1) (sym same)) ends),
         )
@@ -100,7 +99,7 @@ module _ {K : Type 0} (order : KeyOrder K) (shape : K → Data) (reads : Data �
 
         element_back : (x y : Item (AnyRange K) V) → IsRangeValue is_value x.key × value_is_value x.value → IsElementRead is_read value_is_read (pair x) y → Copied x y
         element_back x y v (ds, e, range, value) =
-            let same : (range_shape shape x.key, value_shape x.value) ≡ ds = some_is (range_shape shape x.key, value_shape x.value) ds e in
+            let same : (range_shape shape x.key, value_shape x.value) ≡ ds = same_Some (range_shape shape x.key, value_shape x.value) ds e in
             item_back x y v.0 (subst (λ d. IsRangeRead is_read d y.key) (ap (λ p. p.0) (sym same)) range) (value_back x.value y.value v.1 (subst (λ d. value_is_read d y.value) (ap (λ p. p.1) (sym same)) value))
 
         elements_back : (items elements : List (Item (AnyRange K) V)) → AreItemValues is_value value_is_value items → AllZip (IsElementRead is_read value_is_read) (map pair items) elements → AllZip Copied items elements
@@ -136,9 +135,6 @@ cut_at f (x ∷ items) (c ∷ front) d rest e =
     let later = cut_at f items front d rest tail in
     record { xs = x ∷ later.xs; x = later.x; ys = later.ys; split = ap (λ is. x ∷ is) later.split; before = ap (λ e. e ∷ map f later.xs) head ∙ ap (λ es. c ∷ es) later.before; at = later.at }
 
-some_none : {X : Type 0} (f : X) → None ≡ Some f → ⊥
-some_none f e = cc
-
 module _ {K V : Type 0} (order : KeyOrder K) (shape : K → Data) (reads : Data → Bool) (is_value : K → Type 0) (is_read : Data → K → Type 0) (back : (x y : K) → is_value x → is_read (shape x) y → order.cmp x y ≡ Equal) (written : (x : K) → is_value x → IsTrue (reads (shape x))) (lawful : IsLawful order) (same : V → V → Bool) (equal : IsEquivalence same) where
   module _ (value_shape : V → Data) (value_reads : Data → Bool) (value_is_value : V → Type 0) (value_is_read : Data → V → Type 0) (value_back : (x y : V) → value_is_value x → value_is_read (value_shape x) y → IsTrue (same x y)) (value_written : (x : V) → value_is_value x → IsTrue (value_reads (value_shape x))) where
     abbrev shown : Item (AnyRange K) V → Data
@@ -157,7 +153,7 @@ module _ {K V : Type 0} (order : KeyOrder K) (shape : K → Data) (reads : Data 
         let cut = cut_at shown items first.front first.d first.rest first.split in
         let values = value_parts cut.xs cut.x cut.ys (subst (AreItemValues is_value value_is_value) cut.split v) in
         elim first.fault [
-          | inl own ↦ some_none f (sym (element_sound (length first.front) cut.x values.1) ∙ ap (element_fault reads value_reads (length first.front)) cut.at ∙ own)
+          | inl own ↦ none-some f (sym (element_sound (length first.front) cut.x values.1) ∙ ap (element_fault reads value_reads (length first.front)) cut.at ∙ own)
           | inr met ↦
               let y = met.0.1.0 in
               let front = elements_back order shape reads is_value is_read back lawful same equal value_shape value_is_value value_is_read value_back cut.xs first.earlier values.0 (subst (λ ds. AllZip (IsElementRead is_read value_is_read) ds first.earlier) (sym cut.before) first.fine.read) in
@@ -195,7 +191,7 @@ module _ {K : Type 0} (order : KeyOrder K) (shape : K → Data) (reads : Data �
     pub set_back : (items others : List (Item (AnyRange K) (Unit {0}))) → AreRangeValues is_value items → IsStoredSet order items → IsSetRead is_read order (set_shape shape items) others → IsTrue (same_ranges order others items)
     set_back items others v stored h =
         let ranges = map (range_shape shape) (item_ranges items) in
-        let listed : ranges ≡ h.ds = some_is ranges h.ds (ap Some (sym (list_back ranges)) ∙ h.whole) in
+        let listed : ranges ≡ h.ds = same_Some ranges h.ds (ap Some (sym (list_back ranges)) ∙ h.whole) in
         let copies = sets_back items h.ranges v (subst (λ ds. AllZip (IsRangeRead is_read) ds h.ranges) (sym listed) h.read) in
         let form = copy_stored order lawful (λ _ _. true) all_equal (range_items h.ranges) items (equal_items_are_copy order lawful (λ _ _. true) all_equal items (range_items h.ranges) copies) (All-from_recursion (λ i. IsKnownRange order i.key) (range_items h.ranges) (known_items h.ranges h.known)) stored in
         subst (λ is. IsTrue (same_ranges order is items)) (sym (h.kept form)) (subst IsTrue (same_sets order (range_items h.ranges) items) (same_copies order shape reads is_value is_read back lawful (λ _ _. true) all_equal items (range_items h.ranges) copies))

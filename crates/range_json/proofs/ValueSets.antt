@@ -1,23 +1,17 @@
 -- What a loop has read of an array of values.
-use Rattle.std.proofs.Common.{◌≡◌, refl, sym, ap, subst, ◌∙◌, ◌&&◌, ◌||◌, not, Bool, true, false, IsTrue, List, [], ◌∷◌, ◌++◌, map, Option, Some, None, cond}
+use Rattle.std.proofs.Common.{◌≡◌, refl, sym, ap, ◌∙◌, ◌&&◌, ◌||◌, Bool, true, false, IsTrue, List, [], ◌∷◌, ◌++◌, map, cond}
 use Rattle.std.proofs.lemmas.List.{map-append}
 use Rattle.std.proofs.lemmas.List.Folds.{list_all-append, list_any-append}
-use Rattle.std.specs.BTreeSet.{BTreeSet, IsEmpty, IsOrdered, IsFromIterResult, Updates, contains}
-use Rattle.std.specs.Cmp.{IsTotalOrder, IsEquivalence, eq_by_cmp_equiv}
-use Rattle.std.specs.Cmp.Lexicographic.{pointwise}
-use Rattle.std.specs.List.{AllByRecursion, AllZip, list_all, list_any}
+use Rattle.std.specs.BTreeSet.{BTreeSet, IsOrdered, IsFromIterResult, Updates, contains}
+use Rattle.std.specs.Cmp.{IsTotalOrder, eq_by_cmp_equiv}
+use Rattle.std.specs.List.{AllZip, list_all, list_any}
 use Rattle.std.specs.Ordering.{eq_by_cmp}
 use Rattle.std.specs.declared.cmp.Ordering.{Ordering}
+use Rattle.std.proofs.lemmas.Bool.{and_from}
 use Rattle.serde_json.specs.Data.{Data}
 use Rattle.serde_json.specs.View.{view}
 use Rattle.serde_json.specs.declared.value.Value.{Value}
-use Rattle.range_sets.specs.ListedMembers.{tree_same_equal}
-use Rattle.range_json.specs.Shapes.{elements_of}
-use Rattle.range_json.specs.ValueSets.{reads_all, reads_values, reads_some, values_shape, IsValueSet, AreValuesRead}
-use Rattle.range_json.proofs.Reading.{list_back, read_more}
-
-both_true : (a b : Bool) → a ≡ true → b ≡ true → (a && b) ≡ true
-both_true a b e f = rw e f
+use Rattle.range_json.proofs.Reading.{read_more}
 
 either_is : (a b : Bool) → cond a true b ≡ (b || (a || false))
 either_is true true = refl
@@ -39,7 +33,7 @@ module _ {V : Type 0} (cmp : V → V → Ordering) (reads : Data → Bool) (is_r
         let more = map-append view vs (v ∷ []) in
         let member = λ (q : V). eq_by_cmp cmp q in
         let laws = eq_by_cmp_equiv total in record {
-          sound = rw more (list_all-append reads (map view vs) (view v ∷ []) ∙ both_true (list_all reads (map view vs)) (reads (view v) && true) h.sound (both_true (reads (view v)) true fine refl));
+          sound = rw more (list_all-append reads (map view vs) (view v ∷ []) ∙ and_from (list_all reads (map view vs)) (reads (view v) && true) h.sound (and_from (reads (view v)) true fine refl));
           values = h.values ++ x ∷ [];
           read = rw more (read_more is_read (map view vs) h.values (view v) x h.read read);
           set = (λ q. updates.0 q ∙ ap (λ b. cond b true (contains cmp old q)) (laws.symm x q) ∙ ap (λ b. cond (member q x) true b) (h.set.0 q) ∙ either_is (member q x) (list_any (member q) h.values) ∙ sym (list_any-append (member q) h.values (x ∷ [])), ordered);

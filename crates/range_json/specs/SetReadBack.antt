@@ -6,19 +6,16 @@ use Rattle.std.specs.Cmp.Lexicographic.{pointwise}
 use Rattle.std.specs.List.{AllByRecursion, AllZip, list_all, list_any}
 use Rattle.std.specs.Ordering.{eq_by_cmp}
 use Rattle.std.specs.declared.cmp.Ordering.{Ordering}
+use Rattle.std.proofs.lemmas.Bool.{and_from}
+use Rattle.std.proofs.lemmas.Option.{same_Some}
 use Rattle.serde_json.specs.Data.{Data}
 use Rattle.serde_json.specs.View.{items_of}
 use Rattle.range_sets.specs.ListedMembers.{tree_same_equal}
 use Rattle.range_json.specs.Shapes.{elements_of, list_of}
 use Rattle.range_json.specs.ValueSets.{reads_values, reads_some, values_shape, IsValueSet, AreValuesRead}
 
-some_is : {X : Type 0} (x y : X) → Some x ≡ Some y → x ≡ y
-some_is x y e = cc
-
-both : (a b : Bool) → a ≡ true → b ≡ true → (a && b) ≡ true
-both a b e f = rw e f
-
-list_back : (ds : List Data) → list_of (items_of ds) ≡ ds
+-- the elements of an array are the list that it is made of
+pub list_back : (ds : List Data) → list_of (items_of ds) ≡ ds
 list_back [] = refl
 list_back (d ∷ ds) = ap (λ es. d ∷ es) (list_back ds)
 
@@ -47,7 +44,7 @@ module _ {V : Type 0} (cmp : V → V → Ordering) (total : IsTotalOrder cmp) (e
     -- an array is not read as two unequal sets
     pub one_set : ((d : Data) (x y : V) → is_read d x → is_read d y → Same x y) → (d : Data) (s t : BTreeSet V) → AreValuesRead cmp is_read d s → AreValuesRead cmp is_read d t → IsTrue (pointwise eq s.keys t.keys)
     one_set one d s t h k =
-        let same : k.ds ≡ h.ds = some_is k.ds h.ds (sym k.whole ∙ h.whole) in
+        let same : k.ds ≡ h.ds = same_Some k.ds h.ds (sym k.whole ∙ h.whole) in
         let zip = zip_both is_read h.ds h.values k.values one h.read (subst (λ ds. AllZip is_read ds k.values) same k.read) in
         tree_same_equal cmp total eq ties s t h.set.1 k.set.1 (λ q. h.set.0 q ∙ same_members h.values k.values zip q ∙ sym (k.set.0 q))
 
@@ -61,14 +58,14 @@ module _ {V : Type 0} (cmp : V → V → Ordering) (total : IsTotalOrder cmp) (e
       -- a written set is read back as an equal one
       pub set_back : ((x y : V) → is_value x → is_read (shape x) y → Same x y) → (s t : BTreeSet V) → IsValueSet cmp is_value s → AreValuesRead cmp is_read (values_shape shape s) t → IsTrue (pointwise eq s.keys t.keys)
       set_back back s t v h =
-          let listed : map shape s.keys ≡ h.ds = some_is (map shape s.keys) h.ds (ap Some (sym (list_back (map shape s.keys))) ∙ h.whole) in
+          let listed : map shape s.keys ≡ h.ds = same_Some (map shape s.keys) h.ds (ap Some (sym (list_back (map shape s.keys))) ∙ h.whole) in
           let zip = zip_back s.keys h.values back v.1 (subst (λ ds. AllZip is_read ds h.values) (sym listed) h.read) in
           tree_same_equal cmp total eq ties s t v.0 h.set.1 (λ q. same_members s.keys h.values zip q ∙ sym (h.set.0 q))
 
 module _ {V : Type 0} (shape : V → Data) (reads : Data → Bool) (is_value : V → Type 0) (written : (x : V) → is_value x → IsTrue (reads (shape x))) where
   all_written : (xs : List V) → AllByRecursion is_value xs → list_all reads (map shape xs) ≡ true
   all_written [] v = refl
-  all_written (x ∷ xs) v = both (reads (shape x)) (list_all reads (map shape xs)) (written x v.0) (all_written xs v.1)
+  all_written (x ∷ xs) v = and_from (reads (shape x)) (list_all reads (map shape xs)) (written x v.0) (all_written xs v.1)
 
   -- a written set is an array of values
   pub set_written : (cmp : V → V → Ordering) (s : BTreeSet V) → IsValueSet cmp is_value s → IsTrue (reads_values reads (values_shape shape s))

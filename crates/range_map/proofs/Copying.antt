@@ -1,11 +1,12 @@
 -- A list of clones: equal item by item to its source, and in the same form.
-use Rattle.std.proofs.Common.{◌≡◌, refl, sym, ap, ◌∙◌, List, [], ◌∷◌, Option, Some, None, Bool, true, false, ◌&&◌}
+use Rattle.std.proofs.Common.{◌≡◌, refl, sym, ap, ◌∙◌, List, [], ◌∷◌, Option, Some, None, Bool, true, ◌&&◌}
 use Rattle.std.specs.List.{All, AllZip, AllByRecursion}
 use Rattle.std.specs.declared.cmp.Ordering.{Ordering}
 use Rattle.std.specs.declared.cmp.Ordering.TheVariants.{Less, Equal, Greater}
 use Rattle.std.specs.Ordering.{is_eq, ordering_then}
 use Rattle.std.specs.Cmp.{IsEquivalence, alike_right, tied_back}
 use Rattle.std.proofs.lemmas.List.Elements.{recursion_from_All}
+use Rattle.std.proofs.lemmas.Bool.{and_from, and_parts}
 use Rattle.range_keys.specs.Order.{KeyOrder, IsLawful, SameAnswer}
 use Rattle.range_keys.specs.Position.{start_position, end_position, position_cmp, at_told}
 use Rattle.range_keys.specs.PositionOrder.{position_total}
@@ -32,13 +33,6 @@ both_parts Greater p h = cc
 
 equal_then_equal : (o p : Ordering) → o ≡ Equal → p ≡ Equal → ordering_then o p ≡ Equal
 equal_then_equal o p e f = rw e f
-
-both_true : (a b : Bool) → a ≡ true → b ≡ true → (a && b) ≡ true
-both_true a b e f = rw e f
-
-true_parts : (a b : Bool) → (a && b) ≡ true → (a ≡ true) × (b ≡ true)
-true_parts true b e = (refl, e)
-true_parts false b e = cc
 
 equal_is : (o : Ordering) → is_eq o ≡ true → o ≡ Equal
 equal_is Less h = cc
@@ -151,10 +145,10 @@ module _ {K : Type 0} (order : KeyOrder K) (lawful : IsLawful order) where
     equal_items_are_copy [] (y ∷ ys) zip = absurd zip
     equal_items_are_copy (x ∷ xs) [] zip = absurd zip
     equal_items_are_copy (x ∷ xs) (y ∷ ys) zip =
-        let both = true_parts (is_eq (range_cmp order y.key x.key)) (same y.value x.value) zip.0 in
+        let both = and_parts (is_eq (range_cmp order y.key x.key)) (same y.value x.value) zip.0 in
         ((equal_is (range_cmp order y.key x.key) both.0, both.1), equal_items_are_copy xs ys zip.1)
 
     -- the clone of an item equals it
     pub item_clone : (is_clone : K → K → Type 0) (keys : (x y : K) → is_clone x y → order.cmp x y ≡ Equal) (is_value_clone : V → V → Type 0) (values : (x y : V) → is_value_clone x y → same x y ≡ true) (x y : Item (AnyRange K) V) → (IsBoundClone is_clone x.key.start y.key.start × IsBoundClone is_clone x.key.end y.key.end) → is_value_clone x.value y.value → (is_eq (range_cmp order y.key x.key) && same y.value x.value) ≡ true
     item_clone is_clone keys is_value_clone values x y key value =
-        both_true (is_eq (range_cmp order y.key x.key)) (same y.value x.value) (ap is_eq (tied_back (range_total order lawful) x.key y.key (range_clone order lawful is_clone keys x.key y.key key))) (equal.symm y.value x.value ∙ values x.value y.value value)
+        and_from (is_eq (range_cmp order y.key x.key)) (same y.value x.value) (ap is_eq (tied_back (range_total order lawful) x.key y.key (range_clone order lawful is_clone keys x.key y.key key))) (equal.symm y.value x.value ∙ values x.value y.value value)

@@ -1,15 +1,10 @@
 -- There is one greatest number of levels, and `greatest_level` is it.
 use Rattle.std.proofs.Common.{◌≡◌, ℕ, zero, suc, ◌+◌, ◌-◌, ◌*◌, ◌^◌, ◌<◌, ◌≤◌, ◌⊎◌, inl, inr, true, false, refl, arith}
 use Rattle.std.specs.Prelude.{nat_lt}
-use Rattle.std.proofs.Math.Nat.{pow-suc}
 use Rattle.std.proofs.lemmas.Bool.Decides.{leb_tells}
 use Rattle.range_store.specs.declared.btree.node.TheConstants.{MIN_LEN}
+use Rattle.range_store.proofs.Levels.{pow_more}
 use Rattle.range_map.specs.Costs.{IsGreatestLevel, greatest_level, greatest_level_to}
-
--- a power outgrows its exponent
-pow_more : (d : ℕ) → d + 1 ≤ (MIN_LEN + 1) ^ d
-pow_more zero = omega arith
-pow_more (suc d) = omega (arith, pow-suc (MIN_LEN + 1) d, pow_more d)
 
 -- a level that may be reached is no greater than the number
 reached_level_is_at_most_number : (many level : ℕ) → 1 ≤ level → 2 * (MIN_LEN + 1) ^ (level - 1) ≤ many → level ≤ many

@@ -40,9 +40,6 @@ module _ {K : Type 0} (order : KeyOrder K) (lawful : IsLawful order) {V : Type 0
   abbrev past_of : Bound K → Position K
   past_of e = past order (end_position order e)
 
-  turn_equal : (p q : Position K) → position_cmp order.cmp p q ≡ Equal → position_cmp order.cmp q p ≡ Equal
-  turn_equal p q e = tied_back (position_total order.cmp lawful.total) p q e
-
   -- the answer gives a value that is such
   abbrev pub Gives : (V → Bool) → Option V → Type 0
   Gives W None = ⊥
@@ -208,7 +205,7 @@ module _ {K : Type 0} (order : KeyOrder K) (lawful : IsLawful order) {V : Type 0
       pub fill_more : (value answer : Option V) (old new : List (Item (AnyRange K) V)) → IsFilledUpTo m answers old → IsPut order same is_clone old new key answer → IsFilledUpTo n (answers ++ record { key = key; value = value; answer = answer } ∷ []) new
       fill_more value None old new was put = rw put (filled_free value old was)
       fill_more value (Some v) old new was (inl put) =
-          rw put.list (filled_with_item_after v value (record { key = record { start = put.start; end = put.end }; value = v }) old was put.known (turn_equal (Lo order lawful key) (start_position order put.start) (same_start order lawful key.start put.start (clones key.start put.start put.start_clone))) (turn_equal (Hi order lawful key) (past_of put.end) (same_past order lawful key.end put.end (clones key.end put.end put.end_clone))) refl put.apart)
+          rw put.list (filled_with_item_after v value (record { key = record { start = put.start; end = put.end }; value = v }) old was put.known (tied_back (position_total order.cmp lawful.total) (Lo order lawful key) (start_position order put.start) (same_start order lawful key.start put.start (clones key.start put.start put.start_clone))) (tied_back (position_total order.cmp lawful.total) (Hi order lawful key) (past_of put.end) (same_past order lawful key.end put.end (clones key.end put.end put.end_clone))) refl put.apart)
       fill_more value (Some v) old new was (inr put) =
           let some : 0 < length old = put.joins.0 in
           let parts = split_last old (length old - 1) (omega (arith, some)) in
@@ -222,4 +219,4 @@ module _ {K : Type 0} (order : KeyOrder K) (lawful : IsLawful order) {V : Type 0
           let within = every_right (LiesUpTo m) parts.0 (last ∷ []) was_parts.inside in
           let known = every_right (λ i. IsKnownRange order i.key) parts.0 (last ∷ []) was_parts.known in
           let before = le_trans cmp total (Hi order lawful last.key) m (Lo order lawful key) within.0.2 from in
-          rw list (filled_on v value parts.0 last j was_parts (known.0.0, put.known) refl (turn_equal (Hi order lawful key) (past_of put.end) (same_past order lawful key.end put.end (clones key.end put.end put.end_clone))) refl ((touches_is order lawful last.key.end key inside.0 inside.2 before).0 joins.0) joins.1)
+          rw list (filled_on v value parts.0 last j was_parts (known.0.0, put.known) refl (tied_back (position_total order.cmp lawful.total) (Hi order lawful key) (past_of put.end) (same_past order lawful key.end put.end (clones key.end put.end put.end_clone))) refl ((touches_is order lawful last.key.end key inside.0 inside.2 before).0 joins.0) joins.1)

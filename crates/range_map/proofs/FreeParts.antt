@@ -126,7 +126,7 @@ module _ {K : Type 0} (order : KeyOrder K) (lawful : IsLawful order) where
   each_between P (Some a) (Some b) f = between_by P a b (starts_past_end order a b) refl (f a b refl refl)
 
   -- where the bounds are in order, their range is there
-  between_is : (P : List (AnyRange K) → Type 0) (a b : Bound K) → PLe (Start a) (End b) → P (record { start = a; end = b } ∷ []) → P (between order (Some a) (Some b))
+  pub between_is : (P : List (AnyRange K) → Type 0) (a b : Bound K) → PLe (Start a) (End b) → P (record { start = a; end = b } ∷ []) → P (between order (Some a) (Some b))
   between_is P a b le h = rw le h
 
   from_is : (s : Option (Bound K)) (a : Bound K) (r : AnyRange K) → s ≡ Some a → From s r ↔ PLe (Start a) (Start r.start)
@@ -169,7 +169,7 @@ module _ {K : Type 0} (order : KeyOrder K) (lawful : IsLawful order) where
   then_equal : (o p : Ordering) → o ≡ Equal → p ≡ Equal → ordering_then o p ≡ Equal
   then_equal o p e f = rw (e, f) refl
 
-  same_range : (r s : AnyRange K) → LiesIn order r s → LiesIn order s r → range_cmp order r s ≡ Equal
+  pub same_range : (r s : AnyRange K) → LiesIn order r s → LiesIn order s r → range_cmp order r s ≡ Equal
   same_range r s h k =
       let total = position_total order.cmp lawful.total in
       let cmp = position_cmp order.cmp in

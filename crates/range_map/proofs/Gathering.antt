@@ -7,6 +7,7 @@ use denote.Ref.{Bor}
 use Rattle.std.specs.declared.ops.Bound.{Bound}
 use Rattle.std.specs.declared.cmp.Ordering.TheVariants.{Equal}
 use Rattle.std.specs.Cmp.{IsEquivalence}
+use Rattle.std.proofs.lemmas.Option.{same_Some}
 use Rattle.range_keys.specs.Order.{KeyOrder, IsLawful}
 use Rattle.range_keys.specs.Position.{start_position, end_position, position_cmp}
 use Rattle.range_keys.specs.PositionOrder.{position_total}
@@ -39,9 +40,6 @@ use Rattle.range_map.proofs.Framing.{run_size}
 use Rattle.range_map.proofs.Filling.{IsFilledUpTo, Gives, Alike, filled_none, fill_more}
 use Rattle.range_map.proofs.Forms.{Known, Chained, Hold, before_is, nonempty_good, chain_stored, binds_hold, bound_hold}
 
-some_is : {X : Type 0} (x y : X) → Some x ≡ Some y → x ≡ y
-some_is x y e = cc
-
 some_element : {X : Type 0} (xs : List X) (k : ℕ) → k < length xs → X
 some_element [] k within = absurd (omega (arith, within))
 some_element (x ∷ xs) k within = x
@@ -66,7 +64,7 @@ take_one_more items n m x within read next = rw next (take_more items n x within
 
 pub last_good : {P : Type 0} (is_good : P → Type 0) (rank : P → ℕ) (last : Option P) (place count : ℕ) → IsLastOf is_good rank last place count → ForSome last is_good
 last_good is_good rank None place count h = λ p e. absurd (cc)
-last_good is_good rank (Some q) place count h = λ p e. let is : q ≡ p = some_is q p e in rw (← is) h.0
+last_good is_good rank (Some q) place count h = λ p e. let is : q ≡ p = same_Some q p e in rw (← is) h.0
 
 module _ {K : Type 0} (order : KeyOrder K) (lawful : IsLawful order) {V : Type 0} (same : V → V → Bool) (equal : IsEquivalence same) {F E : Type 0} (calls : Shared F (Option (Bor V) × Unit {0}) (Result (Option V) E)) (f : F) (items : List (Item (AnyRange K) V)) (r : AnyRange K) where
   -- the range up to a place, after the items so far, was asked about
@@ -388,6 +386,6 @@ module _ {K : Type 0} (order : KeyOrder K) (lawful : IsLawful order) {V : Type 0
   key_full is_good rank items (Some p) place count key full at within h = λ i e.
       let some : rank p < length items = omega (arith, at.1, within) in
       let d = some_element items (rank p) some in
-      let is : i ≡ (get_or items (rank p) d).key = some_is i (get_or items (rank p) d).key (sym e ∙ h d) in
+      let is : i ≡ (get_or items (rank p) d).key = same_Some i (get_or items (rank p) d).key (sym e ∙ h d) in
       let there = every_at (IsFull order lawful items r) items (rank p) d full some in
       rw is ((nonempty_good order lawful (get_or items (rank p) d).key there.0).1 there.1)

@@ -1,5 +1,5 @@
 -- Lists of the map's form are coarse over complete keys, and equal exactly where they bind every key alike.
-use Rattle.std.proofs.Common.{◌≡◌, refl, sym, ap, ◌∙◌, List, [], ◌∷◌, length, inl, inr, ◌↔◌, Bool, true, ◌&&◌, IsTrue, Option, Some, None}
+use Rattle.std.proofs.Common.{◌≡◌, refl, sym, ap, ◌∙◌, List, [], ◌∷◌, length, inl, inr, ◌↔◌, Bool, ◌&&◌, IsTrue, Option, Some, None}
 use Rattle.std.specs.declared.cmp.Ordering.{Ordering}
 use Rattle.std.specs.declared.cmp.Ordering.TheVariants.{Equal}
 use Rattle.std.specs.Ordering.{is_eq, eq_by_cmp}
@@ -10,6 +10,7 @@ use Rattle.range_algebra.specs.Range.{Holds, IsKnownRange, IsEmptyRange, IsKeyle
 use Rattle.range_algebra.specs.RangeOrder.{range_cmp}
 use Rattle.range_algebra.specs.declared.any.AnyRange.{AnyRange}
 use Rattle.std.specs.List.{AllByRecursion}
+use Rattle.std.proofs.lemmas.Bool.{and_from}
 use Rattle.range_algebra.proofs.Holding.{empty_is_keyless}
 use Rattle.range_algebra.proofs.Completeness.{nonempty_holds}
 use Rattle.range_algebra.proofs.Canonical.{same_is_equal, equal_is_same}
@@ -21,9 +22,6 @@ use Rattle.range_map.specs.ListOrder.{same_list, list_cmp, lists_tied, lists_ord
 use Rattle.range_map.proofs.Meeting.{binds_bound}
 use Rattle.range_map.proofs.Coarse.{coarse_alike, coarse_shortest, Follows}
 use Rattle.range_algebra.proofs.Joined.{before_is, ends_below, joined_touch, is_before_of}
-
-both_so : (s t : Bool) → s ≡ true → t ≡ true → (s && t) ≡ true
-both_so s t e f = rw (e, f) refl
 
 module _ {K : Type 0} (order : KeyOrder K) (lawful : IsLawful order) {V : Type 0} (same_value : V → V → Bool) (values : IsEquivalence same_value) where
   tail_is_stored : (i : Item (AnyRange K) V) (rest : List (Item (AnyRange K) V)) → IsStored order same_value (i ∷ rest) → IsStored order same_value rest
@@ -59,8 +57,8 @@ module _ {K : Type 0} (order : KeyOrder K) (lawful : IsLawful order) {V : Type 0
     alike_equal [] (j ∷ others) stored stored' alike = absurd alike
     alike_equal (i ∷ items) [] stored stored' alike = absurd alike
     alike_equal (i ∷ items) (j ∷ others) stored stored' alike =
-        both_so (eq_by_cmp (range_cmp order) i.key j.key && same_value i.value j.value) (same_list order same_value items others)
-        (both_so (eq_by_cmp (range_cmp order) i.key j.key) (same_value i.value j.value)
+        and_from (eq_by_cmp (range_cmp order) i.key j.key && same_value i.value j.value) (same_list order same_value items others)
+        (and_from (eq_by_cmp (range_cmp order) i.key j.key) (same_value i.value j.value)
         (ap is_eq (same_is_equal order lawful complete i.key j.key stored.known.0 stored'.known.0 stored.nonempty.0 stored'.nonempty.0 alike.0.0)) alike.0.1)
         (alike_equal items others (tail_is_stored i items stored) (tail_is_stored j others stored') alike.1)
 

@@ -10,7 +10,7 @@ use Rattle.range_store.specs.declared.storage.Item.{Item}
 use Rattle.range_map.specs.Texts.{item_text, items_text}
 
 -- where two texts are known together, each is
-both_known : (o p : Option (List ℕ)) (text : List ℕ) → option_append o p ≡ Some text → (a b : List ℕ) × (o ≡ Some a) × (p ≡ Some b) × (text ≡ a ++ b)
+pub both_known : (o p : Option (List ℕ)) (text : List ℕ) → option_append o p ≡ Some text → (a b : List ℕ) × (o ≡ Some a) × (p ≡ Some b) × (text ≡ a ++ b)
 both_known None p text e = absurd (cc)
 both_known (Some a) None text e = absurd (cc)
 both_known (Some a) (Some b) text e = (a, b, refl, refl, cc)

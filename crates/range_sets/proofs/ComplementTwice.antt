@@ -1,10 +1,10 @@
 -- The gaps of the gaps of a stored list are its ranges.
-use Rattle.std.proofs.Common.{◌≡◌, refl, ap, ◌∙◌, Some, None, Bool, true, false, ◌&&◌, IsTrue, List, [], ◌∷◌, inl, inr}
+use Rattle.std.proofs.Common.{◌≡◌, refl, ap, ◌∙◌, Some, None, true, ◌&&◌, IsTrue, List, [], ◌∷◌, inl, inr}
 use Rattle.std.specs.List.{AllZip}
-use Rattle.std.specs.declared.cmp.Ordering.{Ordering}
-use Rattle.std.specs.declared.cmp.Ordering.TheVariants.{Less, Equal, Greater}
+use Rattle.std.specs.declared.cmp.Ordering.TheVariants.{Equal}
 use Rattle.std.specs.declared.ops.Bound.TheVariants.{Unbounded}
-use Rattle.std.specs.Ordering.{is_gt, is_eq, eq_by_cmp}
+use Rattle.std.specs.Ordering.{is_eq, eq_by_cmp}
+use Rattle.std.proofs.lemmas.Bool.{and_from}
 use Rattle.range_keys.specs.Order.{KeyOrder, IsLawful}
 use Rattle.range_keys.specs.Position.{start_position, end_position, position_cmp}
 use Rattle.range_keys.proofs.Orderings.{not_both_greater_and_not}
@@ -25,9 +25,6 @@ use Rattle.range_sets.specs.Complements.{EqualGapsOf}
 use Rattle.range_sets.specs.KeySets.{IsStoredSet}
 use Rattle.range_sets.proofs.Enclosing.{missing_gaps_is_within_item}
 use Rattle.range_sets.proofs.Matching.{equal_within, overlap_within, row_pairs, InSome, only_one_lies_in_range, mutual_cover_matches}
-
-both_so : (s t : Bool) → s ≡ true → t ≡ true → (s && t) ≡ true
-both_so s t e f = rw (e, f) refl
 
 -- what holds of each member for each value holds of each member for every value
 every_for : {X Y : Type 0} (P : Y → X → Type 0) (xs : List X) → ((y : Y) → Every (P y) xs) → Every (λ x. (y : Y) → P y x) xs
@@ -84,7 +81,7 @@ module _ {K : Type 0} (order : KeyOrder K) (lawful : IsLawful order) where
   equal_gaps_are_same_list (t ∷ thirds) (g ∷ gaps) (i ∷ items) h k =
       let total = range_total order lawful in
       let same = ap is_eq (total.congr t.key g i.key h.0 ∙ k.0) in
-      both_so (eq_by_cmp (range_cmp order) t.key i.key && true) (same_list order (λ _ _. true) thirds items) (both_so (eq_by_cmp (range_cmp order) t.key i.key) true same refl) (equal_gaps_are_same_list thirds gaps items h.1 k.1)
+      and_from (eq_by_cmp (range_cmp order) t.key i.key && true) (same_list order (λ _ _. true) thirds items) (and_from (eq_by_cmp (range_cmp order) t.key i.key) true same refl) (equal_gaps_are_same_list thirds gaps items h.1 k.1)
 
   module _ (items others : List Stored) (form : IsStoredSet order items) (gaps : List (AnyRange K)) (are : AreGaps order items gaps) (zip : Equals others gaps) where
     abbrev IsFree : AnyRange K → Type 0

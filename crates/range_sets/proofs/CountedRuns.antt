@@ -2,10 +2,9 @@
 use Rattle.std.proofs.Common.{◌≡◌, refl, ℕ, ◌+◌, ◌*◌, ◌^◌, ◌<◌, ◌≤◌, Bool, List, [], ◌∷◌, ◌++◌, length, ◌⊎◌, inl, inr, ap, arith, suc, zero}
 use Rattle.std.specs.Prelude.{Option, Result, Ok, Err, IfOk, OnErr}
 use Rattle.range_keys.specs.Order.{KeyOrder}
-use Rattle.range_keys.specs.Position.{position_cmp, start_position, end_position}
-use Rattle.range_keys.proofs.Orderings.{greater_or_not}
 use Rattle.range_algebra.specs.Range.{IsEmptyRange}
 use Rattle.range_algebra.specs.declared.any.AnyRange.{AnyRange}
+use Rattle.range_algebra.proofs.Pieces.{empty_or_not}
 use Rattle.range_store.specs.Holding.{box_items, box_levels}
 use Rattle.range_store.specs.declared.btree.BoxStorage.{BoxStorage}
 use Rattle.range_store.specs.declared.btree.node.TheConstants.{CAPACITY}
@@ -49,13 +48,10 @@ list_or_not items =
     ]
 
 module _ {K : Type 0} (order : KeyOrder K) where
-  empty_or_not : (r : AnyRange K) → IsEmptyRange order r ⊎ (¬ IsEmptyRange order r)
-  empty_or_not r = greater_or_not (position_cmp order.cmp (start_position order r.start) (end_position order r.end))
-
   -- the range is nonempty and the list is not empty, or not
   range_or_not : {V : Type 0} (items : List (Item (AnyRange K) V)) (r : AnyRange K) → ((¬ IsEmptyRange order r) × (0 < length items)) ⊎ (¬ ((¬ IsEmptyRange order r) × (0 < length items)))
   range_or_not items r =
-      elim (empty_or_not r) [
+      elim (empty_or_not order r) [
         | inl empty ↦ inr (λ h. h.0 empty)
         | inr full ↦ elim (some_or_none (length items)) [
           | inl some ↦ inl (full, some)

@@ -19,7 +19,7 @@ use Rattle.range_map.specs.FreeRanges.{between, free_from}
 use Rattle.range_map.specs.Pieces.{LiesIn}
 use Rattle.range_map.specs.Lookups.{Overlap}
 use Rattle.range_map.proofs.Forms.{before_is, nonempty_good, touches_is}
-use Rattle.range_map.proofs.FreeParts.{From, IsFull}
+use Rattle.range_map.proofs.FreeParts.{From, IsFull, between_is}
 use Rattle.range_map.proofs.JustBefore.{ends_before, ends_full}
 use Rattle.range_map.proofs.Listed.{IsListed}
 
@@ -36,12 +36,8 @@ module _ {K : Type 0} (order : KeyOrder K) (lawful : IsLawful order) where
   abbrev End : Bound K → Position K
   End b = end_position order b
 
-  -- where the bounds are in order, their range is there
-  between_is : (P : List (AnyRange K) → Type 0) (a b : Bound K) → PLe (Start a) (End b) → P (record { start = a; end = b } ∷ []) → P (between order (Some a) (Some b))
-  between_is P a b le h = rw le h
-
   between_at : (P : List (AnyRange K) → Type 0) (s e : Option (Bound K)) (a b : Bound K) → s ≡ Some a → e ≡ Some b → PLe (Start a) (End b) → P (record { start = a; end = b } ∷ []) → P (between order s e)
-  between_at P s e a b f g le h = rw (f, g) (between_is P a b le h)
+  between_at P s e a b f g le h = rw (f, g) (between_is order lawful P a b le h)
 
   -- what misses each range that stands between two bounds misses the one that does
   gap_would_overlap : (r : AnyRange K) (s e : Option (Bound K)) (a b : Bound K) → s ≡ Some a → e ≡ Some b → PLe (Start a) (End b) → Every (λ g. ¬ Overlap order g r) (between order s e) → Overlap order (record { start = a; end = b }) r → ⊥

@@ -3,10 +3,10 @@ use Rattle.std.proofs.Common.{◌≡◌, ℕ, ◌+◌, ◌≤◌, refl, sym, ap,
 use Rattle.std.proofs.lemmas.List.{append-nil}
 use Rattle.std.proofs.lemmas.List.Elements.{All-from_recursion}
 use Rattle.std.specs.Cmp.{IsEquivalence, tied_back}
-use Rattle.std.specs.List.{AllZip, AllByRecursion}
+use Rattle.std.specs.List.{AllZip}
 use Rattle.std.specs.declared.cmp.Ordering.TheVariants.{Equal}
 use Rattle.range_keys.specs.Order.{KeyOrder, IsLawful}
-use Rattle.range_algebra.proofs.Lists.{any_none, every_right}
+use Rattle.range_algebra.proofs.Lists.{any_none, every_right, all_more}
 use Rattle.range_algebra.specs.Clones.{IsRangeClone, range_clone}
 use Rattle.range_algebra.specs.Range.{Holds, IsKnownRange}
 use Rattle.range_algebra.specs.RangeOrder.{range_cmp, range_total}
@@ -19,12 +19,8 @@ use Rattle.range_map.proofs.Copying.{copy_stored}
 use Rattle.range_sets.specs.KeySets.{HoldsKey, HoldsTheOthers, IsStoredSet, SomeHolds}
 use Rattle.range_sets.proofs.Complementing.{set_items, front_stored}
 
-all_equal : IsEquivalence {K = Unit {0}} (λ _ _. true)
+pub all_equal : IsEquivalence {K = Unit {0}} (λ _ _. true)
 all_equal = record { refl = λ x. refl; symm = λ x y. refl; congr = λ x y z e. refl }
-
-known_more : {X : Type 0} (P : X → Type 0) (xs : List X) (x : X) → AllByRecursion P xs → P x → AllByRecursion P (xs ++ x ∷ [])
-known_more P [] x h p = (p, tt)
-known_more P (y ∷ ys) x h p = (h.0, known_more P ys x h.1 p)
 
 zip_more : {A B : Type 0} (R : A → B → Type 0) (xs : List A) (ys : List B) (x : A) (y : B) → AllZip R xs ys → R x y → AllZip R (xs ++ x ∷ []) (ys ++ y ∷ [])
 zip_more R [] [] x y zip r = (r, tt)
@@ -69,7 +65,7 @@ module _ {K : Type 0} (order : KeyOrder K) where
         let all : front ++ others ≡ gaps = append_assoc filled.done (g ∷ []) others ∙ (ap (λ l. filled.done ++ l) (sym next) ∙ filled.split) in
         let zip = zip_more SameRange items filled.done (record { key = r; value = tt }) g filled.copied same in
         copy_stored order lawful (λ _ _. true) all_equal more (set_items front) (as_copy more front zip)
-        (All-from_recursion (λ i. IsKnownRange order i.key) more (known_more (λ i. IsKnownRange order i.key) items (record { key = r; value = tt }) filled.form.known known))
+        (All-from_recursion (λ i. IsKnownRange order i.key) more (all_more (λ i. IsKnownRange order i.key) items (record { key = r; value = tt }) filled.form.known known))
         (front_stored order lawful front others (subst (λ l. IsStoredSet order (set_items l)) (sym all) form))
 
     pub filled_more : (gaps rest others : List (AnyRange K)) (items next : Items) (room left : ℕ) (g r : AnyRange K) → IsStoredSet order (set_items gaps) → IsFilled gaps rest items room → rest ≡ g ∷ others → IsKnownRange order r → range_cmp order r g ≡ Equal → next ≡ items ++ record { key = r; value = tt } ∷ [] → room ≡ left + 1 → IsFilled gaps others next left

@@ -1,24 +1,22 @@
 -- Two rows of disjoint ranges, each of which lies in some range of the other row, are equal one by one.
-use Rattle.std.proofs.Common.{◌≡◌, refl, List, [], ◌∷◌, inl, inr}
+use Rattle.std.proofs.Common.{◌≡◌, List, [], ◌∷◌, inl, inr}
 use Rattle.std.specs.List.{AllZip}
-use Rattle.std.specs.declared.cmp.Ordering.{Ordering}
-use Rattle.std.specs.declared.cmp.Ordering.TheVariants.{Less, Equal, Greater}
-use Rattle.std.specs.Ordering.{ordering_then}
+use Rattle.std.specs.declared.cmp.Ordering.TheVariants.{Equal}
 use Rattle.range_keys.specs.Order.{KeyOrder, IsLawful}
 use Rattle.range_keys.specs.Position.{start_position, end_position, position_cmp}
 use Rattle.range_keys.specs.PositionOrder.{position_total}
 use Rattle.range_keys.specs.declared.inner.position.Position.{Position}
-use Rattle.range_keys.proofs.Orderings.{both_equal, equal_then_equal}
+use Rattle.range_keys.proofs.Orderings.{both_equal}
 use Rattle.range_algebra.specs.declared.any.AnyRange.{AnyRange}
 use Rattle.range_algebra.proofs.Lists.{every_weaker}
-use Rattle.range_algebra.specs.Intervals.{Le, Lt, Any, Every}
-use Rattle.range_algebra.specs.Orders.{eq_le, eq_ge, lt_le, le_trans, lt_not_le, lt_le_trans, le_lt_trans, lt_trans, both}
+use Rattle.range_algebra.specs.Intervals.{Any, Every}
+use Rattle.range_algebra.specs.Orders.{eq_le, eq_ge, lt_le, le_trans, lt_not_le, lt_le_trans, le_lt_trans, lt_trans}
 use Rattle.range_algebra.specs.RangeOrder.{range_cmp}
 use Rattle.range_algebra.specs.Relations.{LiesBefore}
 use Rattle.range_map.specs.Neighbours.{EachNext}
 use Rattle.range_map.specs.Pieces.{LiesIn}
 use Rattle.range_map.specs.Lookups.{Overlap}
-use Rattle.range_map.proofs.FreeParts.{Pairs, IsFull}
+use Rattle.range_map.proofs.FreeParts.{Pairs, IsFull, same_range}
 
 module _ {K : Type 0} (order : KeyOrder K) (lawful : IsLawful order) where
   abbrev Start : AnyRange K → Position K
@@ -26,12 +24,6 @@ module _ {K : Type 0} (order : KeyOrder K) (lawful : IsLawful order) where
 
   abbrev End : AnyRange K → Position K
   End r = end_position order r.end
-
-  same_range : (r s : AnyRange K) → LiesIn order r s → LiesIn order s r → range_cmp order r s ≡ Equal
-  same_range r s h k =
-      let total = position_total order.cmp lawful.total in
-      let cmp = position_cmp order.cmp in
-      equal_then_equal (cmp (Start r) (Start s)) (cmp (End r) (End s)) (both cmp total (Start r) (Start s) k.starts h.starts) (both cmp total (End r) (End s) h.ends k.ends)
 
   pub equal_within : (r s : AnyRange K) → range_cmp order r s ≡ Equal → LiesIn order r s × LiesIn order s r
   equal_within r s e =
@@ -150,6 +142,6 @@ module _ {K : Type 0} (order : KeyOrder K) (lawful : IsLawful order) where
     mutual_cover_matches (x ∷ xs) [] full full' pairs pairs' all all' = absurd all.0
     mutual_cover_matches (x ∷ xs) (y ∷ ys) full full' pairs pairs' all all' =
         let first = first_same range other x y xs ys full full' pairs.0 pairs'.0 all.0 all'.0 in (
-          same_range (range x) (other y) first.0 first.1,
+          same_range order lawful (range x) (other y) first.0 first.1,
           mutual_cover_matches xs ys full.1 full'.1 pairs.1 pairs'.1 (rest_within range other x y xs ys first.1 full.1 pairs.0 all.1) (rest_within other range y x ys xs first.0 full'.1 pairs'.0 all'.1),
         )

@@ -6,6 +6,7 @@ use Rattle.range_algebra.specs.declared.any.AnyRange.{AnyRange}
 use Rattle.range_algebra.proofs.Meeting.{held_or_not}
 use Rattle.range_store.specs.declared.storage.Item.{Item}
 use Rattle.range_map.specs.Bindings.{IsBound, BindsTo, IsBoundAfter, IsUnboundAfter}
+use Rattle.range_map.proofs.Meeting.{binds_bound}
 use Rattle.range_sets.specs.KeySets.{HoldsKey, SomeHolds, HoldsAlso, HoldsWithout, HoldsAllAlso, HoldsAllOf}
 
 module _ {K : Type 0} (order : KeyOrder K) where
@@ -19,17 +20,13 @@ module _ {K : Type 0} (order : KeyOrder K) where
       bound_to [] k h = h
       bound_to (i ∷ rest) k h = elim h [ inl here ↦ inl (here, all_same i.value tt) | inr later ↦ inr (bound_to rest k later) ]
 
-      is_bound : (items : Items) (k : K) → BindsTo order same items k tt → IsBound order items k
-      is_bound [] k h = h
-      is_bound (i ∷ rest) k h = elim h [ inl here ↦ inl here.0 | inr later ↦ inr (is_bound rest k later) ]
-
       pub added : (before after : Items) (r : AnyRange K) → IsBoundAfter order same before after r tt → HoldsAlso order before after r
       added before after r h k key =
           let old : ¬ Holds order r k → HoldsKey order after k ↔ HoldsKey order before k = λ out. (
-            λ b. is_bound before k ((h.others k key out (Some tt)).0 (bound_to after k b)),
-            λ b. is_bound after k ((h.others k key out (Some tt)).1 (bound_to before k b)),
+            λ b. binds_bound order same before k tt ((h.others k key out (Some tt)).0 (bound_to after k b)),
+            λ b. binds_bound order same after k tt ((h.others k key out (Some tt)).1 (bound_to before k b)),
           ) in
-          let new : Holds order r k → HoldsKey order after k = λ held. is_bound after k ((h.held k key held (Some tt)).1 (all_same tt tt)) in (
+          let new : Holds order r k → HoldsKey order after k = λ held. binds_bound order same after k tt ((h.held k key held (Some tt)).1 (all_same tt tt)) in (
             λ b. elim (held_or_not order lawful r k) [ inl held ↦ inr held | inr out ↦ inl ((old out).0 b) ],
             λ b. elim (held_or_not order lawful r k) [ inl held ↦ new held | inr out ↦ elim b [ inl was ↦ (old out).1 was | inr held ↦ absurd (out held) ] ],
           )
@@ -37,8 +34,8 @@ module _ {K : Type 0} (order : KeyOrder K) where
       pub removed : (before after : Items) (r : AnyRange K) → IsUnboundAfter order same before after r → HoldsWithout order before after r
       removed before after r h k key =
           let old : ¬ Holds order r k → HoldsKey order after k ↔ HoldsKey order before k = λ out. (
-            λ b. is_bound before k ((h.others k key out (Some tt)).0 (bound_to after k b)),
-            λ b. is_bound after k ((h.others k key out (Some tt)).1 (bound_to before k b)),
+            λ b. binds_bound order same before k tt ((h.others k key out (Some tt)).0 (bound_to after k b)),
+            λ b. binds_bound order same after k tt ((h.others k key out (Some tt)).1 (bound_to before k b)),
           ) in
           let gone : Holds order r k → ¬ HoldsKey order after k = λ held. (h.held k key held None).1 refl in (
             λ b. let out : ¬ Holds order r k = λ held. gone held b in ((old out).0 b, out),

@@ -20,6 +20,7 @@ use Rattle.range_map.specs.Rebinding.{AreRebound}
 use Rattle.range_sets.specs.Members.{HasNone, HaveSame, HasAlso, HasAllBut, among}
 use Rattle.range_sets.specs.Pairs.{HasNoEmptySet, HasPair, IsUnpaired, AreValuesAt, HasPairsAlso, HasPairsWithout, StayBound}
 use Rattle.range_algebra.proofs.Meeting.{held_or_not}
+use Rattle.range_map.proofs.Meeting.{binds_bound}
 
 or_true : (a b : Bool) → IsTrue (a || b) ↔ (IsTrue a ⊎ IsTrue b)
 or_true true b = (λ _. inl refl, λ _. refl)
@@ -69,16 +70,11 @@ module _ {K : Type 0} (order : KeyOrder K) {S V : Type 0} (same : S → S → Bo
     as_itself None = refl
     as_itself (Some s) = equal.refl s
 
-    is_bound : (items : Items) (t : S) → BindsTo order same items k t → IsBound order items k
-    is_bound [] t h = h
-    is_bound (i ∷ rest) t (inl h) = inl h.0
-    is_bound (i ∷ rest) t (inr h) = inr (is_bound rest t h)
-
     -- what a key is bound to is equal to what it was found bound to
     bound_as : (items : Items) (old b : Option S) → IsOnce items k → Binds order same items k old → Binds order same items k b ↔ IsAsAnswered same old b
     bound_as items None None once was = (λ h. refl, λ h. was)
-    bound_as items None (Some t) once was = (λ h. absurd (was (is_bound items t h)), λ h. cc)
-    bound_as items (Some s) None once was = (λ h. h (is_bound items s was), λ h. absurd h)
+    bound_as items None (Some t) once was = (λ h. absurd (was (binds_bound order same items k t h)), λ h. cc)
+    bound_as items (Some s) None once was = (λ h. h (binds_bound order same items k s was), λ h. absurd h)
     bound_as items (Some s) (Some t) once was = (λ h. once s t was h, λ e. as_well items e was)
       where
         as_well : (xs : Items) → IsTrue (same s t) → BindsTo order same xs k s → BindsTo order same xs k t

@@ -1,19 +1,14 @@
 -- A walk that writes ranges one after the other.
-use Rattle.std.proofs.Common.{◌≡◌, refl, ◌∙◌, ap, subst, ℕ, List, [], ◌∷◌, ◌++◌, append_assoc, Option, Some, None, Result, sym}
+use Rattle.std.proofs.Common.{◌≡◌, refl, ◌∙◌, ap, subst, ℕ, List, [], ◌∷◌, ◌++◌, append_assoc, Option, Some, Result, sym}
 use Rattle.std.specs.Prelude.{IsOk}
-use Rattle.std.specs.Fmt.{HasWritten, IsPlainFormatter, DisplaysOnOk, option_append}
+use Rattle.std.specs.Fmt.{HasWritten, IsPlainFormatter, DisplaysOnOk}
 use Rattle.std.specs.declared.fmt.Error.{Error}
 use Rattle.std.specs.declared.fmt.Formatter.{Formatter}
 use Rattle.std.proofs.Output.{writes_in_calls_nil, has_written_append}
 use Rattle.range_algebra.specs.Texts.{range_text}
 use Rattle.range_algebra.specs.declared.any.AnyRange.{AnyRange}
+use Rattle.range_map.proofs.Writing.{both_known}
 use Rattle.range_sets.specs.SetTexts.{ranges_text}
-
--- where two texts are known together, each is
-both_known : (o p : Option (List ℕ)) (text : List ℕ) → option_append o p ≡ Some text → (a b : List ℕ) × (o ≡ Some a) × (p ≡ Some b) × (text ≡ a ++ b)
-both_known None p text e = absurd (cc)
-both_known (Some a) None text e = absurd (cc)
-both_known (Some a) (Some b) text e = (a, b, refl, refl, cc)
 
 module _ {K : Type 0} (key_text : K → Option (List ℕ)) {W : Type 0} (took : W → List ℕ → W → Type 0) where
   -- g is f after all ranges but those that are left

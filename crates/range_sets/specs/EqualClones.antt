@@ -8,8 +8,9 @@ use Rattle.std.specs.BTreeSet as tree
 use Rattle.std.specs.HashSet.{HashSet, hash_set_eq}
 use Rattle.std.specs.HashSet as table
 use Rattle.std.proofs.Common.{subst}
+use Rattle.std.proofs.lemmas.Bool.{and_from}
 use Rattle.range_algebra.specs.Range.{ClonesAreEqual}
-use Rattle.range_sets.specs.ListedMembers.{both_true, clones_pointwise, tree_clones, table_clones}
+use Rattle.range_sets.specs.ListedMembers.{clones_pointwise, tree_clones, table_clones}
 
 pub string_clones_are_equal : {Z : Type 0} → ClonesAreEqual (λ s t. string_bytes t ≡ string_bytes s) (string_eq {Z = Z})
 string_clones_are_equal s t h = rw h (string_eq_equiv.refl s)
@@ -26,9 +27,9 @@ module _ {A : Type 0} (is_clone : A → A → Type 0) (eq : A → A → Bool) (e
 
   module _ {B : Type 0} (other_is_clone : B → B → Type 0) (other_eq : B → B → Bool) (other_equal : ClonesAreEqual other_is_clone other_eq) where
     pub pair_clones_are_equal : ClonesAreEqual (λ (x y : A × B). is_clone x.0 y.0 × other_is_clone x.1 y.1) (λ x y. eq x.0 y.0 && other_eq x.1 y.1)
-    pair_clones_are_equal x y h = both_true (eq x.0 y.0) (other_eq x.1 y.1) (equal x.0 y.0 h.0) (other_equal x.1 y.1 h.1)
+    pair_clones_are_equal x y h = and_from (eq x.0 y.0) (other_eq x.1 y.1) (equal x.0 y.0 h.0) (other_equal x.1 y.1 h.1)
 
     module _ {C : Type 0} (last_is_clone : C → C → Type 0) (last_eq : C → C → Bool) (last_equal : ClonesAreEqual last_is_clone last_eq) where
       pub triple_clones_are_equal : ClonesAreEqual (λ (x y : A × B × C). is_clone x.0 y.0 × other_is_clone x.1 y.1 × last_is_clone x.2 y.2) (λ x y. (eq x.0 y.0 && other_eq x.1 y.1) && last_eq x.2 y.2)
       triple_clones_are_equal x y h =
-          both_true (eq x.0 y.0 && other_eq x.1 y.1) (last_eq x.2 y.2) (both_true (eq x.0 y.0) (other_eq x.1 y.1) (equal x.0 y.0 h.0) (other_equal x.1 y.1 h.1)) (last_equal x.2 y.2 h.2)
+          and_from (eq x.0 y.0 && other_eq x.1 y.1) (last_eq x.2 y.2) (and_from (eq x.0 y.0) (other_eq x.1 y.1) (equal x.0 y.0 h.0) (other_equal x.1 y.1 h.1)) (last_equal x.2 y.2 h.2)

@@ -13,22 +13,13 @@ use Rattle.std.specs.HashSet.{HashSet, hash_set_eq}
 use Rattle.std.specs.HashSet as table
 use Rattle.std.proofs.lemmas.Map.Keys.{sorted_head, sorted_tail}
 use Rattle.std.proofs.lemmas.Map.Lookups.{hash_set_eq_decides}
+use Rattle.std.proofs.lemmas.Bool.{and_from, and_parts, or_left}
 use Rattle.range_algebra.specs.Range.{ClonesAreEqual}
 use Rattle.range_sets.specs.Members.{HasNone, HaveSame}
 
 -- whether some element equals the value
 abbrev has_value : {V : Type 0} → (V → V → Bool) → List V → V → Bool
 has_value eq xs v = list_any (eq v) xs
-
-pub both_true : (a b : Bool) → a ≡ true → b ≡ true → (a && b) ≡ true
-both_true a b e f = rw e f
-
-either_true : (a b : Bool) → a ≡ true → (a || b) ≡ true
-either_true a b e = rw e refl
-
-parts_true : (a b : Bool) → (a && b) ≡ true → (a ≡ true) × (b ≡ true)
-parts_true true b h = (refl, h)
-parts_true false b h = absurd cc
 
 module _ {V : Type 0} (eq : V → V → Bool) (laws : IsEquivalence eq) where
   pub equal_value : (xs : List V) (v w : V) → IsTrue (eq v w) → has_value eq xs v ≡ has_value eq xs w
@@ -42,18 +33,18 @@ module _ {V : Type 0} (eq : V → V → Bool) (laws : IsEquivalence eq) where
   pointwise_same [] [] h v = refl
   pointwise_same [] (y ∷ ys) h v = absurd cc
   pointwise_same (x ∷ xs) [] h v = absurd cc
-  pointwise_same (x ∷ xs) (y ∷ ys) h v = let both = parts_true (eq x y) (pointwise eq xs ys) h in λ i. to_equal v x y both.0 i || pointwise_same xs ys both.1 v i
+  pointwise_same (x ∷ xs) (y ∷ ys) h v = let both = and_parts (eq x y) (pointwise eq xs ys) h in λ i. to_equal v x y both.0 i || pointwise_same xs ys both.1 v i
 
   none_is_empty : (xs : List V) → ((v : V) → has_value eq xs v ≡ false) → xs ≡ []
   none_is_empty [] h = refl
-  none_is_empty (x ∷ xs) h = let own = either_true (eq x x) (has_value eq xs x) (laws.refl x) in let none = h x in absurd cc
+  none_is_empty (x ∷ xs) h = let own = or_left (eq x x) (has_value eq xs x) (laws.refl x) in let none = h x in absurd cc
 
 module _ {V : Type 0} (eq : V → V → Bool) (is_clone : V → V → Type 0) (equal : ClonesAreEqual is_clone eq) where
   pub clones_pointwise : (xs ys : List V) → AllZip is_clone xs ys → IsTrue (pointwise eq xs ys)
   clones_pointwise [] [] h = refl
   clones_pointwise [] (y ∷ ys) h = absurd h
   clones_pointwise (x ∷ xs) [] h = absurd h
-  clones_pointwise (x ∷ xs) (y ∷ ys) h = both_true (eq x y) (pointwise eq xs ys) (equal x y h.0) (clones_pointwise xs ys h.1)
+  clones_pointwise (x ∷ xs) (y ∷ ys) h = and_from (eq x y) (pointwise eq xs ys) (equal x y h.0) (clones_pointwise xs ys h.1)
 
 module _ {V : Type 0} (cmp : V → V → Ordering) (total : IsTotalOrder cmp) where
   abbrev tied : V → V → Bool
@@ -71,7 +62,7 @@ module _ {V : Type 0} (cmp : V → V → Ordering) (total : IsTotalOrder cmp) wh
   before_has_not v x xs sorted e = below_has_not v (x ∷ xs) (e, below_all v x xs e (sorted_head cmp x xs sorted))
 
   has_first : (x : V) (xs : List V) → has_value tied (x ∷ xs) x ≡ true
-  has_first x xs = either_true (tied x x) (has_value tied xs x) (ap is_eq (tied_itself total x))
+  has_first x xs = or_left (tied x x) (has_value tied xs x) (ap is_eq (tied_itself total x))
 
   module _ (x y : V) (xs ys : List V) (sorted : IsStrictlySortedBy cmp (x ∷ xs)) (other_sorted : IsStrictlySortedBy cmp (y ∷ ys)) (same : (v : V) → has_value tied (x ∷ xs) v ≡ has_value tied (y ∷ ys) v) where
     first_by : (r : Ordering) → cmp x y ≡ r → cmp x y ≡ Equal
@@ -96,7 +87,7 @@ module _ {V : Type 0} (cmp : V → V → Ordering) (total : IsTotalOrder cmp) wh
   sorted_pointwise [] (y ∷ ys) s t same = let out = same y ∙ has_first y ys in absurd cc
   sorted_pointwise (x ∷ xs) [] s t same = let out = sym (has_first x xs) ∙ same x in absurd cc
   sorted_pointwise (x ∷ xs) (y ∷ ys) s t same =
-      both_true (tied x y) (pointwise tied xs ys) (ap is_eq (first x y xs ys s t same))
+      and_from (tied x y) (pointwise tied xs ys) (ap is_eq (first x y xs ys s t same))
       (sorted_pointwise xs ys (sorted_tail cmp x xs s) (sorted_tail cmp y ys t) (λ v. by_first x y xs ys s t same v (tied v x) refl))
 
   -- what a sorted set promises, by its order

@@ -68,7 +68,7 @@ tree_upper s d root tree =
     omega (arith, pow-suc (CAPACITY + 1) d, mul_comm (CAPACITY + 1) ((CAPACITY + 1) ^ d), most)
 
 -- a power outgrows its exponent
-pow_more : (d : ℕ) → d + 1 ≤ (MIN_LEN + 1) ^ d
+pub pow_more : (d : ℕ) → d + 1 ≤ (MIN_LEN + 1) ^ d
 pow_more zero = omega arith
 pow_more (suc d) = omega (arith, pow-suc (MIN_LEN + 1) d, pow_more d)
 

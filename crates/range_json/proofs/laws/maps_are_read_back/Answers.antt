@@ -2,7 +2,7 @@ use Rattle.std.proofs.Common.{sym, subst, ◌∙◌, map}
 use Rattle.std.specs.Cmp.{Equal-is}
 use Rattle.range_json.specs.Shapes.{pair_shape, range_shape}
 use Rattle.range_json.specs.MapFaults.{IsFirstFault}
-use Rattle.range_json.proofs.Reading.{list_back}
+use Rattle.range_json.specs.SetReadBack.{list_back}
 use Rattle.range_json.proofs.ReadingBack.{map_back, map_sound}
 use Rattle.range_json.proofs.laws.maps_are_read_back.Goals as goal
 

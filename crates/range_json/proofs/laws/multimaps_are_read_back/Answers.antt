@@ -6,7 +6,7 @@ use Rattle.range_json.specs.SetReadBack.{set_back}
 use Rattle.range_json.specs.Shapes.{pair_shape, range_shape}
 use Rattle.range_json.specs.ValueSets.{reads_some_values, same_values, values_shape, IsValueSet, AreValuesRead}
 use Rattle.range_json.proofs.Multimaps.{multimap_sound}
-use Rattle.range_json.proofs.Reading.{list_back}
+use Rattle.range_json.specs.SetReadBack.{list_back}
 use Rattle.range_json.proofs.ReadingBack.{map_back}
 use Rattle.range_json.proofs.laws.multimaps_are_read_back.Goals as goal
 

@@ -1,5 +1,6 @@
 use Rattle.range_map.specs.Bindings.{IsBound}
-use Rattle.range_sets.proofs.Replies.{binds_alike, is_bound, on_err}
+use Rattle.range_map.proofs.Meeting.{binds_bound}
+use Rattle.range_sets.proofs.Replies.{binds_alike, on_err}
 use Rattle.range_sets.proofs.command.get_cloned.Goals as goal
 
 pub returns-in_ok-clone-in-Some-clause-value : goal.returns-in_ok-clone-in-Some-clause-value
@@ -10,4 +11,4 @@ pub returns-in_err-clone-in-Some-clause-refused : goal.returns-in_err-clone-in-S
 returns-in_err-clone-in-Some-clause-refused g c =
     let order = g.K.MaybeBounded.order in
     let items = g.C.Storage.items c.args.map.now in
-    on_err c.from_residual.result (IsBound order items c.args.key) (is_bound order g.V.PartialEq.eq items c.args.key c.in-Some.value.now c.in-Some.ensures.value)
+    on_err c.from_residual.result (IsBound order items c.args.key) (binds_bound order g.V.PartialEq.eq items c.args.key c.in-Some.value.now c.in-Some.ensures.value)
