@@ -53,8 +53,10 @@ impl AccessTable {
         range: R,
         label: String,
     ) -> Result<(), MapError>
-        ensures allowed { OnOk result (IsBoundAfter port_order string_eq self.old self.new (R.range range) label) }
-        ensures decided { (rules : List Rule) → IsDecidedBy self.old rules → OnOk result (IsDecidedBy self.new (record { range = R.range range; label = Some label } ∷ rules)) }
+        ensures allowed { OnOk result
+            (IsBoundAfter port_order string_eq self.old self.new (R.range range) label) }
+        ensures decided { (rules : List Rule) → IsDecidedBy self.old rules → OnOk result
+            (IsDecidedBy self.new (record { range = R.range range; label = Some label } ∷ rules)) }
         ensures refused { OnErr result (self.new ≡ self.old) }
     {
         self.allowed.insert(range, label)
@@ -64,8 +66,10 @@ impl AccessTable {
     ///
     /// Fails where an allocation is refused, and then the table is as it was.
     pub fn deny<R: AsRange<Item = Port>>(&mut self, range: R) -> Result<(), MapError>
-        ensures denied { OnOk result (IsUnboundAfter port_order string_eq self.old self.new (R.range range)) }
-        ensures decided { (rules : List Rule) → IsDecidedBy self.old rules → OnOk result (IsDecidedBy self.new (record { range = R.range range; label = None } ∷ rules)) }
+        ensures denied { OnOk result
+            (IsUnboundAfter port_order string_eq self.old self.new (R.range range)) }
+        ensures decided { (rules : List Rule) → IsDecidedBy self.old rules → OnOk result
+            (IsDecidedBy self.new (record { range = R.range range; label = None } ∷ rules)) }
         ensures refused { OnErr result (self.new ≡ self.old) }
     {
         self.allowed.remove(range)
@@ -74,7 +78,8 @@ impl AccessTable {
     /// The label that the port is allowed with, `None` where it is not. Allocates nothing.
     pub fn rule(&self, port: Port) -> Option<&String>
         ensures says { Says self.now port (option_copied result) }
-        ensures decided { (rules : List Rule) → IsDecidedBy self.now rules → IsOfLatest rules port (option_copied result) }
+        ensures decided { (rules : List Rule) → IsDecidedBy self.now rules
+            → IsOfLatest rules port (option_copied result) }
     {
         self.allowed.get(port)
     }
@@ -83,7 +88,8 @@ impl AccessTable {
     ///
     /// Fails where an allocation is refused.
     pub fn open(&self) -> Result<RangeSet<Port>, MapError>
-        ensures held { IfOk result (λ set. (port : Port) → port_order.is_key port → HoldsKey port_order (box_items set) port ↔ Says self.now port None) }
+        ensures held { IfOk result (λ set. (port : Port) → port_order.is_key port
+            → HoldsKey port_order (box_items set) port ↔ Says self.now port None) }
     {
         let mut open: RangeSet<Port> = RangeSet::new(self.alloc);
         open.insert(AnyRange::new(Bound::Unbounded, Bound::Unbounded))?;

@@ -235,7 +235,7 @@ fn is_written_or_refused<C: Storage<Entry>>(alloc: Global) -> bool {
     written && stores(&map, STORED)
 }
 
-/// Whether a map is read, bounds as they are spelled, or else an allocation failed.
+/// Whether a map is read, bounds as they are written, or else an allocation failed.
 fn is_read_or_refused<C: Storage<Entry>>(alloc: Global) -> bool {
     let Some(value) = parsed(alloc, WRITTEN) else {
         return true;

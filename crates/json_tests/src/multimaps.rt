@@ -134,7 +134,7 @@ fn stores<C: Storage<Entry>>(
     left.next().is_none()
 }
 
-/// Whether a multimap is read and written, bounds as they are spelled, or else an allocation
+/// Whether a multimap is read and written, bounds as they are written, or else an allocation
 /// failed; and stores what it stored, either way.
 fn is_done_or_refused<C: Storage<Entry>>(alloc: Global) -> bool {
     let Some(value) = parsed(alloc, WRITTEN) else {

@@ -77,7 +77,7 @@ fn set_stores(set: &Numbers, rows: &[Ends]) -> bool {
 
 const HELD_TEXT: &str = r#"[["Unbounded",{"Excluded":0}],[{"Excluded":0},{"Included":7}]]"#;
 
-/// Whether a set is read and written, bounds as they are spelled, or else an allocation failed;
+/// Whether a set is read and written, bounds as they are written, or else an allocation failed;
 /// and stores what it stored, either way.
 fn set_is_done_or_refused(alloc: Global) -> bool {
     let Some(value) = parsed(alloc, HELD_TEXT) else {
@@ -130,7 +130,7 @@ fn ranges(rt: HostRuntime) -> Result<(), Fail> {
     Ok(())
 }
 
-/// Whether a range is read and written, bounds as they are spelled, or else an allocation failed;
+/// Whether a range is read and written, bounds as they are written, or else an allocation failed;
 /// and is what it was, either way.
 fn range_is_done_or_refused(alloc: Global) -> bool {
     let Some(value) = parsed(alloc, r#"[{"Excluded":-3},{"Included":3}]"#) else {

@@ -18,7 +18,7 @@ pub type InVector = VecStorage<Entry>;
 
 pub type InTree = BoxStorage<Entry>;
 
-/// A stored range by its two bounds, as they are spelled.
+/// A stored range by its two bounds, as they are written.
 pub type Ends = (Bound<i32>, Bound<i32>);
 
 /// Whether a range has just these bounds.

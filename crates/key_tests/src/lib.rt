@@ -1,4 +1,4 @@
-//! Tests of keys and ranges: values from outside, and keys of one's own.
+//! Tests of keys and ranges: values from outside, and custom key types.
 #![tactic(auto)]
 
 #[cfg(test)]

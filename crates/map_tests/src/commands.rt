@@ -126,7 +126,7 @@ fn updates_are_told_apart_by_their_tags(rt: HostRuntime) -> Result<(), Fail> {
     Ok(())
 }
 
-/// Whether a command is done on a new map, or else refused for memory and nothing is changed.
+/// Whether a command is done on a new map, or else an allocation fails and nothing is changed.
 fn is_done_or_refused(alloc: Global) -> bool {
     let mut map = new_map::<InVector>(alloc);
     let given = reply(&mut map, Command::InsertDisconnected(half_open(0, 10), 1));

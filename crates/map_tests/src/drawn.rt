@@ -103,7 +103,7 @@ fn many_calls_bind_what_the_last_one_says(rt: HostRuntime) -> Result<(), Fail> {
     Ok(())
 }
 
-/// The keys from the first to the last, spelled in one of four ways.
+/// The keys from the first to the last, written in one of four ways.
 fn spelled(first: u8, last: u8, spelling: u32) -> AnyRange<u8> {
     let start = match first.checked_sub(1) {
         Some(before) if spelling % 2 == 1 => Excluded(before),

@@ -40,7 +40,8 @@ impl Clone for Tallied {
 impl PartialEq for Tallied {
     ghost eq = { eq_by_cmp (on (λ (x : Tallied). x.number) int_cmp) };
 
-    ghost laws = { partial_equiv_from_equiv (eq_by_cmp_equiv (on_total (λ (x : Tallied). x.number) int_cmp_total)) };
+    ghost laws = { partial_equiv_from_equiv
+        (eq_by_cmp_equiv (on_total (λ (x : Tallied). x.number) int_cmp_total)) };
 
     fn eq(&self, other: &Tallied) -> bool {
         self.cmp(other) == Ordering::Equal
@@ -102,7 +103,8 @@ impl PartialEnum for Tallied {
         None
     }
 
-    ghost lawful = { untold_lawful (on (λ (x : Tallied). x.number) int_cmp) (on_total (λ (x : Tallied). x.number) int_cmp_total) };
+    ghost lawful = { untold_lawful (on (λ (x : Tallied). x.number) int_cmp)
+        (on_total (λ (x : Tallied). x.number) int_cmp_total) };
 }
 
 impl Measure for Tallied {
@@ -118,7 +120,8 @@ impl Measure for Tallied {
         0
     }
 
-    ghost measured = { untold_measured (on (λ (x : Tallied). x.number) int_cmp) (on_total (λ (x : Tallied). x.number) int_cmp_total) };
+    ghost measured = { untold_measured (on (λ (x : Tallied). x.number) int_cmp)
+        (on_total (λ (x : Tallied). x.number) int_cmp_total) };
 }
 
 type TalliedMap = RangeMap<Tallied, i64, BoxStorage<Item<AnyRange<Tallied>, i64>>>;

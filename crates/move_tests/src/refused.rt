@@ -1,4 +1,4 @@
-//! Calls that are refused memory.
+//! Calls whose allocations fail.
 
 use crate::support::{Rule, Table, add, rules_of, set_of, step};
 use btree_range_map::generic::map::MapError;
@@ -37,7 +37,7 @@ fn make(rules: &mut Rules, change: Change) -> Result<(), MapError> {
     }
 }
 
-/// Whether the text is accepted or not, as it is to be, or memory was refused.
+/// Whether the text is accepted or not, as it is to be, or an allocation failed.
 fn judges(moves: &Moves, text: &str, accepted: bool) -> bool {
     match moves.accepts(text) {
         Ok(answer) => answer == accepted,
@@ -65,7 +65,7 @@ fn are_done_or_refused(alloc: Global) -> bool {
     true
 }
 
-/// Whether a step is made, or memory refused.
+/// Whether a step is made, or an allocation failed.
 fn steps_or_refuses(alloc: Global, moves: &Moves) -> bool {
     let Ok(states) = set_of(alloc, &[0, 3]) else {
         return true;

@@ -12,7 +12,8 @@ pub struct Loose(pub i64, pub i64);
 impl PartialEq for Loose {
     ghost eq = { eq_by_cmp (on (λ (x : Loose). x.0) int_cmp) };
 
-    ghost laws = { partial_equiv_from_equiv (eq_by_cmp_equiv (on_total (λ (x : Loose). x.0) int_cmp_total)) };
+    ghost laws = { partial_equiv_from_equiv
+        (eq_by_cmp_equiv (on_total (λ (x : Loose). x.0) int_cmp_total)) };
 
     fn eq(&self, other: &Loose) -> bool {
         self.0 == other.0

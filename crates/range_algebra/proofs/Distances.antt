@@ -18,7 +18,7 @@ not_greater_less Equal h = refl
 not_greater_less Greater h = h
 
 module _ {K : Type 0} (order : KeyOrder K) (lawful : IsLawful order) (len : K → ℕ) (distance : K → K → ℕ) (measured : IsMeasure order len distance) where
-  -- at a key or just behind it
+  -- at a key or just after it
   unfoldable pub IsPlace : Position K → Type 0
   IsPlace MinusInfinity = ⊥
   IsPlace (Beside a Before) = ⊥
@@ -26,7 +26,7 @@ module _ {K : Type 0} (order : KeyOrder K) (lawful : IsLawful order) (len : K �
   IsPlace (Beside a After) = order.is_key a
   IsPlace PlusInfinity = ⊥
 
-  -- the length of the key that the place lies behind
+  -- the length of the key that the place lies after
   passed : K → Side → ℕ
   passed a Before = 0
   passed a At = 0

@@ -111,7 +111,7 @@ module _ {K : Type 0} (order : KeyOrder K) (lawful : IsLawful order) where
       much = between_keys a a ∙ no_distance a key;
     }
 
-    -- the place behind a key
+    -- the place after a key
     measure_after_key : (a : K) (o : Option K) → order.succ a ≡ o → order.is_key a → LiesAbove a (at_told o (Beside a After)) (len a)
     measure_after_key a None e key = record {
       is_place = past_place a key;
@@ -124,7 +124,7 @@ module _ {K : Type 0} (order : KeyOrder K) (lawful : IsLawful order) where
       much = between_keys a b ∙ measured.step a b e;
     }
 
-    -- the place before a key, behind the neighbour that is told
+    -- the place before a key, after the neighbour that is told
     before_by : (a b : K) (o : Option K) → order.succ a ≡ o → Tells order o b → order.is_key b → LiesAbove b (at_told o (Beside a After)) 0
     before_by a b None e t key = absurd t
     before_by a b (Some c) e t key =

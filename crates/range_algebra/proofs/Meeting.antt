@@ -203,7 +203,7 @@ module _ {K : Type 0} (order : KeyOrder K) (lawful : IsLawful order) where
   past_is_start PlusInfinity PlusInfinity complete h l = absurd (cc)
 
   module _ (complete : IsComplete order) (r s : AnyRange K) (known : IsKnownRange order r) (others : IsKnownRange order s) (full : Full r) (full' : Full s) where
-    -- where the one lies before the other with room between, some key lies between keys of the two
+    -- where the one lies before the other with places between, some key lies between keys of the two
     room_between : PLt (upper order r) (lower order s) → AreConnected order r s → ⊥
     unfolding NotPast IsBefore KeyFrom
     room_between l connected =

@@ -7,7 +7,7 @@ use Rattle.range_keys.specs.declared.inner.position.Side.TheVariants.{Before, At
 use Rattle.range_algebra.specs.declared.any.AnyRange.{AnyRange}
 
 module _ {K : Type 0} (order : KeyOrder K) where
-  -- the least place at which a range can start behind an end at this place
+  -- the least place at which a range can start after an end at this place
   abbrev pub past : Position K → Position K
   past MinusInfinity = MinusInfinity
   past (Beside a Before) = Beside a At

@@ -15,7 +15,7 @@ module _ {K : Type 0} (order : KeyOrder K) where
   AreRising [] = ⊤
   AreRising (x ∷ keys) = AllByRecursion (Below order x) keys × AreRising keys
 
-  -- the keys of which P holds, listed in rising order, are n
+  -- the keys of which P holds, listed in ascending order, are n
   pub record IsNumberOfKeys (P : K → Type 0) (n : ℕ) : Type 0 where
     pub keys : List K
     pub in_type : AllByRecursion order.is_key keys

@@ -6,7 +6,7 @@ use Rattle.std.specs.declared.ops.Bound.TheVariants.{Included, Excluded, Unbound
 use Rattle.range_algebra.specs.declared.any.AnyRange.{AnyRange}
 
 module _ {K : Type 0} (key_text : K → Option (List ℕ)) where
-  -- an excluded start has a dot behind it, an unbounded one is a dot
+  -- an excluded start has a dot after it, an unbounded one is a dot
   abbrev pub start_text : Bound K → Option (List ℕ)
   start_text (Included a) = key_text a
   start_text (Excluded a) = key_text a ++? Some (codes ".")

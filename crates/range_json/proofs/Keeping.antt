@@ -77,7 +77,7 @@ module _ {K V : Type 0} (order : KeyOrder K) (lawful : IsLawful order) (same : V
   none_joined [] x good known_x good_x leads = tt
   none_joined (i ∷ xs) x good known_x good_x leads = (not_joined i x good.0.0 known_x good.0.1 good_x leads.0, none_joined xs x good.1 known_x good_x leads.1)
 
-  -- nothing stands behind an item that all others lead to
+  -- nothing stands after an item that all others lead to
   none_behind : (front behind : List (Item (AnyRange K) V)) (x : Item (AnyRange K) V) → Goods behind → Lt (places order lawful) (item_lower order x) (item_upper order x) → Every (λ i. LeadsTo i x) behind → Chained order lawful same equal (front ++ x ∷ behind) → behind ≡ []
   none_behind front [] x good good_x leads chain = refl
   none_behind front (b ∷ behind) x good good_x leads chain =

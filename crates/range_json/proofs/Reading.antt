@@ -34,7 +34,7 @@ module _ (fault : ℕ → Data → Fault) where
   rest_none None rest e = e
   rest_none (Some x) rest e = search (rules, e)
 
-  -- where the elements before have no fault, the first is one of those behind
+  -- where the elements before have no fault, the first is one of those after
   pub fault_behind : (i : ℕ) (ds more : List Data) → first_fault fault i ds ≡ None → first_fault fault i (ds ++ more) ≡ first_fault fault (i + length ds) more
   fault_behind i [] more h = ap (λ n. first_fault fault n more) (omega arith)
   fault_behind i (d ∷ ds) more h =
@@ -45,15 +45,15 @@ module _ (fault : ℕ → Data → Fault) where
   from_start : (ds more : List Data) → first_fault fault 0 ds ≡ None → first_fault fault 0 (ds ++ more) ≡ first_fault fault (length ds) more
   from_start ds more h = fault_behind 0 ds more h ∙ ap (λ n. first_fault fault n more) (omega arith)
 
-  -- a fault of an element behind elements without one is the first
+  -- a fault of an element after elements without one is the first
   pub fault_first : (ds : List Data) (d : Data) (more : List Data) (e : JsonError) → first_fault fault 0 ds ≡ None → fault (length ds) d ≡ Some e → first_fault fault 0 (ds ++ d ∷ more) ≡ Some e
   fault_first ds d more e h at = from_start ds (d ∷ more) h ∙ ap (λ f. before f (first_fault fault (suc (length ds)) more)) at
 
-  -- an element without fault behind such elements
+  -- an element without fault after such elements
   pub no_fault_more : (ds : List Data) (d : Data) → first_fault fault 0 ds ≡ None → fault (length ds) d ≡ None → first_fault fault 0 (ds ++ d ∷ []) ≡ None
   no_fault_more ds d h at = from_start ds (d ∷ []) h ∙ ap (λ f. before f None) at
 
--- one more is read behind those that are
+-- one more is read after those that are
 pub read_more : {X : Type 0} (R : Data → X → Type 0) (ds : List Data) (xs : List X) (d : Data) (x : X) → AllZip R ds xs → R d x → AllZip R (ds ++ d ∷ []) (xs ++ x ∷ [])
 read_more R [] [] d x h k = (k, tt)
 read_more R [] (y ∷ xs) d x h k = absurd h

@@ -28,7 +28,7 @@ module _ {K : Type 0} (order : KeyOrder K) where
   directed_position (Start b) = start_position order b
   directed_position (End b) = end_position order b
 
-  -- the same, of bounds behind references
+  -- the same, of bounds under references
   abbrev pub reference_position : Directed (Bound (Bor K)) → Position K
   reference_position d = directed_position (directed_map bound_of d)
 

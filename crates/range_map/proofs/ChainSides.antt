@@ -62,7 +62,7 @@ module _ {L V X : Type 0} (cmp : L → L → Ordering) (total : IsTotalOrder cmp
         );
       }
 
-  -- a back that starts at the place at least, behind what ends there at most
+  -- a back that starts at the place at least, after what ends there at most
   pub right_whole : (rest back : List X) (d : L) → Chain (rest ++ back) → Every (λ x. Le cmp (hi x) d) rest → Every (λ x. Le cmp d (lo x)) back → IsRight cmp total same equal lo hi value (rest ++ back) back d
   right_whole rest back d chain ends starts = record {
     chain = chain_right cmp total same equal lo hi value rest back chain;

@@ -1,4 +1,4 @@
--- A walk that writes items one after the other.
+-- A loop that writes items one after the other.
 use Rattle.std.proofs.Common.{◌≡◌, refl, ◌∙◌, ap, subst, ℕ, List, [], ◌∷◌, ◌++◌, append_assoc, append-nil, Option, Some, None, Result, sym}
 use Rattle.std.specs.Prelude.{IsOk}
 use Rattle.std.specs.Fmt.{HasWritten, IsPlainFormatter, DisplaysOnOk, option_append}

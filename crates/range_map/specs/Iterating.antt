@@ -1,4 +1,4 @@
--- What is left of a walk over stored items from both ends.
+-- What is left of an iterator over stored items, which takes from both ends.
 use Rattle.std.specs.Prelude.{◌≡◌, ℕ, ◌+◌, ◌<◌, ◌≤◌, Option, Some, None}
 use denote.Ref.{Bor}
 use Rattle.range_algebra.specs.declared.any.AnyRange.{AnyRange}

@@ -1,4 +1,4 @@
--- Which item of a rising list an element belongs to.
+-- Which item of an ascending list an element belongs to.
 use Rattle.std.specs.Prelude.{ℕ, ◌+◌, ◌<◌, Bool, IsTrue, List, length, slice_index_or}
 use Rattle.std.specs.List.{AllWithin}
 use Rattle.range_keys.specs.Order.{KeyOrder}

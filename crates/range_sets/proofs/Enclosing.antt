@@ -70,12 +70,12 @@ module _ {K : Type 0} (order : KeyOrder K) (lawful : IsLawful order) where
       let at = inverted_bound_is_past order lawful b x (turned_back order lawful x b turns) in
       le_trans cmp total (Start x) (past order (End b)) (Start p) (eq_ge cmp total (past order (End b)) (Start x) at) ((before_is order lawful b p (turned_known order lawful x b turns known_x) known).0 l)
 
-  -- what ends behind an end reaches the start just past it
+  -- what ends after an end reaches the start just past it
   end_reaches : (e a q : Bound K) → IsKnownBound order q → inverted e ≡ Some a → PLt (End e) (End q) → PLt (End q) (Start a) → ⊥
   end_reaches e a q known turns l under =
       lt_not_le (position_cmp order.cmp) (position_total order.cmp lawful.total) (End e) (End q) l (ends_before order lawful q a e known (turned_back order lawful e a turns) under)
 
-  -- a range behind a bound that misses the gap up to a start does not start before it
+  -- a range after a bound that misses the gap up to a start does not start before it
   start_is_not_before_item : (s : Option (Bound K)) (x : Bound K) (r : AnyRange K) → IsKnownBound order x → IsFull order lawful r → From order lawful s r → Every (λ g. ¬ Overlap order g r) (between order s (inverted x)) → PLt (Start r.start) (Start x) → ⊥
   start_is_not_before_item None x r known full from all l = absurd from
   start_is_not_before_item (Some a) x r known full from all l =
@@ -88,7 +88,7 @@ module _ {K : Type 0} (order : KeyOrder K) (lawful : IsLawful order) where
         λ before. lt_not_le cmp total (End r.end) (Start a) before (le_trans cmp total (Start a) (Start r.start) (End r.end) from full.1),
       )
 
-  -- a range that misses the gap behind an end, the last one, does not reach over it
+  -- a range that misses the gap after an end, the last one, does not reach over it
   over_last : (e : Bound K) (r : AnyRange K) → IsFull order lawful r → Every (λ g. ¬ Overlap order g r) (between order (inverted e) (Some Unbounded)) → PLt (End e) (End r.end) → ⊥
   over_last e r full all l =
       let total = position_total order.cmp lawful.total in
@@ -102,7 +102,7 @@ module _ {K : Type 0} (order : KeyOrder K) (lawful : IsLawful order) where
         under,
       )
 
-  -- nor does one that starts before it where a range stands behind the gap
+  -- nor does one that starts before it where a range stands after the gap
   over_next : (e : Bound K) (next r : AnyRange K) → IsKnownBound order e → IsFull order lawful r → IsKnownRange order next → (IsEmptyRange order next → ⊥) → PLt (End e) (Start next.start) → (PLe (Start next.start) (past order (End e)) → ⊥) → Every (λ g. ¬ Overlap order g r) (between order (inverted e) (inverted next.start)) → PLe (Start r.start) (End e) → PLt (End e) (End r.end) → ⊥
   over_next e next r known full known_next some before apart all starts l =
       let total = position_total order.cmp lawful.total in
@@ -119,7 +119,7 @@ module _ {K : Type 0} (order : KeyOrder K) (lawful : IsLawful order) where
         end_reaches e a r.end full.0.1 first.1 l,
       )
 
-  -- what starts past an end is behind the bound on the other side of it
+  -- what starts past an end is after the bound on the other side of it
   from_next : (e : Bound K) (r : AnyRange K) → IsKnownBound order e → IsFull order lawful r → PLt (End e) (Start r.start) → From order lawful (inverted e) r
   from_next (Included a) r known full l = start_after r.start (Excluded a) (Included a) full.0.0 known refl l
   from_next (Excluded a) r known full l = start_after r.start (Included a) (Excluded a) full.0.0 known refl l
@@ -153,7 +153,7 @@ module _ {K : Type 0} (order : KeyOrder K) (lawful : IsLawful order) where
         let touching = touches_is order lawful i.key.end j.key known ((nonempty_good order lawful j.key known).0 some) le in
         over_next i.key.end j.key r h.0.1 full known some h.2 (λ back. h.3 (touching.1 back) refl) (every_left (λ g. ¬ Overlap order g r) (between order (inverted i.key.end) (inverted j.key.start)) (free_from order (inverted j.key.end) rest) all) starts l
 
-    -- a range behind a bound that misses all that is free there lies in an item
+    -- a range after a bound that misses all that is free there lies in an item
     pub missing_gaps_is_within_item : (s : Option (Bound K)) (items : List (Item (AnyRange K) V)) (r : AnyRange K) → IsSetList items → IsFull order lawful r → From order lawful s r → Every (λ g. ¬ Overlap order g r) (free_from order s items) → Any (λ i. LiesIn order r i.key) items
     missing_gaps_is_within_item None [] r h full from all = absurd from
     missing_gaps_is_within_item (Some a) [] r h full from all =

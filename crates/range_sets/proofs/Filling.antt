@@ -1,4 +1,4 @@
--- Clones of the gaps of a list, put one behind the other.
+-- Clones of the gaps of a list, put one after the other.
 use Rattle.std.proofs.Common.{◌≡◌, ℕ, ◌+◌, ◌≤◌, refl, sym, ap, subst, ◌∙◌, ◌↔◌, ◌⊎◌, inl, inr, arith, append_assoc, true, List, [], ◌∷◌, ◌++◌, length}
 use Rattle.std.proofs.lemmas.List.{append-nil}
 use Rattle.std.proofs.lemmas.List.Elements.{All-from_recursion}
@@ -35,7 +35,7 @@ module _ {K : Type 0} (order : KeyOrder K) where
   abbrev SameRange : Item (AnyRange K) (Unit {0}) → AnyRange K → Type 0
   SameRange i g = range_cmp order i.key g ≡ Equal
 
-  -- the items equal the gaps that came before the rest, and there is room for the rest
+  -- the items equal the gaps that came before the rest, and there is capacity for the rest
   pub record IsFilled (gaps rest : List (AnyRange K)) (items : Items) (room : ℕ) : Type 0 where
     pub done : List (AnyRange K)
     pub split : done ++ rest ≡ gaps

@@ -51,7 +51,7 @@ module _ {K : Type 0} (order : KeyOrder K) (lawful : IsLawful order) where
         ends = le_trans cmp total (End r) (End s) (End t) h.ends k.ends;
       }
 
-  -- no nonempty range lies in one that it is behind
+  -- no nonempty range lies in one that it is after
   behind_not_within : (r s : AnyRange K) → IsFull order lawful s → LiesBefore order r s → LiesIn order s r → ⊥
   behind_not_within r s full before within =
       let total = position_total order.cmp lawful.total in
@@ -64,7 +64,7 @@ module _ {K : Type 0} (order : KeyOrder K) (lawful : IsLawful order) where
       let cmp = position_cmp order.cmp in
       lt_not_le cmp total (End r) (Start s) before (le_trans cmp total (Start s) (End s) (End r) full_s.1 (lt_le cmp total (End s) (End r) (lt_le_trans cmp total (End s) (Start r) (End r) after full.1)))
 
-  -- the ranges of a row, where each stands before the next, are each before all behind it
+  -- the ranges of a row, where each stands before the next, are each before all after it
   pub row_pairs : (ranges : List (AnyRange K)) → Every (IsFull order lawful) ranges → EachNext (LiesBefore order) ranges → Pairs (LiesBefore order) ranges
   row_pairs [] full rising = tt
   row_pairs (r ∷ []) full rising = (tt, tt)
@@ -85,7 +85,7 @@ module _ {K : Type 0} (order : KeyOrder K) (lawful : IsLawful order) where
     abbrev pub InSome : AnyRange K → List A → Type 0
     InSome r xs = Any (λ x. LiesIn order r (range x)) xs
 
-    -- a range that lies in one of a row's rest is behind the row's first
+    -- a range that lies in one of a row's rest is after the row's first
     behind_first : (r s : AnyRange K) (xs : List A) → BeforeAll r xs → InSome s xs → LiesBefore order r s
     behind_first r s [] before within = absurd within
     behind_first r s (x ∷ xs) before (inl h) = lt_le_trans (position_cmp order.cmp) (position_total order.cmp lawful.total) (End r) (Start (range x)) (Start s) before.0 h.starts
@@ -110,7 +110,7 @@ module _ {K : Type 0} (order : KeyOrder K) (lawful : IsLawful order) where
             lt_not_le cmp total (End s) (Start r) before (le_trans cmp total (Start r) (Start s) (End s) within.starts full.1)
 
   module _ {A B : Type 0} (range : A → AnyRange K) (other : B → AnyRange K) where
-    -- what is behind the first of one row lies in the rest of the other
+    -- what is after the first of one row lies in the rest of the other
     rest_within : (x : A) (y : B) (xs : List A) (ys : List B) → LiesIn order (other y) (range x) → FullAll range xs → BeforeAll range (range x) xs → Every (λ z. InSome other (range z) (y ∷ ys)) xs → Every (λ z. InSome other (range z) ys) xs
     rest_within x y [] ys within full before all = tt
     rest_within x y (z ∷ xs) ys within full before all = (here all.0, rest_within x y xs ys within full.1 before.1 all.1)

@@ -1,4 +1,4 @@
--- A walk that writes ranges one after the other.
+-- A loop that writes ranges one after the other.
 use Rattle.std.proofs.Common.{◌≡◌, refl, ◌∙◌, ap, subst, ℕ, List, [], ◌∷◌, ◌++◌, append_assoc, Option, Some, Result, sym}
 use Rattle.std.specs.Prelude.{IsOk}
 use Rattle.std.specs.Fmt.{HasWritten, IsPlainFormatter, DisplaysOnOk}

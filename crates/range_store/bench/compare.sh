@@ -1,5 +1,5 @@
 #!/bin/sh
-# Times searches, insertions and removals at scattered keys, and a walk, of a map over the B-tree and over the
+# Times searches, insertions and removals at scattered keys, and the iteration, of a map over the B-tree and over the
 # vector, and of std's BTreeMap, at 1,000 to 1,000,000 items, and measures the memory of each at its fullest. Needs
 # `rt` and `/usr/bin/time`; proves what is not proved yet.
 set -eu

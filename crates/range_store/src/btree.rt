@@ -215,7 +215,12 @@ impl<T: Drop> Storage<T> for BoxStorage<T> {
 
     ghost room_with = { λ s p x. room_with_stored s (box_rank s p.found) x };
 
-    ghost good_with = { λ s p x q h. record { edge = h.edge; some = h.some; within = h.within; number_is = h.number_is } };
+    ghost good_with = { λ s p x q h. record {
+      edge = h.edge;
+      some = h.some;
+      within = h.within;
+      number_is = h.number_is;
+    } };
 
     ghost rank_with = { λ s p x q. refl };
 

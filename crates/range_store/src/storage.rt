@@ -246,16 +246,20 @@ pub trait Storage<T>: Drop {
             (λ copy. AllZip (λ x y. T.eq y x ≡ true) (items self.now) (items copy)) };
 
     /// A good position names a rank below the length.
-    ghost good_is_in_range: { (s : Self) (p : Self.Position) → is_good s p → rank s p < length (items s) };
+    ghost good_is_in_range: { (s : Self) (p : Self.Position) → is_good s p
+        → rank s p < length (items s) };
 
     /// What is written to a lent item stands at its rank, and nothing else changes.
-    ghost items_with: { (s : Self) (p : Self.Position) (x : T) → items (with_item s p x) ≡ slice_set (items s) (rank s p) x };
+    ghost items_with: { (s : Self) (p : Self.Position) (x : T)
+        → items (with_item s p x) ≡ slice_set (items s) (rank s p) x };
 
     ghost room_with: { (s : Self) (p : Self.Position) (x : T) → room (with_item s p x) ≡ room s };
 
-    ghost good_with: { (s : Self) (p : Self.Position) (x : T) (q : Self.Position) → is_good s q → is_good (with_item s p x) q };
+    ghost good_with: { (s : Self) (p : Self.Position) (x : T) (q : Self.Position)
+        → is_good s q → is_good (with_item s p x) q };
 
-    ghost rank_with: { (s : Self) (p : Self.Position) (x : T) (q : Self.Position) → rank (with_item s p x) q ≡ rank s q };
+    ghost rank_with: { (s : Self) (p : Self.Position) (x : T) (q : Self.Position)
+        → rank (with_item s p x) q ≡ rank s q };
 
     /// The length is a `usize`.
     ghost length_fits: { (s : Self) → length (items s) < 2 ^ 64 };

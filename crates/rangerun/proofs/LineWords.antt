@@ -1,4 +1,4 @@
--- Which word a command line begins with, and what its fields spell then.
+-- Which word a command line begins with, and what its fields say then.
 use Rattle.std.proofs.Common.{◌≡◌, ◌≢◌, ℕ, ℤ, List, [], ◌∷◌, inl, inr, refl, sym, ap, ◌∙◌, subst}
 use Rattle.std.specs.Prelude.{Bool, true, false, ◌==◌, if◌then◌else◌, Option, None, Some, IfNone, codes}
 use Rattle.btree_range_map.specs.AnyRange.{AnyRange}
@@ -69,7 +69,7 @@ text_unique : (v w : Word) → text_of v ≡ text_of w → v ≡ w
 text_unique v w e = let same : Some v ≡ Some w = sym (word_begins_its_text v) ∙ (ap by_initial e ∙ word_begins_its_text w) in cc
 
 module _ {K : Type 0} (IsKey : K → Type 0) (as_number : K → ℤ) where
-  -- what the fields behind a word spell
+  -- what the fields after a word say
   abbrev pub Fields : Word → List ℕ → Type 0
   Fields InsertWord text = (range : AnyRange K) × (value : ℤ) × SpellsBinding IsKey as_number text range value
   Fields TryWord text = (range : AnyRange K) × (value : ℤ) × SpellsBinding IsKey as_number text range value
@@ -124,7 +124,7 @@ module _ {K : Type 0} (IsKey : K → Type 0) (as_number : K → ℤ) where
   alone_lacks Save alone = lacks_space (codes "save") refl
   alone_lacks known alone = absurd alone
 
-  -- a line with a space spells what its word and its fields do
+  -- a line with a space says what its word and its fields say
   pub none_by_fields : (text word fields : List ℕ) → IsSplitAt 32 text word fields → ((known : CommandLine K) → SpellsFields IsKey as_number fields known → word ≡ word_text known → ⊥) → (known : CommandLine K) → SpellsLine IsKey as_number text known → ⊥
   none_by_fields text word fields cut none known (inl (alone, e)) = has_byte 32 (word_text known) word fields (sym e ∙ cut.0) (alone_lacks known alone)
   none_by_fields text word fields cut none known (inr (own, spelled, e)) =

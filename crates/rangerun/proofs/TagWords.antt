@@ -1,4 +1,4 @@
--- Which word a tag begins with, and what stands behind it then.
+-- Which word a tag begins with, and what comes after it then.
 use Rattle.std.proofs.Common.{arith, ◌≡◌, ◌≢◌, ℕ, ℤ, List, ◌∷◌, ◌++◌, drop, refl, sym, ap, ◌∙◌, subst}
 use Rattle.std.specs.Prelude.{codes}
 use lib.ListN.{get_or}
@@ -16,7 +16,7 @@ lists_differ_at xs ys i a b here there other same = other (sym here ∙ (ap (λ 
 pub text_begins_with_word : (text word known fields : List ℕ) → IsSplitAt 32 text word fields → word ≡ known → text ≡ known ++ 32 ∷ fields
 text_begins_with_word text word known fields cut is = cut.0 ∙ ap (λ w. w ++ 32 ∷ fields) is
 
--- a word is refused where what stands behind it is
+-- a word is refused where what comes after it is
 pub none_of_set : (text fields : List ℕ) → text ≡ codes "set" ++ 32 ∷ fields → ((n : ℤ) → SpellsNumber fields n → ⊥) → (tag : Tag) → SpellsTag text tag → ⊥
 none_of_set text fields is none (Set value) (v, spelled, e) = none value (subst (λ t. SpellsNumber t value) (ap (λ l. drop 4 l) (sym e ∙ is)) spelled)
 none_of_set text fields is none (Fill value) (v, spelled, e) = lists_differ_at (codes "set" ++ 32 ∷ fields) (codes "fill" ++ 32 ∷ v) 0 115 102 refl refl (omega arith) (sym is ∙ e)

@@ -18,7 +18,7 @@ use Rattle.rangerun.specs.Tags.{IsAnswerOf}
 
 -- of keys, each with its number, with the JSON value that it is written as, and with those that it is read of
 module _ {K : Type 0} (order : KeyOrder K) (as_number : K → ℤ) (shape : K → Data) (reads : Data → Bool) (is_read : Data → K → Type 0) where
-  -- the command that the line spells, or none where it spells none
+  -- the command that the line writes, or none where it writes none
   abbrev pub IsRead : List ℕ → Option (CommandLine K) → Type 0
   IsRead line None = (known : CommandLine K) → SpellsLine order.is_key as_number line known → ⊥
   IsRead line (Some known) = SpellsLine order.is_key as_number line known

@@ -18,7 +18,7 @@ use Rattle.rangerun.specs.Conversation.{Conversation, AnswersLine}
 use Rattle.rangerun.specs.Conversation.Conversation.{Ended, Answered}
 use Rattle.rangerun.specs.Tags.{IsAnswerOf}
 
--- the commands that some lines spell, with the replies to them, and the list that was stored first
+-- the commands that some lines write, with the replies to them, and the list that was stored first
 pub record Commands (K : Type 0) : Type 0 where
   pub first : List (Item (AnyRange K) ℤ)
   pub commands : List (Command K ℤ Tag)

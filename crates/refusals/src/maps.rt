@@ -42,7 +42,7 @@ pub enum MapCall {
 /// What a new binding is bound to.
 const NEW: &str = "new";
 
-/// What the range of a place is bound to. All others are bound to a text that takes no memory.
+/// What the range of a place is bound to. All others are bound to a text that allocates nothing.
 fn text(place: u16, size: Size) -> &'static str {
     if place == size.middle() { "middle" } else { "" }
 }

@@ -35,7 +35,7 @@ pub fn key(place: u16, offset: u8) -> i32 {
     10 * i32::from(place) + i32::from(offset)
 }
 
-/// Whether two ranges have the same bounds, spelled alike.
+/// Whether two ranges have the same bounds, written alike.
 pub fn is_spelled(range: &AnyRange<i32>, other: AnyRange<i32>) -> bool {
     range.start == other.start && range.end == other.end
 }

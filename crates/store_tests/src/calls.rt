@@ -114,7 +114,7 @@ pub fn play<C: Storage<u64>>(storage: &mut C, call: Call) -> Result<Answer, Allo
     }
 }
 
-// Takes the item of a rank out and puts it before all others. No memory is asked for.
+// Takes the item of a rank out and puts it before all others. Allocates nothing.
 fn exchange<C: Storage<u64>>(storage: &mut C, rank: usize)
     requires { 1 ≤ C.room storage.old }
     ensures { C.room storage.old ≤ C.room storage.new + 1 }
@@ -126,7 +126,7 @@ fn exchange<C: Storage<u64>>(storage: &mut C, rank: usize)
     }
 }
 
-/// Exchanges an item here and there so many times. Memory is asked for once, before all.
+/// Exchanges an item here and there so many times. Allocates once, before all.
 pub fn exchanges<C: Storage<u64>>(storage: &mut C, times: usize) -> Result<(), AllocError> {
     storage.reserve(times)?;
     for turn in 0..times {

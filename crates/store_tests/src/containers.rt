@@ -159,7 +159,7 @@ fn copies(rt: HostRuntime) -> Result<(), AllocError> {
     calls_and_copies(&rt, &mut both)
 }
 
-/// Puts an item into both, and where the tree is refused memory it is as it was.
+/// Puts an item into both, and where the tree's allocation fails it is as it was.
 fn put_again(rt: &impl Abort, both: &mut Both, call: Call) -> Result<(), AllocError> {
     if play_tree(&mut both.tree, call).is_err() {
         expect_same(rt, &both.tree, &both.list);

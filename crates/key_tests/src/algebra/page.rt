@@ -1,4 +1,4 @@
-//! A key type of one's own that tells no end, with keys longer than 1.
+//! A custom key type that tells no end, with keys longer than 1.
 
 ghost use Rattle.std.specs.Prelude.{ℕ, ◌*◌, ◌-◌, ◌<◌, ◌^◌, None, refl};
 ghost use Rattle.std.specs.Ordering.{nat_cmp, on};
@@ -15,7 +15,14 @@ use range_keys::traits::{MaybeBounded, Measure, PartialEnum};
 pub struct Page(pub u32);
 
 impl MaybeBounded for Page {
-    ghost order = { record { is_key = λ (p : Page). p.0 < 2 ^ 32; cmp = on (λ p. p.0) nat_cmp; succ = λ _. None; pred = λ _. None; least = None; greatest = None } };
+    ghost order = { record {
+      is_key = λ (p : Page). p.0 < 2 ^ 32;
+      cmp = on (λ p. p.0) nat_cmp;
+      succ = λ _. None;
+      pred = λ _. None;
+      least = None;
+      greatest = None;
+    } };
 
     fn min() -> Option<Page> {
         None
@@ -41,7 +48,21 @@ impl PartialEnum for Page {
         None
     }
 
-    ghost lawful = { record { total = on_total (λ (p : Page). p.0) nat_cmp_total; succ_key = λ a b e. Prim.cc; pred_key = λ a b e. Prim.cc; succ_above = λ a b e. Prim.cc; succ_pred = λ a b e. Prim.cc; pred_succ = λ a b e. Prim.cc; none_between = λ a b k e key l. Prim.cc; succ_congr = λ a b e. tt; pred_congr = λ a b e. tt; least_key = λ m e. Prim.cc; greatest_key = λ m e. Prim.cc; least_bound = λ m k e key. Prim.cc; greatest_bound = λ m k e key. Prim.cc } };
+    ghost lawful = { record {
+      total = on_total (λ (p : Page). p.0) nat_cmp_total;
+      succ_key = λ a b e. Prim.cc;
+      pred_key = λ a b e. Prim.cc;
+      succ_above = λ a b e. Prim.cc;
+      succ_pred = λ a b e. Prim.cc;
+      pred_succ = λ a b e. Prim.cc;
+      none_between = λ a b k e key l. Prim.cc;
+      succ_congr = λ a b e. tt;
+      pred_congr = λ a b e. tt;
+      least_key = λ m e. Prim.cc;
+      greatest_key = λ m e. Prim.cc;
+      least_bound = λ m k e key. Prim.cc;
+      greatest_bound = λ m k e key. Prim.cc;
+    } };
 }
 
 impl Measure for Page {
@@ -57,5 +78,12 @@ impl Measure for Page {
         u128::from(other.0 - self.0) * 4096
     }
 
-    ghost measured = { record { len_congr = λ a b p q e. refl; itself = λ a b p q e. Prim.grind (arith, nat_tests); adds = λ a b c p q r f g. Prim.grind (arith, nat_tests); at_least = λ a b p q l. Prim.grind (arith, nat_tests); step = λ a b e. Prim.cc; fits = λ a b p q f. Prim.grind (arith, nat_tests) } };
+    ghost measured = { record {
+      len_congr = λ a b p q e. refl;
+      itself = λ a b p q e. Prim.grind (arith, nat_tests);
+      adds = λ a b c p q r f g. Prim.grind (arith, nat_tests);
+      at_least = λ a b p q l. Prim.grind (arith, nat_tests);
+      step = λ a b e. Prim.cc;
+      fits = λ a b p q f. Prim.grind (arith, nat_tests);
+    } };
 }

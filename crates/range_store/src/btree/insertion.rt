@@ -12,8 +12,8 @@ use crate::btree::node::{
 use crate::btree::way::{DEEPEST, Edge, edge_at, first_turn, seen_above, seen_inside};
 use slab::Slab;
 
-// What became of a node: it stands alone, or is the first of two; and an edge below it (`side` is 0) or
-// below the second (1).
+// What became of a node: it stands alone, or is the first of two; and an edge below it (`side` is
+// 0) or below the second (1).
 #[derive(Clone, Copy)]
 pub struct Parts {
     pub split: Option<Split>,

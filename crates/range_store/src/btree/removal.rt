@@ -72,8 +72,8 @@ pub fn rejoin(
     }
 }
 
-// The seat of an edge among the items of two neighbours, from that in the first (`side` is 0) or the
-// second.
+// The seat of an edge among the items of two neighbours, from that in the first (`side` is 0) or
+// the second.
 pub fn seat_in_pair(nodes: &Slab<Node>, low: usize, left: usize, side: usize, edge: Edge) -> usize
     requires present { ContainsKey nodes.now left }
     requires fits { length (items_of (get nodes.now left)) ≤ CAPACITY }
@@ -202,8 +202,8 @@ pub fn remove_below(nodes: &mut Slab<Node>, below: usize, number: usize, edge: E
     mend(nodes, below - 1, number, index, inner)
 }
 
-// Puts another item in the place of the one before an edge at the beginning of a leaf, if there is one
-// below the node.
+// Puts another item in the place of the one before an edge at the beginning of a leaf, if there is
+// one below the node.
 pub fn set_before(
     nodes: &mut Slab<Node>,
     below: usize,

@@ -72,7 +72,8 @@ impl NumberTree {
     /// The edge after all numbers.
     pub fn end(&self) -> Option<Edge>
         ensures { MatchOption result (tree_numbers self.now ≡ [])
-            (λ g. IsTreeEdge self.now g × (tree_place self.now g ≡ length (tree_numbers self.now))) }
+            (λ g. IsTreeEdge self.now g
+            × (tree_place self.now g ≡ length (tree_numbers self.now))) }
     {
         if self.levels == 0 {
             return None;
@@ -210,8 +211,8 @@ impl NumberTree {
         Some(Found { number, edge })
     }
 
-    // Takes the number before an edge out of its leaf. Tells where the edge then lies, if the tree is
-    // not empty.
+    // Takes the number before an edge out of its leaf. Tells where the edge then lies, if the tree
+    // is not empty.
     fn remove_in_leaf(&mut self, edge: Edge) -> Option<Edge>
         requires edge { IsTreeEdge self.old edge }
         requires in_leaf { 0 < edge.index }

@@ -1,4 +1,5 @@
-//! Edges between the items of the tree, each with the way to it, and the steps from one to the next.
+//! Edges between the items of the tree, each with the way to it, and the steps from one to the
+//! next.
 ghost use Rattle.std.specs.Prelude.{◌≡◌, ℕ, suc, ◌+◌, ◌-◌, ◌*◌, ◌%◌, ◌/◌, ◌^◌, ◌<◌, ◌≤◌, length, slice_index, MatchOption};
 ghost use Rattle.slab.specs.Slab.{get};
 ghost use Rattle.range_store.specs.Nodes.{numbers, items_of, ShapedBut};

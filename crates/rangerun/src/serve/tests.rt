@@ -504,7 +504,7 @@ fn loads_no_cut_text(rt: HostRuntime) -> Result<(), AllocError> {
     Ok(())
 }
 
-/// A writer that hands on nothing before it is flushed.
+/// A writer that writes nothing before it is flushed.
 #[derive(Drop)]
 struct Late {
     held: Vec<u8>,

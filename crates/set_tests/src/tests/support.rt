@@ -40,7 +40,7 @@ impl Key for i32 {}
 
 impl Key for char {}
 
-/// A range, as it is spelled.
+/// A range, as it is written.
 pub enum Keys<T> {
     All,
     Any(Bound<T>, Bound<T>),
@@ -135,7 +135,7 @@ fn call_with<T: Key, C: Storage<Entry<T>>, R: IntoRange<Item = T>>(
     }
 }
 
-/// Makes the call with the range as it is spelled.
+/// Makes the call with the range as it is written.
 fn call_spelled<T: Key, C: Storage<Entry<T>>>(
     set: &mut RangeSet<T, C>,
     keys: Keys<T>,
@@ -184,7 +184,8 @@ fn complemented_twice<T: Key, C: Storage<Entry<T>>>(
     set: &RangeSet<T, C>,
 ) -> Result<RangeSet<T, C>, MapError>
     requires { ClonesAreEqual T.is_clone T.eq }
-    ensures { IfOk result (λ again. IsTrue (same_ranges T.order (C.items again) (C.items set.now))) }
+    ensures { IfOk result
+        (λ again. IsTrue (same_ranges T.order (C.items again) (C.items set.now))) }
 {
     let _ranges = set.iter();
     complementing_twice_restores::<T>();

@@ -61,7 +61,7 @@ fn call_with<R: IntoRange<Item = i32>, C: Storage<IntItem>>(
     }
 }
 
-/// Makes the call with the range as it is spelled.
+/// Makes the call with the range as it is written.
 fn call_spelled<C: Storage<IntItem>>(
     map: &mut Ints<C>,
     keys: Keys<i32>,

@@ -68,7 +68,7 @@ returns-in_default-clause-place c =
     let a = (goal.at.returns-in_default-clause-place c).After-store-self in
     leaf_place c.store-self.new.nodes c.store-self.result _ ∙ sym (rw ((none a).0, (none a).1) refl)
 
--- of a leaf with room
+-- of a leaf with capacity to spare
 pub item_count-requires : goal.item_count-requires
 item_count-requires c = (tree_leaf c.args.self.now c.in-Some.edge (given_edge c.args.self.now c.args.edge c.in-Some.edge c.requires.edge c.in-Some.is).0).present
 
