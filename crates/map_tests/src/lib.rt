@@ -14,6 +14,8 @@ mod counted;
 #[cfg(test)]
 mod drawn;
 #[cfg(test)]
+mod iterators;
+#[cfg(test)]
 mod keys;
 #[cfg(test)]
 mod lookups;
@@ -27,5 +29,3 @@ mod tallied;
 mod text;
 #[cfg(test)]
 mod updates;
-#[cfg(test)]
-mod walks;

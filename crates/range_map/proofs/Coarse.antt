@@ -7,6 +7,7 @@ use Rattle.std.specs.declared.cmp.Ordering.TheVariants.{Less, Equal, Greater}
 use Rattle.std.specs.Ordering.{is_gt, nat_cmp, MatchOrdering}
 use Rattle.std.specs.Cmp.{IsEquivalence, tied_itself, upto, ranks}
 use Rattle.range_keys.specs.Order.{KeyOrder, IsLawful, Below, NotAbove}
+use Rattle.range_keys.proofs.Orderings.{not_not_less}
 use Rattle.range_algebra.specs.Range.{StartHolds, EndHolds, Holds, IsKeyless}
 use Rattle.range_algebra.specs.declared.any.AnyRange.{AnyRange}
 use Rattle.range_algebra.proofs.Holding.{below_up, up_below}
@@ -16,10 +17,6 @@ use Rattle.range_algebra.specs.Relations.{LiesBetween}
 use Rattle.range_map.specs.Bindings.{IsBound, BindsTo, BindAlike, AreDisjoint, IsCoarse, AreAlike}
 
 -- what is decided may be shown by two denials
-pub stable_less : (o : Ordering) → ((o ≡ Less → ⊥) → ⊥) → o ≡ Less
-stable_less Less h = refl
-stable_less Equal h = absurd (h (λ e. cc))
-stable_less Greater h = absurd (h (λ e. cc))
 
 pub stable_true : (b : Bool) → ((b ≡ true → ⊥) → ⊥) → b ≡ true
 stable_true true h = refl
@@ -74,7 +71,7 @@ module _ {K : Type 0} (order : KeyOrder K) (lawful : IsLawful order) where
     first_below i [] coarse a b key key' h g = absurd g
     first_below i (j ∷ rest) coarse a b key key' h (inl g) = coarse.rising.0 a b key key' h g
     first_below i (j ∷ rest) coarse a b key key' h (inr g) =
-        stable_less (order.cmp a b)
+        not_not_less (order.cmp a b)
         (λ no. first_holds j rest (rest_coarse i (j ∷ rest) coarse) (λ y in_type held. no (lawful.total.trans a y b (coarse.rising.0 a y key in_type h held) (first_below j rest (rest_coarse i (j ∷ rest) coarse) y b in_type key' held g))))
 
     first_alone : (i : Item (AnyRange K) V) (rest : List (Item (AnyRange K) V)) → IsCoarse order same_value (i ∷ rest) → (a : K) → order.is_key a → Holds order i.key a → IsBound order rest a → ⊥

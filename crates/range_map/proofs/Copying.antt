@@ -1,9 +1,8 @@
 -- A list of clones: equal item by item to its source, and in the same form.
 use Rattle.std.proofs.Common.{◌≡◌, refl, sym, ap, ◌∙◌, List, [], ◌∷◌, Option, Some, None, Bool, true, ◌&&◌}
 use Rattle.std.specs.List.{All, AllZip, AllByRecursion}
-use Rattle.std.specs.declared.cmp.Ordering.{Ordering}
 use Rattle.std.specs.declared.cmp.Ordering.TheVariants.{Less, Equal, Greater}
-use Rattle.std.specs.Ordering.{is_eq, ordering_then}
+use Rattle.std.specs.Ordering.{is_eq}
 use Rattle.std.specs.Cmp.{IsEquivalence, alike_right, tied_back}
 use Rattle.std.proofs.lemmas.List.Elements.{recursion_from_All}
 use Rattle.std.proofs.lemmas.Bool.{and_from, and_parts}
@@ -13,6 +12,7 @@ use Rattle.range_keys.specs.PositionOrder.{position_total}
 use Rattle.range_keys.specs.declared.inner.position.Position.{Position}
 use Rattle.range_keys.specs.declared.inner.position.Position.TheVariants.{MinusInfinity, Beside, PlusInfinity}
 use Rattle.range_keys.specs.declared.inner.position.Side.TheVariants.{Before, At, After}
+use Rattle.range_keys.proofs.Orderings.{both_equal, equal_then_equal, eq_is_equal}
 use Rattle.range_algebra.specs.Clones.{IsBoundClone, range_clone}
 use Rattle.range_algebra.specs.Cuts.{past, lower, upper}
 use Rattle.range_algebra.specs.Orders.{eq_le, eq_ge, le_trans}
@@ -25,19 +25,6 @@ use Rattle.range_algebra.specs.Relations.{LiesBefore, Touches}
 use Rattle.range_map.specs.Stored.{IsStored}
 use Rattle.range_map.proofs.Forms.{before_is, nonempty_good, touches_is}
 use Rattle.range_map.proofs.Listed.{IsListed, stored_list_is_listed, stored_by}
-
-both_parts : (o p : Ordering) → ordering_then o p ≡ Equal → (o ≡ Equal) × (p ≡ Equal)
-both_parts Less p h = cc
-both_parts Equal p h = (refl, h)
-both_parts Greater p h = cc
-
-equal_then_equal : (o p : Ordering) → o ≡ Equal → p ≡ Equal → ordering_then o p ≡ Equal
-equal_then_equal o p e f = rw e f
-
-equal_is : (o : Ordering) → is_eq o ≡ true → o ≡ Equal
-equal_is Less h = cc
-equal_is Equal h = refl
-equal_is Greater h = cc
 
 module _ {K : Type 0} (order : KeyOrder K) (lawful : IsLawful order) where
   abbrev Same : Position K → Position K → Type 0
@@ -59,17 +46,17 @@ module _ {K : Type 0} (order : KeyOrder K) (lawful : IsLawful order) where
   past_same PlusInfinity MinusInfinity h = cc
   past_same PlusInfinity (Beside b t) h = cc
   past_same PlusInfinity PlusInfinity h = refl
-  past_same (Beside a Before) (Beside b Before) h = equal_then_equal (order.cmp a b) Equal (both_parts (order.cmp a b) Equal h).0 refl
+  past_same (Beside a Before) (Beside b Before) h = equal_then_equal (order.cmp a b) Equal (both_equal (order.cmp a b) Equal h).0 refl
   past_same (Beside a At) (Beside b At) h =
-      let e = (both_parts (order.cmp a b) Equal h).0 in
+      let e = (both_equal (order.cmp a b) Equal h).0 in
       told_same (order.succ a) (order.succ b) (Beside a After) (Beside b After) (lawful.succ_congr a b e) (equal_then_equal (order.cmp a b) Equal e refl)
-  past_same (Beside a After) (Beside b After) h = equal_then_equal (order.cmp a b) Equal (both_parts (order.cmp a b) Equal h).0 refl
-  past_same (Beside a Before) (Beside b At) h = absurd (let e = (both_parts (order.cmp a b) Less h).1 in cc)
-  past_same (Beside a Before) (Beside b After) h = absurd (let e = (both_parts (order.cmp a b) Less h).1 in cc)
-  past_same (Beside a At) (Beside b Before) h = absurd (let e = (both_parts (order.cmp a b) Greater h).1 in cc)
-  past_same (Beside a At) (Beside b After) h = absurd (let e = (both_parts (order.cmp a b) Less h).1 in cc)
-  past_same (Beside a After) (Beside b Before) h = absurd (let e = (both_parts (order.cmp a b) Greater h).1 in cc)
-  past_same (Beside a After) (Beside b At) h = absurd (let e = (both_parts (order.cmp a b) Greater h).1 in cc)
+  past_same (Beside a After) (Beside b After) h = equal_then_equal (order.cmp a b) Equal (both_equal (order.cmp a b) Equal h).0 refl
+  past_same (Beside a Before) (Beside b At) h = absurd (let e = (both_equal (order.cmp a b) Less h).1 in cc)
+  past_same (Beside a Before) (Beside b After) h = absurd (let e = (both_equal (order.cmp a b) Less h).1 in cc)
+  past_same (Beside a At) (Beside b Before) h = absurd (let e = (both_equal (order.cmp a b) Greater h).1 in cc)
+  past_same (Beside a At) (Beside b After) h = absurd (let e = (both_equal (order.cmp a b) Less h).1 in cc)
+  past_same (Beside a After) (Beside b Before) h = absurd (let e = (both_equal (order.cmp a b) Greater h).1 in cc)
+  past_same (Beside a After) (Beside b At) h = absurd (let e = (both_equal (order.cmp a b) Greater h).1 in cc)
 
   equal_positions_compare_alike : (p q s t : Position K) → Same p q → Same s t → position_cmp order.cmp p s ≡ position_cmp order.cmp q t
   equal_positions_compare_alike p q s t e f =
@@ -77,11 +64,11 @@ module _ {K : Type 0} (order : KeyOrder K) (lawful : IsLawful order) where
 
   starts_same : (r s : AnyRange K) → range_cmp order r s ≡ Equal → Same (start_position order r.start) (start_position order s.start)
   starts_same r s e =
-      (both_parts (position_cmp order.cmp (start_position order r.start) (start_position order s.start)) (position_cmp order.cmp (end_position order r.end) (end_position order s.end)) e).0
+      (both_equal (position_cmp order.cmp (start_position order r.start) (start_position order s.start)) (position_cmp order.cmp (end_position order r.end) (end_position order s.end)) e).0
 
   ends_same : (r s : AnyRange K) → range_cmp order r s ≡ Equal → Same (end_position order r.end) (end_position order s.end)
   ends_same r s e =
-      (both_parts (position_cmp order.cmp (start_position order r.start) (start_position order s.start)) (position_cmp order.cmp (end_position order r.end) (end_position order s.end)) e).1
+      (both_equal (position_cmp order.cmp (start_position order r.start) (start_position order s.start)) (position_cmp order.cmp (end_position order r.end) (end_position order s.end)) e).1
 
   same_empty : (r s : AnyRange K) → range_cmp order r s ≡ Equal → IsEmptyRange order r → IsEmptyRange order s
   same_empty r s e h =
@@ -146,7 +133,7 @@ module _ {K : Type 0} (order : KeyOrder K) (lawful : IsLawful order) where
     equal_items_are_copy (x ∷ xs) [] zip = absurd zip
     equal_items_are_copy (x ∷ xs) (y ∷ ys) zip =
         let both = and_parts (is_eq (range_cmp order y.key x.key)) (same y.value x.value) zip.0 in
-        ((equal_is (range_cmp order y.key x.key) both.0, both.1), equal_items_are_copy xs ys zip.1)
+        (((eq_is_equal (range_cmp order y.key x.key)).0 both.0, both.1), equal_items_are_copy xs ys zip.1)
 
     -- the clone of an item equals it
     pub item_clone : (is_clone : K → K → Type 0) (keys : (x y : K) → is_clone x y → order.cmp x y ≡ Equal) (is_value_clone : V → V → Type 0) (values : (x y : V) → is_value_clone x y → same x y ≡ true) (x y : Item (AnyRange K) V) → (IsBoundClone is_clone x.key.start y.key.start × IsBoundClone is_clone x.key.end y.key.end) → is_value_clone x.value y.value → (is_eq (range_cmp order y.key x.key) && same y.value x.value) ≡ true

@@ -1,13 +1,13 @@
 -- The pieces of a range, cut from its start on.
 use Rattle.std.proofs.Common.{◌≡◌, refl, sym, ap, ◌∙◌, Option, Some, None, Bool, true, false, List, [], ◌∷◌, ◌++◌, ◌⊎◌, inl, inr, map, if◌then◌else◌}
-use Rattle.std.specs.declared.cmp.Ordering.{Ordering}
-use Rattle.std.specs.declared.cmp.Ordering.TheVariants.{Less, Equal, Greater}
-use Rattle.std.specs.Ordering.{is_gt, ordering_then}
+use Rattle.std.specs.declared.cmp.Ordering.TheVariants.{Equal}
+use Rattle.std.specs.Ordering.{is_gt}
 use Rattle.std.specs.Cmp.{IsEquivalence, tied_back}
 use Rattle.range_keys.specs.Order.{KeyOrder, IsLawful}
 use Rattle.range_keys.specs.Position.{start_position, end_position, position_cmp}
 use Rattle.range_keys.specs.PositionOrder.{position_total}
 use Rattle.range_keys.specs.declared.inner.position.Position.{Position}
+use Rattle.range_keys.proofs.Orderings.{gt_is_greater, equal_then_equal}
 use Rattle.range_algebra.specs.declared.any.AnyRange.{AnyRange}
 use Rattle.range_algebra.specs.Range.{IsKnownRange}
 use Rattle.range_algebra.specs.RangeOrder.{range_cmp}
@@ -71,14 +71,6 @@ pub any_end : {X : Type 0} (P : X → Type 0) (xs : List X) (y : X) → P y → 
 any_end P [] y h = inl h
 any_end P (x ∷ xs) y h = inr (any_end P xs y h)
 
-gt_of : (o : Ordering) → is_gt o ≡ true → o ≡ Greater
-gt_of Less e = cc
-gt_of Equal e = cc
-gt_of Greater e = refl
-
-equal_then_equal : (o p : Ordering) → o ≡ Equal → p ≡ Equal → ordering_then o p ≡ Equal
-equal_then_equal o p e f = rw e f
-
 module _ {K : Type 0} (order : KeyOrder K) (lawful : IsLawful order) where
   abbrev pub PLe : Position K → Position K → Type 0
   PLe p q = Le (position_cmp order.cmp) p q
@@ -93,14 +85,14 @@ module _ {K : Type 0} (order : KeyOrder K) (lawful : IsLawful order) where
   Hi r = upper order r
 
   later_by : (p q : Position K) (b : Bool) → is_gt (position_cmp order.cmp p q) ≡ b → PLe p (if b then p else q) × PLe q (if b then p else q)
-  later_by p q true e = (le_refl (position_cmp order.cmp) (position_total order.cmp lawful.total) p, gt_le (position_cmp order.cmp) (position_total order.cmp lawful.total) p q (gt_of (position_cmp order.cmp p q) e))
+  later_by p q true e = (le_refl (position_cmp order.cmp) (position_total order.cmp lawful.total) p, gt_le (position_cmp order.cmp) (position_total order.cmp lawful.total) p q (gt_is_greater (position_cmp order.cmp p q) e))
   later_by p q false e = (e, le_refl (position_cmp order.cmp) (position_total order.cmp lawful.total) q)
 
   pub later_over : (p q : Position K) → PLe p (later order p q) × PLe q (later order p q)
   later_over p q = later_by p q (is_gt (position_cmp order.cmp p q)) refl
 
   earlier_by : (p q : Position K) (b : Bool) → is_gt (position_cmp order.cmp p q) ≡ b → PLe (if b then q else p) p × PLe (if b then q else p) q
-  earlier_by p q true e = (gt_le (position_cmp order.cmp) (position_total order.cmp lawful.total) p q (gt_of (position_cmp order.cmp p q) e), le_refl (position_cmp order.cmp) (position_total order.cmp lawful.total) q)
+  earlier_by p q true e = (gt_le (position_cmp order.cmp) (position_total order.cmp lawful.total) p q (gt_is_greater (position_cmp order.cmp p q) e), le_refl (position_cmp order.cmp) (position_total order.cmp lawful.total) q)
   earlier_by p q false e = (le_refl (position_cmp order.cmp) (position_total order.cmp lawful.total) p, e)
 
   pub earlier_under : (p q : Position K) → PLe (earlier order p q) p × PLe (earlier order p q) q

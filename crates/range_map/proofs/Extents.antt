@@ -2,45 +2,22 @@
 use Rattle.std.proofs.Common.{◌≡◌, refl, Option, Some, None, false}
 use Rattle.std.specs.declared.ops.Bound.{Bound}
 use Rattle.std.specs.declared.ops.Bound.TheVariants.{Included, Excluded, Unbounded}
-use Rattle.std.specs.declared.cmp.Ordering.{Ordering}
 use Rattle.std.specs.declared.cmp.Ordering.TheVariants.{Less, Equal, Greater}
-use Rattle.std.specs.Ordering.{ordering_then, is_gt}
+use Rattle.std.specs.Ordering.{is_gt}
 use Rattle.range_keys.specs.Order.{KeyOrder, IsLawful, Tells, SameAnswer}
 use Rattle.range_keys.specs.Position.{start_position, end_position, position_cmp, at_told}
 use Rattle.range_keys.specs.PositionOrder.{position_total}
 use Rattle.range_keys.specs.declared.inner.position.Position.{Position}
 use Rattle.range_keys.specs.declared.inner.position.Position.TheVariants.{MinusInfinity, Beside, PlusInfinity}
 use Rattle.range_keys.specs.declared.inner.position.Side.TheVariants.{Before, At, After}
+use Rattle.range_keys.proofs.BoundPositions.{IsEnd, ends_lie_at_ends}
+use Rattle.range_keys.proofs.Orderings.{less_unless_greater, less_unless_equal, less_unless_less, less_then_any}
 use Rattle.range_algebra.specs.Range.{IsKnownBound}
 use Rattle.range_algebra.specs.Compared.{inverted}
 use Rattle.range_algebra.specs.Intervals.{Le, Lt}
 use Rattle.range_algebra.specs.Orders.{eq_le, eq_ge, le_trans, lt_not_le, not_le, not_lt, both, le_lt_trans, lt_trans}
 use Rattle.range_algebra.specs.Cuts.{past}
 use Rattle.range_algebra.proofs.Places.{reaching_is_before_past, inverted_bound_is_past, turned_known, unbounded_end}
-use Rattle.range_map.proofs.JustBefore.{IsEnd, end_is}
-
-greater_less : (o : Ordering) → ordering_then o Greater ≡ Less → o ≡ Less
-greater_less Less e = refl
-greater_less Equal e = cc
-greater_less Greater e = cc
-
-equal_less : (o : Ordering) → ordering_then o Equal ≡ Less → o ≡ Less
-equal_less Less e = refl
-equal_less Equal e = cc
-equal_less Greater e = cc
-
-less_less : (o : Ordering) → ordering_then o Less ≡ Less → is_gt o ≡ false
-less_less Less e = refl
-less_less Equal e = refl
-less_less Greater e = cc
-
-less_then : (o p : Ordering) → o ≡ Less → ordering_then o p ≡ Less
-less_then o p e = rw e refl
-
-then_less : (o : Ordering) → is_gt o ≡ false → ordering_then o Less ≡ Less
-then_less Less e = refl
-then_less Equal e = refl
-then_less Greater e = cc
 
 module _ {K : Type 0} (order : KeyOrder K) (lawful : IsLawful order) where
   abbrev PLe : Position K → Position K → Type 0
@@ -82,18 +59,18 @@ module _ {K : Type 0} (order : KeyOrder K) (lawful : IsLawful order) where
       not_le order.cmp lawful.total d b (λ over. told_none (order.pred d) (order.pred b) a (lawful.succ_pred a d next) (lawful.pred_congr d b (both order.cmp lawful.total d b le over)) first)
 
   at_before : (a b : K) (o : Option K) → order.succ a ≡ o → order.is_key b → order.pred b ≡ None → order.cmp a b ≡ Less → PLt (at_told o (Beside a After)) (Beside b At)
-  at_before a b None next key first l = less_then (order.cmp a b) Greater l
-  at_before a b (Some d) next key first l = less_then (order.cmp d b) Equal (next_below a b d next key first l)
+  at_before a b None next key first l = less_then_any (order.cmp a b) Greater l
+  at_before a b (Some d) next key first l = less_then_any (order.cmp d b) Equal (next_below a b d next key first l)
 
   at_at : (a b : K) (o p : Option K) → order.succ a ≡ o → order.succ b ≡ p → order.is_key a → order.is_key b → order.cmp a b ≡ Less → PLt (at_told o (Beside a After)) (at_told p (Beside b After))
-  at_at a b None None next next' key key' l = less_then (order.cmp a b) Equal l
-  at_at a b None (Some e) next next' key key' l = less_then (order.cmp a e) Greater (lt_trans order.cmp lawful.total a b e l (lawful.succ_above b e next'))
-  at_at a b (Some d) None next next' key key' l = then_less (order.cmp d b) (lawful.none_between a d b next key' l)
-  at_at a b (Some d) (Some e) next next' key key' l = less_then (order.cmp d e) Equal (le_lt_trans order.cmp lawful.total d b e (lawful.none_between a d b next key' l) (lawful.succ_above b e next'))
+  at_at a b None None next next' key key' l = less_then_any (order.cmp a b) Equal l
+  at_at a b None (Some e) next next' key key' l = less_then_any (order.cmp a e) Greater (lt_trans order.cmp lawful.total a b e l (lawful.succ_above b e next'))
+  at_at a b (Some d) None next next' key key' l = (less_unless_less (order.cmp d b)).1 (lawful.none_between a d b next key' l)
+  at_at a b (Some d) (Some e) next next' key key' l = less_then_any (order.cmp d e) Equal (le_lt_trans order.cmp lawful.total d b e (lawful.none_between a d b next key' l) (lawful.succ_above b e next'))
 
   before_at : (a b : K) (p : Option K) → order.succ b ≡ p → is_gt (order.cmp a b) ≡ false → PLt (Beside a At) (at_told p (Beside b After))
-  before_at a b None next le = then_less (order.cmp a b) le
-  before_at a b (Some e) next le = less_then (order.cmp a e) Equal (le_lt_trans order.cmp lawful.total a b e le (lawful.succ_above b e next))
+  before_at a b None next le = (less_unless_less (order.cmp a b)).1 le
+  before_at a b (Some e) next le = less_then_any (order.cmp a e) Equal (le_lt_trans order.cmp lawful.total a b e le (lawful.succ_above b e next))
 
   at_infinity : (a : K) (o : Option K) → PLt (at_told o (Beside a After)) PlusInfinity
   at_infinity a None = refl
@@ -104,13 +81,13 @@ module _ {K : Type 0} (order : KeyOrder K) (lawful : IsLawful order) where
   infinity_last (Beside a x) l = cc
   infinity_last PlusInfinity l = cc
 
-  past_lt : (e f : Position K) → IsEnd order lawful e → IsEnd order lawful f → PLt e f → PLt (past order e) (past order f)
+  past_lt : (e f : Position K) → IsEnd order e → IsEnd order f → PLt e f → PLt (past order e) (past order f)
   unfolding IsEnd
-  past_lt (Beside a Before) (Beside b Before) h k l = less_then (order.cmp a b) Equal (equal_less (order.cmp a b) l)
-  past_lt (Beside a Before) (Beside b At) h k l = before_at a b (order.succ b) refl (less_less (order.cmp a b) l)
+  past_lt (Beside a Before) (Beside b Before) h k l = less_then_any (order.cmp a b) Equal (less_unless_equal (order.cmp a b) l)
+  past_lt (Beside a Before) (Beside b At) h k l = before_at a b (order.succ b) refl ((less_unless_less (order.cmp a b)).0 l)
   past_lt (Beside a Before) PlusInfinity h k l = refl
-  past_lt (Beside a At) (Beside b Before) h k l = at_before a b (order.succ a) refl k.0 k.1 (greater_less (order.cmp a b) l)
-  past_lt (Beside a At) (Beside b At) h k l = at_at a b (order.succ a) (order.succ b) refl refl h k (equal_less (order.cmp a b) l)
+  past_lt (Beside a At) (Beside b Before) h k l = at_before a b (order.succ a) refl k.0 k.1 ((less_unless_greater (order.cmp a b)).0 l)
+  past_lt (Beside a At) (Beside b At) h k l = at_at a b (order.succ a) (order.succ b) refl refl h k (less_unless_equal (order.cmp a b) l)
   past_lt (Beside a At) PlusInfinity h k l = at_infinity a (order.succ a)
   past_lt PlusInfinity f h k l = absurd (infinity_last f l)
   past_lt MinusInfinity f h k l = absurd h
@@ -124,4 +101,4 @@ module _ {K : Type 0} (order : KeyOrder K) (lawful : IsLawful order) where
   end_le e f known known' le =
       let cmp = position_cmp order.cmp in
       let total = position_total order.cmp lawful.total in
-      not_lt cmp total (end_position order e) (end_position order f) (λ l. lt_not_le cmp total (past order (end_position order f)) (past order (end_position order e)) (past_lt (end_position order f) (end_position order e) (end_is order lawful f known') (end_is order lawful e known) l) le)
+      not_lt cmp total (end_position order e) (end_position order f) (λ l. lt_not_le cmp total (past order (end_position order f)) (past order (end_position order e)) (past_lt (end_position order f) (end_position order e) (ends_lie_at_ends order lawful f known') (ends_lie_at_ends order lawful e known) l) le)

@@ -1,10 +1,9 @@
 -- What is stored and bound, by places.
-use Rattle.std.proofs.Common.{◌≡◌, refl, sym, ◌∙◌, ◌↔◌, Option, Some, None, Bool, true, false, IsTrue, List, [], ◌∷◌, ◌⊎◌, inl, inr}
+use Rattle.std.proofs.Common.{◌≡◌, refl, sym, ◌∙◌, ◌↔◌, Option, Some, None, Bool, true, IsTrue, List, [], ◌∷◌, ◌⊎◌, inl, inr}
 use Rattle.std.specs.declared.ops.Bound.{Bound}
 use Rattle.std.specs.declared.ops.Bound.TheVariants.{Included, Excluded, Unbounded}
 use Rattle.std.specs.declared.cmp.Ordering.{Ordering}
-use Rattle.std.specs.declared.cmp.Ordering.TheVariants.{Less, Equal, Greater}
-use Rattle.std.specs.Ordering.{is_gt, is_eq}
+use Rattle.std.specs.declared.cmp.Ordering.TheVariants.{Less}
 use Rattle.std.specs.Cmp.{IsEquivalence}
 use Rattle.range_keys.specs.Order.{KeyOrder, IsLawful}
 use Rattle.range_keys.specs.Position.{start_position, end_position, position_cmp}
@@ -12,6 +11,7 @@ use Rattle.range_keys.specs.PositionOrder.{position_total}
 use Rattle.range_keys.specs.declared.inner.position.Position.{Position}
 use Rattle.range_keys.specs.declared.inner.position.Position.TheVariants.{Beside}
 use Rattle.range_keys.specs.declared.inner.position.Side.TheVariants.{At}
+use Rattle.range_keys.proofs.Orderings.{not_both_greater_and_not, eq_is_equal, not_greater}
 use Rattle.range_algebra.specs.declared.any.AnyRange.{AnyRange}
 use Rattle.range_algebra.specs.Range.{Holds, IsKnownBound, IsKnownRange, IsEmptyRange}
 use Rattle.range_algebra.specs.Compared.{inverted, start_is_at, starts_at_end}
@@ -22,18 +22,8 @@ use Rattle.range_map.specs.Chains.{IsChain, Has, Respects, IsBoundTo, IsUnbound}
 use Rattle.range_algebra.specs.Cuts.{past, lower, upper}
 use Rattle.range_map.specs.Stored.{item_lower, item_upper, IsStored}
 use Rattle.range_map.specs.Bindings.{IsBound, BindsTo, Binds, IsSomeOf, IsBoundAfter, IsUnboundAfter}
-use Rattle.range_map.proofs.Listed.{IsListed, stored_list_is_listed, stored_by, not_greater}
+use Rattle.range_map.proofs.Listed.{IsListed, stored_list_is_listed, stored_by}
 use Rattle.range_algebra.proofs.Places.{reaching_is_before_past, inverted_bound_is_past, unbounded_end, held_between}
-
-pub not_both : (o : Ordering) → is_gt o ≡ false → o ≡ Greater → ⊥
-not_both Less h e = cc
-not_both Equal h e = cc
-not_both Greater h e = cc
-
-equal_is : (o : Ordering) → is_eq o ≡ true ↔ o ≡ Equal
-equal_is Less = (λ e. cc, λ e. cc)
-equal_is Equal = (λ _. refl, λ _. refl)
-equal_is Greater = (λ e. cc, λ e. cc)
 
 module _ {K : Type 0} (order : KeyOrder K) (lawful : IsLawful order) where
   abbrev pub places : Position K → Position K → Ordering
@@ -43,7 +33,7 @@ module _ {K : Type 0} (order : KeyOrder K) (lawful : IsLawful order) where
   pub nonempty_good : (r : AnyRange K) → IsKnownRange order r → (IsEmptyRange order r → ⊥) ↔ Lt places (lower order r) (upper order r)
   nonempty_good r known =
       let reach = reaching_is_before_past order lawful r.start r.end known.0 known.1 in
-      (λ h. reach.0 (not_greater (places (start_position order r.start) (end_position order r.end)) h), λ h. not_both (places (start_position order r.start) (end_position order r.end)) (reach.1 h))
+      (λ h. reach.0 (not_greater (places (start_position order r.start) (end_position order r.end)) h), λ h. not_both_greater_and_not (places (start_position order r.start) (end_position order r.end)) (reach.1 h))
 
   pub before_is : (e s : Bound K) → IsKnownBound order e → IsKnownBound order s → places (end_position order e) (start_position order s) ≡ Less ↔ Le places (past order (end_position order e)) (start_position order s)
   before_is e s known others =
@@ -57,7 +47,7 @@ module _ {K : Type 0} (order : KeyOrder K) (lawful : IsLawful order) where
   touches_by e i s turns le =
       let total = position_total order.cmp lawful.total in
       let at = inverted_bound_is_past order lawful e i turns in
-      let other = equal_is (places (start_position order i) (lower order s)) in (
+      let other = eq_is_equal (places (start_position order i) (lower order s)) in (
         λ h. le_trans places total (lower order s) (start_position order i) (past order (end_position order e)) (eq_ge places total (start_position order i) (lower order s) (other.0 h)) (eq_ge places total (past order (end_position order e)) (start_position order i) at),
         λ h. other.1 (sym (total.congr (past order (end_position order e)) (start_position order i) (lower order s) at) ∙ both places total (past order (end_position order e)) (lower order s) le h),
       )

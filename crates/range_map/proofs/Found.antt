@@ -12,23 +12,21 @@ use Rattle.range_keys.specs.PositionOrder.{position_total}
 use Rattle.range_keys.specs.declared.inner.position.Position.{Position}
 use Rattle.range_keys.specs.declared.inner.position.Position.TheVariants.{Beside}
 use Rattle.range_keys.specs.declared.inner.position.Side.TheVariants.{At}
+use Rattle.range_keys.proofs.Orderings.{lt_is_less, not_greater}
 use Rattle.range_algebra.specs.declared.any.AnyRange.{AnyRange}
 use Rattle.range_algebra.specs.Range.{Holds, IsEmptyRange}
 use Rattle.range_algebra.proofs.Holding.{holds_by_position}
 use Rattle.range_store.specs.declared.storage.Item.{Item}
 use Rattle.range_store.specs.Places.{IsAt, IsFrontOf}
-use Rattle.range_store.proofs.PlacesLemmas.{place_at}
+use Rattle.range_store.proofs.Places.{place_at}
 use Rattle.range_algebra.specs.Intervals.{Le, Lt, Every}
 use Rattle.range_algebra.specs.Orders.{lt_not_le, not_lt, lt_le_trans, le_lt_trans, lt_trans, lt_of}
 use Rattle.range_map.specs.Stored.{IsStored}
 use Rattle.range_map.specs.Bindings.{IsStoredFor, IsBound, BindsTo}
 use Rattle.range_map.specs.Window.{IsFound, IsJustBefore}
 use Rattle.range_map.proofs.Forms.{places}
-use Rattle.range_map.proofs.Listed.{IsListed, stored_list_is_listed, not_greater}
+use Rattle.range_map.proofs.Listed.{IsListed, stored_list_is_listed}
 use Rattle.range_algebra.proofs.Lists.{every_at, every_take, every_drop, list_is_take_and_drop, drop_all, every_weaker}
-
-less_is : (o : Ordering) → o ≡ Less → is_lt o ≡ true
-less_is o e = ap is_lt e
 
 not_less : (o : Ordering) → is_lt o ≡ false → o ≡ Less → ⊥
 not_less Less h e = cc
@@ -75,7 +73,7 @@ module _ {K : Type 0} (order : KeyOrder K) (lawful : IsLawful order) {V : Type 0
       let y = get_or xs j d in
       let rise = every_at (λ k. Lt cmp (End x) (Start k)) xs j d (starts_rise x xs h) (omega arith) in
       let own = every_at (λ k. Le cmp (Start k) (End k)) xs j d (every_nonempty xs (stored_tail x xs h)) (omega arith) in
-      less_is (cmp (End x) p) (lt_trans cmp total (End x) (End y) p (lt_le_trans cmp total (End x) (Start y) (End y) rise own) (lt_of (cmp (End y) p) passes))
+      (lt_is_less (cmp (End x) p)).1 (lt_trans cmp total (End x) (End y) p (lt_le_trans cmp total (End x) (Start y) (End y) rise own) (lt_of (cmp (End y) p) passes))
   listed_partitioned (x ∷ xs) p h (suc i) zero d le within passes = absurd (omega arith)
   listed_partitioned (x ∷ xs) p h (suc i) (suc j) d le within passes = listed_partitioned xs p (stored_tail x xs h) i j d (omega arith) (omega arith) passes
 

@@ -2,15 +2,14 @@
 use Rattle.std.proofs.Common.{◌≡◌, refl, sym, subst, ◌∙◌, ◌↔◌, Option, Some, None, Bool, true, false, List, [], ◌∷◌, ◌++◌, ◌⊎◌, inl, inr, if◌then◌else◌, ◌+◌, ◌≤◌, arith, length, length-append}
 use Rattle.std.specs.declared.ops.Bound.{Bound}
 use Rattle.std.specs.declared.ops.Bound.TheVariants.{Included, Excluded, Unbounded}
-use Rattle.std.specs.declared.cmp.Ordering.{Ordering}
 use Rattle.std.specs.declared.cmp.Ordering.TheVariants.{Equal}
-use Rattle.std.specs.Ordering.{ordering_then}
 use Rattle.range_keys.specs.Order.{KeyOrder, IsLawful}
 use Rattle.range_keys.specs.Position.{start_position, end_position, position_cmp}
 use Rattle.range_keys.specs.PositionOrder.{position_total}
 use Rattle.range_keys.specs.declared.inner.position.Position.{Position}
 use Rattle.range_keys.specs.declared.inner.position.Position.TheVariants.{Beside}
 use Rattle.range_keys.specs.declared.inner.position.Side.TheVariants.{At}
+use Rattle.range_keys.proofs.Orderings.{equal_then_equal, not_both_greater_and_not, not_greater}
 use Rattle.range_algebra.specs.declared.any.AnyRange.{AnyRange}
 use Rattle.range_algebra.proofs.Lists.{any_left, any_right, every_append, every_left, every_right, every_weaker}
 use Rattle.range_algebra.specs.Compared.{inverted, starts_past_end}
@@ -30,9 +29,9 @@ use Rattle.range_map.specs.Pieces.{LiesIn, IsFreePart, IsPiece}
 use Rattle.range_map.specs.Lookups.{Overlap}
 use Rattle.range_map.specs.Stored.{IsStored}
 use Rattle.range_map.proofs.Cutting.{every_with}
-use Rattle.range_map.proofs.Forms.{not_both, before_is}
+use Rattle.range_map.proofs.Forms.{before_is}
 use Rattle.range_map.proofs.JustBefore.{ends_before, ends_full}
-use Rattle.range_map.proofs.Listed.{IsListed, stored_list_is_listed, not_greater}
+use Rattle.range_map.proofs.Listed.{IsListed, stored_list_is_listed}
 
 -- what holds between each member and those after it
 abbrev pub Pairs : {X : Type 0} → (X → X → Type 0) → List X → Type 0
@@ -166,14 +165,11 @@ module _ {K : Type 0} (order : KeyOrder K) (lawful : IsLawful order) where
           ends = subst (λ x. PLe (End r.end) (End x)) unbounded (ends_full order lawful r.end (full r such).0.1);
         })
 
-  then_equal : (o p : Ordering) → o ≡ Equal → p ≡ Equal → ordering_then o p ≡ Equal
-  then_equal o p e f = rw (e, f) refl
-
   pub same_range : (r s : AnyRange K) → LiesIn order r s → LiesIn order s r → range_cmp order r s ≡ Equal
   same_range r s h k =
       let total = position_total order.cmp lawful.total in
       let cmp = position_cmp order.cmp in
-      then_equal (cmp (Start r.start) (Start s.start)) (cmp (End r.end) (End s.end)) (both cmp total (Start r.start) (Start s.start) k.starts h.starts) (both cmp total (End r.end) (End s.end) h.ends k.ends)
+      equal_then_equal (cmp (Start r.start) (Start s.start)) (cmp (End r.end) (End s.end)) (both cmp total (Start r.start) (Start s.start) k.starts h.starts) (both cmp total (End r.end) (End s.end) h.ends k.ends)
 
   module _ (F : AnyRange K → Type 0) (part : AnyRange K) (full : IsFull part) (wide : (g : AnyRange K) → F g → LiesIn order part g → LiesIn order g part) where
     abbrev IsFound : List (AnyRange K) → Type 0
@@ -423,7 +419,7 @@ module _ {K : Type 0} (order : KeyOrder K) (lawful : IsLawful order) where
       is_free : (r : AnyRange K) → IsFull r → Misses items r → IsFree r
       is_free r full misses = record {
         known = full.0;
-        nonempty = not_both (position_cmp order.cmp (Start r.start) (End r.end)) full.1;
+        nonempty = not_both_greater_and_not (position_cmp order.cmp (Start r.start) (End r.end)) full.1;
         within = record { starts = unbounded_start order lawful r.start full.0.0; ends = ends_full order lawful r.end full.0.1 };
         free = misses;
       }

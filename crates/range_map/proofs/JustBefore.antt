@@ -1,34 +1,19 @@
 -- The last end before a start, and the last end of all.
-use Rattle.std.proofs.Common.{◌≡◌, refl, sym, ap, ◌∙◌, ◌↔◌, Option, Some, None, false}
+use Rattle.std.proofs.Common.{◌≡◌, refl, sym, ap, ◌∙◌, Option, Some, None}
 use Rattle.std.specs.declared.ops.Bound.{Bound}
 use Rattle.std.specs.declared.ops.Bound.TheVariants.{Included, Excluded, Unbounded}
-use Rattle.std.specs.declared.cmp.Ordering.{Ordering}
-use Rattle.std.specs.declared.cmp.Ordering.TheVariants.{Less, Equal, Greater}
-use Rattle.std.specs.Ordering.{ordering_then, is_gt}
+use Rattle.std.specs.Ordering.{is_gt}
 use Rattle.range_keys.specs.Order.{KeyOrder, IsLawful, Below, NotAbove, Tells, SameAnswer}
 use Rattle.range_keys.specs.Position.{start_position, end_position, position_cmp, at_told}
 use Rattle.range_keys.specs.declared.inner.position.Position.{Position}
 use Rattle.range_keys.specs.declared.inner.position.Position.TheVariants.{MinusInfinity, Beside, PlusInfinity}
 use Rattle.range_keys.specs.declared.inner.position.Side.TheVariants.{Before, At, After}
+use Rattle.range_keys.proofs.BoundPositions.{IsEnd, ends_lie_at_ends}
+use Rattle.range_keys.proofs.Orderings.{less_then_greater, any_then_equal, less_unless_less}
 use Rattle.range_algebra.specs.Compared.{inverted}
 use Rattle.range_algebra.specs.Intervals.{Le, Lt}
 use Rattle.range_algebra.specs.Orders.{eq_ge, lt_not_le, lt_le_trans, not_le, not_lt, both}
 use Rattle.range_algebra.specs.Range.{IsKnownBound}
-
-then_greater : (o : Ordering) → o ≡ Less → is_gt (ordering_then o Greater) ≡ false
-then_greater Less e = refl
-then_greater Equal e = cc
-then_greater Greater e = cc
-
-then_same : (o : Ordering) → ordering_then o Equal ≡ o
-then_same Less = refl
-then_same Equal = refl
-then_same Greater = refl
-
-then_less : (o : Ordering) → ordering_then o Less ≡ Less ↔ is_gt o ≡ false
-then_less Less = (λ _. refl, λ _. refl)
-then_less Equal = (λ _. refl, λ _. refl)
-then_less Greater = (λ e. cc, λ e. cc)
 
 module _ {K : Type 0} (order : KeyOrder K) (lawful : IsLawful order) where
   abbrev PLe : Position K → Position K → Type 0
@@ -36,30 +21,6 @@ module _ {K : Type 0} (order : KeyOrder K) (lawful : IsLawful order) where
 
   abbrev PLt : Position K → Position K → Type 0
   PLt p q = Lt (position_cmp order.cmp) p q
-
-  -- where an end can lie
-  unfoldable pub IsEnd : Position K → Type 0
-  IsEnd MinusInfinity = ⊥
-  IsEnd (Beside b Before) = order.is_key b × (order.pred b ≡ None)
-  IsEnd (Beside b At) = order.is_key b
-  IsEnd (Beside b After) = ⊥
-  IsEnd PlusInfinity = order.greatest ≡ None
-
-  excluded_end : (b : K) (o : Option K) → order.pred b ≡ o → order.is_key b → IsEnd (at_told o (Beside b Before))
-  unfolding IsEnd
-  excluded_end b None e key = (key, e)
-  excluded_end b (Some a) e key = (lawful.pred_key a b e).0
-
-  unbounded_end : (o : Option K) → order.greatest ≡ o → IsEnd (at_told o PlusInfinity)
-  unfolding IsEnd
-  unbounded_end None e = e
-  unbounded_end (Some m) e = lawful.greatest_key m e
-
-  pub end_is : (b : Bound K) → IsKnownBound order b → IsEnd (end_position order b)
-  unfolding IsEnd
-  end_is (Included a) key = key
-  end_is (Excluded a) key = excluded_end a (order.pred a) refl key
-  end_is Unbounded key = unbounded_end order.greatest refl
 
   -- what is below a told neighbour's other side
   up_to_told : (b p c : K) → order.succ p ≡ Some c → order.is_key b → Below order b c → NotAbove order b p
@@ -83,48 +44,48 @@ module _ {K : Type 0} (order : KeyOrder K) (lawful : IsLawful order) where
   tells_some None a t e = t
   tells_some (Some x) a t e = cc
 
-  before_included : (e : Position K) (a : K) (o : Option K) → IsEnd e → order.pred a ≡ o → PLt e (Beside a At) → PLe e (at_told o (Beside a Before))
+  before_included : (e : Position K) (a : K) (o : Option K) → IsEnd order e → order.pred a ≡ o → PLt e (Beside a At) → PLe e (at_told o (Beside a Before))
   unfolding IsEnd
   before_included MinusInfinity a o h n l = absurd h
-  before_included (Beside b At) a None h n l = then_greater (order.cmp b a) (sym (then_same (order.cmp b a)) ∙ l)
-  before_included (Beside b Before) a None h n l = ap is_gt (then_same (order.cmp b a)) ∙ (then_less (order.cmp b a)).0 l
-  before_included (Beside b At) a (Some p) h n l = ap is_gt (then_same (order.cmp b p)) ∙ told_before b p a (order.succ p) refl (lawful.pred_succ p a n) h (sym (then_same (order.cmp b a)) ∙ l)
+  before_included (Beside b At) a None h n l = less_then_greater (order.cmp b a) (sym (any_then_equal (order.cmp b a)) ∙ l)
+  before_included (Beside b Before) a None h n l = ap is_gt (any_then_equal (order.cmp b a)) ∙ (less_unless_less (order.cmp b a)).0 l
+  before_included (Beside b At) a (Some p) h n l = ap is_gt (any_then_equal (order.cmp b p)) ∙ told_before b p a (order.succ p) refl (lawful.pred_succ p a n) h (sym (any_then_equal (order.cmp b a)) ∙ l)
   before_included (Beside b Before) a (Some p) h n l =
-      let below = untold_below b a h.1 (λ e. let clash : Some p ≡ None = sym n ∙ e in cc) ((then_less (order.cmp b a)).0 l) in
-      ap is_gt ((then_less (order.cmp b p)).1 (told_before b p a (order.succ p) refl (lawful.pred_succ p a n) h.0 below))
+      let below = untold_below b a h.1 (λ e. let clash : Some p ≡ None = sym n ∙ e in cc) ((less_unless_less (order.cmp b a)).0 l) in
+      ap is_gt ((less_unless_less (order.cmp b p)).1 (told_before b p a (order.succ p) refl (lawful.pred_succ p a n) h.0 below))
   before_included (Beside b After) a o h n l = absurd h
   before_included PlusInfinity a o h n l = absurd (cc)
 
-  before_excluded : (e : Position K) (a : K) (o : Option K) → IsEnd e → order.succ a ≡ o → PLt e (at_told o (Beside a After)) → PLe e (Beside a At)
+  before_excluded : (e : Position K) (a : K) (o : Option K) → IsEnd order e → order.succ a ≡ o → PLt e (at_told o (Beside a After)) → PLe e (Beside a At)
   unfolding IsEnd
   before_excluded MinusInfinity a o h n l = absurd h
-  before_excluded (Beside b At) a None h n l = ap is_gt (then_same (order.cmp b a)) ∙ (then_less (order.cmp b a)).0 l
+  before_excluded (Beside b At) a None h n l = ap is_gt (any_then_equal (order.cmp b a)) ∙ (less_unless_less (order.cmp b a)).0 l
   before_excluded (Beside b Before) a None h n l = ap is_gt l
-  before_excluded (Beside b At) a (Some c) h n l = ap is_gt (then_same (order.cmp b a)) ∙ up_to_told b a c n h (sym (then_same (order.cmp b c)) ∙ l)
+  before_excluded (Beside b At) a (Some c) h n l = ap is_gt (any_then_equal (order.cmp b a)) ∙ up_to_told b a c n h (sym (any_then_equal (order.cmp b c)) ∙ l)
   before_excluded (Beside b Before) a (Some c) h n l =
-      let below = untold_below b c h.1 (tells_some (order.pred c) a (lawful.succ_pred a c n)) ((then_less (order.cmp b c)).0 l) in
-      ap is_gt ((then_less (order.cmp b a)).1 (up_to_told b a c n h.0 below))
+      let below = untold_below b c h.1 (tells_some (order.pred c) a (lawful.succ_pred a c n)) ((less_unless_less (order.cmp b c)).0 l) in
+      ap is_gt ((less_unless_less (order.cmp b a)).1 (up_to_told b a c n h.0 below))
   before_excluded (Beside b After) a o h n l = absurd h
   before_excluded PlusInfinity a None h n l = absurd (cc)
   before_excluded PlusInfinity a (Some c) h n l = absurd (cc)
 
   -- an end before a start lies at most at the end that is just before it
   pub ends_before : (e s i : Bound K) → IsKnownBound order e → inverted s ≡ Some i → PLt (end_position order e) (start_position order s) → PLe (end_position order e) (end_position order i)
-  ends_before e (Included a) i known turns l = let same : Excluded a ≡ i = cc in rw (← same) (before_included (end_position order e) a (order.pred a) (end_is e known) refl l)
-  ends_before e (Excluded a) i known turns l = let same : Included a ≡ i = cc in rw (← same) (before_excluded (end_position order e) a (order.succ a) (end_is e known) refl l)
+  ends_before e (Included a) i known turns l = let same : Excluded a ≡ i = cc in rw (← same) (before_included (end_position order e) a (order.pred a) (ends_lie_at_ends order lawful e known) refl l)
+  ends_before e (Excluded a) i known turns l = let same : Included a ≡ i = cc in rw (← same) (before_excluded (end_position order e) a (order.succ a) (ends_lie_at_ends order lawful e known) refl l)
   ends_before e Unbounded i known turns l = absurd (cc)
 
-  up_to_greatest : (e : Position K) (o : Option K) → IsEnd e → order.greatest ≡ o → PLe e (at_told o PlusInfinity)
+  up_to_greatest : (e : Position K) (o : Option K) → IsEnd order e → order.greatest ≡ o → PLe e (at_told o PlusInfinity)
   unfolding IsEnd
   up_to_greatest MinusInfinity o h n = absurd h
   up_to_greatest (Beside b Before) None h n = refl
   up_to_greatest (Beside b At) None h n = refl
-  up_to_greatest (Beside b Before) (Some m) h n = ap is_gt ((then_less (order.cmp b m)).1 (lawful.greatest_bound m b n h.0))
-  up_to_greatest (Beside b At) (Some m) h n = ap is_gt (then_same (order.cmp b m)) ∙ lawful.greatest_bound m b n h
+  up_to_greatest (Beside b Before) (Some m) h n = ap is_gt ((less_unless_less (order.cmp b m)).1 (lawful.greatest_bound m b n h.0))
+  up_to_greatest (Beside b At) (Some m) h n = ap is_gt (any_then_equal (order.cmp b m)) ∙ lawful.greatest_bound m b n h
   up_to_greatest (Beside b After) o h n = absurd h
   up_to_greatest PlusInfinity None h n = refl
   up_to_greatest PlusInfinity (Some m) h n = let clash : None ≡ Some m = sym h ∙ n in cc
 
   -- every end is at most at that of the full range
   pub ends_full : (e : Bound K) → IsKnownBound order e → PLe (end_position order e) (end_position order Unbounded)
-  ends_full e known = up_to_greatest (end_position order e) order.greatest (end_is e known) refl
+  ends_full e known = up_to_greatest (end_position order e) order.greatest (ends_lie_at_ends order lawful e known) refl

@@ -6,7 +6,7 @@ use Rattle.std.specs.declared.ops.Bound.{Bound}
 use Rattle.std.specs.declared.ops.Bound.TheVariants.{Included, Excluded, Unbounded}
 use Rattle.std.specs.declared.cmp.Ordering.{Ordering}
 use Rattle.std.specs.declared.cmp.Ordering.TheVariants.{Less, Equal, Greater}
-use Rattle.std.specs.Ordering.{is_gt, is_eq}
+use Rattle.std.specs.Ordering.{is_gt}
 use Rattle.std.specs.Cmp.{tied_back}
 use Rattle.range_keys.specs.Order.{KeyOrder, IsLawful}
 use Rattle.range_keys.specs.Position.{start_position, end_position, position_cmp}
@@ -14,6 +14,7 @@ use Rattle.range_keys.specs.PositionOrder.{position_total}
 use Rattle.range_keys.specs.declared.inner.position.Position.{Position}
 use Rattle.range_keys.specs.declared.inner.position.Position.TheVariants.{Beside}
 use Rattle.range_keys.specs.declared.inner.position.Side.TheVariants.{At}
+use Rattle.range_keys.proofs.Orderings.{eq_is_equal, not_both_greater_and_not}
 use Rattle.range_algebra.specs.declared.any.AnyRange.{AnyRange}
 use Rattle.range_algebra.specs.Clones.{SameBound, same_start, same_end}
 use Rattle.range_algebra.specs.Compared.{starts_at_end}
@@ -27,16 +28,7 @@ use Rattle.range_map.specs.Frames.{IsMergedInto}
 use Rattle.range_map.specs.Pieces.{later, earlier, IsCommonPart, LiesIn, IsFreePart, IsPiece}
 use Rattle.range_map.specs.Lookups.{Overlap}
 use Rattle.range_map.proofs.Cutting.{PLe, any_over, later_over, earlier_under, either_choice_holds}
-use Rattle.range_map.proofs.Forms.{not_both}
 use Rattle.range_map.proofs.Merging.{way_follows}
-
-equal_of : (o : Ordering) → IsTrue (is_eq o) → o ≡ Equal
-equal_of Less h = cc
-equal_of Equal h = refl
-equal_of Greater h = cc
-
-is_equal : (o : Ordering) → o ≡ Equal → IsTrue (is_eq o)
-is_equal o e = rw e refl
 
 not_false_is_greater : (o : Ordering) → (is_gt o ≡ false → ⊥) → o ≡ Greater
 not_false_is_greater Less h = absurd (h refl)
@@ -113,16 +105,16 @@ module _ {K : Type 0} (order : KeyOrder K) (lawful : IsLawful order) where
 
   touches_start : (e : Bound K) (r s : AnyRange K) → position_cmp order.cmp (start_position order r.start) (start_position order s.start) ≡ Equal → IsTrue (starts_at_end order e (start_position order r.start)) → IsTrue (starts_at_end order e (start_position order s.start))
   touches_start (Included a) r s starts h =
-      is_equal (position_cmp order.cmp (start_position order (Excluded a)) (start_position order s.start)) (equal_positions_chain (start_position order (Excluded a)) (start_position order r.start) (start_position order s.start) (equal_of (position_cmp order.cmp (start_position order (Excluded a)) (start_position order r.start)) h) starts)
+      (eq_is_equal (position_cmp order.cmp (start_position order (Excluded a)) (start_position order s.start))).1 (equal_positions_chain (start_position order (Excluded a)) (start_position order r.start) (start_position order s.start) ((eq_is_equal (position_cmp order.cmp (start_position order (Excluded a)) (start_position order r.start))).0 h) starts)
   touches_start (Excluded a) r s starts h =
-      is_equal (position_cmp order.cmp (start_position order (Included a)) (start_position order s.start)) (equal_positions_chain (start_position order (Included a)) (start_position order r.start) (start_position order s.start) (equal_of (position_cmp order.cmp (start_position order (Included a)) (start_position order r.start)) h) starts)
+      (eq_is_equal (position_cmp order.cmp (start_position order (Included a)) (start_position order s.start))).1 (equal_positions_chain (start_position order (Included a)) (start_position order r.start) (start_position order s.start) ((eq_is_equal (position_cmp order.cmp (start_position order (Included a)) (start_position order r.start))).0 h) starts)
   touches_start Unbounded r s starts h = absurd (cc)
 
   touches_end : (e f : Bound K) (p : Position K) → SameBound order f e → IsTrue (starts_at_end order e p) → IsTrue (starts_at_end order f p)
   touches_end (Included a) (Included b) p alike h =
-      is_equal (position_cmp order.cmp (start_position order (Excluded b)) p) (equal_positions_chain (start_position order (Excluded b)) (start_position order (Excluded a)) p (same_start order lawful (Excluded b) (Excluded a) alike) (equal_of (position_cmp order.cmp (start_position order (Excluded a)) p) h))
+      (eq_is_equal (position_cmp order.cmp (start_position order (Excluded b)) p)).1 (equal_positions_chain (start_position order (Excluded b)) (start_position order (Excluded a)) p (same_start order lawful (Excluded b) (Excluded a) alike) ((eq_is_equal (position_cmp order.cmp (start_position order (Excluded a)) p)).0 h))
   touches_end (Excluded a) (Excluded b) p alike h =
-      is_equal (position_cmp order.cmp (start_position order (Included b)) p) (equal_positions_chain (start_position order (Included b)) (start_position order (Included a)) p (same_start order lawful (Included b) (Included a) alike) (equal_of (position_cmp order.cmp (start_position order (Included a)) p) h))
+      (eq_is_equal (position_cmp order.cmp (start_position order (Included b)) p)).1 (equal_positions_chain (start_position order (Included b)) (start_position order (Included a)) p (same_start order lawful (Included b) (Included a) alike) ((eq_is_equal (position_cmp order.cmp (start_position order (Included a)) p)).0 h))
   touches_end Unbounded f p alike h = absurd (cc)
   touches_end (Included a) (Excluded b) p alike h = absurd alike
   touches_end (Included a) Unbounded p alike h = absurd alike
@@ -145,7 +137,7 @@ module _ {K : Type 0} (order : KeyOrder K) (lawful : IsLawful order) where
         let q = end_position order r.end in
         let p' = start_position order s.start in
         let q' = end_position order s.end in
-        not_false_is_greater (cmp p q) (λ le. not_both (cmp p' q') (le_trans cmp total p' p q' (eq_le cmp total p' p starts_alike) (le_trans cmp total p q q' le (eq_ge cmp total q' q ends_alike))) h)
+        not_false_is_greater (cmp p q) (λ le. not_both_greater_and_not (cmp p' q') (le_trans cmp total p' p q' (eq_le cmp total p' p starts_alike) (le_trans cmp total p q q' le (eq_ge cmp total q' q ends_alike))) h)
 
     module _ {V : Type 0} (same : V → V → Bool) (others : List (Item (AnyRange K) V)) where
       concerned_too : (i : Item (AnyRange K) V) → Overlap order i.key s ⊎ IsMergedInto order same others s i → Overlap order i.key r ⊎ IsMergedInto order same others r i

@@ -1,12 +1,11 @@
 -- The form of a stored list, item by item.
-use Rattle.std.proofs.Common.{◌≡◌, refl, ◌↔◌, Bool, true, false, not, ◌||◌, if◌then◌else◌, IsTrue, List, [], ◌∷◌}
-use Rattle.std.specs.declared.cmp.Ordering.{Ordering}
-use Rattle.std.specs.declared.cmp.Ordering.TheVariants.{Less, Equal, Greater}
+use Rattle.std.proofs.Common.{refl, ◌↔◌, Bool, true, false, not, ◌||◌, if◌then◌else◌, IsTrue, List, [], ◌∷◌}
 use Rattle.std.specs.Ordering.{is_gt, is_lt, is_eq}
 use Rattle.std.specs.List.{AllByRecursion}
 use Rattle.range_keys.specs.Order.{KeyOrder, IsLawful}
 use Rattle.range_keys.specs.Position.{start_position, end_position, position_cmp}
 use Rattle.range_keys.specs.PositionOrder.{position_total}
+use Rattle.range_keys.proofs.Orderings.{lt_is_less, not_greater}
 use Rattle.range_algebra.specs.Range.{IsKnownRange, IsEmptyRange}
 use Rattle.range_algebra.specs.Compared.{starts_at_end, is_before}
 use Rattle.range_algebra.specs.declared.ordering.RangeOrdering.TheVariants.{Before, Intersecting, After}
@@ -16,16 +15,6 @@ use Rattle.range_store.specs.declared.storage.Item.{Item}
 use Rattle.range_map.specs.Neighbours.{EachNext}
 use Rattle.range_algebra.specs.Relations.{LiesBefore, Touches}
 use Rattle.range_map.specs.Stored.{IsFollowedBy, IsStored}
-
-pub less_test : (o : Ordering) → IsTrue (is_lt o) ↔ o ≡ Less
-less_test Less = (λ h. refl, λ h. refl)
-less_test Equal = (λ h. absurd (cc), λ h. absurd (cc))
-less_test Greater = (λ h. absurd (cc), λ h. absurd (cc))
-
-pub not_greater : (o : Ordering) → (o ≡ Greater → ⊥) → is_gt o ≡ false
-not_greater Less h = refl
-not_greater Equal h = refl
-not_greater Greater h = absurd (h refl)
 
 one_false_is_not_both : (t c : Bool) → IsTrue (not t || not c) ↔ (IsTrue t → IsTrue c → ⊥)
 one_false_is_not_both true true = (λ h _ _. cc, λ h. absurd (h refl refl))
@@ -55,8 +44,8 @@ module _ {K : Type 0} (order : KeyOrder K) (lawful : IsLawful order) {V : Type 0
       let touch = starts_at_end order i.key.end other in
       let parts = before_by_parts (is_lt (cmp start other)) (is_lt (cmp end other)) touch (is_eq (cmp end other_end)) (is_gt (cmp start other_end)) (starts_at_end order j.key.end start) (is_eq (cmp start other)) (is_eq (cmp end other_end)) (same i.value j.value) in
       let test = one_false_is_not_both touch (same i.value j.value) in (
-        λ h. let p = parts.0 h in ((less_test (cmp end other)).0 p.1, test.0 p.2),
-        λ h. parts.1 ((less_test (cmp start other)).1 (le_lt_trans cmp (position_total order.cmp lawful.total) start end other (not_greater (cmp start end) full) h.0), (less_test (cmp end other)).1 h.0, test.1 h.1),
+        λ h. let p = parts.0 h in ((lt_is_less (cmp end other)).0 p.1, test.0 p.2),
+        λ h. parts.1 ((lt_is_less (cmp start other)).1 (le_lt_trans cmp (position_total order.cmp lawful.total) start end other (not_greater (cmp start end) full) h.0), (lt_is_less (cmp end other)).1 h.0, test.1 h.1),
       )
 
   by_parts : (items : List (Item (AnyRange K) V)) → AllByRecursion (λ i. IsKnownRange order i.key) items → AllByRecursion (λ i. IsEmptyRange order i.key → ⊥) items → EachNext (IsFollowedBy order same) items → IsListed items

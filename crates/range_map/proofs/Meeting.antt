@@ -13,6 +13,7 @@ use Rattle.range_keys.specs.PositionOrder.{position_total}
 use Rattle.range_keys.specs.declared.inner.position.Position.{Position}
 use Rattle.range_keys.specs.declared.inner.position.Position.TheVariants.{Beside}
 use Rattle.range_keys.specs.declared.inner.position.Side.TheVariants.{At}
+use Rattle.range_keys.proofs.Orderings.{not_both_greater_and_not, not_greater}
 use Rattle.range_algebra.specs.declared.any.AnyRange.{AnyRange}
 use Rattle.range_algebra.specs.Range.{Holds, IsKnownBound, IsKnownRange, IsEmptyRange}
 use Rattle.range_algebra.specs.Intervals.{Le, Lt, Any, Every}
@@ -25,8 +26,7 @@ use Rattle.range_store.specs.declared.storage.Item.{Item}
 use Rattle.range_map.specs.Bindings.{IsBound, BindsTo, Binds}
 use Rattle.range_map.specs.Stored.{item_lower, item_upper, IsStored}
 use Rattle.range_map.specs.Lookups.{MeetsSome, BindsKeyOf, Overlap}
-use Rattle.range_map.proofs.Forms.{not_both, Chained, stored_chain}
-use Rattle.range_map.proofs.Listed.{not_greater}
+use Rattle.range_map.proofs.Forms.{Chained, stored_chain}
 
 -- an item that is such is some item
 pub any_at : {X : Type 0} (P : X → Type 0) (xs : List X) (place : ℕ) (x : X) → place < length xs → x ≡ get_or xs place x → P x → Any P xs
@@ -61,7 +61,7 @@ module _ {K : Type 0} (order : KeyOrder K) (lawful : IsLawful order) where
   held_nonempty : (r : AnyRange K) (k : K) → order.is_key k → Holds order r k → IsEmptyRange order r → ⊥
   held_nonempty r k key h e =
       let within = (holds_by_position order lawful r k key).0 h in
-      not_both (position_cmp order.cmp (Start r) (End r)) (le_trans (position_cmp order.cmp) (position_total order.cmp lawful.total) (Start r) (Beside k At) (End r) within.0 within.1) e
+      not_both_greater_and_not (position_cmp order.cmp (Start r) (End r)) (le_trans (position_cmp order.cmp) (position_total order.cmp lawful.total) (Start r) (Beside k At) (End r) within.0 within.1) e
 
   -- the later of two starts
   later_start_exists : (a b : Bound K) → IsKnownBound order a → IsKnownBound order b → (c : Bound K) × IsKnownBound order c × PLe (start_position order a) (start_position order c) × PLe (start_position order b) (start_position order c) × ((p : Position K) → PLe (start_position order a) p → PLe (start_position order b) p → PLe (start_position order c) p)

@@ -3,13 +3,13 @@ use Rattle.std.proofs.Common.{◌≡◌, ℕ, zero, suc, ◌<◌, ◌≤◌, Lis
 use Rattle.std.specs.List.{AllByRecursion}
 use Rattle.std.specs.declared.ops.Bound.{Bound}
 use Rattle.std.specs.declared.ops.Bound.TheVariants.{Included, Excluded, Unbounded}
-use Rattle.std.specs.declared.cmp.Ordering.{Ordering}
-use Rattle.std.specs.declared.cmp.Ordering.TheVariants.{Less, Equal, Greater}
+use Rattle.std.specs.declared.cmp.Ordering.TheVariants.{Equal}
 use Rattle.std.specs.Ordering.{is_gt, is_lt, is_eq}
 use Rattle.range_keys.specs.Order.{KeyOrder, IsLawful}
 use Rattle.range_keys.specs.Position.{start_position, end_position, position_cmp}
 use Rattle.range_keys.specs.PositionOrder.{position_total}
 use Rattle.range_keys.specs.declared.inner.position.Position.{Position}
+use Rattle.range_keys.proofs.Orderings.{eq_is_equal, lt_is_less, not_greater}
 use Rattle.range_algebra.specs.declared.any.AnyRange.{AnyRange}
 use Rattle.range_algebra.specs.Range.{IsKnownRange, IsEmptyRange}
 use Rattle.range_algebra.specs.Compared.{starts_at_end}
@@ -23,12 +23,7 @@ use Rattle.range_map.specs.Neighbours.{EachNext}
 use Rattle.range_algebra.specs.Relations.{LiesBefore}
 use Rattle.range_map.specs.Searches.{ElementIsBefore}
 use Rattle.range_map.proofs.Forms.{before_is}
-use Rattle.range_map.proofs.Listed.{less_test, not_greater, before_by_parts}
-
-equal_is : (o : Ordering) → IsTrue (is_eq o) → o ≡ Equal
-equal_is Less h = absurd (cc)
-equal_is Equal h = refl
-equal_is Greater h = absurd (cc)
+use Rattle.range_map.proofs.Listed.{before_by_parts}
 
 false_is_not_both : (t c : Bool) → (IsTrue t → ⊥) → IsTrue (not t || not c)
 false_is_not_both true c h = absurd (h refl)
@@ -49,11 +44,11 @@ module _ {K : Type 0} (order : KeyOrder K) (lawful : IsLawful order) where
   touching_same (Included a) p h =
       let cmp = position_cmp order.cmp in
       let start = start_position order (Excluded a) in
-      (position_total order.cmp lawful.total).congr (past order (end_position order (Included a))) start p (inverted_bound_is_past order lawful (Included a) (Excluded a) refl) ∙ equal_is (cmp start p) h
+      (position_total order.cmp lawful.total).congr (past order (end_position order (Included a))) start p (inverted_bound_is_past order lawful (Included a) (Excluded a) refl) ∙ (eq_is_equal (cmp start p)).0 h
   touching_same (Excluded a) p h =
       let cmp = position_cmp order.cmp in
       let start = start_position order (Included a) in
-      (position_total order.cmp lawful.total).congr (past order (end_position order (Excluded a))) start p (inverted_bound_is_past order lawful (Excluded a) (Included a) refl) ∙ equal_is (cmp start p) h
+      (position_total order.cmp lawful.total).congr (past order (end_position order (Excluded a))) start p (inverted_bound_is_past order lawful (Excluded a) (Included a) refl) ∙ (eq_is_equal (cmp start p)).0 h
   touching_same Unbounded p h = absurd (cc)
 
   -- an element that is before a range is before what starts past its start
@@ -63,14 +58,14 @@ module _ {K : Type 0} (order : KeyOrder K) (lawful : IsLawful order) where
       let total = position_total order.cmp lawful.total in
       let touch = starts_at_end order e.end (Start r) in
       let old = (before_by_parts (is_lt (cmp (Start e) (Start r))) (is_lt (cmp (End e) (Start r))) touch (is_eq (cmp (End e) (End r))) (is_gt (cmp (Start e) (End r))) (starts_at_end order r.end (Start e)) (is_eq (cmp (Start e) (Start r))) (is_eq (cmp (End e) (End r))) connected).0 h in
-      let starts = lt_trans cmp total (Start e) (Start r) (Start s) ((less_test (cmp (Start e) (Start r))).0 old.0) rise in
-      let below = (less_test (cmp (End e) (Start r))).0 old.1 in
+      let starts = lt_trans cmp total (Start e) (Start r) (Start s) ((lt_is_less (cmp (Start e) (Start r))).0 old.0) rise in
+      let below = (lt_is_less (cmp (End e) (Start r))).0 old.1 in
       let ends = lt_trans cmp total (End e) (Start r) (Start s) below rise in
       let apart = le_lt_trans cmp total (past order (End e)) (Start r) (Start s) ((before_is order lawful e.end r.start known.1 others.0).0 below) rise in
       let touch' = starts_at_end order e.end (Start s) in
       (before_by_parts (is_lt (cmp (Start e) (Start s))) (is_lt (cmp (End e) (Start s))) touch' (is_eq (cmp (End e) (End s))) (is_gt (cmp (Start e) (End s))) (starts_at_end order s.end (Start e)) (is_eq (cmp (Start e) (Start s))) (is_eq (cmp (End e) (End s))) connected).1 (
-        (less_test (cmp (Start e) (Start s))).1 starts,
-        (less_test (cmp (End e) (Start s))).1 ends,
+        (lt_is_less (cmp (Start e) (Start s))).1 starts,
+        (lt_is_less (cmp (End e) (Start s))).1 ends,
         false_is_not_both touch' connected (λ t. lt_not_le cmp total (past order (End e)) (Start s) apart (eq_ge cmp total (past order (End e)) (Start s) (touching_same e.end (Start s) t))),
       )
 

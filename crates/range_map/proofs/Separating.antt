@@ -1,8 +1,6 @@
 -- A range that lies apart from all stored ones, and the list with it.
 use Rattle.std.proofs.Common.{◌≡◌, ℕ, zero, suc, ◌+◌, ◌<◌, List, [], ◌∷◌, ◌++◌, length, take, drop, get_or, refl, ap, sym, subst, ◌∙◌, arith, Option, Some, None, Bool, true, false, ◌&&◌, IsTrue, ◌⊎◌, inl, inr}
 use Rattle.std.specs.Prelude.{insert, MatchOption}
-use Rattle.std.specs.declared.cmp.Ordering.{Ordering}
-use Rattle.std.specs.declared.cmp.Ordering.TheVariants.{Less, Equal, Greater}
 use Rattle.std.specs.Cmp.{IsEquivalence, tied_itself}
 use Rattle.std.proofs.lemmas.List.{drop_more, take_more}
 use Rattle.std.proofs.Math.Seq.{take-length}
@@ -10,6 +8,7 @@ use Rattle.range_keys.specs.Order.{KeyOrder, IsLawful}
 use Rattle.range_keys.specs.Position.{end_position, position_cmp}
 use Rattle.range_keys.specs.PositionOrder.{position_total}
 use Rattle.range_keys.specs.declared.inner.position.Position.{Position}
+use Rattle.range_keys.proofs.Orderings.{less_or_not}
 use Rattle.range_map.proofs.Chains.{chain_above, chain_before, chain_right, strictly_leads, strictly_trails}
 use Rattle.range_map.proofs.ChainSides.{left_whole, right_whole}
 use Rattle.range_map.proofs.ChainJoins.{places_between_are_bound, left_apart, right_apart}
@@ -20,7 +19,7 @@ use Rattle.range_algebra.specs.Orders.{eq_ge, eq_le, le_lt_trans, le_refl, lt_le
 use Rattle.range_algebra.specs.Range.{IsEmptyRange, IsKnownRange}
 use Rattle.range_algebra.specs.declared.any.AnyRange.{AnyRange}
 use Rattle.range_algebra.proofs.Lists.{drop_all, list_is_take_and_drop, any_none, any_split, every_append, every_left, every_right, every_weaker}
-use Rattle.range_store.proofs.PlacesLemmas.{kept_at, place_at}
+use Rattle.range_store.proofs.Places.{kept_at, place_at}
 use Rattle.range_store.specs.Places.{IsAt, place_before}
 use Rattle.range_store.specs.declared.storage.Item.{Item}
 use Rattle.range_map.specs.Bindings.{IsBoundAfter}
@@ -53,11 +52,6 @@ item_at (x ∷ xs) (suc n) within = item_at xs n (omega arith)
 every_last : {X : Type 0} (P : X → Type 0) (xs : List X) (x : X) → Every P (xs ++ x ∷ []) → P x
 every_last P [] x h = h.0
 every_last P (y ∷ ys) x h = every_last P ys x h.1
-
-less_or_not : (o : Ordering) → (o ≡ Less) ⊎ (o ≡ Less → ⊥)
-less_or_not Less = inl refl
-less_or_not Equal = inr (λ e. cc)
-less_or_not Greater = inr (λ e. cc)
 
 true_by : (b : Bool) → (IsTrue b → ⊥) ⊎ IsTrue b
 true_by true = inr refl

@@ -54,7 +54,7 @@ impl<T: PartialEnum, C: Storage<Item<AnyRange<T>, ()>>> IntoIterator for RangeSe
 
     type IntoIter = IntoIter<T, C>;
 
-    ghost into_iter_gives = { λ set walk. (walk ≡ item_ranges (C.items set))
+    ghost into_iter_gives = { λ set list. (list ≡ item_ranges (C.items set))
         × IsStoredSet T.order (C.items set) };
 
     fn into_iter(self) -> IntoIter<T, C> {

@@ -61,7 +61,7 @@ impl<'a, T: PartialEnum, C: Storage<Item<AnyRange<T>, ()>>> IntoIterator for &'a
 
     type IntoIter = Iter<'a, T, C>;
 
-    ghost into_iter_gives = { λ set walk. (walk ≡ item_ranges (C.items set.now))
+    ghost into_iter_gives = { λ set list. (list ≡ item_ranges (C.items set.now))
         × IsStoredSet T.order (C.items set.now) };
 
     fn into_iter(self) -> Iter<'a, T, C> {

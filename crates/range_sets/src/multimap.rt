@@ -10,12 +10,12 @@ mod changing;
 mod cloning;
 mod comparing;
 pub(crate) mod disjoint;
+mod iterators;
 mod laws;
 mod text;
-mod walking;
 
+pub use self::iterators::IntoIter;
 pub use self::laws::last_call_decides_pairs;
-pub use self::walking::IntoIter;
 pub use crate::members::{MaybeEmpty, SetMut};
 use range_algebra::any::AnyRange;
 use range_keys::traits::PartialEnum;

@@ -75,8 +75,8 @@ impl<K: PartialEnum, V: Eq + Drop, C: Storage<Item<AnyRange<K>, V>>> IntoIterato
 
     type IntoIter = IntoIter<K, V, C>;
 
-    ghost into_iter_gives = { λ map walk. (walk ≡ C.items map) × IsStored K.order V.eq walk
-        × (IsComplete K.order → IsCoarse K.order V.eq walk × IsOnlyCoarse K.order V.eq walk) };
+    ghost into_iter_gives = { λ map list. (list ≡ C.items map) × IsStored K.order V.eq list
+        × (IsComplete K.order → IsCoarse K.order V.eq list × IsOnlyCoarse K.order V.eq list) };
 
     fn into_iter(self) -> IntoIter<K, V, C> {
         self.in_form();
@@ -94,8 +94,8 @@ impl<'a, K: PartialEnum, V: Eq + Drop, C: Storage<Item<AnyRange<K>, V>>> IntoIte
 
     type IntoIter = Iter<'a, K, V, C>;
 
-    ghost into_iter_gives = { λ map walk. (walk ≡ C.items map.now) × IsStored K.order V.eq walk
-        × (IsComplete K.order → IsCoarse K.order V.eq walk × IsOnlyCoarse K.order V.eq walk) };
+    ghost into_iter_gives = { λ map list. (list ≡ C.items map.now) × IsStored K.order V.eq list
+        × (IsComplete K.order → IsCoarse K.order V.eq list × IsOnlyCoarse K.order V.eq list) };
 
     fn into_iter(self) -> Iter<'a, K, V, C> {
         self.iter()

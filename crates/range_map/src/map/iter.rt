@@ -54,7 +54,7 @@ impl<'a, K: 'a, V: 'a, C: Storage<Item<AnyRange<K>, V>> + 'a> Iter<'a, K, V, C> 
 
 /// A clone has the same items left. It allocates nothing and never fails.
 impl<'a, K: 'a, V: 'a, C: Storage<Item<AnyRange<K>, V>> + 'a> Clone for Iter<'a, K, V, C> {
-    ghost is_clone = { λ walk copy. copy ≡ walk };
+    ghost is_clone = { λ iter copy. copy ≡ iter };
 
     ghost is_infallible = { λ _. ⊤ };
 

@@ -3,7 +3,7 @@ use Rattle.std.specs.Option.{unwrap_or}
 use Rattle.range_algebra.specs.declared.any.AnyRange.{AnyRange}
 use Rattle.range_store.specs.declared.storage.Item.{Item}
 use Rattle.range_store.specs.Places.{place_before}
-use Rattle.range_store.proofs.PlacesLemmas.{place_at, kept_at, good_at}
+use Rattle.range_store.proofs.Places.{place_at, kept_at, good_at}
 use Rattle.range_map.specs.Edges.{IsLeftShape, IsRightShape, joined_count}
 use Rattle.range_map.specs.Window.{option_items}
 use Rattle.range_map.proofs.Lengths.{one_item, changed_length, left_length, right_length, run_ends, joins_fit, few_rest, begins_within, le_of, bound_size}

@@ -3,7 +3,7 @@ use Rattle.std.proofs.Common.{◌≡◌, ◌+◌, ◌-◌, length, ap, sym, ◌�
 use Rattle.std.specs.Option.{option_or}
 use Rattle.std.specs.Prelude.{slice_get, option_copied}
 use Rattle.range_store.specs.Places.{place_before}
-use Rattle.range_store.proofs.PlacesLemmas.{place_at, kept_at, good_at}
+use Rattle.range_store.proofs.Places.{place_at, kept_at, good_at}
 use Rattle.range_map.specs.Edges.{IsLeftShape, IsRightShape, joined_count}
 use Rattle.range_map.specs.Edits.{turned_bound}
 use Rattle.range_map.specs.Seams.{seam_edge}

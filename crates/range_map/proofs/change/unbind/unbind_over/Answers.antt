@@ -1,6 +1,6 @@
 use Rattle.std.proofs.Common.{◌≡◌, [], ◌+◌, ◌-◌, length, ap, sym, ◌∙◌, arith, None, subst}
 use Rattle.range_store.specs.Places.{place_before}
-use Rattle.range_store.proofs.PlacesLemmas.{place_at}
+use Rattle.range_store.proofs.Places.{place_at}
 use Rattle.range_map.specs.Edges.{IsLeftShape, IsRightShape, joined_count, edge_at}
 use Rattle.range_map.specs.Window.{option_items}
 use Rattle.range_map.proofs.Framing.{cut_way}

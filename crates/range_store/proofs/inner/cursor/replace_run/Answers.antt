@@ -1,6 +1,6 @@
 use Rattle.std.proofs.Common.{◌+◌, length}
 use Rattle.range_store.specs.Places.{place_before}
-use Rattle.range_store.proofs.PlacesLemmas.{place_at}
+use Rattle.range_store.proofs.Places.{place_at}
 use Rattle.range_store.proofs.Edits.{replaced_run}
 use Rattle.range_store.proofs.inner.cursor.replace_run.Goals as goal
 

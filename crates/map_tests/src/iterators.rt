@@ -38,40 +38,40 @@ enum Side {
 
 /// Whether the iterator returns the row at this end.
 fn gives<C: Storage<NumberItem>>(
-    walk: &mut Iter<'_, i32, i64, C>,
+    iter: &mut Iter<'_, i32, i64, C>,
     side: Side,
     row: Option<Row>,
 ) -> bool {
     match side {
-        Side::Front => is_row(walk.next(), row),
-        Side::Back => is_row(walk.next_back(), row),
+        Side::Front => is_row(iter.next(), row),
+        Side::Back => is_row(iter.next_back(), row),
     }
 }
 
 /// Asks the iterator in turn. Returns the place of the first row that it does not give.
 fn first_other<C: Storage<NumberItem>>(
-    walk: &mut Iter<'_, i32, i64, C>,
+    iter: &mut Iter<'_, i32, i64, C>,
     rows: &[(Side, Option<Row>)],
 ) -> Option<usize> {
     for (place, (side, row)) in rows.iter().enumerate() {
-        if !gives(walk, *side, *row) {
+        if !gives(iter, *side, *row) {
             return Some(place);
         }
     }
     None
 }
 
-fn walks_from_both_ends<C: Storage<NumberItem>, R: Abort>(
+fn iterates_from_both_ends<C: Storage<NumberItem>, R: Abort>(
     rt: &R,
     map: &RangeMap<i32, i64, C>,
 ) -> Result<(), AllocError> {
-    let mut walk = map.iter();
-    assert_eq!(rt; walk.len(), 3);
+    let mut iter = map.iter();
+    assert_eq!(rt; iter.len(), 3);
     assert_eq!(rt;
-        first_other(&mut walk, &[(Side::Front, Some((0, 3, 1)))]),
+        first_other(&mut iter, &[(Side::Front, Some((0, 3, 1)))]),
         None
     );
-    let mut copy = walk.clone()?;
+    let mut copy = iter.clone()?;
     let rows = [
         (Side::Back, Some((5, 5, 1))),
         (Side::Front, Some((4, 4, 0))),
@@ -80,7 +80,7 @@ fn walks_from_both_ends<C: Storage<NumberItem>, R: Abort>(
         (Side::Back, None),
         (Side::Front, None),
     ];
-    assert_eq!(rt; first_other(&mut walk, &rows), None);
+    assert_eq!(rt; first_other(&mut iter, &rows), None);
     assert_eq!(rt; copy.len(), 2);
     let rows = [
         (Side::Front, Some((4, 4, 0))),
@@ -133,7 +133,7 @@ fn loops<C: Storage<NumberItem>, R: Abort>(rt: &R, map: &RangeMap<i32, i64, C>) 
 fn ranges<C: Storage<NumberItem>, R: Abort>(rt: &R, alloc: Global) -> Result<(), MapError> {
     let map: RangeMap<i32, i64, C> = nested(alloc)?;
     loops(rt, &map);
-    walks_from_both_ends(rt, &map)?;
+    iterates_from_both_ends(rt, &map)?;
     Ok(())
 }
 
@@ -303,7 +303,7 @@ fn all_free<C: Storage<NumberItem>, R: Abort>(rt: &R, alloc: Global) -> Result<(
 }
 
 #[test]
-fn walks_over_a_vector(rt: HostRuntime) -> Result<(), MapError> {
+fn iterates_over_a_vector(rt: HostRuntime) -> Result<(), MapError> {
     ranges::<InVector, HostRuntime>(&rt, rt.alloc())?;
     all_free::<InVector, HostRuntime>(&rt, rt.alloc())?;
     one_gap::<VecStorage<Item<AnyRange<u32>, ()>>, HostRuntime>(&rt, rt.alloc())?;
@@ -312,7 +312,7 @@ fn walks_over_a_vector(rt: HostRuntime) -> Result<(), MapError> {
 }
 
 #[test]
-fn walks_over_a_tree(rt: HostRuntime) -> Result<(), MapError> {
+fn iterates_over_a_tree(rt: HostRuntime) -> Result<(), MapError> {
     ranges::<InTree, HostRuntime>(&rt, rt.alloc())?;
     ranges_from_the_back(&rt, rt.alloc())?;
     all_free::<InTree, HostRuntime>(&rt, rt.alloc())?;

@@ -74,8 +74,8 @@ impl<K: PartialEnum, S: MaybeEmpty, C: Storage<Item<AnyRange<K>, S>>> IntoIterat
 
     type IntoIter = IntoIter<K, S, C>;
 
-    ghost into_iter_gives = { λ map walk. (walk ≡ C.items map) × IsStored K.order S.eq walk
-        × HasNoEmptySet S.is_void walk × (IsComplete K.order → IsOnlyCoarse K.order S.eq walk) };
+    ghost into_iter_gives = { λ map list. (list ≡ C.items map) × IsStored K.order S.eq list
+        × HasNoEmptySet S.is_void list × (IsComplete K.order → IsOnlyCoarse K.order S.eq list) };
 
     fn into_iter(self) -> IntoIter<K, S, C> {
         self.in_form();
@@ -90,8 +90,8 @@ impl<'a, K: PartialEnum, S: MaybeEmpty, C: Storage<Item<AnyRange<K>, S>>> IntoIt
 
     type IntoIter = Iter<'a, K, S, C>;
 
-    ghost into_iter_gives = { λ map walk. (walk ≡ C.items map.now) × IsStored K.order S.eq walk
-        × HasNoEmptySet S.is_void walk × (IsComplete K.order → IsOnlyCoarse K.order S.eq walk) };
+    ghost into_iter_gives = { λ map list. (list ≡ C.items map.now) × IsStored K.order S.eq list
+        × HasNoEmptySet S.is_void list × (IsComplete K.order → IsOnlyCoarse K.order S.eq list) };
 
     fn into_iter(self) -> Iter<'a, K, S, C> {
         self.iter()

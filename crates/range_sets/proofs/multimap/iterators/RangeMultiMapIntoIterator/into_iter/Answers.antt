@@ -1,5 +1,5 @@
 use Rattle.std.proofs.Common.{ap}
-use Rattle.range_sets.proofs.multimap.walking.RangeMultiMapIntoIterator.into_iter.Goals as goal
+use Rattle.range_sets.proofs.multimap.iterators.RangeMultiMapIntoIterator.into_iter.Goals as goal
 
 pub returns : goal.returns
 returns g c =
