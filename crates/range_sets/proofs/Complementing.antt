@@ -8,7 +8,7 @@ use Rattle.range_keys.specs.Order.{KeyOrder, IsLawful}
 use Rattle.range_keys.specs.Position.{start_position, end_position, position_cmp}
 use Rattle.range_keys.specs.PositionOrder.{position_total}
 use Rattle.range_keys.specs.declared.inner.position.Position.{Position}
-use Rattle.range_keys.proofs.Orderings.{less_or_not, not_both_greater_and_not}
+use Rattle.range_keys.proofs.Orderings.{less_or_not, not_both_greater_and_not, not_greater}
 use Rattle.range_algebra.specs.Cuts.{upper}
 use Rattle.range_algebra.specs.Intervals.{Le, Every}
 use Rattle.range_algebra.specs.Orders.{le_refl, lt_le, le_trans, lt_not_le}
@@ -22,7 +22,7 @@ use Rattle.range_map.specs.Pieces.{IsFreePart, IsPiece}
 use Rattle.range_map.specs.Lookups.{Overlap}
 use Rattle.range_map.specs.Stored.{IsStored}
 use Rattle.range_map.proofs.Forms.{before_is, nonempty_good, touches_is}
-use Rattle.range_map.proofs.Listed.{IsListed, stored_list_is_listed, stored_by, not_greater}
+use Rattle.range_map.proofs.Listed.{IsListed, stored_list_is_listed, stored_by}
 use Rattle.range_sets.specs.KeySets.{IsStoredSet}
 
 -- the ranges as the items of a set
