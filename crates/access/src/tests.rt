@@ -48,7 +48,7 @@ fn goes(alloc: Global, table: &mut AccessTable, row: Row) -> Result<bool, MapErr
     }
 }
 
-/// The place of the first row that does not hold, or the number of rows.
+/// The index of the first row that does not hold, or the number of rows.
 fn play(alloc: Global, rows: &[Row]) -> Result<usize, MapError> {
     let mut table = AccessTable::new(alloc);
     for (place, row) in rows.iter().enumerate() {

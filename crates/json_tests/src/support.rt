@@ -100,7 +100,7 @@ fn holds<C: Storage<Entry>>(
     }
 }
 
-/// The place of the first row that does not hold.
+/// The index of the first row that does not hold.
 fn first_wrong<C: Storage<Entry>>(
     alloc: Global,
     rows: &[(&str, Answer<'_>)],

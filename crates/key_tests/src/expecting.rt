@@ -1,4 +1,4 @@
-//! What fails a test, with the place of the row.
+//! What fails a test, with the index of the row.
 
 use range_algebra::any::AnyRange;
 use std::process::Abort;

@@ -213,7 +213,7 @@ pub fn number_at(map: &OnlyMap, key: i32) -> Option<i64> {
 /// A range that is bound or unbound, the answer, and how many ranges are stored then.
 type Call = (Range, Option<i64>, Result<(), MapError>, usize);
 
-/// Makes the calls in turn. Answers the place of the first after which it is not as it says, or
+/// Makes the calls in turn. Returns the index of the first after which it is not as it says, or
 /// after which 7 is not bound to 1.
 fn first_other(map: &mut OnlyMap, calls: &[Call]) -> Option<usize> {
     for (place, (range, value, answer, count)) in calls.iter().enumerate() {

@@ -143,7 +143,7 @@ fn holds<C: Storage<NumberItem>>(
     Ok(true)
 }
 
-/// Takes the steps in turn on a new map in a tree. Answers the place of the first that does not
+/// Takes the steps in turn on a new map in a tree. Returns the index of the first that does not
 /// hold.
 fn first_wrong_in_tree(alloc: Global, steps: &[Step]) -> Result<Option<usize>, MapError> {
     let mut map: RangeMap<i32, i64, InTree> = RangeMap::new(alloc);

@@ -61,7 +61,7 @@ fn binds<C: Storage<ByteItem>>(
     true
 }
 
-/// Makes the call of a step. Answers whether the map and a scan find what the last calls say.
+/// Makes the call of a step. Returns whether the map and a scan find what the last calls say.
 fn take<C: Storage<ByteItem>>(
     alloc: Global,
     map: &mut RangeMap<u8, i64, C>,
@@ -156,7 +156,7 @@ fn bind_alike<C: Storage<ByteItem>, D: Storage<ByteItem>>(
     Ok(scan_finds_the_same(&items, &others))
 }
 
-/// Changes both maps. Answers whether they bind alike, or none where they do not compare so.
+/// Changes both maps. Returns whether they bind alike, or none where they do not compare so.
 fn change_both<C: Storage<ByteItem>, D: Storage<ByteItem>>(
     alloc: Global,
     left: &mut RangeMap<u8, i64, C>,

@@ -48,7 +48,7 @@ fn gives<C: Storage<NumberItem>>(
     }
 }
 
-/// Asks the iterator in turn. Returns the place of the first row that it does not give.
+/// Asks the iterator in turn. Returns the index of the first row that it does not give.
 fn first_other<C: Storage<NumberItem>>(
     iter: &mut Iter<'_, i32, i64, C>,
     rows: &[(Side, Option<Row>)],

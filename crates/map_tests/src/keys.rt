@@ -112,7 +112,7 @@ fn answers_so(map: &mut SeatMap, call: Call) -> bool {
     }
 }
 
-/// Makes the calls in turn on a new map. Answers the place of the first that answers otherwise.
+/// Makes the calls in turn on a new map. Returns the index of the first that answers otherwise.
 fn first_other(alloc: Global, calls: &[Call]) -> Option<usize> {
     let mut map: SeatMap = RangeMap::new(alloc);
     for (place, call) in calls.iter().enumerate() {

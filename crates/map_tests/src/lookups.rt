@@ -61,8 +61,8 @@ fn a_range_intersects_what_it_shares_a_key_with(rt: HostRuntime) -> Result<(), F
     play(&rt, rt.alloc(), &steps)
 }
 
-/// Takes steps on a new map, then others on a clone of it, and then others on the map. Answers the
-/// places of the first that do not hold.
+/// Takes steps on a new map, then others on a clone of it, and then others on the map. Returns the
+/// indices of the first that do not hold.
 fn first_wrong_beside_a_clone<C: Storage<NumberItem>>(
     alloc: Global,
     [before, on_the_clone, after]: [&[Step<'_>]; 3],

@@ -53,7 +53,7 @@ pub fn remove<C: Storage<NumberItem>>(
     map.remove(range)
 }
 
-/// Answers the range and the value where they are handed back.
+/// Returns the range and the value where they are handed back.
 pub fn insert_disconnected<C: Storage<NumberItem>>(
     map: &mut RangeMap<i32, i64, C>,
     range: Range,
@@ -188,7 +188,7 @@ pub fn holds<C: Storage<NumberItem>>(
     Ok(true)
 }
 
-/// Takes the steps in turn. Answers the place of the first that does not hold.
+/// Takes the steps in turn. Returns the index of the first that does not hold.
 pub fn first_wrong<C: Storage<NumberItem>>(
     map: &mut RangeMap<i32, i64, C>,
     steps: &[Step<'_>],

@@ -10,7 +10,7 @@ fn is_shown<T: Debug>(alloc: Global, shown: &T, text: &str) -> Result<bool, Allo
     Ok(format!(in alloc; "{shown:?}")?.as_str() == text)
 }
 
-/// Takes the steps. Answers whether each holds and how the map is shown then.
+/// Takes the steps. Returns whether each holds and how the map is shown then.
 fn is_shown_after(
     alloc: Global,
     map: &mut RangeMap<i32, i64, InTree>,

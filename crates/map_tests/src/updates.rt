@@ -100,7 +100,7 @@ fn an_empty_range_asks_nothing(rt: HostRuntime) -> Result<(), Fail> {
 }
 
 /// Updates four ranges that are bound and their gaps, each as a whole or, where an allocation
-/// fails, not at all. Answers the place of the first that is not.
+/// fails, not at all. Returns the index of the first that is not.
 fn first_torn<C: Storage<NumberItem>>(alloc: Global) -> Option<usize> {
     let ranges = [(-5, 45), (2, 33), (11, 13), (21, 28)];
     for (place, (first, end)) in ranges.iter().enumerate() {

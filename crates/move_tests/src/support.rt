@@ -82,7 +82,7 @@ fn leads(alloc: Global, moves: &Moves, row: &(&[u32], char, &[u32])) -> Result<b
     Ok(are(alloc, reached, expected)?)
 }
 
-/// The place of the first row of steps that is answered otherwise.
+/// The index of the first row of steps that is answered otherwise.
 fn wrong_step(alloc: Global, moves: &Moves, table: &Table<'_>) -> Result<Option<usize>, MapError> {
     for (place, row) in table.steps.iter().enumerate() {
         if !leads(alloc, moves, row)? {

@@ -26,7 +26,7 @@ impl From<AllocError> for ReadError {
     }
 }
 
-/// Why a range, a set or a map was not read. The number is the place of the faulty element, from 0.
+/// Why a range, a set or a map was not read. The number is the index of the faulty element, from 0.
 #[derive(Debug, Drop, Clone, Copy, PartialEq, Eq, Error)]
 pub enum JsonError {
     /// There was not enough memory.

@@ -66,7 +66,7 @@ pub fn map_to_json<K: Json + PartialEnum, V: Json + Eq, C: Storage<Item<AnyRange
 ///
 /// # Errors
 ///
-/// The fault of the first faulty element, with its place, from 0: an element that is no pair, a
+/// The fault of the first faulty element, with its index, from 0: an element that is no pair, a
 /// range that is none, a bound or a key that is none, a value that is none, or a nonempty range
 /// that meets that of an earlier element. `NotArray` and `Version` where the whole has neither
 /// shape. `Memory` where an allocation fails.

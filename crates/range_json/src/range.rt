@@ -61,7 +61,7 @@ pub(crate) fn element_range<K: Json>(
 /// # Errors
 ///
 /// `NotRange` where the value is no array of two; else the fault of the first faulty bound,
-/// `NotBound` or `Key`. All have the place 0. `Memory` where an allocation fails.
+/// `NotBound` or `Key`. All have the index 0. `Memory` where an allocation fails.
 pub fn range_from_json<K: Json>(alloc: Global, value: &Value) -> Result<AnyRange<K>, JsonError>
     ensures read { IfOk result (IsRangeRead K.is_read (view value.now)) }
     ensures sound { OnOk result (range_fault K.reads 0 (view value.now) ≡ None) }

@@ -44,7 +44,7 @@ pub fn set_to_json<T: Json + PartialEnum, C: Storage<Item<AnyRange<T>, ()>>>(
 /// # Errors
 ///
 /// `NotArray` where the value is no array; else the fault of the first faulty element, with its
-/// place. `Memory` where an allocation fails.
+/// index. `Memory` where an allocation fails.
 pub fn set_from_json<T: Json + Measure + Clone, C: Storage<Item<AnyRange<T>, ()>>>(
     alloc: Global,
     value: &Value,

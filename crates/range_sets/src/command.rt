@@ -156,7 +156,7 @@ fn answer_counted<
     }
 }
 
-/// Answers one command, with no memory beyond what the call itself takes.
+/// Answers one command, and allocates only what its call does.
 ///
 /// An update asks `f` with its tag: `f` is the closure of all updates, told apart by their tags.
 ///

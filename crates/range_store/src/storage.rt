@@ -107,7 +107,7 @@ pub trait Storage<T>: Drop {
     /// The items in order.
     ghost items: { Self → List T };
 
-    /// How many items can be inserted with no more memory.
+    /// How many items can be inserted without an allocation.
     ghost room: { Self → ℕ };
 
     /// Whether a position may be used.
@@ -158,7 +158,7 @@ pub trait Storage<T>: Drop {
         requires { is_good self.now p }
         ensures { result.now ≡ slice_index_or (items self.now) (rank self.now p) result.now };
 
-    /// The item at a position, to be changed where it stands. No memory.
+    /// The item at a position, to be changed where it stands. Allocates nothing.
     fn get_mut(&mut self, p: Self::Position) -> &mut T
         requires { is_good self.old p }
         ensures* writes_back { sem 𝓛

@@ -29,7 +29,7 @@ fn character(place: u16) -> char {
     char::from_u32(u32::from('0') + u32::from(place)).unwrap_or('0')
 }
 
-/// The state that the character of a place leads to.
+/// The state that the character of an index leads to.
 fn target(place: u16) -> u32 {
     1 + u32::from(place % 2)
 }
@@ -38,7 +38,7 @@ fn add(rules: &mut Rules, from: u32, c: char, to: u32) -> Result<(), MapError> {
     rules.add(from, c..=c, to)
 }
 
-/// Adds a rule, a start state and an accepting state for each place.
+/// Adds a rule, a start state and an accepting state for each index.
 fn fill(rules: &mut Rules, size: Size) -> Result<(), MapError> {
     for place in 0..size.count {
         add(rules, FIRST, character(place), target(place))?;

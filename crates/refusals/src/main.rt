@@ -39,7 +39,7 @@ fn parsed(line: &str) -> Option<Trial> {
     })
 }
 
-/// Allocates so often, or until an allocation fails. Answers how often it did not fail.
+/// Allocates so often, or until an allocation fails. Returns how often it did not fail.
 fn spend(alloc: Global, count: u32) -> u32 {
     for spent in 0..count {
         if Box::new(alloc, 0u8).is_err() {

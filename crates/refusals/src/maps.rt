@@ -42,7 +42,7 @@ pub enum MapCall {
 /// What a new binding is bound to.
 const NEW: &str = "new";
 
-/// What the range of a place is bound to. All others are bound to a text that allocates nothing.
+/// What the range of an index is bound to. All others are bound to a text that allocates nothing.
 fn text(place: u16, size: Size) -> &'static str {
     if place == size.middle() { "middle" } else { "" }
 }
@@ -64,7 +64,7 @@ fn bind<C: Storage<Entry>>(
     insert(map, range, String::from_str(alloc, text)?)
 }
 
-/// Stores the ranges one after the other. Answers the place of the first that was refused.
+/// Stores the ranges one after the other. Returns the index of the first that was refused.
 fn fill<C: Storage<Entry>>(alloc: Global, map: &mut Map<C>, size: Size) -> Result<(), u16> {
     for place in 0..size.count {
         let Ok(()) = bind(alloc, map, built(place), text(place, size)) else {
@@ -74,7 +74,7 @@ fn fill<C: Storage<Entry>>(alloc: Global, map: &mut Map<C>, size: Size) -> Resul
     Ok(())
 }
 
-/// Whether the map stores just the ranges of the first places.
+/// Whether the map stores just the ranges of the first indices.
 fn is_filled<C: Storage<Entry>>(map: &Map<C>, places: u16, size: Size) -> bool {
     let mut stored = map.iter();
     for place in 0..places {

@@ -36,7 +36,7 @@ fn insert<S: SetMut<i32>, C: Storage<Entry<S>>>(
     map.insert(range, value)
 }
 
-/// Stores the ranges one after the other, each with the value 0. Answers the place of the first
+/// Stores the ranges one after the other, each with the value 0. Returns the index of the first
 /// that was refused.
 fn fill<S: SetMut<i32>, C: Storage<Entry<S>>>(map: &mut Map<S, C>, size: Size) -> Result<(), u16> {
     for place in 0..size.count {
@@ -47,7 +47,7 @@ fn fill<S: SetMut<i32>, C: Storage<Entry<S>>>(map: &mut Map<S, C>, size: Size) -
     Ok(())
 }
 
-/// Whether the multimap stores just the ranges of the first places.
+/// Whether the multimap stores just the ranges of the first indices.
 fn is_filled<S: SetMut<i32>, C: Storage<Entry<S>>>(map: &Map<S, C>, places: u16) -> bool {
     let mut stored = map.iter();
     for place in 0..places {

@@ -16,12 +16,12 @@ impl Size {
     }
 }
 
-/// The stored range of a place: five keys of ten.
+/// The stored range of an index: five keys of ten.
 pub fn built(place: u16) -> AnyRange<i32> {
     part(place, 0, 5)
 }
 
-/// Keys counted from the first of a place on.
+/// Keys counted from the first of an index on.
 pub fn part(place: u16, first: u8, end: u8) -> AnyRange<i32> {
     let start = 10 * i32::from(place);
     AnyRange::new(
@@ -30,7 +30,7 @@ pub fn part(place: u16, first: u8, end: u8) -> AnyRange<i32> {
     )
 }
 
-/// A key, counted from the first of a place on.
+/// A key, counted from the first of an index on.
 pub fn key(place: u16, offset: u8) -> i32 {
     10 * i32::from(place) + i32::from(offset)
 }

@@ -48,7 +48,7 @@ fn insert<C: Storage<Entry>>(set: &mut Set<C>, range: AnyRange<i32>) -> Result<(
     set.insert(range)
 }
 
-/// Stores the ranges one after the other. Answers the place of the first that was refused.
+/// Stores the ranges one after the other. Returns the index of the first that was refused.
 fn fill<C: Storage<Entry>>(set: &mut Set<C>, size: Size) -> Result<(), u16> {
     for place in 0..size.count {
         let Ok(()) = insert(set, built(place)) else {
@@ -58,7 +58,7 @@ fn fill<C: Storage<Entry>>(set: &mut Set<C>, size: Size) -> Result<(), u16> {
     Ok(())
 }
 
-/// Whether the set stores just the ranges of the first places, and between them so many others.
+/// Whether the set stores just the ranges of the first indices, and between them so many others.
 fn is_filled<C: Storage<Entry>>(set: &Set<C>, places: u16, others: u16) -> bool {
     let mut stored = set.iter();
     for place in 0..places {

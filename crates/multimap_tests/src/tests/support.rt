@@ -176,7 +176,7 @@ fn goes<K: Key, S: SetMut<i32>, C: Storage<Item<AnyRange<K>, S>>>(
     }
 }
 
-/// The place of the first step that does not hold, or the number of steps.
+/// The index of the first step that does not hold, or the number of steps.
 fn play<K: Key, S: SetMut<i32>, C: Storage<Item<AnyRange<K>, S>>>(
     alloc: Global,
     steps: &[Step<'_, K>],

@@ -100,7 +100,7 @@ pub fn child_at(nodes: &Slab<Node>, number: usize, index: usize) -> usize
     nodes[number].children.as_slice()[index]
 }
 
-// The number before a place of a list, if there is one.
+// The number before an index of a list, if there is one.
 pub fn last_of(list: &[usize], place: usize) -> Option<usize>
     requires within { place ≤ length list.now }
     ensures { IsLast list.now place result }

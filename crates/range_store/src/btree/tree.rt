@@ -33,7 +33,7 @@ impl NumberTree {
         }
     }
 
-    /// A copy, with the memory that its own numbers need.
+    /// A copy, with capacity for its own numbers.
     pub fn clone(&self, len: usize) -> Result<Self, AllocError>
         requires { len ≡ length (tree_numbers self.now) }
         ensures numbers { IfOk result (λ copy. tree_numbers copy ≡ tree_numbers self.now) }

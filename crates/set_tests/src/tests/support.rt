@@ -429,7 +429,7 @@ fn play<T: Key, C: Storage<Entry<T>>, D: Storage<Entry<T>>>(
     run::<T, C, D>(alloc, &mut set, steps)
 }
 
-/// The place of the first step that does not hold, or the number of steps: of a set over a vector,
+/// The index of the first step that does not hold, or the number of steps: of a set over a vector,
 /// and of one over a tree.
 pub fn play_both<T: Key>(alloc: Global, steps: &[Step<'_, T>]) -> Result<(usize, usize), MapError>
     requires { ClonesAreEqual T.is_clone T.eq }

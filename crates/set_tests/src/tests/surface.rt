@@ -118,13 +118,13 @@ fn run<C: Storage<IntItem>>(map: &mut Ints<C>, steps: &[Step<'_>]) -> Result<usi
     Ok(steps.len())
 }
 
-/// The place of the first step that does not hold, or the number of steps.
+/// The index of the first step that does not hold, or the number of steps.
 fn play(alloc: Global, steps: &[Step<'_>]) -> Result<usize, MapError> {
     let mut map: IntMap = RangeMap::new(alloc);
     run(&mut map, steps)
 }
 
-/// Passes where every step holds, and else tells the place of the first that does not.
+/// Passes where every step holds, and else tells the index of the first that does not.
 fn plays(rt: &impl Abort, alloc: Global, steps: &[Step<'_>]) -> Result<(), Fail> {
     assert_eq!(rt; play(alloc, steps)?, steps.len());
     Ok(())
