@@ -54,11 +54,12 @@ impl PartialEnum for Seat {
         self.0.checked_sub(1).map(Seat)
     }
 
-    ghost lawful = { counted_lawful (indexed_counted {key_at = λ (n : ℕ). record { 0 = n }} (record {
-      key_at_index = λ seat. refl;
-      index_key_at = λ n h. refl;
-      some_key = lit< tt;
-    })) };
+    ghost lawful = { counted_lawful (indexed_counted
+        {key_at = λ (n : ℕ). record { 0 = n }} (record {
+          key_at_index = λ seat. refl;
+          index_key_at = λ n h. refl;
+          some_key = lit< tt;
+        })) };
 }
 
 impl Measure for Seat {
@@ -74,11 +75,12 @@ impl Measure for Seat {
         (other.0 - self.0) as u128
     }
 
-    ghost measured = { counted_measure (indexed_counted {key_at = λ (n : ℕ). record { 0 = n }} (record {
-      key_at_index = λ seat. refl;
-      index_key_at = λ n h. refl;
-      some_key = lit< tt;
-    })) (lit< tt) };
+    ghost measured = { counted_measure (indexed_counted
+        {key_at = λ (n : ℕ). record { 0 = n }} (record {
+          key_at_index = λ seat. refl;
+          index_key_at = λ n h. refl;
+          some_key = lit< tt;
+        })) (lit< tt) };
 }
 
 type SeatMap = RangeMap<Seat, i64, VecStorage<Item<AnyRange<Seat>, i64>>>;

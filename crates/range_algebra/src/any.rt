@@ -124,8 +124,8 @@ impl<T: PartialEnum> AnyRange<T> {
 impl<T: PartialEnum + Bounded + Clone> AnyRange<T> {
     /// The least key of the range, or `None` where the range is empty or its start names no key.
     ///
-    /// An included start is cloned, so the call allocates what a clone of a key does, and fails only
-    /// where the clone fails.
+    /// An included start is cloned, so the call allocates what a clone of a key does, and fails
+    /// only where the clone fails.
     pub fn first(&self) -> Result<Option<T>, AllocError>
         requires clones { ClonesAreEqual T.is_clone T.eq }
         ensures empty { IsEmptyRange T.order self.now → IfOk result (λ key. key ≡ None) }
@@ -145,8 +145,8 @@ impl<T: PartialEnum + Bounded + Clone> AnyRange<T> {
 
     /// The greatest key of the range, or `None` where the range is empty or its end names no key.
     ///
-    /// An included end is cloned, so the call allocates what a clone of a key does, and fails only
-    /// where the clone fails.
+    /// An included end is cloned, so the call allocates what a clone of a key does, and fails
+    /// only where the clone fails.
     pub fn last(&self) -> Result<Option<T>, AllocError>
         requires clones { ClonesAreEqual T.is_clone T.eq }
         ensures empty { IsEmptyRange T.order self.now → IfOk result (λ key. key ≡ None) }

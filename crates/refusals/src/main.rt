@@ -2,8 +2,9 @@
 //!
 //! With no input each call is made once, with enough memory. Two numbers as input name one trial
 //! and how many allocations come before it: the more there are, the earlier in the trial comes the
-//! one that `rt try --fail-alloc N` refuses. A second line of the output then has how many allocations
-//! after the trial were not refused, so that a trial that succeeds tells how many there are in it.
+//! one that `rt try --fail-alloc N` refuses. A second line of the output then has how many
+//! allocations after the trial were not refused, so that a trial that succeeds tells how many there
+//! are in it.
 #![tactic(auto)]
 
 mod automata;
