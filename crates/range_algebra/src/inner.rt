@@ -1,12 +1,10 @@
 //! What the crates above need beyond the public surface.
 
-ghost use Rattle.std.specs.Prelude.{◌≡◌, ◌↔◌, IsTrue, IfOk, MatchResult};
-ghost use Rattle.std.specs.declared.cmp.Ordering.TheVariants.{Equal};
+ghost use Rattle.std.specs.Prelude.{◌≡◌, ◌↔◌, IsTrue, MatchResult};
 ghost use Rattle.range_keys.specs.Position.{bound_of, start_position};
 ghost use Rattle.range_algebra.specs.Clones.{IsBoundClone, IsBoundInfallible};
 ghost use Rattle.range_algebra.specs.Compared.{range_ordering, bounds_ordering, starts_at_end, starts_past_end};
-ghost use Rattle.range_algebra.specs.Range.{Holds, LiesWithin, IsKnownBound, IsKnownRange, ClonesAreEqual};
-ghost use Rattle.range_algebra.specs.RangeOrder.{range_cmp};
+ghost use Rattle.range_algebra.specs.Range.{Holds, LiesWithin, IsKnownBound, IsKnownRange};
 
 use crate::any::AnyRange;
 use crate::ordering::RangeOrdering;
@@ -69,14 +67,6 @@ pub fn clone_of<T: Clone>(bound: Bound<&T>) -> Result<Bound<T>, AllocError>
         Bound::Excluded(key) => Bound::Excluded(key.clone()?),
         Bound::Unbounded => Bound::Unbounded,
     })
-}
-
-/// An equal range.
-pub fn copied<T: PartialEnum + Clone>(range: &AnyRange<T>) -> Result<AnyRange<T>, AllocError>
-    requires clones { ClonesAreEqual T.is_clone T.eq }
-    ensures equal { IfOk result (λ r. range_cmp T.order range.now r ≡ Equal) }
-{
-    range.clone()
 }
 
 /// Whether the start bound lies past the end bound.

@@ -1,7 +1,7 @@
 #!/bin/sh
 # Times searches, insertions and removals at scattered keys, and the iteration, of a map over the B-tree and over the
-# vector, and of std's BTreeMap, at 1,000 to 1,000,000 items, and measures the memory of each at its fullest. Needs
-# `rt` and `/usr/bin/time`; proves what is not proved yet.
+# vector, and of std's BTreeMap, at 1,000 to 1,000,000 items; prints the ratios of the first to the last; and measures
+# the memory of each at its fullest. Needs `rt` and `/usr/bin/time`; proves what is not proved yet.
 set -eu
 top=$(cd "$(dirname "$0")/../../.." && pwd)
 work=$(mktemp -d)
@@ -16,7 +16,12 @@ cp "$top/HANDLES" "$work/"
 echo 'containers: btree_range_map anyhow' >> "$work/crates.txt"
 cp "$(dirname "$0")/containers.txt" "$work/crates/containers/src/main.rt"
 cd "$work/crates/containers"
-rt run
+rt run > "$work/times"
+cat "$work/times"
+awk '
+    $1 == "tree" { get = $4; insert = $6; remove = $8; iteration = $11 }
+    $1 == "std" { printf "tree to std, %d: get %.1f insert %.1f remove %.1f iteration %.1f\n", $2, get / $4, insert / $6, remove / $8, iteration / $11 }
+' "$work/times"
 
 # The most memory that such a map of n items has taken while it was filled, over that of a program with an empty one.
 for container in tree vector std; do
