@@ -22,7 +22,7 @@ use Rattle.range_algebra.specs.Range.{StartHolds, EndHolds, Holds, IsKnownBound,
 use Rattle.range_algebra.specs.Compared.{inverted, start_is_at, starts_at_end, range_ordering, matches}
 use Rattle.range_algebra.specs.Combined.{earlier_end, common}
 use Rattle.range_algebra.specs.Cuts.{past, lower, upper}
-use Rattle.range_algebra.specs.Relations.{EitherHolds, ShareKey, AreConnected}
+use Rattle.range_algebra.specs.Relations.{Meets, EitherHolds, ShareKey, AreConnected}
 use Rattle.range_algebra.proofs.Holding.{start_holds, end_holds, holds_by_position}
 use Rattle.range_algebra.proofs.Places.{reaching_is_before_past, key_reaches, inverted_bound_is_past, unbounded_end}
 use Rattle.range_algebra.proofs.Completeness.{nonempty_holds}

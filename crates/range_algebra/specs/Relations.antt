@@ -1,11 +1,11 @@
 -- How two ranges lie to one another: by the keys that they hold, and by the positions of their bounds.
-use Rattle.std.specs.Prelude.{◌≡◌, Bool, IsTrue, ◌⊎◌, ◌↔◌}
+use Rattle.std.specs.Prelude.{◌≡◌, false, Bool, IsTrue, ◌⊎◌, ◌↔◌}
 use Rattle.std.specs.declared.cmp.Ordering.TheVariants.{Less}
 use Rattle.range_keys.specs.Order.{KeyOrder, Below}
 use Rattle.range_keys.specs.Position.{start_position, end_position, position_cmp}
 use Rattle.range_algebra.specs.declared.any.AnyRange.{AnyRange}
 use Rattle.range_algebra.specs.Range.{StartHolds, EndHolds, Holds, IsEmptyRange, IsKnownRange}
-use Rattle.range_algebra.specs.Compared.{starts_at_end}
+use Rattle.range_algebra.specs.Compared.{range_ordering, matches, starts_at_end}
 
 module _ {K : Type 0} (order : KeyOrder K) where
   -- every key of the one is less than every key of the other
@@ -27,6 +27,10 @@ module _ {K : Type 0} (order : KeyOrder K) where
   -- the other starts where the one ends
   abbrev pub Touches : AnyRange K → AnyRange K → Type 0
   Touches r s = IsTrue (starts_at_end order r.end (start_position order s.start))
+
+  -- their comparison says that they intersect
+  abbrev pub Meets : AnyRange K → AnyRange K → Type 0
+  Meets r s = IsTrue (matches (range_ordering order r s) false)
 
   abbrev pub EitherHolds : AnyRange K → AnyRange K → K → Type 0
   EitherHolds r s k = Holds order r k ⊎ Holds order s k
