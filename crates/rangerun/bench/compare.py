@@ -32,15 +32,15 @@ def starts(ranges, count):
 
 def kinds(ranges):
     """Each kind of command: what comes before it, and the commands."""
-    rising = [f"insert {spelled(20 * place, 20 * place + 9)} {place}" for place in range(ranges)]
+    ascending = [f"insert {spelled(20 * place, 20 * place + 9)} {place}" for place in range(ranges)]
     base = filled(ranges)
     count = 2 * ranges
     once = list(range(ranges))
     random.shuffle(once)
     yield "counts", [], ["count"] * ranges
     yield "random insertions", [], base
-    yield "rising insertions", [], rising
-    yield "falling insertions", [], rising[::-1]
+    yield "ascending insertions", [], ascending
+    yield "descending insertions", [], ascending[::-1]
     yield "touching insertions", base, [f"insert {spelled(s + 10, s + 12)} {s}" for s in starts(ranges, count)]
     yield "overlapping insertions", base, [f"insert {spelled(s + 5, s + 30)} {n}" for n, s in enumerate(starts(ranges, count))]
     yield "exact removals", base, [f"remove {spelled(20 * p, 20 * p + 9)}" for p in once]
