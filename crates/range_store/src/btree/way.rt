@@ -17,16 +17,16 @@ pub const DEEPEST: usize = 32;
 // A place between two items: an index in a leaf, and the way to that.
 #[derive(Clone, Copy)]
 pub struct Edge {
-    pub leaf: usize,
     pub way: u128,
+    pub leaf: usize,
     pub index: usize,
 }
 
 // A number of the tree, and the edge after it.
 #[derive(Clone, Copy)]
 pub struct Found {
-    pub number: usize,
     pub edge: Edge,
+    pub number: usize,
 }
 
 // The child through which the way goes first.
