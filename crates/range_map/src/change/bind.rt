@@ -1,17 +1,18 @@
 //! Binding a nonempty range in a container.
-ghost use Rattle.std.specs.Prelude.{◌≡◌, ◌↔◌, ◌+◌, ◌-◌, ◌*◌, ◌≤◌, length, OnOk, OnErr, Ok, true, false};
+ghost use Rattle.std.specs.Prelude.{◌≡◌, ◌↔◌, ◌+◌, ◌-◌, ◌*◌, ◌≤◌, length, None, OnOk, OnErr, Ok, true, false};
 ghost use Rattle.range_algebra.specs.Range.{ClonesAreEqual, IsEmptyRange};
 ghost use Rattle.range_store.specs.Counting.{AddsSteps};
 ghost use Rattle.range_map.specs.Stored.{IsStored};
 ghost use Rattle.range_map.specs.Window.{option_items, IsWindowOf};
 ghost use Rattle.range_map.specs.Reach.{IsFirstReaching, IsLastReaching};
+ghost use Rattle.range_map.specs.Edges.{IsJoinedBefore, IsJoinedAfter};
 ghost use Rattle.range_map.specs.Lookups.{MeetsSome};
 ghost use Rattle.range_map.specs.Costs.{TakesAtLeast, TakesAsChange};
 ghost use Rattle.range_map.specs.Changes.{IsInserted};
 
 use crate::change::apart::{bind_last, comes_last};
 use crate::change::cut::cut_parts;
-use crate::change::edges::both_sides;
+use crate::change::edges::{Joined, both_sides, joined_beside};
 use crate::change::reach::{reaching_after, reaching_before, surrounding};
 use crate::change::splice::{change, divide};
 use crate::change::window::{Window, find_window};
@@ -65,6 +66,70 @@ pub(crate) fn bind_within<K: PartialEnum + Clone, V: Eq + Clone, C: Storage<Item
     Ok(())
 }
 
+/// Stores an item between those beside its range, which meets no stored range and joins none.
+fn bind_between<K: PartialEnum, V: Eq + Drop, C: Storage<Item<AnyRange<K>, V>>>(
+    stored: &mut C,
+    window: &Window<C::Position>,
+    item: Item<AnyRange<K>, V>,
+) -> Result<(), AllocError>
+    requires stored { IsStored K.order V.eq (C.items stored.old) }
+    requires nonempty { ¬ IsEmptyRange K.order item.key }
+    requires window { IsWindowOf K.order C.is_good C.rank C.items stored.old item.key window.now }
+    requires none { window.now.count ≡ 0 }
+    requires before { IsJoinedBefore K.order V.eq C.is_good C.rank C.items stored.old item.key
+        item.value window.now None }
+    requires after { IsJoinedAfter K.order V.eq C.is_good C.rank C.items stored.old item.key
+        item.value window.now None }
+    ensures ok { OnOk result
+        (IsInserted K.order V.eq (C.items stored.old) (C.items stored.new) item.key item.value) }
+    ensures few { OnOk result (length (C.items stored.new) ≤ length (C.items stored.old) + 1) }
+    ensures refused { OnErr result (C.items stored.new ≡ C.items stored.old) }
+{
+    inner::known(&item.key);
+    stored.reserve(1)?;
+    let _position = stored.insert_at(window.from, item);
+    Ok(())
+}
+
+/// Binds an item's range to its value, where it meets or joins a stored range and none surrounds
+/// it.
+fn bind_among<K: PartialEnum + Clone, V: Eq + Clone, C: Storage<Item<AnyRange<K>, V>>>(
+    stored: &mut C,
+    window: &Window<C::Position>,
+    first: Option<C::Position>,
+    last: Option<C::Position>,
+    joined: &Joined<C::Position>,
+    item: Item<AnyRange<K>, V>,
+) -> Result<(), AllocError>
+    requires keys { ClonesAreEqual K.is_clone K.eq }
+    requires stored { IsStored K.order V.eq (C.items stored.old) }
+    requires nonempty { ¬ IsEmptyRange K.order item.key }
+    requires window { IsWindowOf K.order C.is_good C.rank C.items stored.old item.key window.now }
+    requires first { IsFirstReaching K.order C.is_good C.rank C.items stored.old item.key window.now
+        first }
+    requires last { IsLastReaching K.order C.is_good C.rank C.items stored.old item.key window.now
+        last }
+    requires before { first ≡ None
+        → IsJoinedBefore K.order V.eq C.is_good C.rank C.items stored.old item.key item.value
+        window.now joined.now.before }
+    requires after { last ≡ None
+        → IsJoinedAfter K.order V.eq C.is_good C.rank C.items stored.old item.key item.value
+        window.now joined.now.after }
+    requires apart { length (option_items first) + length (option_items last) ≤ window.now.count }
+    ensures ok { OnOk result
+        (IsInserted K.order V.eq (C.items stored.old) (C.items stored.new) item.key item.value) }
+    ensures few { OnOk result
+        (2 * length (C.items stored.new) + window.now.count ≤ 2 * length (C.items stored.old) + 4) }
+    ensures refused { OnErr result (C.items stored.new ≡ C.items stored.old) }
+{
+    inner::known(&item.key);
+    let (range, value) = (&item.key, &item.value);
+    let sides = both_sides::<K, V, C>(stored, window, first, last, joined, range, value)?;
+    stored.reserve(growth(sides.run.left))?;
+    change::<K, V, C>(stored, sides, Some(item));
+    Ok(())
+}
+
 /// Binds an item's range, which no stored range surrounds, to its value.
 fn bind_over<K: PartialEnum + Clone, V: Eq + Clone, C: Storage<Item<AnyRange<K>, V>>>(
     stored: &mut C,
@@ -90,12 +155,12 @@ fn bind_over<K: PartialEnum + Clone, V: Eq + Clone, C: Storage<Item<AnyRange<K>,
     ensures counted { AddsSteps steps.old steps.new 0 2 }
     ensures refused { OnErr result (C.items stored.new ≡ C.items stored.old) }
 {
-    inner::known(&item.key);
     let (range, value) = (&item.key, &item.value);
-    let sides = both_sides::<K, V, C>(stored, window, first, last, range, value, steps)?;
-    stored.reserve(growth(sides.run.left))?;
-    change::<K, V, C>(stored, sides, Some(item));
-    Ok(())
+    let joined = joined_beside::<K, V, C>(stored, window, &first, &last, range, value, steps);
+    if window.count == 0 && joined.before.is_none() && joined.after.is_none() {
+        return bind_between::<K, V, C>(stored, window, item);
+    }
+    bind_among::<K, V, C>(stored, window, first, last, &joined, item)
 }
 
 /// Binds each key of a nonempty range to the value.

@@ -1,5 +1,5 @@
 //! What a range that is bound leaves or joins on each side.
-ghost use Rattle.std.specs.Prelude.{◌≡◌, ◌+◌, ◌-◌, ◌≤◌, length, IfOk};
+ghost use Rattle.std.specs.Prelude.{◌≡◌, ◌+◌, ◌-◌, ◌≤◌, length, None, IfOk};
 ghost use Rattle.range_keys.specs.Position.{bound_of, start_position};
 ghost use Rattle.range_algebra.specs.Compared.{starts_at_end};
 ghost use Rattle.range_algebra.specs.Range.{ClonesAreEqual, IsEmptyRange};
@@ -134,14 +134,54 @@ pub(crate) fn joined_after<K: PartialEnum, V: Eq + Drop, C: Storage<Item<AnyRang
     }
 }
 
-/// What a bound range leaves or joins before it; `first` is the item that reaches out of it there.
+/// The items just before and after a window that a bound range touches and whose value equals its
+/// own. Both are `None` where the range is not compared with them.
+#[derive(Drop)]
+pub struct Joined<P: Copy> {
+    pub before: Option<P>,
+    pub after: Option<P>,
+}
+
+/// The items beside a window that the range joins; it is compared with none on a side where one
+/// that it meets reaches out of it (`first` before it, `last` after it).
+pub(crate) fn joined_beside<K: PartialEnum, V: Eq + Drop, C: Storage<Item<AnyRange<K>, V>>>(
+    stored: &C,
+    window: &Window<C::Position>,
+    first: &Option<C::Position>,
+    last: &Option<C::Position>,
+    range: &AnyRange<K>,
+    value: &V,
+    steps: &mut Steps,
+) -> Joined<C::Position>
+    requires window { IsWindowOf K.order C.is_good C.rank C.items stored.now range.now window.now }
+    ensures before { first.now ≡ None
+        → IsJoinedBefore K.order V.eq C.is_good C.rank C.items stored.now range.now value.now
+        window.now result.before }
+    ensures after { last.now ≡ None
+        → IsJoinedAfter K.order V.eq C.is_good C.rank C.items stored.now range.now value.now
+        window.now result.after }
+    ensures counted { AddsSteps steps.old steps.new 0 2 }
+{
+    let before = match first {
+        Some(_) => None,
+        None => joined_before::<K, V, C>(stored, window, range, value, steps),
+    };
+    let after = match last {
+        Some(_) => None,
+        None => joined_after::<K, V, C>(stored, window, range, value, steps),
+    };
+    Joined { before, after }
+}
+
+/// What a bound range leaves or joins before it; `first` is the item that reaches out of it there,
+/// `before` the one that it joins.
 pub(crate) fn left_side<K: PartialEnum + Clone, V: Eq + Drop, C: Storage<Item<AnyRange<K>, V>>>(
     stored: &C,
     window: &Window<C::Position>,
     first: Option<C::Position>,
+    before: Option<C::Position>,
     range: &AnyRange<K>,
     value: &V,
-    steps: &mut Steps,
 ) -> Result<LeftSide<K, C::Position>, AllocError>
     requires keys { ClonesAreEqual K.is_clone K.eq }
     requires stored { IsStored K.order V.eq (C.items stored.now) }
@@ -149,10 +189,12 @@ pub(crate) fn left_side<K: PartialEnum + Clone, V: Eq + Drop, C: Storage<Item<An
     requires window { IsWindowOf K.order C.is_good C.rank C.items stored.now range.now window.now }
     requires first { IsFirstReaching K.order C.is_good C.rank C.items stored.now range.now
         window.now first }
-    ensures planned { IfOk result
+    requires before { first ≡ None
+        → IsJoinedBefore K.order V.eq C.is_good C.rank C.items stored.now range.now value.now
+        window.now before }
+    ensures { IfOk result
         (λ side. IsPlannedBefore K.order V.eq C.is_good C.rank C.items stored.now range.now
         value.now window.now first side.edge side.from) }
-    ensures counted { AddsSteps steps.old steps.new 0 1 }
 {
     inner::known(range);
     match first {
@@ -172,7 +214,7 @@ pub(crate) fn left_side<K: PartialEnum + Clone, V: Eq + Drop, C: Storage<Item<An
                 from: stored.next(first),
             })
         }
-        None => match joined_before::<K, V, C>(stored, window, range, value, steps) {
+        None => match before {
             Some(before) => Ok(LeftSide {
                 edge: Edge::Joined(before),
                 from: Some(before),
@@ -185,14 +227,15 @@ pub(crate) fn left_side<K: PartialEnum + Clone, V: Eq + Drop, C: Storage<Item<An
     }
 }
 
-/// What a bound range leaves or joins after it; `last` is the item that reaches out of it there.
+/// What a bound range leaves or joins after it; `last` is the item that reaches out of it there,
+/// `after` the one that it joins.
 pub(crate) fn right_side<K: PartialEnum + Clone, V: Eq + Drop, C: Storage<Item<AnyRange<K>, V>>>(
     stored: &C,
     window: &Window<C::Position>,
     last: Option<C::Position>,
+    after: Option<C::Position>,
     range: &AnyRange<K>,
     value: &V,
-    steps: &mut Steps,
 ) -> Result<Edge<K, C::Position>, AllocError>
     requires keys { ClonesAreEqual K.is_clone K.eq }
     requires stored { IsStored K.order V.eq (C.items stored.now) }
@@ -200,10 +243,12 @@ pub(crate) fn right_side<K: PartialEnum + Clone, V: Eq + Drop, C: Storage<Item<A
     requires window { IsWindowOf K.order C.is_good C.rank C.items stored.now range.now window.now }
     requires last { IsLastReaching K.order C.is_good C.rank C.items stored.now range.now window.now
         last }
-    ensures planned { IfOk result
+    requires after { last ≡ None
+        → IsJoinedAfter K.order V.eq C.is_good C.rank C.items stored.now range.now value.now
+        window.now after }
+    ensures { IfOk result
         (λ edge. IsPlannedAfter K.order V.eq C.is_good C.rank C.items stored.now range.now value.now
         window.now last edge) }
-    ensures counted { AddsSteps steps.old steps.new 0 1 }
 {
     inner::known(range);
     match last {
@@ -217,7 +262,7 @@ pub(crate) fn right_side<K: PartialEnum + Clone, V: Eq + Drop, C: Storage<Item<A
             let start = cut_bound(range.end_bound())?;
             Ok(Edge::Cut(last, start))
         }
-        None => match joined_after::<K, V, C>(stored, window, range, value, steps) {
+        None => match after {
             Some(after) => {
                 inner::known(&stored.get(after).key);
                 Ok(Edge::Joined(after))
@@ -236,15 +281,15 @@ pub struct Sides<K, P: Copy> {
 }
 
 /// What a bound range leaves or joins on both sides; `first` and `last` are the items that reach
-/// out of it there.
+/// out of it there, `joined` the ones that it joins.
 pub(crate) fn both_sides<K: PartialEnum + Clone, V: Eq + Drop, C: Storage<Item<AnyRange<K>, V>>>(
     stored: &C,
     window: &Window<C::Position>,
     first: Option<C::Position>,
     last: Option<C::Position>,
+    joined: &Joined<C::Position>,
     range: &AnyRange<K>,
     value: &V,
-    steps: &mut Steps,
 ) -> Result<Sides<K, C::Position>, AllocError>
     requires keys { ClonesAreEqual K.is_clone K.eq }
     requires stored { IsStored K.order V.eq (C.items stored.now) }
@@ -254,6 +299,12 @@ pub(crate) fn both_sides<K: PartialEnum + Clone, V: Eq + Drop, C: Storage<Item<A
         window.now first }
     requires last { IsLastReaching K.order C.is_good C.rank C.items stored.now range.now window.now
         last }
+    requires before { first ≡ None
+        → IsJoinedBefore K.order V.eq C.is_good C.rank C.items stored.now range.now value.now
+        window.now joined.now.before }
+    requires after { last ≡ None
+        → IsJoinedAfter K.order V.eq C.is_good C.rank C.items stored.now range.now value.now
+        window.now joined.now.after }
     requires apart { length (option_items first) + length (option_items last) ≤ window.now.count }
     ensures left { IfOk result
         (λ sides. IsPlannedBefore K.order V.eq C.is_good C.rank C.items stored.now range.now
@@ -266,10 +317,9 @@ pub(crate) fn both_sides<K: PartialEnum + Clone, V: Eq + Drop, C: Storage<Item<A
         ≡ joined_count sides.left
         + (window.now.count - (length (option_items first) + length (option_items last)))
         + joined_count sides.right) }
-    ensures counted { AddsSteps steps.old steps.new 0 2 }
 {
-    let left = left_side::<K, V, C>(stored, window, first, range, value, steps)?;
-    let right = right_side::<K, V, C>(stored, window, last, range, value, steps)?;
+    let left = left_side::<K, V, C>(stored, window, first, joined.before, range, value)?;
+    let right = right_side::<K, V, C>(stored, window, last, joined.after, range, value)?;
     let inner = window.count - (item_count(&first) + item_count(&last));
     let count = joined_items(&left.edge) + inner + joined_items(&right);
     let run = Cursor {

@@ -1,5 +1,5 @@
 //! Unbinding a nonempty range in a container.
-ghost use Rattle.std.specs.Prelude.{◌≡◌, ◌+◌, ◌*◌, ◌≤◌, ◌<◌, length, OnOk, OnErr, IsOk};
+ghost use Rattle.std.specs.Prelude.{◌≡◌, ◌+◌, ◌*◌, ◌≤◌, ◌<◌, length, None, OnOk, OnErr, IsOk};
 ghost use Rattle.range_algebra.specs.Range.{ClonesAreEqual, IsEmptyRange};
 ghost use Rattle.range_store.specs.Counting.{AddsSteps};
 ghost use Rattle.range_map.specs.Stored.{IsStored};
@@ -19,7 +19,7 @@ use range_algebra::any::AnyRange;
 use range_algebra::inner;
 use range_algebra::range::AsRange;
 use range_keys::traits::Measure;
-use range_store::inner::cursor::Cursor;
+use range_store::inner::cursor::{Cursor, remove_rest};
 use range_store::storage::{Item, Steps, Storage};
 use std::alloc::AllocError;
 
@@ -50,6 +50,33 @@ pub(crate) fn unbind_within<
     let parts = cut_parts::<K, V, C>(stored, p, range.start(), range.end(), 1)?;
     divide::<K, V, C>(stored, p, parts, None, window.after);
     Ok(())
+}
+
+/// Unbinds a range that meets stored ranges of which none reaches out of it: takes these out.
+fn unbind_whole<K: Measure, V: Eq + Drop, C: Storage<Item<AnyRange<K>, V>>, R: AsRange<Item = K>>(
+    stored: &mut C,
+    window: &Window<C::Position>,
+    range: &R,
+)
+    requires stored { IsStored K.order V.eq (C.items stored.old) }
+    requires nonempty { ¬ IsEmptyRange K.order (R.range range.now) }
+    requires window { IsWindowOf K.order C.is_good C.rank C.items stored.old (R.range range.now)
+        window.now }
+    requires some { 0 < window.now.count }
+    requires first { IsFirstReaching K.order C.is_good C.rank C.items stored.old (R.range range.now)
+        window.now None }
+    requires last { IsLastReaching K.order C.is_good C.rank C.items stored.old (R.range range.now)
+        window.now None }
+    ensures removed { IsRemoved K.order V.eq (C.items stored.old) (C.items stored.new)
+        (R.range range.now) }
+    ensures few { length (C.items stored.new) + window.now.count ≡ length (C.items stored.old) }
+{
+    inner::known_range(range);
+    let run = Cursor {
+        at: window.from,
+        left: window.count,
+    };
+    remove_rest::<Item<AnyRange<K>, V>, C>(stored, run);
 }
 
 /// Unbinds a range that meets a stored range and is surrounded by none.
@@ -126,6 +153,10 @@ fn unbind_met<
 {
     let first = reaching_before::<K, V, C, R>(stored, window, range, steps);
     let last = reaching_after::<K, V, C, R>(stored, window, range, steps);
+    if first.is_none() && last.is_none() {
+        unbind_whole::<K, V, C, R>(stored, window, range);
+        return Ok(());
+    }
     match surrounding(window.count, first, last) {
         Some(p) => unbind_within::<K, V, C, R>(stored, window, p, range),
         None => unbind_over::<K, V, C, R>(stored, window, first, last, range),

@@ -11,8 +11,8 @@ overflow_add-count g c =
     let storage = g.C.Storage in
     let stored = c.args.stored.now in
     let items = storage.items stored in
-    let left = c.in_ok-left.ensures.planned g.met.K.PartialEnum.lawful g.met.V.Eq.laws in
-    let right = c.in_ok-right.ensures.planned g.met.K.PartialEnum.lawful g.met.V.Eq.laws in
+    let left = c.in_ok-left.ensures g.met.K.PartialEnum.lawful g.met.V.Eq.laws in
+    let right = c.in_ok-right.ensures g.met.K.PartialEnum.lawful g.met.V.Eq.laws in
     let within : right.upto ≤ right.end = upto_end (storage.is_good stored) (storage.is_good stored) (storage.rank stored) (storage.rank stored) items items (λ p h. (h, refl)) refl c.in_ok-right.right right.upto right.end right.rest right.finish right.shape in
     let upto = run_ends left.begin (joined_count c.in_ok-left.left.edge) (place_before (storage.rank stored) (length items) c.args.window.now.from) (length (option_items c.args.first)) (length (option_items c.args.last)) c.args.window.now.count right.upto (joined_count c.in_ok-right.right) _ left.begins right.ends c.requires.apart refl in
     omega (arith, upto, within, right.side.in_range, g.met.C.Storage.length_fits stored, c.joined_items.ensures, c.item_count.ensures, c.item_count-2.ensures)
@@ -22,8 +22,8 @@ overflow_add-count-2 g c =
     let storage = g.C.Storage in
     let stored = c.args.stored.now in
     let items = storage.items stored in
-    let left = c.in_ok-left.ensures.planned g.met.K.PartialEnum.lawful g.met.V.Eq.laws in
-    let right = c.in_ok-right.ensures.planned g.met.K.PartialEnum.lawful g.met.V.Eq.laws in
+    let left = c.in_ok-left.ensures g.met.K.PartialEnum.lawful g.met.V.Eq.laws in
+    let right = c.in_ok-right.ensures g.met.K.PartialEnum.lawful g.met.V.Eq.laws in
     let within : right.upto ≤ right.end = upto_end (storage.is_good stored) (storage.is_good stored) (storage.rank stored) (storage.rank stored) items items (λ p h. (h, refl)) refl c.in_ok-right.right right.upto right.end right.rest right.finish right.shape in
     let upto = run_ends left.begin (joined_count c.in_ok-left.left.edge) (place_before (storage.rank stored) (length items) c.args.window.now.from) (length (option_items c.args.first)) (length (option_items c.args.last)) c.args.window.now.count right.upto (joined_count c.in_ok-right.right) _ left.begins right.ends c.requires.apart refl in
     omega (arith, upto, within, right.side.in_range, g.met.C.Storage.length_fits stored, c.joined_items.ensures, c.joined_items-2.ensures, c.item_count.ensures, c.item_count-2.ensures)

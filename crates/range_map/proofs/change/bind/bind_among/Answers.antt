@@ -10,7 +10,7 @@ use Rattle.range_map.proofs.Lengths.{one_item, changed_length, left_length, righ
 use Rattle.range_map.proofs.Openings.{left_kept, right_kept, left_good, right_good, upto_end}
 use Rattle.range_map.proofs.Framing.{gave_way, all_meet}
 use Rattle.range_map.proofs.Edging.{edges_insert}
-use Rattle.range_map.proofs.change.bind.bind_over.Goals as goal
+use Rattle.range_map.proofs.change.bind.bind_among.Goals as goal
 
 pub change-requires-clause-left : goal.change-requires-clause-left
 change-requires-clause-left g c =
@@ -98,6 +98,5 @@ returns g c =
     record {
       ok = edges_insert order g.met.K.PartialEnum.lawful g.V.PartialEq.eq g.met.V.Eq.laws (storage.is_good stored) (storage.rank stored) items c.args.item.key w place c.requires.stored c.known.ensures c.requires.nonempty c.requires.window (storage.items c.change.new.stored) c.args.item.value item left.at right.end left.rest right.rest left.start right.finish left.side right.side refl refl (g.met.V.Eq.laws.refl c.args.item.value) frame made;
       few = bound_size (length (storage.items c.change.new.stored)) right.end left.at (length (option_items left.rest)) (length (option_items right.rest)) (length items) left.begin place (length (option_items c.args.first)) (joined_count sides.left) right.upto (length (option_items c.args.last)) w.count (joined_count sides.right) size left_is right_is left.begins right.ends c.requires.apart (one_item c.args.first) (one_item c.args.last);
-      counted = c.both_sides.ensures.counted;
       refused = tt;
     }
