@@ -1,4 +1,4 @@
-//! A search below a node, which halves within each node on its way.
+//! A search below a node: one way down to a leaf, which halves within each node.
 ghost use Rattle.std.specs.Prelude.{◌≡◌, ℕ, suc, ◌+◌, ◌-◌, ◌*◌, ◌<◌, ◌≤◌, length, count_by};
 ghost use Rattle.range_store.specs.Counting.{AddsSteps};
 ghost use Rattle.range_store.specs.Falling.{Falls, passes};
@@ -7,7 +7,7 @@ ghost use Rattle.range_store.specs.Nodes.{numbers, ShapedBut};
 ghost use Rattle.range_store.specs.Edges.{IsEdge, place, IsLast};
 
 use crate::btree::node::{CAPACITY, Node, child_at, last_of};
-use crate::btree::way::{DEEPEST, Edge, seen_above};
+use crate::btree::way::{DEEPEST, Edge, WIDTH};
 use crate::storage::Probe;
 use slab::Slab;
 
@@ -67,25 +67,28 @@ pub fn search_below<T, P: Probe<T>>(
     ensures asked { AddsSteps (P.steps_taken probe.old) (P.steps_taken probe.new) (suc below)
         (HALVINGS * suc below) }
 {
-    let list = nodes[number].items.as_slice();
-    let index = halve(list, items, probe);
-    let here = last_of(list, index);
-    if below == 0 {
-        let edge = Edge {
-            leaf: number,
-            way: 0,
-            index,
-        };
-        return Passed { edge, last: here };
+    let mut at = number;
+    let mut left = below;
+    let mut way: u128 = 0;
+    let mut weight: u128 = 1;
+    let mut last = None;
+    while left > 0 {
+        let list = nodes[at].items.as_slice();
+        let index = halve(list, items, probe);
+        last = last_of(list, index).or(last);
+        way += weight * (index as u128);
+        weight *= WIDTH;
+        at = child_at(nodes, at, index);
+        left -= 1;
     }
-    let child = child_at(nodes, number, index);
-    let passed = search_below(nodes, items, below - 1, child, probe);
+    let list = nodes[at].items.as_slice();
+    let index = halve(list, items, probe);
     Passed {
-        edge: seen_above(passed.edge, index),
-        last: if passed.last.is_some() {
-            passed.last
-        } else {
-            here
+        edge: Edge {
+            way,
+            leaf: at,
+            index,
         },
+        last: last_of(list, index).or(last),
     }
 }

@@ -1,4 +1,4 @@
-use Rattle.std.proofs.Common.{◌≡◌, ◌+◌, ◌-◌, get_or, refl, sym, ap, ◌∙◌, arith}
+use Rattle.std.proofs.Common.{◌≡◌, ◌-◌, get_or, refl, sym, ap, ◌∙◌, arith}
 use Rattle.range_store.specs.declared.btree.way.Edge.{Edge}
 use Rattle.range_store.specs.Trees.{tree_numbers, tree_place}
 use Rattle.range_store.proofs.Whole.{tree_leaf, tree_beside, tree_item}
