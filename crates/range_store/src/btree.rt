@@ -61,7 +61,7 @@ impl<T> BoxStorage<T> {
             ≡ slice_index_or (box_items self.old) (box_rank self.old p) result.0 }
         ensures list { box_items self.new ≡ remove (box_items self.old) (box_rank self.old p) }
         ensures following { IsBoxAt self.new result.1 (box_rank self.old p) }
-        ensures space { box_room self.old ≤ box_room self.new }
+        ensures space { box_room self.old + 1 ≤ box_room self.new }
     {
         let following = self.tree.remove(p.edge);
         let item = self.items.remove(p.number);
@@ -160,7 +160,11 @@ impl<T: Drop> Storage<T> for BoxStorage<T> {
     }
 
     fn reserve(&mut self, n: usize) -> Result<(), AllocError> {
+        if n == 0 {
+            return Ok(());
+        }
         self.items.reserve(n)?;
+        let _capacity = self.items.capacity();
         self.tree.reserve(self.items.len(), n)
     }
 
@@ -200,13 +204,15 @@ impl<T: Drop> Storage<T> for BoxStorage<T> {
     where
         T: Clone + Eq,
     {
-        let items = self.items.clone()?;
-        let tree = self.tree.clone(self.items.len())?;
-        Ok(BoxStorage {
-            items,
-            tree,
-            alloc: self.alloc,
-        })
+        let mut copy = BoxStorage::new(self.alloc);
+        copy.reserve(self.len())?;
+        let mut at = self.first();
+        while let Some(p) = at {
+            let item = self.get(p).clone()?;
+            copy.insert_at(None, item);
+            at = self.next(p);
+        }
+        Ok(copy)
     }
 
     ghost good_is_in_range = { λ s p h. good_in_range s p.found h };

@@ -1,6 +1,6 @@
 //! An ordered container, seen as a list of items with capacity to spare, and a probe that searches
 //! it.
-ghost use Rattle.std.specs.Prelude.{◌≡◌, ℕ, ◌+◌, ◌-◌, ◌^◌, ◌<◌, ◌≤◌, List, Bool, true, false, [], ◌∷◌, ◌++◌, length, slice_index_or, slice_set, insert, remove, IsTrue, IsSome, IfSome, IfNone, OnOk, OnErr, IfOk, MatchOption, All, min, Option};
+ghost use Rattle.std.specs.Prelude.{◌≡◌, ℕ, ◌+◌, ◌-◌, ◌^◌, ◌<◌, ◌≤◌, List, Bool, true, false, [], ◌∷◌, ◌++◌, length, slice_index_or, slice_set, insert, remove, IsTrue, IsSome, IfSome, IfNone, IsOk, OnOk, OnErr, IfOk, MatchOption, All, min, Option};
 ghost use Rattle.std.specs.List.Sorted.{IsPartitionedBy, IsPartitionPoint};
 ghost use Rattle.std.specs.List.{AllZip};
 ghost use Rattle.std.specs.Option.{ForSome};
@@ -189,10 +189,12 @@ pub trait Storage<T>: Drop {
 
     /// Makes capacity for so many further items.
     ///
-    /// Fails where an allocation does; the items are as they were in any case.
+    /// Fails where an allocation does, and never where there is room for them; the items are as
+    /// they were in any case.
     fn reserve(&mut self, n: usize) -> Result<(), AllocError>
         ensures list { items self.new ≡ items self.old }
         ensures ok { OnOk result (n ≤ room self.new) }
+        ensures succeeds { n ≤ room self.old → IsOk result }
         ensures space { room self.old ≤ room self.new }
         ensures positions { (q : Self.Position) → is_good self.old q
             → is_good self.new q × (rank self.new q ≡ rank self.old q) };
@@ -214,26 +216,31 @@ pub trait Storage<T>: Drop {
 
     /// Takes the item at the position out, and returns it with the position of the one after it.
     ///
-    /// Never fails. A vector moves all items after it, a B-tree changes nodes up to its root.
+    /// Never fails, and leaves room for one more item than there was. A vector moves all items after
+    /// it, a B-tree changes nodes up to its root.
     fn remove_at(&mut self, p: Self::Position) -> (T, Option<Self::Position>)
         requires { is_good self.old p }
         ensures removed { result.0 ≡ slice_index_or (items self.old) (rank self.old p) result.0 }
         ensures list { items self.new ≡ remove (items self.old) (rank self.old p) }
-        ensures space { room self.old ≤ room self.new }
+        ensures space { room self.old + 1 ≤ room self.new }
         ensures following { IsAt (is_good self.new) (rank self.new) (length (items self.new))
             result.1 (rank self.old p) };
 
-    /// Takes the first item out, or returns none where there is no item.
+    /// Takes the first item out, or returns none where there is no item. Leaves room for one more
+    /// item than there was, where it takes one.
     fn pop_first(&mut self) -> Option<T>
         ensures list { MatchOption result ((items self.old ≡ []) × (items self.new ≡ []))
             (λ x. items self.old ≡ x ∷ items self.new) }
-        ensures space { room self.old ≤ room self.new };
+        ensures space { MatchOption result (room self.old ≤ room self.new)
+            (λ _. room self.old + 1 ≤ room self.new) };
 
-    /// Takes the last item out, or returns none where there is no item.
+    /// Takes the last item out, or returns none where there is no item. Leaves room as `pop_first`
+    /// does.
     fn pop_last(&mut self) -> Option<T>
         ensures list { MatchOption result ((items self.old ≡ []) × (items self.new ≡ []))
             (λ x. items self.old ≡ items self.new ++ x ∷ []) }
-        ensures space { room self.old ≤ room self.new };
+        ensures space { MatchOption result (room self.old ≤ room self.new)
+            (λ _. room self.old + 1 ≤ room self.new) };
 
     /// A container of clones of the items, in order.
     ///

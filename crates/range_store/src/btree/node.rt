@@ -23,7 +23,7 @@ pub const WIDE_ITEMS: usize = CAPACITY + MIN_LEN;
 
 pub const WIDE_CHILDREN: usize = CAPACITY + MIN_LEN + 1;
 
-#[derive(Clone, Drop)]
+#[derive(Drop)]
 pub struct Node {
     pub items: ArrayVec<usize, CAPACITY>,
     pub children: ArrayVec<usize, CHILD_PLACES>,

@@ -1,5 +1,5 @@
 //! The calls of a list of numbers that is kept as a B-tree.
-ghost use Rattle.std.specs.Prelude.{◌≡◌, ℕ, ◌+◌, ◌-◌, ◌*◌, ◌<◌, ◌≤◌, ◌^◌, [], length, slice_index, insert, remove, OnOk, IfOk, MatchOption, count_by, None, Some};
+ghost use Rattle.std.specs.Prelude.{◌≡◌, ℕ, ◌+◌, ◌-◌, ◌*◌, ◌<◌, ◌≤◌, ◌^◌, [], length, slice_index, insert, remove, IsOk, OnOk, MatchOption, count_by, None, Some};
 ghost use Rattle.range_store.specs.Counting.{AddsSteps};
 ghost use Rattle.range_store.specs.Depth.{HasLevels};
 ghost use Rattle.range_store.specs.Falling.{Falls, passes};
@@ -31,22 +31,6 @@ impl NumberTree {
             root: 0,
             levels: 0,
         }
-    }
-
-    /// A copy, with capacity for its own numbers.
-    pub fn clone(&self, len: usize) -> Result<Self, AllocError>
-        requires { len ≡ length (tree_numbers self.now) }
-        ensures numbers { IfOk result (λ copy. tree_numbers copy ≡ tree_numbers self.now) }
-        ensures levels { IfOk result (λ copy. copy.levels ≡ self.now.levels) }
-    {
-        let mut nodes = self.nodes.clone()?;
-        let wanted = len / MIN_LEN + 1;
-        nodes.reserve(wanted.saturating_sub(nodes.len()))?;
-        Ok(NumberTree {
-            nodes,
-            root: self.root,
-            levels: self.levels,
-        })
     }
 
     /// The number of levels.
@@ -133,19 +117,21 @@ impl NumberTree {
 
     /// Reserves capacity for `additional` more numbers.
     pub fn reserve(&mut self, len: usize, additional: usize) -> Result<(), AllocError>
-        requires { len ≡ length (tree_numbers self.old) }
+        requires len { len ≡ length (tree_numbers self.old) }
+        requires fits { len + additional < 2 ^ 64 }
         ensures room { OnOk result (additional ≤ tree_room self.new) }
+        ensures succeeds { additional ≤ tree_room self.old → IsOk result }
         ensures no_less { tree_room self.old ≤ tree_room self.new }
         ensures numbers { tree_numbers self.new ≡ tree_numbers self.old }
         ensures levels { self.new.levels ≡ self.old.levels }
         ensures edges { (g : Edge) → IsTreeEdge self.old g
             → IsTreeEdge self.new g × (tree_place self.new g ≡ tree_place self.old g) }
     {
-        if additional > usize::MAX - len {
-            return Err(AllocError);
+        let wanted = (len + additional).div_ceil(MIN_LEN);
+        if wanted <= self.nodes.capacity() {
+            return Ok(());
         }
-        let wanted = (len + additional) / MIN_LEN + 1;
-        self.nodes.reserve(wanted.saturating_sub(self.nodes.len()))
+        self.nodes.reserve(wanted - self.nodes.len())
     }
 
     /// Puts a number at an edge, or into an empty tree, and tells the edge after it.

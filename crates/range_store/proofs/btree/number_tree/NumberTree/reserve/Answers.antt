@@ -1,6 +1,8 @@
-use Rattle.std.proofs.Common.{◌≡◌, ℕ, ◌-◌, length, ap, arith}
+use Rattle.std.proofs.Common.{◌≡◌, ℕ, ◌+◌, ◌-◌, length, ap, arith}
+use Rattle.std.proofs.lemmas.Grind.{div_ceil_times}
 use Rattle.std.proofs.lemmas.Result.{on_ok_weaker}
 use Rattle.slab.specs.Slab.{get, slab_len}
+use Rattle.range_store.specs.declared.btree.node.TheConstants.{MIN_LEN}
 use Rattle.range_store.proofs.Edges.{same_edge}
 use Rattle.range_store.proofs.Rank.{numbers_kept, tree_kept}
 use Rattle.range_store.proofs.btree.number_tree.NumberTree.reserve.Goals as goal
@@ -35,11 +37,22 @@ returns-clause-no_less c =
     let kept = ap length (numbers_kept c.args.self.now.nodes c.reserve.new.self (same a) (same_len a) c.args.self.now.levels c.args.self.now.root) in
     omega (arith, kept, c.reserve.ensures.capacity)
 
+pub returns-then-wanted-capacity-clause-room : goal.returns-then-wanted-capacity-clause-room
+returns-then-wanted-capacity-clause-room c =
+    let ceiling = div_ceil_times (c.args.len + c.args.additional) MIN_LEN (omega arith) in
+    omega (arith, ceiling.0, c.requires.len)
+
 pub returns-clause-room : goal.returns-clause-room
 returns-clause-room c =
     let a = (goal.at.returns-clause-room c).After-reserve in
     let kept = ap length (numbers_kept c.args.self.now.nodes c.reserve.new.self (same a) (same_len a) c.args.self.now.levels c.args.self.now.root) in
-    on_ok_weaker c.reserve.result (λ room. omega (arith, kept, c.requires, room, same_len a, c.len.ensures, c.saturating_sub.ensures)) c.reserve.ensures.room
+    let ceiling = div_ceil_times (c.args.len + c.args.additional) MIN_LEN (omega arith) in
+    on_ok_weaker c.reserve.result (λ room. omega (arith, kept, ceiling.0, c.requires.len, room, same_len a, c.len.ensures)) c.reserve.ensures.room
+
+pub returns-clause-succeeds : goal.returns-clause-succeeds
+returns-clause-succeeds c =
+    let ceiling = div_ceil_times (c.args.len + c.args.additional) MIN_LEN (omega arith) in
+    λ fits. absurd (omega (arith, ceiling.1, fits, c.requires.len, c.args.self.now.whole.fits))
 
 pub returns-clause-edges : goal.returns-clause-edges
 returns-clause-edges c =
