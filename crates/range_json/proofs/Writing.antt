@@ -1,5 +1,6 @@
 -- What is written of a list while a loop goes over it.
-use Rattle.std.proofs.Common.{◌≡◌, refl, sym, ap, ◌∙◌, List, [], ◌∷◌, ◌++◌, map}
+use Rattle.std.proofs.Common.{◌≡◌, refl, sym, ap, subst, ◌∙◌, List, [], ◌∷◌, ◌++◌, map, append_assoc}
+use Rattle.std.proofs.lemmas.List.{map-append}
 use Rattle.std.specs.List.{AllByRecursion}
 use Rattle.range_algebra.specs.declared.any.AnyRange.{AnyRange}
 use Rattle.range_store.specs.declared.storage.Item.{Item}
@@ -13,9 +14,17 @@ module _ {X : Type 0} (shape : X → Data) where
   abbrev pub HasWritten : List X → List X → List Value → Type 0
   HasWritten all left written = map view written ++ map shape left ≡ map shape all
 
+  -- one more was written
+  pub written_more : (all left rest : List X) (x : X) (written : List Value) (v : Value) → left ≡ x ∷ rest → view v ≡ shape x → HasWritten all left written → HasWritten all rest (written ++ v ∷ [])
+  written_more all left rest x written v step is h =
+      ap (λ ds. ds ++ map shape rest) (map-append view written (v ∷ [])) ∙ (append_assoc (map view written) (view v ∷ []) (map shape rest) ∙ (ap (λ d. map view written ++ d ∷ map shape rest) is ∙ (ap (λ xs. map view written ++ map shape xs) (sym step) ∙ h)))
+
 -- all that a loop has written are values, where what is left are
 abbrev pub AreValuesSoFar : {X : Type 0} → (X → Type 0) → List X → List X → Type 0
 AreValuesSoFar P all left = AllByRecursion P left → AllByRecursion P all
+
+pub values_more : {X : Type 0} (P : X → Type 0) (all left rest : List X) (x : X) → left ≡ x ∷ rest → P x → AreValuesSoFar P all left → AreValuesSoFar P all rest
+values_more P all left rest x step here h = λ later. h (subst (AllByRecursion P) (sym step) (here, later))
 
 pub by_ranges : {K V : Type 0} (P : AnyRange K → Type 0) (items : List (Item (AnyRange K) V)) → AllByRecursion P (item_ranges items) → AllByRecursion (λ i. P i.key) items
 by_ranges P [] h = tt

@@ -69,18 +69,28 @@ module _ {K V : Type 0} (order : KeyOrder K) (same : V → V → Bool) (key_read
         → IsTrue (same_list order same others items)
 
 module _ {K V : Type 0} (order : KeyOrder K) (cmp : V → V → Ordering) (same : V → V → Bool)
-    (key_reads value_reads : Data → Bool) (key_is_read : Data → K → Type 0) (value_is_read : Data → V → Type 0)
-    (key_shape : K → Data) (value_shape : V → Data) (key_is_value : K → Type 0) (value_is_value : V → Type 0) where
-  abbrev pub WrittenMultimapsHaveNoFault : Type 0
-  WrittenMultimapsHaveNoFault = (items : List (Item (AnyRange K) (BTreeSet V)))
-      → AreItemValues key_is_value (IsValueSet cmp value_is_value) items
-      → HasNoEmptySet IsEmpty items → IsStored order (same_values same) items → (e : JsonError)
-      → ¬ IsMultimapFault order key_reads value_reads key_is_read value_is_read cmp (map_shape key_shape (values_shape value_shape) items) e
+    (key_reads value_reads : Data → Bool) (key_is_read : Data → K → Type 0) (value_is_read : Data → V → Type 0) where
+  abbrev HasMultimapFault : Data → JsonError → Type 0
+  HasMultimapFault = IsMultimapFault order key_reads value_reads key_is_read value_is_read cmp
 
-  -- equal as `==` compares multimaps
-  abbrev pub WrittenMultimapsAreReadEqual : Type 0
-  WrittenMultimapsAreReadEqual = (items others : List (Item (AnyRange K) (BTreeSet V)))
-      → AreItemValues key_is_value (IsValueSet cmp value_is_value) items
-      → IsStored order (same_values same) items
-      → IsMultimapRead order key_reads value_reads key_is_read value_is_read cmp same (map_shape key_shape (values_shape value_shape) items) others
-      → IsTrue (same_list order (same_values same) others items)
+  abbrev MultimapIsRead : Data → List (Item (AnyRange K) (BTreeSet V)) → Type 0
+  MultimapIsRead = IsMultimapRead order key_reads value_reads key_is_read value_is_read cmp same
+
+  abbrev pub ReadMultimapsHaveNoFault : Type 0
+  ReadMultimapsHaveNoFault = (d : Data) (items : List (Item (AnyRange K) (BTreeSet V))) (e : JsonError)
+      → MultimapIsRead d items → ¬ HasMultimapFault d e
+
+  module _ (key_shape : K → Data) (value_shape : V → Data) (key_is_value : K → Type 0) (value_is_value : V → Type 0) where
+    abbrev pub WrittenMultimapsHaveNoFault : Type 0
+    WrittenMultimapsHaveNoFault = (items : List (Item (AnyRange K) (BTreeSet V)))
+        → AreItemValues key_is_value (IsValueSet cmp value_is_value) items
+        → HasNoEmptySet IsEmpty items → IsStored order (same_values same) items → (e : JsonError)
+        → ¬ HasMultimapFault (map_shape key_shape (values_shape value_shape) items) e
+
+    -- equal as `==` compares multimaps
+    abbrev pub WrittenMultimapsAreReadEqual : Type 0
+    WrittenMultimapsAreReadEqual = (items others : List (Item (AnyRange K) (BTreeSet V)))
+        → AreItemValues key_is_value (IsValueSet cmp value_is_value) items
+        → IsStored order (same_values same) items
+        → MultimapIsRead (map_shape key_shape (values_shape value_shape) items) others
+        → IsTrue (same_list order (same_values same) others items)

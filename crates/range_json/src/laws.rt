@@ -3,7 +3,7 @@ ghost use Rattle.range_json.specs.Laws.{WrittenRangesHaveNoFault, WrittenRangesA
 ghost use Rattle.range_json.specs.Laws.{WrittenSetsHaveNoFault, WrittenSetsAreReadEqual};
 ghost use Rattle.range_json.specs.Laws.{WrittenMapsHaveNoFault, WrittenMapsAreReadEqual};
 ghost use Rattle.range_json.specs.Laws.{WrittenMultimapsHaveNoFault, WrittenMultimapsAreReadEqual};
-ghost use Rattle.range_json.specs.Laws.{ReadMapsHaveNoFault};
+ghost use Rattle.range_json.specs.Laws.{ReadMapsHaveNoFault, ReadMultimapsHaveNoFault};
 
 use crate::json::{Json, ReadsBack};
 use range_keys::traits::PartialEnum;
@@ -39,4 +39,9 @@ pub fn multimaps_are_read_back<K: ReadsBack + PartialEnum, V: ReadsBack + Ord>()
 /// A JSON value that is read as a map has no fault.
 pub fn read_maps_have_no_fault<K: ReadsBack + PartialEnum, V: Json + Eq>()
     ensures { ReadMapsHaveNoFault K.order V.eq K.reads V.reads K.is_read V.is_read }
+{}
+
+/// A JSON value that is read as a multimap has no fault.
+pub fn read_multimaps_have_no_fault<K: ReadsBack + PartialEnum, V: Json + Ord>()
+    ensures { ReadMultimapsHaveNoFault K.order V.cmp V.eq K.reads V.reads K.is_read V.is_read }
 {}

@@ -10,6 +10,10 @@ use Rattle.range_store.specs.declared.storage.Item.{Item}
 use Rattle.range_map.specs.Answers.{Answered, MayAnswer, IsAnswered, IsUpdated, MayFail, FailsAt}
 use Rattle.range_map.specs.Rebinding.{IsRebound, AreRebound}
 
+pub every_one : {X : Type 0} (P : X → Type 0) (xs : List X) → ((x : X) → P x) → Every P xs
+every_one P [] each = tt
+every_one P (x ∷ xs) each = (each x, every_one P xs each)
+
 module _ {K : Type 0} (order : KeyOrder K) {V : Type 0} (same : V → V → Bool) {F E : Type 0} (calls : Shared F (Option (Bor V) × Unit {0}) (Result (Option V) E)) (f : F) (may : Option V → Result (Option V) E → Type 0) (told : (value : Option V) (a : Result (Option V) E) → MayAnswer calls f value a → may value a) where
   all_told : (answers : List (Answered K V)) → Every (λ a. MayAnswer calls f a.value (Ok a.answer)) answers → Every (λ a. may a.value (Ok a.answer)) answers
   all_told [] given = tt

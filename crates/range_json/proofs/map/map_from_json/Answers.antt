@@ -1,9 +1,10 @@
 use Rattle.std.proofs.Common.{◌≡◌, ◌⊎◌, inl, inr, sym, ap, ◌∙◌, ◌+◌, ◌<◌, ◌++◌, ◌∷◌, [], take, drop, subst, rules, length, map, arith}
+use Rattle.std.proofs.Math.Seq.{take-length}
 use Rattle.std.proofs.lemmas.List.{take_more, length-take-le, take-append-drop}
 use Rattle.serde_json.specs.View.{view}
 use Rattle.range_json.specs.MapFaults.{IsMapFault, IsFirstFault, IsFaultOf}
 use Rattle.range_json.specs.declared.error.JsonError.TheVariants.{Memory, Meets}
-use Rattle.range_json.proofs.MapReading.{IsPut, map_begun, map_more, map_fails, map_meets, none_stored}
+use Rattle.range_json.proofs.MapReading.{IsMapSoFar, IsPut, map_begun, map_more, map_fails, map_meets, none_stored}
 use Rattle.range_json.proofs.Reading.{append_one_more}
 use Rattle.range_json.proofs.map.map_from_json.Goals as goal
 
@@ -68,3 +69,22 @@ returns-in_err-insert_element-clause-fault g c =
       | inr at ↦ inr (subst (λ w. IsFaultOf order g.K.Json.reads g.V.Json.reads g.K.Json.is_read g.V.Json.is_read w e) (sym c.in_ok-elements.ensures.found) (subst (λ l. IsFirstFault order g.K.Json.reads g.V.Json.reads g.K.Json.is_read g.V.Json.is_read (map view l) e) all (subst (λ f. IsFirstFault order g.K.Json.reads g.V.Json.reads g.K.Json.is_read g.V.Json.is_read (map view (take n vs ++ v ∷ rest)) f) (ap Meets size ∙ sym at.0) (map_meets order g.K.Json.reads g.V.Json.reads g.K.Json.is_read g.V.Json.is_read g.V.PartialEq.eq (take n vs) rest v (g.C.Storage.items c.loop-index.map) c.in_ok-element_from_json.field-0 c.loop-index.invariant (rw size c.in_ok-element_from_json.ensures.sound) c.in_ok-element_from_json.ensures.read c.insert_element.ensures.known (at.1, at.2)))))
     ] in
     search (rules, told)
+
+pub returns-clause-read : goal.returns-clause-read
+returns-clause-read g c =
+    let vs = c.in_ok-elements.elements.now in
+    let n = c.loop-index.index in
+    let full : n ≡ length vs = omega (arith, c.loop-index-test.false, c.loop-index.auto.index-end) in
+    let all : take n vs ≡ vs = ap (λ i. take i vs) full ∙ take-length vs in
+    let whole = subst (λ l. IsMapSoFar g.K.MaybeBounded.order g.K.Json.reads g.V.Json.reads g.K.Json.is_read g.V.Json.is_read g.V.PartialEq.eq l (g.C.Storage.items c.loop-index.map)) all c.loop-index.invariant in
+    record {
+      ds = map view vs;
+      elements = whole.earlier;
+      whole = c.in_ok-elements.ensures.found;
+      read = whole.read;
+      bound = whole.bound;
+      kept = whole.kept;
+    }
+
+pub returns-clause-form : goal.returns-clause-form
+returns-clause-form g c = c.loop-index.invariant.form

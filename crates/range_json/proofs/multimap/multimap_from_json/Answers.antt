@@ -1,4 +1,5 @@
 use Rattle.std.proofs.Common.{◌≡◌, ◌⊎◌, inl, inr, sym, ap, ◌∙◌, ◌+◌, ◌<◌, ◌++◌, ◌∷◌, [], take, drop, subst, rules, length, map, arith, Err}
+use Rattle.std.proofs.Math.Seq.{take-length}
 use Rattle.std.proofs.lemmas.List.{take_more, length-take-le, take-append-drop}
 use Rattle.std.specs.Cmp.{on_equiv}
 use Rattle.std.specs.Cmp.Lexicographic.{lists_equiv}
@@ -7,7 +8,7 @@ use Rattle.range_json.specs.MapFaults.{IsFirstFault, IsFaultOf}
 use Rattle.range_json.specs.MultimapFaults.{IsMultimapFault}
 use Rattle.range_json.specs.declared.error.JsonError.TheVariants.{Memory, Meets}
 use Rattle.range_json.specs.ValueSets.{reads_some_values, same_values, AreValuesRead}
-use Rattle.range_json.proofs.MapReading.{IsPut, map_begun, map_more, map_fails, map_meets, none_stored}
+use Rattle.range_json.proofs.MapReading.{IsMapSoFar, IsPut, map_begun, map_more, map_fails, map_meets, none_stored}
 use Rattle.range_json.proofs.Multimaps.{fails_with}
 use Rattle.range_json.proofs.Reading.{append_one_more}
 use Rattle.range_json.proofs.multimap.multimap_from_json.Goals as goal
@@ -75,3 +76,22 @@ returns-in_err-insert_values-clause-fault g c =
     ] in
     let is : c.from_residual-in_err-insert_values.result ≡ Err e = search rules in
     fails_with (λ f. (f ≡ Memory) ⊎ IsMultimapFault order g.K.Json.reads g.V.Json.reads g.K.Json.is_read g.V.Json.is_read g.V.Ord.cmp (view c.args.value.now) f) c.from_residual-in_err-insert_values.result e is told
+
+pub returns-clause-read : goal.returns-clause-read
+returns-clause-read g c =
+    let vs = c.in_ok-elements.elements.now in
+    let n = c.loop-index.index in
+    let full : n ≡ length vs = omega (arith, c.loop-index-test.false, c.loop-index.auto.index-end) in
+    let all : take n vs ≡ vs = ap (λ i. take i vs) full ∙ take-length vs in
+    let whole = subst (λ l. IsMapSoFar g.K.MaybeBounded.order g.K.Json.reads (reads_some_values g.V.Json.reads) g.K.Json.is_read (AreValuesRead g.V.Ord.cmp g.V.Json.is_read) (same_values g.V.PartialEq.eq) l (g.C.Storage.items c.loop-index.multimap)) all c.loop-index.invariant in
+    record {
+      ds = map view vs;
+      elements = whole.earlier;
+      whole = c.in_ok-elements.ensures.found;
+      read = whole.read;
+      bound = whole.bound;
+      kept = whole.kept;
+    }
+
+pub returns-clause-form : goal.returns-clause-form
+returns-clause-form g c = c.loop-index.invariant.form

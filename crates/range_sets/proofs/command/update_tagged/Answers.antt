@@ -1,13 +1,8 @@
 use Rattle.std.proofs.lemmas.Grind.{common_steps}
-use Rattle.std.proofs.Common.{rules, subst, arith, List, [], ◌∷◌}
-use Rattle.range_algebra.specs.Intervals.{Every}
+use Rattle.std.proofs.Common.{rules, subst, arith}
 use Rattle.range_sets.specs.Tagged.{MayAnswerTo}
-use Rattle.range_sets.proofs.Asked.{answered_as, rebound_as, fails_as}
+use Rattle.range_sets.proofs.Asked.{every_one, answered_as, rebound_as, fails_as}
 use Rattle.range_sets.proofs.command.update_tagged.Goals as goal
-
-every_one : {X : Type 0} (P : X → Type 0) (xs : List X) → ((x : X) → P x) → Every P xs
-every_one P [] each = tt
-every_one P (x ∷ xs) each = (each x, every_one P xs each)
 
 pub update-requires-clause-bound : goal.update-requires-clause-bound
 update-requires-clause-bound g c = every_one _ (g.C.Storage.items c.args.map.now) (λ i shown shows. c.requires.callable)

@@ -3,6 +3,7 @@ use Rattle.std.specs.Prelude.{IfSome}
 use Rattle.range_map.specs.Answers.{IsAsAnswered}
 use Rattle.range_sets.specs.Members.{HasAllBut, among}
 use Rattle.range_sets.specs.Pairs.{HasPair}
+use Rattle.range_sets.proofs.Asked.{every_one}
 use Rattle.range_sets.proofs.Pairing.{removed, values_at, full_some, stay_bound, stays_full, not_refused}
 use Rattle.range_sets.proofs.multimap.RangeMultiMap.remove.Goals as goal
 
@@ -54,3 +55,15 @@ returns-clause-nonempty g c =
     stays_full g.K.MaybeBounded.order g.S.PartialEq.eq g.met.S.Eq.laws g.S.MaybeEmpty.is_void g.met.S.MaybeEmpty.void_equal _ _
     (g.C.Storage.items c.self.inside.map) (g.C.Storage.items c.update.new.self) (g.R.AsRange.range c.args.range) (not_refused c.update.result c.update.ensures.updated c.in_default.not-Err)
     (λ old answer m. m.says.1.1.0) c.self.invariant done.empty_unchanged
+
+pub update-requires-clause-keys : goal.update-requires-clause-keys
+update-requires-clause-keys g c = c.requires.keys
+
+pub update-requires-clause-values : goal.update-requires-clause-values
+update-requires-clause-values g c = g.met.S.SetMut.clones_equal c.requires.values
+
+pub update-requires-clause-free : goal.update-requires-clause-free
+update-requires-clause-free g c = λ shown shows. c.requires.values
+
+pub update-requires-clause-bound : goal.update-requires-clause-bound
+update-requires-clause-bound g c = every_one _ (g.C.Storage.items c.self.inside.map) (λ i shown shows. c.requires.values)

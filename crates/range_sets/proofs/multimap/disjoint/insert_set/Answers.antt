@@ -11,3 +11,12 @@ returns-clause-nonempty g c = invariant_of-multimap g c
 
 pub returns-clause-meets : goal.returns-clause-meets
 returns-clause-meets g c = rw (← c.multimap.view_is) c.insert_disjoint.ensures.meets
+
+pub returns-clause-met : goal.returns-clause-met
+returns-clause-met g c = rw (← c.multimap.view_is) c.insert_disjoint.ensures.met
+
+pub returns-clause-bound : goal.returns-clause-bound
+returns-clause-bound g c = rw (← c.multimap.view_is) c.insert_disjoint.ensures.bound
+
+pub returns-clause-frame : goal.returns-clause-frame
+returns-clause-frame g c = rw (← c.multimap.view_is) c.insert_disjoint.ensures.frame
