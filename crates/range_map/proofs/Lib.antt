@@ -41,5 +41,6 @@ pub mod Separating
 pub mod Splicing
 pub mod StoredLists
 pub mod Updating
+pub mod Walking
 pub mod Windows
 pub mod Writing
