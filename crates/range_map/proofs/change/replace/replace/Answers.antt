@@ -8,6 +8,7 @@ use Rattle.range_map.specs.Edges.{IsLeftShape, IsRightShape, joined_count}
 use Rattle.range_map.specs.Edits.{turned_bound}
 use Rattle.range_map.specs.Seams.{seam_edge}
 use Rattle.range_map.proofs.Framing.{all_meet}
+use Rattle.range_map.proofs.Lengths.{one_item}
 use Rattle.range_map.proofs.Openings.{left_kept, right_kept, left_good, right_good}
 use Rattle.range_map.proofs.Replaced.{IsReplacement, plans_replacement, replacement_is_made}
 use Rattle.range_map.proofs.Results.{error_has_no_value, on_error}
@@ -172,10 +173,10 @@ pub joined_right-behind-requires-clause-within : goal.joined_right-behind-requir
 joined_right-behind-requires-clause-within g c = grind (arith, common_steps)
 
 pub overflow_add-inner : goal.overflow_add-inner
-overflow_add-inner g c = grind (arith, common_steps)
+overflow_add-inner g c = omega (arith, one_item c.args.first, one_item c.args.last, c.item_count.ensures, c.item_count-2.ensures)
 
 pub overflow_sub-inner : goal.overflow_sub-inner
-overflow_sub-inner g c = grind (arith, common_steps)
+overflow_sub-inner g c = omega (arith, c.requires.apart, c.item_count.ensures, c.item_count-2.ensures)
 
 pub returns-clause-refused : goal.returns-clause-refused
 returns-clause-refused g c = tt
@@ -189,3 +190,30 @@ run_start-from-requires-clause-from g c =
 
 pub returns-in_err-reserve : goal.returns-in_err-reserve
 returns-in_err-reserve g c = record { ok = error_has_no_value _ c.from_residual.result c.from_residual.ensures.0; refused = on_error _ c.from_residual.result c.reserve.ensures.list }
+
+pub joined_left-before-requires-clause-stored : goal.joined_left-before-requires-clause-stored
+joined_left-before-requires-clause-stored g c = c.requires.stored
+
+pub joined_left-before-requires-clause-nonempty : goal.joined_left-before-requires-clause-nonempty
+joined_left-before-requires-clause-nonempty g c = c.requires.nonempty
+
+pub joined_left-before-requires-clause-window : goal.joined_left-before-requires-clause-window
+joined_left-before-requires-clause-window g c = c.requires.window
+
+pub joined_left-before-requires-clause-first : goal.joined_left-before-requires-clause-first
+joined_left-before-requires-clause-first g c = c.requires.first
+
+pub joined_right-behind-requires-clause-stored : goal.joined_right-behind-requires-clause-stored
+joined_right-behind-requires-clause-stored g c = c.requires.stored
+
+pub joined_right-behind-requires-clause-nonempty : goal.joined_right-behind-requires-clause-nonempty
+joined_right-behind-requires-clause-nonempty g c = c.requires.nonempty
+
+pub joined_right-behind-requires-clause-window : goal.joined_right-behind-requires-clause-window
+joined_right-behind-requires-clause-window g c = c.requires.window
+
+pub joined_right-behind-requires-clause-last : goal.joined_right-behind-requires-clause-last
+joined_right-behind-requires-clause-last g c = c.requires.last
+
+pub run_start-from-requires-clause-first : goal.run_start-from-requires-clause-first
+run_start-from-requires-clause-first g c = λ p e. let found = rw e at c.requires.first in (found.0, found.1)
