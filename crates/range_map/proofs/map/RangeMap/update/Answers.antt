@@ -1,9 +1,8 @@
 use Rattle.std.proofs.lemmas.Grind.{common_steps}
-use Rattle.std.proofs.Common.{sym, refl, ◌∙◌, rules, arith}
+use Rattle.std.proofs.Common.{sym, refl, ◌∙◌, arith}
 use Rattle.std.specs.Cmp.{Equal-is}
 use Rattle.range_algebra.specs.Clones.{bound_clone}
 use Rattle.range_algebra.specs.Range.{IsEmptyRange}
-use Rattle.range_algebra.specs.declared.any.AnyRange.{AnyRange}
 use Rattle.range_map.specs.Answers.{MayAnswer, IsUpdated}
 use Rattle.range_map.proofs.Covering.{on_ok}
 use Rattle.range_map.proofs.Likeness.{clone_empty, updated_too, fails_too}
