@@ -11,6 +11,7 @@ pub mod CutOut
 pub mod CutParts
 pub mod Cutting
 pub mod Depths
+pub mod Dividing
 pub mod Edging
 pub mod Endings
 pub mod Extents
@@ -32,6 +33,7 @@ pub mod Openings
 pub mod Planning
 pub mod Rebinding
 pub mod Replaced
+pub mod Results
 pub mod Scans
 pub mod Seaming
 pub mod Searching
@@ -39,5 +41,6 @@ pub mod Separating
 pub mod Splicing
 pub mod StoredLists
 pub mod Updating
+pub mod Walking
 pub mod Windows
 pub mod Writing

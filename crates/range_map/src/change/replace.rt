@@ -2,6 +2,7 @@
 ghost use Rattle.std.specs.Prelude.{◌≡◌, ◌+◌, ◌≤◌, Option, length, option_copied, IfSome, OnOk, OnErr};
 ghost use Rattle.std.specs.declared.ops.Bound.{Bound};
 ghost use Rattle.range_algebra.specs.Range.{IsEmptyRange};
+ghost use Rattle.range_map.specs.Edits.{turned_bound};
 ghost use Rattle.range_map.specs.Pieces.{LiesIn};
 ghost use Rattle.range_map.specs.Reach.{IsFirstReaching, IsLastReaching};
 ghost use Rattle.range_map.specs.Replaced.{AreWithin, IsReplaced};
@@ -116,6 +117,23 @@ fn seam<K: Drop, P: Copy>(joined: Option<P>, reaching: Option<P>, bound: Bound<K
     }
 }
 
+/// What becomes of the items on both sides of a range: of those that join before and behind it, or
+/// else of those that reach out of it.
+fn seams<K: Drop, P: Copy>(
+    range: AnyRange<K>,
+    before: Option<P>,
+    first: Option<P>,
+    behind: Option<P>,
+    last: Option<P>,
+) -> (Edge<K, P>, Edge<K, P>)
+    ensures left { result.0 ≡ seam_edge before first (turned_bound range.start) }
+    ensures right { result.1 ≡ seam_edge behind last (turned_bound range.end) }
+{
+    let (start, end) = range.into_bounds();
+    let (left, right) = (turned(start), turned(end));
+    (seam(before, first, left), seam(behind, last, right))
+}
+
 /// Lets the items of a list stand for all that a nonempty range held, where no stored range
 /// surrounds it.
 ///
@@ -149,13 +167,11 @@ pub(crate) fn replace<K: Measure, V: Eq + Drop, C: Storage<Item<AnyRange<K>, V>>
     let inner = window.count - (item_count(&first) + item_count(&last));
     let count = item_count(&before) + inner + item_count(&behind);
     stored.reserve(middle.len().saturating_sub(count))?;
-    let (start, end) = range.into_bounds();
-    let (left, right) = (turned(start), turned(end));
     let run = Cursor {
         at: before.or(from),
         left: count,
     };
-    let (left, right) = (seam(before, first, left), seam(behind, last, right));
+    let (left, right) = seams(range, before, first, behind, last);
     change_to::<K, V, C>(stored, run, left, right, middle);
     Ok(())
 }

@@ -252,7 +252,7 @@ pub(crate) fn divide<K: Drop, V: Drop, C: Storage<Item<AnyRange<K>, V>>>(
     let at = stored.insert_at(after, Item { key, value });
     match middle {
         Some(item) => {
-            let _at = stored.insert_at(Some(at), item);
+            let _middle = stored.insert_at(Some(at), item);
         }
         None => (),
     }

@@ -1,7 +1,8 @@
 //! Changing what the keys of a range are bound to by a closure.
-ghost use Rattle.std.specs.Prelude.{◌≡◌, ◌+◌, ◌≤◌, OnOk, OnErr, IsOk, Some, None, Ok, Err};
+ghost use Rattle.std.specs.Prelude.{◌≡◌, ◌+◌, ◌≤◌, IfOk, OnOk, OnErr, IsOk, Some, None, Ok, Err};
 ghost use Rattle.range_keys.specs.Order.{IsComplete};
 ghost use Rattle.range_algebra.specs.Intervals.{Every};
+ghost use Rattle.range_algebra.specs.Clones.{IsBoundClone};
 ghost use Rattle.range_algebra.specs.Range.{ClonesAreEqual, IsEmptyRange};
 ghost use Rattle.range_map.specs.Answers.{MayAnswer, MayBeAsked, FailsAt, IsUpdated};
 ghost use Rattle.range_map.specs.Askable.{MayBeAskedOfEach};
@@ -26,7 +27,7 @@ use range_algebra::inner::{self, clone_of};
 use range_algebra::range::AsRange;
 use range_keys::traits::Measure;
 use range_store::storage::{Item, Steps, Storage};
-use std::alloc::Global;
+use std::alloc::{AllocError, Global};
 
 /// Asks the closure for a range that one stored range surrounds, and does as it answers.
 fn update_within<
@@ -107,6 +108,18 @@ fn update_pieces<
     Ok(())
 }
 
+/// The range over clones of its keys.
+fn clone_range<K: Clone, R: AsRange<Item = K>>(range: &R) -> Result<AnyRange<K>, AllocError>
+    ensures start { IfOk result
+        (λ copy. IsBoundClone K.is_clone (R.range range.now).start copy.start) }
+    ensures end { IfOk result (λ copy. IsBoundClone K.is_clone (R.range range.now).end copy.end) }
+{
+    let start = clone_of(range.start())?;
+    let end = clone_of(range.end())?;
+    let range = AnyRange { start, end };
+    Ok(range)
+}
+
 impl<K: Measure + Clone, V: Eq + Clone, C: Storage<Item<AnyRange<K>, V>>> RangeMap<K, V, C> {
     /// Binds each piece of the range as the closure answers to what its keys are bound to.
     ///
@@ -162,9 +175,7 @@ impl<K: Measure + Clone, V: Eq + Clone, C: Storage<Item<AnyRange<K>, V>>> RangeM
         if range.is_empty() {
             return Ok(());
         }
-        let start = clone_of(range.start())?;
-        let end = clone_of(range.end())?;
-        let range = AnyRange { start, end };
+        let range = clone_range(&range)?;
         update_pieces(self.alloc, &mut self.stored, range, &f)
     }
 }

@@ -10,6 +10,7 @@ use Rattle.range_map.proofs.Lengths.{one_item, changed_length, left_length, righ
 use Rattle.range_map.proofs.Openings.{left_kept, right_kept, left_good, right_good, upto_end}
 use Rattle.range_map.proofs.Framing.{gave_way, all_meet}
 use Rattle.range_map.proofs.Edging.{edges_insert}
+use Rattle.range_map.proofs.Results.{error_has_no_value, on_error}
 use Rattle.range_map.proofs.change.bind.bind_among.Goals as goal
 
 pub change-requires-clause-left : goal.change-requires-clause-left
@@ -100,3 +101,36 @@ returns g c =
       few = bound_size (length (storage.items c.change.new.stored)) right.end left.at (length (option_items left.rest)) (length (option_items right.rest)) (length items) left.begin place (length (option_items c.args.first)) (joined_count sides.left) right.upto (length (option_items c.args.last)) w.count (joined_count sides.right) size left_is right_is left.begins right.ends c.requires.apart (one_item c.args.first) (one_item c.args.last);
       refused = tt;
     }
+
+pub both_sides-requires-clause-keys : goal.both_sides-requires-clause-keys
+both_sides-requires-clause-keys g c = c.requires.keys
+
+pub both_sides-requires-clause-stored : goal.both_sides-requires-clause-stored
+both_sides-requires-clause-stored g c = c.requires.stored
+
+pub both_sides-requires-clause-nonempty : goal.both_sides-requires-clause-nonempty
+both_sides-requires-clause-nonempty g c = c.requires.nonempty
+
+pub both_sides-requires-clause-window : goal.both_sides-requires-clause-window
+both_sides-requires-clause-window g c = c.requires.window
+
+pub both_sides-requires-clause-first : goal.both_sides-requires-clause-first
+both_sides-requires-clause-first g c = c.requires.first
+
+pub both_sides-requires-clause-last : goal.both_sides-requires-clause-last
+both_sides-requires-clause-last g c = c.requires.last
+
+pub both_sides-requires-clause-before : goal.both_sides-requires-clause-before
+both_sides-requires-clause-before g c = c.requires.before
+
+pub both_sides-requires-clause-after : goal.both_sides-requires-clause-after
+both_sides-requires-clause-after g c = c.requires.after
+
+pub both_sides-requires-clause-apart : goal.both_sides-requires-clause-apart
+both_sides-requires-clause-apart g c = c.requires.apart
+
+pub returns-in_err-sides : goal.returns-in_err-sides
+returns-in_err-sides g c = record { ok = error_has_no_value _ c.from_residual.result c.from_residual.ensures.0; few = error_has_no_value _ c.from_residual.result c.from_residual.ensures.0; refused = on_error _ c.from_residual.result refl }
+
+pub returns-in_err-reserve : goal.returns-in_err-reserve
+returns-in_err-reserve g c = record { ok = error_has_no_value _ c.from_residual-in_err-reserve.result c.from_residual-in_err-reserve.ensures.0; few = error_has_no_value _ c.from_residual-in_err-reserve.result c.from_residual-in_err-reserve.ensures.0; refused = on_error _ c.from_residual-in_err-reserve.result c.reserve.ensures.list }

@@ -33,3 +33,27 @@ returns-in_err-bind_over-clause-met g c =
     let none : w.count ≡ 0 = omega (arith, c.if-window-gt0.false) in
     let unmet = none_meets g.K.MaybeBounded.order g.met.K.PartialEnum.lawful g.V.PartialEq.eq g.met.V.Eq.laws (storage.is_good stored) (storage.rank stored) items c.args.range w (place_before (storage.rank stored) (length items) w.from) c.requires.stored c.known.ensures c.find_window-window.ensures.window none in
     (λ e. absurd (search (rules, e)), λ met. absurd (any_none (λ i. Overlap g.K.MaybeBounded.order i.key c.args.range) (λ i. ¬ Overlap g.K.MaybeBounded.order i.key c.args.range) items unmet (λ i no at. no at) met))
+
+pub comes_last-requires-clause-stored : goal.comes_last-requires-clause-stored
+comes_last-requires-clause-stored g c = c.requires.stored
+
+pub comes_last-requires-clause-nonempty : goal.comes_last-requires-clause-nonempty
+comes_last-requires-clause-nonempty g c = c.requires.nonempty
+
+pub bind_last-requires-clause-stored : goal.bind_last-requires-clause-stored
+bind_last-requires-clause-stored g c = c.requires.stored
+
+pub bind_last-requires-clause-nonempty : goal.bind_last-requires-clause-nonempty
+bind_last-requires-clause-nonempty g c = c.requires.nonempty
+
+pub bind_over-requires-clause-keys : goal.bind_over-requires-clause-keys
+bind_over-requires-clause-keys g c = c.requires.keys
+
+pub bind_over-requires-clause-stored : goal.bind_over-requires-clause-stored
+bind_over-requires-clause-stored g c = c.requires.stored
+
+pub bind_over-requires-clause-nonempty : goal.bind_over-requires-clause-nonempty
+bind_over-requires-clause-nonempty g c = c.requires.nonempty
+
+pub bind_over-requires-clause-window : goal.bind_over-requires-clause-window
+bind_over-requires-clause-window g c = c.find_window-window.ensures.window

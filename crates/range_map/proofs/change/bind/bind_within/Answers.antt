@@ -9,6 +9,7 @@ use Rattle.range_map.proofs.Openings.{standing_item_splits_list}
 use Rattle.range_map.proofs.Framing.{gave_way, all_meet}
 use Rattle.range_map.proofs.Planning.{left_frame_inside, left_frame_cut, right_frame_inside, right_frame_cut}
 use Rattle.range_map.proofs.Edging.{edges_insert, left_edge_inside, right_edge_inside, left_rest_cut, right_rest_cut, left_edge_rest, right_edge_rest}
+use Rattle.range_map.proofs.Results.{error_has_no_value, on_error}
 use Rattle.range_map.proofs.change.bind.bind_within.Goals as goal
 
 pub returns-then-joins-clause-ok : goal.returns-then-joins-clause-ok
@@ -81,3 +82,15 @@ returns g c =
       few = two_more (length (storage.items c.divide.new.stored)) place w.count (length items) c.requires.one size;
       refused = tt;
     }
+
+pub cut_parts-requires-clause-keys : goal.cut_parts-requires-clause-keys
+cut_parts-requires-clause-keys g c = c.requires.keys
+
+pub cut_parts-requires-clause-values : goal.cut_parts-requires-clause-values
+cut_parts-requires-clause-values g c = c.requires.values
+
+pub cut_parts-requires-clause-good : goal.cut_parts-requires-clause-good
+cut_parts-requires-clause-good g c = c.requires.first.0
+
+pub returns-in_err-parts : goal.returns-in_err-parts
+returns-in_err-parts g c = record { ok = error_has_no_value _ c.from_residual.result c.from_residual.ensures.0; few = error_has_no_value _ c.from_residual.result c.from_residual.ensures.0; refused = on_error _ c.from_residual.result c.cut_parts.ensures.list }

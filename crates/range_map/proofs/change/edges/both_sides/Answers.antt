@@ -4,6 +4,7 @@ use Rattle.range_map.specs.Edges.{joined_count}
 use Rattle.range_map.specs.Window.{option_items}
 use Rattle.range_map.proofs.Lengths.{run_ends}
 use Rattle.range_map.proofs.Openings.{upto_end}
+use Rattle.range_map.proofs.Results.{error_has_no_value}
 use Rattle.range_map.proofs.change.edges.both_sides.Goals as goal
 
 pub overflow_add-count : goal.overflow_add-count
@@ -27,3 +28,45 @@ overflow_add-count-2 g c =
     let within : right.upto ≤ right.end = upto_end (storage.is_good stored) (storage.is_good stored) (storage.rank stored) (storage.rank stored) items items (λ p h. (h, refl)) refl c.in_ok-right.right right.upto right.end right.rest right.finish right.shape in
     let upto = run_ends left.begin (joined_count c.in_ok-left.left.edge) (place_before (storage.rank stored) (length items) c.args.window.now.from) (length (option_items c.args.first)) (length (option_items c.args.last)) c.args.window.now.count right.upto (joined_count c.in_ok-right.right) _ left.begins right.ends c.requires.apart refl in
     omega (arith, upto, within, right.side.in_range, g.met.C.Storage.length_fits stored, c.joined_items.ensures, c.joined_items-2.ensures, c.item_count.ensures, c.item_count-2.ensures)
+
+pub left_side-requires-clause-keys : goal.left_side-requires-clause-keys
+left_side-requires-clause-keys g c = c.requires.keys
+
+pub left_side-requires-clause-stored : goal.left_side-requires-clause-stored
+left_side-requires-clause-stored g c = c.requires.stored
+
+pub left_side-requires-clause-nonempty : goal.left_side-requires-clause-nonempty
+left_side-requires-clause-nonempty g c = c.requires.nonempty
+
+pub left_side-requires-clause-window : goal.left_side-requires-clause-window
+left_side-requires-clause-window g c = c.requires.window
+
+pub left_side-requires-clause-first : goal.left_side-requires-clause-first
+left_side-requires-clause-first g c = c.requires.first
+
+pub left_side-requires-clause-before : goal.left_side-requires-clause-before
+left_side-requires-clause-before g c = c.requires.before
+
+pub right_side-requires-clause-keys : goal.right_side-requires-clause-keys
+right_side-requires-clause-keys g c = c.requires.keys
+
+pub right_side-requires-clause-stored : goal.right_side-requires-clause-stored
+right_side-requires-clause-stored g c = c.requires.stored
+
+pub right_side-requires-clause-nonempty : goal.right_side-requires-clause-nonempty
+right_side-requires-clause-nonempty g c = c.requires.nonempty
+
+pub right_side-requires-clause-window : goal.right_side-requires-clause-window
+right_side-requires-clause-window g c = c.requires.window
+
+pub right_side-requires-clause-last : goal.right_side-requires-clause-last
+right_side-requires-clause-last g c = c.requires.last
+
+pub right_side-requires-clause-after : goal.right_side-requires-clause-after
+right_side-requires-clause-after g c = c.requires.after
+
+pub returns-in_err-left : goal.returns-in_err-left
+returns-in_err-left g c = record { left = error_has_no_value _ c.from_residual.result c.from_residual.ensures.0; right = error_has_no_value _ c.from_residual.result c.from_residual.ensures.0; run = error_has_no_value _ c.from_residual.result c.from_residual.ensures.0 }
+
+pub returns-in_err-right : goal.returns-in_err-right
+returns-in_err-right g c = record { left = error_has_no_value _ c.from_residual-in_err-right.result c.from_residual-in_err-right.ensures.0; right = error_has_no_value _ c.from_residual-in_err-right.result c.from_residual-in_err-right.ensures.0; run = error_has_no_value _ c.from_residual-in_err-right.result c.from_residual-in_err-right.ensures.0 }

@@ -13,6 +13,7 @@ use Rattle.range_map.proofs.Cutting.{IsFull}
 use Rattle.range_map.proofs.Forms.{stored_known, stored_chain, nonempty_good}
 use Rattle.range_map.proofs.Framing.{all_meet}
 use Rattle.range_map.proofs.Gathering.{underway_none, asked_item_is_underway, gap_or_item_fails, fails_last, last_gap_asked_is_gathered, all_full, key_full, last_good, run_at, item_at, listed_at, take_one_more}
+use Rattle.range_map.proofs.Results.{error_has_no_value}
 use Rattle.range_map.proofs.change.pieces.gather.Goals as goal
 
 pub loop-met-init : goal.loop-met-init
@@ -254,3 +255,18 @@ returns-clause-ok g c =
     let before = option_copied c.key_at.result in
     let was = rw all at (c.loop-met.invariant.underway lawful equal before c.key_at.ensures) in
     last_gap_asked_is_gathered order lawful same equal g.F.Fn c.args.f.now items r c.known.ensures full chain some (take (place + w.count) items) (drop (place + w.count) items) (list_is_take_and_drop items (place + w.count)) c.requires.window.behind before c.loop-met.middle.items was g.K.Clone.is_clone clones c.ask_gap.new.items.items c.in_ok-ask_gap.ensures.ok
+
+pub returns-in_err-ask_item-clause-ok : goal.returns-in_err-ask_item-clause-ok
+returns-in_err-ask_item-clause-ok g c = error_has_no_value _ c.from_residual.result c.from_residual.ensures.0
+
+pub returns-in_err-ask_gap-clause-ok : goal.returns-in_err-ask_gap-clause-ok
+returns-in_err-ask_gap-clause-ok g c = error_has_no_value _ c.from_residual-in_err-ask_gap.result c.from_residual-in_err-ask_gap.ensures.0
+
+pub returns-clause-closure : goal.returns-clause-closure
+returns-clause-closure g c = λ e failed. absurd (cc)
+
+pub ask_item-requires-clause-free : goal.ask_item-requires-clause-free
+ask_item-requires-clause-free g c = c.requires.free
+
+pub ask_gap-requires-clause-callable : goal.ask_gap-requires-clause-callable
+ask_gap-requires-clause-callable g c = c.requires.free

@@ -8,8 +8,10 @@ use Rattle.range_map.specs.Edges.{IsLeftShape, IsRightShape, joined_count}
 use Rattle.range_map.specs.Edits.{turned_bound}
 use Rattle.range_map.specs.Seams.{seam_edge}
 use Rattle.range_map.proofs.Framing.{all_meet}
+use Rattle.range_map.proofs.Lengths.{one_item}
 use Rattle.range_map.proofs.Openings.{left_kept, right_kept, left_good, right_good}
 use Rattle.range_map.proofs.Replaced.{IsReplacement, plans_replacement, replacement_is_made}
+use Rattle.range_map.proofs.Results.{error_has_no_value, on_error}
 use Rattle.range_map.proofs.Seaming.{seam_count}
 use Rattle.range_map.proofs.change.replace.replace.Given.{Over}
 use Rattle.range_map.proofs.change.replace.replace.Goals.{After-item_count-3}
@@ -64,7 +66,7 @@ change_to-requires-clause-left g c =
     let same = c.reserve.ensures.list in
     let kept = c.reserve.ensures.positions in
     let edge = seam_edge joined first (turned_bound r.start) in
-    let edge_is : c.seam-left.result ≡ edge = c.seam-left.ensures ∙ ap (seam_edge joined first) (c.turned-left.ensures ∙ ap turned_bound c.into_bounds-start.ensures.start) in
+    let edge_is : c.seams-left.result.0 ≡ edge = c.seams-left.ensures.left in
     rw edge_is (left_good (storage.is_good stored) (storage.is_good ready) (storage.rank stored) (storage.rank ready) items (storage.items ready) kept same edge left.at left.begin left.rest left.start left.shape)
 
 pub change_to-requires-clause-right : goal.change_to-requires-clause-right
@@ -81,7 +83,7 @@ change_to-requires-clause-right g c =
     let same = c.reserve.ensures.list in
     let kept = c.reserve.ensures.positions in
     let edge_behind = seam_edge other last (turned_bound r.end) in
-    let behind_is : c.seam-right.result ≡ edge_behind = c.seam-right.ensures ∙ ap (seam_edge other last) (c.turned-right.ensures ∙ ap turned_bound c.into_bounds-start.ensures.end) in
+    let behind_is : c.seams-left.result.1 ≡ edge_behind = c.seams-left.ensures.right in
     rw behind_is (right_good (storage.is_good stored) (storage.is_good ready) (storage.rank stored) (storage.rank ready) items (storage.items ready) kept same edge_behind right.upto right.end right.rest right.finish right.shape)
 
 pub change_to-requires-clause-good : goal.change_to-requires-clause-good
@@ -150,11 +152,11 @@ returns-clause-ok g c =
     let upto : left.begin + count ≡ right.upto = omega (arith, plan.upto, c.item_count.ensures, c.item_count-2.ensures, c.item_count-3.ensures, c.item_count-4.ensures) in
     let edge = seam_edge joined first (turned_bound r.start) in
     let edge_behind = seam_edge other last (turned_bound r.end) in
-    let edge_is : c.seam-left.result ≡ edge = c.seam-left.ensures ∙ ap (seam_edge joined first) (c.turned-left.ensures ∙ ap turned_bound c.into_bounds-start.ensures.start) in
-    let behind_is : c.seam-right.result ≡ edge_behind = c.seam-right.ensures ∙ ap (seam_edge other last) (c.turned-right.ensures ∙ ap turned_bound c.into_bounds-start.ensures.end) in
+    let edge_is : c.seams-left.result.0 ≡ edge = c.seams-left.ensures.left in
+    let behind_is : c.seams-left.result.1 ≡ edge_behind = c.seams-left.ensures.right in
     let start = place_before (storage.rank ready) (length (storage.items ready)) c.or.result in
-    let on_left = subst (λ n. IsLeftShape (storage.is_good ready) (storage.rank ready) (storage.items ready) c.seam-left.result left.at n left.rest left.start) (sym here) (rw edge_is (left_kept (storage.is_good stored) (storage.is_good ready) (storage.rank stored) (storage.rank ready) items (storage.items ready) kept same edge left.at left.begin left.rest left.start left.shape)) in
-    let on_right = subst (λ n. IsRightShape (storage.is_good ready) (storage.rank ready) (storage.items ready) c.seam-right.result n right.end right.rest right.finish) (sym (ap (λ n. n + count) here ∙ upto)) (rw behind_is (right_kept (storage.is_good stored) (storage.is_good ready) (storage.rank stored) (storage.rank ready) items (storage.items ready) kept same edge_behind right.upto right.end right.rest right.finish right.shape)) in
+    let on_left = subst (λ n. IsLeftShape (storage.is_good ready) (storage.rank ready) (storage.items ready) c.seams-left.result.0 left.at n left.rest left.start) (sym here) (rw edge_is (left_kept (storage.is_good stored) (storage.is_good ready) (storage.rank stored) (storage.rank ready) items (storage.items ready) kept same edge left.at left.begin left.rest left.start left.shape)) in
+    let on_right = subst (λ n. IsRightShape (storage.is_good ready) (storage.rank ready) (storage.items ready) c.seams-left.result.1 n right.end right.rest right.finish) (sym (ap (λ n. n + count) here ∙ upto)) (rw behind_is (right_kept (storage.is_good stored) (storage.is_good ready) (storage.rank stored) (storage.rank ready) items (storage.items ready) kept same edge_behind right.upto right.end right.rest right.finish right.shape)) in
     let joins = ap joined_count edge_is ∙ seam_count joined first (turned_bound r.start) in
     let joins_behind = ap joined_count behind_is ∙ seam_count other last (turned_bound r.end) in
     let done = c.change_to.ensures left.at right.end left.rest right.rest left.start right.finish on_left on_right (omega (arith, joins, joins_behind, c.item_count-3.ensures, c.item_count-4.ensures)) in
@@ -171,13 +173,47 @@ pub joined_right-behind-requires-clause-within : goal.joined_right-behind-requir
 joined_right-behind-requires-clause-within g c = grind (arith, common_steps)
 
 pub overflow_add-inner : goal.overflow_add-inner
-overflow_add-inner g c = grind (arith, common_steps)
+overflow_add-inner g c = omega (arith, one_item c.args.first, one_item c.args.last, c.item_count.ensures, c.item_count-2.ensures)
 
 pub overflow_sub-inner : goal.overflow_sub-inner
-overflow_sub-inner g c = grind (arith, common_steps)
+overflow_sub-inner g c = omega (arith, c.requires.apart, c.item_count.ensures, c.item_count-2.ensures)
 
 pub returns-clause-refused : goal.returns-clause-refused
-returns-clause-refused g c = grind (arith, common_steps)
+returns-clause-refused g c = tt
 
 pub run_start-from-requires-clause-from : goal.run_start-from-requires-clause-from
-run_start-from-requires-clause-from g c = grind (arith, common_steps)
+run_start-from-requires-clause-from g c =
+    let storage = g.C.Storage in
+    let stored = c.args.stored.now in
+    let len = length (storage.items stored) in
+    good_at (storage.is_good stored) (storage.rank stored) len c.args.window.now.from (place_before (storage.rank stored) len c.args.window.now.from) c.requires.window.position
+
+pub returns-in_err-reserve : goal.returns-in_err-reserve
+returns-in_err-reserve g c = record { ok = error_has_no_value _ c.from_residual.result c.from_residual.ensures.0; refused = on_error _ c.from_residual.result c.reserve.ensures.list }
+
+pub joined_left-before-requires-clause-stored : goal.joined_left-before-requires-clause-stored
+joined_left-before-requires-clause-stored g c = c.requires.stored
+
+pub joined_left-before-requires-clause-nonempty : goal.joined_left-before-requires-clause-nonempty
+joined_left-before-requires-clause-nonempty g c = c.requires.nonempty
+
+pub joined_left-before-requires-clause-window : goal.joined_left-before-requires-clause-window
+joined_left-before-requires-clause-window g c = c.requires.window
+
+pub joined_left-before-requires-clause-first : goal.joined_left-before-requires-clause-first
+joined_left-before-requires-clause-first g c = c.requires.first
+
+pub joined_right-behind-requires-clause-stored : goal.joined_right-behind-requires-clause-stored
+joined_right-behind-requires-clause-stored g c = c.requires.stored
+
+pub joined_right-behind-requires-clause-nonempty : goal.joined_right-behind-requires-clause-nonempty
+joined_right-behind-requires-clause-nonempty g c = c.requires.nonempty
+
+pub joined_right-behind-requires-clause-window : goal.joined_right-behind-requires-clause-window
+joined_right-behind-requires-clause-window g c = c.requires.window
+
+pub joined_right-behind-requires-clause-last : goal.joined_right-behind-requires-clause-last
+joined_right-behind-requires-clause-last g c = c.requires.last
+
+pub run_start-from-requires-clause-first : goal.run_start-from-requires-clause-first
+run_start-from-requires-clause-first g c = λ p e. let found = rw e at c.requires.first in (found.0, found.1)

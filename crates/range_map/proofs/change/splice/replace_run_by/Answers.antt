@@ -3,7 +3,7 @@ use Rattle.std.proofs.Common.{◌≡◌, ◌+◌, ◌-◌, ◌∷◌, ◌++◌, 
 use Rattle.std.proofs.lemmas.List.{append-nil}
 use Rattle.range_algebra.proofs.Lists.{list_is_take_and_drop}
 use Rattle.range_store.specs.Places.{place_before}
-use Rattle.range_store.proofs.Places.{place_at, at_place}
+use Rattle.range_store.proofs.Places.{place_at, at_place, good_at}
 use Rattle.range_map.proofs.Endings.{put_next, put_all, prefix_is_all}
 use Rattle.range_map.proofs.change.splice.replace_run_by.Goals as goal
 
@@ -61,7 +61,12 @@ pub loop-item-smaller : goal.loop-item-smaller
 loop-item-smaller g c = grind (arith, common_steps)
 
 pub put-cursor-requires-clause-good : goal.put-cursor-requires-clause-good
-put-cursor-requires-clause-good g c = grind (arith, common_steps)
+put-cursor-requires-clause-good g c =
+    let storage = g.C.Storage in
+    let now = c.loop-item.stored in
+    let before = storage.items c.args.stored.now in
+    let place = place_before (storage.rank c.args.stored.now) (length before) c.args.run.at in
+    good_at (storage.is_good now) (storage.rank now) (length (storage.items now)) c.loop-item.cursor.at (place + length c.loop-item.yielded) c.loop-item.invariant.position
 
 pub put-cursor-requires-clause-in_range : goal.put-cursor-requires-clause-in_range
 put-cursor-requires-clause-in_range g c = grind (arith, common_steps)
@@ -70,7 +75,12 @@ pub put-cursor-requires-clause-space : goal.put-cursor-requires-clause-space
 put-cursor-requires-clause-space g c = grind (arith, common_steps)
 
 pub remove_rest-requires-clause-good : goal.remove_rest-requires-clause-good
-remove_rest-requires-clause-good g c = grind (arith, common_steps)
+remove_rest-requires-clause-good g c =
+    let storage = g.C.Storage in
+    let now = c.loop-item.stored in
+    let before = storage.items c.args.stored.now in
+    let place = place_before (storage.rank c.args.stored.now) (length before) c.args.run.at in
+    good_at (storage.is_good now) (storage.rank now) (length (storage.items now)) c.loop-item.cursor.at (place + length c.loop-item.yielded) c.loop-item.invariant.position
 
 pub remove_rest-requires-clause-in_range : goal.remove_rest-requires-clause-in_range
 remove_rest-requires-clause-in_range g c = grind (arith, common_steps)

@@ -1,4 +1,4 @@
-use Rattle.std.proofs.Common.{◌≡◌, [], ◌+◌, ◌-◌, length, ap, sym, ◌∙◌, arith, None, subst}
+use Rattle.std.proofs.Common.{refl, ◌≡◌, [], ◌+◌, ◌-◌, length, ap, sym, ◌∙◌, arith, None, subst}
 use Rattle.range_store.specs.Places.{place_before}
 use Rattle.range_store.proofs.Places.{place_at}
 use Rattle.range_map.specs.Edges.{IsLeftShape, IsRightShape, joined_count, edge_at}
@@ -8,6 +8,7 @@ use Rattle.range_map.proofs.Lengths.{one_item, changed_length}
 use Rattle.range_map.proofs.Edging.{edges_remove}
 use Rattle.range_map.proofs.Openings.{cut_joins_none}
 use Rattle.range_map.proofs.Planning.{left_cut_plan, right_cut_plan}
+use Rattle.range_map.proofs.Results.{error_has_no_value, on_error}
 use Rattle.range_map.proofs.change.unbind.unbind_over.Goals as goal
 
 pub returns : goal.returns
@@ -51,3 +52,15 @@ returns g c =
       few = omega (arith, size, one_item left.rest, one_item right.rest, c.requires.some);
       refused = tt;
     }
+
+pub cut_edge-requires : goal.cut_edge-requires
+cut_edge-requires g c = c.requires.keys
+
+pub cut_edge-requires-2 : goal.cut_edge-requires-2
+cut_edge-requires-2 g c = c.requires.keys
+
+pub returns-in_err-before : goal.returns-in_err-before
+returns-in_err-before g c = record { ok = error_has_no_value _ c.from_residual.result c.from_residual.ensures.0; few = error_has_no_value _ c.from_residual.result c.from_residual.ensures.0; refused = on_error _ c.from_residual.result refl }
+
+pub returns-in_err-behind : goal.returns-in_err-behind
+returns-in_err-behind g c = record { ok = error_has_no_value _ c.from_residual-in_err-behind.result c.from_residual-in_err-behind.ensures.0; few = error_has_no_value _ c.from_residual-in_err-behind.result c.from_residual-in_err-behind.ensures.0; refused = on_error _ c.from_residual-in_err-behind.result refl }

@@ -8,6 +8,7 @@ use Rattle.range_map.proofs.Framing.{cut_way}
 use Rattle.range_map.proofs.Lengths.{changed_length, le_of, le_sum, one_more}
 use Rattle.range_map.proofs.Planning.{left_part, right_part}
 use Rattle.range_map.proofs.Edging.{element_at, element_at_is_read, edges_remove, left_rest_cut, right_rest_cut}
+use Rattle.range_map.proofs.Results.{error_has_no_value, on_error}
 use Rattle.range_map.proofs.change.unbind.unbind_within.Goals as goal
 
 pub returns : goal.returns
@@ -54,3 +55,15 @@ returns g c =
       few = one_more (length (storage.items c.divide.new.stored)) place w.count (length items) c.requires.one size;
       refused = tt;
     }
+
+pub cut_parts-requires-clause-keys : goal.cut_parts-requires-clause-keys
+cut_parts-requires-clause-keys g c = c.requires.keys
+
+pub cut_parts-requires-clause-values : goal.cut_parts-requires-clause-values
+cut_parts-requires-clause-values g c = c.requires.values
+
+pub cut_parts-requires-clause-good : goal.cut_parts-requires-clause-good
+cut_parts-requires-clause-good g c = c.requires.first.0
+
+pub returns-in_err-parts : goal.returns-in_err-parts
+returns-in_err-parts g c = record { ok = error_has_no_value _ c.from_residual.result c.from_residual.ensures.0; few = error_has_no_value _ c.from_residual.result c.from_residual.ensures.0; refused = on_error _ c.from_residual.result c.cut_parts.ensures.list }

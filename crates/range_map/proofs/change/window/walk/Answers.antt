@@ -1,4 +1,4 @@
-use Rattle.std.proofs.Common.{◌≡◌, ◌+◌, ◌-◌, ◌<◌, length, arith, sym, ◌∙◌, true, false}
+use Rattle.std.proofs.Common.{◌≡◌, ◌+◌, ◌-◌, ◌<◌, length, refl, arith, sym, ◌∙◌, true, false}
 use Rattle.std.proofs.lemmas.List.{get_or_read}
 use Rattle.range_keys.specs.Directed.{reference_position}
 use Rattle.range_keys.specs.Position.{start_position, position_cmp}
@@ -6,7 +6,24 @@ use Rattle.range_keys.specs.PositionOrder.{position_total}
 use Rattle.range_algebra.specs.Intervals.{Lt}
 use Rattle.range_algebra.specs.Orders.{not_le}
 use Rattle.range_store.specs.Places.{place_before}
+use Rattle.range_store.proofs.Places.{at_place}
+use Rattle.range_map.proofs.Walking.{place_is_in_range}
 use Rattle.range_map.proofs.change.window.walk.Goals as goal
+
+pub loop-at-init : goal.loop-at-init
+loop-at-init g c =
+    let storage = g.C.Storage in
+    let stored = c.args.stored.now in
+    let len = length (storage.items stored) in
+    let place = place_before (storage.rank stored) len c.args.from in
+    let none : place + 0 ≡ place = omega arith in
+    record {
+      position = rw none (at_place (storage.is_good stored) (storage.rank stored) len c.args.from c.requires);
+      in_range = rw none (place_is_in_range (storage.is_good stored) (storage.rank stored) len c.args.from (g.met.C.Storage.good_is_in_range stored) c.requires);
+      last_is = refl;
+      meets = λ d some. absurd (omega (arith, some));
+      counted = record { at_most = omega arith; at_least = omega arith };
+    }
 
 pub loop-at-preserved : goal.loop-at-preserved
 loop-at-preserved g c =
@@ -48,3 +65,16 @@ returns-then-starts_past-clause-walked g c =
       meets = was.meets;
       stops = λ d some. rw (index, ← get_or_read items (storage.rank stored c.in-Some.p) x within c.get.ensures d) past;
     }
+
+pub returns-then-starts_past-clause-counted : goal.returns-then-starts_past-clause-counted
+returns-then-starts_past-clause-counted g c = record { at_most = omega arith; at_least = omega arith }
+
+pub returns-clause-counted : goal.returns-clause-counted
+returns-clause-counted g c = record { at_most = omega arith; at_least = omega arith }
+
+pub loop-at-smaller : goal.loop-at-smaller
+loop-at-smaller g c =
+    let stored = c.args.stored.now in
+    let here = rw c.in-Some.is at c.loop-at.invariant.position in
+    let within = g.met.C.Storage.good_is_in_range stored c.in-Some.p here.0 in
+    omega (arith, here.1, within)

@@ -1,7 +1,11 @@
 use Rattle.std.proofs.lemmas.Grind.{common_steps}
-use Rattle.std.proofs.Common.{subst, rules, arith}
+use Rattle.std.proofs.Common.{subst, refl, rules, arith}
+use Rattle.range_map.specs.Bindings.{IsBoundAfter}
+use Rattle.range_map.specs.Frames.{GaveWayTo}
 use Rattle.range_map.specs.Lookups.{MeetAlso}
 use Rattle.range_map.proofs.StoredLists.{stored_coarse, stored_only}
+use Rattle.range_map.proofs.Results.{error_has_no_value, on_error}
+use Rattle.range_map.proofs.Lengths.{le_sum}
 use Rattle.range_map.proofs.map.RangeMap.insert.Goals as goal
 
 pub returns-clause-meets : goal.returns-clause-meets
@@ -17,7 +21,7 @@ pub returns-then-is_empty-clause-only : goal.returns-then-is_empty-clause-only
 returns-then-is_empty-clause-only g c = λ complete. stored_only g.K.MaybeBounded.order g.met.K.PartialEnum.lawful g.V.PartialEq.eq g.met.V.Eq.laws complete (g.C.Storage.items c.args.self.now) c.in_form.ensures
 
 pub returns-in_err-bind_in_order-clause-form : goal.returns-in_err-bind_in_order-clause-form
-returns-in_err-bind_in_order-clause-form g c = search rules
+returns-in_err-bind_in_order-clause-form g c = rw (c.in_err-bind_in_order.ensures.refused, c.self.view_is) c.in_form.ensures
 
 pub returns-in_err-bind_in_order-clause-coarse : goal.returns-in_err-bind_in_order-clause-coarse
 returns-in_err-bind_in_order-clause-coarse g c = λ complete. stored_coarse g.K.MaybeBounded.order g.met.K.PartialEnum.lawful g.V.PartialEq.eq g.met.V.Eq.laws complete (g.C.Storage.items c.bind_in_order.new.stored) (returns-in_err-bind_in_order-clause-form g c)
@@ -26,7 +30,7 @@ pub returns-in_err-bind_in_order-clause-only : goal.returns-in_err-bind_in_order
 returns-in_err-bind_in_order-clause-only g c = λ complete. stored_only g.K.MaybeBounded.order g.met.K.PartialEnum.lawful g.V.PartialEq.eq g.met.V.Eq.laws complete (g.C.Storage.items c.bind_in_order.new.stored) (returns-in_err-bind_in_order-clause-form g c)
 
 pub returns-clause-form : goal.returns-clause-form
-returns-clause-form g c = search rules
+returns-clause-form g c = c.in_ok-bind_in_order.ensures.ok.stored
 
 pub returns-clause-coarse : goal.returns-clause-coarse
 returns-clause-coarse g c = λ complete. stored_coarse g.K.MaybeBounded.order g.met.K.PartialEnum.lawful g.V.PartialEq.eq g.met.V.Eq.laws complete (g.C.Storage.items c.bind_in_order.new.stored) (returns-clause-form g c)
@@ -35,67 +39,67 @@ pub returns-clause-only : goal.returns-clause-only
 returns-clause-only g c = λ complete. stored_only g.K.MaybeBounded.order g.met.K.PartialEnum.lawful g.V.PartialEq.eq g.met.V.Eq.laws complete (g.C.Storage.items c.bind_in_order.new.stored) (returns-clause-form g c)
 
 pub returns-clause-bound : goal.returns-clause-bound
-returns-clause-bound g c = grind (arith, common_steps)
+returns-clause-bound g c = rw (← c.self.view_is) (subst (λ r. IsBoundAfter g.K.MaybeBounded.order g.V.PartialEq.eq (g.C.Storage.items c.self.inside.stored) (g.C.Storage.items c.bind_in_order.new.stored) r c.args.value) c.into_range-range.ensures c.in_ok-bind_in_order.ensures.ok.bound)
 
 pub returns-clause-empty : goal.returns-clause-empty
-returns-clause-empty g c = grind (arith, common_steps)
+returns-clause-empty g c = λ _. refl
 
 pub returns-clause-empty_unchanged : goal.returns-clause-empty_unchanged
-returns-clause-empty_unchanged g c = grind (arith, common_steps)
+returns-clause-empty_unchanged g c = λ empty. let told = c.is_empty.ensures.by_position.1 (rw c.into_range-range.ensures empty) in let not = c.if-is_empty.false in absurd (cc)
 
 pub returns-clause-few : goal.returns-clause-few
-returns-clause-few g c = grind (arith, common_steps)
+returns-clause-few g c = rw (← c.self.view_is) c.bind_in_order.ensures.few
 
 pub returns-clause-frame : goal.returns-clause-frame
-returns-clause-frame g c = grind (arith, common_steps)
+returns-clause-frame g c = λ full. rw (← c.self.view_is) (subst (λ r. GaveWayTo g.K.MaybeBounded.order g.V.PartialEq.eq (g.C.Storage.items c.self.inside.stored) (g.C.Storage.items c.bind_in_order.new.stored) r c.args.value) c.into_range-range.ensures c.in_ok-bind_in_order.ensures.ok.frame)
 
 pub returns-clause-refused : goal.returns-clause-refused
-returns-clause-refused g c = grind (arith, common_steps)
+returns-clause-refused g c = tt
 
 pub returns-in_err-bind_in_order-clause-bound : goal.returns-in_err-bind_in_order-clause-bound
-returns-in_err-bind_in_order-clause-bound g c = grind (arith, common_steps)
+returns-in_err-bind_in_order-clause-bound g c = error_has_no_value _ c.from_residual.result c.from_residual.ensures.0
 
 pub returns-in_err-bind_in_order-clause-empty : goal.returns-in_err-bind_in_order-clause-empty
-returns-in_err-bind_in_order-clause-empty g c = grind (arith, common_steps)
+returns-in_err-bind_in_order-clause-empty g c = λ empty. let told = c.is_empty.ensures.by_position.1 (rw c.into_range-range.ensures empty) in let not = c.if-is_empty.false in absurd (cc)
 
 pub returns-in_err-bind_in_order-clause-empty_unchanged : goal.returns-in_err-bind_in_order-clause-empty_unchanged
-returns-in_err-bind_in_order-clause-empty_unchanged g c = grind (arith, common_steps)
+returns-in_err-bind_in_order-clause-empty_unchanged g c = λ empty. let told = c.is_empty.ensures.by_position.1 (rw c.into_range-range.ensures empty) in let not = c.if-is_empty.false in absurd (cc)
 
 pub returns-in_err-bind_in_order-clause-few : goal.returns-in_err-bind_in_order-clause-few
-returns-in_err-bind_in_order-clause-few g c = grind (arith, common_steps)
+returns-in_err-bind_in_order-clause-few g c = rw (← c.self.view_is) c.bind_in_order.ensures.few
 
 pub returns-in_err-bind_in_order-clause-frame : goal.returns-in_err-bind_in_order-clause-frame
-returns-in_err-bind_in_order-clause-frame g c = grind (arith, common_steps)
+returns-in_err-bind_in_order-clause-frame g c = error_has_no_value _ c.from_residual.result c.from_residual.ensures.0
 
 pub returns-in_err-bind_in_order-clause-meets : goal.returns-in_err-bind_in_order-clause-meets
-returns-in_err-bind_in_order-clause-meets g c = grind (arith, common_steps)
+returns-in_err-bind_in_order-clause-meets g c = error_has_no_value _ c.from_residual.result c.from_residual.ensures.0
 
 pub returns-in_err-bind_in_order-clause-refused : goal.returns-in_err-bind_in_order-clause-refused
-returns-in_err-bind_in_order-clause-refused g c = grind (arith, common_steps)
+returns-in_err-bind_in_order-clause-refused g c = on_error _ c.from_residual.result (rw (← c.self.view_is) c.in_err-bind_in_order.ensures.refused)
 
 pub returns-then-is_empty-clause-bound : goal.returns-then-is_empty-clause-bound
 returns-then-is_empty-clause-bound g c = grind (arith, common_steps)
 
 pub returns-then-is_empty-clause-empty : goal.returns-then-is_empty-clause-empty
-returns-then-is_empty-clause-empty g c = grind (arith, common_steps)
+returns-then-is_empty-clause-empty g c = λ _. refl
 
 pub returns-then-is_empty-clause-empty_unchanged : goal.returns-then-is_empty-clause-empty_unchanged
-returns-then-is_empty-clause-empty_unchanged g c = grind (arith, common_steps)
+returns-then-is_empty-clause-empty_unchanged g c = λ _. refl
 
 pub returns-then-is_empty-clause-few : goal.returns-then-is_empty-clause-few
-returns-then-is_empty-clause-few g c = grind (arith, common_steps)
+returns-then-is_empty-clause-few g c = le_sum _ 2
 
 pub returns-then-is_empty-clause-form : goal.returns-then-is_empty-clause-form
-returns-then-is_empty-clause-form g c = grind (arith, common_steps)
+returns-then-is_empty-clause-form g c = c.in_form.ensures
 
 pub returns-then-is_empty-clause-frame : goal.returns-then-is_empty-clause-frame
-returns-then-is_empty-clause-frame g c = grind (arith, common_steps)
+returns-then-is_empty-clause-frame g c = λ full. absurd (full (rw (← c.into_range-range.ensures) (c.is_empty.ensures.by_position.0 c.if-is_empty.true)))
 
 pub returns-then-is_empty-clause-meets : goal.returns-then-is_empty-clause-meets
-returns-then-is_empty-clause-meets g c = grind (arith, common_steps)
+returns-then-is_empty-clause-meets g c = λ full. absurd (full (rw (← c.into_range-range.ensures) (c.is_empty.ensures.by_position.0 c.if-is_empty.true)))
 
 pub returns-then-is_empty-clause-refused : goal.returns-then-is_empty-clause-refused
-returns-then-is_empty-clause-refused g c = grind (arith, common_steps)
+returns-then-is_empty-clause-refused g c = tt
 
 pub invariant_of-self : goal.invariant_of-self
 invariant_of-self g c = search rules
@@ -104,7 +108,7 @@ pub invariant_of-self-2 : goal.invariant_of-self-2
 invariant_of-self-2 g c = search rules
 
 pub bind_in_order-requires-clause-stored : goal.bind_in_order-requires-clause-stored
-bind_in_order-requires-clause-stored g c = search rules
+bind_in_order-requires-clause-stored g c = rw c.self.view_is c.in_form.ensures
 
 pub bind_in_order-requires-clause-nonempty : goal.bind_in_order-requires-clause-nonempty
-bind_in_order-requires-clause-nonempty g c = search rules
+bind_in_order-requires-clause-nonempty g c = λ empty. let told = c.is_empty.ensures.by_position.1 empty in let not = c.if-is_empty.false in cc

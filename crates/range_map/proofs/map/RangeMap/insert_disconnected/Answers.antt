@@ -1,7 +1,8 @@
 use Rattle.std.proofs.lemmas.Grind.{common_steps}
-use Rattle.std.proofs.Common.{OnOk, OnErr, Ok, Err, Result, List, ◌≡◌, ◌+◌, ◌≤◌, length, ap, arith, subst}
+use Rattle.std.proofs.Common.{OnOk, OnErr, Ok, Err, Result, List, ◌≡◌, ◌+◌, ◌≤◌, length, refl, ap, arith, subst}
 use Rattle.std.proofs.lemmas.List.Edits.{length-insert}
 use Rattle.range_algebra.specs.Range.{IsEmptyRange}
+use Rattle.range_map.specs.Bindings.{IsBoundAfter}
 use Rattle.range_map.specs.Lookups.{IsPutInto, MeetAlso}
 use Rattle.range_map.proofs.Covering.{on_ok}
 use Rattle.range_map.proofs.StoredLists.{stored_coarse, stored_only}
@@ -39,25 +40,25 @@ returns-clause-few g c =
     (put_few c.bind_apart.result (g.C.Storage.items c.self.inside.stored) (g.C.Storage.items c.bind_apart.new.stored) _ c.bind_apart.ensures.put c.bind_apart.ensures.refused)
 
 pub bind_apart-requires-clause-nonempty : goal.bind_apart-requires-clause-nonempty
-bind_apart-requires-clause-nonempty g c = grind (arith, common_steps)
+bind_apart-requires-clause-nonempty g c = λ empty. let told = c.is_empty.ensures.by_position.1 empty in let not = c.if-is_empty.false in cc
 
 pub bind_apart-requires-clause-stored : goal.bind_apart-requires-clause-stored
-bind_apart-requires-clause-stored g c = grind (arith, common_steps)
+bind_apart-requires-clause-stored g c = rw c.self.view_is c.in_form.ensures
 
 pub returns-clause-bound : goal.returns-clause-bound
-returns-clause-bound g c = grind (arith, common_steps)
+returns-clause-bound g c = rw (← c.self.view_is) (subst (λ r. OnOk c.bind_apart.result (IsBoundAfter g.K.MaybeBounded.order g.V.PartialEq.eq (g.C.Storage.items c.self.inside.stored) (g.C.Storage.items c.bind_apart.new.stored) r c.args.value)) c.into_range-range.ensures c.bind_apart.ensures.bound)
 
 pub returns-clause-connected : goal.returns-clause-connected
 returns-clause-connected g c = grind (arith, common_steps)
 
 pub returns-clause-empty : goal.returns-clause-empty
-returns-clause-empty g c = grind (arith, common_steps)
+returns-clause-empty g c = λ empty. let told = c.is_empty.ensures.by_position.1 (rw c.into_range-range.ensures empty) in let not = c.if-is_empty.false in absurd (cc)
 
 pub returns-clause-empty_unchanged : goal.returns-clause-empty_unchanged
-returns-clause-empty_unchanged g c = grind (arith, common_steps)
+returns-clause-empty_unchanged g c = λ empty. let told = c.is_empty.ensures.by_position.1 (rw c.into_range-range.ensures empty) in let not = c.if-is_empty.false in absurd (cc)
 
 pub returns-clause-form : goal.returns-clause-form
-returns-clause-form g c = grind (arith, common_steps)
+returns-clause-form g c = c.bind_apart.ensures.form
 
 pub returns-clause-given : goal.returns-clause-given
 returns-clause-given g c = grind (arith, common_steps)
@@ -66,7 +67,7 @@ pub returns-clause-put : goal.returns-clause-put
 returns-clause-put g c = grind (arith, common_steps)
 
 pub returns-clause-refused : goal.returns-clause-refused
-returns-clause-refused g c = grind (arith, common_steps)
+returns-clause-refused g c = rw (← c.self.view_is) c.bind_apart.ensures.refused
 
 pub returns-then-is_empty-clause-bound : goal.returns-then-is_empty-clause-bound
 returns-then-is_empty-clause-bound g c = grind (arith, common_steps)
@@ -75,25 +76,25 @@ pub returns-then-is_empty-clause-connected : goal.returns-then-is_empty-clause-c
 returns-then-is_empty-clause-connected g c = grind (arith, common_steps)
 
 pub returns-then-is_empty-clause-empty : goal.returns-then-is_empty-clause-empty
-returns-then-is_empty-clause-empty g c = grind (arith, common_steps)
+returns-then-is_empty-clause-empty g c = λ _. refl
 
 pub returns-then-is_empty-clause-empty_unchanged : goal.returns-then-is_empty-clause-empty_unchanged
-returns-then-is_empty-clause-empty_unchanged g c = grind (arith, common_steps)
+returns-then-is_empty-clause-empty_unchanged g c = λ _. refl
 
 pub returns-then-is_empty-clause-few : goal.returns-then-is_empty-clause-few
 returns-then-is_empty-clause-few g c = grind (arith, common_steps)
 
 pub returns-then-is_empty-clause-form : goal.returns-then-is_empty-clause-form
-returns-then-is_empty-clause-form g c = grind (arith, common_steps)
+returns-then-is_empty-clause-form g c = c.in_form.ensures
 
 pub returns-then-is_empty-clause-given : goal.returns-then-is_empty-clause-given
-returns-then-is_empty-clause-given g c = grind (arith, common_steps)
+returns-then-is_empty-clause-given g c = tt
 
 pub returns-then-is_empty-clause-meets : goal.returns-then-is_empty-clause-meets
-returns-then-is_empty-clause-meets g c = grind (arith, common_steps)
+returns-then-is_empty-clause-meets g c = λ full. absurd (full (rw (← c.into_range-range.ensures) (c.is_empty.ensures.by_position.0 c.if-is_empty.true)))
 
 pub returns-then-is_empty-clause-put : goal.returns-then-is_empty-clause-put
-returns-then-is_empty-clause-put g c = grind (arith, common_steps)
+returns-then-is_empty-clause-put g c = λ full. absurd (full (rw (← c.into_range-range.ensures) (c.is_empty.ensures.by_position.0 c.if-is_empty.true)))
 
 pub returns-then-is_empty-clause-refused : goal.returns-then-is_empty-clause-refused
-returns-then-is_empty-clause-refused g c = grind (arith, common_steps)
+returns-then-is_empty-clause-refused g c = tt

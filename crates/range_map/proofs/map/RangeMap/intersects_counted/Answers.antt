@@ -1,4 +1,4 @@
-use Rattle.std.proofs.Common.{◌<◌, length, ap, rules, arith}
+use Rattle.std.proofs.Common.{◌<◌, length, refl, ap, rules, arith}
 use Rattle.range_keys.specs.Position.{bound_of, start_position, end_position}
 use Rattle.range_algebra.specs.Range.{IsEmptyRange}
 use Rattle.range_map.specs.Lookups.{MeetsSome}
@@ -53,40 +53,40 @@ returns-clause-complete g c =
     λ complete h. let found = met.0 h in meeting_binds order lawful g.V.PartialEq.eq (g.C.Storage.items c.args.self.now) (g.R.AsRange.range c.args.range) complete c.in_form.ensures c.known_range.ensures found.0 found.1
 
 pub returns-then-is_empty-clause-meets : goal.returns-then-is_empty-clause-meets
-returns-then-is_empty-clause-meets g c = search rules
+returns-then-is_empty-clause-meets g c = (λ h. absurd (cc), λ h. absurd (h.0 (c.is_empty.ensures.by_position.0 c.if-is_empty.true)))
 
 pub returns-then-is_empty-clause-bound : goal.returns-then-is_empty-clause-bound
-returns-then-is_empty-clause-bound g c = search rules
+returns-then-is_empty-clause-bound g c = λ h. absurd ((binding_meets g.K.MaybeBounded.order g.met.K.PartialEnum.lawful (g.C.Storage.items c.args.self.now) (g.R.AsRange.range c.args.range) h).0 (c.is_empty.ensures.by_position.0 c.if-is_empty.true))
 
 pub returns-then-is_empty-clause-complete : goal.returns-then-is_empty-clause-complete
-returns-then-is_empty-clause-complete g c = search rules
+returns-then-is_empty-clause-complete g c = λ complete h. absurd (cc)
 
 pub returns-then-is_empty-clause-counted : goal.returns-then-is_empty-clause-counted
-returns-then-is_empty-clause-counted g c = search rules
+returns-then-is_empty-clause-counted g c = λ full. absurd (full (c.is_empty.ensures.by_position.0 c.if-is_empty.true))
 
 pub returns-then-is_empty-clause-none : goal.returns-then-is_empty-clause-none
-returns-then-is_empty-clause-none g c = search rules
+returns-then-is_empty-clause-none g c = λ none. record { at_most = omega arith; at_least = omega arith }
 
 pub returns-then-is_empty-clause-empty_uncounted : goal.returns-then-is_empty-clause-empty_uncounted
-returns-then-is_empty-clause-empty_uncounted g c = search rules
+returns-then-is_empty-clause-empty_uncounted g c = λ _. refl
 
 pub returns-in-None-clause-complete : goal.returns-in-None-clause-complete
-returns-in-None-clause-complete g c = search rules
+returns-in-None-clause-complete g c = λ complete h. absurd (cc)
 
 pub returns-in-None-clause-counted : goal.returns-in-None-clause-counted
-returns-in-None-clause-counted g c = search rules
+returns-in-None-clause-counted g c = rw (← c.self.view_is) (λ full. record { at_most = omega (arith, c.find-from.ensures.counted.at_most); at_least = c.find-from.ensures.counted.at_least })
 
 pub returns-in-None-clause-none : goal.returns-in-None-clause-none
 returns-in-None-clause-none g c = search rules
 
 pub returns-in-None-clause-empty_uncounted : goal.returns-in-None-clause-empty_uncounted
-returns-in-None-clause-empty_uncounted g c = search rules
+returns-in-None-clause-empty_uncounted g c = λ empty. let told = c.is_empty.ensures.by_position.1 empty in let not = c.if-is_empty.false in absurd (cc)
 
 pub returns-clause-counted : goal.returns-clause-counted
-returns-clause-counted g c = search rules
+returns-clause-counted g c = rw (← c.self.view_is) (λ full. record { at_most = omega (arith, c.find-from.ensures.counted.at_most, c.starts_past.ensures.counted.at_most); at_least = omega (arith, c.find-from.ensures.counted.at_least, c.starts_past.ensures.counted.at_least) })
 
 pub returns-clause-empty_uncounted : goal.returns-clause-empty_uncounted
-returns-clause-empty_uncounted g c = search rules
+returns-clause-empty_uncounted g c = λ empty. let told = c.is_empty.ensures.by_position.1 empty in let not = c.if-is_empty.false in absurd (cc)
 
 pub returns-clause-none : goal.returns-clause-none
 returns-clause-none g c =

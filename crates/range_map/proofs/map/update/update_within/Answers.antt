@@ -1,5 +1,5 @@
 use Rattle.std.proofs.lemmas.Grind.{common_steps}
-use Rattle.std.proofs.Common.{rules, ◌≡◌, ◌+◌, ◌-◌, ◌<◌, length, get_or, take, drop, arith, ap, ◌∙◌, Some, None, Ok, Err}
+use Rattle.std.proofs.Common.{rules, refl, ◌≡◌, ◌+◌, ◌-◌, ◌<◌, length, get_or, take, drop, arith, ap, ◌∙◌, Some, None, Ok, Err}
 use Rattle.range_store.specs.Places.{place_before}
 use Rattle.range_map.specs.Answers.{MayAnswer}
 use Rattle.range_map.proofs.Cutting.{IsFull}
@@ -7,6 +7,7 @@ use Rattle.range_map.proofs.Forms.{stored_known, stored_chain, nonempty_good}
 use Rattle.range_map.proofs.Gathering.{all_full, item_at, listed_at}
 use Rattle.range_map.proofs.Merging.{surrounded_alone}
 use Rattle.range_map.proofs.Updating.{by_insertion, by_removal, whole_piece, whole_answer}
+use Rattle.range_map.proofs.Results.{error_has_no_value, on_error}
 use Rattle.range_map.proofs.map.update.update_within.Goals as goal
 
 pub returns-in_ok-bind_within-in-Ok-Some-clause-ok : goal.returns-in_ok-bind_within-in-Ok-Some-clause-ok
@@ -94,100 +95,100 @@ returns-in-Err-clause-closure g c =
     record { piece = r; value = Some x.value; is_piece = whole_piece order lawful same equal items r c.known.ensures full chain some (take place items) (drop (place + 1) items) x list known_x (first.3 x here) (last.3 x here_end); says = says }
 
 pub returns-in-Err-clause-form : goal.returns-in-Err-clause-form
-returns-in-Err-clause-form g c = grind (arith, common_steps)
+returns-in-Err-clause-form g c = c.requires.stored
 
 pub returns-in-Err-clause-ok : goal.returns-in-Err-clause-ok
-returns-in-Err-clause-ok g c = grind (arith, common_steps)
+returns-in-Err-clause-ok g c = tt
 
 pub returns-in-Err-clause-refused : goal.returns-in-Err-clause-refused
-returns-in-Err-clause-refused g c = grind (arith, common_steps)
+returns-in-Err-clause-refused g c = refl
 
 pub returns-in_err-bind_within-in-Ok-Some-clause-closure : goal.returns-in_err-bind_within-in-Ok-Some-clause-closure
 returns-in_err-bind_within-in-Ok-Some-clause-closure g c = grind (arith, common_steps)
 
 pub returns-in_err-bind_within-in-Ok-Some-clause-form : goal.returns-in_err-bind_within-in-Ok-Some-clause-form
-returns-in_err-bind_within-in-Ok-Some-clause-form g c = grind (arith, common_steps)
+returns-in_err-bind_within-in-Ok-Some-clause-form g c = rw c.in_err-bind_within-in-Ok-Some.ensures.refused c.requires.stored
 
 pub returns-in_err-bind_within-in-Ok-Some-clause-ok : goal.returns-in_err-bind_within-in-Ok-Some-clause-ok
-returns-in_err-bind_within-in-Ok-Some-clause-ok g c = grind (arith, common_steps)
+returns-in_err-bind_within-in-Ok-Some-clause-ok g c = error_has_no_value _ c.from_residual.result c.from_residual.ensures.0
 
 pub returns-in_err-bind_within-in-Ok-Some-clause-refused : goal.returns-in_err-bind_within-in-Ok-Some-clause-refused
-returns-in_err-bind_within-in-Ok-Some-clause-refused g c = grind (arith, common_steps)
+returns-in_err-bind_within-in-Ok-Some-clause-refused g c = on_error _ c.from_residual.result c.in_err-bind_within-in-Ok-Some.ensures.refused
 
 pub returns-in_err-unbind_within-in-Ok-None-clause-closure : goal.returns-in_err-unbind_within-in-Ok-None-clause-closure
 returns-in_err-unbind_within-in-Ok-None-clause-closure g c = grind (arith, common_steps)
 
 pub returns-in_err-unbind_within-in-Ok-None-clause-form : goal.returns-in_err-unbind_within-in-Ok-None-clause-form
-returns-in_err-unbind_within-in-Ok-None-clause-form g c = grind (arith, common_steps)
+returns-in_err-unbind_within-in-Ok-None-clause-form g c = rw c.in_err-unbind_within-in-Ok-None.ensures.refused c.requires.stored
 
 pub returns-in_err-unbind_within-in-Ok-None-clause-ok : goal.returns-in_err-unbind_within-in-Ok-None-clause-ok
-returns-in_err-unbind_within-in-Ok-None-clause-ok g c = grind (arith, common_steps)
+returns-in_err-unbind_within-in-Ok-None-clause-ok g c = error_has_no_value _ c.from_residual-in_err-unbind_within-in-Ok-None.result c.from_residual-in_err-unbind_within-in-Ok-None.ensures.0
 
 pub returns-in_err-unbind_within-in-Ok-None-clause-refused : goal.returns-in_err-unbind_within-in-Ok-None-clause-refused
-returns-in_err-unbind_within-in-Ok-None-clause-refused g c = grind (arith, common_steps)
+returns-in_err-unbind_within-in-Ok-None-clause-refused g c = on_error _ c.from_residual-in_err-unbind_within-in-Ok-None.result c.in_err-unbind_within-in-Ok-None.ensures.refused
 
 pub returns-in_ok-bind_within-in-Ok-Some-clause-closure : goal.returns-in_ok-bind_within-in-Ok-Some-clause-closure
-returns-in_ok-bind_within-in-Ok-Some-clause-closure g c = grind (arith, common_steps)
+returns-in_ok-bind_within-in-Ok-Some-clause-closure g c = λ e failed. absurd (cc)
 
 pub returns-in_ok-bind_within-in-Ok-Some-clause-form : goal.returns-in_ok-bind_within-in-Ok-Some-clause-form
-returns-in_ok-bind_within-in-Ok-Some-clause-form g c = grind (arith, common_steps)
+returns-in_ok-bind_within-in-Ok-Some-clause-form g c = c.in_ok-bind_within-in-Ok-Some.ensures.ok.stored
 
 pub returns-in_ok-bind_within-in-Ok-Some-clause-refused : goal.returns-in_ok-bind_within-in-Ok-Some-clause-refused
-returns-in_ok-bind_within-in-Ok-Some-clause-refused g c = grind (arith, common_steps)
+returns-in_ok-bind_within-in-Ok-Some-clause-refused g c = tt
 
 pub returns-in_ok-unbind_within-in-Ok-None-clause-closure : goal.returns-in_ok-unbind_within-in-Ok-None-clause-closure
-returns-in_ok-unbind_within-in-Ok-None-clause-closure g c = grind (arith, common_steps)
+returns-in_ok-unbind_within-in-Ok-None-clause-closure g c = λ e failed. absurd (cc)
 
 pub returns-in_ok-unbind_within-in-Ok-None-clause-form : goal.returns-in_ok-unbind_within-in-Ok-None-clause-form
-returns-in_ok-unbind_within-in-Ok-None-clause-form g c = grind (arith, common_steps)
+returns-in_ok-unbind_within-in-Ok-None-clause-form g c = c.in_ok-unbind_within-in-Ok-None.ensures.ok.stored
 
 pub returns-in_ok-unbind_within-in-Ok-None-clause-refused : goal.returns-in_ok-unbind_within-in-Ok-None-clause-refused
-returns-in_ok-unbind_within-in-Ok-None-clause-refused g c = grind (arith, common_steps)
+returns-in_ok-unbind_within-in-Ok-None-clause-refused g c = tt
 
 pub bind_within-requires-clause-keys : goal.bind_within-requires-clause-keys
-bind_within-requires-clause-keys g c = grind (arith, common_steps)
+bind_within-requires-clause-keys g c = c.requires.keys
 
 pub bind_within-requires-clause-values : goal.bind_within-requires-clause-values
-bind_within-requires-clause-values g c = grind (arith, common_steps)
+bind_within-requires-clause-values g c = c.requires.values
 
 pub bind_within-requires-clause-stored : goal.bind_within-requires-clause-stored
-bind_within-requires-clause-stored g c = grind (arith, common_steps)
+bind_within-requires-clause-stored g c = c.requires.stored
 
 pub bind_within-requires-clause-nonempty : goal.bind_within-requires-clause-nonempty
-bind_within-requires-clause-nonempty g c = grind (arith, common_steps)
+bind_within-requires-clause-nonempty g c = c.requires.nonempty
 
 pub bind_within-requires-clause-window : goal.bind_within-requires-clause-window
-bind_within-requires-clause-window g c = grind (arith, common_steps)
+bind_within-requires-clause-window g c = c.requires.window
 
 pub bind_within-requires-clause-one : goal.bind_within-requires-clause-one
-bind_within-requires-clause-one g c = grind (arith, common_steps)
+bind_within-requires-clause-one g c = c.requires.one
 
 pub bind_within-requires-clause-first : goal.bind_within-requires-clause-first
-bind_within-requires-clause-first g c = grind (arith, common_steps)
+bind_within-requires-clause-first g c = c.requires.first
 
 pub bind_within-requires-clause-last : goal.bind_within-requires-clause-last
-bind_within-requires-clause-last g c = grind (arith, common_steps)
+bind_within-requires-clause-last g c = c.requires.last
 
 pub unbind_within-requires-clause-keys : goal.unbind_within-requires-clause-keys
-unbind_within-requires-clause-keys g c = grind (arith, common_steps)
+unbind_within-requires-clause-keys g c = c.requires.keys
 
 pub unbind_within-requires-clause-values : goal.unbind_within-requires-clause-values
-unbind_within-requires-clause-values g c = grind (arith, common_steps)
+unbind_within-requires-clause-values g c = c.requires.values
 
 pub unbind_within-requires-clause-stored : goal.unbind_within-requires-clause-stored
-unbind_within-requires-clause-stored g c = grind (arith, common_steps)
+unbind_within-requires-clause-stored g c = c.requires.stored
 
 pub unbind_within-requires-clause-nonempty : goal.unbind_within-requires-clause-nonempty
-unbind_within-requires-clause-nonempty g c = grind (arith, common_steps)
+unbind_within-requires-clause-nonempty g c = c.requires.nonempty
 
 pub unbind_within-requires-clause-window : goal.unbind_within-requires-clause-window
-unbind_within-requires-clause-window g c = grind (arith, common_steps)
+unbind_within-requires-clause-window g c = c.requires.window
 
 pub unbind_within-requires-clause-one : goal.unbind_within-requires-clause-one
-unbind_within-requires-clause-one g c = grind (arith, common_steps)
+unbind_within-requires-clause-one g c = c.requires.one
 
 pub unbind_within-requires-clause-first : goal.unbind_within-requires-clause-first
-unbind_within-requires-clause-first g c = grind (arith, common_steps)
+unbind_within-requires-clause-first g c = c.requires.first
 
 pub unbind_within-requires-clause-last : goal.unbind_within-requires-clause-last
-unbind_within-requires-clause-last g c = grind (arith, common_steps)
+unbind_within-requires-clause-last g c = c.requires.last

@@ -1,0 +1,11 @@
+-- What an error answers.
+use Rattle.std.proofs.Common.{Result, Ok, Err, OnErr}
+use Rattle.std.specs.Result.{IfOk, IsErr}
+
+pub error_has_no_value : {A E : Type 0} (P : A → Type 0) (r : Result A E) → IsErr r → IfOk r P
+error_has_no_value P (Ok x) is = absurd (cc)
+error_has_no_value P (Err e) is = tt
+
+pub on_error : {A E : Type 0} (P : Type 0) (r : Result A E) → P → OnErr r P
+on_error P (Ok x) p = tt
+on_error P (Err e) p = p
