@@ -1,16 +1,74 @@
 //! Maps, read in either shape and written.
 
 use crate::support::{
-    Answer, Ends, Entry, InTree, InVector, is_written, parsed, play, read, stores,
+    Row, Stored, Told, has_ends, holds, is_done_or_refused, is_written_or_refused, parsed, play,
 };
 use range_algebra::any::AnyRange;
-use range_json::json::{JsonError, map_from_json};
+use range_json::json::{JsonError, map_from_json, map_to_json};
 use range_map::map::{MapError, RangeMap};
+use range_store::btree::BoxStorage;
 use range_store::storage::{Item, Storage};
 use range_store::vec_storage::VecStorage;
-use std::alloc::Global;
+use serde_json::Value;
+use std::alloc::{AllocError, Global};
 use std::ops::Bound::{Excluded, Included, Unbounded};
+use std::process::Abort;
 use std::test::Fail;
+
+type Entry = Item<AnyRange<i32>, i64>;
+
+type Numbers<C> = RangeMap<i32, i64, C>;
+
+/// A map over some container.
+trait LookedUp: Told {
+    fn value_at(&self, key: i32) -> Option<i64>;
+}
+
+fn is_only(values: &[i64], wanted: i64) -> bool {
+    match values {
+        [value] => *value == wanted,
+        _ => false,
+    }
+}
+
+impl<C: Storage<Entry>> Told for Numbers<C> {
+    fn read(&mut self, alloc: Global, value: &Value) -> Result<(), JsonError> {
+        *self = map_from_json(alloc, value)?;
+        Ok(())
+    }
+
+    fn write(&self, alloc: Global) -> Result<Value, AllocError> {
+        map_to_json(alloc, self)
+    }
+
+    fn stores(&self, rows: &[Stored]) -> bool {
+        let mut left = self.iter();
+        for row in rows {
+            match left.next() {
+                Some((range, value)) if has_ends(range, &row.0) && is_only(row.1, *value) => (),
+                _ => return false,
+            }
+        }
+        left.next().is_none()
+    }
+}
+
+impl<C: Storage<Entry>> LookedUp for Numbers<C> {
+    fn value_at(&self, key: i32) -> Option<i64> {
+        self.get(key).copied()
+    }
+}
+
+fn play_over<C: Storage<Entry>>(rt: &impl Abort, alloc: Global, rows: &[Row]) -> Result<(), Fail> {
+    let mut map: Numbers<C> = RangeMap::new(alloc);
+    play(rt, alloc, &mut map, rows)
+}
+
+/// Reads each text over each container. Each row has to hold.
+fn play_both(rt: &impl Abort, alloc: Global, rows: &[Row]) -> Result<(), Fail> {
+    play_over::<VecStorage<Entry>>(rt, alloc, rows)?;
+    play_over::<BoxStorage<Entry>>(rt, alloc, rows)
+}
 
 /// What the empty map is written as.
 const EMPTY: &str = r#"{"items":[],"version":2}"#;
@@ -18,131 +76,93 @@ const EMPTY: &str = r#"{"items":[],"version":2}"#;
 /// What the map that binds all keys to 1 is written as.
 const FULL: &str = r#"{"items":[[["Unbounded","Unbounded"],1]],"version":2}"#;
 
-static WHOLES: &[(&str, Answer<'static>)] = &[
-    ("7", Answer::Fails(JsonError::NotArray)),
-    ("null", Answer::Fails(JsonError::NotArray)),
-    (r#""items""#, Answer::Fails(JsonError::NotArray)),
-    ("{}", Answer::Fails(JsonError::Version)),
-    (r#"{"items":[]}"#, Answer::Fails(JsonError::Version)),
-    (
-        r#"{"version":3,"items":[]}"#,
-        Answer::Fails(JsonError::Version),
-    ),
-    (
-        r#"{"version":2.0,"items":[]}"#,
-        Answer::Fails(JsonError::Version),
-    ),
-    (
-        r#"{"version":"2","items":[]}"#,
-        Answer::Fails(JsonError::Version),
-    ),
-    (
-        r#"{"version":2,"items":[],"x":0}"#,
-        Answer::Fails(JsonError::Version),
-    ),
-    (r#"{"version":2,"x":0}"#, Answer::Fails(JsonError::Version)),
-    (r#"{"version":2}"#, Answer::Fails(JsonError::NotArray)),
-    (
-        r#"{"version":2,"items":{}}"#,
-        Answer::Fails(JsonError::NotArray),
-    ),
-    (
-        r#"{"version":2,"items":[1]}"#,
-        Answer::Fails(JsonError::NotPair(0)),
-    ),
-    (r#"{"version":2,"items":[]}"#, Answer::Reads(EMPTY, 0, None)),
-    ("[]", Answer::Reads(EMPTY, 0, None)),
+static WHOLES: &[Row] = &[
+    ("7", Err(JsonError::NotArray)),
+    ("null", Err(JsonError::NotArray)),
+    (r#""items""#, Err(JsonError::NotArray)),
+    ("{}", Err(JsonError::Version)),
+    (r#"{"items":[]}"#, Err(JsonError::Version)),
+    (r#"{"version":3,"items":[]}"#, Err(JsonError::Version)),
+    (r#"{"version":2.0,"items":[]}"#, Err(JsonError::Version)),
+    (r#"{"version":"2","items":[]}"#, Err(JsonError::Version)),
+    (r#"{"version":2,"items":[],"x":0}"#, Err(JsonError::Version)),
+    (r#"{"version":2,"x":0}"#, Err(JsonError::Version)),
+    (r#"{"version":2}"#, Err(JsonError::NotArray)),
+    (r#"{"version":2,"items":{}}"#, Err(JsonError::NotArray)),
+    (r#"{"version":2,"items":[1]}"#, Err(JsonError::NotPair(0))),
 ];
 
 #[test]
 fn wholes(rt: HostRuntime) -> Result<(), Fail> {
-    play(&rt, rt.alloc(), WHOLES)
+    play_both(&rt, rt.alloc(), WHOLES)
 }
 
 /// The fault of the first faulty element, and in it the first of the order.
-static FAULTS: &[(&str, Answer<'static>)] = &[
-    ("[1]", Answer::Fails(JsonError::NotPair(0))),
+static FAULTS: &[Row] = &[
+    ("[1]", Err(JsonError::NotPair(0))),
     (
         r#"[[["Unbounded","Unbounded"],1,2]]"#,
-        Answer::Fails(JsonError::NotPair(0)),
+        Err(JsonError::NotPair(0)),
     ),
     (
         r#"[[["Unbounded","Unbounded"]]]"#,
-        Answer::Fails(JsonError::NotPair(0)),
+        Err(JsonError::NotPair(0)),
     ),
-    (
-        r#"[[["Unbounded"],1]]"#,
-        Answer::Fails(JsonError::NotRange(0)),
-    ),
-    (
-        r#"[[["Unbounded"],1],7]"#,
-        Answer::Fails(JsonError::NotRange(0)),
-    ),
-    (
-        r#"[[["Unbounded"],"x"]]"#,
-        Answer::Fails(JsonError::NotRange(0)),
-    ),
-    (
-        r#"[[["Open","Unbounded"],1]]"#,
-        Answer::Fails(JsonError::NotBound(0)),
-    ),
+    (r#"[[["Unbounded"],1]]"#, Err(JsonError::NotRange(0))),
+    (r#"[[["Unbounded"],1],7]"#, Err(JsonError::NotRange(0))),
+    (r#"[[["Unbounded"],"x"]]"#, Err(JsonError::NotRange(0))),
+    (r#"[[["Open","Unbounded"],1]]"#, Err(JsonError::NotBound(0))),
     (
         r#"[[[{"Included":0,"Excluded":1},"Unbounded"],1]]"#,
-        Answer::Fails(JsonError::NotBound(0)),
+        Err(JsonError::NotBound(0)),
     ),
-    (
-        r#"[[[{},"Unbounded"],1]]"#,
-        Answer::Fails(JsonError::NotBound(0)),
-    ),
+    (r#"[[[{},"Unbounded"],1]]"#, Err(JsonError::NotBound(0))),
     (
         r#"[[[{"Included":"x"},"Unbounded"],1]]"#,
-        Answer::Fails(JsonError::Key(0)),
+        Err(JsonError::Key(0)),
     ),
-    (
-        r#"[[[{"Included":"x"},"Open"],1]]"#,
-        Answer::Fails(JsonError::Key(0)),
-    ),
+    (r#"[[[{"Included":"x"},"Open"],1]]"#, Err(JsonError::Key(0))),
     (
         r#"[[["Open",{"Included":"x"}],1]]"#,
-        Answer::Fails(JsonError::NotBound(0)),
+        Err(JsonError::NotBound(0)),
     ),
     (
         r#"[[["Unbounded",{"Included":"x"}],"x"]]"#,
-        Answer::Fails(JsonError::Key(0)),
+        Err(JsonError::Key(0)),
     ),
     (
         r#"[[["Unbounded",{"Excluded":2147483648}],1]]"#,
-        Answer::Fails(JsonError::Key(0)),
+        Err(JsonError::Key(0)),
     ),
     (
         r#"[[["Unbounded","Unbounded"],"x"]]"#,
-        Answer::Fails(JsonError::Value(0)),
+        Err(JsonError::Value(0)),
     ),
     (
         r#"[[["Unbounded","Unbounded"],1],[["Unbounded","Unbounded"],1]]"#,
-        Answer::Fails(JsonError::Meets(1)),
+        Err(JsonError::Meets(1)),
     ),
     (
         r#"[[["Unbounded","Unbounded"],1],[["Unbounded","Unbounded"],"x"]]"#,
-        Answer::Fails(JsonError::Value(1)),
+        Err(JsonError::Value(1)),
     ),
     (
         r#"[[[{"Included":0},{"Excluded":6}],1],[[{"Included":5},{"Excluded":9}],2]]"#,
-        Answer::Fails(JsonError::Meets(1)),
+        Err(JsonError::Meets(1)),
     ),
     (
         r#"[[[{"Included":0},{"Excluded":5}],1],[[{"Included":5},{"Excluded":9}],1],[[{"Included":3},{"Included":3}],1]]"#,
-        Answer::Fails(JsonError::Meets(2)),
+        Err(JsonError::Meets(2)),
     ),
     (
         r#"{"version":2,"items":[[[{"Included":0},{"Excluded":6}],1],[[{"Included":5},{"Excluded":9}],2]]}"#,
-        Answer::Fails(JsonError::Meets(1)),
+        Err(JsonError::Meets(1)),
     ),
 ];
 
 #[test]
 fn faults(rt: HostRuntime) -> Result<(), Fail> {
-    play(&rt, rt.alloc(), FAULTS)
+    play_both(&rt, rt.alloc(), FAULTS)
 }
 
 /// The fault of a map of bytes.
@@ -161,99 +181,133 @@ fn a_byte_is_at_most_255(rt: HostRuntime) {
     assert_eq!(rt; last, None);
 }
 
+/// What is read of a text, and what the map binds a key to.
+type Binding = (Row, i32, Option<i64>);
+
 /// What touches is kept apart where the values differ and joined where they are equal; an empty
 /// range binds nothing; elements stand in any order.
-static MAPS: &[(&str, Answer<'static>)] = &[
+static MAPS: &[Binding] = &[
+    ((r#"{"version":2,"items":[]}"#, Ok(EMPTY)), 0, None),
+    (("[]", Ok(EMPTY)), 0, None),
     (
-        r#"[[[{"Included":0},{"Excluded":5}],1],[[{"Included":5},{"Excluded":9}],2]]"#,
-        Answer::Reads(
-            r#"{"items":[[[{"Included":0},{"Excluded":5}],1],[[{"Included":5},{"Excluded":9}],2]],"version":2}"#,
-            5,
-            Some(2),
+        (
+            r#"[[[{"Included":0},{"Excluded":5}],1],[[{"Included":5},{"Excluded":9}],2]]"#,
+            Ok(
+                r#"{"items":[[[{"Included":0},{"Excluded":5}],1],[[{"Included":5},{"Excluded":9}],2]],"version":2}"#,
+            ),
         ),
+        5,
+        Some(2),
     ),
     (
-        r#"{"version":2,"items":[[[{"Included":5},{"Excluded":9}],2],[[{"Included":0},{"Excluded":5}],1]]}"#,
-        Answer::Reads(
-            r#"{"items":[[[{"Included":0},{"Excluded":5}],1],[[{"Included":5},{"Excluded":9}],2]],"version":2}"#,
-            4,
-            Some(1),
+        (
+            r#"{"version":2,"items":[[[{"Included":5},{"Excluded":9}],2],[[{"Included":0},{"Excluded":5}],1]]}"#,
+            Ok(
+                r#"{"items":[[[{"Included":0},{"Excluded":5}],1],[[{"Included":5},{"Excluded":9}],2]],"version":2}"#,
+            ),
         ),
+        4,
+        Some(1),
     ),
     (
-        r#"[[[{"Included":0},{"Excluded":5}],1],[[{"Included":5},{"Excluded":9}],1]]"#,
-        Answer::Reads(
-            r#"{"items":[[[{"Included":0},{"Excluded":9}],1]],"version":2}"#,
-            9,
-            None,
+        (
+            r#"[[[{"Included":0},{"Excluded":5}],1],[[{"Included":5},{"Excluded":9}],1]]"#,
+            Ok(r#"{"items":[[[{"Included":0},{"Excluded":9}],1]],"version":2}"#),
         ),
+        9,
+        None,
     ),
     (
-        r#"[[[{"Included":0},{"Excluded":2}],1],[[{"Included":4},{"Excluded":9}],1]]"#,
-        Answer::Reads(
-            r#"{"items":[[[{"Included":0},{"Excluded":2}],1],[[{"Included":4},{"Excluded":9}],1]],"version":2}"#,
-            3,
-            None,
+        (
+            r#"[[[{"Included":0},{"Excluded":2}],1],[[{"Included":4},{"Excluded":9}],1]]"#,
+            Ok(
+                r#"{"items":[[[{"Included":0},{"Excluded":2}],1],[[{"Included":4},{"Excluded":9}],1]],"version":2}"#,
+            ),
         ),
+        3,
+        None,
     ),
     (
-        r#"[[[{"Included":8},{"Excluded":3}],1],[["Unbounded","Unbounded"],1]]"#,
-        Answer::Reads(FULL, 5, Some(1)),
+        (
+            r#"[[[{"Included":8},{"Excluded":3}],1],[["Unbounded","Unbounded"],1]]"#,
+            Ok(FULL),
+        ),
+        5,
+        Some(1),
     ),
     (
-        r#"[[["Unbounded","Unbounded"],1],[[{"Included":8},{"Excluded":3}],2]]"#,
-        Answer::Reads(FULL, 5, Some(1)),
+        (
+            r#"[[["Unbounded","Unbounded"],1],[[{"Included":8},{"Excluded":3}],2]]"#,
+            Ok(FULL),
+        ),
+        5,
+        Some(1),
     ),
 ];
 
+/// Whether each text is read so, and the map that was read binds the key so.
+fn are_bound<T: LookedUp>(
+    alloc: Global,
+    map: &mut T,
+    rows: &[Binding],
+) -> Result<bool, AllocError> {
+    for (row, key, value) in rows {
+        if !holds(alloc, map, row)? || map.value_at(*key) != *value {
+            return Ok(false);
+        }
+    }
+    Ok(true)
+}
+
+fn are_bound_over<C: Storage<Entry>>(alloc: Global) -> Result<bool, AllocError> {
+    let mut map: Numbers<C> = RangeMap::new(alloc);
+    are_bound(alloc, &mut map, MAPS)
+}
+
 #[test]
 fn maps(rt: HostRuntime) -> Result<(), Fail> {
-    play(&rt, rt.alloc(), MAPS)
+    assert!(rt; are_bound_over::<VecStorage<Entry>>(rt.alloc())?);
+    assert!(rt; are_bound_over::<BoxStorage<Entry>>(rt.alloc())?);
+    Ok(())
 }
 
 const WRITTEN: &str =
     r#"{"items":[[["Unbounded",{"Excluded":0}],1],[[{"Excluded":0},{"Included":7}],2]],"version":2}"#;
 
-static STORED: &[(Ends, i64)] = &[
-    ((Unbounded, Excluded(0)), 1),
-    ((Excluded(0), Included(7)), 2),
+static STORED: &[Stored] = &[
+    ((Unbounded, Excluded(0)), &[1]),
+    ((Excluded(0), Included(7)), &[2]),
 ];
 
-fn bind<C: Storage<Entry>>(map: &mut RangeMap<i32, i64, C>) -> Result<(), MapError> {
+/// Whether a new map is written with the bounds that it stores, or else an allocation failed; and
+/// stores what it stored, either way.
+fn is_written_as_spelled<C: Storage<Entry>>(alloc: Global) -> bool {
+    let mut map: Numbers<C> = RangeMap::new(alloc);
+    match bind(&mut map) {
+        Ok(()) => is_written_or_refused(alloc, &map, WRITTEN, STORED),
+        Err(MapError::Memory) => true,
+    }
+}
+
+fn bind<C: Storage<Entry>>(map: &mut Numbers<C>) -> Result<(), MapError> {
     map.insert(AnyRange::new(Unbounded, Excluded(0)), 1)?;
     map.insert(AnyRange::new(Excluded(0), Included(7)), 2)
 }
 
-/// Whether a map is written with the bounds that it stores, or else an allocation failed; and
-/// stores what it stored, either way.
-fn is_written_or_refused<C: Storage<Entry>>(alloc: Global) -> bool {
-    let mut map = RangeMap::<i32, i64, C>::new(alloc);
-    if bind(&mut map).is_err() {
-        return true;
-    }
-    let written = is_written(alloc, &map, WRITTEN).unwrap_or(true);
-    written && stores(&map, STORED)
-}
-
-/// Whether a map is read, bounds as they are written, or else an allocation failed.
-fn is_read_or_refused<C: Storage<Entry>>(alloc: Global) -> bool {
-    let Some(value) = parsed(alloc, WRITTEN) else {
-        return true;
-    };
-    match read::<C>(alloc, &value) {
-        Ok(map) => stores(&map, STORED),
-        Err(error) => error == JsonError::Memory,
-    }
-}
-
 #[test]
 fn a_map_is_written_as_it_is_spelled(rt: HostRuntime) {
-    assert!(rt; is_written_or_refused::<InVector>(rt.alloc()));
-    assert!(rt; is_written_or_refused::<InTree>(rt.alloc()));
+    assert!(rt; is_written_as_spelled::<VecStorage<Entry>>(rt.alloc()));
+    assert!(rt; is_written_as_spelled::<BoxStorage<Entry>>(rt.alloc()));
+}
+
+/// Whether a map is read as it is written, or else an allocation failed.
+fn is_read_as_written<C: Storage<Entry>>(alloc: Global) -> bool {
+    let mut map: Numbers<C> = RangeMap::new(alloc);
+    is_done_or_refused(alloc, &mut map, WRITTEN, STORED)
 }
 
 #[test]
 fn a_map_is_read_where_memory_is_granted(rt: HostRuntime) {
-    assert!(rt; is_read_or_refused::<InVector>(rt.alloc()));
-    assert!(rt; is_read_or_refused::<InTree>(rt.alloc()));
+    assert!(rt; is_read_as_written::<VecStorage<Entry>>(rt.alloc()));
+    assert!(rt; is_read_as_written::<BoxStorage<Entry>>(rt.alloc()));
 }

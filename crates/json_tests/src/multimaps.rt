@@ -1,6 +1,6 @@
 //! Multimaps, read in either shape and written.
 
-use crate::support::{Ends, has_ends, parsed, text_of};
+use crate::support::{Row, Stored, Told, has_ends, is_done_or_refused, play};
 use range_algebra::any::AnyRange;
 use range_json::json::{JsonError, multimap_from_json, multimap_to_json};
 use range_sets::multimap::RangeMultiMap;
@@ -11,14 +11,47 @@ use serde_json::Value;
 use std::alloc::{AllocError, Global};
 use std::collections::BTreeSet;
 use std::ops::Bound::{Excluded, Included, Unbounded};
+use std::process::Abort;
 use std::test::Fail;
 
 type Names = BTreeSet<i64>;
 
 type Entry = Item<AnyRange<i32>, Names>;
 
-/// A text, and the fault of its multimap or what the multimap is written as.
-type Row = (&'static str, Result<&'static str, JsonError>);
+type Named<C> = RangeMultiMap<i32, Names, C>;
+
+/// Whether a set has just these values.
+fn has_just(set: &Names, values: &[i64]) -> bool {
+    let mut left = set.iter();
+    for value in values {
+        if left.next() != Some(value) {
+            return false;
+        }
+    }
+    left.next().is_none()
+}
+
+impl<C: Storage<Entry>> Told for Named<C> {
+    fn read(&mut self, alloc: Global, value: &Value) -> Result<(), JsonError> {
+        *self = multimap_from_json(alloc, value)?;
+        Ok(())
+    }
+
+    fn write(&self, alloc: Global) -> Result<Value, AllocError> {
+        multimap_to_json(alloc, self)
+    }
+
+    fn stores(&self, rows: &[Stored]) -> bool {
+        let mut left = self.iter();
+        for row in rows {
+            match left.next() {
+                Some((range, set)) if has_ends(range, &row.0) && has_just(set, row.1) => (),
+                _ => return false,
+            }
+        }
+        left.next().is_none()
+    }
+}
 
 /// Values stand in any order and twice, and are written in ascending order and once. An element
 /// without a value has a fault, and so has one with a value that is none; those of its range come
@@ -63,94 +96,32 @@ static ROWS: &[Row] = &[
     (r#"{"version":3,"items":[]}"#, Err(JsonError::Version)),
 ];
 
-fn read<C: Storage<Entry>>(
-    alloc: Global,
-    value: &Value,
-) -> Result<RangeMultiMap<i32, Names, C>, JsonError> {
-    multimap_from_json(alloc, value)
-}
-
-/// Whether the multimap is written so.
-fn is_written<C: Storage<Entry>>(
-    alloc: Global,
-    multimap: &RangeMultiMap<i32, Names, C>,
-    text: &str,
-) -> Result<bool, AllocError> {
-    let value = multimap_to_json(alloc, multimap)?;
-    Ok(text_of(alloc, &value)?.as_str() == text)
-}
-
-fn holds<C: Storage<Entry>>(alloc: Global, row: &Row) -> Result<bool, AllocError> {
-    let Some(value) = parsed(alloc, row.0) else {
-        return Ok(false);
-    };
-    match (read::<C>(alloc, &value), row.1) {
-        (Ok(multimap), Ok(text)) => is_written(alloc, &multimap, text),
-        (Err(error), Err(wanted)) => Ok(error == wanted),
-        _ => Ok(false),
-    }
+fn play_over<C: Storage<Entry>>(rt: &impl Abort, alloc: Global) -> Result<(), Fail> {
+    let mut multimap: Named<C> = RangeMultiMap::new(alloc);
+    play(rt, alloc, &mut multimap, ROWS)
 }
 
 #[test]
 fn multimaps(rt: HostRuntime) -> Result<(), Fail> {
-    for row in ROWS {
-        assert!(rt; holds::<VecStorage<Entry>>(rt.alloc(), row)?);
-        assert!(rt; holds::<BoxStorage<Entry>>(rt.alloc(), row)?);
-    }
-    Ok(())
+    play_over::<VecStorage<Entry>>(&rt, rt.alloc())?;
+    play_over::<BoxStorage<Entry>>(&rt, rt.alloc())
 }
 
 const WRITTEN: &str =
     r#"{"items":[[["Unbounded",{"Excluded":0}],[1,2]],[[{"Excluded":0},{"Included":7}],[2]]],"version":2}"#;
 
-static STORED: &[(Ends, &[i64])] = &[
+static STORED: &[Stored] = &[
     ((Unbounded, Excluded(0)), &[1, 2]),
     ((Excluded(0), Included(7)), &[2]),
 ];
 
-/// Whether a set has just these values.
-fn has_just(set: &Names, values: &[i64]) -> bool {
-    let mut left = set.iter();
-    for value in values {
-        if left.next() != Some(value) {
-            return false;
-        }
-    }
-    left.next().is_none()
-}
-
-/// Whether a multimap stores just these ranges and sets.
-fn stores<C: Storage<Entry>>(
-    multimap: &RangeMultiMap<i32, Names, C>,
-    rows: &[(Ends, &[i64])],
-) -> bool {
-    let mut left = multimap.iter();
-    for row in rows {
-        match left.next() {
-            Some((range, set)) if has_ends(range, &row.0) && has_just(set, row.1) => (),
-            _ => return false,
-        }
-    }
-    left.next().is_none()
-}
-
-/// Whether a multimap is read and written, bounds as they are written, or else an allocation
-/// failed; and stores what it stored, either way.
-fn is_done_or_refused<C: Storage<Entry>>(alloc: Global) -> bool {
-    let Some(value) = parsed(alloc, WRITTEN) else {
-        return true;
-    };
-    match read::<C>(alloc, &value) {
-        Ok(multimap) => {
-            let written = is_written(alloc, &multimap, WRITTEN).unwrap_or(true);
-            written && stores(&multimap, STORED)
-        }
-        Err(error) => error == JsonError::Memory,
-    }
+fn is_read_and_written<C: Storage<Entry>>(alloc: Global) -> bool {
+    let mut multimap: Named<C> = RangeMultiMap::new(alloc);
+    is_done_or_refused(alloc, &mut multimap, WRITTEN, STORED)
 }
 
 #[test]
 fn a_multimap_is_read_and_written_where_memory_is_granted(rt: HostRuntime) {
-    assert!(rt; is_done_or_refused::<VecStorage<Entry>>(rt.alloc()));
-    assert!(rt; is_done_or_refused::<BoxStorage<Entry>>(rt.alloc()));
+    assert!(rt; is_read_and_written::<VecStorage<Entry>>(rt.alloc()));
+    assert!(rt; is_read_and_written::<BoxStorage<Entry>>(rt.alloc()));
 }

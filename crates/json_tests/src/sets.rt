@@ -1,21 +1,42 @@
 //! Sets and single ranges, read and written.
 
-use crate::support::{Ends, has_ends, parsed, text_of};
+use crate::support::{Row, Stored, Told, has_ends, is_done_or_refused, play};
 use range_algebra::any::AnyRange;
 use range_json::json::{JsonError, range_from_json, range_to_json, set_from_json, set_to_json};
 use range_sets::set::RangeSet;
-use range_store::storage::Item;
+use range_store::storage::{Item, Storage};
 use range_store::vec_storage::VecStorage;
+use serde_json::Value;
 use std::alloc::{AllocError, Global};
 use std::ops::Bound::{Excluded, Included, Unbounded};
+use std::process::Abort;
 use std::test::Fail;
 
-type Numbers = RangeSet<i32, VecStorage<Item<AnyRange<i32>, ()>>>;
+type Entry = Item<AnyRange<i32>, ()>;
 
-/// A text, and the fault of its set or what the set is written as.
-type SetRow = (&'static str, Result<&'static str, JsonError>);
+impl<C: Storage<Entry>> Told for RangeSet<i32, C> {
+    fn read(&mut self, alloc: Global, value: &Value) -> Result<(), JsonError> {
+        *self = set_from_json(alloc, value)?;
+        Ok(())
+    }
 
-static SETS: &[SetRow] = &[
+    fn write(&self, alloc: Global) -> Result<Value, AllocError> {
+        set_to_json(alloc, self)
+    }
+
+    fn stores(&self, rows: &[Stored]) -> bool {
+        let mut left = self.iter();
+        for row in rows {
+            match left.next() {
+                Some(range) if has_ends(range, &row.0) => (),
+                _ => return false,
+            }
+        }
+        left.next().is_none()
+    }
+}
+
+static SETS: &[Row] = &[
     ("{}", Err(JsonError::NotArray)),
     ("[]", Ok("[]")),
     (
@@ -36,117 +57,81 @@ static SETS: &[SetRow] = &[
     ),
 ];
 
-fn set_is_written(alloc: Global, set: &Numbers, text: &str) -> Result<bool, AllocError> {
-    let value = set_to_json(alloc, set)?;
-    Ok(text_of(alloc, &value)?.as_str() == text)
-}
-
-fn reads_set(alloc: Global, row: &SetRow) -> Result<bool, AllocError> {
-    let Some(value) = parsed(alloc, row.0) else {
-        return Ok(false);
-    };
-    let outcome: Result<Numbers, JsonError> = set_from_json(alloc, &value);
-    match (outcome, row.1) {
-        (Ok(set), Ok(text)) => set_is_written(alloc, &set, text),
-        (Err(error), Err(wanted)) => Ok(error == wanted),
-        _ => Ok(false),
-    }
+fn play_over<C: Storage<Entry>>(rt: &impl Abort, alloc: Global) -> Result<(), Fail> {
+    let mut set: RangeSet<i32, C> = RangeSet::new(alloc);
+    play(rt, alloc, &mut set, SETS)
 }
 
 #[test]
 fn sets(rt: HostRuntime) -> Result<(), Fail> {
-    for row in SETS {
-        assert!(rt; reads_set(rt.alloc(), row)?);
-    }
-    Ok(())
+    play_over::<VecStorage<Entry>>(&rt, rt.alloc())
 }
 
-static HELD: &[Ends] = &[(Unbounded, Excluded(0)), (Excluded(0), Included(7))];
-
-/// Whether a set stores just these ranges.
-fn set_stores(set: &Numbers, rows: &[Ends]) -> bool {
-    let mut left = set.iter();
-    for row in rows {
-        match left.next() {
-            Some(range) if has_ends(range, row) => (),
-            _ => return false,
-        }
-    }
-    left.next().is_none()
-}
+static HELD: &[Stored] = &[
+    ((Unbounded, Excluded(0)), &[]),
+    ((Excluded(0), Included(7)), &[]),
+];
 
 const HELD_TEXT: &str = r#"[["Unbounded",{"Excluded":0}],[{"Excluded":0},{"Included":7}]]"#;
 
-/// Whether a set is read and written, bounds as they are written, or else an allocation failed;
-/// and stores what it stored, either way.
-fn set_is_done_or_refused(alloc: Global) -> bool {
-    let Some(value) = parsed(alloc, HELD_TEXT) else {
-        return true;
-    };
-    let outcome: Result<Numbers, JsonError> = set_from_json(alloc, &value);
-    match outcome {
-        Ok(set) => {
-            let same = set_to_json(alloc, &set).map_or(true, |again| again == value);
-            same && set_stores(&set, HELD)
-        }
-        Err(error) => error == JsonError::Memory,
-    }
+fn is_read_and_written<C: Storage<Entry>>(alloc: Global) -> bool {
+    let mut set: RangeSet<i32, C> = RangeSet::new(alloc);
+    is_done_or_refused(alloc, &mut set, HELD_TEXT, HELD)
 }
 
 #[test]
 fn a_set_is_read_and_written_where_memory_is_granted(rt: HostRuntime) {
-    assert!(rt; set_is_done_or_refused(rt.alloc()));
+    assert!(rt; is_read_and_written::<VecStorage<Entry>>(rt.alloc()));
 }
 
-static RANGES: &[(&str, Option<JsonError>)] = &[
-    (r#"["Unbounded",{"Included":3}]"#, None),
-    (r#"[{"Excluded":-3},{"Excluded":3}]"#, None),
-    (r#"["Unbounded"]"#, Some(JsonError::NotRange(0))),
-    (
-        r#"["Unbounded","Unbounded","Unbounded"]"#,
-        Some(JsonError::NotRange(0)),
-    ),
-    (r#"["Unbounded",7]"#, Some(JsonError::NotBound(0))),
-    (r#"["Unbounded",{"Included":0.5}]"#, Some(JsonError::Key(0))),
-];
+impl Told for AnyRange<i32> {
+    fn read(&mut self, alloc: Global, value: &Value) -> Result<(), JsonError> {
+        *self = range_from_json(alloc, value)?;
+        Ok(())
+    }
 
-/// Whether a range is written as it was read, or has that fault.
-fn reads_range(alloc: Global, text: &str, fault: Option<JsonError>) -> Result<bool, AllocError> {
-    let Some(value) = parsed(alloc, text) else {
-        return Ok(false);
-    };
-    let outcome: Result<AnyRange<i32>, JsonError> = range_from_json(alloc, &value);
-    match outcome {
-        Ok(range) => Ok(fault.is_none() && range_to_json(alloc, &range)? == value),
-        Err(error) => Ok(fault == Some(error)),
+    fn write(&self, alloc: Global) -> Result<Value, AllocError> {
+        range_to_json(alloc, self)
+    }
+
+    fn stores(&self, rows: &[Stored]) -> bool {
+        match rows {
+            [row] => has_ends(self, &row.0),
+            _ => false,
+        }
     }
 }
+
+static RANGES: &[Row] = &[
+    (
+        r#"["Unbounded",{"Included":3}]"#,
+        Ok(r#"["Unbounded",{"Included":3}]"#),
+    ),
+    (
+        r#"[{"Excluded":-3},{"Excluded":3}]"#,
+        Ok(r#"[{"Excluded":-3},{"Excluded":3}]"#),
+    ),
+    (r#"["Unbounded"]"#, Err(JsonError::NotRange(0))),
+    (
+        r#"["Unbounded","Unbounded","Unbounded"]"#,
+        Err(JsonError::NotRange(0)),
+    ),
+    (r#"["Unbounded",7]"#, Err(JsonError::NotBound(0))),
+    (r#"["Unbounded",{"Included":0.5}]"#, Err(JsonError::Key(0))),
+];
 
 #[test]
 fn ranges(rt: HostRuntime) -> Result<(), Fail> {
-    for (text, fault) in RANGES {
-        assert!(rt; reads_range(rt.alloc(), text, *fault)?);
-    }
-    Ok(())
+    let mut range: AnyRange<i32> = AnyRange::new(Unbounded, Unbounded);
+    play(&rt, rt.alloc(), &mut range, RANGES)
 }
 
-/// Whether a range is read and written, bounds as they are written, or else an allocation failed;
-/// and is what it was, either way.
-fn range_is_done_or_refused(alloc: Global) -> bool {
-    let Some(value) = parsed(alloc, r#"[{"Excluded":-3},{"Included":3}]"#) else {
-        return true;
-    };
-    let outcome: Result<AnyRange<i32>, JsonError> = range_from_json(alloc, &value);
-    match outcome {
-        Ok(range) => {
-            let same = range_to_json(alloc, &range).map_or(true, |again| again == value);
-            same && has_ends(&range, &(Excluded(-3), Included(3)))
-        }
-        Err(error) => error == JsonError::Memory,
-    }
-}
+const RANGE_TEXT: &str = r#"[{"Excluded":-3},{"Included":3}]"#;
+
+static RANGE: &[Stored] = &[((Excluded(-3), Included(3)), &[])];
 
 #[test]
 fn a_range_is_read_and_written_where_memory_is_granted(rt: HostRuntime) {
-    assert!(rt; range_is_done_or_refused(rt.alloc()));
+    let mut range: AnyRange<i32> = AnyRange::new(Unbounded, Unbounded);
+    assert!(rt; is_done_or_refused(rt.alloc(), &mut range, RANGE_TEXT, RANGE));
 }

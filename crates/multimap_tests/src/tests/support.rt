@@ -1,11 +1,13 @@
 //! Multimaps as tables: rows that call a multimap and look at it, and the player that reads them.
-ghost use Rattle.btree_range_map.specs.Range.{ClonesAreEqual};
+ghost use Rattle.range_algebra.specs.Range.{ClonesAreEqual};
 
-use btree_range_map::btree::BoxStorage;
-use btree_range_map::generic::map::MapError;
-use btree_range_map::generic::multimap::{RangeMultiMap, SetMut};
-use btree_range_map::storage::{Item, Storage, VecStorage};
-use btree_range_map::{AnyRange, Measure};
+use range_algebra::any::AnyRange;
+use range_keys::traits::Measure;
+use range_map::map::MapError;
+use range_sets::multimap::{RangeMultiMap, SetMut};
+use range_store::btree::BoxStorage;
+use range_store::storage::{Item, Storage};
+use range_store::vec_storage::VecStorage;
 use std::alloc::{AllocError, Global};
 use std::collections::{BTreeSet, HashSet};
 use std::ops::Bound;
@@ -15,13 +17,6 @@ use std::test::Fail;
 pub type Vector<K, S> = VecStorage<Item<AnyRange<K>, S>>;
 
 pub type Tree<K, S> = BoxStorage<Item<AnyRange<K>, S>>;
-
-/// What the tables ask of a type of keys.
-pub trait Key: Measure + Copy {}
-
-impl Key for i32 {}
-
-impl Key for char {}
 
 /// A range, by the kind of its bounds.
 pub enum Keys<K> {
@@ -91,39 +86,7 @@ fn is_set_of<S: SetMut<i32>>(alloc: Global, set: &S, values: Values) -> Result<b
     Ok(*set == other)
 }
 
-pub fn insert<K: Key, S: SetMut<i32>, C: Storage<Item<AnyRange<K>, S>>>(
-    map: &mut RangeMultiMap<K, S, C>,
-    keys: Keys<K>,
-    value: i32,
-) -> Result<(), MapError>
-    requires { ClonesAreEqual K.is_clone K.eq }
-{
-    map.insert(range_of(keys), value)
-}
-
-pub fn remove<K: Key, S: SetMut<i32>, C: Storage<Item<AnyRange<K>, S>>>(
-    map: &mut RangeMultiMap<K, S, C>,
-    keys: Keys<K>,
-    value: i32,
-) -> Result<(), MapError>
-    requires { ClonesAreEqual K.is_clone K.eq }
-{
-    map.remove(range_of(keys), &value)
-}
-
-fn has<K: Key, S: SetMut<i32>, C: Storage<Item<AnyRange<K>, S>>>(
-    alloc: Global,
-    map: &RangeMultiMap<K, S, C>,
-    key: K,
-    values: Values,
-) -> Result<bool, AllocError> {
-    match map.get(key) {
-        None => Ok(matches!(values, Values::None)),
-        Some(set) => is_set_of(alloc, set, values),
-    }
-}
-
-fn is_row<K: Key, S: SetMut<i32>>(
+fn is_row<K: Measure + Copy, S: SetMut<i32>>(
     alloc: Global,
     range: &AnyRange<K>,
     set: &S,
@@ -133,67 +96,113 @@ fn is_row<K: Key, S: SetMut<i32>>(
     Ok(*range == range_of(Keys::Closed(first, last)) && is_set_of(alloc, set, values)?)
 }
 
-pub fn stores<K: Key, S: SetMut<i32>, C: Storage<Item<AnyRange<K>, S>>>(
-    alloc: Global,
-    map: &RangeMultiMap<K, S, C>,
-    rows: &[Row<K>],
-) -> Result<bool, AllocError> {
-    let mut items = map.iter();
-    for row in rows {
-        match items.next() {
-            None => return Ok(false),
-            Some((range, set)) => {
-                if !is_row(alloc, range, set, row)? {
-                    return Ok(false);
-                }
-            }
-        }
-    }
-    Ok(items.next().is_none())
+/// A multimap over some container, with sets of some type.
+pub trait Played<K: Copy + PartialEq> {
+    fn insert(&mut self, keys: Keys<K>, value: i32) -> Result<(), MapError>
+        requires { ClonesAreEqual K.is_clone K.eq };
+
+    fn remove(&mut self, keys: Keys<K>, value: i32) -> Result<(), MapError>
+        requires { ClonesAreEqual K.is_clone K.eq };
+
+    /// Whether the key has just these values, and no set where there are none.
+    fn has(&self, alloc: Global, key: K, values: Values) -> Result<bool, AllocError>;
+
+    fn has_value(&self, key: K, value: i32) -> bool;
+
+    /// How many ranges are stored.
+    fn has_count(&self, count: usize) -> bool;
+
+    /// Whether just these ranges and values are stored.
+    fn stores(&self, alloc: Global, rows: &[Row<K>]) -> Result<bool, AllocError>;
 }
 
-fn has_counts<K: Key, S: SetMut<i32>, C: Storage<Item<AnyRange<K>, S>>>(
-    map: &RangeMultiMap<K, S, C>,
-    count: usize,
-) -> bool {
-    map.range_count() == count && map.is_empty() == (count == 0)
+impl<K: Measure + Copy, S: SetMut<i32>, C: Storage<Item<AnyRange<K>, S>>> Played<K>
+    for RangeMultiMap<K, S, C> {
+    fn insert(&mut self, keys: Keys<K>, value: i32) -> Result<(), MapError>
+        requires { ClonesAreEqual K.is_clone K.eq }
+    {
+        RangeMultiMap::insert(self, range_of(keys), value)
+    }
+
+    fn remove(&mut self, keys: Keys<K>, value: i32) -> Result<(), MapError>
+        requires { ClonesAreEqual K.is_clone K.eq }
+    {
+        RangeMultiMap::remove(self, range_of(keys), &value)
+    }
+
+    fn has(&self, alloc: Global, key: K, values: Values) -> Result<bool, AllocError> {
+        match self.get(key) {
+            None => Ok(matches!(values, Values::None)),
+            Some(set) => is_set_of(alloc, set, values),
+        }
+    }
+
+    fn has_value(&self, key: K, value: i32) -> bool {
+        self.contains(key, &value)
+    }
+
+    fn has_count(&self, count: usize) -> bool {
+        self.range_count() == count && self.is_empty() == (count == 0)
+    }
+
+    fn stores(&self, alloc: Global, rows: &[Row<K>]) -> Result<bool, AllocError> {
+        let mut items = self.iter();
+        for row in rows {
+            match items.next() {
+                Some((range, set)) if is_row(alloc, range, set, row)? => (),
+                _ => return Ok(false),
+            }
+        }
+        Ok(items.next().is_none())
+    }
 }
 
 /// Makes the call, or tells whether what has to hold does.
-fn goes<K: Key, S: SetMut<i32>, C: Storage<Item<AnyRange<K>, S>>>(
+fn goes<K: Copy + PartialEq, M: Played<K>>(
     alloc: Global,
-    map: &mut RangeMultiMap<K, S, C>,
+    map: &mut M,
     step: &Step<'_, K>,
 ) -> Result<bool, MapError>
     requires { ClonesAreEqual K.is_clone K.eq }
 {
     match step {
-        Step::Insert(keys, value) => Ok(insert(map, *keys, *value)? == ()),
-        Step::Remove(keys, value) => Ok(remove(map, *keys, *value)? == ()),
-        Step::Has(key, values) => Ok(has(alloc, map, *key, *values)?),
-        Step::Contains(key, value, held) => Ok(map.contains(*key, value) == *held),
-        Step::Stores(rows) => Ok(has_counts(map, rows.len()) && stores(alloc, map, rows)?),
+        Step::Insert(keys, value) => Ok(map.insert(*keys, *value)? == ()),
+        Step::Remove(keys, value) => Ok(map.remove(*keys, *value)? == ()),
+        Step::Has(key, values) => Ok(map.has(alloc, *key, *values)?),
+        Step::Contains(key, value, held) => Ok(map.has_value(*key, *value) == *held),
+        Step::Stores(rows) => Ok(map.has_count(rows.len()) && map.stores(alloc, rows)?),
     }
 }
 
 /// The index of the first step that does not hold, or the number of steps.
-fn play<K: Key, S: SetMut<i32>, C: Storage<Item<AnyRange<K>, S>>>(
+fn run<K: Copy + PartialEq, M: Played<K>>(
     alloc: Global,
+    map: &mut M,
     steps: &[Step<'_, K>],
 ) -> Result<usize, MapError>
     requires { ClonesAreEqual K.is_clone K.eq }
 {
-    let mut map: RangeMultiMap<K, S, C> = RangeMultiMap::default(alloc);
     for (place, step) in steps.iter().enumerate() {
-        if !goes(alloc, &mut map, step)? {
+        if !goes(alloc, map, step)? {
             return Ok(place);
         }
     }
     Ok(steps.len())
 }
 
+/// What `run` tells of a new multimap.
+fn play<K: Measure + Copy, S: SetMut<i32>, C: Storage<Item<AnyRange<K>, S>>>(
+    alloc: Global,
+    steps: &[Step<'_, K>],
+) -> Result<usize, MapError>
+    requires { ClonesAreEqual K.is_clone K.eq }
+{
+    let mut map: RangeMultiMap<K, S, C> = RangeMultiMap::default(alloc);
+    run(alloc, &mut map, steps)
+}
+
 /// What `play` tells over a vector and over a tree.
-fn play_both<K: Key, S: SetMut<i32>>(
+fn play_both<K: Measure + Copy, S: SetMut<i32>>(
     alloc: Global,
     steps: &[Step<'_, K>],
 ) -> Result<(usize, usize), MapError>
@@ -205,11 +214,20 @@ fn play_both<K: Key, S: SetMut<i32>>(
 }
 
 /// Passes where every step holds, over either container and either type of sets.
-pub fn plays<K: Key>(rt: &impl Abort, alloc: Global, steps: &[Step<'_, K>]) -> Result<(), Fail>
+pub fn plays<K: Measure + Copy>(
+    rt: &impl Abort,
+    alloc: Global,
+    steps: &[Step<'_, K>],
+) -> Result<(), Fail>
     requires { ClonesAreEqual K.is_clone K.eq }
 {
     let all = (steps.len(), steps.len());
     assert_eq!(rt; play_both::<K, BTreeSet<i32>>(alloc, steps)?, all);
     assert_eq!(rt; play_both::<K, HashSet<i32>>(alloc, steps)?, all);
     Ok(())
+}
+
+/// What `plays` does, of numbers.
+pub fn plays_numbers(rt: &impl Abort, alloc: Global, steps: &[Step<'_, i32>]) -> Result<(), Fail> {
+    plays(rt, alloc, steps)
 }

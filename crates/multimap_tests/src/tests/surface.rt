@@ -2,72 +2,92 @@
 
 use crate::tests::support::Keys::{Alone, Closed, HalfOpen};
 use crate::tests::support::Values::{One, Two};
-use crate::tests::support::{Keys, Row, Tree, Vector, insert, remove, stores};
-use btree_range_map::generic::map::MapError;
-use btree_range_map::generic::multimap::{self, SetMut};
-use btree_range_map::storage::{Item, Storage};
-use btree_range_map::{AnyRange, RangeMultiMap};
-use std::alloc::Global;
+use crate::tests::support::{Played, Row, Tree, Vector};
+use range_algebra::any::AnyRange;
+use range_map::map::MapError;
+use range_sets::multimap::{RangeMultiMap, SetMut};
+use range_store::storage::{Item, Storage};
+use std::alloc::{AllocError, Global};
 use std::collections::{BTreeSet, HashSet};
+use std::fmt::Debug;
 use std::test::Fail;
 
 type Numbers = BTreeSet<i32>;
 
-type InTree = RangeMultiMap<i32, Numbers>;
+type InTree = RangeMultiMap<i32, Numbers, Tree<i32, Numbers>>;
 
-type InVector = multimap::RangeMultiMap<i32, Numbers, Vector<i32, Numbers>>;
+type InVector = RangeMultiMap<i32, Numbers, Vector<i32, Numbers>>;
 
 static TWO_RANGES: &[Row<i32>] = &[(0, 4, One(1)), (5, 9, Two(1, 2))];
 
 static ONE_RANGE: &[Row<i32>] = &[(0, 9, One(1))];
 
-/// Adds 1 to the keys from 0 to 9, and 2 to those from 5 on.
-fn fill<S: SetMut<i32>, C: Storage<Item<AnyRange<i32>, S>>>(
-    map: &mut multimap::RangeMultiMap<i32, S, C>,
-) -> Result<(), MapError> {
-    map.insert(0..10, 1)?;
-    map.insert(5..=9, 2)
+/// A multimap of numbers.
+trait Filled: Played<i32> {
+    /// Adds 1 to the keys from 0 to 9, and 2 to those from 5 on.
+    fn fill(&mut self) -> Result<(), MapError>;
 }
 
-/// Whether a copy equals the multimap, and stays as it is while the multimap is changed.
+impl<S: SetMut<i32>, C: Storage<Item<AnyRange<i32>, S>>> Filled for RangeMultiMap<i32, S, C> {
+    fn fill(&mut self) -> Result<(), MapError> {
+        RangeMultiMap::insert(self, 0..10, 1)?;
+        RangeMultiMap::insert(self, 5..=9, 2)
+    }
+}
+
+/// Whether the copy is an equal one, and stays as it is while the multimap is changed.
+fn stays<M: Filled + Eq>(alloc: Global, map: &mut M, copy: &M) -> Result<bool, MapError> {
+    let equal = *copy == *map;
+    map.remove(Closed(5, 9), 2)?;
+    let kept = copy.stores(alloc, TWO_RANGES)? && map.stores(alloc, ONE_RANGE)?;
+    Ok(equal && kept && *copy != *map)
+}
+
 fn is_copied(alloc: Global, map: &mut InTree) -> Result<bool, MapError> {
+    map.fill()?;
     let copy = map.clone()?;
-    let equal = copy == *map;
-    remove(map, Closed(5, 9), 2)?;
-    let kept = stores(alloc, &copy, TWO_RANGES)?;
-    Ok(equal && kept && copy != *map && stores(alloc, map, ONE_RANGE)?)
+    stays(alloc, map, &copy)
 }
 
 #[test]
 fn a_copy_stays_as_it_is(rt: HostRuntime) -> Result<(), Fail> {
     let mut map: InTree = RangeMultiMap::new(rt.alloc());
-    fill(&mut map)?;
     assert!(rt; is_copied(rt.alloc(), &mut map)?);
     Ok(())
 }
 
-fn are_equal(map: &InTree, other: &InVector) -> bool {
-    map.eq_across(other) && other.eq_across(map)
+/// A multimap that is compared with one over another container.
+trait Across<M>: Filled {
+    fn equals_across(&self, other: &M) -> bool;
+}
+
+impl<C: Storage<Item<AnyRange<i32>, Numbers>>, D: Storage<Item<AnyRange<i32>, Numbers>>> Across<
+    RangeMultiMap<i32, Numbers, D>,
+> for RangeMultiMap<i32, Numbers, C> {
+    fn equals_across(&self, other: &RangeMultiMap<i32, Numbers, D>) -> bool {
+        self.eq_across(other)
+    }
 }
 
 /// Whether the two are equal once filled alike, and no more once one has a value more.
-fn compare(map: &mut InTree, other: &mut InVector) -> Result<bool, MapError> {
-    fill(map)?;
-    fill(other)?;
-    let equal = are_equal(map, other);
-    insert(map, Alone(9), 3)?;
-    Ok(equal && !are_equal(map, other))
+fn compare<M: Across<O>, O: Across<M>>(map: &mut M, other: &mut O) -> Result<bool, MapError> {
+    map.fill()?;
+    other.fill()?;
+    let equal = map.equals_across(other) && other.equals_across(map);
+    map.insert(Alone(9), 3)?;
+    Ok(equal && !map.equals_across(other) && !other.equals_across(map))
 }
 
 #[test]
 fn multimaps_compare_across_containers(rt: HostRuntime) -> Result<(), Fail> {
     let mut map: InTree = RangeMultiMap::new(rt.alloc());
-    let mut other: InVector = multimap::RangeMultiMap::new(rt.alloc());
+    let mut other: InVector = RangeMultiMap::new(rt.alloc());
     assert!(rt; compare(&mut map, &mut other)?);
     Ok(())
 }
 
-fn shows(alloc: Global, map: &InTree, text: &str) -> Result<bool, MapError> {
+fn shows<M: Debug + Filled>(alloc: Global, map: &mut M, text: &str) -> Result<bool, MapError> {
+    map.fill()?;
     let shown = format!(in alloc; "{map:?}")?;
     Ok(shown.as_str() == text)
 }
@@ -75,8 +95,7 @@ fn shows(alloc: Global, map: &InTree, text: &str) -> Result<bool, MapError> {
 #[test]
 fn a_multimap_is_shown(rt: HostRuntime) -> Result<(), Fail> {
     let mut map: InTree = RangeMultiMap::new(rt.alloc());
-    fill(&mut map)?;
-    assert!(rt; shows(rt.alloc(), &map, "{0..5=>{1}5..=9=>{1, 2}}")?);
+    assert!(rt; shows(rt.alloc(), &mut map, "{0..5=>{1}5..=9=>{1, 2}}")?);
     Ok(())
 }
 
@@ -92,51 +111,56 @@ fn values_stored(map: &InTree) -> usize {
 #[test]
 fn a_multimap_is_walked(rt: HostRuntime) -> Result<(), Fail> {
     let mut map: InTree = RangeMultiMap::new(rt.alloc());
-    fill(&mut map)?;
+    map.fill()?;
     assert_eq!(rt; values_stored(&map), 3);
     Ok(())
 }
 
-/// A call on the keys from 3 to 7.
-#[derive(Clone, Copy)]
-enum Change {
-    Insert,
-    Remove,
-}
-
-/// Makes the call on a multimap filled before; whether it is done, or else nothing is changed.
-fn is_done_or_refused<S: SetMut<i32>, C: Storage<Item<AnyRange<i32>, S>>>(
+/// Whether the call was done, so that these rows are stored, or else nothing was changed.
+fn is_done_or_refused<M: Played<i32>>(
     alloc: Global,
-    map: &mut multimap::RangeMultiMap<i32, S, C>,
-    change: Change,
-) -> Result<bool, MapError> {
-    fill(map)?;
-    let keys: Keys<i32> = HalfOpen(3, 8);
-    let (changed, done): (Result<(), MapError>, &[Row<i32>]) = match change {
-        Change::Insert => (insert(map, keys, 2), &[(0, 2, One(1)), (3, 9, Two(1, 2))]),
-        Change::Remove => (
-            remove(map, keys, 1),
-            &[(0, 2, One(1)), (5, 7, One(2)), (8, 9, Two(1, 2))],
-        ),
-    };
+    map: &M,
+    changed: Result<(), MapError>,
+    done: &[Row<i32>],
+) -> Result<bool, AllocError> {
     match changed {
-        Ok(()) => Ok(stores(alloc, map, done)?),
-        Err(MapError::Memory) => Ok(stores(alloc, map, TWO_RANGES)?),
+        Ok(()) => map.stores(alloc, done),
+        Err(MapError::Memory) => map.stores(alloc, TWO_RANGES),
     }
 }
 
-/// Whether both calls are done or change nothing, as far as there is memory to see it.
-fn are_done_or_refused<S: SetMut<i32>, C: Storage<Item<AnyRange<i32>, S>>>(alloc: Global) -> bool {
-    let mut map: multimap::RangeMultiMap<i32, S, C> = multimap::RangeMultiMap::new(alloc);
-    let inserted = is_done_or_refused(alloc, &mut map, Change::Insert).unwrap_or(true);
-    let mut map: multimap::RangeMultiMap<i32, S, C> = multimap::RangeMultiMap::new(alloc);
-    inserted && is_done_or_refused(alloc, &mut map, Change::Remove).unwrap_or(true)
+fn inserts_or_keeps<M: Filled>(alloc: Global, map: &mut M) -> Result<bool, MapError> {
+    map.fill()?;
+    let changed = map.insert(HalfOpen(3, 8), 2);
+    let done = &[(0, 2, One(1)), (3, 9, Two(1, 2))];
+    Ok(is_done_or_refused(alloc, map, changed, done)?)
+}
+
+fn removes_or_keeps<M: Filled>(alloc: Global, map: &mut M) -> Result<bool, MapError> {
+    map.fill()?;
+    let changed = map.remove(HalfOpen(3, 8), 1);
+    let done = &[(0, 2, One(1)), (5, 7, One(2)), (8, 9, Two(1, 2))];
+    Ok(is_done_or_refused(alloc, map, changed, done)?)
+}
+
+/// Whether both calls, each on a multimap of its own, are done or change nothing, as far as there
+/// is memory to see it.
+fn are_done_or_refused<M: Filled>(alloc: Global, map: &mut M, other: &mut M) -> bool {
+    inserts_or_keeps(alloc, map).unwrap_or(true) && removes_or_keeps(alloc, other).unwrap_or(true)
+}
+
+fn both_are_done_or_refused<S: SetMut<i32>, C: Storage<Item<AnyRange<i32>, S>>>(
+    alloc: Global,
+) -> bool {
+    let mut map: RangeMultiMap<i32, S, C> = RangeMultiMap::new(alloc);
+    let mut other: RangeMultiMap<i32, S, C> = RangeMultiMap::new(alloc);
+    are_done_or_refused(alloc, &mut map, &mut other)
 }
 
 #[test]
 fn a_refused_call_changes_nothing(rt: HostRuntime) {
     let alloc = rt.alloc();
-    assert!(rt; are_done_or_refused::<Numbers, Tree<i32, Numbers>>(alloc));
-    assert!(rt; are_done_or_refused::<Numbers, Vector<i32, Numbers>>(alloc));
-    assert!(rt; are_done_or_refused::<HashSet<i32>, Tree<i32, HashSet<i32>>>(alloc));
+    assert!(rt; both_are_done_or_refused::<Numbers, Tree<i32, Numbers>>(alloc));
+    assert!(rt; both_are_done_or_refused::<Numbers, Vector<i32, Numbers>>(alloc));
+    assert!(rt; both_are_done_or_refused::<HashSet<i32>, Tree<i32, HashSet<i32>>>(alloc));
 }
