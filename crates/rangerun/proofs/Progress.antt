@@ -6,6 +6,7 @@ use Rattle.std.specs.Io.BufRead.{first_line, drop_through, take_through}
 use Rattle.std.specs.Str.{IsUtf8}
 use Rattle.serde_json.specs.Data.{Data}
 use Rattle.btree_range_map.specs.AnyRange.{AnyRange}
+use Rattle.btree_range_map.specs.Depth.{HasLevels}
 use Rattle.btree_range_map.specs.Item.{Item}
 use Rattle.btree_range_map.specs.Order.{KeyOrder}
 use Rattle.rangerun.specs.declared.command_line.CommandLine.{CommandLine}
@@ -82,10 +83,10 @@ module _ {K : Type 0} (order : KeyOrder K) (as_number : K → ℤ) (shape : K �
   reads_line line (Some known) found none = found
 
   -- a line that loads no text is answered as its command is
-  pub answers_known : (items next : List (Item (AnyRange K) ℤ)) (line : List ℕ) (command : Option (CommandLine K)) (before now : Option (List ℕ))
+  pub answers_known : (items next : List (Item (AnyRange K) ℤ)) (levels : ℕ) (line : List ℕ) (command : Option (CommandLine K)) (before now : Option (List ℕ))
       → ((json : List ℕ) → line ≢ load_line json) → IsRead order as_number shape reads is_read line command
-      → Writes before now (λ text. Answers order as_number shape reads is_read items command text next) → Writes before now (λ text. AnswersLine order as_number shape reads is_read items line text next)
-  answers_known items next line command before now none read (text, answer, more) = (text, inr (none, command, read, answer), more)
+      → Writes before now (λ text. Answers order as_number shape reads is_read items levels command text next) → Writes before now (λ text. AnswersLine order as_number shape reads is_read items levels line text next)
+  answers_known items next levels line command before now none read (text, answer, more) = (text, inr (none, command, read, answer), more)
 
   -- the lines of the input before those that are left are answered
   pub record HasAnswered (input : List ℕ) (left before now : Option (List ℕ)) (items : List (Item (AnyRange K) ℤ)) : Type 0 where
@@ -105,16 +106,16 @@ module _ {K : Type 0} (order : KeyOrder K) (as_number : K → ℤ) (shape : K �
     goes_on = λ more rest held. subst (λ list. Conversation order as_number shape reads is_read list bytes more rest) empty held;
   }
 
-  pub answered_more : (input : List ℕ) (left later before now next : Option (List ℕ)) (items changed : List (Item (AnyRange K) ℤ)) (line : List ℕ)
+  pub answered_more : (input : List ℕ) (left later before now next : Option (List ℕ)) (items changed : List (Item (AnyRange K) ℤ)) (levels : ℕ) (line : List ℕ)
       → (answered : HasAnswered input left before now items) → answered.remaining ≢ [] → later ≡ Some (drop_through 10 answered.remaining) → line ≡ first_line answered.remaining
-      → IsUtf8 line → Writes now next (λ text. AnswersLine order as_number shape reads is_read items line text changed) → HasAnswered input later before next changed
-  answered_more input left later before now next items changed line answered some later_is line_is is_text (text, answer, more) = record {
+      → IsUtf8 line → HasLevels (length items) levels → Writes now next (λ text. AnswersLine order as_number shape reads is_read items levels line text changed) → HasAnswered input later before next changed
+  answered_more input left later before now next items changed levels line answered some later_is line_is is_text may_have (text, answer, more) = record {
     remaining = drop_through 10 answered.remaining;
     left_is = later_is;
     written = answered.written ++ text;
     appended = appends_then before now next answered.written text answered.appended more;
     goes_on = λ others rest held. subst (λ all. Conversation order as_number shape reads is_read [] input all rest) (sym (append_assoc answered.written text others))
-        (answered.goes_on (text ++ others) rest (Answered items changed answered.remaining (text ++ others) text others rest some (subst IsUtf8 line_is is_text) (subst (λ l. AnswersLine order as_number shape reads is_read items l text changed) line_is answer) held refl));
+        (answered.goes_on (text ++ others) rest (Answered items changed levels answered.remaining (text ++ others) text others rest some (subst IsUtf8 line_is is_text) may_have (subst (λ l. AnswersLine order as_number shape reads is_read items levels l text changed) line_is answer) held refl));
   }
 
   -- what is written answers the lines before those that are left

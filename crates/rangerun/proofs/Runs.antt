@@ -35,16 +35,16 @@ module _ {K : Type 0} (order : KeyOrder K) (as_number : K → ℤ) (shape : K �
   unchanged_list_keeps_chain : (done : Commands K) (items next : List (Item (AnyRange K) ℤ)) → next ≡ items → IsChain done items → IsChain done next
   unchanged_list_keeps_chain done items next same chain = rw same chain
 
-  chain_after : (done : Commands K) (items : List (Item (AnyRange K) ℤ)) (line answer : List ℕ) (next : List (Item (AnyRange K) ℤ)) (said : AnswersLine order as_number shape reads is_read items line answer next) → IsChain done items → IsChain (with_line order as_number shape reads is_read done items line answer next said) next
-  chain_after done items line answer next (inl (json, is, inl loaded)) chain = refl
-  chain_after done items line answer next (inl (json, is, inr (cause, why, text_is, same))) chain = unchanged_list_keeps_chain done items next same chain
-  chain_after done items line answer next (inr (none, None, read, (text_is, same))) chain = unchanged_list_keeps_chain done items next same chain
-  chain_after done items line answer next (inr (none, Some Show, read, (text_is, same))) chain = unchanged_list_keeps_chain done items next same chain
-  chain_after done items line answer next (inr (none, Some Gaps, read, (text_is, same))) chain = unchanged_list_keeps_chain done items next same chain
-  chain_after done items line answer next (inr (none, Some Len, read, (text_is, same))) chain = unchanged_list_keeps_chain done items next same chain
-  chain_after done items line answer next (inr (none, Some Levels, read, (text_is, same))) chain = unchanged_list_keeps_chain done items next same chain
-  chain_after done items line answer next (inr (none, Some Save, read, (text_is, same))) chain = unchanged_list_keeps_chain done items next same chain
-  chain_after done items line answer next (inr (none, Some (Run command), read, (reply, step, text_is))) chain = one_more order done.first items next done.commands done.replies command reply chain step
+  chain_after : (done : Commands K) (items : List (Item (AnyRange K) ℤ)) (levels : ℕ) (line answer : List ℕ) (next : List (Item (AnyRange K) ℤ)) (said : AnswersLine order as_number shape reads is_read items levels line answer next) → IsChain done items → IsChain (with_line order as_number shape reads is_read done items levels line answer next said) next
+  chain_after done items levels line answer next (inl (json, is, inl loaded)) chain = refl
+  chain_after done items levels line answer next (inl (json, is, inr (cause, why, text_is, same))) chain = unchanged_list_keeps_chain done items next same chain
+  chain_after done items levels line answer next (inr (none, None, read, (text_is, same))) chain = unchanged_list_keeps_chain done items next same chain
+  chain_after done items levels line answer next (inr (none, Some Show, read, (text_is, same))) chain = unchanged_list_keeps_chain done items next same chain
+  chain_after done items levels line answer next (inr (none, Some Gaps, read, (text_is, same))) chain = unchanged_list_keeps_chain done items next same chain
+  chain_after done items levels line answer next (inr (none, Some Len, read, (text_is, same))) chain = unchanged_list_keeps_chain done items next same chain
+  chain_after done items levels line answer next (inr (none, Some Levels, read, (text_is, same))) chain = unchanged_list_keeps_chain done items next same chain
+  chain_after done items levels line answer next (inr (none, Some Save, read, (text_is, same))) chain = unchanged_list_keeps_chain done items next same chain
+  chain_after done items levels line answer next (inr (none, Some (Run command), read, (reply, step, text_is))) chain = one_more order done.first items next done.commands done.replies command reply chain step
 
   module _ (lawful : IsLawful order) where
     one_run : (done : Commands K) (items : List (Item (AnyRange K) ℤ)) → IsChain done items → AreOneRun order done items
@@ -55,8 +55,8 @@ module _ {K : Type 0} (order : KeyOrder K) (as_number : K → ℤ) (shape : K �
 
     conversation_is_runs : (done : Commands K) (items : List (Item (AnyRange K) ℤ)) (input text rest : List ℕ) → IsChain done items → (talk : Conversation order as_number shape reads is_read items input text rest) → AreRuns order as_number shape reads is_read done items input text rest talk
     conversation_is_runs done items input text rest chain (Ended _ _) = one_run done items chain
-    conversation_is_runs done items input text rest chain (Answered _ next _ _ answer more _ some is_text said talk is) =
-        (one_run done items chain, conversation_is_runs (with_line order as_number shape reads is_read done items (first_line input) answer next said) next (drop_through 10 input) more rest (chain_after done items (first_line input) answer next said chain) talk)
+    conversation_is_runs done items input text rest chain (Answered _ next levels _ _ answer more _ some is_text may_have said talk is) =
+        (one_run done items chain, conversation_is_runs (with_line order as_number shape reads is_read done items levels (first_line input) answer next said) next (drop_through 10 input) more rest (chain_after done items levels (first_line input) answer next said chain) talk)
 
     -- so what answers known input answers it by runs
     pub answers_runs : (input before after : Option (List ℕ)) (rest : List ℕ) → IfSome input (λ bytes. Writes before after (λ text. Conversation order as_number shape reads is_read [] bytes text rest))

@@ -5,7 +5,7 @@ ghost use Rattle.std.specs.Option.{option_copied};
 ghost use Rattle.rangerun.specs.Tags.{answer_of};
 
 /// What an update is to do.
-#[derive(Drop)]
+#[derive(Clone, Copy)]
 pub enum Tag {
     /// Binds every piece to the value.
     Set(i64),
