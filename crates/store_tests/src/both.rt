@@ -1,6 +1,8 @@
 //! A tree and a vector that get the same calls.
 
-use crate::calls::{Answer, Call, exchanges, first_difference, play};
+use crate::calls::{
+    Answer, Call, drain, exchanges, fill, first_difference, moves, play, reserves_once,
+};
 use range_store::btree::BoxStorage;
 use range_store::storage::Storage;
 use range_store::vec_storage::VecStorage;
@@ -62,6 +64,41 @@ pub fn exchange_in_tree(tree: &mut Tree, times: usize) -> Result<(), AllocError>
 
 pub fn exchange_in_list(list: &mut List, times: usize) -> Result<(), AllocError> {
     exchanges(list, times)
+}
+
+/// A tree that had so many items and has the first few of them.
+pub fn shrunk_tree(alloc: Global, many: u64, few: usize) -> Result<Tree, AllocError> {
+    let mut tree = new_tree(alloc);
+    fill(&mut tree, many)?;
+    drain(&mut tree, few);
+    Ok(tree)
+}
+
+/// A vector of so many items.
+pub fn list_of(alloc: Global, many: u64) -> Result<List, AllocError> {
+    let mut list = new_list(alloc);
+    fill(&mut list, many)?;
+    Ok(list)
+}
+
+pub fn move_in_both(both: &mut Both, times: usize) {
+    moves(&mut both.tree, times);
+    moves(&mut both.list, times);
+}
+
+/// Both have room for so many items once they reserved it.
+pub fn expect_room(rt: &impl Abort, both: &mut Both, n: usize) -> Result<(), AllocError> {
+    let tree = reserves_once(&mut both.tree, n)?;
+    let list = reserves_once(&mut both.list, n)?;
+    assert!(rt; tree && list, "at {n}: {tree}, {list}");
+    Ok(())
+}
+
+/// Neither has room for so many items.
+pub fn expect_no_room(rt: &impl Abort, both: &mut Both, n: usize) {
+    let tree = both.tree.reserve(n).is_err();
+    let list = both.list.reserve(n).is_err();
+    assert!(rt; tree && list, "at {n}: {tree}, {list}");
 }
 
 /// The tree holds so many items, on so many levels.

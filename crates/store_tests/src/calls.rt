@@ -1,6 +1,5 @@
 //! Calls on a container, which name their items by rank.
 
-ghost use Rattle.std.specs.Prelude.{◌+◌, ◌≤◌};
 ghost use Rattle.std.specs.Option.{ForSome};
 
 use range_store::storage::Storage;
@@ -115,10 +114,7 @@ pub fn play<C: Storage<u64>>(storage: &mut C, call: Call) -> Result<Answer, Allo
 }
 
 // Takes the item of a rank out and puts it before all others. Allocates nothing.
-fn exchange<C: Storage<u64>>(storage: &mut C, rank: usize)
-    requires { 1 ≤ C.room storage.old }
-    ensures { C.room storage.old ≤ C.room storage.new + 1 }
-{
+fn exchange<C: Storage<u64>>(storage: &mut C, rank: usize) {
     if let Some(p) = nth(storage, rank) {
         let (item, _) = storage.remove_at(p);
         let first = storage.first();
@@ -133,6 +129,60 @@ pub fn exchanges<C: Storage<u64>>(storage: &mut C, times: usize) -> Result<(), A
         exchange(storage, turn.wrapping_mul(37) % 400);
     }
     Ok(())
+}
+
+// Takes the first item out and puts it after all others. Allocates nothing.
+fn first_to_last<C: Storage<u64>>(storage: &mut C) {
+    if let Some(item) = storage.pop_first() {
+        storage.insert_at(None, item);
+    }
+}
+
+// Takes the last item out and puts it before all others. Allocates nothing.
+fn last_to_first<C: Storage<u64>>(storage: &mut C) {
+    if let Some(item) = storage.pop_last() {
+        let first = storage.first();
+        storage.insert_at(first, item);
+    }
+}
+
+/// Takes an item out and puts it elsewhere, so many times. Makes no capacity: what was taken out
+/// leaves room.
+pub fn moves<C: Storage<u64>>(storage: &mut C, times: usize) {
+    for turn in 0..times {
+        match turn % 3 {
+            0 => exchange(storage, turn.wrapping_mul(37) % 400),
+            1 => first_to_last(storage),
+            _ => last_to_first(storage),
+        }
+    }
+}
+
+/// Puts so many items after all others.
+pub fn fill<C: Storage<u64>>(storage: &mut C, many: u64) -> Result<(), AllocError> {
+    for item in 0..many {
+        if storage.reserve(1).is_err() {
+            storage.reserve(1)?;
+        }
+        storage.insert_at(None, item);
+    }
+    Ok(())
+}
+
+/// Takes items out at the end until so few are left.
+pub fn drain<C: Storage<u64>>(storage: &mut C, few: usize) {
+    for _ in few..storage.len() {
+        let _last = storage.pop_last();
+    }
+}
+
+/// Makes capacity for so many items, again where an allocation fails. Tells whether there is room
+/// for them then without a further allocation.
+pub fn reserves_once<C: Storage<u64>>(storage: &mut C, n: usize) -> Result<bool, AllocError> {
+    if storage.reserve(n).is_err() {
+        storage.reserve(n)?;
+    }
+    Ok(storage.reserve(n).is_ok())
 }
 
 // The item at a position, if there is one.

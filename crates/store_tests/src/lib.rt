@@ -8,6 +8,8 @@ mod calls;
 #[cfg(test)]
 mod containers;
 #[cfg(test)]
+mod copies;
+#[cfg(test)]
 mod runs;
 #[cfg(test)]
 mod searching;

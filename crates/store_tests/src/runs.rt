@@ -1,7 +1,8 @@
 //! Long runs of insertions and removals at ranks.
 
 use crate::both::{
-    Both, exchange_in_list, exchange_in_tree, expect_levels, expect_same, len, new_both, play_both,
+    Both, exchange_in_list, exchange_in_tree, expect_levels, expect_same, len, move_in_both,
+    new_both, play_both,
 };
 use crate::calls::Call;
 use std::alloc::AllocError;
@@ -57,6 +58,20 @@ fn many_exchanges(rt: &impl Abort, both: &mut Both) -> Result<(), AllocError> {
 fn exchanges(rt: HostRuntime) -> Result<(), AllocError> {
     let mut both = new_both(rt.alloc());
     many_exchanges(&rt, &mut both)
+}
+
+fn many_moves(rt: &impl Abort, both: &mut Both) -> Result<(), AllocError> {
+    put_behind(rt, both)?;
+    move_in_both(both, 600);
+    assert!(rt; len(both) == 400);
+    expect_same(rt, &both.tree, &both.list);
+    Ok(())
+}
+
+#[test]
+fn moves(rt: HostRuntime) -> Result<(), AllocError> {
+    let mut both = new_both(rt.alloc());
+    many_moves(&rt, &mut both)
 }
 
 /// The call of a step, from a drawn number: more insertions in the first half, more removals then.
