@@ -1,8 +1,6 @@
 //! A tree and a vector that get the same calls.
 
-use crate::calls::{
-    Answer, Call, drain, exchanges, fill, first_difference, moves, play, reserves_once,
-};
+use crate::calls::{Answer, Call, drain, exchanges, fill, first_difference, moves, play};
 use range_store::btree::BoxStorage;
 use range_store::storage::Storage;
 use range_store::vec_storage::VecStorage;
@@ -84,21 +82,6 @@ pub fn list_of(alloc: Global, many: u64) -> Result<List, AllocError> {
 pub fn move_in_both(both: &mut Both, times: usize) {
     moves(&mut both.tree, times);
     moves(&mut both.list, times);
-}
-
-/// Both have room for so many items once they reserved it.
-pub fn expect_room(rt: &impl Abort, both: &mut Both, n: usize) -> Result<(), AllocError> {
-    let tree = reserves_once(&mut both.tree, n)?;
-    let list = reserves_once(&mut both.list, n)?;
-    assert!(rt; tree && list, "at {n}: {tree}, {list}");
-    Ok(())
-}
-
-/// Neither has room for so many items.
-pub fn expect_no_room(rt: &impl Abort, both: &mut Both, n: usize) {
-    let tree = both.tree.reserve(n).is_err();
-    let list = both.list.reserve(n).is_err();
-    assert!(rt; tree && list, "at {n}: {tree}, {list}");
 }
 
 /// The tree holds so many items, on so many levels.

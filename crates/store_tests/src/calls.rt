@@ -176,15 +176,6 @@ pub fn drain<C: Storage<u64>>(storage: &mut C, few: usize) {
     }
 }
 
-/// Makes capacity for so many items, again where an allocation fails. Tells whether there is room
-/// for them then without a further allocation.
-pub fn reserves_once<C: Storage<u64>>(storage: &mut C, n: usize) -> Result<bool, AllocError> {
-    if storage.reserve(n).is_err() {
-        storage.reserve(n)?;
-    }
-    Ok(storage.reserve(n).is_ok())
-}
-
 // The item at a position, if there is one.
 fn item_at<C: Storage<u64>>(storage: &C, at: Option<C::Position>) -> Option<u64>
     requires { ForSome at (λ p. C.is_good storage.now p) }

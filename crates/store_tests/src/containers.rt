@@ -1,6 +1,6 @@
 use crate::both::{
-    Both, Tree, append, copy_of_list, copy_of_tree, expect_levels, expect_no_room, expect_room,
-    expect_same, len, new_both, new_tree, play_both, play_list, play_tree,
+    Both, Tree, append, copy_of_list, copy_of_tree, expect_levels, expect_same, len, new_both,
+    new_tree, play_both, play_list, play_tree,
 };
 use crate::calls::Call;
 use std::alloc::AllocError;
@@ -195,35 +195,4 @@ fn grows_again(rt: &impl Abort, both: &mut Both) -> Result<(), AllocError> {
 fn refused_memory(rt: HostRuntime) -> Result<(), AllocError> {
     let mut both = new_both(rt.alloc());
     grows_again(&rt, &mut both)
-}
-
-/// How many items there are, and for how many more each is to make room.
-static ROOMS: &[(u64, &[usize])] = &[
-    (0, &[0, 1, 5, 11]),
-    (1, &[0, 4, 10, 300]),
-    (45, &[0, 1, 20, 300]),
-    (200, &[0, 1, 1000]),
-];
-
-fn reserves_in_turn(rt: &impl Abort, both: &mut Both) -> Result<(), AllocError> {
-    let mut first = 0;
-    for (end, counts) in ROOMS {
-        for item in first..*end {
-            put_again(rt, both, Call::Put(0, item))?;
-        }
-        first = *end;
-        for n in *counts {
-            expect_room(rt, both, *n)?;
-        }
-        expect_no_room(rt, both, usize::MAX);
-        expect_same(rt, &both.tree, &both.list);
-    }
-    Ok(())
-}
-
-/// What is reserved once is there, also where an allocation was refused before.
-#[test]
-fn reserved_room(rt: HostRuntime) -> Result<(), AllocError> {
-    let mut both = new_both(rt.alloc());
-    reserves_in_turn(&rt, &mut both)
 }
