@@ -1,16 +1,78 @@
 //! How many steps counted calls take.
 
-use crate::support::{InTree, InVector, NumberItem, Range, closed, half_open};
+use crate::support::Keys::{self, Closed, HalfOpen};
+use crate::support::{Entry, Key, Played, TreeMap, VectorMap, range_of};
 use range_map::map::{MapError, RangeMap};
-use range_sets::command::{Command, Reply, run_counted};
 use range_store::storage::{Steps, Storage};
-use std::alloc::{AllocError, Global};
+use std::alloc::Global;
 use std::test::Fail;
 
+/// A map whose calls count their steps.
+trait Counted: Played<i32> {
+    fn insert_counted(
+        &mut self,
+        keys: Keys<i32>,
+        value: i64,
+        steps: &mut Steps,
+    ) -> Result<(), MapError>;
+
+    fn remove_counted(&mut self, keys: Keys<i32>, steps: &mut Steps) -> Result<(), MapError>;
+
+    fn get_counted(&self, key: i32, steps: &mut Steps) -> Option<i64>;
+
+    fn contains_key_counted(&self, key: i32, steps: &mut Steps) -> bool;
+
+    fn intersects_counted(&self, keys: Keys<i32>, steps: &mut Steps) -> bool;
+}
+
+impl<C: Storage<Entry<i32>>> Counted for RangeMap<i32, i64, C> {
+    fn insert_counted(
+        &mut self,
+        keys: Keys<i32>,
+        value: i64,
+        steps: &mut Steps,
+    ) -> Result<(), MapError> {
+        RangeMap::insert_counted(self, range_of(keys), value, steps)
+    }
+
+    fn remove_counted(&mut self, keys: Keys<i32>, steps: &mut Steps) -> Result<(), MapError> {
+        RangeMap::remove_counted(self, range_of(keys), steps)
+    }
+
+    fn get_counted(&self, key: i32, steps: &mut Steps) -> Option<i64> {
+        RangeMap::get_counted(self, key, steps).copied()
+    }
+
+    fn contains_key_counted(&self, key: i32, steps: &mut Steps) -> bool {
+        RangeMap::contains_key_counted(self, key, steps)
+    }
+
+    fn intersects_counted(&self, keys: Keys<i32>, steps: &mut Steps) -> bool {
+        RangeMap::intersects_counted(self, range_of(keys), steps)
+    }
+}
+
+/// A map over some container, of which the levels may be asked.
+trait Leveled {
+    fn has_levels(&self, levels: usize) -> bool;
+}
+
+impl Leveled for TreeMap<i32> {
+    fn has_levels(&self, levels: usize) -> bool {
+        self.levels() == levels
+    }
+}
+
+impl Leveled for VectorMap<i32> {
+    fn has_levels(&self, _levels: usize) -> bool {
+        false
+    }
+}
+
 /// A key alone, apart from those of the numbers beside it.
-fn single(number: u8) -> Range {
+fn single(number: u8) -> Keys<i32> {
     let key = 2 * i32::from(number);
-    closed(key, key)
+    Closed(key, key)
 }
 
 /// A call on a map, or what has to hold of the map then.
@@ -21,9 +83,9 @@ enum Step {
     /// Unbinds them.
     RemoveSingles(u8, u8),
     /// A counted insertion takes at most so many steps.
-    Insert(Range, i64, u64),
+    Insert(Keys<i32>, i64, u64),
     /// A counted removal takes at most so many steps.
-    Remove(Range, u64),
+    Remove(Keys<i32>, u64),
     /// Counted look-ups at all keys near by answer as the others do, and take so many steps at
     /// least and at most.
     LookUps(u64, u64),
@@ -33,46 +95,34 @@ enum Step {
     Levels(usize),
 }
 
-fn insert_singles<C: Storage<NumberItem>>(
-    map: &mut RangeMap<i32, i64, C>,
-    from: u8,
-    to: u8,
-) -> Result<(), MapError> {
+fn insert_singles<M: Counted>(map: &mut M, from: u8, to: u8) -> Result<bool, MapError> {
     for number in from..to {
         map.insert(single(number), i64::from(number))?;
     }
-    Ok(())
+    Ok(true)
 }
 
-fn remove_singles<C: Storage<NumberItem>>(
-    map: &mut RangeMap<i32, i64, C>,
-    from: u8,
-    to: u8,
-) -> Result<(), MapError> {
+fn remove_singles<M: Counted>(map: &mut M, from: u8, to: u8) -> Result<bool, MapError> {
     for number in from..to {
         map.remove(single(number))?;
     }
-    Ok(())
+    Ok(true)
 }
 
-fn inserts<C: Storage<NumberItem>>(
-    map: &mut RangeMap<i32, i64, C>,
-    range: Range,
+fn inserts<M: Counted>(
+    map: &mut M,
+    keys: Keys<i32>,
     value: i64,
     most: u64,
 ) -> Result<bool, MapError> {
     let mut steps = Steps::new();
-    map.insert_counted(range, value, &mut steps)?;
+    map.insert_counted(keys, value, &mut steps)?;
     Ok(steps.count() <= most)
 }
 
-fn removes<C: Storage<NumberItem>>(
-    map: &mut RangeMap<i32, i64, C>,
-    range: Range,
-    most: u64,
-) -> Result<bool, MapError> {
+fn removes<M: Counted>(map: &mut M, keys: Keys<i32>, most: u64) -> Result<bool, MapError> {
     let mut steps = Steps::new();
-    map.remove_counted(range, &mut steps)?;
+    map.remove_counted(keys, &mut steps)?;
     Ok(steps.count() <= most)
 }
 
@@ -80,45 +130,29 @@ fn is_within(steps: &Steps, least: u64, most: u64) -> bool {
     least <= steps.count() && steps.count() <= most
 }
 
-fn gets<C: Storage<NumberItem>>(
-    map: &RangeMap<i32, i64, C>,
-    key: i32,
-    least: u64,
-    most: u64,
-) -> bool {
+fn gets<M: Counted>(map: &M, key: i32, least: u64, most: u64) -> bool {
     let mut steps = Steps::new();
-    let value = map.get_counted(key, &mut steps).copied();
-    value == map.get(key).copied() && is_within(&steps, least, most)
+    map.get_counted(key, &mut steps) == map.value_at(key) && is_within(&steps, least, most)
 }
 
-fn contains<C: Storage<NumberItem>>(
-    map: &RangeMap<i32, i64, C>,
-    key: i32,
-    least: u64,
-    most: u64,
-) -> bool {
+fn contains<M: Counted>(map: &M, key: i32, least: u64, most: u64) -> bool {
     let mut steps = Steps::new();
     let bound = map.contains_key_counted(key, &mut steps);
     bound == map.contains_key(key) && is_within(&steps, least, most)
 }
 
-fn intersects<C: Storage<NumberItem>>(
-    map: &RangeMap<i32, i64, C>,
-    range: Range,
-    least: u64,
-    most: u64,
-) -> bool {
+fn intersects<M: Counted>(map: &M, keys: Keys<i32>, least: u64, most: u64) -> bool {
     let mut steps = Steps::new();
-    let meets = map.intersects_counted(range, &mut steps);
-    meets == map.intersects(range) && is_within(&steps, least, most)
+    let meets = map.intersects_counted(keys, &mut steps);
+    meets == map.intersects(keys) && is_within(&steps, least, most)
 }
 
-fn looks_up<C: Storage<NumberItem>>(map: &RangeMap<i32, i64, C>, least: u64, most: u64) -> bool {
+fn looks_up<M: Counted>(map: &M, least: u64, most: u64) -> bool {
     for key in -1..290 {
         let looked = gets(map, key, least, most)
             && contains(map, key, least, most)
-            && intersects(map, closed(key, 290), least, most)
-            && intersects(map, closed(key, -2), 0, 0);
+            && intersects(map, Closed(key, 290), least, most)
+            && intersects(map, Closed(key, -2), 0, 0);
         if !looked {
             return false;
         }
@@ -127,41 +161,24 @@ fn looks_up<C: Storage<NumberItem>>(map: &RangeMap<i32, i64, C>, least: u64, mos
 }
 
 /// Makes the call, or tells whether it is so.
-fn holds<C: Storage<NumberItem>>(
-    map: &mut RangeMap<i32, i64, C>,
-    step: Step,
-) -> Result<bool, MapError> {
+fn holds<M: Counted + Leveled>(map: &mut M, step: Step) -> Result<bool, MapError> {
     match step {
-        Step::InsertSingles(from, to) => insert_singles(map, from, to)?,
-        Step::RemoveSingles(from, to) => remove_singles(map, from, to)?,
-        Step::Insert(range, value, most) => return inserts(map, range, value, most),
-        Step::Remove(range, most) => return removes(map, range, most),
-        Step::LookUps(least, most) => return Ok(looks_up(map, least, most)),
-        Step::Count(count) => return Ok(map.range_count() == count),
-        Step::Levels(_) => (),
+        Step::InsertSingles(from, to) => insert_singles(map, from, to),
+        Step::RemoveSingles(from, to) => remove_singles(map, from, to),
+        Step::Insert(keys, value, most) => inserts(map, keys, value, most),
+        Step::Remove(keys, most) => removes(map, keys, most),
+        Step::LookUps(least, most) => Ok(looks_up(map, least, most)),
+        Step::Count(count) => Ok(map.range_count() == count),
+        Step::Levels(levels) => Ok(map.has_levels(levels)),
     }
-    Ok(true)
 }
 
-/// Takes the steps in turn on a new map in a tree. Returns the index of the first that does not
-/// hold.
-fn first_wrong_in_tree(alloc: Global, steps: &[Step]) -> Result<Option<usize>, MapError> {
-    let mut map: RangeMap<i32, i64, InTree> = RangeMap::new(alloc);
-    for (place, step) in steps.iter().enumerate() {
-        let expected = match step {
-            Step::Levels(levels) => map.levels() == *levels,
-            other => holds(&mut map, *other)?,
-        };
-        if !expected {
-            return Ok(Some(place));
-        }
-    }
-    Ok(None)
-}
-
-/// The same in a vector, of which no level is asked.
-fn first_wrong_in_vector(alloc: Global, steps: &[Step]) -> Result<Option<usize>, MapError> {
-    let mut map: RangeMap<i32, i64, InVector> = RangeMap::new(alloc);
+/// Takes the steps in turn on a new map. Returns the index of the first that does not hold.
+fn first_wrong<M: Counted + Leveled>(
+    alloc: Global,
+    steps: &[Step],
+) -> Result<Option<usize>, MapError> {
+    let mut map = M::new(alloc);
     for (place, step) in steps.iter().enumerate() {
         if !holds(&mut map, *step)? {
             return Ok(Some(place));
@@ -170,117 +187,69 @@ fn first_wrong_in_vector(alloc: Global, steps: &[Step]) -> Result<Option<usize>,
     Ok(None)
 }
 
+static LOOK_UPS_IN_A_TREE: &[Step] = &[
+    Step::Levels(0),
+    Step::LookUps(0, 0),
+    Step::InsertSingles(0, 11),
+    Step::Levels(1),
+    Step::LookUps(1, 5),
+    Step::InsertSingles(11, 12),
+    Step::Levels(2),
+    Step::LookUps(2, 9),
+    Step::InsertSingles(12, 144),
+    Step::Levels(3),
+    Step::LookUps(3, 13),
+    Step::RemoveSingles(0, 74),
+    Step::Count(70),
+    Step::Levels(2),
+    Step::LookUps(2, 9),
+    Step::RemoveSingles(74, 133),
+    Step::Count(11),
+    Step::Levels(2),
+    Step::LookUps(2, 9),
+    Step::RemoveSingles(133, 144),
+    Step::Levels(0),
+    Step::LookUps(0, 0),
+];
+
+static CHANGES_IN_A_TREE: &[Step] = &[
+    Step::InsertSingles(0, 64),
+    Step::Insert(Closed(0, 126), 1, 152),
+    Step::Count(1),
+    Step::Insert(HalfOpen(5, 6), 0, 14),
+    Step::Count(3),
+    Step::Remove(HalfOpen(5, 6), 20),
+    Step::Count(2),
+    Step::Insert(HalfOpen(8, 3), 9, 0),
+    Step::Remove(HalfOpen(8, 3), 0),
+    Step::Count(2),
+    Step::Insert(Closed(-9, 999), 1, 20),
+    Step::Count(1),
+];
+
+static CALLS_IN_A_VECTOR: &[Step] = &[
+    Step::LookUps(0, 0),
+    Step::InsertSingles(0, 64),
+    Step::LookUps(0, 65),
+    Step::Insert(Closed(0, 126), 1, 264),
+    Step::Count(1),
+    Step::Insert(HalfOpen(5, 6), 0, 8),
+    Step::Count(3),
+    Step::Remove(HalfOpen(5, 6), 18),
+    Step::Count(2),
+    Step::Insert(HalfOpen(8, 3), 9, 0),
+    Step::Remove(HalfOpen(8, 3), 0),
+    Step::Count(2),
+];
+
 #[test]
-fn look_ups_take_few_steps(rt: HostRuntime) -> Result<(), Fail> {
-    let steps = [
-        Step::Levels(0),
-        Step::LookUps(0, 0),
-        Step::InsertSingles(0, 11),
-        Step::Levels(1),
-        Step::LookUps(1, 5),
-        Step::InsertSingles(11, 12),
-        Step::Levels(2),
-        Step::LookUps(2, 9),
-        Step::InsertSingles(12, 144),
-        Step::Levels(3),
-        Step::LookUps(3, 13),
-        Step::RemoveSingles(0, 74),
-        Step::Count(70),
-        Step::Levels(2),
-        Step::LookUps(2, 9),
-        Step::RemoveSingles(74, 133),
-        Step::Count(11),
-        Step::Levels(2),
-        Step::LookUps(2, 9),
-        Step::RemoveSingles(133, 144),
-        Step::Levels(0),
-        Step::LookUps(0, 0),
+fn counted_calls_take_few_steps(rt: HostRuntime) -> Result<(), Fail> {
+    let in_trees = [
+        first_wrong::<TreeMap<i32>>(rt.alloc(), LOOK_UPS_IN_A_TREE)?,
+        first_wrong::<TreeMap<i32>>(rt.alloc(), CHANGES_IN_A_TREE)?,
     ];
-    assert_eq!(rt; first_wrong_in_tree(rt.alloc(), &steps)?, None);
-    Ok(())
-}
-
-#[test]
-fn changes_take_few_steps(rt: HostRuntime) -> Result<(), Fail> {
-    let steps = [
-        Step::InsertSingles(0, 64),
-        Step::Insert(closed(0, 126), 1, 152),
-        Step::Count(1),
-        Step::Insert(half_open(5, 6), 0, 14),
-        Step::Count(3),
-        Step::Remove(half_open(5, 6), 20),
-        Step::Count(2),
-        Step::Insert(half_open(8, 3), 9, 0),
-        Step::Remove(half_open(8, 3), 0),
-        Step::Count(2),
-        Step::Insert(closed(-9, 999), 1, 20),
-        Step::Count(1),
-    ];
-    assert_eq!(rt; first_wrong_in_tree(rt.alloc(), &steps)?, None);
-    Ok(())
-}
-
-#[test]
-fn counted_calls_answer_over_a_vector(rt: HostRuntime) -> Result<(), Fail> {
-    let steps = [
-        Step::LookUps(0, 0),
-        Step::InsertSingles(0, 64),
-        Step::LookUps(0, 65),
-        Step::Insert(closed(0, 126), 1, 264),
-        Step::Count(1),
-        Step::Insert(half_open(5, 6), 0, 8),
-        Step::Count(3),
-        Step::Remove(half_open(5, 6), 18),
-        Step::Count(2),
-        Step::Insert(half_open(8, 3), 9, 0),
-        Step::Remove(half_open(8, 3), 0),
-        Step::Count(2),
-    ];
-    assert_eq!(rt; first_wrong_in_vector(rt.alloc(), &steps)?, None);
-    Ok(())
-}
-
-/// The insertions of 64 single keys, and one over all of them.
-fn insertions(alloc: Global) -> Result<Vec<Command<i32, i64, u8>>, AllocError> {
-    let mut commands = Vec::new(alloc);
-    for number in 0..64u8 {
-        commands.push(Command::Insert(single(number), i64::from(number)))?;
-    }
-    commands.push(Command::Insert(closed(0, 126), 1))?;
-    Ok(commands)
-}
-
-/// The closure of commands that ask none.
-fn unasked(_tag: &u8, _old: Option<&i64>) -> Result<Option<i64>, u8> {
-    Ok(None)
-}
-
-fn are_done(replies: &[Reply<i32, i64, u8>]) -> bool {
-    for reply in replies {
-        let Reply::Done = reply else {
-            return false;
-        };
-    }
-    true
-}
-
-/// Whether each of so many commands is done.
-fn does_all(
-    alloc: Global,
-    map: &mut RangeMap<i32, i64, InTree>,
-    steps: &mut Steps,
-    number: usize,
-) -> Result<bool, MapError> {
-    let replies = run_counted(alloc, map, insertions(alloc)?, &unasked, steps)?;
-    Ok(replies.len() == number && are_done(&replies))
-}
-
-#[test]
-fn a_list_of_commands_takes_few_steps(rt: HostRuntime) -> Result<(), Fail> {
-    let mut map: RangeMap<i32, i64, InTree> = RangeMap::new(rt.alloc());
-    let mut steps = Steps::new();
-    assert!(rt; does_all(rt.alloc(), &mut map, &mut steps, 65)?);
-    assert_eq!(rt; map.range_count(), 1);
-    assert!(rt; is_within(&steps, 64, 2210));
+    assert_eq!(rt; in_trees, [None; 2]);
+    let in_a_vector = first_wrong::<VectorMap<i32>>(rt.alloc(), CALLS_IN_A_VECTOR)?;
+    assert_eq!(rt; in_a_vector, None);
     Ok(())
 }

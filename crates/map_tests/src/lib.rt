@@ -4,8 +4,6 @@
 #[cfg(test)]
 mod calls;
 #[cfg(test)]
-mod characters;
-#[cfg(test)]
 mod commands;
 #[cfg(test)]
 mod comparing;
@@ -13,6 +11,8 @@ mod comparing;
 mod counted;
 #[cfg(test)]
 mod drawn;
+#[cfg(test)]
+mod iterating;
 #[cfg(test)]
 mod iterators;
 #[cfg(test)]
@@ -27,5 +27,7 @@ mod support;
 mod tallied;
 #[cfg(test)]
 mod text;
+#[cfg(test)]
+mod uncloned;
 #[cfg(test)]
 mod updates;

@@ -1,7 +1,8 @@
-use crate::support::{
-    InVector, NumberItem, Range, Step, closed, first_wrong, half_open, insert_disconnected,
-    is_empty, new_map, play, range_count,
-};
+//! Clones of a map, and a search of items.
+
+use crate::iterating::Iterated;
+use crate::support::Keys::HalfOpen;
+use crate::support::{Entry, Key, Played, Step, TreeMap, VectorMap, first_wrong};
 use range_algebra::any::AnyRange;
 use range_map::map::{MapError, RangeMap, binary_search};
 use range_store::storage::{Item, Storage};
@@ -9,97 +10,65 @@ use std::alloc::Global;
 use std::ops::Bound::Included;
 use std::test::Fail;
 
-#[test]
-fn a_range_that_touches_is_refused(rt: HostRuntime) -> Result<(), Fail> {
-    let steps = [
-        Step::Count(0),
-        Step::Insert(half_open(0, 10), 1),
-        Step::InsertDisconnected(half_open(10, 20), 2, true),
-        Step::InsertDisconnected(half_open(-5, 0), 1, true),
-        Step::InsertDisconnected(half_open(5, 5), 3, false),
-        Step::Count(1),
-        Step::InsertDisconnected(half_open(11, 20), 2, false),
-        Step::Count(2),
-        Step::Get(9, Some(1)),
-        Step::Get(10, None),
-        Step::Get(11, Some(2)),
-        Step::Get(19, Some(2)),
-        Step::Get(20, None),
-    ];
-    play(&rt, rt.alloc(), &steps)
+/// A map that can be cloned.
+trait Copied: Drop {
+    fn copied(&self) -> Result<Self, MapError>;
 }
 
-/// Whether a range is bound in a new map or, where an allocation fails, handed back.
-fn is_bound_or_handed_back<C: Storage<NumberItem>>(alloc: Global) -> bool {
-    let mut map: RangeMap<i32, i64, C> = new_map(alloc);
-    match insert_disconnected(&mut map, half_open(30, 40), 2) {
-        None => range_count(&map) == 1,
-        given => given == Some((half_open(30, 40), 2)) && is_empty(&map),
+impl<C: Storage<Entry<i32>>> Copied for RangeMap<i32, i64, C> {
+    fn copied(&self) -> Result<Self, MapError> {
+        Ok(self.clone()?)
     }
 }
 
-#[test]
-fn a_refusal_for_memory_hands_back(rt: HostRuntime) {
-    assert!(rt; is_bound_or_handed_back::<InVector>(rt.alloc()));
-}
+static BEFORE: &[Step<'static, i32>] = &[
+    Step::Insert(HalfOpen(0, 10), 1),
+    Step::Insert(HalfOpen(20, 30), 2),
+];
 
-#[test]
-fn a_range_intersects_what_it_shares_a_key_with(rt: HostRuntime) -> Result<(), Fail> {
-    let steps = [
-        Step::Insert(half_open(0, 10), 1),
-        Step::Insert(half_open(20, 30), 2),
-        Step::Intersects(half_open(8, 3), false),
-        Step::Intersects(half_open(5, 5), false),
-        Step::Intersects(half_open(10, 20), false),
-        Step::Intersects(half_open(30, 40), false),
-        Step::Intersects(half_open(-5, 0), false),
-        Step::Intersects(half_open(9, 20), true),
-        Step::Intersects(half_open(10, 21), true),
-        Step::Intersects(half_open(3, 8), true),
-        Step::Intersects(half_open(-5, 40), true),
-    ];
-    play(&rt, rt.alloc(), &steps)
+static ON_THE_CLONE: &[Step<'static, i32>] = &[
+    Step::Count(2),
+    Step::Get(0, Some(1)),
+    Step::Get(9, Some(1)),
+    Step::Get(10, None),
+    Step::Get(20, Some(2)),
+    Step::Get(30, None),
+    Step::Remove(HalfOpen(0, 30)),
+    Step::Count(0),
+];
+
+static AFTER: &[Step<'static, i32>] = &[Step::Count(2)];
+
+/// Takes the steps on a clone of the map. Returns the index of the first that does not hold.
+fn first_wrong_in_clone<M: Played<i32> + Iterated<i32> + Copied>(
+    alloc: Global,
+    map: &M,
+) -> Result<Option<usize>, MapError> {
+    let mut copy = map.copied()?;
+    first_wrong(alloc, &mut copy, ON_THE_CLONE)
 }
 
 /// Takes steps on a new map, then others on a clone of it, and then others on the map. Returns the
 /// indices of the first that do not hold.
-fn first_wrong_beside_a_clone<C: Storage<NumberItem>>(
+fn first_wrong_beside_a_clone<M: Played<i32> + Iterated<i32> + Copied>(
     alloc: Global,
-    [before, on_the_clone, after]: [&[Step<'_>]; 3],
 ) -> Result<[Option<usize>; 3], MapError> {
-    let mut map: RangeMap<i32, i64, C> = new_map(alloc);
-    let before = first_wrong(&mut map, before)?;
-    let on_the_clone = first_wrong_in_clone(&map, on_the_clone)?;
-    Ok([before, on_the_clone, first_wrong(&mut map, after)?])
-}
-
-fn first_wrong_in_clone<C: Storage<NumberItem>>(
-    map: &RangeMap<i32, i64, C>,
-    steps: &[Step<'_>],
-) -> Result<Option<usize>, MapError> {
-    let mut copy = map.clone()?;
-    first_wrong(&mut copy, steps)
+    let mut map = M::new(alloc);
+    let before = first_wrong(alloc, &mut map, BEFORE)?;
+    let on_the_clone = first_wrong_in_clone(alloc, &map)?;
+    Ok([before, on_the_clone, first_wrong(alloc, &mut map, AFTER)?])
 }
 
 #[test]
 fn a_clone_is_equal_and_independent(rt: HostRuntime) -> Result<(), Fail> {
-    let before = [
-        Step::Insert(half_open(0, 10), 1),
-        Step::Insert(half_open(20, 30), 2),
-    ];
-    let on_the_clone = [
-        Step::Count(2),
-        Step::Get(0, Some(1)),
-        Step::Get(9, Some(1)),
-        Step::Get(10, None),
-        Step::Get(20, Some(2)),
-        Step::Get(30, None),
-        Step::Remove(half_open(0, 30)),
-        Step::Count(0),
-    ];
-    let steps: [&[Step<'_>]; 3] = [&before, &on_the_clone, &[Step::Count(2)]];
-    let wrong = first_wrong_beside_a_clone::<InVector>(rt.alloc(), steps)?;
-    assert!(rt; wrong == [None; 3], "{wrong:?}");
+    assert_eq!(rt;
+        first_wrong_beside_a_clone::<VectorMap<i32>>(rt.alloc())?,
+        [None; 3]
+    );
+    assert_eq!(rt;
+        first_wrong_beside_a_clone::<TreeMap<i32>>(rt.alloc())?,
+        [None; 3]
+    );
     Ok(())
 }
 
@@ -116,12 +85,15 @@ macro_rules! one_key {
     };
 }
 
+fn one(key: i32) -> AnyRange<i32> {
+    AnyRange::new(Included(key), Included(key))
+}
+
 #[test]
 fn a_search_finds_the_last_that_is_reached(rt: HostRuntime) {
     let items = [one_key!(0, 'a'), one_key!(3, 'b'), one_key!(6, 'c')];
     let others = [one_key!(2, 'a'), one_key!(4, 'b'), one_key!(8, 'c')];
-    let two: Range = closed(2, 2);
-    assert!(rt; binary_search(&items, &two, true) == Some(1));
-    assert!(rt; binary_search(&items, &two, false) == Some(0));
-    assert!(rt; binary_search(&others, &closed(0, 0), true) == None);
+    assert!(rt; binary_search(&items, &one(2), true) == Some(1));
+    assert!(rt; binary_search(&items, &one(2), false) == Some(0));
+    assert!(rt; binary_search(&others, &one(0), true) == None);
 }

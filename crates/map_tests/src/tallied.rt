@@ -6,15 +6,18 @@ ghost use Rattle.std.specs.Cmp.{int_cmp_total, on_total, eq_by_cmp_equiv, partia
 ghost use Rattle.range_keys.specs.Untold.{untold_order, untold_lawful, untold_measured};
 ghost use Rattle.map_tests.specs.declared.tallied.Tallied.{Tallied};
 
+use crate::support::Keys::{self, Between, Closed, HalfOpen};
+use crate::support::{range_of, went};
 use range_algebra::any::AnyRange;
 use range_keys::traits::{MaybeBounded, Measure, PartialEnum};
 use range_map::map::{MapError, RangeMap};
 use range_store::btree::BoxStorage;
-use range_store::storage::{Item, Steps};
-use std::alloc::AllocError;
+use range_store::storage::{Item, Steps, Storage};
+use range_store::vec_storage::VecStorage;
+use std::alloc::{AllocError, Global};
 use std::cell::Cell;
 use std::cmp::Ordering;
-use std::ops::Bound;
+use std::ops::Bound::{self, Excluded, Included};
 use std::rc::Rc;
 use std::test::Fail;
 
@@ -124,55 +127,252 @@ impl Measure for Tallied {
         (on_total (λ (x : Tallied). x.number) int_cmp_total) };
 }
 
-type TalliedMap = RangeMap<Tallied, i64, BoxStorage<Item<AnyRange<Tallied>, i64>>>;
+/// What a map stores.
+type Entry = Item<AnyRange<Tallied>, i64>;
 
-fn key(number: i32, comparisons: &Rc<Cell<u64>>) -> Result<Tallied, AllocError> {
+type VectorMap = RangeMap<Tallied, i64, VecStorage<Entry>>;
+
+type TreeMap = RangeMap<Tallied, i64, BoxStorage<Entry>>;
+
+/// The cell in which keys count their comparisons.
+type Tally = Rc<Cell<u64>>;
+
+fn new_tally(alloc: Global) -> Result<Tally, AllocError> {
+    Ok(Rc::new(alloc, Cell::new(0))?)
+}
+
+fn key(number: i32, tally: &Tally) -> Result<Tallied, AllocError> {
     Ok(Tallied {
         number,
-        comparisons: comparisons.clone()?,
+        comparisons: tally.clone()?,
     })
 }
 
-/// The range of one key.
-fn alone(number: i32, comparisons: &Rc<Cell<u64>>) -> Result<AnyRange<Tallied>, AllocError> {
-    let first = key(number, comparisons)?;
-    let last = key(number, comparisons)?;
-    Ok(AnyRange::new(Bound::Included(first), Bound::Included(last)))
+fn bound(bound: Bound<i32>, tally: &Tally) -> Result<Bound<Tallied>, AllocError> {
+    Ok(match bound {
+        Bound::Included(number) => Bound::Included(key(number, tally)?),
+        Bound::Excluded(number) => Bound::Excluded(key(number, tally)?),
+        Bound::Unbounded => Bound::Unbounded,
+    })
 }
 
-fn insert_even(map: &mut TalliedMap, comparisons: &Rc<Cell<u64>>) -> Result<(), MapError> {
-    for number in 0..4000u16 {
-        map.insert(alone(2 * i32::from(number), comparisons)?, 0)?;
+fn range(keys: Keys<i32>, tally: &Tally) -> Result<AnyRange<Tallied>, AllocError> {
+    let (start, end) = range_of(keys).into_bounds();
+    let start = bound(start, tally)?;
+    let end = bound(end, tally)?;
+    Ok(AnyRange::new(start, end))
+}
+
+/// A map over some container, whose calls count their steps.
+trait Counted: Drop {
+    fn new(alloc: Global) -> Self;
+
+    fn insert(
+        &mut self,
+        range: AnyRange<Tallied>,
+        value: i64,
+        steps: &mut Steps,
+    ) -> Result<(), MapError>;
+
+    fn remove(&mut self, range: AnyRange<Tallied>, steps: &mut Steps) -> Result<(), MapError>;
+
+    fn intersects(&self, range: AnyRange<Tallied>, steps: &mut Steps) -> bool;
+
+    fn contains_key(&self, key: Tallied, steps: &mut Steps) -> bool;
+
+    fn value_at(&self, key: Tallied, steps: &mut Steps) -> Option<i64>;
+
+    fn range_count(&self) -> usize;
+}
+
+impl<C: Storage<Entry>> Counted for RangeMap<Tallied, i64, C> {
+    fn new(alloc: Global) -> Self {
+        RangeMap::new(alloc)
+    }
+
+    fn insert(
+        &mut self,
+        range: AnyRange<Tallied>,
+        value: i64,
+        steps: &mut Steps,
+    ) -> Result<(), MapError> {
+        self.insert_counted(range, value, steps)
+    }
+
+    fn remove(&mut self, range: AnyRange<Tallied>, steps: &mut Steps) -> Result<(), MapError> {
+        self.remove_counted(range, steps)
+    }
+
+    fn intersects(&self, range: AnyRange<Tallied>, steps: &mut Steps) -> bool {
+        self.intersects_counted(range, steps)
+    }
+
+    fn contains_key(&self, key: Tallied, steps: &mut Steps) -> bool {
+        self.contains_key_counted(key, steps)
+    }
+
+    fn value_at(&self, key: Tallied, steps: &mut Steps) -> Option<i64> {
+        self.get_counted(key, steps).copied()
+    }
+
+    fn range_count(&self) -> usize {
+        RangeMap::range_count(self)
+    }
+}
+
+/// A counted call on a map, and its answer. Each bound of its range is a key.
+#[derive(Clone, Copy)]
+enum Call {
+    Get(i32, Option<i64>),
+    Contains(i32, bool),
+    Intersects(Keys<i32>, bool),
+    Insert(Keys<i32>, i64),
+    Remove(Keys<i32>),
+    /// So many ranges are stored; it counts no step.
+    Count(usize),
+}
+
+/// Makes the call. Returns whether it answers so.
+fn answers_so<M: Counted>(
+    map: &mut M,
+    call: Call,
+    tally: &Tally,
+    steps: &mut Steps,
+) -> Result<bool, MapError> {
+    match call {
+        Call::Get(number, value) => Ok(map.value_at(key(number, tally)?, steps) == value),
+        Call::Contains(number, bound) => Ok(map.contains_key(key(number, tally)?, steps) == bound),
+        Call::Intersects(keys, meets) => Ok(map.intersects(range(keys, tally)?, steps) == meets),
+        Call::Insert(keys, value) => went(map.insert(range(keys, tally)?, value, steps)),
+        Call::Remove(keys) => went(map.remove(range(keys, tally)?, steps)),
+        Call::Count(count) => Ok(map.range_count() == count),
+    }
+}
+
+/// How many keys a call compares beside its steps: it sees by one comparison of a range's two
+/// bounds whether the range is empty.
+fn beside_steps(call: Call) -> u64 {
+    match call {
+        Call::Get(_, _) | Call::Contains(_, _) | Call::Count(_) => 0,
+        Call::Intersects(_, _) | Call::Insert(_, _) | Call::Remove(_) => 1,
+    }
+}
+
+/// Whether the call answers so and counts each comparison of its keys as a step, of which there
+/// are few.
+fn agrees<M: Counted>(map: &mut M, call: Call, tally: &Tally) -> Result<bool, MapError> {
+    let mut steps = Steps::new();
+    tally.set(0);
+    let answered = answers_so(map, call, tally, &mut steps)?;
+    let compared = steps.count().saturating_add(beside_steps(call));
+    Ok(answered && tally.get() == compared && compared < 4000)
+}
+
+/// Binds so many even numbers, each alone, to 0.
+fn insert_even<M: Counted>(map: &mut M, count: u16, tally: &Tally) -> Result<(), MapError> {
+    let mut steps = Steps::new();
+    for number in 0..count {
+        let key = 2 * i32::from(number);
+        map.insert(range(Closed(key, key), tally)?, 0, &mut steps)?;
     }
     Ok(())
 }
 
-/// Whether some comparison was made since the last call, and fewer than there are ranges.
-fn few(comparisons: &Rc<Cell<u64>>) -> bool {
-    let count = comparisons.replace(0);
-    0 < count && count < 4000
+/// Makes the calls in turn on a map of so many even numbers. Returns the index of the first that
+/// answers or counts otherwise.
+fn first_other<M: Counted>(
+    alloc: Global,
+    count: u16,
+    calls: &[Call],
+) -> Result<Option<usize>, MapError> {
+    let tally = new_tally(alloc)?;
+    let mut map = M::new(alloc);
+    insert_even(&mut map, count, &tally)?;
+    for (place, call) in calls.iter().enumerate() {
+        if !agrees(&mut map, *call, &tally)? {
+            return Ok(Some(place));
+        }
+    }
+    Ok(None)
 }
 
-/// Whether each counted call at a key that is not bound compares few keys.
-fn compares_few(map: &mut TalliedMap, comparisons: &Rc<Cell<u64>>) -> Result<bool, MapError> {
-    let mut steps = Steps::new();
-    let free = map
-        .get_counted(key(3999, comparisons)?, &mut steps)
-        .is_none();
-    let get = few(comparisons);
-    map.insert_counted(alone(3999, comparisons)?, 1, &mut steps)?;
-    let insert = few(comparisons);
-    map.remove_counted(alone(3999, comparisons)?, &mut steps)?;
-    Ok(free && get && insert && few(comparisons))
-}
+/// Calls on a map of the even numbers below 80: at its ends, in its middle and outside of it.
+static AMONG_FORTY: &[Call] = &[
+    Call::Get(0, Some(0)),
+    Call::Get(40, Some(0)),
+    Call::Get(78, Some(0)),
+    Call::Get(-1, None),
+    Call::Get(1, None),
+    Call::Get(41, None),
+    Call::Get(77, None),
+    Call::Get(79, None),
+    Call::Contains(0, true),
+    Call::Contains(40, true),
+    Call::Contains(78, true),
+    Call::Contains(-1, false),
+    Call::Contains(41, false),
+    Call::Contains(79, false),
+    Call::Intersects(Closed(-3, 0), true),
+    Call::Intersects(Closed(39, 41), true),
+    Call::Intersects(HalfOpen(78, 99), true),
+    Call::Intersects(HalfOpen(-3, 0), false),
+    Call::Intersects(Closed(41, 41), false),
+    Call::Intersects(Between(Excluded(78), Included(99)), false),
+    Call::Intersects(Closed(41, 39), false),
+    Call::Insert(Closed(0, 0), 0),
+    Call::Insert(Closed(40, 40), 1),
+    Call::Insert(Closed(78, 78), 0),
+    Call::Insert(Closed(41, 41), 1),
+    Call::Insert(Closed(-3, -3), 1),
+    Call::Insert(Closed(99, 99), 1),
+    Call::Insert(Closed(41, 39), 1),
+    Call::Count(43),
+    Call::Insert(Closed(10, 20), 5),
+    Call::Count(38),
+    Call::Insert(Closed(12, 14), 5),
+    Call::Insert(Closed(12, 14), 6),
+    Call::Insert(HalfOpen(14, 17), 7),
+    Call::Insert(HalfOpen(7, 11), 5),
+    Call::Insert(HalfOpen(50, 60), 1),
+    Call::Insert(Between(Excluded(21), Excluded(30)), 0),
+    Call::Get(28, Some(0)),
+    Call::Get(16, Some(7)),
+    Call::Get(10, Some(5)),
+    Call::Remove(Closed(-3, -3)),
+    Call::Remove(Closed(99, 99)),
+    Call::Remove(Closed(-3, -3)),
+    Call::Remove(Closed(99, 99)),
+    Call::Remove(Closed(43, 43)),
+    Call::Remove(Closed(53, 54)),
+    Call::Remove(HalfOpen(0, 5)),
+    Call::Remove(Between(Excluded(9), Included(15))),
+    Call::Remove(Closed(60, 78)),
+    Call::Remove(Closed(41, 39)),
+    Call::Intersects(Closed(60, 99), false),
+    Call::Get(9, Some(5)),
+    Call::Get(15, None),
+    Call::Get(53, None),
+];
+
+/// Calls in the middle of a map of 4000 numbers.
+static AMONG_MANY: &[Call] = &[
+    Call::Get(3999, None),
+    Call::Insert(Closed(3999, 3999), 1),
+    Call::Count(4001),
+    Call::Remove(Closed(3999, 3999)),
+    Call::Count(4000),
+    Call::Contains(4000, true),
+    Call::Contains(7998, true),
+    Call::Contains(7999, false),
+];
 
 #[test]
-fn counted_calls_compare_few_keys(rt: HostRuntime) -> Result<(), Fail> {
-    let comparisons = Rc::new(rt.alloc(), Cell::new(0))?;
-    let mut map: TalliedMap = RangeMap::new(rt.alloc());
-    insert_even(&mut map, &comparisons)?;
-    comparisons.set(0);
-    assert!(rt; compares_few(&mut map, &comparisons)?);
-    assert_eq!(rt; map.range_count(), 4000);
+fn each_comparison_of_keys_is_a_step(rt: HostRuntime) -> Result<(), Fail> {
+    for (count, calls) in [(40, AMONG_FORTY), (4000, AMONG_MANY)] {
+        let wrong = first_other::<VectorMap>(rt.alloc(), count, calls)?;
+        assert_eq!(rt; wrong, None, "among {count}, over a vector");
+        let wrong = first_other::<TreeMap>(rt.alloc(), count, calls)?;
+        assert_eq!(rt; wrong, None, "among {count}, over a tree");
+    }
     Ok(())
 }

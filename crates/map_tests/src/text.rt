@@ -1,51 +1,50 @@
-use crate::support::{InTree, Step, between, closed, first_wrong, half_open, new_map};
-use range_map::map::{MapError, RangeMap};
+//! How maps and ranges are shown.
+
+use crate::support::Keys::{Closed, HalfOpen};
+use crate::support::{Step, play};
+use range_algebra::any::AnyRange;
 use std::alloc::{AllocError, Global};
-use std::fmt::Debug;
-use std::ops::Bound;
-use std::ops::Bound::{Excluded, Included, Unbounded};
+use std::ops::Bound::{self, Excluded, Included, Unbounded};
 use std::test::Fail;
 
-fn is_shown<T: Debug>(alloc: Global, shown: &T, text: &str) -> Result<bool, AllocError> {
-    Ok(format!(in alloc; "{shown:?}")?.as_str() == text)
-}
-
-/// Takes the steps. Returns whether each holds and how the map is shown then.
-fn is_shown_after(
-    alloc: Global,
-    map: &mut RangeMap<i32, i64, InTree>,
-    steps: &[Step<'_>],
-    text: &str,
-) -> Result<bool, MapError> {
-    Ok(first_wrong(map, steps)?.is_none() && is_shown(alloc, map, text)?)
-}
-
-/// Takes the steps on a new map.
-fn new_is_shown_after(alloc: Global, steps: &[Step<'_>], text: &str) -> Result<bool, MapError> {
-    let mut map = new_map::<InTree>(alloc);
-    is_shown_after(alloc, &mut map, steps, text)
-}
+static MAPS: &[Step<'static, i32>] = &[
+    Step::Case("a map is shown"),
+    Step::Shows("{}"),
+    Step::Insert(HalfOpen(0, 5), 1),
+    Step::Insert(Closed(10, 12), 2),
+    Step::Shows("{0..5=>110..=12=>2}"),
+    Step::Remove(HalfOpen(-1, 4)),
+    Step::Shows("{4..5=>110..=12=>2}"),
+];
 
 #[test]
 fn a_map_is_shown(rt: HostRuntime) -> Result<(), Fail> {
-    let steps = [
-        Step::Insert(half_open(0, 5), 1),
-        Step::Insert(closed(10, 12), 2),
-        Step::Remove(half_open(-1, 4)),
-    ];
-    assert!(rt; new_is_shown_after(rt.alloc(), &[], "{}")?);
-    assert!(rt; new_is_shown_after(rt.alloc(), &steps[..2], "{0..5=>110..=12=>2}")?);
-    assert!(rt; new_is_shown_after(rt.alloc(), &steps, "{4..5=>110..=12=>2}")?);
-    Ok(())
+    play(&rt, rt.alloc(), MAPS)
 }
 
 /// Bounds, and how the range from the one to the other is shown.
 type Row = (Bound<i32>, Bound<i32>, &'static str);
 
+static RANGES: &[Row] = &[
+    (Included(0), Excluded(5), "0..5"),
+    (Included(0), Included(5), "0..=5"),
+    (Included(0), Unbounded, "0.."),
+    (Excluded(0), Excluded(5), "0...5"),
+    (Excluded(0), Included(-5), "0...=-5"),
+    (Excluded(0), Unbounded, "0..."),
+    (Unbounded, Excluded(5), "...5"),
+    (Unbounded, Included(5), "...=5"),
+    (Unbounded, Unbounded, "..."),
+];
+
+fn shows(alloc: Global, range: AnyRange<i32>, text: &str) -> Result<bool, AllocError> {
+    Ok(format!(in alloc; "{range:?}")?.as_str() == text)
+}
+
 /// The first text that is not how its range is shown.
-fn first_other(alloc: Global, rows: &[Row]) -> Result<Option<&'static str>, AllocError> {
-    for (start, end, text) in rows {
-        if !is_shown(alloc, &between(*start, *end), text)? {
+fn first_other(alloc: Global) -> Result<Option<&'static str>, AllocError> {
+    for (start, end, text) in RANGES {
+        if !shows(alloc, AnyRange::new(*start, *end), *text)? {
             return Ok(Some(*text));
         }
     }
@@ -54,17 +53,6 @@ fn first_other(alloc: Global, rows: &[Row]) -> Result<Option<&'static str>, Allo
 
 #[test]
 fn a_range_is_shown(rt: HostRuntime) -> Result<(), Fail> {
-    let rows = [
-        (Included(0), Excluded(5), "0..5"),
-        (Included(0), Included(5), "0..=5"),
-        (Included(0), Unbounded, "0.."),
-        (Excluded(0), Excluded(5), "0...5"),
-        (Excluded(0), Included(-5), "0...=-5"),
-        (Excluded(0), Unbounded, "0..."),
-        (Unbounded, Excluded(5), "...5"),
-        (Unbounded, Included(5), "...=5"),
-        (Unbounded, Unbounded, "..."),
-    ];
-    assert_eq!(rt; first_other(rt.alloc(), &rows)?, None);
+    assert_eq!(rt; first_other(rt.alloc())?, None);
     Ok(())
 }
