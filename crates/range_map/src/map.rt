@@ -116,7 +116,7 @@ impl<K: PartialEnum, V: Eq + Drop, C: Storage<Item<AnyRange<K>, V>>> RangeMap<K,
     ///
     /// ```
     /// // of a map that binds 0..=5 to 1
-    /// assert!(rt; map.get(5).copied() == Some(1));
+    /// assert!(rt; !map.is_empty() && map.contains_key(5) && map.get(5).copied() == Some(1));
     /// ```
     pub fn get(&self, key: K) -> Option<&V>
         ensures value { Binds K.order V.eq (C.items self.now) key (option_copied result) }
@@ -132,10 +132,9 @@ impl<K: PartialEnum, V: Eq + Drop, C: Storage<Item<AnyRange<K>, V>>> RangeMap<K,
     /// The empty map takes none.
     ///
     /// ```
-    /// // of a map that binds 0..=5 to 1, but not 4
+    /// // of a map that binds 0..=5 to 1, but not 4: at most 4 steps a level, and one
     /// let mut steps = Steps::new();
-    /// assert!(rt; map.get_counted(4, &mut steps).is_none());
-    /// assert!(rt; steps.count() <= 5); // at most 4 a level, and one
+    /// assert!(rt; map.get_counted(4, &mut steps).is_none() && steps.count() <= 5);
     /// ```
     pub fn get_counted(&self, key: K, steps: &mut Steps) -> Option<&V>
         ensures value { Binds K.order V.eq (C.items self.now) key (option_copied result) }
@@ -163,8 +162,8 @@ impl<K: PartialEnum, V: Eq + Drop, C: Storage<Item<AnyRange<K>, V>>> RangeMap<K,
     /// The stored ranges with their values, in ascending order, from both ends. Allocates nothing.
     ///
     /// ```
-    /// // of a map that binds 0..=5 to 1
-    /// assert!(rt; map.iter().next().is_some()); // 0..=5 with 1
+    /// // of a map that binds 0..=5 to 1, whose gaps are ..0 and 6..
+    /// assert!(rt; map.iter().next().is_some() && map.gaps().next().is_some());
     /// ```
     pub fn iter(&self) -> Iter<'_, K, V, C>
         ensures items { result ≡ C.items self.now }

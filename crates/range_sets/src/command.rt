@@ -162,9 +162,8 @@ fn answer_counted<
 ///
 /// ```
 /// // of a map that binds 0..=5 to 1, where `bound_to(tag, old)` is `Ok(Some(*tag))`
-/// let reply = answer(&mut map, Command::Update((3..9).into_range(), 7), &bound_to);
-/// assert!(rt; reply == Reply::Done);
-/// assert!(rt; map.get(8).copied() == Some(7));
+/// let reply = answer(map, Command::Update((3..9).into_range(), 7), &bound_to);
+/// assert!(rt; matches!(reply, Reply::Done) && map.get(8).copied() == Some(7));
 /// ```
 pub fn answer<
     K: Measure + Clone,
@@ -227,7 +226,7 @@ fn run_steps<
 /// follow. An update asks `f` with its tag.
 ///
 /// ```
-/// let commands = vec![in alloc; Command::Update((3..9).into_range(), 7), Command::Get(8)]?;
+/// // where `commands` bind 3..9 to 7, and look 8 up
 /// let replies = run(alloc, map, commands, &bound_to)?; // `Done` and `Value(Some(7))`
 /// ```
 pub fn run<
@@ -267,7 +266,7 @@ pub fn run<
 /// command takes any.
 ///
 /// ```
-/// let commands = vec![in alloc; Command::Insert((3..9).into_range(), 7), Command::Get(8)]?;
+/// // where `commands` bind 3..9 to 7, and look 8 up
 /// let replies = run_counted(alloc, map, commands, &bound_to, steps)?; // `Done`, `Value(Some(7))`
 /// ```
 pub fn run_counted<

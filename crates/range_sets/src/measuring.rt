@@ -41,7 +41,7 @@ impl<T: Measure, C: Storage<Item<AnyRange<T>, ()>>> RangeSet<T, C> {
     ///
     /// ```
     /// // of a set of the keys 0..=5
-    /// assert!(rt; set.bounded_len() == Some(6));
+    /// assert!(rt; set.range_count() == 1 && set.bounded_len() == Some(6));
     /// ```
     pub fn bounded_len(&self) -> Option<u128>
         ensures measure { result

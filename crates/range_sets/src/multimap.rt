@@ -76,7 +76,7 @@ impl<K: PartialEnum, S: MaybeEmpty, C: Storage<Item<AnyRange<K>, S>>> RangeMulti
     /// A multimap without a pair. Allocates nothing.
     ///
     /// ```
-    /// let mut classes: Classes = RangeMultiMap::default(rt.alloc()); // in the default container
+    /// let mut classes: Classes = RangeMultiMap::default(alloc); // in the default container
     /// classes.insert('0'..='9', 1)?;
     /// ```
     pub fn default(alloc: Global) -> Self
@@ -114,7 +114,7 @@ impl<K: PartialEnum, S: MaybeEmpty, C: Storage<Item<AnyRange<K>, S>>> RangeMulti
     ///
     /// ```
     /// // of a multimap that gives '0'..='9' the value 1
-    /// assert!(rt; !classes.is_empty());
+    /// assert!(rt; !classes.is_empty() && classes.get('0').is_some()); // {1}
     /// ```
     pub fn is_empty(&self) -> bool
         ensures { IsTrue result ↔ C.items self.now ≡ [] }
@@ -143,7 +143,7 @@ impl<K: PartialEnum, S: MaybeEmpty, C: Storage<Item<AnyRange<K>, S>>> RangeMulti
     ///
     /// ```
     /// // of a multimap that gives '0'..='9' the value 1
-    /// assert!(rt; classes.get('0').is_some()); // {1}
+    /// assert!(rt; !classes.is_empty() && classes.get('0').is_some()); // {1}
     /// ```
     pub fn get<V: Eq + Clone>(&self, key: K) -> Option<&S>
     where

@@ -63,7 +63,7 @@ impl<T: PartialEnum, C: Storage<Item<AnyRange<T>, ()>>> RangeSet<T, C> {
     /// A set without a key. Allocates nothing.
     ///
     /// ```
-    /// let mut set: RangeSet<i32> = RangeSet::default(rt.alloc()); // in the default container
+    /// let mut set: RangeSet<i32> = RangeSet::default(alloc); // in the default container
     /// ```
     pub fn default(alloc: Global) -> Self
         ensures { C.items result ≡ [] }
@@ -85,7 +85,7 @@ impl<T: PartialEnum, C: Storage<Item<AnyRange<T>, ()>>> RangeSet<T, C> {
     ///
     /// ```
     /// // of a set of the keys 0..=5
-    /// assert!(rt; set.range_count() == 1);
+    /// assert!(rt; set.range_count() == 1 && set.bounded_len() == Some(6));
     /// ```
     pub fn range_count(&self) -> usize
         ensures value { result ≡ length (C.items self.now) }
@@ -98,7 +98,7 @@ impl<T: PartialEnum, C: Storage<Item<AnyRange<T>, ()>>> RangeSet<T, C> {
     ///
     /// ```
     /// // of a set of the keys 0..=5
-    /// assert!(rt; !set.is_empty());
+    /// assert!(rt; !set.is_empty() && set.contains(5) && !set.intersects(6..8));
     /// ```
     pub fn is_empty(&self) -> bool
         ensures { IsTrue result ↔ C.items self.now ≡ [] }
@@ -112,7 +112,7 @@ impl<T: PartialEnum, C: Storage<Item<AnyRange<T>, ()>>> RangeSet<T, C> {
     ///
     /// ```
     /// // of a set of the keys 0..=5
-    /// assert!(rt; set.contains(5));
+    /// assert!(rt; !set.is_empty() && set.contains(5) && !set.intersects(6..8));
     /// ```
     pub fn contains(&self, key: T) -> bool
         ensures { IsTrue result ↔ HoldsKey T.order (C.items self.now) key }
@@ -144,8 +144,8 @@ impl<T: PartialEnum, C: Storage<Item<AnyRange<T>, ()>>> RangeSet<T, C> {
     /// The stored ranges, in ascending order. Allocates nothing.
     ///
     /// ```
-    /// // of a set of the keys 0..=5
-    /// assert!(rt; set.iter().next().is_some()); // 0..=5
+    /// // of a set of the keys 0..=5, whose gaps are ..0 and 6..
+    /// assert!(rt; set.iter().next().is_some() && set.gaps().next().is_some());
     /// ```
     pub fn iter(&self) -> Iter<'_, T, C>
         ensures ranges { result ≡ item_ranges (C.items self.now) }
@@ -161,8 +161,8 @@ impl<T: PartialEnum, C: Storage<Item<AnyRange<T>, ()>>> RangeSet<T, C> {
     /// Allocates nothing. An iteration over all gaps takes one step for each stored range.
     ///
     /// ```
-    /// // of a set of the keys 0..=5
-    /// assert!(rt; set.gaps().next().is_some()); // ..0, and then from 6 on
+    /// // of a set of the keys 0..=5, whose gaps are ..0 and 6..
+    /// assert!(rt; set.iter().next().is_some() && set.gaps().next().is_some());
     /// ```
     pub fn gaps(&self) -> Gaps<'_, T, C>
         ensures gaps { AreGaps T.order (C.items self.now) result }
@@ -182,7 +182,7 @@ impl<T: Measure, C: Storage<Item<AnyRange<T>, ()>>> RangeSet<T, C> {
     ///
     /// ```
     /// // of a set of the keys 0..=5
-    /// assert!(rt; !set.intersects(6..8));
+    /// assert!(rt; !set.is_empty() && set.contains(5) && !set.intersects(6..8));
     /// ```
     pub fn intersects<R: AsRange<Item = T>>(&self, range: R) -> bool
         ensures meets { IsTrue result

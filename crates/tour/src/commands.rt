@@ -1,61 +1,90 @@
 //! The examples of the calls that take commands, and of a search in a list that is no map.
 
-use crate::map_calls::ones;
-use btree_range_map::generic::map::{Command, Reply, answer, binary_search, run, run_counted};
-use btree_range_map::storage::{Item, Steps};
+use crate::map_calls::{Entry, Map, ones};
+use btree_range_map::generic::map::{
+    Command, MapError, Reply, answer, binary_search, run, run_counted,
+};
+use btree_range_map::storage::{Item, Steps, Storage};
 use btree_range_map::{AnyRange, IntoRange, RangeMap};
 use std::alloc::Global;
 use std::ops::Bound::Included;
+use std::process::Abort;
 use std::test::Fail;
+
+type Commands = Vec<Command<i32, i64, i64>>;
+
+type Replies = Vec<Reply<i32, i64, u8>>;
 
 /// Binds each piece of the range of an update to its tag.
 fn bound_to(tag: &i64, _old: Option<&i64>) -> Result<Option<i64>, u8> {
     Ok(Some(*tag))
 }
 
-#[test]
-fn answered(rt: HostRuntime) -> Result<(), Fail> {
-    let mut map = ones(rt.alloc())?;
+fn answered<R: Abort, C: Storage<Entry>>(rt: &R, map: &mut Map<C>) {
     // of a map that binds 0..=5 to 1, where `bound_to(tag, old)` is `Ok(Some(*tag))`
-    let reply = answer(&mut map, Command::Update((3..9).into_range(), 7), &bound_to);
-    assert!(rt; reply == Reply::Done);
-    assert!(rt; map.get(8).copied() == Some(7));
-    Ok(())
+    let reply = answer(map, Command::Update((3..9).into_range(), 7), &bound_to);
+    assert!(rt; matches!(reply, Reply::Done) && map.get(8).copied() == Some(7));
 }
 
-type Replies = Vec<Reply<i32, i64, u8>>;
+fn range() -> AnyRange<i32> {
+    (3..9).into_range()
+}
 
-fn answered_in_turn(alloc: Global, map: &mut RangeMap<i32, i64>) -> Result<Replies, Fail> {
-    let commands = vec![in alloc; Command::Update((3..9).into_range(), 7), Command::Get(8)]?;
+/// A command, and a look-up of 8.
+fn commands(alloc: Global, first: Command<i32, i64, i64>) -> Result<Commands, Fail> {
+    Ok(vec![in alloc; first, Command::Get(8)]?)
+}
+
+fn answered_in_turn<C: Storage<Entry>>(
+    alloc: Global,
+    map: &mut Map<C>,
+    commands: Commands,
+) -> Result<Replies, MapError> {
+    // where `commands` bind 3..9 to 7, and look 8 up
     let replies = run(alloc, map, commands, &bound_to)?; // `Done` and `Value(Some(7))`
     Ok(replies)
-}
-
-#[test]
-fn given_as_a_list(rt: HostRuntime) -> Result<(), Fail> {
-    let mut map = ones(rt.alloc())?;
-    let replies = answered_in_turn(rt.alloc(), &mut map)?;
-    assert!(rt; matches!(replies.as_slice(), [Reply::Done, Reply::Value(Some(7))]));
-    Ok(())
 }
 
 fn counted_in_turn(
     alloc: Global,
     map: &mut RangeMap<i32, i64>,
+    commands: Commands,
     steps: &mut Steps,
-) -> Result<Replies, Fail> {
-    let commands = vec![in alloc; Command::Insert((3..9).into_range(), 7), Command::Get(8)]?;
+) -> Result<Replies, MapError> {
+    // where `commands` bind 3..9 to 7, and look 8 up
     let replies = run_counted(alloc, map, commands, &bound_to, steps)?; // `Done`, `Value(Some(7))`
     Ok(replies)
 }
 
-#[test]
-fn given_and_counted(rt: HostRuntime) -> Result<(), Fail> {
-    let mut map = ones(rt.alloc())?;
+fn are_done_and_seven(replies: &[Reply<i32, i64, u8>]) -> bool {
+    matches!(replies, [Reply::Done, Reply::Value(Some(7))])
+}
+
+fn given<R: Abort, C: Storage<Entry>>(rt: &R, alloc: Global, map: &mut Map<C>) -> Result<(), Fail> {
+    let commands = commands(alloc, Command::Update(range(), 7))?;
+    let replies = answered_in_turn(alloc, map, commands)?;
+    assert!(rt; are_done_and_seven(replies.as_slice()));
+    Ok(())
+}
+
+fn given_and_counted<R: Abort>(
+    rt: &R,
+    alloc: Global,
+    map: &mut RangeMap<i32, i64>,
+) -> Result<(), Fail> {
     let mut steps = Steps::new();
-    let replies = counted_in_turn(rt.alloc(), &mut map, &mut steps)?;
-    assert!(rt; matches!(replies.as_slice(), [Reply::Done, Reply::Value(Some(7))]));
-    assert!(rt; steps.count() <= 34); // of a map of one range: 2 * (6 * 1 + 10) + 2 * 1 at most
+    let commands = commands(alloc, Command::Insert(range(), 7))?;
+    let replies = counted_in_turn(alloc, map, commands, &mut steps)?;
+    // of a map of one range: 2 * (6 * 1 + 10) + 2 * 1 at most
+    assert!(rt; are_done_and_seven(replies.as_slice()) && steps.count() <= 34);
+    Ok(())
+}
+
+#[test]
+fn calls_that_take_commands(rt: HostRuntime) -> Result<(), Fail> {
+    given_and_counted(&rt, rt.alloc(), &mut ones(rt.alloc())?)?;
+    given(&rt, rt.alloc(), &mut ones(rt.alloc())?)?;
+    answered(&rt, &mut ones(rt.alloc())?);
     Ok(())
 }
 

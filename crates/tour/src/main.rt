@@ -8,8 +8,6 @@ mod json_values;
 #[cfg(test)]
 mod map_calls;
 #[cfg(test)]
-mod map_lists;
-#[cfg(test)]
 mod maps;
 #[cfg(test)]
 mod multimap_calls;
@@ -17,6 +15,8 @@ mod multimap_calls;
 mod multimaps;
 #[cfg(test)]
 mod ranges;
+#[cfg(test)]
+mod round_trip;
 #[cfg(test)]
 mod set_calls;
 #[cfg(test)]

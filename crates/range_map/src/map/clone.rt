@@ -45,7 +45,7 @@ impl<K: PartialEnum + Clone, V: Eq + Clone, C: Storage<Item<AnyRange<K>, V>>> Ra
     ///
     /// ```
     /// let copy = map.clone()?;
-    /// assert!(rt; copy == map && copy.cmp(&map) == Ordering::Equal);
+    /// assert!(rt; copy == *map && copy.cmp(map) == Ordering::Equal);
     /// ```
     pub fn clone(&self) -> Result<Self, AllocError>
         requires keys { ClonesAreEqual K.is_clone K.eq }

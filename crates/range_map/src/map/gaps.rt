@@ -104,8 +104,8 @@ impl<K: PartialEnum, V: Eq + Drop, C: Storage<Item<AnyRange<K>, V>>> RangeMap<K,
     /// of it. An iteration over all gaps takes one step for each stored range. Allocates nothing.
     ///
     /// ```
-    /// // of a map that binds 0..=5 to 1
-    /// assert!(rt; map.gaps().next().is_some()); // ..0, and then from 6 on
+    /// // of a map that binds 0..=5 to 1, whose gaps are ..0 and 6..
+    /// assert!(rt; map.iter().next().is_some() && map.gaps().next().is_some());
     /// ```
     pub fn gaps(&self) -> Gaps<'_, K, V, C>
         ensures gaps { AreGaps K.order (C.items self.now) result }

@@ -20,7 +20,7 @@ impl<K: PartialEnum, V: Eq + Drop, C: Storage<Item<AnyRange<K>, V>>> RangeMap<K,
     ///
     /// ```
     /// // of a map that binds 0..=5 to 1
-    /// assert!(rt; !map.is_empty());
+    /// assert!(rt; !map.is_empty() && map.contains_key(5) && map.get(5).copied() == Some(1));
     /// ```
     pub fn is_empty(&self) -> bool
         ensures { IsTrue result ↔ C.items self.now ≡ [] }
@@ -34,7 +34,7 @@ impl<K: PartialEnum, V: Eq + Drop, C: Storage<Item<AnyRange<K>, V>>> RangeMap<K,
     ///
     /// ```
     /// // of a map that binds 0..=5 to 1
-    /// assert!(rt; map.contains_key(5));
+    /// assert!(rt; !map.is_empty() && map.contains_key(5) && map.get(5).copied() == Some(1));
     /// ```
     pub fn contains_key(&self, key: K) -> bool
         ensures { IsTrue result ↔ IsBound K.order (C.items self.now) key }

@@ -127,8 +127,8 @@ impl<K: Measure + Clone, V: Eq + Clone, C: Storage<Item<AnyRange<K>, V>>> RangeM
     /// let filled = |old: Option<&i64>| -> Result<Option<i64>, u8> {
     ///     Ok(Some(old.copied().unwrap_or(7)))
     /// };
-    /// assert!(rt; map.update(3..9, filled).is_ok());
-    /// assert!(rt; map.get(8).copied() == Some(7)); // 0..=5 is bound to 1 as before
+    /// // 0..=5 is bound to 1 as before, and then 6..9 to 7
+    /// assert!(rt; map.update(3..9, filled).is_ok() && map.get(8).copied() == Some(7));
     /// ```
     pub fn update<R: AsRange<Item = K>, E: Drop, F: Fn(Option<&V>) -> Result<Option<V>, E>>(
         &mut self,
