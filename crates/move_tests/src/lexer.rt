@@ -1,6 +1,6 @@
 //! The rules of a lexer, and which word each text is.
 
-use crate::support::{States, Table, are, play, rules_of, set_of, step};
+use crate::support::{States, Table, are, play, rules_of, set_of, step, wrong_text};
 use btree_range_map::RangeFromExcluded;
 use btree_range_map::generic::map::MapError;
 use charmoves::{Moves, Rules};
@@ -86,20 +86,29 @@ static KINDS: &[(&str, &[u32])] = &[
     ("9x", &[]),
 ];
 
+fn is_kind(alloc: Global, moves: &Moves, text: &str, kind: &[u32]) -> Result<bool, MapError> {
+    let states = reached(alloc, moves, text)?;
+    Ok(are(&states, kind))
+}
+
 /// The first text that is of another kind.
 fn wrong_kind(alloc: Global, moves: &Moves) -> Result<Option<&'static str>, MapError> {
     for (text, kind) in KINDS {
-        if !are(alloc, reached(alloc, moves, text)?, kind)? {
+        if !is_kind(alloc, moves, text, kind)? {
             return Ok(Some(*text));
         }
     }
     Ok(None)
 }
 
+fn wrong_word(alloc: Global) -> Result<Option<&'static str>, MapError> {
+    let moves = Moves::build(rules_of(alloc, &WORDS)?);
+    wrong_kind(alloc, &moves)
+}
+
 #[test]
 fn kinds(rt: HostRuntime) -> Result<(), Fail> {
-    let moves = Moves::build(rules_of(rt.alloc(), &WORDS)?);
-    assert_eq!(rt; wrong_kind(rt.alloc(), &moves)?, None);
+    assert_eq!(rt; wrong_word(rt.alloc())?, None);
     Ok(())
 }
 
@@ -118,25 +127,33 @@ fn set_ends(rules: &mut Rules) -> Result<(), MapError> {
     rules.accept(TEXT)
 }
 
+fn add_all(rules: &mut Rules) -> Result<(), MapError> {
+    add_quotes(rules)?;
+    add_quoted(rules)?;
+    set_ends(rules)
+}
+
 /// Text in quotes, by single characters and ranges of other kinds.
 fn quoted_text(alloc: Global) -> Result<Rules, MapError> {
     let mut rules = Rules::new(alloc);
-    add_quotes(&mut rules)?;
-    add_quoted(&mut rules)?;
-    set_ends(&mut rules)?;
+    add_all(&mut rules)?;
     Ok(rules)
+}
+
+static QUOTED_TEXTS: &[(&str, bool)] = &[
+    ("\"a b\"", true),
+    ("\"\"", true),
+    ("\"a", false),
+    ("\"a\"b\"", false),
+];
+
+fn wrong_quoted_text(alloc: Global) -> Result<Option<&'static str>, MapError> {
+    let moves = Moves::build(quoted_text(alloc)?);
+    wrong_text(&moves, QUOTED_TEXTS)
 }
 
 #[test]
 fn ranges_of_any_kind(rt: HostRuntime) -> Result<(), Fail> {
-    let moves = Moves::build(quoted_text(rt.alloc())?);
-    for (text, expected) in [
-        ("\"a b\"", true),
-        ("\"\"", true),
-        ("\"a", false),
-        ("\"a\"b\"", false),
-    ] {
-        assert_eq!(rt; moves.accepts(text)?, expected);
-    }
+    assert_eq!(rt; wrong_quoted_text(rt.alloc())?, None);
     Ok(())
 }

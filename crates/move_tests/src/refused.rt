@@ -45,15 +45,20 @@ fn judges(moves: &Moves, text: &str, accepted: bool) -> bool {
     }
 }
 
-/// Whether all was gathered that `BEFORE` has and the call made, or else the call changed nothing.
-fn is_done_or_refused(alloc: Global, row: &(Change, &str, &str)) -> bool {
+/// Whether both texts are judged as they are to be once the call was made, or was refused.
+fn are_judged(mut rules: Rules, row: &(Change, &str, &str)) -> bool {
     let (call, always, after) = *row;
-    let Ok(mut rules) = rules_of(alloc, &BEFORE) else {
-        return true;
-    };
     let changed = make(&mut rules, call).is_ok();
     let moves = Moves::build(rules);
     judges(&moves, always, true) && judges(&moves, after, changed)
+}
+
+/// Whether all was gathered that `BEFORE` has and the call made, or else the call changed nothing.
+fn is_done_or_refused(alloc: Global, row: &(Change, &str, &str)) -> bool {
+    match rules_of(alloc, &BEFORE) {
+        Ok(rules) => are_judged(rules, row),
+        Err(MapError::Memory) => true,
+    }
 }
 
 fn are_done_or_refused(alloc: Global) -> bool {
