@@ -38,12 +38,16 @@ fn add(rules: &mut Rules, from: u32, c: char, to: u32) -> Result<(), MapError> {
     rules.add(from, c..=c, to)
 }
 
+fn fill_one(rules: &mut Rules, place: u16) -> Result<(), MapError> {
+    add(rules, FIRST, character(place), target(place))?;
+    rules.start(FIRST + 100 * u32::from(place))?;
+    rules.accept(LAST + 100 * u32::from(place))
+}
+
 /// Adds a rule, a start state and an accepting state for each index.
 fn fill(rules: &mut Rules, size: Size) -> Result<(), MapError> {
     for place in 0..size.count {
-        add(rules, FIRST, character(place), target(place))?;
-        rules.start(FIRST + 100 * u32::from(place))?;
-        rules.accept(LAST + 100 * u32::from(place))?;
+        fill_one(rules, place)?;
     }
     Ok(())
 }
@@ -98,13 +102,23 @@ fn change(rules: &mut Rules, call: AutomatonCall) -> Result<(), MapError> {
     }
 }
 
+/// The outcome of a change, by what the automaton does after it.
+fn changed(
+    moves: &Moves,
+    states: &BTreeSet<u32>,
+    size: Size,
+    call: AutomatonCall,
+    outcome: Result<(), MapError>,
+) -> Outcome {
+    match outcome {
+        Ok(()) => done(is_made(moves, states, call)),
+        Err(MapError::Memory) => refused(is_filled(moves, states, size)),
+    }
+}
+
 fn changing(mut rules: Rules, states: &BTreeSet<u32>, size: Size, call: AutomatonCall) -> Outcome {
     let outcome = change(&mut rules, call);
-    let moves = Moves::build(rules);
-    match outcome {
-        Ok(()) => done(is_made(&moves, states, call)),
-        Err(MapError::Memory) => refused(is_filled(&moves, states, size)),
-    }
+    changed(&Moves::build(rules), states, size, call, outcome)
 }
 
 fn stepping(moves: &Moves, states: &BTreeSet<u32>) -> Outcome {
@@ -121,18 +135,31 @@ fn accepting(moves: &Moves) -> Outcome {
     }
 }
 
+fn filled(alloc: Global, size: Size) -> Result<Rules, MapError> {
+    let mut rules = Rules::new(alloc);
+    fill(&mut rules, size)?;
+    Ok(rules)
+}
+
+fn trying(rules: Rules, states: &BTreeSet<u32>, size: Size, call: AutomatonCall) -> Outcome {
+    match call {
+        AutomatonCall::Step => stepping(&Moves::build(rules), states),
+        AutomatonCall::Accepts => accepting(&Moves::build(rules)),
+        _ => changing(rules, states, size, call),
+    }
+}
+
+fn outcome_from(alloc: Global, states: &BTreeSet<u32>, size: Size, call: AutomatonCall) -> Outcome {
+    match filled(alloc, size) {
+        Ok(rules) => trying(rules, states, size, call),
+        Err(MapError::Memory) => Outcome::Early,
+    }
+}
+
 /// Builds an automaton and makes the call.
 pub fn outcome(alloc: Global, size: Size, call: AutomatonCall) -> Outcome {
-    let Ok(states) = first(alloc) else {
-        return Outcome::Early;
-    };
-    let mut rules = Rules::new(alloc);
-    let Ok(()) = fill(&mut rules, size) else {
-        return Outcome::Early;
-    };
-    match call {
-        AutomatonCall::Step => stepping(&Moves::build(rules), &states),
-        AutomatonCall::Accepts => accepting(&Moves::build(rules)),
-        _ => changing(rules, &states, size, call),
+    match first(alloc) {
+        Ok(states) => outcome_from(alloc, &states, size, call),
+        Err(AllocError) => Outcome::Early,
     }
 }

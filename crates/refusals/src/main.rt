@@ -8,6 +8,7 @@
 #![tactic(auto)]
 
 mod automata;
+mod container;
 mod maps;
 mod multimaps;
 mod outcome;

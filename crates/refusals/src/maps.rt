@@ -1,5 +1,6 @@
 //! Calls of maps.
 
+use crate::container::{self, Container};
 use crate::outcome::{Outcome, done, refused};
 use crate::ranges::{Size, built, is_spelled, key, part};
 use btree_range_map::btree::BoxStorage;
@@ -10,13 +11,13 @@ use btree_range_map::{AnyRange, json};
 use serde_json::Value;
 use std::alloc::{AllocError, Global};
 
-pub type Entry = Item<AnyRange<i32>, String>;
-
-pub type Vector = VecStorage<Entry>;
-
-pub type Tree = BoxStorage<Entry>;
+type Entry = Item<AnyRange<i32>, String>;
 
 type Map<C> = RangeMap<i32, String, C>;
+
+type Commands = Vec<Command<i32, String, ()>>;
+
+type Answer = Reply<i32, String, AllocError>;
 
 /// A call of a map, at its middle range.
 #[derive(Clone, Copy)]
@@ -47,113 +48,39 @@ fn text(place: u16, size: Size) -> &'static str {
     if place == size.middle() { "middle" } else { "" }
 }
 
-fn insert<C: Storage<Entry>>(
-    map: &mut Map<C>,
-    range: AnyRange<i32>,
-    text: String,
-) -> Result<(), MapError> {
-    map.insert(range, text)
-}
+/// The calls of a map, and looks at it.
+trait Bindings: Sized + Drop {
+    fn bind(&mut self, range: AnyRange<i32>, text: String) -> Result<(), MapError>;
 
-fn bind<C: Storage<Entry>>(
-    alloc: Global,
-    map: &mut Map<C>,
-    range: AnyRange<i32>,
-    text: &str,
-) -> Result<(), MapError> {
-    insert(map, range, String::from_str(alloc, text)?)
-}
+    fn bind_apart(
+        &mut self,
+        range: AnyRange<i32>,
+        text: String,
+    ) -> Result<(), NotInserted<i32, String>>;
 
-/// Stores the ranges one after the other. Returns the index of the first that was refused.
-fn fill<C: Storage<Entry>>(alloc: Global, map: &mut Map<C>, size: Size) -> Result<(), u16> {
-    for place in 0..size.count {
-        let Ok(()) = bind(alloc, map, built(place), text(place, size)) else {
-            return Err(place);
-        };
-    }
-    Ok(())
-}
+    fn unbind(&mut self, range: AnyRange<i32>) -> Result<(), MapError>;
 
-/// Whether the map stores just the ranges of the first indices.
-fn is_filled<C: Storage<Entry>>(map: &Map<C>, places: u16, size: Size) -> bool {
-    let mut stored = map.iter();
-    for place in 0..places {
-        let Some((range, value)) = stored.next() else {
-            return false;
-        };
-        if !is_spelled(range, built(place)) || value.as_str() != text(place, size) {
-            return false;
-        }
-    }
-    stored.next().is_none()
-}
+    /// Binds what is free to a new text.
+    fn bind_free(
+        &mut self,
+        alloc: Global,
+        range: AnyRange<i32>,
+    ) -> Result<(), UpdateError<AllocError>>;
 
-fn is_bound<C: Storage<Entry>>(map: &Map<C>, key: i32, text: &str) -> bool {
-    match map.get(key) {
-        Some(value) => value.as_str() == text,
-        None => false,
-    }
-}
+    fn copied(&self) -> Result<Self, AllocError>;
 
-/// The outcome of a change: how many ranges more there are after it, and what a key is bound to.
-fn changed<C: Storage<Entry>>(
-    map: &Map<C>,
-    size: Size,
-    outcome: Result<(), MapError>,
-    more: u8,
-    bound: (i32, &str),
-) -> Outcome {
-    match outcome {
-        Ok(()) => {
-            let count = usize::from(size.count) + usize::from(more);
-            done(map.range_count() == count && is_bound(map, bound.0, bound.1))
-        }
-        Err(MapError::Memory) => refused(is_filled(map, size.count, size)),
-    }
-}
+    fn answers(&mut self, alloc: Global, commands: Commands) -> Result<Vec<Answer>, MapError>;
 
-fn insertion<C: Storage<Entry>>(
-    alloc: Global,
-    map: &mut Map<C>,
-    size: Size,
-    range: AnyRange<i32>,
-    more: u8,
-    new: u8,
-) -> Outcome {
-    let outcome = bind(alloc, map, range, NEW);
-    changed(map, size, outcome, more, (key(size.middle(), new), NEW))
-}
+    fn written(&self, alloc: Global) -> Result<Value, AllocError>;
 
-fn insert_disconnected<C: Storage<Entry>>(
-    map: &mut Map<C>,
-    range: AnyRange<i32>,
-    text: String,
-) -> Result<(), NotInserted<i32, String>> {
-    map.insert_disconnected(range, text)
-}
+    fn read(alloc: Global, value: &Value) -> Result<Self, json::JsonError>;
 
-/// A refused insertion has to hand back the range and the text.
-fn disconnected<C: Storage<Entry>>(alloc: Global, map: &mut Map<C>, size: Size) -> Outcome {
-    let range = part(size.middle(), 6, 8);
-    let Ok(text) = String::from_str(alloc, NEW) else {
-        return Outcome::Early;
-    };
-    match insert_disconnected(map, range, text) {
-        Ok(()) => changed(map, size, Ok(()), 1, (key(size.middle(), 6), NEW)),
-        Err(NotInserted::Memory(given, text)) => refused(
-            is_spelled(&given, range) && text.as_str() == NEW && is_filled(map, size.count, size),
-        ),
-        Err(NotInserted::Connected(_, _)) => Outcome::Wrong,
-    }
-}
+    /// Whether it stores just the ranges of the first indices.
+    fn is_built(&self, places: u16, size: Size) -> bool;
 
-fn remove<C: Storage<Entry>>(map: &mut Map<C>, range: AnyRange<i32>) -> Result<(), MapError> {
-    map.remove(range)
-}
+    fn count(&self) -> usize;
 
-fn removal<C: Storage<Entry>>(map: &mut Map<C>, size: Size) -> Outcome {
-    let outcome = remove(map, part(size.middle(), 1, 3));
-    changed(map, size, outcome, 1, (key(size.middle(), 0), "middle"))
+    fn bound(&self, key: i32) -> Option<&String>;
 }
 
 /// A clone of what is bound, and a new text where nothing is.
@@ -164,149 +91,295 @@ fn bound_or_new(alloc: Global, bound: Option<&String>) -> Result<Option<String>,
     }
 }
 
-fn fill_free<C: Storage<Entry>>(
-    alloc: Global,
-    map: &mut Map<C>,
-    range: AnyRange<i32>,
-) -> Result<(), UpdateError<AllocError>> {
-    map.update(range, |bound| bound_or_new(alloc, bound))
+fn unasked(_tag: &(), _bound: Option<&String>) -> Result<Option<String>, AllocError> {
+    Err(AllocError)
 }
 
-fn update<C: Storage<Entry>>(alloc: Global, map: &mut Map<C>, size: Size) -> Outcome {
+/// Whether the next item is the one of an index.
+fn is_next(next: Option<(&AnyRange<i32>, &String)>, place: u16, size: Size) -> bool {
+    match next {
+        Some((range, value)) => {
+            is_spelled(range, built(place)) && value.as_str() == text(place, size)
+        }
+        None => false,
+    }
+}
+
+impl<C: Storage<Entry>> Bindings for Map<C> {
+    fn bind(&mut self, range: AnyRange<i32>, text: String) -> Result<(), MapError> {
+        self.insert(range, text)
+    }
+
+    fn bind_apart(
+        &mut self,
+        range: AnyRange<i32>,
+        text: String,
+    ) -> Result<(), NotInserted<i32, String>> {
+        self.insert_disconnected(range, text)
+    }
+
+    fn unbind(&mut self, range: AnyRange<i32>) -> Result<(), MapError> {
+        self.remove(range)
+    }
+
+    fn bind_free(
+        &mut self,
+        alloc: Global,
+        range: AnyRange<i32>,
+    ) -> Result<(), UpdateError<AllocError>> {
+        self.update(range, |bound| bound_or_new(alloc, bound))
+    }
+
+    fn copied(&self) -> Result<Map<C>, AllocError> {
+        self.clone()
+    }
+
+    fn answers(&mut self, alloc: Global, commands: Commands) -> Result<Vec<Answer>, MapError> {
+        run(alloc, self, commands, &unasked)
+    }
+
+    fn written(&self, alloc: Global) -> Result<Value, AllocError> {
+        json::map_to_json(alloc, self)
+    }
+
+    fn read(alloc: Global, value: &Value) -> Result<Map<C>, json::JsonError> {
+        json::map_from_json(alloc, value)
+    }
+
+    fn is_built(&self, places: u16, size: Size) -> bool {
+        let mut stored = self.iter();
+        for place in 0..places {
+            if !is_next(stored.next(), place, size) {
+                return false;
+            }
+        }
+        stored.next().is_none()
+    }
+
+    fn count(&self) -> usize {
+        self.range_count()
+    }
+
+    fn bound(&self, key: i32) -> Option<&String> {
+        self.get(key)
+    }
+}
+
+fn bind_text<M: Bindings>(
+    alloc: Global,
+    map: &mut M,
+    range: AnyRange<i32>,
+    text: &str,
+) -> Result<(), MapError> {
+    map.bind(range, String::from_str(alloc, text)?)
+}
+
+fn is_bound<M: Bindings>(map: &M, key: i32, text: &str) -> bool {
+    match map.bound(key) {
+        Some(value) => value.as_str() == text,
+        None => false,
+    }
+}
+
+/// The outcome of a change: how many ranges more there are after it, and what a key is bound to.
+fn changed<M: Bindings>(
+    map: &M,
+    size: Size,
+    outcome: Result<(), MapError>,
+    more: u8,
+    bound: (i32, &str),
+) -> Outcome {
+    match outcome {
+        Ok(()) => {
+            let count = usize::from(size.count) + usize::from(more);
+            done(map.count() == count && is_bound(map, bound.0, bound.1))
+        }
+        Err(MapError::Memory) => refused(map.is_built(size.count, size)),
+    }
+}
+
+fn inserting<M: Bindings>(
+    alloc: Global,
+    map: &mut M,
+    size: Size,
+    range: AnyRange<i32>,
+    more: u8,
+    new: u8,
+) -> Outcome {
+    let outcome = bind_text(alloc, map, range, NEW);
+    changed(map, size, outcome, more, (key(size.middle(), new), NEW))
+}
+
+/// Whether what a refused insertion hands back is what it was given, and the map as it was.
+fn is_handed_back<M: Bindings>(map: &M, size: Size, given: &AnyRange<i32>, text: &str) -> bool {
+    is_spelled(given, part(size.middle(), 6, 8)) && text == NEW && map.is_built(size.count, size)
+}
+
+fn inserting_text_apart<M: Bindings>(map: &mut M, size: Size, text: String) -> Outcome {
+    match map.bind_apart(part(size.middle(), 6, 8), text) {
+        Ok(()) => changed(map, size, Ok(()), 1, (key(size.middle(), 6), NEW)),
+        Err(NotInserted::Memory(given, text)) => {
+            refused(is_handed_back(map, size, &given, text.as_str()))
+        }
+        Err(NotInserted::Connected(_, _)) => Outcome::Wrong,
+    }
+}
+
+/// A refused insertion has to hand back the range and the text.
+fn inserting_apart<M: Bindings>(alloc: Global, map: &mut M, size: Size) -> Outcome {
+    match String::from_str(alloc, NEW) {
+        Ok(text) => inserting_text_apart(map, size, text),
+        Err(AllocError) => Outcome::Early,
+    }
+}
+
+fn removing<M: Bindings>(map: &mut M, size: Size) -> Outcome {
+    let outcome = map.unbind(part(size.middle(), 1, 3));
+    changed(map, size, outcome, 1, (key(size.middle(), 0), "middle"))
+}
+
+fn updating<M: Bindings>(alloc: Global, map: &mut M, size: Size) -> Outcome {
     let middle = size.middle();
-    let outcome = match fill_free(alloc, map, part(middle, 3, 25)) {
+    let outcome = match map.bind_free(alloc, part(middle, 3, 25)) {
         Ok(()) => Ok(()),
         Err(_) => Err(MapError::Memory),
     };
     changed(map, size, outcome, 2, (key(middle, 6), NEW))
 }
 
-fn cloning<C: Storage<Entry>>(map: &Map<C>, size: Size) -> Outcome {
-    match map.clone() {
-        Ok(other) => done(is_filled(&other, size.count, size)),
-        Err(AllocError) => refused(is_filled(map, size.count, size)),
+fn cloning<M: Bindings>(map: &M, size: Size) -> Outcome {
+    match map.copied() {
+        Ok(other) => done(other.is_built(size.count, size)),
+        Err(AllocError) => refused(map.is_built(size.count, size)),
     }
 }
 
-fn unasked(_tag: &(), _bound: Option<&String>) -> Result<Option<String>, AllocError> {
-    Err(AllocError)
+fn insertion(alloc: Global, size: Size) -> Result<Command<i32, String, ()>, AllocError> {
+    let text = String::from_str(alloc, NEW)?;
+    Ok(Command::Insert(part(size.middle(), 6, 8), text))
 }
 
-fn commands(alloc: Global, size: Size) -> Result<Vec<Command<i32, String, ()>>, AllocError> {
-    let middle = size.middle();
-    Ok(vec![in alloc;
-        Command::Insert(part(middle, 6, 8), String::from_str(alloc, NEW)?),
-        Command::Remove(part(middle, 1, 3)),
-    ]?)
+fn commands(alloc: Global, size: Size) -> Result<Commands, AllocError> {
+    let removal = Command::Remove(part(size.middle(), 1, 3));
+    Ok(vec![in alloc; insertion(alloc, size)?, removal]?)
 }
 
-fn replies<C: Storage<Entry>>(
-    alloc: Global,
-    map: &mut Map<C>,
-    commands: Vec<Command<i32, String, ()>>,
-) -> Result<Vec<Reply<i32, String, AllocError>>, MapError> {
-    run(alloc, map, commands, &unasked)
-}
-
-/// Whether a command was done, and `None` where it was neither done nor refused.
-fn is_done(reply: &Reply<i32, String, AllocError>) -> Option<bool> {
+/// Whether the command was done where it is to be, and was else refused.
+fn is_answered(reply: &Answer, done: bool) -> bool {
     match reply {
-        Reply::Done => Some(true),
-        Reply::Memory => Some(false),
-        _ => None,
+        Reply::Done => done,
+        Reply::Memory => !done,
+        _ => false,
     }
 }
 
 /// Whether just those of the two commands were done that say so.
-fn is_each_whole<C: Storage<Entry>>(
-    map: &Map<C>,
-    size: Size,
-    replies: &[Reply<i32, String, AllocError>],
-) -> bool {
-    let inserted = map.contains_key(key(size.middle(), 6));
-    let removed = !map.contains_key(key(size.middle(), 1));
+fn is_each_whole<M: Bindings>(map: &M, size: Size, answers: &[Answer]) -> bool {
+    let [first, last] = answers else {
+        return false;
+    };
+    let inserted = map.bound(key(size.middle(), 6)).is_some();
+    let removed = map.bound(key(size.middle(), 1)).is_none();
     let count = usize::from(size.count) + usize::from(inserted) + usize::from(removed);
-    replies.len() == 2
-        && replies.first().and_then(is_done) == Some(inserted)
-        && replies.last().and_then(is_done) == Some(removed)
-        && map.range_count() == count
+    is_answered(first, inserted) && is_answered(last, removed) && map.count() == count
 }
 
-fn running<C: Storage<Entry>>(alloc: Global, map: &mut Map<C>, size: Size) -> Outcome {
-    let Ok(commands) = commands(alloc, size) else {
-        return Outcome::Early;
-    };
-    match replies(alloc, map, commands) {
-        Ok(replies) => {
-            let whole = is_each_whole(map, size, replies.as_slice());
-            if map.range_count() == usize::from(size.count) + 2 {
-                done(whole)
-            } else {
-                refused(whole)
-            }
-        }
-        Err(MapError::Memory) => refused(is_filled(map, size.count, size)),
+fn ran<M: Bindings>(map: &M, size: Size, answers: &[Answer]) -> Outcome {
+    let whole = is_each_whole(map, size, answers);
+    if map.count() == usize::from(size.count) + 2 {
+        done(whole)
+    } else {
+        refused(whole)
     }
 }
 
-fn read<C: Storage<Entry>>(alloc: Global, value: &Value) -> Result<Map<C>, json::JsonError> {
-    json::map_from_json(alloc, value)
+fn running_all<M: Bindings>(alloc: Global, map: &mut M, size: Size, commands: Commands) -> Outcome {
+    match map.answers(alloc, commands) {
+        Ok(answers) => ran(map, size, answers.as_slice()),
+        Err(MapError::Memory) => refused(map.is_built(size.count, size)),
+    }
 }
 
-fn written<C: Storage<Entry>>(alloc: Global, map: &Map<C>) -> Result<Value, AllocError> {
-    json::map_to_json(alloc, map)
+fn running<M: Bindings>(alloc: Global, map: &mut M, size: Size) -> Outcome {
+    match commands(alloc, size) {
+        Ok(commands) => running_all(alloc, map, size, commands),
+        Err(AllocError) => Outcome::Early,
+    }
 }
 
-/// The outcome of reading what the map is written as.
-fn reading<C: Storage<Entry>>(alloc: Global, value: &Value, size: Size) -> Outcome {
-    match read::<C>(alloc, value) {
-        Ok(map) => done(is_filled(&map, size.count, size)),
+fn writing<M: Bindings>(alloc: Global, map: &M, size: Size) -> Outcome {
+    match map.written(alloc) {
+        Ok(_) => done(map.is_built(size.count, size)),
+        Err(AllocError) => refused(map.is_built(size.count, size)),
+    }
+}
+
+fn reading_value<M: Bindings>(alloc: Global, value: &Value, size: Size) -> Outcome {
+    match M::read(alloc, value) {
+        Ok(map) => done(map.is_built(size.count, size)),
         Err(json::JsonError::Memory) => Outcome::Kept,
         Err(_) => Outcome::Wrong,
     }
 }
 
-fn writing<C: Storage<Entry>>(alloc: Global, map: &Map<C>, size: Size, reads: bool) -> Outcome {
-    match written(alloc, map) {
-        Ok(value) => {
-            if reads {
-                reading::<C>(alloc, &value, size)
-            } else {
-                done(is_filled(map, size.count, size))
-            }
-        }
-        Err(AllocError) => {
-            if reads {
-                Outcome::Early
-            } else {
-                refused(is_filled(map, size.count, size))
-            }
-        }
+/// The outcome of reading what the map is written as.
+fn reading<M: Bindings>(alloc: Global, map: &M, size: Size) -> Outcome {
+    match map.written(alloc) {
+        Ok(value) => reading_value::<M>(alloc, &value, size),
+        Err(AllocError) => Outcome::Early,
     }
 }
 
-fn call<C: Storage<Entry>>(alloc: Global, map: &mut Map<C>, size: Size, call: MapCall) -> Outcome {
+fn trying<M: Bindings>(alloc: Global, map: &mut M, size: Size, call: MapCall) -> Outcome {
     let middle = size.middle();
     match call {
-        MapCall::InsertFree => insertion(alloc, map, size, part(middle, 6, 8), 1, 6),
-        MapCall::InsertInside => insertion(alloc, map, size, part(middle, 1, 3), 2, 1),
-        MapCall::InsertAcross => insertion(alloc, map, size, part(middle, 3, 12), 1, 3),
-        MapCall::InsertDisconnected => disconnected(alloc, map, size),
-        MapCall::Remove => removal(map, size),
-        MapCall::Update => update(alloc, map, size),
+        MapCall::InsertFree => inserting(alloc, map, size, part(middle, 6, 8), 1, 6),
+        MapCall::InsertInside => inserting(alloc, map, size, part(middle, 1, 3), 2, 1),
+        MapCall::InsertAcross => inserting(alloc, map, size, part(middle, 3, 12), 1, 3),
+        MapCall::InsertDisconnected => inserting_apart(alloc, map, size),
+        MapCall::Remove => removing(map, size),
+        MapCall::Update => updating(alloc, map, size),
         MapCall::Clone => cloning(map, size),
         MapCall::Run => running(alloc, map, size),
-        MapCall::Write => writing(alloc, map, size, false),
-        MapCall::Read => writing(alloc, map, size, true),
+        MapCall::Write => writing(alloc, map, size),
+        MapCall::Read => reading(alloc, map, size),
     }
 }
 
-/// Builds a map and makes the call.
-pub fn outcome<C: Storage<Entry>>(alloc: Global, size: Size, what: MapCall) -> Outcome {
+impl<C: Storage<Entry>> Container for Map<C> {
+    type Call = MapCall;
+
+    fn store(&mut self, alloc: Global, place: u16, size: Size) -> Result<(), MapError> {
+        bind_text(alloc, self, built(place), text(place, size))
+    }
+
+    fn is_filled(&self, places: u16, size: Size) -> bool {
+        self.is_built(places, size)
+    }
+
+    fn try_call(&mut self, alloc: Global, size: Size, call: MapCall) -> Outcome {
+        trying(alloc, self, size, call)
+    }
+}
+
+fn over<C: Storage<Entry>>(alloc: Global, size: Size, call: MapCall) -> Outcome {
     let mut map: Map<C> = RangeMap::new(alloc);
-    match fill(alloc, &mut map, size) {
-        Ok(()) => call(alloc, &mut map, size, what),
-        Err(place) if is_filled(&map, place, size) => Outcome::Early,
-        Err(_) => Outcome::Wrong,
+    container::outcome(alloc, &mut map, size, call)
+}
+
+fn over_vector(alloc: Global, size: Size, call: MapCall) -> Outcome {
+    over::<VecStorage<Entry>>(alloc, size, call)
+}
+
+fn over_tree(alloc: Global, size: Size, call: MapCall) -> Outcome {
+    over::<BoxStorage<Entry>>(alloc, size, call)
+}
+
+/// Builds a map over a tree or over a vector, and makes the call.
+pub fn outcome(alloc: Global, size: Size, call: MapCall, tree: bool) -> Outcome {
+    if tree {
+        over_tree(alloc, size, call)
+    } else {
+        over_vector(alloc, size, call)
     }
 }

@@ -7,7 +7,6 @@ use crate::outcome::Outcome;
 use crate::ranges::Size;
 use crate::sets::{self, SetCall};
 use std::alloc::Global;
-use std::collections::{BTreeSet, HashSet};
 
 /// A call of some type. Multimaps have one of two types of sets.
 #[derive(Clone, Copy)]
@@ -87,40 +86,14 @@ pub static CALLS: &[(&str, Call)] = &[
 /// How many ranges are stored: such trees have one, two and three levels.
 pub const SIZES: [u16; 3] = [4, 16, 144];
 
-fn over_vector(alloc: Global, call: Call, size: Size) -> Outcome {
-    match call {
-        Call::Map(call) => maps::outcome::<maps::Vector>(alloc, size, call),
-        Call::Set(call) => sets::outcome::<sets::Vector>(alloc, size, call),
-        Call::Ordered(call) => {
-            multimaps::outcome::<BTreeSet<i32>, multimaps::Vector<BTreeSet<i32>>>(alloc, size, call)
-        }
-        Call::Hashed(call) => {
-            multimaps::outcome::<HashSet<i32>, multimaps::Vector<HashSet<i32>>>(alloc, size, call)
-        }
-        Call::Automaton(call) => automata::outcome(alloc, size, call),
-    }
-}
-
-fn over_tree(alloc: Global, call: Call, size: Size) -> Outcome {
-    match call {
-        Call::Map(call) => maps::outcome::<maps::Tree>(alloc, size, call),
-        Call::Set(call) => sets::outcome::<sets::Tree>(alloc, size, call),
-        Call::Ordered(call) => {
-            multimaps::outcome::<BTreeSet<i32>, multimaps::Tree<BTreeSet<i32>>>(alloc, size, call)
-        }
-        Call::Hashed(call) => {
-            multimaps::outcome::<HashSet<i32>, multimaps::Tree<HashSet<i32>>>(alloc, size, call)
-        }
-        Call::Automaton(call) => automata::outcome(alloc, size, call),
-    }
-}
-
 /// Makes the call once so many ranges are stored, over a tree or over a vector.
 pub fn outcome(alloc: Global, call: Call, count: u16, tree: bool) -> Outcome {
     let size = Size { count };
-    if tree {
-        over_tree(alloc, call, size)
-    } else {
-        over_vector(alloc, call, size)
+    match call {
+        Call::Map(call) => maps::outcome(alloc, size, call, tree),
+        Call::Set(call) => sets::outcome(alloc, size, call, tree),
+        Call::Ordered(call) => multimaps::ordered(alloc, size, call, tree),
+        Call::Hashed(call) => multimaps::hashed(alloc, size, call, tree),
+        Call::Automaton(call) => automata::outcome(alloc, size, call),
     }
 }
