@@ -14,6 +14,8 @@ mod multimap_calls;
 #[cfg(test)]
 mod multimaps;
 #[cfg(test)]
+mod ports;
+#[cfg(test)]
 mod ranges;
 #[cfg(test)]
 mod round_trip;

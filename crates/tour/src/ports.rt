@@ -1,10 +1,9 @@
-//! Tables of rules, and what they say of ports.
+//! Tables of rules on ports, and what they say. The README shows one.
 
-use crate::{AccessTable, Port};
-use btree_range_map::MapError;
+use access::{AccessTable, Port};
 use btree_range_map::range::traits::{Bounded, Measure, PartialEnum};
+use btree_range_map::{MapError, RangeSet};
 use std::alloc::Global;
-use std::process::Abort;
 use std::test::Fail;
 
 /// A rule on the ports from a first to a last one, or what the table has to say then.
@@ -26,21 +25,36 @@ fn says(table: &AccessTable, port: u16, label: Option<&str>) -> bool {
     }
 }
 
+fn port_count(open: &RangeSet<Port>) -> u128 {
+    open.len()
+}
+
+fn range_count(open: &RangeSet<Port>) -> usize {
+    open.range_count()
+}
+
 fn leaves_open(table: &AccessTable, ports: u128, ranges: usize) -> Result<bool, MapError> {
     let open = table.open()?;
-    Ok(open.len() == ports && open.range_count() == ranges)
+    Ok(port_count(&open) == ports && range_count(&open) == ranges)
+}
+
+fn allow(table: &mut AccessTable, first: u16, last: u16, label: String) -> Result<(), MapError> {
+    table.allow(Port(first)..=Port(last), label)
+}
+
+fn deny(table: &mut AccessTable, first: u16, last: u16) -> Result<(), MapError> {
+    table.deny(Port(first)..=Port(last))
 }
 
 /// Gives the table a rule, or tells whether what it has to say holds.
 fn goes(alloc: Global, table: &mut AccessTable, row: Row) -> Result<bool, MapError> {
     match row {
         Row::Allow(first, last, label) => {
-            let label = String::from_str(alloc, label)?;
-            table.allow(Port(first)..=Port(last), label)?;
+            allow(table, first, last, String::from_str(alloc, label)?)?;
             Ok(true)
         }
         Row::Deny(first, last) => {
-            table.deny(Port(first)..=Port(last))?;
+            deny(table, first, last)?;
             Ok(true)
         }
         Row::Rule(port, label) => Ok(says(table, port, label)),
@@ -49,14 +63,18 @@ fn goes(alloc: Global, table: &mut AccessTable, row: Row) -> Result<bool, MapErr
 }
 
 /// The index of the first row that does not hold, or the number of rows.
-fn play(alloc: Global, rows: &[Row]) -> Result<usize, MapError> {
-    let mut table = AccessTable::new(alloc);
+fn held(alloc: Global, table: &mut AccessTable, rows: &[Row]) -> Result<usize, MapError> {
     for (place, row) in rows.iter().enumerate() {
-        if !goes(alloc, &mut table, *row)? {
+        if !goes(alloc, table, *row)? {
             return Ok(place);
         }
     }
     Ok(rows.len())
+}
+
+/// The same of a new table.
+fn play(alloc: Global, rows: &[Row]) -> Result<usize, MapError> {
+    held(alloc, &mut AccessTable::new(alloc), rows)
 }
 
 static A_HOST: &[Row] = &[
@@ -101,14 +119,13 @@ static ON_ONE_PORT: &[(Row, Option<&'static str>)] = &[
 ];
 
 /// Whether the last rule that was not refused decides after each.
-fn last_done_decides(alloc: Global) -> bool {
-    let mut table = AccessTable::new(alloc);
+fn last_done_decides(alloc: Global, table: &mut AccessTable) -> bool {
     let mut label = None;
     for (rule, next) in ON_ONE_PORT {
-        if goes(alloc, &mut table, *rule).is_ok() {
+        if goes(alloc, table, *rule).is_ok() {
             label = *next;
         }
-        if !says(&table, 22, label) {
+        if !says(table, 22, label) {
             return false;
         }
     }
@@ -117,7 +134,7 @@ fn last_done_decides(alloc: Global) -> bool {
 
 #[test]
 fn a_refused_rule_changes_nothing(rt: HostRuntime) {
-    assert!(rt; last_done_decides(rt.alloc()));
+    assert!(rt; last_done_decides(rt.alloc(), &mut AccessTable::new(rt.alloc())));
 }
 
 /// A label on a key alone, without a name for the range.
@@ -134,13 +151,20 @@ fn a_port_is_a_range(rt: HostRuntime) -> Result<(), Fail> {
     Ok(())
 }
 
+fn ends_have_one_neighbour() -> bool {
+    Port(0).pred().is_none()
+        && Port(1).pred() == Some(Port(0))
+        && Port(65_534).succ() == Some(Port(65_535))
+        && Port(65_535).succ().is_none()
+}
+
+fn is_measured() -> bool {
+    <Port as Bounded>::max() == Port(65_535)
+        && Port(0).distance(&Port(65_535)) == 65_535
+        && Port(65_535).len() == 1
+}
+
 #[test]
 fn ports_have_ends_and_neighbours(rt: HostRuntime) {
-    assert_eq!(rt; Port(0).pred(), None);
-    assert_eq!(rt; Port(1).pred(), Some(Port(0)));
-    assert_eq!(rt; Port(65_534).succ(), Some(Port(65_535)));
-    assert_eq!(rt; Port(65_535).succ(), None);
-    assert_eq!(rt; <Port as Bounded>::max(), Port(65_535));
-    assert_eq!(rt; Port(0).distance(&Port(65_535)), 65_535);
-    assert_eq!(rt; Port(65_535).len(), 1);
+    assert!(rt; ends_have_one_neighbour() && is_measured());
 }
