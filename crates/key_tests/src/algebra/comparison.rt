@@ -1,9 +1,9 @@
-use crate::expecting::expect_answer;
+use crate::expecting::{expect_answer, expect_answers};
 use range_algebra::any::AnyRange;
 use range_algebra::ordering::{RangeOrdering, RangePartialOrd};
 use range_algebra::range::{AsRange, RangeFromExcludedTo};
 use std::hash::{DefaultHasher, Hash, Hasher};
-use std::ops::Bound;
+use std::ops::{Bound, Range};
 
 fn hash_of(range: &AnyRange<u8>) -> u64 {
     let mut state = DefaultHasher::new();
@@ -23,30 +23,13 @@ fn compares_ranges(rt: HostRuntime) {
 
 #[test]
 fn tells_how_ranges_lie(rt: HostRuntime) {
-    expect_answer(
-        &rt,
-        "before",
-        RangeOrdering::Before(true).is_before(false),
-        true,
-    );
-    expect_answer(
-        &rt,
-        "apart",
-        RangeOrdering::Before(true).is_before(true),
-        false,
-    );
-    expect_answer(
-        &rt,
-        "after",
-        RangeOrdering::After(false).is_after(true),
-        true,
-    );
-    expect_answer(
-        &rt,
-        "touching",
-        RangeOrdering::After(true).matches(true),
-        true,
-    );
+    let rows = [
+        ("before", RangeOrdering::Before(true).is_before(false), true),
+        ("apart", RangeOrdering::Before(true).is_before(true), false),
+        ("after", RangeOrdering::After(false).is_after(true), true),
+        ("touching", RangeOrdering::After(true).matches(true), true),
+    ];
+    expect_answers(&rt, &rows);
 }
 
 fn full() -> AnyRange<u8> {
@@ -67,38 +50,20 @@ fn compares_by_position(rt: HostRuntime) {
     assert!(rt; full().range_partial_cmp(&past) == Some(RangeOrdering::Before(false)));
 }
 
+fn are_connected(own: Range<i32>, other: Range<i32>) -> bool {
+    own.connected_to(&other)
+}
+
 #[test]
 fn connects(rt: HostRuntime) {
-    expect_answer(
-        &rt,
-        "0..10, 5..100",
-        (0i32..10).connected_to(&(5..100)),
-        true,
-    );
-    expect_answer(
-        &rt,
-        "0..10, 10..20",
-        (0i32..10).connected_to(&(10..20)),
-        true,
-    );
-    expect_answer(
-        &rt,
-        "10..20, 0..10",
-        (10i32..20).connected_to(&(0..10)),
-        true,
-    );
-    expect_answer(
-        &rt,
-        "0..10, 11..20",
-        (0i32..10).connected_to(&(11..20)),
-        false,
-    );
-    expect_answer(
-        &rt,
-        "11..20, 0..10",
-        (11i32..20).connected_to(&(0..10)),
-        false,
-    );
+    let rows = [
+        ("0..10, 5..100", are_connected(0..10, 5..100), true),
+        ("0..10, 10..20", are_connected(0..10, 10..20), true),
+        ("10..20, 0..10", are_connected(10..20, 0..10), true),
+        ("0..10, 11..20", are_connected(0..10, 11..20), false),
+        ("11..20, 0..10", are_connected(11..20, 0..10), false),
+    ];
+    expect_answers(&rt, &rows);
 }
 
 #[test]

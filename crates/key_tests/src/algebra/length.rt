@@ -5,7 +5,7 @@ ghost use Rattle.range_algebra.specs.Numbers.{IsNumberOfKeys};
 ghost use Rattle.range_algebra.specs.Range.{Holds};
 
 use super::page::Page;
-use crate::expecting::expect_length;
+use crate::expecting::expect_lengths;
 use range_algebra::any::AnyRange;
 use range_keys::inner::counted::{Counted, measure_counts_keys};
 use range_keys::traits::Bounded;
@@ -96,20 +96,22 @@ fn number_of_all<T: Counted + Bounded>() -> u128 {
 
 #[test]
 fn lengths_are_known(rt: HostRuntime) {
-    expect_length(&rt, "bytes from ten", bytes_from_ten(), 246);
-    expect_length(&rt, "all bytes", all_bytes(), 256);
-    expect_length(&rt, "last byte", last_byte(), 1);
-    expect_length(&rt, "above zero", numbers_above_zero(), 4_294_967_295);
-    expect_length(&rt, "above the greatest", above_the_greatest(), 0);
-    expect_length(&rt, "reversed", reversed(), 0);
-    expect_length(&rt, "between itself", between_itself(), 0);
-    expect_length(&rt, "all characters", all_characters(), 1_112_064);
-    expect_length(
-        &rt,
-        "all numbers",
-        all_numbers(),
-        18_446_744_073_709_551_616,
-    );
+    let rows = [
+        ("bytes from ten", bytes_from_ten(), 246),
+        ("all bytes", all_bytes(), 256),
+        ("last byte", last_byte(), 1),
+        ("above zero", numbers_above_zero(), 4_294_967_295),
+        ("above the greatest", above_the_greatest(), 0),
+        ("reversed", reversed(), 0),
+        ("between itself", between_itself(), 0),
+        ("all characters", all_characters(), 1_112_064),
+        ("all numbers", all_numbers(), 18_446_744_073_709_551_616),
+    ];
+    expect_lengths(&rt, &rows);
+}
+
+#[test]
+fn lengths_of_pages_are_known(rt: HostRuntime) {
     assert!(rt; pages_from_three() == None);
     assert!(rt; pages_above_three_to_five() == Some(8192));
     assert!(rt; pages_reversed() == Some(0));
@@ -121,30 +123,18 @@ fn beside_surrogates() -> u128 {
 
 #[test]
 fn shipped_keys_are_counted(rt: HostRuntime) {
-    expect_length(&rt, "u8", number_of_all::<u8>(), 256);
-    expect_length(&rt, "u16", number_of_all::<u16>(), 65_536);
-    expect_length(&rt, "u32", number_of_all::<u32>(), 4_294_967_296);
-    expect_length(
-        &rt,
-        "u64",
-        number_of_all::<u64>(),
-        18_446_744_073_709_551_616,
-    );
-    expect_length(
-        &rt,
-        "usize",
-        number_of_all::<usize>(),
-        18_446_744_073_709_551_616,
-    );
-    expect_length(&rt, "i8", number_of_all::<i8>(), 256);
-    expect_length(&rt, "i16", number_of_all::<i16>(), 65_536);
-    expect_length(&rt, "i32", number_of_all::<i32>(), 4_294_967_296);
-    expect_length(
-        &rt,
-        "i64",
-        number_of_all::<i64>(),
-        18_446_744_073_709_551_616,
-    );
-    expect_length(&rt, "char", number_of_all::<char>(), 1_112_064);
-    expect_length(&rt, "beside surrogates", beside_surrogates(), 2);
+    let rows = [
+        ("u8", number_of_all::<u8>(), 256),
+        ("u16", number_of_all::<u16>(), 65_536),
+        ("u32", number_of_all::<u32>(), 4_294_967_296),
+        ("u64", number_of_all::<u64>(), 18_446_744_073_709_551_616),
+        ("usize", number_of_all::<usize>(), 18_446_744_073_709_551_616),
+        ("i8", number_of_all::<i8>(), 256),
+        ("i16", number_of_all::<i16>(), 65_536),
+        ("i32", number_of_all::<i32>(), 4_294_967_296),
+        ("i64", number_of_all::<i64>(), 18_446_744_073_709_551_616),
+        ("char", number_of_all::<char>(), 1_112_064),
+        ("beside surrogates", beside_surrogates(), 2),
+    ];
+    expect_lengths(&rt, &rows);
 }

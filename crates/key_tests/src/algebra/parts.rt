@@ -23,19 +23,39 @@ fn is_range(part: AnyRange<&i32>, ends: Ends) -> Result<bool, AllocError> {
     Ok(part.cloned()? == range(ends))
 }
 
-fn is_left(difference: &Difference<&i32>, left: Left) -> Result<bool, AllocError> {
-    match (difference, left) {
-        (Difference::Before(part, flag), Left::Before(ends, met)) => {
-            Ok(*flag == met && is_range(*part, ends)?)
-        }
-        (Difference::After(part, flag), Left::After(ends, met)) => {
-            Ok(*flag == met && is_range(*part, ends)?)
-        }
-        (Difference::Split(before, after), Left::Split(first, second)) => {
-            Ok(is_range(*before, first)? && is_range(*after, second)?)
-        }
-        (Difference::Empty, Left::Empty) => Ok(true),
+fn is_before(
+    difference: &Difference<&i32>,
+    ends: Ends,
+    met: bool,
+) -> Result<bool, AllocError> {
+    match difference {
+        Difference::Before(part, flag) => Ok(*flag == met && is_range(*part, ends)?),
         _ => Ok(false),
+    }
+}
+
+fn is_after(difference: &Difference<&i32>, ends: Ends, met: bool) -> Result<bool, AllocError> {
+    match difference {
+        Difference::After(part, flag) => Ok(*flag == met && is_range(*part, ends)?),
+        _ => Ok(false),
+    }
+}
+
+fn is_split(difference: &Difference<&i32>, first: Ends, second: Ends) -> Result<bool, AllocError> {
+    match difference {
+        Difference::Split(before, after) => Ok(
+            is_range(*before, first)? && is_range(*after, second)?,
+        ),
+        _ => Ok(false),
+    }
+}
+
+fn is_left(difference: &Difference<&i32>, left: Left) -> Result<bool, AllocError> {
+    match left {
+        Left::Before(ends, met) => is_before(difference, ends, met),
+        Left::After(ends, met) => is_after(difference, ends, met),
+        Left::Split(first, second) => is_split(difference, first, second),
+        Left::Empty => Ok(matches!(difference, Difference::Empty)),
     }
 }
 
@@ -72,20 +92,39 @@ enum Part {
 /// The parts of a product, as a row tells them.
 type Parts = (Option<Part>, Option<Ends>, Option<Part>);
 
-fn is_part(part: &Option<ProductArg<i32>>, wanted: Option<Part>) -> bool {
-    match (part, wanted) {
-        (Some(ProductArg::Subject(own)), Some(Part::Subject(ends))) => *own == range(ends),
-        (Some(ProductArg::Object(other)), Some(Part::Object(ends))) => *other == range(ends),
-        (None, None) => true,
+fn is_subject(part: &Option<ProductArg<i32>>, ends: Ends) -> bool {
+    match part {
+        Some(ProductArg::Subject(own)) => *own == range(ends),
         _ => false,
     }
 }
 
-fn is_shared(shared: &Option<AnyRange<i32>>, wanted: Option<Ends>) -> bool {
-    match (shared, wanted) {
-        (Some(shared), Some(ends)) => *shared == range(ends),
-        (None, None) => true,
+fn is_object(part: &Option<ProductArg<i32>>, ends: Ends) -> bool {
+    match part {
+        Some(ProductArg::Object(other)) => *other == range(ends),
         _ => false,
+    }
+}
+
+fn is_part(part: &Option<ProductArg<i32>>, wanted: Option<Part>) -> bool {
+    match wanted {
+        Some(Part::Subject(ends)) => is_subject(part, ends),
+        Some(Part::Object(ends)) => is_object(part, ends),
+        None => part.is_none(),
+    }
+}
+
+fn is_some_range(shared: &Option<AnyRange<i32>>, ends: Ends) -> bool {
+    match shared {
+        Some(shared) => *shared == range(ends),
+        None => false,
+    }
+}
+
+fn is_shared(shared: &Option<AnyRange<i32>>, wanted: Option<Ends>) -> bool {
+    match wanted {
+        Some(ends) => is_some_range(shared, ends),
+        None => shared.is_none(),
     }
 }
 

@@ -1,4 +1,4 @@
-use crate::expecting::{expect_answer, expect_range};
+use crate::expecting::{expect_answer, expect_answers, expect_range};
 use range_algebra::any::AnyRange;
 use range_algebra::range::{
     AsRange, IntoRange, RangeFromExcluded, RangeFromExcludedTo, RangeFromExcludedToIncluded,
@@ -52,17 +52,20 @@ fn is_alone<T: IntoRange<Item = T> + Measure + Copy>(key: T) -> bool {
 
 #[test]
 fn reads_keys(rt: HostRuntime) {
-    expect_answer(&rt, "u8", is_alone(4u8), true);
-    expect_answer(&rt, "u16", is_alone(4u16), true);
-    expect_answer(&rt, "u32", is_alone(4u32), true);
-    expect_answer(&rt, "u64", is_alone(4u64), true);
-    expect_answer(&rt, "usize", is_alone(4usize), true);
-    expect_answer(&rt, "i8", is_alone(-4i8), true);
-    expect_answer(&rt, "i16", is_alone(-4i16), true);
-    expect_answer(&rt, "i32", is_alone(-4i32), true);
-    expect_answer(&rt, "i64", is_alone(-4i64), true);
-    expect_answer(&rt, "char", is_alone('x'), true);
-    expect_answer(&rt, "4 in 0..5", 4u8.intersects(&(0..5)), true);
+    let rows = [
+        ("u8", is_alone(4u8), true),
+        ("u16", is_alone(4u16), true),
+        ("u32", is_alone(4u32), true),
+        ("u64", is_alone(4u64), true),
+        ("usize", is_alone(4usize), true),
+        ("i8", is_alone(-4i8), true),
+        ("i16", is_alone(-4i16), true),
+        ("i32", is_alone(-4i32), true),
+        ("i64", is_alone(-4i64), true),
+        ("char", is_alone('x'), true),
+        ("4 in 0..5", 4u8.intersects(&(0..5)), true),
+    ];
+    expect_answers(&rt, &rows);
 }
 
 /// Whether these are the bounds of a range, as they were given.

@@ -213,6 +213,10 @@ fn play_both<K: Measure + Copy, S: SetMut<i32>>(
     Ok((over_vector, over_tree))
 }
 
+fn expect_all(rt: &impl Abort, played: (usize, usize), count: usize) {
+    assert_eq!(rt; played, (count, count));
+}
+
 /// Passes where every step holds, over either container and either type of sets.
 pub fn plays<K: Measure + Copy>(
     rt: &impl Abort,
@@ -221,9 +225,12 @@ pub fn plays<K: Measure + Copy>(
 ) -> Result<(), Fail>
     requires { ClonesAreEqual K.is_clone K.eq }
 {
-    let all = (steps.len(), steps.len());
-    assert_eq!(rt; play_both::<K, BTreeSet<i32>>(alloc, steps)?, all);
-    assert_eq!(rt; play_both::<K, HashSet<i32>>(alloc, steps)?, all);
+    expect_all(
+        rt,
+        play_both::<K, BTreeSet<i32>>(alloc, steps)?,
+        steps.len(),
+    );
+    expect_all(rt, play_both::<K, HashSet<i32>>(alloc, steps)?, steps.len());
     Ok(())
 }
 

@@ -16,8 +16,6 @@ type Numbers = BTreeSet<i32>;
 
 type InTree = RangeMultiMap<i32, Numbers, Tree<i32, Numbers>>;
 
-type InVector = RangeMultiMap<i32, Numbers, Vector<i32, Numbers>>;
-
 static TWO_RANGES: &[Row<i32>] = &[(0, 4, One(1)), (5, 9, Two(1, 2))];
 
 static ONE_RANGE: &[Row<i32>] = &[(0, 9, One(1))];
@@ -43,7 +41,10 @@ fn stays<M: Filled + Eq>(alloc: Global, map: &mut M, copy: &M) -> Result<bool, M
     Ok(equal && kept && *copy != *map)
 }
 
-fn is_copied(alloc: Global, map: &mut InTree) -> Result<bool, MapError> {
+fn is_copied<S: SetMut<i32>, C: Storage<Item<AnyRange<i32>, S>>>(
+    alloc: Global,
+    map: &mut RangeMultiMap<i32, S, C>,
+) -> Result<bool, MapError> {
     map.fill()?;
     let copy = map.clone()?;
     stays(alloc, map, &copy)
@@ -61,10 +62,10 @@ trait Across<M>: Filled {
     fn equals_across(&self, other: &M) -> bool;
 }
 
-impl<C: Storage<Item<AnyRange<i32>, Numbers>>, D: Storage<Item<AnyRange<i32>, Numbers>>> Across<
-    RangeMultiMap<i32, Numbers, D>,
-> for RangeMultiMap<i32, Numbers, C> {
-    fn equals_across(&self, other: &RangeMultiMap<i32, Numbers, D>) -> bool {
+impl<S: SetMut<i32>, C: Storage<Item<AnyRange<i32>, S>>, D: Storage<Item<AnyRange<i32>, S>>> Across<
+    RangeMultiMap<i32, S, D>,
+> for RangeMultiMap<i32, S, C> {
+    fn equals_across(&self, other: &RangeMultiMap<i32, S, D>) -> bool {
         self.eq_across(other)
     }
 }
@@ -78,11 +79,20 @@ fn compare<M: Across<O>, O: Across<M>>(map: &mut M, other: &mut O) -> Result<boo
     Ok(equal && !map.equals_across(other) && !other.equals_across(map))
 }
 
+fn compare_over<
+    S: SetMut<i32>,
+    C: Storage<Item<AnyRange<i32>, S>>,
+    D: Storage<Item<AnyRange<i32>, S>>,
+>(alloc: Global) -> Result<bool, MapError> {
+    let mut map: RangeMultiMap<i32, S, C> = RangeMultiMap::new(alloc);
+    let mut other: RangeMultiMap<i32, S, D> = RangeMultiMap::new(alloc);
+    compare(&mut map, &mut other)
+}
+
 #[test]
 fn multimaps_compare_across_containers(rt: HostRuntime) -> Result<(), Fail> {
-    let mut map: InTree = RangeMultiMap::new(rt.alloc());
-    let mut other: InVector = RangeMultiMap::new(rt.alloc());
-    assert!(rt; compare(&mut map, &mut other)?);
+    let alloc = rt.alloc();
+    assert!(rt; compare_over::<Numbers, Tree<i32, Numbers>, Vector<i32, Numbers>>(alloc)?);
     Ok(())
 }
 
@@ -92,15 +102,25 @@ fn shows<M: Debug + Filled>(alloc: Global, map: &mut M, text: &str) -> Result<bo
     Ok(shown.as_str() == text)
 }
 
+fn shows_over<S: SetMut<i32> + Debug, C: Storage<Item<AnyRange<i32>, S>>>(
+    alloc: Global,
+    text: &str,
+) -> Result<bool, MapError> {
+    let mut map: RangeMultiMap<i32, S, C> = RangeMultiMap::new(alloc);
+    shows(alloc, &mut map, text)
+}
+
 #[test]
 fn a_multimap_is_shown(rt: HostRuntime) -> Result<(), Fail> {
-    let mut map: InTree = RangeMultiMap::new(rt.alloc());
-    assert!(rt; shows(rt.alloc(), &mut map, "{0..5=>{1}5..=9=>{1, 2}}")?);
+    let text = "{0..5=>{1}5..=9=>{1, 2}}";
+    assert!(rt; shows_over::<Numbers, Tree<i32, Numbers>>(rt.alloc(), text)?);
     Ok(())
 }
 
 /// How many values the stored sets have together.
-fn values_stored(map: &InTree) -> usize {
+fn values_stored<C: Storage<Item<AnyRange<i32>, Numbers>>>(
+    map: &RangeMultiMap<i32, Numbers, C>,
+) -> usize {
     let mut count: usize = 0;
     for (_, set) in map {
         count = count.saturating_add(set.len());
@@ -108,11 +128,15 @@ fn values_stored(map: &InTree) -> usize {
     count
 }
 
+fn walks<C: Storage<Item<AnyRange<i32>, Numbers>>>(alloc: Global) -> Result<bool, MapError> {
+    let mut map: RangeMultiMap<i32, Numbers, C> = RangeMultiMap::new(alloc);
+    map.fill()?;
+    Ok(values_stored(&map) == 3)
+}
+
 #[test]
 fn a_multimap_is_walked(rt: HostRuntime) -> Result<(), Fail> {
-    let mut map: InTree = RangeMultiMap::new(rt.alloc());
-    map.fill()?;
-    assert_eq!(rt; values_stored(&map), 3);
+    assert!(rt; walks::<Tree<i32, Numbers>>(rt.alloc())?);
     Ok(())
 }
 

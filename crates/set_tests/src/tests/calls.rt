@@ -3,7 +3,7 @@
 use crate::tests::support::Keys::{
     self, Above, All, Alone, Any, Below, Closed, HalfOpen, Starting, UpTo,
 };
-use crate::tests::support::{Entry, Step, Tree, Vector, extend, plays};
+use crate::tests::support::{Entry, Played, Step, Tree, Vector, plays, plays_bytes, plays_numbers};
 use btree_range_map::generic::map::MapError;
 use btree_range_map::generic::set::RangeSet;
 use btree_range_map::storage::Storage;
@@ -35,7 +35,7 @@ static BYTES: &[Step<'static, u8>] = &[
 
 #[test]
 fn bytes(rt: HostRuntime) -> Result<(), Fail> {
-    plays(&rt, rt.alloc(), BYTES)
+    plays_bytes(&rt, rt.alloc(), BYTES)
 }
 
 static ALL_NUMBERS_OF_64_BITS: &[Step<'static, u64>] = &[
@@ -99,7 +99,7 @@ static NUMBERS: &[Step<'static, i32>] = &[
 
 #[test]
 fn numbers(rt: HostRuntime) -> Result<(), Fail> {
-    plays(&rt, rt.alloc(), NUMBERS)
+    plays_numbers(&rt, rt.alloc(), NUMBERS)
 }
 
 static A_SET_IS_SHOWN: &[Step<'static, i32>] = &[
@@ -114,7 +114,7 @@ static A_SET_IS_SHOWN: &[Step<'static, i32>] = &[
 
 #[test]
 fn a_set_is_shown(rt: HostRuntime) -> Result<(), Fail> {
-    plays(&rt, rt.alloc(), A_SET_IS_SHOWN)
+    plays_numbers(&rt, rt.alloc(), A_SET_IS_SHOWN)
 }
 
 const RANGES: [(i32, i32); 5] = [(0, 2), (40, 46), (20, 24), (8, 3), (2, 20)];
@@ -130,9 +130,9 @@ fn is_in_first(key: i32, count: usize) -> bool {
 }
 
 /// Whether the set holds just the keys of the first so many ranges.
-fn holds_first<C: Storage<Entry<i32>>>(set: &RangeSet<i32, C>, count: usize) -> bool {
+fn holds_first<S: Played<i32>>(set: &S, count: usize) -> bool {
     for key in -1..60 {
-        if set.contains(key) != is_in_first(key, count) {
+        if set.holds(key) != is_in_first(key, count) {
             return false;
         }
     }
@@ -140,7 +140,7 @@ fn holds_first<C: Storage<Entry<i32>>>(set: &RangeSet<i32, C>, count: usize) -> 
 }
 
 /// Whether the set holds just the keys of some first ranges, but not of all.
-fn holds_some_first<C: Storage<Entry<i32>>>(set: &RangeSet<i32, C>) -> bool {
+fn holds_some_first<S: Played<i32>>(set: &S) -> bool {
     for count in 0..RANGES.len() {
         if holds_first(set, count) {
             return true;
@@ -149,25 +149,25 @@ fn holds_some_first<C: Storage<Entry<i32>>>(set: &RangeSet<i32, C>) -> bool {
     false
 }
 
-fn extended<C: Storage<Entry<i32>>>(set: &mut RangeSet<i32, C>) -> bool {
+/// The keys of a refused extension are those of some first ranges, and of all where it is not
+/// refused.
+fn extension<S: Played<i32>>(set: &mut S) -> bool {
     let rows = RANGES.map(|(first, end)| HalfOpen(first, end));
-    match extend(set, &rows) {
+    match set.extend_by(&rows) {
         Ok(_) => holds_first(set, RANGES.len()),
         Err(MapError::Memory) => holds_some_first(set),
     }
 }
 
-/// The keys of a refused extension are those of some first ranges, and of all where it is not
-/// refused.
-fn extension<C: Storage<Entry<i32>>>(alloc: Global) -> bool {
+fn extension_over<C: Storage<Entry<i32>>>(alloc: Global) -> bool {
     let mut set: RangeSet<i32, C> = RangeSet::new(alloc);
-    extended(&mut set)
+    extension(&mut set)
 }
 
 #[test]
 fn a_refused_extension_keeps_whole_ranges(rt: HostRuntime) {
-    assert!(rt; extension::<Vector<i32>>(rt.alloc()));
-    assert!(rt; extension::<Tree<i32>>(rt.alloc()));
+    assert!(rt; extension_over::<Vector<i32>>(rt.alloc()));
+    assert!(rt; extension_over::<Tree<i32>>(rt.alloc()));
 }
 
 /// A set of the ranges of an array, in any order.
