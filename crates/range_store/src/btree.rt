@@ -164,6 +164,7 @@ impl<T: Drop> Storage<T> for BoxStorage<T> {
             return Ok(());
         }
         self.items.reserve(n)?;
+        // Tells the proof that a `usize` counts the items and `n` more.
         let _capacity = self.items.capacity();
         self.tree.reserve(self.items.len(), n)
     }
