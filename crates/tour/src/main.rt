@@ -18,6 +18,8 @@ mod multimaps;
 #[cfg(test)]
 mod ranges;
 #[cfg(test)]
+mod round_trip;
+#[cfg(test)]
 mod set_calls;
 #[cfg(test)]
 mod sets;
