@@ -1,0 +1,7 @@
+//! Tests of the access table over ports.
+#![tactic(auto)]
+
+#[cfg(test)]
+mod ports;
+#[cfg(test)]
+mod rules;
