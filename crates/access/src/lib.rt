@@ -5,8 +5,6 @@
 
 pub mod port;
 pub mod table;
-#[cfg(test)]
-mod tests;
 
 pub use port::Port;
 pub use table::AccessTable;

@@ -59,24 +59,14 @@ impl<C: Storage<Entry>> LookedUp for Numbers<C> {
     }
 }
 
-fn play_over<C: Storage<Entry>>(rt: &impl Abort, alloc: Global, rows: &[Row]) -> Result<(), Fail> {
-    let mut map: Numbers<C> = RangeMap::new(alloc);
-    play(rt, alloc, &mut map, rows)
-}
-
-/// Reads each text over each container. Each row has to hold.
-fn play_both(rt: &impl Abort, alloc: Global, rows: &[Row]) -> Result<(), Fail> {
-    play_over::<VecStorage<Entry>>(rt, alloc, rows)?;
-    play_over::<BoxStorage<Entry>>(rt, alloc, rows)
-}
-
 /// What the empty map is written as.
 const EMPTY: &str = r#"{"items":[],"version":2}"#;
 
 /// What the map that binds all keys to 1 is written as.
 const FULL: &str = r#"{"items":[[["Unbounded","Unbounded"],1]],"version":2}"#;
 
-static WHOLES: &[Row] = &[
+/// The fault of the whole, or else of the first faulty element, and in it the first of the order.
+static FAULTS: &[Row] = &[
     ("7", Err(JsonError::NotArray)),
     ("null", Err(JsonError::NotArray)),
     (r#""items""#, Err(JsonError::NotArray)),
@@ -90,15 +80,6 @@ static WHOLES: &[Row] = &[
     (r#"{"version":2}"#, Err(JsonError::NotArray)),
     (r#"{"version":2,"items":{}}"#, Err(JsonError::NotArray)),
     (r#"{"version":2,"items":[1]}"#, Err(JsonError::NotPair(0))),
-];
-
-#[test]
-fn wholes(rt: HostRuntime) -> Result<(), Fail> {
-    play_both(&rt, rt.alloc(), WHOLES)
-}
-
-/// The fault of the first faulty element, and in it the first of the order.
-static FAULTS: &[Row] = &[
     ("[1]", Err(JsonError::NotPair(0))),
     (
         r#"[[["Unbounded","Unbounded"],1,2]]"#,
@@ -159,11 +140,6 @@ static FAULTS: &[Row] = &[
         Err(JsonError::Meets(1)),
     ),
 ];
-
-#[test]
-fn faults(rt: HostRuntime) -> Result<(), Fail> {
-    play_both(&rt, rt.alloc(), FAULTS)
-}
 
 /// The fault of a map of bytes.
 fn fault_of_bytes(alloc: Global, text: &str) -> Option<JsonError> {
@@ -259,16 +235,21 @@ fn are_bound<T: LookedUp>(
     Ok(true)
 }
 
-fn are_bound_over<C: Storage<Entry>>(alloc: Global) -> Result<bool, AllocError> {
+fn play_all<T: LookedUp>(rt: &impl Abort, alloc: Global, map: &mut T) -> Result<(), Fail> {
+    play(rt, alloc, map, FAULTS)?;
+    assert!(rt; are_bound(alloc, map, MAPS)?);
+    Ok(())
+}
+
+fn play_over<C: Storage<Entry>>(rt: &impl Abort, alloc: Global) -> Result<(), Fail> {
     let mut map: Numbers<C> = RangeMap::new(alloc);
-    are_bound(alloc, &mut map, MAPS)
+    play_all(rt, alloc, &mut map)
 }
 
 #[test]
 fn maps(rt: HostRuntime) -> Result<(), Fail> {
-    assert!(rt; are_bound_over::<VecStorage<Entry>>(rt.alloc())?);
-    assert!(rt; are_bound_over::<BoxStorage<Entry>>(rt.alloc())?);
-    Ok(())
+    play_over::<VecStorage<Entry>>(&rt, rt.alloc())?;
+    play_over::<BoxStorage<Entry>>(&rt, rt.alloc())
 }
 
 const WRITTEN: &str =
@@ -294,20 +275,18 @@ fn bind<C: Storage<Entry>>(map: &mut Numbers<C>) -> Result<(), MapError> {
     map.insert(AnyRange::new(Excluded(0), Included(7)), 2)
 }
 
-#[test]
-fn a_map_is_written_as_it_is_spelled(rt: HostRuntime) {
-    assert!(rt; is_written_as_spelled::<VecStorage<Entry>>(rt.alloc()));
-    assert!(rt; is_written_as_spelled::<BoxStorage<Entry>>(rt.alloc()));
-}
-
 /// Whether a map is read as it is written, or else an allocation failed.
 fn is_read_as_written<C: Storage<Entry>>(alloc: Global) -> bool {
     let mut map: Numbers<C> = RangeMap::new(alloc);
     is_done_or_refused(alloc, &mut map, WRITTEN, STORED)
 }
 
+fn is_written_and_read<C: Storage<Entry>>(alloc: Global) -> bool {
+    is_written_as_spelled::<C>(alloc) && is_read_as_written::<C>(alloc)
+}
+
 #[test]
-fn a_map_is_read_where_memory_is_granted(rt: HostRuntime) {
-    assert!(rt; is_read_as_written::<VecStorage<Entry>>(rt.alloc()));
-    assert!(rt; is_read_as_written::<BoxStorage<Entry>>(rt.alloc()));
+fn a_map_is_written_and_read_where_memory_is_granted(rt: HostRuntime) {
+    assert!(rt; is_written_and_read::<VecStorage<Entry>>(rt.alloc()));
+    assert!(rt; is_written_and_read::<BoxStorage<Entry>>(rt.alloc()));
 }

@@ -1,7 +1,25 @@
-//! What fails a test, with the index of the row.
+//! Rows of tables, and what fails a test.
 
 use range_algebra::any::AnyRange;
+use std::alloc::AllocError;
+use std::fmt::Debug;
 use std::process::Abort;
+
+/// A row of a table, with its answer.
+pub trait Row {
+    /// Whether the answer is the one that the row tells.
+    fn holds(&self) -> Result<bool, AllocError>;
+}
+
+/// The index of the first row that does not hold.
+pub fn first_wrong<R: Row>(rows: &[R]) -> Result<Option<usize>, AllocError> {
+    for (place, row) in rows.iter().enumerate() {
+        if !row.holds()? {
+            return Ok(Some(place));
+        }
+    }
+    Ok(None)
+}
 
 /// An answer is the one that was told.
 pub fn expect_answer(rt: &impl Abort, place: &str, answer: bool, told: bool) {
@@ -18,9 +36,7 @@ pub fn expect_range(rt: &impl Abort, place: &str, range: AnyRange<i32>, told: An
     assert!(rt; range == told, "{place} is {range:?}");
 }
 
-/// No call was named as a wrong one.
-pub fn expect_none(rt: &impl Abort, place: &str, wrong: Option<&str>) {
-    if let Some(call) = wrong {
-        assert!(rt; false, "{call} of {place}");
-    }
+/// No call or row was named as a wrong one.
+pub fn expect_none<T: Debug + Drop>(rt: &impl Abort, place: &str, wrong: Option<T>) {
+    assert!(rt; wrong.is_none(), "{wrong:?} of {place}");
 }

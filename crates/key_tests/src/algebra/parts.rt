@@ -1,3 +1,4 @@
+use crate::expecting::{Row, expect_none, first_wrong};
 use range_algebra::any::AnyRange;
 use range_algebra::range::{AsRange, Difference, Product, ProductArg};
 use std::alloc::AllocError;
@@ -23,42 +24,61 @@ fn is_range(part: AnyRange<&i32>, ends: Ends) -> Result<bool, AllocError> {
     Ok(part.cloned()? == range(ends))
 }
 
-fn is_left(difference: &Difference<&i32>, left: Left) -> Result<bool, AllocError> {
-    match (difference, left) {
-        (Difference::Before(part, flag), Left::Before(ends, met)) => {
-            Ok(*flag == met && is_range(*part, ends)?)
-        }
-        (Difference::After(part, flag), Left::After(ends, met)) => {
-            Ok(*flag == met && is_range(*part, ends)?)
-        }
-        (Difference::Split(before, after), Left::Split(first, second)) => {
+fn is_split(difference: &Difference<&i32>, first: Ends, second: Ends) -> Result<bool, AllocError> {
+    match difference {
+        Difference::Split(before, after) => {
             Ok(is_range(*before, first)? && is_range(*after, second)?)
         }
-        (Difference::Empty, Left::Empty) => Ok(true),
         _ => Ok(false),
     }
 }
 
-fn leaves(own: Range<i32>, other: Range<i32>, left: Left) -> Result<bool, AllocError> {
-    is_left(&own.without(&other), left)
+fn is_before(difference: &Difference<&i32>, ends: Ends, met: bool) -> Result<bool, AllocError> {
+    match difference {
+        Difference::Before(part, flag) if *flag == met => is_range(*part, ends),
+        _ => Ok(false),
+    }
 }
 
-const LEFT: [(Ends, Ends, Left); 7] = [
-    ((0, 5), (10, 20), Left::Before((0, 5), false)),
-    ((0, 15), (10, 20), Left::Before((0, 10), true)),
-    ((0, 10), (8, 3), Left::Before((0, 10), false)),
-    ((8, 3), (0, 2), Left::Empty),
-    ((3, 5), (0, 9), Left::Empty),
-    ((0, 20), (5, 10), Left::Split((0, 5), (10, 20))),
-    ((5, 20), (0, 10), Left::After((10, 20), true)),
+fn is_after(difference: &Difference<&i32>, ends: Ends, met: bool) -> Result<bool, AllocError> {
+    match difference {
+        Difference::After(part, flag) if *flag == met => is_range(*part, ends),
+        _ => Ok(false),
+    }
+}
+
+fn is_left(difference: &Difference<&i32>, left: Left) -> Result<bool, AllocError> {
+    match left {
+        Left::Before(ends, met) => is_before(difference, ends, met),
+        Left::After(ends, met) => is_after(difference, ends, met),
+        Left::Split(first, second) => is_split(difference, first, second),
+        Left::Empty => Ok(matches!(difference, Difference::Empty)),
+    }
+}
+
+/// Two ranges, and what is left of the first without the second.
+struct Leaving(Ends, Ends, Left);
+
+impl Row for Leaving {
+    fn holds(&self) -> Result<bool, AllocError> {
+        let (own, other) = (self.0.0..self.0.1, self.1.0..self.1.1);
+        is_left(&own.without(&other), self.2)
+    }
+}
+
+static LEFT: &[Leaving] = &[
+    Leaving((0, 5), (10, 20), Left::Before((0, 5), false)),
+    Leaving((0, 15), (10, 20), Left::Before((0, 10), true)),
+    Leaving((0, 10), (8, 3), Left::Before((0, 10), false)),
+    Leaving((8, 3), (0, 2), Left::Empty),
+    Leaving((3, 5), (0, 9), Left::Empty),
+    Leaving((0, 20), (5, 10), Left::Split((0, 5), (10, 20))),
+    Leaving((5, 20), (0, 10), Left::After((10, 20), true)),
 ];
 
 #[test]
 fn leaves_parts(rt: HostRuntime) -> Result<(), Fail> {
-    for (own, other, left) in LEFT {
-        let goes = leaves(own.0..own.1, other.0..other.1, left)?;
-        assert!(rt; goes, "{own:?} without {other:?}");
-    }
+    expect_none(&rt, "what is left", first_wrong(LEFT)?);
     Ok(())
 }
 
@@ -72,20 +92,32 @@ enum Part {
 /// The parts of a product, as a row tells them.
 type Parts = (Option<Part>, Option<Ends>, Option<Part>);
 
+fn is_subject(part: &ProductArg<i32>, ends: Ends) -> bool {
+    match part {
+        ProductArg::Subject(own) => *own == range(ends),
+        ProductArg::Object(_) => false,
+    }
+}
+
+fn is_object(part: &ProductArg<i32>, ends: Ends) -> bool {
+    match part {
+        ProductArg::Subject(_) => false,
+        ProductArg::Object(other) => *other == range(ends),
+    }
+}
+
 fn is_part(part: &Option<ProductArg<i32>>, wanted: Option<Part>) -> bool {
     match (part, wanted) {
-        (Some(ProductArg::Subject(own)), Some(Part::Subject(ends))) => *own == range(ends),
-        (Some(ProductArg::Object(other)), Some(Part::Object(ends))) => *other == range(ends),
-        (None, None) => true,
-        _ => false,
+        (Some(part), Some(Part::Subject(ends))) => is_subject(part, ends),
+        (Some(part), Some(Part::Object(ends))) => is_object(part, ends),
+        (part, wanted) => part.is_none() && wanted.is_none(),
     }
 }
 
 fn is_shared(shared: &Option<AnyRange<i32>>, wanted: Option<Ends>) -> bool {
     match (shared, wanted) {
         (Some(shared), Some(ends)) => *shared == range(ends),
-        (None, None) => true,
-        _ => false,
+        (shared, wanted) => shared.is_none() && wanted.is_none(),
     }
 }
 
@@ -95,13 +127,18 @@ fn is_product(product: &Product<i32>, wanted: &Parts) -> bool {
         && is_part(&product.after, wanted.2)
 }
 
-fn makes(own: Ends, other: Ends, wanted: &Parts) -> Result<bool, AllocError> {
-    let product = range(own).product(&range(other)).cloned()?;
-    Ok(is_product(&product, wanted))
+/// Two ranges, and their product.
+struct Making(Ends, Ends, Parts);
+
+impl Row for Making {
+    fn holds(&self) -> Result<bool, AllocError> {
+        let product = range(self.0).product(&range(self.1)).cloned()?;
+        Ok(is_product(&product, &self.2))
+    }
 }
 
-const PRODUCTS: [(Ends, Ends, Parts); 5] = [
-    (
+static PRODUCTS: &[Making] = &[
+    Making(
         (0, 10),
         (5, 15),
         (
@@ -110,7 +147,7 @@ const PRODUCTS: [(Ends, Ends, Parts); 5] = [
             Some(Part::Object((10, 15))),
         ),
     ),
-    (
+    Making(
         (0, 20),
         (5, 10),
         (
@@ -119,7 +156,7 @@ const PRODUCTS: [(Ends, Ends, Parts); 5] = [
             Some(Part::Subject((10, 20))),
         ),
     ),
-    (
+    Making(
         (10, 20),
         (0, 5),
         (
@@ -128,16 +165,13 @@ const PRODUCTS: [(Ends, Ends, Parts); 5] = [
             Some(Part::Subject((10, 20))),
         ),
     ),
-    ((8, 3), (0, 5), (None, None, Some(Part::Object((0, 5))))),
-    ((8, 3), (5, 5), (None, None, None)),
+    Making((8, 3), (0, 5), (None, None, Some(Part::Object((0, 5))))),
+    Making((8, 3), (5, 5), (None, None, None)),
 ];
 
 #[test]
 fn makes_products(rt: HostRuntime) -> Result<(), Fail> {
-    for (own, other, parts) in PRODUCTS {
-        let goes = makes(own, other, &parts)?;
-        assert!(rt; goes, "{own:?} with {other:?}");
-    }
+    expect_none(&rt, "the products", first_wrong(PRODUCTS)?);
     Ok(())
 }
 

@@ -1,38 +1,17 @@
 //! How bounds compare and hash.
 
+use crate::expecting::{Row, expect_none, first_wrong};
+use range_keys::bound::Directed::{End, Start};
 use range_keys::bound::{AsBound, BoundOrd, BoundOrdering, BoundPartialOrd, Directed, Dist};
 use range_keys::traits::PartialEnum;
+use std::alloc::AllocError;
 use std::cmp::Ordering;
-use std::fmt::Debug;
 use std::hash::{DefaultHasher, Hash, Hasher};
-use std::ops::Bound;
-use std::process::Abort;
+use std::ops::Bound::{self, Excluded, Included, Unbounded};
+use std::test::Fail;
 
-type Row<T> = (Directed<Bound<T>>, Directed<Bound<T>>);
-
-fn from<T>(key: T) -> Directed<Bound<T>> {
-    Directed::Start(Bound::Included(key))
-}
-
-fn after<T>(key: T) -> Directed<Bound<T>> {
-    Directed::Start(Bound::Excluded(key))
-}
-
-fn to<T>(key: T) -> Directed<Bound<T>> {
-    Directed::End(Bound::Included(key))
-}
-
-fn before<T>(key: T) -> Directed<Bound<T>> {
-    Directed::End(Bound::Excluded(key))
-}
-
-fn first<T>() -> Directed<Bound<T>> {
-    Directed::Start(Bound::Unbounded)
-}
-
-fn last<T>() -> Directed<Bound<T>> {
-    Directed::End(Bound::Unbounded)
-}
+/// Two bounds.
+type Pair<T> = (Directed<Bound<T>>, Directed<Bound<T>>);
 
 fn hash_of<T: Hash>(value: &T) -> u64 {
     let mut state = DefaultHasher::new();
@@ -40,130 +19,207 @@ fn hash_of<T: Hash>(value: &T) -> u64 {
     state.finish()
 }
 
-/// The call that answers otherwise than the row says, if there is one.
-fn wrong_call<T: PartialEnum + Hash>(row: &Row<T>, wanted: Ordering) -> Option<&'static str> {
-    let (left, right) = (row.0.as_ref(), row.1.as_ref());
-    if left.cmp(&right) != wanted {
-        Some("cmp")
-    } else if right.cmp(&left) != wanted.reverse() {
-        Some("cmp, exchanged")
-    } else if left.partial_cmp(&right) != Some(wanted) {
-        Some("partial_cmp")
-    } else if (left == right) != (wanted == Ordering::Equal) {
-        Some("==")
-    } else if wanted == Ordering::Equal && hash_of(&left) != hash_of(&right) {
-        Some("hash")
-    } else {
-        None
+fn hash_alike<T: PartialEnum + Hash>(pair: &Pair<T>) -> bool {
+    hash_of(&pair.0.as_ref()) == hash_of(&pair.1.as_ref())
+}
+
+/// What `cmp`, `cmp` of the two exchanged, `partial_cmp` and `==` answer.
+type Answers = (Ordering, Ordering, Option<Ordering>, bool);
+
+fn answers<T: PartialEnum>(pair: &Pair<T>) -> Answers {
+    let (left, right) = (pair.0.as_ref(), pair.1.as_ref());
+    (
+        left.cmp(&right),
+        right.cmp(&left),
+        left.partial_cmp(&right),
+        left == right,
+    )
+}
+
+fn told(wanted: Ordering) -> Answers {
+    (
+        wanted,
+        wanted.reverse(),
+        Some(wanted),
+        wanted == Ordering::Equal,
+    )
+}
+
+/// Whether two bounds compare so, and hash alike where they are equal.
+fn compare<T: PartialEnum + Hash>(pair: &Pair<T>, wanted: Ordering) -> bool {
+    answers(pair) == told(wanted) && (wanted != Ordering::Equal || hash_alike(pair))
+}
+
+fn bound_at<T: From<u8>>(bound: &Bound<u8>) -> Bound<T> {
+    match bound {
+        Included(key) => Included(T::from(*key)),
+        Excluded(key) => Excluded(T::from(*key)),
+        Unbounded => Unbounded,
     }
 }
 
-fn expect<T: PartialEnum + Hash + Debug>(rt: &impl Abort, row: &Row<T>, wanted: Ordering) {
-    if let Some(call) = wrong_call(row, wanted) {
-        assert!(rt; false, "{call} at {row:?}");
+/// The bound at the same key of another type.
+fn at<T: From<u8>>(bound: &Directed<Bound<u8>>) -> Directed<Bound<T>> {
+    match bound {
+        Start(bound) => Start(bound_at(bound)),
+        End(bound) => End(bound_at(bound)),
     }
 }
 
-// The first of each row lies before the second, at four keys that follow one another.
-fn rising_rows<T: Copy>(keys: [T; 4]) -> [Row<T>; 20] {
-    let [zero, one, two, three] = keys;
-    [
-        (from(zero), from(one)),
-        (from(zero), after(zero)),
-        (from(zero), to(one)),
-        (from(zero), before(two)),
-        (from(zero), last()),
-        (after(zero), from(two)),
-        (after(zero), after(one)),
-        (after(zero), to(two)),
-        (after(zero), before(three)),
-        (after(zero), last()),
-        (to(zero), from(one)),
-        (to(zero), after(zero)),
-        (to(zero), to(one)),
-        (to(zero), before(two)),
-        (to(zero), last()),
-        (before(one), from(one)),
-        (before(one), after(zero)),
-        (before(one), to(one)),
-        (before(one), before(two)),
-        (before(zero), last()),
-    ]
+/// The index of the first row that compares otherwise over these keys.
+fn first_other<T: PartialEnum + Hash + From<u8>>(
+    rows: &[Pair<u8>],
+    wanted: Ordering,
+) -> Option<usize> {
+    for (place, row) in rows.iter().enumerate() {
+        if !compare::<T>(&(at(&row.0), at(&row.1)), wanted) {
+            return Some(place);
+        }
+    }
+    None
 }
+
+/// The first of each row lies before the second.
+static RISING: &[Pair<u8>] = &[
+    (Start(Included(0)), Start(Included(1))),
+    (Start(Included(0)), Start(Excluded(0))),
+    (Start(Included(0)), End(Included(1))),
+    (Start(Included(0)), End(Excluded(2))),
+    (Start(Included(0)), End(Unbounded)),
+    (Start(Excluded(0)), Start(Included(2))),
+    (Start(Excluded(0)), Start(Excluded(1))),
+    (Start(Excluded(0)), End(Included(2))),
+    (Start(Excluded(0)), End(Excluded(3))),
+    (Start(Excluded(0)), End(Unbounded)),
+    (End(Included(0)), Start(Included(1))),
+    (End(Included(0)), Start(Excluded(0))),
+    (End(Included(0)), End(Included(1))),
+    (End(Included(0)), End(Excluded(2))),
+    (End(Included(0)), End(Unbounded)),
+    (End(Excluded(1)), Start(Included(1))),
+    (End(Excluded(1)), Start(Excluded(0))),
+    (End(Excluded(1)), End(Included(1))),
+    (End(Excluded(1)), End(Excluded(2))),
+    (End(Excluded(0)), End(Unbounded)),
+];
+
+/// Without a least or a greatest key.
+static ENDS: &[Pair<u8>] = &[
+    (Start(Unbounded), Start(Included(0))),
+    (Start(Unbounded), End(Included(0))),
+    (Start(Unbounded), End(Excluded(0))),
+    (Start(Unbounded), End(Unbounded)),
+];
 
 #[test]
 fn bounds_compare_by_position(rt: HostRuntime) {
-    for row in rising_rows([0u32, 1, 2, 3]) {
-        expect(&rt, &row, Ordering::Less);
-    }
-    for row in rising_rows([0i32, 1, 2, 3]) {
-        expect(&rt, &row, Ordering::Less);
-    }
-    for row in [
-        (first(), from(0i32)),
-        (first(), to(0)),
-        (first(), before(0)),
-        (first(), last()),
-        (after(i32::MIN), last()),
-    ] {
-        expect(&rt, &row, Ordering::Less);
-    }
+    expect_none(&rt, "u32", first_other::<u32>(RISING, Ordering::Less));
+    expect_none(&rt, "i32", first_other::<i32>(RISING, Ordering::Less));
+    expect_none(&rt, "ends of i32", first_other::<i32>(ENDS, Ordering::Less));
+    assert!(rt; compare(&(Start(Excluded(i32::MIN)), End(Unbounded)), Ordering::Less));
 }
+
+static EQUAL: &[Pair<u8>] = &[
+    (Start(Included(0)), Start(Included(0))),
+    (Start(Included(1)), Start(Excluded(0))),
+    (Start(Included(0)), End(Included(0))),
+    (Start(Included(0)), End(Excluded(1))),
+    (Start(Excluded(0)), Start(Excluded(0))),
+    (Start(Excluded(0)), End(Included(1))),
+    (Start(Excluded(0)), End(Excluded(2))),
+    (Start(Unbounded), Start(Unbounded)),
+    (End(Included(0)), End(Included(0))),
+    (End(Included(0)), End(Excluded(1))),
+    (End(Excluded(0)), End(Excluded(0))),
+    (End(Unbounded), End(Unbounded)),
+];
 
 #[test]
 fn equal_bounds_hash_alike(rt: HostRuntime) {
-    for row in [
-        (from(0i32), from(0)),
-        (from(1), after(0)),
-        (from(0), to(0)),
-        (from(0), before(1)),
-        (after(0), after(0)),
-        (after(0), to(1)),
-        (after(0), before(2)),
-        (first(), first()),
-        (to(0), to(0)),
-        (to(0), before(1)),
-        (before(0), before(0)),
-        (last(), last()),
-    ] {
-        expect(&rt, &row, Ordering::Equal);
-    }
-    expect(&rt, &(first(), from('\0')), Ordering::Equal);
-    expect(&rt, &(last(), to('\u{10FFFF}')), Ordering::Equal);
+    expect_none(&rt, "i32", first_other::<i32>(EQUAL, Ordering::Equal));
+    assert!(rt; compare(&(Start(Unbounded), Start(Included('\0'))), Ordering::Equal));
+    assert!(rt;
+        compare(
+            &(End(Unbounded), End(Included('\u{10FFFF}'))),
+            Ordering::Equal
+        )
+    );
 }
+
+/// Equal where the keys begin at 0.
+static AT_ZERO: &[Pair<u8>] = &[
+    (Start(Unbounded), Start(Included(0))),
+    (Start(Unbounded), End(Included(0))),
+];
+
+static ROUND_ZERO: &[Pair<u8>] = &[
+    (End(Excluded(0)), Start(Unbounded)),
+    (Start(Unbounded), End(Unbounded)),
+];
 
 #[test]
 fn unsigned_bounds_begin_at_zero(rt: HostRuntime) {
-    expect(&rt, &(first(), from(0u32)), Ordering::Equal);
-    expect(&rt, &(first(), to(0u32)), Ordering::Equal);
-    expect(&rt, &(before(0u32), first()), Ordering::Less);
-    expect(&rt, &(first(), last::<u32>()), Ordering::Less);
-}
-
-fn expect_lies(rt: &impl Abort, row: Row<u32>, wanted: BoundOrdering) {
-    let (left, right) = (row.0.as_ref(), row.1.as_ref());
-    assert!(rt; left.bound_cmp(&right) == wanted, "at {row:?}");
-    assert!(rt;
-        left.bound_partial_cmp(&right) == Some(wanted),
-        "at {row:?}"
+    expect_none(&rt, "at zero", first_other::<u32>(AT_ZERO, Ordering::Equal));
+    expect_none(
+        &rt,
+        "round zero",
+        first_other::<u32>(ROUND_ZERO, Ordering::Less),
     );
 }
+
+/// Two bounds, and how the first lies to the second.
+struct Relation(Pair<u32>, BoundOrdering);
+
+impl Row for Relation {
+    fn holds(&self) -> Result<bool, AllocError> {
+        let (left, right) = (self.0.0.as_ref(), self.0.1.as_ref());
+        Ok(left.bound_cmp(&right) == self.1 && left.bound_partial_cmp(&right) == Some(self.1))
+    }
+}
+
+static RELATIONS: &[Relation] = &[
+    Relation(
+        (Start(Included(0)), Start(Excluded(0))),
+        BoundOrdering::Excluded(true),
+    ),
+    Relation(
+        (Start(Excluded(0)), Start(Included(0))),
+        BoundOrdering::Included(false),
+    ),
+    Relation(
+        (Start(Included(0)), Start(Included(2))),
+        BoundOrdering::Excluded(false),
+    ),
+    Relation(
+        (Start(Unbounded), Start(Excluded(0))),
+        BoundOrdering::Excluded(true),
+    ),
+    Relation(
+        (Start(Unbounded), End(Included(0))),
+        BoundOrdering::Included(true),
+    ),
+    Relation(
+        (End(Excluded(0)), Start(Included(0))),
+        BoundOrdering::Excluded(true),
+    ),
+    Relation(
+        (Start(Excluded(u32::MAX)), End(Unbounded)),
+        BoundOrdering::Excluded(true),
+    ),
+    Relation(
+        (End(Excluded(5)), End(Excluded(7))),
+        BoundOrdering::Included(false),
+    ),
+    Relation(
+        (End(Excluded(0)), Start(Excluded(0))),
+        BoundOrdering::Excluded(false),
+    ),
+];
 
 #[test]
-fn bound_orderings_tell_sides_and_touching(rt: HostRuntime) {
-    expect_lies(&rt, (from(0), after(0)), BoundOrdering::Excluded(true));
-    expect_lies(&rt, (after(0), from(0)), BoundOrdering::Included(false));
-    expect_lies(&rt, (from(0), from(2)), BoundOrdering::Excluded(false));
-    expect_lies(&rt, (first(), after(0)), BoundOrdering::Excluded(true));
-    expect_lies(&rt, (first(), to(0)), BoundOrdering::Included(true));
-    expect_lies(&rt, (before(0), from(0)), BoundOrdering::Excluded(true));
-    expect_lies(
-        &rt,
-        (after(u32::MAX), last()),
-        BoundOrdering::Excluded(true),
-    );
-    expect_lies(&rt, (before(5), before(7)), BoundOrdering::Included(false));
-    expect_lies(&rt, (before(0), after(0)), BoundOrdering::Excluded(false));
+fn bound_orderings_tell_sides_and_touching(rt: HostRuntime) -> Result<(), Fail> {
+    expect_none(&rt, "u32", first_wrong(RELATIONS)?);
+    Ok(())
 }
 
 #[test]

@@ -10,6 +10,9 @@ use std::test::Fail;
 /// A state, the first and the last character of a range, and the state that they lead to.
 pub type Rule = (u32, char, char, u32);
 
+/// States, a character, and the states that it leads to from them.
+pub type Step<'a> = (&'a [u32], char, &'a [u32]);
+
 pub type States = BTreeSet<u32>;
 
 /// An automaton, and what it answers.
@@ -17,8 +20,7 @@ pub struct Table<'a> {
     pub rules: &'a [Rule],
     pub starts: &'a [u32],
     pub accepting: &'a [u32],
-    /// From these states the character leads to those.
-    pub steps: &'a [(&'a [u32], char, &'a [u32])],
+    pub steps: &'a [Step<'a>],
     /// Whether the text is accepted.
     pub texts: &'a [(&'a str, bool)],
 }
@@ -49,12 +51,16 @@ fn accept_all(rules: &mut Rules, states: &[u32]) -> Result<(), MapError> {
     Ok(())
 }
 
+fn fill(rules: &mut Rules, table: &Table<'_>) -> Result<(), MapError> {
+    add_all(rules, table.rules)?;
+    start_all(rules, table.starts)?;
+    accept_all(rules, table.accepting)
+}
+
 /// The rules and states of a table.
 pub fn rules_of(alloc: Global, table: &Table<'_>) -> Result<Rules, MapError> {
     let mut rules = Rules::new(alloc);
-    add_all(&mut rules, table.rules)?;
-    start_all(&mut rules, table.starts)?;
-    accept_all(&mut rules, table.accepting)?;
+    fill(&mut rules, table)?;
     Ok(rules)
 }
 
@@ -76,15 +82,15 @@ pub fn are(alloc: Global, states: States, expected: &[u32]) -> Result<bool, Allo
 }
 
 /// Whether from the given states the character leads just to the expected ones.
-fn leads(alloc: Global, moves: &Moves, row: &(&[u32], char, &[u32])) -> Result<bool, MapError> {
+fn leads(alloc: Global, moves: &Moves, row: &Step<'_>) -> Result<bool, MapError> {
     let (given, c, expected) = *row;
     let reached = step(moves, set_of(alloc, given)?, c)?;
     Ok(are(alloc, reached, expected)?)
 }
 
 /// The index of the first row of steps that is answered otherwise.
-fn wrong_step(alloc: Global, moves: &Moves, table: &Table<'_>) -> Result<Option<usize>, MapError> {
-    for (place, row) in table.steps.iter().enumerate() {
+fn wrong_step(alloc: Global, moves: &Moves, steps: &[Step<'_>]) -> Result<Option<usize>, MapError> {
+    for (place, row) in steps.iter().enumerate() {
         if !leads(alloc, moves, row)? {
             return Ok(Some(place));
         }
@@ -93,8 +99,11 @@ fn wrong_step(alloc: Global, moves: &Moves, table: &Table<'_>) -> Result<Option<
 }
 
 /// The first text that is accepted where it is not to be, or the other way round.
-fn wrong_text<'a>(moves: &Moves, table: &Table<'a>) -> Result<Option<&'a str>, MapError> {
-    for (text, expected) in table.texts {
+pub fn wrong_text<'a>(
+    moves: &Moves,
+    texts: &[(&'a str, bool)],
+) -> Result<Option<&'a str>, MapError> {
+    for (text, expected) in texts {
         if moves.accepts(text)? != *expected {
             return Ok(Some(*text));
         }
@@ -102,10 +111,20 @@ fn wrong_text<'a>(moves: &Moves, table: &Table<'a>) -> Result<Option<&'a str>, M
     Ok(None)
 }
 
+/// The first row of steps and the first text that are answered otherwise.
+type Wrong<'a> = (Option<usize>, Option<&'a str>);
+
+fn wrong_rows<'a>(alloc: Global, moves: &Moves, table: &Table<'a>) -> Result<Wrong<'a>, MapError> {
+    let step = wrong_step(alloc, moves, table.steps)?;
+    Ok((step, wrong_text(moves, table.texts)?))
+}
+
+fn wrong_answers<'a>(alloc: Global, table: &Table<'a>) -> Result<Wrong<'a>, MapError> {
+    wrong_rows(alloc, &Moves::build(rules_of(alloc, table)?), table)
+}
+
 /// Reads a table: its automaton answers as it says.
 pub fn play<R: Abort>(rt: &R, alloc: Global, table: &Table<'_>) -> Result<(), Fail> {
-    let moves = Moves::build(rules_of(alloc, table)?);
-    assert_eq!(rt; wrong_step(alloc, &moves, table)?, None);
-    assert_eq!(rt; wrong_text(&moves, table)?, None);
+    assert_eq!(rt; wrong_answers(alloc, table)?, (None, None));
     Ok(())
 }

@@ -1,6 +1,6 @@
 //! The rules of a lexer, and which word each text is.
 
-use crate::support::{States, Table, are, play, rules_of, set_of, step};
+use super::support::{States, Table, are, play, rules_of, set_of, step, wrong_text};
 use btree_range_map::RangeFromExcluded;
 use btree_range_map::generic::map::MapError;
 use charmoves::{Moves, Rules};
@@ -96,10 +96,13 @@ fn wrong_kind(alloc: Global, moves: &Moves) -> Result<Option<&'static str>, MapE
     Ok(None)
 }
 
+fn wrong_kind_of_words(alloc: Global) -> Result<Option<&'static str>, MapError> {
+    wrong_kind(alloc, &Moves::build(rules_of(alloc, &WORDS)?))
+}
+
 #[test]
 fn kinds(rt: HostRuntime) -> Result<(), Fail> {
-    let moves = Moves::build(rules_of(rt.alloc(), &WORDS)?);
-    assert_eq!(rt; wrong_kind(rt.alloc(), &moves)?, None);
+    assert_eq!(rt; wrong_kind_of_words(rt.alloc())?, None);
     Ok(())
 }
 
@@ -113,30 +116,29 @@ fn add_quoted(rules: &mut Rules) -> Result<(), MapError> {
     rules.add(QUOTED, RangeFromExcluded::new('"'), QUOTED)
 }
 
-fn set_ends(rules: &mut Rules) -> Result<(), MapError> {
+/// Text in quotes, by single characters and ranges of other kinds.
+fn fill_quoted(rules: &mut Rules) -> Result<(), MapError> {
+    add_quotes(rules)?;
+    add_quoted(rules)?;
     rules.start(START)?;
     rules.accept(TEXT)
 }
 
-/// Text in quotes, by single characters and ranges of other kinds.
-fn quoted_text(alloc: Global) -> Result<Rules, MapError> {
+static QUOTED_TEXTS: &[(&str, bool)] = &[
+    ("\"a b\"", true),
+    ("\"\"", true),
+    ("\"a", false),
+    ("\"a\"b\"", false),
+];
+
+fn wrong_quoted_text(alloc: Global) -> Result<Option<&'static str>, MapError> {
     let mut rules = Rules::new(alloc);
-    add_quotes(&mut rules)?;
-    add_quoted(&mut rules)?;
-    set_ends(&mut rules)?;
-    Ok(rules)
+    fill_quoted(&mut rules)?;
+    wrong_text(&Moves::build(rules), QUOTED_TEXTS)
 }
 
 #[test]
 fn ranges_of_any_kind(rt: HostRuntime) -> Result<(), Fail> {
-    let moves = Moves::build(quoted_text(rt.alloc())?);
-    for (text, expected) in [
-        ("\"a b\"", true),
-        ("\"\"", true),
-        ("\"a", false),
-        ("\"a\"b\"", false),
-    ] {
-        assert_eq!(rt; moves.accepts(text)?, expected);
-    }
+    assert_eq!(rt; wrong_quoted_text(rt.alloc())?, None);
     Ok(())
 }

@@ -1,6 +1,6 @@
 //! Calls whose allocations fail.
 
-use crate::support::{Rule, Table, add, rules_of, set_of, step};
+use super::support::{Rule, Table, add, rules_of, set_of, step};
 use btree_range_map::generic::map::MapError;
 use charmoves::{Moves, Rules};
 use std::alloc::Global;
@@ -45,6 +45,11 @@ fn judges(moves: &Moves, text: &str, accepted: bool) -> bool {
     }
 }
 
+fn judge(moves: &Moves, texts: [(&str, bool); 2]) -> bool {
+    let [(always, told), (after, changed)] = texts;
+    judges(moves, always, told) && judges(moves, after, changed)
+}
+
 /// Whether all was gathered that `BEFORE` has and the call made, or else the call changed nothing.
 fn is_done_or_refused(alloc: Global, row: &(Change, &str, &str)) -> bool {
     let (call, always, after) = *row;
@@ -52,8 +57,7 @@ fn is_done_or_refused(alloc: Global, row: &(Change, &str, &str)) -> bool {
         return true;
     };
     let changed = make(&mut rules, call).is_ok();
-    let moves = Moves::build(rules);
-    judges(&moves, always, true) && judges(&moves, after, changed)
+    judge(&Moves::build(rules), [(always, true), (after, changed)])
 }
 
 fn are_done_or_refused(alloc: Global) -> bool {

@@ -1,6 +1,6 @@
 //! Automata with their answers.
 
-use crate::support::{Table, play};
+use super::support::{Table, play};
 use std::test::Fail;
 
 /// A sign may stand before digits, but not before a zero.

@@ -1,0 +1,6 @@
+//! Automata over characters.
+
+mod lexer;
+mod refused;
+mod rows;
+mod support;

@@ -1,0 +1,4 @@
+//! The access table over ports.
+
+mod ports;
+mod rules;
