@@ -2,6 +2,8 @@
 #![tactic(auto)]
 
 #[cfg(test)]
+mod containers;
+#[cfg(test)]
 mod maps;
 #[cfg(test)]
 mod sets;

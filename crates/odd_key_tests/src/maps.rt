@@ -1,16 +1,15 @@
 //! Maps over either container: rows that call a map or look at it.
 ghost use Rattle.btree_range_map.specs.Range.{ClonesAreEqual};
 
-use btree_range_map::btree::BoxStorage;
+use crate::containers::{Table, play};
 use btree_range_map::generic::RangeMap;
-use btree_range_map::storage::{Item, Storage, VecStorage};
+use btree_range_map::storage::{Item, Storage};
 use btree_range_map::{AnyRange, MapError, Measure};
 use odd_keys::blind::{Blind, Never};
 use odd_keys::fraction::Fraction;
 use odd_keys::loose::Loose;
 use std::alloc::Global;
 use std::ops::Bound::{self, Excluded, Included, Unbounded};
-use std::process::Abort;
 use std::test::Fail;
 
 /// The value of rows in which one is enough.
@@ -113,27 +112,17 @@ fn hold<K: Copy + PartialEq, M: Played<K>>(
     Ok(true)
 }
 
-fn over_vector<K: Measure + Copy>(alloc: Global, steps: &[Step<K>]) -> Result<bool, MapError>
-    requires { ClonesAreEqual K.is_clone K.eq }
-{
-    let mut map: RangeMap<K, Loose, VecStorage<Item<AnyRange<K>, Loose>>> = RangeMap::new(alloc);
-    hold(alloc, &mut map, steps)
-}
+/// Steps on a map.
+#[derive(Drop)]
+struct Steps<'a, K>(&'a [Step<K>]);
 
-fn over_tree<K: Measure + Copy>(alloc: Global, steps: &[Step<K>]) -> Result<bool, MapError>
-    requires { ClonesAreEqual K.is_clone K.eq }
-{
-    let mut map: RangeMap<K, Loose, BoxStorage<Item<AnyRange<K>, Loose>>> = RangeMap::new(alloc);
-    hold(alloc, &mut map, steps)
-}
-
-/// Takes the steps on a map over a vector and on one over a tree. Each has to hold.
-fn play<R: Abort, K: Measure + Copy>(rt: &R, alloc: Global, steps: &[Step<K>]) -> Result<(), Fail>
-    requires { ClonesAreEqual K.is_clone K.eq }
-{
-    assert!(rt; over_vector(alloc, steps)?, "over a vector");
-    assert!(rt; over_tree(alloc, steps)?, "over a tree");
-    Ok(())
+impl<'a, K: Measure + Copy> Table<K, Loose> for Steps<'a, K> {
+    fn holds<C: Storage<Item<AnyRange<K>, Loose>>>(&self, alloc: Global) -> Result<bool, MapError>
+        requires { ClonesAreEqual K.is_clone K.eq }
+    {
+        let mut map: RangeMap<K, Loose, C> = RangeMap::new(alloc);
+        hold(alloc, &mut map, self.0)
+    }
 }
 
 static BLIND_INTEGERS: &[Step<Blind<i32>>] = &[
@@ -146,7 +135,7 @@ static BLIND_INTEGERS: &[Step<Blind<i32>>] = &[
 
 #[test]
 fn untold_neighbours_do_not_touch(rt: HostRuntime) -> Result<(), Fail> {
-    play(&rt, rt.alloc(), BLIND_INTEGERS)
+    play(&rt, rt.alloc(), &Steps(BLIND_INTEGERS))
 }
 
 static NO_KEY: &[Step<Never>] = &[
@@ -159,7 +148,7 @@ static NO_KEY: &[Step<Never>] = &[
 
 #[test]
 fn a_range_without_a_key_is_stored(rt: HostRuntime) -> Result<(), Fail> {
-    play(&rt, rt.alloc(), NO_KEY)
+    play(&rt, rt.alloc(), &Steps(NO_KEY))
 }
 
 #[test]
@@ -171,7 +160,7 @@ fn equal_fractions_are_one_key(rt: HostRuntime) -> Result<(), Fail> {
         Step::Free(Fraction::new(0, 2)),
         Step::Bound(Fraction::new(1, 3), ONE),
     ];
-    play(&rt, rt.alloc(), &steps)
+    play(&rt, rt.alloc(), &Steps(&steps))
 }
 
 static EQUAL_VALUES: &[Step<i32>] = &[
@@ -183,7 +172,7 @@ static EQUAL_VALUES: &[Step<i32>] = &[
 
 #[test]
 fn values_that_are_equal_and_not_the_same_join(rt: HostRuntime) -> Result<(), Fail> {
-    play(&rt, rt.alloc(), EQUAL_VALUES)
+    play(&rt, rt.alloc(), &Steps(EQUAL_VALUES))
 }
 
 static LAST_BYTE: &[Step<u8>] = &[
@@ -199,6 +188,6 @@ static ABOVE_ALL: &[Step<i64>] = &[
 
 #[test]
 fn ranges_at_and_beyond_the_ends(rt: HostRuntime) -> Result<(), Fail> {
-    play(&rt, rt.alloc(), LAST_BYTE)?;
-    play(&rt, rt.alloc(), ABOVE_ALL)
+    play(&rt, rt.alloc(), &Steps(LAST_BYTE))?;
+    play(&rt, rt.alloc(), &Steps(ABOVE_ALL))
 }

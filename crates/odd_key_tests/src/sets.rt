@@ -1,16 +1,15 @@
 //! Sets over either container: rows that call a set or look at it.
 ghost use Rattle.btree_range_map.specs.Range.{ClonesAreEqual};
 
-use btree_range_map::btree::BoxStorage;
+use crate::containers::{Table, play};
 use btree_range_map::generic::RangeSet;
 use btree_range_map::range::traits::Bounded;
-use btree_range_map::storage::{Item, Storage, VecStorage};
+use btree_range_map::storage::{Item, Storage};
 use btree_range_map::{AnyRange, MapError, Measure};
 use odd_keys::half::Half;
 use odd_keys::only::Only;
 use std::alloc::Global;
 use std::ops::Bound::{self, Included, Unbounded};
-use std::process::Abort;
 use std::test::Fail;
 
 /// An insertion into a set, or what has to hold of the set then.
@@ -118,37 +117,17 @@ fn hold<K: Copy + PartialEq, S: Played<K>>(
     Ok(true)
 }
 
-fn over_vector<K: Measure + Bounded + Copy>(
-    alloc: Global,
-    steps: &[Step<K>],
-) -> Result<bool, MapError>
-    requires { ClonesAreEqual K.is_clone K.eq }
-{
-    let mut set: RangeSet<K, VecStorage<Item<AnyRange<K>, ()>>> = RangeSet::new(alloc);
-    hold(alloc, &mut set, steps)
-}
+/// Steps on a set.
+#[derive(Drop)]
+struct Steps<'a, K>(&'a [Step<K>]);
 
-fn over_tree<K: Measure + Bounded + Copy>(
-    alloc: Global,
-    steps: &[Step<K>],
-) -> Result<bool, MapError>
-    requires { ClonesAreEqual K.is_clone K.eq }
-{
-    let mut set: RangeSet<K, BoxStorage<Item<AnyRange<K>, ()>>> = RangeSet::new(alloc);
-    hold(alloc, &mut set, steps)
-}
-
-/// Takes the steps on a set over a vector and on one over a tree. Each has to hold.
-fn play<R: Abort, K: Measure + Bounded + Copy>(
-    rt: &R,
-    alloc: Global,
-    steps: &[Step<K>],
-) -> Result<(), Fail>
-    requires { ClonesAreEqual K.is_clone K.eq }
-{
-    assert!(rt; over_vector(alloc, steps)?, "over a vector");
-    assert!(rt; over_tree(alloc, steps)?, "over a tree");
-    Ok(())
+impl<'a, K: Measure + Bounded + Copy> Table<K, ()> for Steps<'a, K> {
+    fn holds<C: Storage<Item<AnyRange<K>, ()>>>(&self, alloc: Global) -> Result<bool, MapError>
+        requires { ClonesAreEqual K.is_clone K.eq }
+    {
+        let mut set: RangeSet<K, C> = RangeSet::new(alloc);
+        hold(alloc, &mut set, self.0)
+    }
 }
 
 static ONE_KEY: &[Step<Only>] = &[
@@ -161,7 +140,7 @@ static ONE_KEY: &[Step<Only>] = &[
 
 #[test]
 fn one_key_is_all_keys(rt: HostRuntime) -> Result<(), Fail> {
-    play(&rt, rt.alloc(), ONE_KEY)
+    play(&rt, rt.alloc(), &Steps(ONE_KEY))
 }
 
 static HALVES: &[Step<Half>] = &[
@@ -181,6 +160,6 @@ static ALL_HALVES: &[Step<Half>] = &[
 
 #[test]
 fn keys_with_one_half_are_one_key(rt: HostRuntime) -> Result<(), Fail> {
-    play(&rt, rt.alloc(), HALVES)?;
-    play(&rt, rt.alloc(), ALL_HALVES)
+    play(&rt, rt.alloc(), &Steps(HALVES))?;
+    play(&rt, rt.alloc(), &Steps(ALL_HALVES))
 }

@@ -2,7 +2,7 @@
 
 use crate::tests::support::Keys::{All, Alone, Closed, HalfOpen};
 use crate::tests::support::Values::{One, Two};
-use crate::tests::support::{Step, Values, plays, plays_numbers};
+use crate::tests::support::{Step, Table, Values, passes, passes_numbers};
 use std::test::Fail;
 
 /// Two ranges that overlap, and what is left when each value is removed in turn.
@@ -26,7 +26,7 @@ static OVERLAPPING: &[Step<'static, i32>] = &[
 
 #[test]
 fn overlapping_ranges(rt: HostRuntime) -> Result<(), Fail> {
-    plays_numbers(&rt, rt.alloc(), OVERLAPPING)
+    passes_numbers(&rt, rt.alloc(), &Table(OVERLAPPING))
 }
 
 /// Reversed ranges, values that are there already, and values that are not there.
@@ -42,7 +42,7 @@ static NOTHING_TO_DO: &[Step<'static, i32>] = &[
 
 #[test]
 fn nothing_to_do(rt: HostRuntime) -> Result<(), Fail> {
-    plays_numbers(&rt, rt.alloc(), NOTHING_TO_DO)
+    passes_numbers(&rt, rt.alloc(), &Table(NOTHING_TO_DO))
 }
 
 /// Ranges that come to have equal sets are joined, also across a gap that is filled.
@@ -64,7 +64,7 @@ static JOINED: &[Step<'static, i32>] = &[
 
 #[test]
 fn ranges_with_equal_sets_are_joined(rt: HostRuntime) -> Result<(), Fail> {
-    plays_numbers(&rt, rt.alloc(), JOINED)
+    passes_numbers(&rt, rt.alloc(), &Table(JOINED))
 }
 
 /// Digits with a number each, and then one number more for all of them.
@@ -99,5 +99,5 @@ static DIGITS: &[Step<'static, char>] = &[
 
 #[test]
 fn a_number_for_all_digits(rt: HostRuntime) -> Result<(), Fail> {
-    plays(&rt, rt.alloc(), DIGITS)
+    passes(&rt, rt.alloc(), &Table(DIGITS))
 }

@@ -10,6 +10,7 @@ use range_store::storage::{Item, Storage};
 use range_store::vec_storage::VecStorage;
 use std::alloc::{AllocError, Global};
 use std::collections::{BTreeSet, HashSet};
+use std::fmt::Debug;
 use std::ops::Bound;
 use std::process::Abort;
 use std::test::Fail;
@@ -174,60 +175,113 @@ fn goes<K: Copy + PartialEq, M: Played<K>>(
     }
 }
 
-/// The index of the first step that does not hold, or the number of steps.
+/// The index of the first step that does not hold.
 fn run<K: Copy + PartialEq, M: Played<K>>(
     alloc: Global,
     map: &mut M,
     steps: &[Step<'_, K>],
-) -> Result<usize, MapError>
+) -> Result<Option<usize>, MapError>
     requires { ClonesAreEqual K.is_clone K.eq }
 {
     for (place, step) in steps.iter().enumerate() {
         if !goes(alloc, map, step)? {
-            return Ok(place);
+            return Ok(Some(place));
         }
     }
-    Ok(steps.len())
+    Ok(None)
 }
 
-/// What `run` tells of a new multimap.
-fn play<K: Measure + Copy, S: SetMut<i32>, C: Storage<Item<AnyRange<K>, S>>>(
-    alloc: Global,
-    steps: &[Step<'_, K>],
-) -> Result<usize, MapError>
-    requires { ClonesAreEqual K.is_clone K.eq }
-{
-    let mut map: RangeMultiMap<K, S, C> = RangeMultiMap::default(alloc);
-    run(alloc, &mut map, steps)
+/// Sets of numbers that count their members and are shown.
+pub trait Numbers: SetMut<i32> + Debug {
+    fn count(&self) -> usize;
 }
 
-/// What `play` tells over a vector and over a tree.
-fn play_both<K: Measure + Copy, S: SetMut<i32>>(
+impl Numbers for BTreeSet<i32> {
+    fn count(&self) -> usize {
+        self.len()
+    }
+}
+
+impl Numbers for HashSet<i32> {
+    fn count(&self) -> usize {
+        self.len()
+    }
+}
+
+/// Steps on new multimaps, over any container and with sets of any type.
+pub trait Trial<K: Copy + PartialEq> {
+    /// The index of the first step that does not hold. `D` is a container to compare with.
+    fn first_wrong<S: Numbers, C: Storage<Item<AnyRange<K>, S>>, D: Storage<Item<AnyRange<K>, S>>>(
+        &self,
+        alloc: Global,
+    ) -> Result<Option<usize>, MapError>
+        requires { ClonesAreEqual K.is_clone K.eq };
+}
+
+/// The steps of a table, on one multimap.
+#[derive(Drop)]
+pub struct Table<'a, K>(pub &'a [Step<'a, K>]);
+
+impl<'a, K: Measure + Copy> Trial<K> for Table<'a, K> {
+    fn first_wrong<S: Numbers, C: Storage<Item<AnyRange<K>, S>>, D: Storage<Item<AnyRange<K>, S>>>(
+        &self,
+        alloc: Global,
+    ) -> Result<Option<usize>, MapError>
+        requires { ClonesAreEqual K.is_clone K.eq }
+    {
+        let mut map: RangeMultiMap<K, S, C> = RangeMultiMap::default(alloc);
+        run(alloc, &mut map, self.0)
+    }
+}
+
+/// The first step that does not hold over a vector, and over a tree.
+fn over_both<K: Copy + PartialEq + Drop, S: Numbers, T: Trial<K>>(
     alloc: Global,
-    steps: &[Step<'_, K>],
-) -> Result<(usize, usize), MapError>
+    trial: &T,
+) -> Result<(Option<usize>, Option<usize>), MapError>
     requires { ClonesAreEqual K.is_clone K.eq }
 {
-    let over_vector = play::<K, S, Vector<K, S>>(alloc, steps)?;
-    let over_tree = play::<K, S, Tree<K, S>>(alloc, steps)?;
+    let over_vector = trial.first_wrong::<S, Vector<K, S>, Tree<K, S>>(alloc)?;
+    let over_tree = trial.first_wrong::<S, Tree<K, S>, Vector<K, S>>(alloc)?;
     Ok((over_vector, over_tree))
 }
 
-/// Passes where every step holds, over either container and either type of sets.
-pub fn plays<K: Measure + Copy>(
+/// Passes where every step holds with ordered sets, over either container.
+pub fn passes_ordered<K: Copy + PartialEq + Drop, T: Trial<K>>(
     rt: &impl Abort,
     alloc: Global,
-    steps: &[Step<'_, K>],
+    trial: &T,
 ) -> Result<(), Fail>
     requires { ClonesAreEqual K.is_clone K.eq }
 {
-    let all = (steps.len(), steps.len());
-    assert_eq!(rt; play_both::<K, BTreeSet<i32>>(alloc, steps)?, all);
-    assert_eq!(rt; play_both::<K, HashSet<i32>>(alloc, steps)?, all);
+    assert_eq!(rt;
+        over_both::<K, BTreeSet<i32>, T>(alloc, trial)?,
+        (None, None)
+    );
     Ok(())
 }
 
-/// What `plays` does, of numbers.
-pub fn plays_numbers(rt: &impl Abort, alloc: Global, steps: &[Step<'_, i32>]) -> Result<(), Fail> {
-    plays(rt, alloc, steps)
+/// Passes where every step holds, over either container and with either type of sets.
+pub fn passes<K: Copy + PartialEq + Drop, T: Trial<K>>(
+    rt: &impl Abort,
+    alloc: Global,
+    trial: &T,
+) -> Result<(), Fail>
+    requires { ClonesAreEqual K.is_clone K.eq }
+{
+    passes_ordered(rt, alloc, trial)?;
+    assert_eq!(rt;
+        over_both::<K, HashSet<i32>, T>(alloc, trial)?,
+        (None, None)
+    );
+    Ok(())
+}
+
+/// What `passes` does, of numbers.
+pub fn passes_numbers<T: Trial<i32>>(
+    rt: &impl Abort,
+    alloc: Global,
+    trial: &T,
+) -> Result<(), Fail> {
+    passes(rt, alloc, trial)
 }

@@ -2,21 +2,14 @@
 
 use crate::tests::support::Keys::{Alone, Closed, HalfOpen};
 use crate::tests::support::Values::{One, Two};
-use crate::tests::support::{Played, Row, Tree, Vector};
+use crate::tests::support::{Numbers, Played, Row, Trial, passes_numbers, passes_ordered};
 use range_algebra::any::AnyRange;
 use range_map::map::MapError;
 use range_sets::multimap::{RangeMultiMap, SetMut};
 use range_store::storage::{Item, Storage};
 use std::alloc::{AllocError, Global};
-use std::collections::{BTreeSet, HashSet};
 use std::fmt::Debug;
 use std::test::Fail;
-
-type Numbers = BTreeSet<i32>;
-
-type InTree = RangeMultiMap<i32, Numbers, Tree<i32, Numbers>>;
-
-type InVector = RangeMultiMap<i32, Numbers, Vector<i32, Numbers>>;
 
 static TWO_RANGES: &[Row<i32>] = &[(0, 4, One(1)), (5, 9, Two(1, 2))];
 
@@ -35,6 +28,11 @@ impl<S: SetMut<i32>, C: Storage<Item<AnyRange<i32>, S>>> Filled for RangeMultiMa
     }
 }
 
+/// The first step of a trial that has only one, where that does not hold.
+fn wrong_unless(holds: bool) -> Option<usize> {
+    if holds { None } else { Some(0) }
+}
+
 /// Whether the copy is an equal one, and stays as it is while the multimap is changed.
 fn stays<M: Filled + Eq>(alloc: Global, map: &mut M, copy: &M) -> Result<bool, MapError> {
     let equal = *copy == *map;
@@ -43,17 +41,31 @@ fn stays<M: Filled + Eq>(alloc: Global, map: &mut M, copy: &M) -> Result<bool, M
     Ok(equal && kept && *copy != *map)
 }
 
-fn is_copied(alloc: Global, map: &mut InTree) -> Result<bool, MapError> {
+fn is_copied<S: SetMut<i32>, C: Storage<Item<AnyRange<i32>, S>>>(
+    alloc: Global,
+    map: &mut RangeMultiMap<i32, S, C>,
+) -> Result<bool, MapError> {
     map.fill()?;
     let copy = map.clone()?;
     stays(alloc, map, &copy)
 }
 
+struct Copied;
+
+impl Trial<i32> for Copied {
+    fn first_wrong<
+        S: Numbers,
+        C: Storage<Item<AnyRange<i32>, S>>,
+        D: Storage<Item<AnyRange<i32>, S>>,
+    >(&self, alloc: Global) -> Result<Option<usize>, MapError> {
+        let mut map: RangeMultiMap<i32, S, C> = RangeMultiMap::new(alloc);
+        Ok(wrong_unless(is_copied(alloc, &mut map)?))
+    }
+}
+
 #[test]
 fn a_copy_stays_as_it_is(rt: HostRuntime) -> Result<(), Fail> {
-    let mut map: InTree = RangeMultiMap::new(rt.alloc());
-    assert!(rt; is_copied(rt.alloc(), &mut map)?);
-    Ok(())
+    passes_numbers(&rt, rt.alloc(), &Copied)
 }
 
 /// A multimap that is compared with one over another container.
@@ -61,10 +73,10 @@ trait Across<M>: Filled {
     fn equals_across(&self, other: &M) -> bool;
 }
 
-impl<C: Storage<Item<AnyRange<i32>, Numbers>>, D: Storage<Item<AnyRange<i32>, Numbers>>> Across<
-    RangeMultiMap<i32, Numbers, D>,
-> for RangeMultiMap<i32, Numbers, C> {
-    fn equals_across(&self, other: &RangeMultiMap<i32, Numbers, D>) -> bool {
+impl<S: SetMut<i32>, C: Storage<Item<AnyRange<i32>, S>>, D: Storage<Item<AnyRange<i32>, S>>> Across<
+    RangeMultiMap<i32, S, D>,
+> for RangeMultiMap<i32, S, C> {
+    fn equals_across(&self, other: &RangeMultiMap<i32, S, D>) -> bool {
         self.eq_across(other)
     }
 }
@@ -78,12 +90,23 @@ fn compare<M: Across<O>, O: Across<M>>(map: &mut M, other: &mut O) -> Result<boo
     Ok(equal && !map.equals_across(other) && !other.equals_across(map))
 }
 
+struct ComparedAcross;
+
+impl Trial<i32> for ComparedAcross {
+    fn first_wrong<
+        S: Numbers,
+        C: Storage<Item<AnyRange<i32>, S>>,
+        D: Storage<Item<AnyRange<i32>, S>>,
+    >(&self, alloc: Global) -> Result<Option<usize>, MapError> {
+        let mut map: RangeMultiMap<i32, S, C> = RangeMultiMap::new(alloc);
+        let mut other: RangeMultiMap<i32, S, D> = RangeMultiMap::new(alloc);
+        Ok(wrong_unless(compare(&mut map, &mut other)?))
+    }
+}
+
 #[test]
 fn multimaps_compare_across_containers(rt: HostRuntime) -> Result<(), Fail> {
-    let mut map: InTree = RangeMultiMap::new(rt.alloc());
-    let mut other: InVector = RangeMultiMap::new(rt.alloc());
-    assert!(rt; compare(&mut map, &mut other)?);
-    Ok(())
+    passes_numbers(&rt, rt.alloc(), &ComparedAcross)
 }
 
 fn shows<M: Debug + Filled>(alloc: Global, map: &mut M, text: &str) -> Result<bool, MapError> {
@@ -92,28 +115,53 @@ fn shows<M: Debug + Filled>(alloc: Global, map: &mut M, text: &str) -> Result<bo
     Ok(shown.as_str() == text)
 }
 
+struct Shown;
+
+impl Trial<i32> for Shown {
+    fn first_wrong<
+        S: Numbers,
+        C: Storage<Item<AnyRange<i32>, S>>,
+        D: Storage<Item<AnyRange<i32>, S>>,
+    >(&self, alloc: Global) -> Result<Option<usize>, MapError> {
+        let mut map: RangeMultiMap<i32, S, C> = RangeMultiMap::new(alloc);
+        let shown = shows(alloc, &mut map, "{0..5=>{1}5..=9=>{1, 2}}")?;
+        Ok(wrong_unless(shown))
+    }
+}
+
 #[test]
 fn a_multimap_is_shown(rt: HostRuntime) -> Result<(), Fail> {
-    let mut map: InTree = RangeMultiMap::new(rt.alloc());
-    assert!(rt; shows(rt.alloc(), &mut map, "{0..5=>{1}5..=9=>{1, 2}}")?);
-    Ok(())
+    passes_ordered(&rt, rt.alloc(), &Shown)
 }
 
 /// How many values the stored sets have together.
-fn values_stored(map: &InTree) -> usize {
+fn values_stored<S: Numbers, C: Storage<Item<AnyRange<i32>, S>>>(
+    map: &RangeMultiMap<i32, S, C>,
+) -> usize {
     let mut count: usize = 0;
     for (_, set) in map {
-        count = count.saturating_add(set.len());
+        count = count.saturating_add(set.count());
     }
     count
 }
 
+struct Walked;
+
+impl Trial<i32> for Walked {
+    fn first_wrong<
+        S: Numbers,
+        C: Storage<Item<AnyRange<i32>, S>>,
+        D: Storage<Item<AnyRange<i32>, S>>,
+    >(&self, alloc: Global) -> Result<Option<usize>, MapError> {
+        let mut map: RangeMultiMap<i32, S, C> = RangeMultiMap::new(alloc);
+        map.fill()?;
+        Ok(wrong_unless(values_stored(&map) == 3))
+    }
+}
+
 #[test]
 fn a_multimap_is_walked(rt: HostRuntime) -> Result<(), Fail> {
-    let mut map: InTree = RangeMultiMap::new(rt.alloc());
-    map.fill()?;
-    assert_eq!(rt; values_stored(&map), 3);
-    Ok(())
+    passes_numbers(&rt, rt.alloc(), &Walked)
 }
 
 /// Whether the call was done, so that these rows are stored, or else nothing was changed.
@@ -149,18 +197,21 @@ fn are_done_or_refused<M: Filled>(alloc: Global, map: &mut M, other: &mut M) -> 
     inserts_or_keeps(alloc, map).unwrap_or(true) && removes_or_keeps(alloc, other).unwrap_or(true)
 }
 
-fn both_are_done_or_refused<S: SetMut<i32>, C: Storage<Item<AnyRange<i32>, S>>>(
-    alloc: Global,
-) -> bool {
-    let mut map: RangeMultiMap<i32, S, C> = RangeMultiMap::new(alloc);
-    let mut other: RangeMultiMap<i32, S, C> = RangeMultiMap::new(alloc);
-    are_done_or_refused(alloc, &mut map, &mut other)
+struct DoneOrRefused;
+
+impl Trial<i32> for DoneOrRefused {
+    fn first_wrong<
+        S: Numbers,
+        C: Storage<Item<AnyRange<i32>, S>>,
+        D: Storage<Item<AnyRange<i32>, S>>,
+    >(&self, alloc: Global) -> Result<Option<usize>, MapError> {
+        let mut map: RangeMultiMap<i32, S, C> = RangeMultiMap::new(alloc);
+        let mut other: RangeMultiMap<i32, S, C> = RangeMultiMap::new(alloc);
+        Ok(wrong_unless(are_done_or_refused(alloc, &mut map, &mut other)))
+    }
 }
 
 #[test]
-fn a_refused_call_changes_nothing(rt: HostRuntime) {
-    let alloc = rt.alloc();
-    assert!(rt; both_are_done_or_refused::<Numbers, Tree<i32, Numbers>>(alloc));
-    assert!(rt; both_are_done_or_refused::<Numbers, Vector<i32, Numbers>>(alloc));
-    assert!(rt; both_are_done_or_refused::<HashSet<i32>, Tree<i32, HashSet<i32>>>(alloc));
+fn a_refused_call_changes_nothing(rt: HostRuntime) -> Result<(), Fail> {
+    passes_numbers(&rt, rt.alloc(), &DoneOrRefused)
 }

@@ -3,7 +3,9 @@
 use crate::tests::support::Keys::{
     self, Above, All, Alone, Any, Below, Closed, HalfOpen, Starting, UpTo,
 };
-use crate::tests::support::{Entry, Step, Tree, Vector, extend, plays};
+use crate::tests::support::{
+    Entry, Played, Step, Table, Trial, passes, passes_bytes, passes_numbers, wrong_unless,
+};
 use btree_range_map::generic::map::MapError;
 use btree_range_map::generic::set::RangeSet;
 use btree_range_map::storage::Storage;
@@ -35,7 +37,7 @@ static BYTES: &[Step<'static, u8>] = &[
 
 #[test]
 fn bytes(rt: HostRuntime) -> Result<(), Fail> {
-    plays(&rt, rt.alloc(), BYTES)
+    passes_bytes(&rt, rt.alloc(), &Table(BYTES))
 }
 
 static ALL_NUMBERS_OF_64_BITS: &[Step<'static, u64>] = &[
@@ -45,7 +47,7 @@ static ALL_NUMBERS_OF_64_BITS: &[Step<'static, u64>] = &[
 
 #[test]
 fn all_numbers_of_64_bits(rt: HostRuntime) -> Result<(), Fail> {
-    plays(&rt, rt.alloc(), ALL_NUMBERS_OF_64_BITS)
+    passes(&rt, rt.alloc(), &Table(ALL_NUMBERS_OF_64_BITS))
 }
 
 static THE_GAP_BESIDE_THE_LEAST_NUMBER: &[Step<'static, u32>] = &[
@@ -56,7 +58,7 @@ static THE_GAP_BESIDE_THE_LEAST_NUMBER: &[Step<'static, u32>] = &[
 
 #[test]
 fn the_gap_beside_the_least_number(rt: HostRuntime) -> Result<(), Fail> {
-    plays(&rt, rt.alloc(), THE_GAP_BESIDE_THE_LEAST_NUMBER)
+    passes(&rt, rt.alloc(), &Table(THE_GAP_BESIDE_THE_LEAST_NUMBER))
 }
 
 static CHARACTERS: &[Step<'static, char>] = &[
@@ -69,7 +71,7 @@ static CHARACTERS: &[Step<'static, char>] = &[
 
 #[test]
 fn characters(rt: HostRuntime) -> Result<(), Fail> {
-    plays(&rt, rt.alloc(), CHARACTERS)
+    passes(&rt, rt.alloc(), &Table(CHARACTERS))
 }
 
 /// Insertions that join, removals, look-ups and copies.
@@ -99,7 +101,7 @@ static NUMBERS: &[Step<'static, i32>] = &[
 
 #[test]
 fn numbers(rt: HostRuntime) -> Result<(), Fail> {
-    plays(&rt, rt.alloc(), NUMBERS)
+    passes_numbers(&rt, rt.alloc(), &Table(NUMBERS))
 }
 
 static A_SET_IS_SHOWN: &[Step<'static, i32>] = &[
@@ -114,7 +116,7 @@ static A_SET_IS_SHOWN: &[Step<'static, i32>] = &[
 
 #[test]
 fn a_set_is_shown(rt: HostRuntime) -> Result<(), Fail> {
-    plays(&rt, rt.alloc(), A_SET_IS_SHOWN)
+    passes_numbers(&rt, rt.alloc(), &Table(A_SET_IS_SHOWN))
 }
 
 const RANGES: [(i32, i32); 5] = [(0, 2), (40, 46), (20, 24), (8, 3), (2, 20)];
@@ -130,9 +132,9 @@ fn is_in_first(key: i32, count: usize) -> bool {
 }
 
 /// Whether the set holds just the keys of the first so many ranges.
-fn holds_first<C: Storage<Entry<i32>>>(set: &RangeSet<i32, C>, count: usize) -> bool {
+fn holds_first<S: Played<i32>>(set: &S, count: usize) -> bool {
     for key in -1..60 {
-        if set.contains(key) != is_in_first(key, count) {
+        if set.holds(key) != is_in_first(key, count) {
             return false;
         }
     }
@@ -140,7 +142,7 @@ fn holds_first<C: Storage<Entry<i32>>>(set: &RangeSet<i32, C>, count: usize) -> 
 }
 
 /// Whether the set holds just the keys of some first ranges, but not of all.
-fn holds_some_first<C: Storage<Entry<i32>>>(set: &RangeSet<i32, C>) -> bool {
+fn holds_some_first<S: Played<i32>>(set: &S) -> bool {
     for count in 0..RANGES.len() {
         if holds_first(set, count) {
             return true;
@@ -149,36 +151,48 @@ fn holds_some_first<C: Storage<Entry<i32>>>(set: &RangeSet<i32, C>) -> bool {
     false
 }
 
-fn extended<C: Storage<Entry<i32>>>(set: &mut RangeSet<i32, C>) -> bool {
+/// Whether the keys of a refused extension are those of some first ranges, and of all where it is
+/// not refused.
+fn is_extended<S: Played<i32>>(set: &mut S) -> bool {
     let rows = RANGES.map(|(first, end)| HalfOpen(first, end));
-    match extend(set, &rows) {
+    match set.extend_by(&rows) {
         Ok(_) => holds_first(set, RANGES.len()),
         Err(MapError::Memory) => holds_some_first(set),
     }
 }
 
-/// The keys of a refused extension are those of some first ranges, and of all where it is not
-/// refused.
-fn extension<C: Storage<Entry<i32>>>(alloc: Global) -> bool {
-    let mut set: RangeSet<i32, C> = RangeSet::new(alloc);
-    extended(&mut set)
+/// An extension of an empty set.
+struct Extended;
+
+impl Trial<i32> for Extended {
+    fn first_wrong<C: Storage<Entry<i32>>, D: Storage<Entry<i32>>>(
+        &self,
+        alloc: Global,
+    ) -> Result<Option<usize>, MapError> {
+        let mut set: RangeSet<i32, C> = RangeSet::new(alloc);
+        Ok(wrong_unless(is_extended(&mut set)))
+    }
 }
 
 #[test]
-fn a_refused_extension_keeps_whole_ranges(rt: HostRuntime) {
-    assert!(rt; extension::<Vector<i32>>(rt.alloc()));
-    assert!(rt; extension::<Tree<i32>>(rt.alloc()));
+fn a_refused_extension_keeps_whole_ranges(rt: HostRuntime) -> Result<(), Fail> {
+    passes_numbers(&rt, rt.alloc(), &Extended)
 }
 
 /// A set of the ranges of an array, in any order.
-fn from_array<C: Storage<Entry<i32>>>(alloc: Global) -> Result<bool, MapError> {
-    let set: RangeSet<i32, C> = RangeSet::from_iter(alloc, [0..2, 4..6, 2..4])?;
-    Ok(set.range_count() == 1 && set.len() == 6)
+struct FromArray;
+
+impl Trial<i32> for FromArray {
+    fn first_wrong<C: Storage<Entry<i32>>, D: Storage<Entry<i32>>>(
+        &self,
+        alloc: Global,
+    ) -> Result<Option<usize>, MapError> {
+        let set: RangeSet<i32, C> = RangeSet::from_iter(alloc, [0..2, 4..6, 2..4])?;
+        Ok(wrong_unless(set.range_count() == 1 && set.len() == 6))
+    }
 }
 
 #[test]
 fn a_set_of_an_array(rt: HostRuntime) -> Result<(), Fail> {
-    assert!(rt; from_array::<Vector<i32>>(rt.alloc())?);
-    assert!(rt; from_array::<Tree<i32>>(rt.alloc())?);
-    Ok(())
+    passes_numbers(&rt, rt.alloc(), &FromArray)
 }

@@ -1,7 +1,10 @@
 //! How sets compare.
 
 use crate::tests::support::Keys::{self, Alone, Below, Between, Closed, HalfOpen, Starting};
-use crate::tests::support::{Entry, Step, Tree, Vector, compared, goes, play_both, plays};
+use crate::tests::support::{
+    Across, Call, Entry, Played, Step, Table, Trial, compared, over_both, passes_bytes,
+    passes_numbers,
+};
 use btree_range_map::generic::map::MapError;
 use btree_range_map::generic::set::RangeSet;
 use btree_range_map::storage::Storage;
@@ -28,7 +31,7 @@ static A_MENDED_SET_EQUALS_A_PLAIN_ONE: &[Step<'static, i32>] = &[
 
 #[test]
 fn a_mended_set_equals_a_plain_one(rt: HostRuntime) -> Result<(), Fail> {
-    plays(&rt, rt.alloc(), A_MENDED_SET_EQUALS_A_PLAIN_ONE)
+    passes_numbers(&rt, rt.alloc(), &Table(A_MENDED_SET_EQUALS_A_PLAIN_ONE))
 }
 
 /// Ranks, and the ranges of sets: those of one rank hold the same keys, and the others are in
@@ -55,16 +58,28 @@ fn compare(
     ordering: Ordering,
 ) -> Result<bool, MapError> {
     let steps = [Step::Extend(left), Step::Compares(right, ordering)];
-    Ok(play_both::<i32>(alloc, &steps)? == (2, 2))
+    Ok(over_both::<i32, Table<'_, i32>>(alloc, &Table(&steps))? == (None, None))
+}
+
+/// The index of the first set with which one of this rank does not compare as it has to.
+fn first_compared_wrong(
+    alloc: Global,
+    rank: u8,
+    left: &[Keys<i32>],
+) -> Result<Option<usize>, MapError> {
+    for (place, (other, right)) in RISING.iter().enumerate() {
+        if !compare(alloc, left, *right, rank.cmp(other))? {
+            return Ok(Some(place));
+        }
+    }
+    Ok(None)
 }
 
 #[test]
 fn sets_are_in_dictionary_order(rt: HostRuntime) -> Result<(), Fail> {
     for (place, (rank, left)) in RISING.iter().enumerate() {
-        for (other_place, (other, right)) in RISING.iter().enumerate() {
-            let holds = compare(rt.alloc(), *left, *right, rank.cmp(other))?;
-            assert!(rt; holds, "{place}, {other_place}");
-        }
+        let wrong = first_compared_wrong(rt.alloc(), *rank, *left)?;
+        assert!(rt; wrong.is_none(), "{place}, {wrong:?}");
     }
     Ok(())
 }
@@ -86,17 +101,21 @@ static THE_COMPLEMENT_OF_THE_COMPLEMENT_IS_THE_SET: &[Step<'static, u8>] = &[
 
 #[test]
 fn the_complement_of_the_complement_is_the_set(rt: HostRuntime) -> Result<(), Fail> {
-    plays(&rt, rt.alloc(), THE_COMPLEMENT_OF_THE_COMPLEMENT_IS_THE_SET)
+    passes_bytes(
+        &rt,
+        rt.alloc(),
+        &Table(THE_COMPLEMENT_OF_THE_COMPLEMENT_IS_THE_SET),
+    )
 }
 
 /// Adds or takes away some of the first four keys, all of it taken from one number.
-fn drawn_step(drawn: u32) -> Step<'static, u8> {
+fn change<S: Played<u8>>(set: &mut S, drawn: u32) -> Result<bool, MapError> {
     let first = (drawn / 256 % 4) as u8;
     let last = (drawn / 1024 % 4) as u8;
     match drawn / 4096 % 3 {
-        0 => Step::Remove(Closed(first, last)),
-        1 => Step::Insert(Closed(first, last)),
-        _ => Step::Insert(Between(first, last)),
+        0 => set.call(Closed(first, last), Call::Remove),
+        1 => set.call(Closed(first, last), Call::Insert),
+        _ => set.call(Between(first, last), Call::Insert),
     }
 }
 
@@ -105,12 +124,9 @@ fn next_number(number: u32) -> u32 {
 }
 
 /// Whether two sets hold the same keys.
-fn hold_alike<C: Storage<Entry<u8>>, D: Storage<Entry<u8>>>(
-    left: &RangeSet<u8, C>,
-    right: &RangeSet<u8, D>,
-) -> bool {
+fn hold_alike<S: Played<u8>, O: Played<u8>>(left: &S, right: &O) -> bool {
     for key in 0..=255 {
-        if left.contains(key) != right.contains(key) {
+        if left.holds(key) != right.holds(key) {
             return false;
         }
     }
@@ -118,9 +134,9 @@ fn hold_alike<C: Storage<Entry<u8>>, D: Storage<Entry<u8>>>(
 }
 
 /// Whether two sets hold the same keys, where their comparisons say the same.
-fn alike<C: Storage<Entry<u8>>, D: Storage<Entry<u8>>>(
-    left: &RangeSet<u8, C>,
-    right: &RangeSet<u8, D>,
+fn alike<S: Played<u8> + Across<O>, O: Played<u8> + Across<S>>(
+    left: &S,
+    right: &O,
 ) -> Option<bool> {
     let equal = compared(left, right)? == Ordering::Equal;
     if hold_alike(left, right) == equal {
@@ -130,66 +146,56 @@ fn alike<C: Storage<Entry<u8>>, D: Storage<Entry<u8>>>(
     }
 }
 
-fn change<C: Storage<Entry<u8>>, D: Storage<Entry<u8>>>(
-    alloc: Global,
-    set: &mut RangeSet<u8, C>,
-    drawn: u32,
-) -> Result<bool, MapError> {
-    goes::<u8, C, D>(alloc, set, &drawn_step(drawn))
-}
-
 /// Changes both sets, and tells what `alike` says then.
-fn changed_alike<C: Storage<Entry<u8>>, D: Storage<Entry<u8>>>(
-    alloc: Global,
-    left: &mut RangeSet<u8, C>,
-    right: &mut RangeSet<u8, D>,
+fn changed_alike<S: Played<u8> + Across<O>, O: Played<u8> + Across<S>>(
+    left: &mut S,
+    right: &mut O,
     drawn: (u32, u32),
 ) -> Result<Option<bool>, MapError> {
-    change::<C, D>(alloc, left, drawn.0)?;
-    change::<D, C>(alloc, right, drawn.1)?;
+    change(left, drawn.0)?;
+    change(right, drawn.1)?;
     Ok(alike(left, right))
 }
 
-/// How often two sets that are changed 300 times hold the same keys, or the first change after
-/// which their comparisons say otherwise.
-fn count_alike<C: Storage<Entry<u8>>, D: Storage<Entry<u8>>>(
-    alloc: Global,
-    left: &mut RangeSet<u8, C>,
-    right: &mut RangeSet<u8, D>,
-) -> Result<Result<u32, u32>, MapError> {
+/// The first of 300 changes after which the comparisons of two sets say otherwise than their keys,
+/// or 300 where the sets were equal at hardly any time, or nearly always.
+fn first_unlike<S: Played<u8> + Across<O>, O: Played<u8> + Across<S>>(
+    left: &mut S,
+    right: &mut O,
+) -> Result<Option<usize>, MapError> {
     let mut number = 7;
-    let mut count = 0u32;
-    for step in 0..300 {
+    let mut equal = 0u32;
+    for change in 0..300 {
         let first = next_number(number);
         number = next_number(first);
-        match changed_alike(alloc, left, right, (first, number))? {
-            Some(true) => count = count.saturating_add(1),
+        match changed_alike(left, right, (first, number))? {
+            Some(true) => equal = equal.saturating_add(1),
             Some(false) => {},
-            None => return Ok(Err(step)),
+            None => return Ok(Some(change)),
         }
     }
-    Ok(Ok(count))
+    Ok(if 5 < equal && equal < 295 {
+        None
+    } else {
+        Some(300)
+    })
 }
 
-/// The same, of sets that start empty.
-fn count_alike_over<C: Storage<Entry<u8>>, D: Storage<Entry<u8>>>(
-    alloc: Global,
-) -> Result<Result<u32, u32>, MapError> {
-    let mut left: RangeSet<u8, C> = RangeSet::new(alloc);
-    let mut right: RangeSet<u8, D> = RangeSet::new(alloc);
-    count_alike(alloc, &mut left, &mut right)
-}
+/// Changes of two sets that start empty.
+struct Changed;
 
-/// The same over a vector and a tree.
-fn count_alike_over_both(alloc: Global) -> Result<Result<u32, u32>, MapError> {
-    count_alike_over::<Vector<u8>, Tree<u8>>(alloc)
+impl Trial<u8> for Changed {
+    fn first_wrong<C: Storage<Entry<u8>>, D: Storage<Entry<u8>>>(
+        &self,
+        alloc: Global,
+    ) -> Result<Option<usize>, MapError> {
+        let mut left: RangeSet<u8, C> = RangeSet::new(alloc);
+        let mut right: RangeSet<u8, D> = RangeSet::new(alloc);
+        first_unlike(&mut left, &mut right)
+    }
 }
 
 #[test]
 fn many_sets_are_equal_where_they_hold_the_same_keys(rt: HostRuntime) -> Result<(), Fail> {
-    match count_alike_over_both(rt.alloc())? {
-        Ok(equal) => assert!(rt; 5 < equal && equal < 295, "{equal} of 300 were equal"),
-        Err(step) => panic!(rt; "after step {step}"),
-    }
-    Ok(())
+    passes_bytes(&rt, rt.alloc(), &Changed)
 }

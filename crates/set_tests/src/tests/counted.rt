@@ -1,10 +1,14 @@
-use btree_range_map::RangeSet;
+use crate::tests::support::Entry;
 use btree_range_map::generic::map::MapError;
-use btree_range_map::storage::Steps;
+use btree_range_map::storage::{Steps, Storage};
+use btree_range_map::{RangeSet, generic};
 use std::test::Fail;
 
 /// Whether the counted calls of a set answer, and take at most so many steps in all.
-fn takes_at_most(set: &mut RangeSet<i32>, most: u64) -> Result<bool, MapError> {
+fn takes_at_most<C: Storage<Entry<i32>>>(
+    set: &mut generic::set::RangeSet<i32, C>,
+    most: u64,
+) -> Result<bool, MapError> {
     let mut steps = Steps::new();
     set.insert_counted(0..=9, &mut steps)?;
     set.remove_counted(3..=4, &mut steps)?;

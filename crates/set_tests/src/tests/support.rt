@@ -5,11 +5,11 @@ ghost use Rattle.range_sets.specs.SetOrder.{same_ranges};
 
 use btree_range_map::btree::BoxStorage;
 use btree_range_map::generic::map::MapError;
-use btree_range_map::generic::set::{Gaps, RangeSet, complementing_twice_restores};
+use btree_range_map::generic::set::{RangeSet, complementing_twice_restores};
 use btree_range_map::range::traits::Bounded;
 use btree_range_map::storage::{Item, Storage, VecStorage};
 use btree_range_map::{
-    AnyRange, IntoRange, Measure, RangeFromExcluded, RangeFromExcludedTo,
+    AnyRange, IntoRange, Measure, PartialEnum, RangeFromExcluded, RangeFromExcludedTo,
     RangeFromExcludedToIncluded,
 };
 use std::alloc::{AllocError, Global};
@@ -109,10 +109,42 @@ pub fn range_of<T: Copy>(keys: Keys<T>) -> AnyRange<T> {
 
 /// What a set is asked with a range.
 #[derive(Clone, Copy)]
-enum Call {
+pub enum Call {
     Insert,
     Remove,
     Meets(bool),
+}
+
+/// What is called with a range, which may be written in any way.
+pub trait Called<T: Measure + Copy, W> {
+    /// Makes the call, or tells whether what has to come of it does.
+    fn call_with<R: IntoRange<Item = T>>(&mut self, range: R, what: W) -> Result<bool, MapError>
+        requires { ClonesAreEqual T.is_clone T.eq };
+}
+
+/// Makes the call with the range as it is written.
+pub fn call_spelled<T: Measure + Copy + IntoRange<Item = T>, W, M: Called<T, W>>(
+    called: &mut M,
+    keys: Keys<T>,
+    what: W,
+) -> Result<bool, MapError>
+    requires { ClonesAreEqual T.is_clone T.eq }
+{
+    match keys {
+        Keys::Alone(key) => called.call_with(key, what),
+        Keys::HalfOpen(first, end) => called.call_with(first..end, what),
+        Keys::Closed(first, last) => called.call_with(first..=last, what),
+        Keys::Starting(first) => called.call_with(first.., what),
+        Keys::Below(end) => called.call_with(..end, what),
+        Keys::UpTo(last) => called.call_with(..=last, what),
+        Keys::Above(start) => called.call_with(RangeFromExcluded::new(start), what),
+        Keys::Between(start, end) => called.call_with(RangeFromExcludedTo::new(start, end), what),
+        Keys::AboveUpTo(start, last) => called.call_with(
+            RangeFromExcludedToIncluded::new(start, last),
+            what,
+        ),
+        Keys::All | Keys::Any(_, _) => called.call_with(range_of(keys), what),
+    }
 }
 
 /// `true` where the call was not refused.
@@ -121,66 +153,20 @@ pub fn went(outcome: Result<(), MapError>) -> Result<bool, MapError> {
     Ok(true)
 }
 
-fn call_with<T: Key, C: Storage<Entry<T>>, R: IntoRange<Item = T>>(
-    set: &mut RangeSet<T, C>,
-    range: R,
-    call: Call,
-) -> Result<bool, MapError>
-    requires { ClonesAreEqual T.is_clone T.eq }
-{
-    match call {
-        Call::Insert => went(set.insert(range)),
-        Call::Remove => went(set.remove(range)),
-        Call::Meets(met) => Ok(set.intersects(range) == met),
+impl<T: Measure + Copy, C: Storage<Entry<T>>> Called<T, Call> for RangeSet<T, C> {
+    fn call_with<R: IntoRange<Item = T>>(&mut self, range: R, what: Call) -> Result<bool, MapError>
+        requires { ClonesAreEqual T.is_clone T.eq }
+    {
+        match what {
+            Call::Insert => went(self.insert(range)),
+            Call::Remove => went(self.remove(range)),
+            Call::Meets(met) => Ok(self.intersects(range) == met),
+        }
     }
-}
-
-/// Makes the call with the range as it is written.
-fn call_spelled<T: Key, C: Storage<Entry<T>>>(
-    set: &mut RangeSet<T, C>,
-    keys: Keys<T>,
-    what: Call,
-) -> Result<bool, MapError>
-    requires { ClonesAreEqual T.is_clone T.eq }
-{
-    match keys {
-        Keys::Alone(key) => call_with(set, key, what),
-        Keys::HalfOpen(first, end) => call_with(set, first..end, what),
-        Keys::Closed(first, last) => call_with(set, first..=last, what),
-        Keys::Starting(first) => call_with(set, first.., what),
-        Keys::Below(end) => call_with(set, ..end, what),
-        Keys::UpTo(last) => call_with(set, ..=last, what),
-        Keys::Above(start) => call_with(set, RangeFromExcluded::new(start), what),
-        Keys::Between(start, end) => call_with(set, RangeFromExcludedTo::new(start, end), what),
-        Keys::AboveUpTo(start, last) => call_with(
-            set,
-            RangeFromExcludedToIncluded::new(start, last),
-            what,
-        ),
-        Keys::All | Keys::Any(_, _) => call_with(set, range_of(keys), what),
-    }
-}
-
-pub fn extend<T: Key, C: Storage<Entry<T>>>(
-    set: &mut RangeSet<T, C>,
-    rows: &[Keys<T>],
-) -> Result<bool, MapError>
-    requires { ClonesAreEqual T.is_clone T.eq }
-{
-    went(set.extend(rows.iter().map(|keys| range_of(*keys))))
-}
-
-fn become_complement<T: Key, C: Storage<Entry<T>>>(
-    set: &mut RangeSet<T, C>,
-) -> Result<bool, MapError>
-    requires { ClonesAreEqual T.is_clone T.eq }
-{
-    *set = set.complement()?;
-    Ok(true)
 }
 
 /// The complement of the complement of a set, which the law says equals it.
-fn complemented_twice<T: Key, C: Storage<Entry<T>>>(
+fn complemented_twice<T: Measure + Copy, C: Storage<Entry<T>>>(
     set: &RangeSet<T, C>,
 ) -> Result<RangeSet<T, C>, MapError>
     requires { ClonesAreEqual T.is_clone T.eq }
@@ -194,139 +180,60 @@ fn complemented_twice<T: Key, C: Storage<Entry<T>>>(
     Ok(again)
 }
 
-fn become_complement_twice<T: Key, C: Storage<Entry<T>>>(
-    set: &mut RangeSet<T, C>,
-) -> Result<bool, MapError>
-    requires { ClonesAreEqual T.is_clone T.eq }
-{
-    *set = complemented_twice(set)?;
-    Ok(true)
-}
-
-/// Whether the set is empty once every key is removed.
-fn emptied<T: Key, C: Storage<Entry<T>>>(set: &mut RangeSet<T, C>) -> Result<bool, MapError>
-    requires { ClonesAreEqual T.is_clone T.eq }
-{
-    call_with(set, range_of(Keys::All), Call::Remove)?;
-    Ok(set.is_empty())
-}
-
-fn become_copy<T: Key, C: Storage<Entry<T>>>(set: &mut RangeSet<T, C>) -> Result<bool, MapError>
-    requires { ClonesAreEqual T.is_clone T.eq }
-{
-    let copy = set.clone()?;
-    let emptied = emptied(set);
-    *set = copy;
-    emptied
-}
-
-fn has_size<T: Key, C: Storage<Entry<T>>>(set: &RangeSet<T, C>, count: usize, len: u128) -> bool {
-    set.range_count() == count
-        && set.is_empty() == (count == 0)
-        && set.len() == len
-        && set.bounded_len() == Some(len)
-}
-
-fn has_no_gap<T: Key, C: Storage<Entry<T>>>(set: &RangeSet<T, C>) -> bool {
-    set.gaps().next().is_none()
-}
-
-fn starts_with<T: Key, C: Storage<Entry<T>>>(set: &RangeSet<T, C>, first: AnyRange<T>) -> bool {
-    set.iter().next() == Some(&first)
-}
-
 /// Whether the gap is the range, of so many keys.
-fn is_range<T: Key>(gap: AnyRange<&T>, range: AnyRange<T>, len: u128) -> Result<bool, MapError>
+fn is_range<T: Measure + Bounded + Copy>(
+    gap: AnyRange<&T>,
+    range: AnyRange<T>,
+    len: u128,
+) -> Result<bool, MapError>
     requires { ClonesAreEqual T.is_clone T.eq }
 {
     let gap = gap.cloned()?;
     Ok(gap == range && gap.len() == len)
 }
 
-/// Whether the range, of so many keys, is the only gap of the set.
-fn has_one_gap<T: Key, C: Storage<Entry<T>>>(
-    set: &RangeSet<T, C>,
-    range: AnyRange<T>,
-    len: u128,
-) -> Result<bool, MapError>
-    requires { ClonesAreEqual T.is_clone T.eq }
-{
-    let mut gaps = set.gaps();
-    let Some(gap) = gaps.next() else {
-        return Ok(false);
-    };
-    Ok(gaps.next().is_none() && is_range(gap, range, len)?)
-}
-
-fn shows<T: Key, C: Storage<Entry<T>>>(
-    alloc: Global,
-    set: &RangeSet<T, C>,
-    text: &str,
-) -> Result<bool, MapError> {
-    let shown = format!(in alloc; "{set:?}")?;
-    Ok(shown.as_str() == text)
-}
-
-/// A set of the keys of these ranges.
-fn gathered<T: Key, C: Storage<Entry<T>>>(
-    alloc: Global,
-    rows: &[Keys<T>],
-) -> Result<RangeSet<T, C>, MapError>
-    requires { ClonesAreEqual T.is_clone T.eq }
-{
-    RangeSet::from_iter(alloc, rows.iter().map(|keys| range_of(*keys)))
-}
-
-fn gather<T: Key, C: Storage<Entry<T>>>(
-    alloc: Global,
-    set: &mut RangeSet<T, C>,
-    rows: &[Keys<T>],
-) -> Result<bool, MapError>
-    requires { ClonesAreEqual T.is_clone T.eq }
-{
-    *set = gathered(alloc, rows)?;
-    Ok(true)
-}
-
-fn count_of<T: Key, C: Storage<Entry<T>>>(set: &RangeSet<T, C>) -> usize {
-    set.range_count()
-}
-
-fn hash_of<T: Key, C: Storage<Entry<T>>>(set: &RangeSet<T, C>) -> u64 {
+fn hash_of<S: Hash>(set: &S) -> u64 {
     let mut state = DefaultHasher::new();
     set.hash(&mut state);
     state.finish()
 }
 
-/// How two sets compare across containers, where the two comparisons say the same.
-fn compared_across<T: Key, C: Storage<Entry<T>>, D: Storage<Entry<T>>>(
-    left: &RangeSet<T, C>,
-    right: &RangeSet<T, D>,
-) -> Option<Ordering> {
-    let ordering = left.cmp_across(right);
-    if left.eq_across(right) == ordering.is_eq() {
-        Some(ordering)
-    } else {
-        None
+/// What compares with sets over some container.
+pub trait Across<S> {
+    /// How the two compare across containers, where the two comparisons say the same.
+    fn compared_across(&self, other: &S) -> Option<Ordering>;
+
+    /// How many ranges are stored, and their hash.
+    fn count_and_hash(&self) -> (usize, u64);
+}
+
+impl<T: PartialEnum + Hash, C: Storage<Entry<T>>, D: Storage<Entry<T>>> Across<RangeSet<T, D>>
+    for RangeSet<T, C> {
+    fn compared_across(&self, other: &RangeSet<T, D>) -> Option<Ordering> {
+        let ordering = self.cmp_across(other);
+        if self.eq_across(other) == ordering.is_eq() {
+            Some(ordering)
+        } else {
+            None
+        }
+    }
+
+    fn count_and_hash(&self) -> (usize, u64) {
+        (self.range_count(), hash_of(self))
     }
 }
 
 /// Whether two sets store as many ranges where they are equal, and hash alike just there.
-fn hash_alike<T: Key, C: Storage<Entry<T>>, D: Storage<Entry<T>>>(
-    left: &RangeSet<T, C>,
-    right: &RangeSet<T, D>,
-    equal: bool,
-) -> bool {
-    (hash_of(left) == hash_of(right)) == equal && (count_of(left) == count_of(right) || !equal)
+fn hash_alike<S: Across<O>, O: Across<S>>(left: &S, right: &O, equal: bool) -> bool {
+    let (count, hash) = left.count_and_hash();
+    let (other_count, other_hash) = right.count_and_hash();
+    (hash == other_hash) == equal && (count == other_count || !equal)
 }
 
 /// How two sets compare, where all comparisons across containers and the hashes say the same.
-pub fn compared<T: Key, C: Storage<Entry<T>>, D: Storage<Entry<T>>>(
-    left: &RangeSet<T, C>,
-    right: &RangeSet<T, D>,
-) -> Option<Ordering> {
-    let ordering = compared_across(left, right)?;
-    let back = compared_across(right, left)?;
+pub fn compared<S: Across<O>, O: Across<S>>(left: &S, right: &O) -> Option<Ordering> {
+    let ordering = left.compared_across(right)?;
+    let back = right.compared_across(left)?;
     if back == ordering.reverse() && hash_alike(left, right, ordering.is_eq()) {
         Some(ordering)
     } else {
@@ -334,115 +241,277 @@ pub fn compared<T: Key, C: Storage<Entry<T>>, D: Storage<Entry<T>>>(
     }
 }
 
-/// How two sets over one container compare, where all comparisons and the hashes say the same.
-fn compared_alike<T: Key, C: Storage<Entry<T>>>(
-    left: &RangeSet<T, C>,
-    right: &RangeSet<T, C>,
-) -> Option<Ordering> {
+/// How two values compare, where all their comparisons say the same.
+fn ordering_of<S: Ord>(left: &S, right: &S) -> Option<Ordering> {
     let ordering = left.cmp(right);
     let equal = ordering == Ordering::Equal;
     let agree = left.partial_cmp(right) == Some(ordering)
         && (*left == *right) == equal
-        && (*left != *right) == !equal
-        && compared(left, right) == Some(ordering);
+        && (*left != *right) == !equal;
     if agree { Some(ordering) } else { None }
 }
 
-/// Whether the set compares so with the one of these ranges over its own container.
-fn compares_alike<T: Key, C: Storage<Entry<T>>>(
+/// A set over some container.
+pub trait Played<T: Copy + PartialEq> {
+    /// Makes the call with the range as it is written.
+    fn call(&mut self, keys: Keys<T>, what: Call) -> Result<bool, MapError>
+        requires { ClonesAreEqual T.is_clone T.eq };
+
+    /// Adds the keys of these ranges.
+    fn extend_by(&mut self, rows: &[Keys<T>]) -> Result<bool, MapError>
+        requires { ClonesAreEqual T.is_clone T.eq };
+
+    /// Becomes a new set of the keys of these ranges.
+    fn gather(&mut self, alloc: Global, rows: &[Keys<T>]) -> Result<bool, MapError>
+        requires { ClonesAreEqual T.is_clone T.eq };
+
+    fn become_complement(&mut self) -> Result<bool, MapError>
+        requires { ClonesAreEqual T.is_clone T.eq };
+
+    fn become_complement_twice(&mut self) -> Result<bool, MapError>
+        requires { ClonesAreEqual T.is_clone T.eq };
+
+    fn become_copy(&mut self, other: &Self) -> Result<bool, MapError>
+        requires { ClonesAreEqual T.is_clone T.eq };
+
+    /// How many ranges are stored, and how many keys they hold.
+    fn has_size(&self, count: usize, len: u128) -> bool;
+
+    fn holds(&self, key: T) -> bool;
+
+    fn starts_with(&self, first: AnyRange<T>) -> bool;
+
+    /// Whether the range, of so many keys, is the only gap.
+    fn has_one_gap(&self, range: AnyRange<T>, len: u128) -> Result<bool, MapError>
+        requires { ClonesAreEqual T.is_clone T.eq };
+
+    fn has_no_gap(&self) -> bool;
+
+    fn shows(&self, alloc: Global, text: &str) -> Result<bool, MapError>;
+}
+
+impl<T: Key, C: Storage<Entry<T>>> Played<T> for RangeSet<T, C> {
+    fn call(&mut self, keys: Keys<T>, what: Call) -> Result<bool, MapError>
+        requires { ClonesAreEqual T.is_clone T.eq }
+    {
+        call_spelled(self, keys, what)
+    }
+
+    fn extend_by(&mut self, rows: &[Keys<T>]) -> Result<bool, MapError>
+        requires { ClonesAreEqual T.is_clone T.eq }
+    {
+        went(self.extend(rows.iter().map(|keys| range_of(*keys))))
+    }
+
+    fn gather(&mut self, alloc: Global, rows: &[Keys<T>]) -> Result<bool, MapError>
+        requires { ClonesAreEqual T.is_clone T.eq }
+    {
+        *self = RangeSet::from_iter(alloc, rows.iter().map(|keys| range_of(*keys)))?;
+        Ok(true)
+    }
+
+    fn become_complement(&mut self) -> Result<bool, MapError>
+        requires { ClonesAreEqual T.is_clone T.eq }
+    {
+        *self = self.complement()?;
+        Ok(true)
+    }
+
+    fn become_complement_twice(&mut self) -> Result<bool, MapError>
+        requires { ClonesAreEqual T.is_clone T.eq }
+    {
+        *self = complemented_twice(self)?;
+        Ok(true)
+    }
+
+    fn become_copy(&mut self, other: &RangeSet<T, C>) -> Result<bool, MapError>
+        requires { ClonesAreEqual T.is_clone T.eq }
+    {
+        *self = other.clone()?;
+        Ok(true)
+    }
+
+    fn has_size(&self, count: usize, len: u128) -> bool {
+        self.range_count() == count
+            && self.is_empty() == (count == 0)
+            && self.len() == len
+            && self.bounded_len() == Some(len)
+    }
+
+    fn holds(&self, key: T) -> bool {
+        self.contains(key)
+    }
+
+    fn starts_with(&self, first: AnyRange<T>) -> bool {
+        self.iter().next() == Some(&first)
+    }
+
+    fn has_one_gap(&self, range: AnyRange<T>, len: u128) -> Result<bool, MapError>
+        requires { ClonesAreEqual T.is_clone T.eq }
+    {
+        let mut gaps = self.gaps();
+        let Some(gap) = gaps.next() else {
+            return Ok(false);
+        };
+        Ok(gaps.next().is_none() && is_range(gap, range, len)?)
+    }
+
+    fn has_no_gap(&self) -> bool {
+        self.gaps().next().is_none()
+    }
+
+    fn shows(&self, alloc: Global, text: &str) -> Result<bool, MapError> {
+        let shown = format!(in alloc; "{self:?}")?;
+        Ok(shown.as_str() == text)
+    }
+}
+
+/// Goes on with a copy, made before every key was removed; whether no key was left.
+fn copy<T: Copy + PartialEq, S: Played<T>>(set: &mut S, spare: &mut S) -> Result<bool, MapError>
+    requires { ClonesAreEqual T.is_clone T.eq }
+{
+    spare.become_copy(set)?;
+    set.call(Keys::All, Call::Remove)?;
+    Ok(set.has_size(0, 0) && set.become_copy(spare)?)
+}
+
+/// Whether the set compares so with the ones of these ranges, over its own container and another.
+fn compares<
+    T: Copy + PartialEq,
+    S: Played<T> + Ord + Across<S> + Across<O>,
+    O: Played<T> + Across<S>,
+>(
     alloc: Global,
-    set: &RangeSet<T, C>,
+    set: &S,
+    alike: &mut S,
+    across: &mut O,
     rows: &[Keys<T>],
     ordering: Ordering,
 ) -> Result<bool, MapError>
     requires { ClonesAreEqual T.is_clone T.eq }
 {
-    let other: RangeSet<T, C> = gathered(alloc, rows)?;
-    Ok(compared_alike(set, &other) == Some(ordering))
+    alike.gather(alloc, rows)?;
+    across.gather(alloc, rows)?;
+    let agree = ordering_of(set, alike) == Some(ordering)
+        && compared(set, alike) == Some(ordering)
+        && compared(set, across) == Some(ordering);
+    Ok(agree)
 }
 
-/// Whether the set compares so with the one of these ranges over another container.
-fn compares_across<T: Key, C: Storage<Entry<T>>, D: Storage<Entry<T>>>(
+/// Makes the call, or tells whether what has to hold does; two more sets are compared with.
+fn goes<T: Copy + PartialEq, S: Played<T> + Ord + Across<S> + Across<O>, O: Played<T> + Across<S>>(
     alloc: Global,
-    set: &RangeSet<T, C>,
-    rows: &[Keys<T>],
-    ordering: Ordering,
-) -> Result<bool, MapError>
-    requires { ClonesAreEqual T.is_clone T.eq }
-{
-    let other: RangeSet<T, D> = gathered(alloc, rows)?;
-    Ok(compared(set, &other) == Some(ordering))
-}
-
-/// Makes the call, or tells whether what has to hold does.
-pub fn goes<T: Key, C: Storage<Entry<T>>, D: Storage<Entry<T>>>(
-    alloc: Global,
-    set: &mut RangeSet<T, C>,
+    set: &mut S,
+    alike: &mut S,
+    across: &mut O,
     step: &Step<'_, T>,
 ) -> Result<bool, MapError>
     requires { ClonesAreEqual T.is_clone T.eq }
 {
     match step {
-        Step::Insert(keys) => call_spelled(set, *keys, Call::Insert),
-        Step::Remove(keys) => call_spelled(set, *keys, Call::Remove),
-        Step::Meets(keys, met) => call_spelled(set, *keys, Call::Meets(*met)),
-        Step::Extend(rows) => extend(set, rows),
-        Step::Gather(rows) => gather(alloc, set, rows),
-        Step::Complement => become_complement(set),
-        Step::ComplementTwice => become_complement_twice(set),
-        Step::Copy => become_copy(set),
-        Step::Size(count, len) => Ok(has_size(set, *count, *len)),
-        Step::Holds(key, held) => Ok(set.contains(*key) == *held),
-        Step::First(keys) => Ok(starts_with(set, range_of(*keys))),
-        Step::Gap(keys, len) => has_one_gap(set, range_of(*keys), *len),
-        Step::NoGap => Ok(has_no_gap(set)),
-        Step::Shows(text) => shows(alloc, set, text),
-        Step::Compares(rows, ordering) => Ok(
-            compares_alike(alloc, set, rows, *ordering)?
-                && compares_across::<T, C, D>(alloc, set, rows, *ordering)?,
-        ),
+        Step::Insert(keys) => set.call(*keys, Call::Insert),
+        Step::Remove(keys) => set.call(*keys, Call::Remove),
+        Step::Meets(keys, met) => set.call(*keys, Call::Meets(*met)),
+        Step::Extend(rows) => set.extend_by(rows),
+        Step::Gather(rows) => set.gather(alloc, rows),
+        Step::Complement => set.become_complement(),
+        Step::ComplementTwice => set.become_complement_twice(),
+        Step::Copy => copy(set, alike),
+        Step::Size(count, len) => Ok(set.has_size(*count, *len)),
+        Step::Holds(key, held) => Ok(set.holds(*key) == *held),
+        Step::First(keys) => Ok(set.starts_with(range_of(*keys))),
+        Step::Gap(keys, len) => set.has_one_gap(range_of(*keys), *len),
+        Step::NoGap => Ok(set.has_no_gap()),
+        Step::Shows(text) => set.shows(alloc, text),
+        Step::Compares(rows, ordering) => compares(alloc, set, alike, across, rows, *ordering),
     }
 }
 
-fn run<T: Key, C: Storage<Entry<T>>, D: Storage<Entry<T>>>(
+/// The index of the first step that does not hold.
+fn run<T: Copy + PartialEq, S: Played<T> + Ord + Across<S> + Across<O>, O: Played<T> + Across<S>>(
     alloc: Global,
-    set: &mut RangeSet<T, C>,
+    set: &mut S,
+    alike: &mut S,
+    across: &mut O,
     steps: &[Step<'_, T>],
-) -> Result<usize, MapError>
+) -> Result<Option<usize>, MapError>
     requires { ClonesAreEqual T.is_clone T.eq }
 {
     for (place, step) in steps.iter().enumerate() {
-        if !goes::<T, C, D>(alloc, set, step)? {
-            return Ok(place);
+        if !goes(alloc, set, alike, across, step)? {
+            return Ok(Some(place));
         }
     }
-    Ok(steps.len())
+    Ok(None)
 }
 
-fn play<T: Key, C: Storage<Entry<T>>, D: Storage<Entry<T>>>(
+/// Steps on new sets, over any container.
+pub trait Trial<T: Copy + PartialEq> {
+    /// The index of the first step that does not hold. `D` is a container to compare with.
+    fn first_wrong<C: Storage<Entry<T>>, D: Storage<Entry<T>>>(
+        &self,
+        alloc: Global,
+    ) -> Result<Option<usize>, MapError>
+        requires { ClonesAreEqual T.is_clone T.eq };
+}
+
+/// The first step of a trial that has only one, where that does not hold.
+pub fn wrong_unless(holds: bool) -> Option<usize> {
+    if holds { None } else { Some(0) }
+}
+
+/// The steps of a table, on one set.
+#[derive(Drop)]
+pub struct Table<'a, T>(pub &'a [Step<'a, T>]);
+
+impl<'a, T: Key> Trial<T> for Table<'a, T> {
+    fn first_wrong<C: Storage<Entry<T>>, D: Storage<Entry<T>>>(
+        &self,
+        alloc: Global,
+    ) -> Result<Option<usize>, MapError>
+        requires { ClonesAreEqual T.is_clone T.eq }
+    {
+        let mut set: RangeSet<T, C> = RangeSet::default(alloc);
+        let mut alike: RangeSet<T, C> = RangeSet::default(alloc);
+        let mut across: RangeSet<T, D> = RangeSet::default(alloc);
+        run(alloc, &mut set, &mut alike, &mut across, self.0)
+    }
+}
+
+/// The first step that does not hold over a vector, and over a tree.
+pub fn over_both<T: Copy + PartialEq + Drop, X: Trial<T>>(
     alloc: Global,
-    steps: &[Step<'_, T>],
-) -> Result<usize, MapError>
+    trial: &X,
+) -> Result<(Option<usize>, Option<usize>), MapError>
     requires { ClonesAreEqual T.is_clone T.eq }
 {
-    let mut set: RangeSet<T, C> = RangeSet::default(alloc);
-    run::<T, C, D>(alloc, &mut set, steps)
-}
-
-/// The index of the first step that does not hold, or the number of steps: of a set over a vector,
-/// and of one over a tree.
-pub fn play_both<T: Key>(alloc: Global, steps: &[Step<'_, T>]) -> Result<(usize, usize), MapError>
-    requires { ClonesAreEqual T.is_clone T.eq }
-{
-    let over_vector = play::<T, Vector<T>, Tree<T>>(alloc, steps)?;
-    let over_tree = play::<T, Tree<T>, Vector<T>>(alloc, steps)?;
+    let over_vector = trial.first_wrong::<Vector<T>, Tree<T>>(alloc)?;
+    let over_tree = trial.first_wrong::<Tree<T>, Vector<T>>(alloc)?;
     Ok((over_vector, over_tree))
 }
 
-/// Passes where every step holds, and else tells what `play_both` does.
-pub fn plays<T: Key>(rt: &impl Abort, alloc: Global, steps: &[Step<'_, T>]) -> Result<(), Fail>
+/// Passes where every step holds, over either container.
+pub fn passes<T: Copy + PartialEq + Drop, X: Trial<T>>(
+    rt: &impl Abort,
+    alloc: Global,
+    trial: &X,
+) -> Result<(), Fail>
     requires { ClonesAreEqual T.is_clone T.eq }
 {
-    assert_eq!(rt; play_both(alloc, steps)?, (steps.len(), steps.len()));
+    assert_eq!(rt; over_both(alloc, trial)?, (None, None));
     Ok(())
+}
+
+/// What `passes` does, of numbers.
+pub fn passes_numbers<X: Trial<i32>>(
+    rt: &impl Abort,
+    alloc: Global,
+    trial: &X,
+) -> Result<(), Fail> {
+    passes(rt, alloc, trial)
+}
+
+/// What `passes` does, of bytes.
+pub fn passes_bytes<X: Trial<u8>>(rt: &impl Abort, alloc: Global, trial: &X) -> Result<(), Fail> {
+    passes(rt, alloc, trial)
 }

@@ -3,7 +3,7 @@
 use crate::tests::support::Keys::{
     self, Above, AboveUpTo, All, Alone, Any, Below, Between, Closed, HalfOpen, Starting, UpTo,
 };
-use crate::tests::support::went;
+use crate::tests::support::{Called, call_spelled, went};
 use btree_range_map::generic::map::MapError;
 use btree_range_map::storage::{Item, Storage};
 use btree_range_map::{
@@ -48,68 +48,62 @@ enum Step<'a> {
     Shows(&'a [i64]),
 }
 
-fn call_with<R: IntoRange<Item = i32>, C: Storage<IntItem>>(
-    map: &mut Ints<C>,
-    range: R,
-    call: Call,
-) -> Result<bool, MapError> {
-    match call {
-        Call::Insert(value) => went(map.insert(range, value)),
-        Call::Remove => went(map.remove(range)),
-        Call::Meets(met) => Ok(map.intersects(range) == met),
-        Call::Apart(value, apart) => Ok(map.insert_disconnected(range, value).is_ok() == apart),
+/// A map over some container.
+trait Played: Called<i32, Call> {
+    fn has_count(&self, count: usize) -> bool;
+
+    fn value_at(&self, key: i32) -> Option<i64>;
+}
+
+impl<C: Storage<IntItem>> Called<i32, Call> for Ints<C> {
+    fn call_with<R: IntoRange<Item = i32>>(
+        &mut self,
+        range: R,
+        call: Call,
+    ) -> Result<bool, MapError> {
+        match call {
+            Call::Insert(value) => went(self.insert(range, value)),
+            Call::Remove => went(self.remove(range)),
+            Call::Meets(met) => Ok(self.intersects(range) == met),
+            Call::Apart(value, apart) => Ok(
+                self.insert_disconnected(range, value).is_ok() == apart,
+            ),
+        }
     }
 }
 
-/// Makes the call with the range as it is written.
-fn call_spelled<C: Storage<IntItem>>(
-    map: &mut Ints<C>,
-    keys: Keys<i32>,
-    what: Call,
-) -> Result<bool, MapError> {
-    match keys {
-        All => call_with(map, AnyRange::new(Bound::Unbounded, Bound::Unbounded), what),
-        Any(start, end) => call_with(map, AnyRange::new(start, end), what),
-        Alone(key) => call_with(map, key, what),
-        HalfOpen(first, end) => call_with(map, first..end, what),
-        Closed(first, last) => call_with(map, first..=last, what),
-        Starting(first) => call_with(map, first.., what),
-        Below(end) => call_with(map, ..end, what),
-        UpTo(last) => call_with(map, ..=last, what),
-        Above(start) => call_with(map, RangeFromExcluded::new(start), what),
-        Between(start, end) => call_with(map, RangeFromExcludedTo::new(start, end), what),
-        AboveUpTo(start, last) => call_with(
-            map,
-            RangeFromExcludedToIncluded::new(start, last),
-            what,
-        ),
+impl<C: Storage<IntItem>> Played for Ints<C> {
+    fn has_count(&self, count: usize) -> bool {
+        self.range_count() == count
+    }
+
+    fn value_at(&self, key: i32) -> Option<i64> {
+        self.get(key).copied()
     }
 }
 
-fn value_at<C: Storage<IntItem>>(map: &Ints<C>, key: i32) -> Option<i64> {
-    map.get(key).copied()
-}
-
-fn shows<C: Storage<IntItem>>(map: &Ints<C>, values: &[i64]) -> bool {
-    for (key, value) in (-1..).zip(values.iter()) {
-        if value_at(map, key).unwrap_or(0) != *value {
+fn shows<M: Played>(map: &M, values: &[i64]) -> bool {
+    let mut key: i32 = -1;
+    for value in values {
+        if map.value_at(key).unwrap_or(0) != *value {
             return false;
         }
+        key = key.saturating_add(1);
     }
     true
 }
 
 /// Makes the call, or tells whether what has to hold does.
-fn goes<C: Storage<IntItem>>(map: &mut Ints<C>, step: Step<'_>) -> Result<bool, MapError> {
+fn goes<M: Played>(map: &mut M, step: Step<'_>) -> Result<bool, MapError> {
     match step {
         Step::With(keys, what) => call_spelled(map, keys, what),
-        Step::Count(count) => Ok(map.range_count() == count),
-        Step::Get(key, value) => Ok(value_at(map, key) == value),
+        Step::Count(count) => Ok(map.has_count(count)),
+        Step::Get(key, value) => Ok(map.value_at(key) == value),
         Step::Shows(values) => Ok(shows(map, values)),
     }
 }
 
-fn run<C: Storage<IntItem>>(map: &mut Ints<C>, steps: &[Step<'_>]) -> Result<usize, MapError> {
+fn run<M: Played>(map: &mut M, steps: &[Step<'_>]) -> Result<usize, MapError> {
     for (place, step) in steps.iter().enumerate() {
         if !goes(map, *step)? {
             return Ok(place);
@@ -119,14 +113,23 @@ fn run<C: Storage<IntItem>>(map: &mut Ints<C>, steps: &[Step<'_>]) -> Result<usi
 }
 
 /// The index of the first step that does not hold, or the number of steps.
+fn play_over<C: Storage<IntItem>>(
+    map: &mut Ints<C>,
+    steps: &[Step<'_>],
+) -> Result<usize, MapError> {
+    run(map, steps)
+}
+
+/// What `play_over` tells of a new map in the default container.
 fn play(alloc: Global, steps: &[Step<'_>]) -> Result<usize, MapError> {
     let mut map: IntMap = RangeMap::new(alloc);
-    run(&mut map, steps)
+    play_over(&mut map, steps)
 }
 
 /// Passes where every step holds, and else tells the index of the first that does not.
 fn plays(rt: &impl Abort, alloc: Global, steps: &[Step<'_>]) -> Result<(), Fail> {
-    assert_eq!(rt; play(alloc, steps)?, steps.len());
+    let played = play(alloc, steps)?;
+    assert!(rt; played == steps.len(), "at step {played}");
     Ok(())
 }
 
@@ -290,20 +293,25 @@ fn has_complement<C: Storage<ByteItem>>(set: &Bytes<C>) -> Result<bool, MapError
     Ok(holds_the_others(&others) && lie_apart(set, &others))
 }
 
-fn tour<C: Storage<ByteItem>, R: Abort>(rt: &R, set: &mut Bytes<C>) -> Result<(), MapError> {
-    assert_eq!(rt; set.range_count(), 2);
-    assert!(rt; set.contains(14) && !set.contains(15));
+fn is_filled<C: Storage<ByteItem>>(set: &Bytes<C>) -> bool {
+    set.range_count() == 2 && set.contains(14) && !set.contains(15)
+}
+
+/// Takes the key 3 away, and tells whether keys and gaps are as they have to be then.
+fn is_cut<C: Storage<ByteItem>>(set: &mut Bytes<C>) -> Result<bool, MapError> {
     set.remove(3u8)?;
-    assert!(rt; set.len() == 24);
-    assert!(rt; has_gaps(set, &[(3, 3), (15, 19), (30, 255)])?);
-    assert!(rt; has_complement(set)?);
-    Ok(())
+    Ok(set.len() == 24 && has_gaps(set, &[(3, 3), (15, 19), (30, 255)])?)
+}
+
+/// Fills the set and cuts it, and tells whether it and its complement are as they have to be.
+fn tours<C: Storage<ByteItem>>(set: &mut Bytes<C>) -> Result<bool, MapError> {
+    fill(set)?;
+    Ok(is_filled(set) && is_cut(set)? && has_complement(set)?)
 }
 
 #[test]
 fn a_tour_of_sets(rt: HostRuntime) -> Result<(), Fail> {
     let mut set: ByteSet = RangeSet::new(rt.alloc());
-    fill(&mut set)?;
-    tour(&rt, &mut set)?;
+    assert!(rt; tours(&mut set)?);
     Ok(())
 }
