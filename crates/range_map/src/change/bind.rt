@@ -57,6 +57,7 @@ pub(crate) fn bind_within<K: PartialEnum + Clone, V: Eq + Clone, C: Storage<Item
     inner::known(&range);
     let joins = stored.get(p).value == value;
     if joins {
+        drop(range);
         return Ok(());
     }
     let (start, end) = (range.start_bound(), range.end_bound());
@@ -241,6 +242,7 @@ pub(crate) fn bind_disjoint<K: Measure + Clone, V: Eq + Clone, C: Storage<Item<A
     let mut steps = Steps::new();
     let window = find_window::<K, V, C, AnyRange<K>>(stored, &range, &mut steps);
     if window.count > 0 {
+        drop(range);
         return Ok(false);
     }
     let item = Item { key: range, value };

@@ -116,9 +116,9 @@ pub(crate) fn cut_parts<K: PartialEnum + Clone, V: Eq + Clone, C: Storage<Item<A
 {
     stored.reserve(room)?;
     Ok(Parts {
+        value: stored.get(p).value.clone()?,
         end: cut_bound(start)?,
         start: cut_bound(end)?,
-        value: stored.get(p).value.clone()?,
     })
 }
 

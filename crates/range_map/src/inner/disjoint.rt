@@ -43,6 +43,7 @@ pub fn insert_disjoint<K: Measure + Clone, V: Eq + Clone, C: Storage<Item<AnyRan
     map.in_form();
     inner::known(&range);
     if range.is_empty() {
+        drop(range);
         return Ok(true);
     }
     let disjoint = bind_disjoint::<K, V, C>(&mut map.stored, range, value)?;

@@ -130,6 +130,7 @@ impl<K: Measure, V: Eq + Drop, C: Storage<Item<AnyRange<K>, V>>> RangeMap<K, V, 
         let range = range.into_range();
         inner::known(&range);
         if range.is_empty() {
+            drop(range);
             return Ok(());
         }
         bind_apart::<K, V, C>(&mut self.stored, range, value)

@@ -69,9 +69,13 @@ fn update_within<
         }
         Ok(None) => {
             unbind_within::<K, V, C, AnyRange<K>>(stored, window, p, &range)?;
+            drop(range);
             Ok(())
         }
-        Err(e) => Err(UpdateError::Closure(e)),
+        Err(e) => {
+            drop(range);
+            Err(UpdateError::Closure(e))
+        }
     }
 }
 

@@ -1,4 +1,5 @@
-use Rattle.std.proofs.Common.{◌≡◌, ◌+◌, ◌≤◌, length, refl, ap, sym, ◌∙◌, subst, Some}
+use Rattle.std.proofs.lemmas.Grind.{common_steps}
+use Rattle.std.proofs.Common.{◌≡◌, ◌+◌, ◌≤◌, length, refl, ap, sym, ◌∙◌, subst, Some, arith}
 use Rattle.std.specs.Option.{unwrap_or}
 use Rattle.range_algebra.specs.declared.any.AnyRange.{AnyRange}
 use Rattle.range_store.specs.declared.storage.Item.{Item}
@@ -13,8 +14,8 @@ use Rattle.range_map.proofs.Edging.{edges_insert}
 use Rattle.range_map.proofs.Results.{error_has_no_value, on_error}
 use Rattle.range_map.proofs.change.bind.bind_among.Goals as goal
 
-pub change-requires-clause-left : goal.change-requires-clause-left
-change-requires-clause-left g c =
+pub change-requires : goal.change-requires
+change-requires g c =
     let storage = g.C.Storage in
     let stored = c.args.stored.now in
     let items = storage.items stored in
@@ -23,50 +24,20 @@ change-requires-clause-left g c =
     let ready = c.reserve.new.self in
     let same = c.reserve.ensures.list in
     let kept = c.reserve.ensures.positions in
-    left_good (storage.is_good stored) (storage.is_good ready) (storage.rank stored) (storage.rank ready) items (storage.items ready) kept same sides.left left.at left.begin left.rest left.start left.shape
-
-pub change-requires-clause-right : goal.change-requires-clause-right
-change-requires-clause-right g c =
-    let storage = g.C.Storage in
-    let stored = c.args.stored.now in
-    let items = storage.items stored in
-    let sides = c.in_ok-sides.sides in
     let right = c.in_ok-sides.ensures.right g.met.K.PartialEnum.lawful g.met.V.Eq.laws in
-    let ready = c.reserve.new.self in
-    let same = c.reserve.ensures.list in
-    let kept = c.reserve.ensures.positions in
-    right_good (storage.is_good stored) (storage.is_good ready) (storage.rank stored) (storage.rank ready) items (storage.items ready) kept same sides.right right.upto right.end right.rest right.finish right.shape
-
-pub change-requires-clause-good : goal.change-requires-clause-good
-change-requires-clause-good g c =
-    let storage = g.C.Storage in
-    let stored = c.args.stored.now in
-    let items = storage.items stored in
-    let sides = c.in_ok-sides.sides in
-    let left = c.in_ok-sides.ensures.left g.met.K.PartialEnum.lawful g.met.V.Eq.laws in
-    let ready = c.reserve.new.self in
-    let kept = c.reserve.ensures.positions in
-    let run = kept_at (storage.is_good stored) (storage.is_good ready) (storage.rank stored) (storage.rank ready) (length items) sides.run.at left.begin kept left.run in
-    good_at (storage.is_good ready) (storage.rank ready) (length items) sides.run.at left.begin run
-
-pub change-requires-clause-in_range : goal.change-requires-clause-in_range
-change-requires-clause-in_range g c =
-    let storage = g.C.Storage in
-    let stored = c.args.stored.now in
-    let items = storage.items stored in
-    let sides = c.in_ok-sides.sides in
-    let left = c.in_ok-sides.ensures.left g.met.K.PartialEnum.lawful g.met.V.Eq.laws in
-    let right = c.in_ok-sides.ensures.right g.met.K.PartialEnum.lawful g.met.V.Eq.laws in
-    let ready = c.reserve.new.self in
-    let same = c.reserve.ensures.list in
-    let kept = c.reserve.ensures.positions in
     let run = kept_at (storage.is_good stored) (storage.is_good ready) (storage.rank stored) (storage.rank ready) (length items) sides.run.at left.begin kept left.run in
     let size : length (storage.items ready) ≡ length items = ap length same in
     let here : place_before (storage.rank ready) (length (storage.items ready)) sides.run.at ≡ left.begin = ap (λ n. place_before (storage.rank ready) n sides.run.at) size ∙ place_at (storage.is_good ready) (storage.rank ready) (length items) sides.run.at left.begin run in
     let within : right.upto ≤ right.end = upto_end (storage.is_good stored) (storage.is_good stored) (storage.rank stored) (storage.rank stored) items items (λ p h. (h, refl)) refl sides.right right.upto right.end right.rest right.finish right.shape in
     let count = sides.run.left in
     let upto : left.begin + count ≡ right.upto = run_ends left.begin (joined_count sides.left) (place_before (storage.rank stored) (length items) c.args.window.now.from) (length (option_items c.args.first)) (length (option_items c.args.last)) c.args.window.now.count right.upto (joined_count sides.right) count left.begins right.ends c.requires.apart c.in_ok-sides.ensures.run in
-    rw (here, size, upto) (le_of right.upto right.end (length items) within right.side.in_range)
+    record {
+      left = left_good (storage.is_good stored) (storage.is_good ready) (storage.rank stored) (storage.rank ready) items (storage.items ready) kept same sides.left left.at left.begin left.rest left.start left.shape;
+      right = right_good (storage.is_good stored) (storage.is_good ready) (storage.rank stored) (storage.rank ready) items (storage.items ready) kept same sides.right right.upto right.end right.rest right.finish right.shape;
+      good = good_at (storage.is_good ready) (storage.rank ready) (length items) sides.run.at left.begin run;
+      in_range = rw (here, size, upto) (le_of right.upto right.end (length items) within right.side.in_range);
+      space = grind (arith, common_steps);
+    }
 
 pub returns : goal.returns
 returns g c =
@@ -102,32 +73,19 @@ returns g c =
       refused = tt;
     }
 
-pub both_sides-requires-clause-keys : goal.both_sides-requires-clause-keys
-both_sides-requires-clause-keys g c = c.requires.keys
-
-pub both_sides-requires-clause-stored : goal.both_sides-requires-clause-stored
-both_sides-requires-clause-stored g c = c.requires.stored
-
-pub both_sides-requires-clause-nonempty : goal.both_sides-requires-clause-nonempty
-both_sides-requires-clause-nonempty g c = c.requires.nonempty
-
-pub both_sides-requires-clause-window : goal.both_sides-requires-clause-window
-both_sides-requires-clause-window g c = c.requires.window
-
-pub both_sides-requires-clause-first : goal.both_sides-requires-clause-first
-both_sides-requires-clause-first g c = c.requires.first
-
-pub both_sides-requires-clause-last : goal.both_sides-requires-clause-last
-both_sides-requires-clause-last g c = c.requires.last
-
-pub both_sides-requires-clause-before : goal.both_sides-requires-clause-before
-both_sides-requires-clause-before g c = c.requires.before
-
-pub both_sides-requires-clause-after : goal.both_sides-requires-clause-after
-both_sides-requires-clause-after g c = c.requires.after
-
-pub both_sides-requires-clause-apart : goal.both_sides-requires-clause-apart
-both_sides-requires-clause-apart g c = c.requires.apart
+pub both_sides-requires : goal.both_sides-requires
+both_sides-requires g c =
+    record {
+      keys = c.requires.keys;
+      stored = c.requires.stored;
+      nonempty = c.requires.nonempty;
+      window = c.requires.window;
+      first = c.requires.first;
+      last = c.requires.last;
+      before = c.requires.before;
+      after = c.requires.after;
+      apart = c.requires.apart;
+    }
 
 pub returns-in_err-sides : goal.returns-in_err-sides
 returns-in_err-sides g c = record { ok = error_has_no_value _ c.from_residual.result c.from_residual.ensures.0; few = error_has_no_value _ c.from_residual.result c.from_residual.ensures.0; refused = on_error _ c.from_residual.result refl }

@@ -1,3 +1,4 @@
+use Rattle.std.proofs.lemmas.Grind.{common_steps}
 use Rattle.std.proofs.Common.{◌≡◌, refl, ◌<◌, length, arith, rules}
 use Rattle.range_algebra.proofs.Lists.{any_none}
 use Rattle.range_map.specs.Lookups.{Overlap}
@@ -14,46 +15,50 @@ returns-then-window-gt0-clause-met g c =
     let some : 0 < w.count = omega (arith, c.if-window-gt0.true) in
     (λ _. meets_some g.K.MaybeBounded.order g.met.K.PartialEnum.lawful g.V.PartialEq.eq g.met.V.Eq.laws (storage.is_good stored) (storage.rank stored) items c.args.range w (place_before (storage.rank stored) (length items) w.from) c.requires.stored c.known.ensures c.find_window-window.ensures.window some, λ _. refl)
 
-pub returns-clause-met : goal.returns-clause-met
-returns-clause-met g c =
+pub returns : goal.returns
+returns g c =
     let storage = g.C.Storage in
     let stored = c.args.stored.now in
     let items = storage.items stored in
     let w = c.find_window-window.result in
     let none : w.count ≡ 0 = omega (arith, c.if-window-gt0.false) in
     let unmet = none_meets g.K.MaybeBounded.order g.met.K.PartialEnum.lawful g.V.PartialEq.eq g.met.V.Eq.laws (storage.is_good stored) (storage.rank stored) items c.args.range w (place_before (storage.rank stored) (length items) w.from) c.requires.stored c.known.ensures c.find_window-window.ensures.window none in
-    (λ e. cc, λ met. absurd (any_none (λ i. Overlap g.K.MaybeBounded.order i.key c.args.range) (λ i. ¬ Overlap g.K.MaybeBounded.order i.key c.args.range) items unmet (λ i no at. no at) met))
+    record {
+      met = (λ e. cc, λ met. absurd (any_none (λ i. Overlap g.K.MaybeBounded.order i.key c.args.range) (λ i. ¬ Overlap g.K.MaybeBounded.order i.key c.args.range) items unmet (λ i no at. no at) met));
+      met_unchanged = λ e. absurd (cc);
+      bound = λ _. c.in_ok-bind_over.ensures.ok;
+      refused = tt;
+    }
 
-pub returns-in_err-bind_over-clause-met : goal.returns-in_err-bind_over-clause-met
-returns-in_err-bind_over-clause-met g c =
+pub returns-in_err-bind_over : goal.returns-in_err-bind_over
+returns-in_err-bind_over g c =
     let storage = g.C.Storage in
     let stored = c.args.stored.now in
     let items = storage.items stored in
     let w = c.find_window-window.result in
     let none : w.count ≡ 0 = omega (arith, c.if-window-gt0.false) in
     let unmet = none_meets g.K.MaybeBounded.order g.met.K.PartialEnum.lawful g.V.PartialEq.eq g.met.V.Eq.laws (storage.is_good stored) (storage.rank stored) items c.args.range w (place_before (storage.rank stored) (length items) w.from) c.requires.stored c.known.ensures c.find_window-window.ensures.window none in
-    (λ e. absurd (search (rules, e)), λ met. absurd (any_none (λ i. Overlap g.K.MaybeBounded.order i.key c.args.range) (λ i. ¬ Overlap g.K.MaybeBounded.order i.key c.args.range) items unmet (λ i no at. no at) met))
+    record {
+      met = (λ e. absurd (search (rules, e)), λ met. absurd (any_none (λ i. Overlap g.K.MaybeBounded.order i.key c.args.range) (λ i. ¬ Overlap g.K.MaybeBounded.order i.key c.args.range) items unmet (λ i no at. no at) met));
+      met_unchanged = λ e. absurd (search (rules, e));
+      bound = λ e. absurd (search (rules, e));
+      refused = grind (arith, common_steps);
+    }
 
-pub comes_last-requires-clause-stored : goal.comes_last-requires-clause-stored
-comes_last-requires-clause-stored g c = c.requires.stored
+pub comes_last-requires : goal.comes_last-requires
+comes_last-requires g c = record { stored = c.requires.stored; nonempty = c.requires.nonempty }
 
-pub comes_last-requires-clause-nonempty : goal.comes_last-requires-clause-nonempty
-comes_last-requires-clause-nonempty g c = c.requires.nonempty
+pub bind_last-requires : goal.bind_last-requires
+bind_last-requires g c = record { stored = c.requires.stored; nonempty = c.requires.nonempty; last = c.if-comes_last.ensures refl }
 
-pub bind_last-requires-clause-stored : goal.bind_last-requires-clause-stored
-bind_last-requires-clause-stored g c = c.requires.stored
-
-pub bind_last-requires-clause-nonempty : goal.bind_last-requires-clause-nonempty
-bind_last-requires-clause-nonempty g c = c.requires.nonempty
-
-pub bind_over-requires-clause-keys : goal.bind_over-requires-clause-keys
-bind_over-requires-clause-keys g c = c.requires.keys
-
-pub bind_over-requires-clause-stored : goal.bind_over-requires-clause-stored
-bind_over-requires-clause-stored g c = c.requires.stored
-
-pub bind_over-requires-clause-nonempty : goal.bind_over-requires-clause-nonempty
-bind_over-requires-clause-nonempty g c = c.requires.nonempty
-
-pub bind_over-requires-clause-window : goal.bind_over-requires-clause-window
-bind_over-requires-clause-window g c = c.find_window-window.ensures.window
+pub bind_over-requires : goal.bind_over-requires
+bind_over-requires g c =
+    record {
+      keys = c.requires.keys;
+      stored = c.requires.stored;
+      nonempty = c.requires.nonempty;
+      window = c.find_window-window.ensures.window;
+      first = λ x some. absurd (omega (arith, some, c.if-window-gt0.false));
+      last = λ x some. absurd (omega (arith, some, c.if-window-gt0.false));
+      apart = omega arith;
+    }

@@ -83,14 +83,8 @@ returns g c =
       refused = tt;
     }
 
-pub cut_parts-requires-clause-keys : goal.cut_parts-requires-clause-keys
-cut_parts-requires-clause-keys g c = c.requires.keys
-
-pub cut_parts-requires-clause-values : goal.cut_parts-requires-clause-values
-cut_parts-requires-clause-values g c = c.requires.values
-
-pub cut_parts-requires-clause-good : goal.cut_parts-requires-clause-good
-cut_parts-requires-clause-good g c = c.requires.first.0
+pub cut_parts-requires : goal.cut_parts-requires
+cut_parts-requires g c = record { keys = c.requires.keys; values = c.requires.values; good = c.requires.first.0 }
 
 pub returns-in_err-parts : goal.returns-in_err-parts
 returns-in_err-parts g c = record { ok = error_has_no_value _ c.from_residual.result c.from_residual.ensures.0; few = error_has_no_value _ c.from_residual.result c.from_residual.ensures.0; refused = on_error _ c.from_residual.result c.cut_parts.ensures.list }

@@ -29,41 +29,27 @@ overflow_add-count-2 g c =
     let upto = run_ends left.begin (joined_count c.in_ok-left.left.edge) (place_before (storage.rank stored) (length items) c.args.window.now.from) (length (option_items c.args.first)) (length (option_items c.args.last)) c.args.window.now.count right.upto (joined_count c.in_ok-right.right) _ left.begins right.ends c.requires.apart refl in
     omega (arith, upto, within, right.side.in_range, g.met.C.Storage.length_fits stored, c.joined_items.ensures, c.joined_items-2.ensures, c.item_count.ensures, c.item_count-2.ensures)
 
-pub left_side-requires-clause-keys : goal.left_side-requires-clause-keys
-left_side-requires-clause-keys g c = c.requires.keys
+pub left_side-requires : goal.left_side-requires
+left_side-requires g c =
+    record {
+      keys = c.requires.keys;
+      stored = c.requires.stored;
+      nonempty = c.requires.nonempty;
+      window = c.requires.window;
+      first = c.requires.first;
+      before = c.requires.before;
+    }
 
-pub left_side-requires-clause-stored : goal.left_side-requires-clause-stored
-left_side-requires-clause-stored g c = c.requires.stored
-
-pub left_side-requires-clause-nonempty : goal.left_side-requires-clause-nonempty
-left_side-requires-clause-nonempty g c = c.requires.nonempty
-
-pub left_side-requires-clause-window : goal.left_side-requires-clause-window
-left_side-requires-clause-window g c = c.requires.window
-
-pub left_side-requires-clause-first : goal.left_side-requires-clause-first
-left_side-requires-clause-first g c = c.requires.first
-
-pub left_side-requires-clause-before : goal.left_side-requires-clause-before
-left_side-requires-clause-before g c = c.requires.before
-
-pub right_side-requires-clause-keys : goal.right_side-requires-clause-keys
-right_side-requires-clause-keys g c = c.requires.keys
-
-pub right_side-requires-clause-stored : goal.right_side-requires-clause-stored
-right_side-requires-clause-stored g c = c.requires.stored
-
-pub right_side-requires-clause-nonempty : goal.right_side-requires-clause-nonempty
-right_side-requires-clause-nonempty g c = c.requires.nonempty
-
-pub right_side-requires-clause-window : goal.right_side-requires-clause-window
-right_side-requires-clause-window g c = c.requires.window
-
-pub right_side-requires-clause-last : goal.right_side-requires-clause-last
-right_side-requires-clause-last g c = c.requires.last
-
-pub right_side-requires-clause-after : goal.right_side-requires-clause-after
-right_side-requires-clause-after g c = c.requires.after
+pub right_side-requires : goal.right_side-requires
+right_side-requires g c =
+    record {
+      keys = c.requires.keys;
+      stored = c.requires.stored;
+      nonempty = c.requires.nonempty;
+      window = c.requires.window;
+      last = c.requires.last;
+      after = c.requires.after;
+    }
 
 pub returns-in_err-left : goal.returns-in_err-left
 returns-in_err-left g c = record { left = error_has_no_value _ c.from_residual.result c.from_residual.ensures.0; right = error_has_no_value _ c.from_residual.result c.from_residual.ensures.0; run = error_has_no_value _ c.from_residual.result c.from_residual.ensures.0 }

@@ -53,28 +53,8 @@ get-requires g c =
     let here = rw c.in-Some.is at c.loop-met.invariant.position in
     here.0
 
-pub ask_item-requires-clause-before : goal.ask_item-requires-clause-before
-ask_item-requires-clause-before g c =
-    let storage = g.C.Storage in
-    let stored = c.args.stored.now in
-    let items = storage.items stored in
-    let w = c.args.window.now in
-    let r = c.args.range.now in
-    let place = place_before (storage.rank stored) (length items) w.from in
-    let order = g.K.MaybeBounded.order in
-    let lawful = g.met.K.PartialEnum.lawful in
-    let same = g.V.PartialEq.eq in
-    let equal = g.met.V.Eq.laws in
-    let known = stored_known order lawful same equal items c.requires.stored in
-    let chain = stored_chain order lawful same equal items c.requires.stored in
-    let full = all_full order lawful same equal r items known chain in
-    let within_list = c.requires.window.in_range in
-    let met = c.loop-met._met in
-    let more = c.loop-met-test.true in
-    key_full order lawful same equal r (storage.is_good stored) (storage.rank stored) items c.loop-met.last place met (option_copied c.key_at-before.result) full c.loop-met.invariant.last_is (omega (arith, more, within_list)) c.key_at-before.ensures
-
-pub ask_item-requires-clause-item : goal.ask_item-requires-clause-item
-ask_item-requires-clause-item g c =
+pub ask_item-requires : goal.ask_item-requires
+ask_item-requires g c =
     let storage = g.C.Storage in
     let stored = c.args.stored.now in
     let items = storage.items stored in
@@ -96,26 +76,15 @@ ask_item-requires-clause-item g c =
     let within : place + met < length items = omega (arith, more, within_list) in
     let read : x ≡ get_or items (place + met) x = c.get.ensures ∙ ap (λ n. get_or items n x) here.1 in
     let good = item_at (IsFull order lawful items r) items (place + met) x full within read in
-    (nonempty_good order lawful x.key good.0).1 good.1
+    record {
+      before = key_full order lawful same equal r (storage.is_good stored) (storage.rank stored) items c.loop-met.last place met (option_copied c.key_at-before.result) full c.loop-met.invariant.last_is (omega (arith, more, within_list)) c.key_at-before.ensures;
+      item = (nonempty_good order lawful x.key good.0).1 good.1;
+      free = c.requires.free;
+      bound = item_at (λ i. MayBeAsked g.F.Fn c.args.f.now (Some i.value)) items (place + met) x c.requires.bound within read;
+    }
 
-pub ask_item-requires-clause-bound : goal.ask_item-requires-clause-bound
-ask_item-requires-clause-bound g c =
-    let storage = g.C.Storage in
-    let stored = c.args.stored.now in
-    let items = storage.items stored in
-    let w = c.args.window.now in
-    let place = place_before (storage.rank stored) (length items) w.from in
-    let within_list = c.requires.window.in_range in
-    let met = c.loop-met._met in
-    let more = c.loop-met-test.true in
-    let here = rw c.in-Some.is at c.loop-met.invariant.position in
-    let x = c.get.result.now in
-    let within : place + met < length items = omega (arith, more, within_list) in
-    let read : x ≡ get_or items (place + met) x = c.get.ensures ∙ ap (λ n. get_or items n x) here.1 in
-    item_at (λ i. MayBeAsked g.F.Fn c.args.f.now (Some i.value)) items (place + met) x c.requires.bound within read
-
-pub returns-in_err-ask_item-clause-closure : goal.returns-in_err-ask_item-clause-closure
-returns-in_err-ask_item-clause-closure g c =
+pub returns-in_err-ask_item : goal.returns-in_err-ask_item
+returns-in_err-ask_item g c =
     let storage = g.C.Storage in
     let stored = c.args.stored.now in
     let items = storage.items stored in
@@ -141,7 +110,10 @@ returns-in_err-ask_item-clause-closure g c =
     let list = listed_at items (place + met) x within read in
     let before = option_copied c.key_at-before.result in
     let was = c.loop-met.invariant.underway lawful equal before c.key_at-before.ensures in
-    λ e failed. gap_or_item_fails order lawful same equal g.F.Fn c.args.f.now items r c.known.ensures full chain some (take (place + met) items) (drop (place + met + 1) items) x list meets before c.loop-met.middle.items was e (c.ask_item.ensures.closure e (search rules))
+    record {
+      ok = error_has_no_value _ c.from_residual.result c.from_residual.ensures.0;
+      closure = λ e failed. gap_or_item_fails order lawful same equal g.F.Fn c.args.f.now items r c.known.ensures full chain some (take (place + met) items) (drop (place + met + 1) items) x list meets before c.loop-met.middle.items was e (c.ask_item.ensures.closure e (search rules));
+    }
 
 pub next-at-requires : goal.next-at-requires
 next-at-requires g c =
@@ -211,8 +183,8 @@ ask_gap-requires-clause-before g c =
     let all : place + c.loop-met._met ≡ place + w.count = omega (arith, c.loop-met-test.false, c.loop-met.auto._met-end) in
     key_full order lawful same equal r (storage.is_good stored) (storage.rank stored) items c.loop-met.last place c.loop-met._met (option_copied c.key_at.result) full c.loop-met.invariant.last_is (omega (arith, all, within_list)) c.key_at.ensures
 
-pub returns-in_err-ask_gap-clause-closure : goal.returns-in_err-ask_gap-clause-closure
-returns-in_err-ask_gap-clause-closure g c =
+pub returns-in_err-ask_gap : goal.returns-in_err-ask_gap
+returns-in_err-ask_gap g c =
     let storage = g.C.Storage in
     let stored = c.args.stored.now in
     let items = storage.items stored in
@@ -230,10 +202,13 @@ returns-in_err-ask_gap-clause-closure g c =
     let some = (nonempty_good order lawful r c.known.ensures).0 c.requires.nonempty in
     let before = option_copied c.key_at.result in
     let was = rw all at (c.loop-met.invariant.underway lawful equal before c.key_at.ensures) in
-    λ e failed. fails_last order lawful same equal g.F.Fn c.args.f.now items r c.known.ensures full chain some (take (place + w.count) items) (drop (place + w.count) items) (list_is_take_and_drop items (place + w.count)) c.requires.window.behind before c.loop-met.middle.items was e (c.ask_gap.ensures.closure e (grind (arith, common_steps)))
+    record {
+      ok = error_has_no_value _ c.from_residual-in_err-ask_gap.result c.from_residual-in_err-ask_gap.ensures.0;
+      closure = λ e failed. fails_last order lawful same equal g.F.Fn c.args.f.now items r c.known.ensures full chain some (take (place + w.count) items) (drop (place + w.count) items) (list_is_take_and_drop items (place + w.count)) c.requires.window.behind before c.loop-met.middle.items was e (c.ask_gap.ensures.closure e (grind (arith, common_steps)));
+    }
 
-pub returns-clause-ok : goal.returns-clause-ok
-returns-clause-ok g c =
+pub returns : goal.returns
+returns g c =
     let storage = g.C.Storage in
     let stored = c.args.stored.now in
     let items = storage.items stored in
@@ -254,19 +229,10 @@ returns-clause-ok g c =
     let some = (nonempty_good order lawful r c.known.ensures).0 c.requires.nonempty in
     let before = option_copied c.key_at.result in
     let was = rw all at (c.loop-met.invariant.underway lawful equal before c.key_at.ensures) in
-    last_gap_asked_is_gathered order lawful same equal g.F.Fn c.args.f.now items r c.known.ensures full chain some (take (place + w.count) items) (drop (place + w.count) items) (list_is_take_and_drop items (place + w.count)) c.requires.window.behind before c.loop-met.middle.items was g.K.Clone.is_clone clones c.ask_gap.new.items.items c.in_ok-ask_gap.ensures.ok
-
-pub returns-in_err-ask_item-clause-ok : goal.returns-in_err-ask_item-clause-ok
-returns-in_err-ask_item-clause-ok g c = error_has_no_value _ c.from_residual.result c.from_residual.ensures.0
-
-pub returns-in_err-ask_gap-clause-ok : goal.returns-in_err-ask_gap-clause-ok
-returns-in_err-ask_gap-clause-ok g c = error_has_no_value _ c.from_residual-in_err-ask_gap.result c.from_residual-in_err-ask_gap.ensures.0
-
-pub returns-clause-closure : goal.returns-clause-closure
-returns-clause-closure g c = λ e failed. absurd (cc)
-
-pub ask_item-requires-clause-free : goal.ask_item-requires-clause-free
-ask_item-requires-clause-free g c = c.requires.free
+    record {
+      ok = last_gap_asked_is_gathered order lawful same equal g.F.Fn c.args.f.now items r c.known.ensures full chain some (take (place + w.count) items) (drop (place + w.count) items) (list_is_take_and_drop items (place + w.count)) c.requires.window.behind before c.loop-met.middle.items was g.K.Clone.is_clone clones c.ask_gap.new.items.items c.in_ok-ask_gap.ensures.ok;
+      closure = λ e failed. absurd (cc);
+    }
 
 pub ask_gap-requires-clause-callable : goal.ask_gap-requires-clause-callable
 ask_gap-requires-clause-callable g c = c.requires.free

@@ -166,11 +166,18 @@ returns-clause-ok g c =
 pub change_to-requires-clause-space : goal.change_to-requires-clause-space
 change_to-requires-clause-space g c = grind (arith, common_steps)
 
-pub joined_left-before-requires-clause-within : goal.joined_left-before-requires-clause-within
-joined_left-before-requires-clause-within g c = grind (arith, common_steps)
+pub joined_left-before-requires : goal.joined_left-before-requires
+joined_left-before-requires g c =
+    record {
+      stored = c.requires.stored;
+      nonempty = c.requires.nonempty;
+      window = c.requires.window;
+      first = c.requires.first;
+      within = grind (arith, common_steps);
+    }
 
-pub joined_right-behind-requires-clause-within : goal.joined_right-behind-requires-clause-within
-joined_right-behind-requires-clause-within g c = grind (arith, common_steps)
+pub joined_right-behind-requires : goal.joined_right-behind-requires
+joined_right-behind-requires g c = record { stored = c.requires.stored; nonempty = c.requires.nonempty; window = c.requires.window; last = c.requires.last; within = grind (arith, common_steps) }
 
 pub overflow_add-inner : goal.overflow_add-inner
 overflow_add-inner g c = omega (arith, one_item c.args.first, one_item c.args.last, c.item_count.ensures, c.item_count-2.ensures)
@@ -181,39 +188,15 @@ overflow_sub-inner g c = omega (arith, c.requires.apart, c.item_count.ensures, c
 pub returns-clause-refused : goal.returns-clause-refused
 returns-clause-refused g c = tt
 
-pub run_start-from-requires-clause-from : goal.run_start-from-requires-clause-from
-run_start-from-requires-clause-from g c =
+pub run_start-from-requires : goal.run_start-from-requires
+run_start-from-requires g c =
     let storage = g.C.Storage in
     let stored = c.args.stored.now in
     let len = length (storage.items stored) in
-    good_at (storage.is_good stored) (storage.rank stored) len c.args.window.now.from (place_before (storage.rank stored) len c.args.window.now.from) c.requires.window.position
+    record {
+      from = good_at (storage.is_good stored) (storage.rank stored) len c.args.window.now.from (place_before (storage.rank stored) len c.args.window.now.from) c.requires.window.position;
+      first = λ p e. let found = rw e at c.requires.first in (found.0, found.1);
+    }
 
 pub returns-in_err-reserve : goal.returns-in_err-reserve
 returns-in_err-reserve g c = record { ok = error_has_no_value _ c.from_residual.result c.from_residual.ensures.0; refused = on_error _ c.from_residual.result c.reserve.ensures.list }
-
-pub joined_left-before-requires-clause-stored : goal.joined_left-before-requires-clause-stored
-joined_left-before-requires-clause-stored g c = c.requires.stored
-
-pub joined_left-before-requires-clause-nonempty : goal.joined_left-before-requires-clause-nonempty
-joined_left-before-requires-clause-nonempty g c = c.requires.nonempty
-
-pub joined_left-before-requires-clause-window : goal.joined_left-before-requires-clause-window
-joined_left-before-requires-clause-window g c = c.requires.window
-
-pub joined_left-before-requires-clause-first : goal.joined_left-before-requires-clause-first
-joined_left-before-requires-clause-first g c = c.requires.first
-
-pub joined_right-behind-requires-clause-stored : goal.joined_right-behind-requires-clause-stored
-joined_right-behind-requires-clause-stored g c = c.requires.stored
-
-pub joined_right-behind-requires-clause-nonempty : goal.joined_right-behind-requires-clause-nonempty
-joined_right-behind-requires-clause-nonempty g c = c.requires.nonempty
-
-pub joined_right-behind-requires-clause-window : goal.joined_right-behind-requires-clause-window
-joined_right-behind-requires-clause-window g c = c.requires.window
-
-pub joined_right-behind-requires-clause-last : goal.joined_right-behind-requires-clause-last
-joined_right-behind-requires-clause-last g c = c.requires.last
-
-pub run_start-from-requires-clause-first : goal.run_start-from-requires-clause-first
-run_start-from-requires-clause-first g c = λ p e. let found = rw e at c.requires.first in (found.0, found.1)

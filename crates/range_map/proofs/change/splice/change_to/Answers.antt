@@ -7,11 +7,15 @@ use Rattle.range_map.proofs.Endings.{length_started, length_ended}
 use Rattle.range_map.proofs.Openings.{kept_place}
 use Rattle.range_map.proofs.change.splice.change_to.Goals as goal
 
-pub replace_run_by-requires-clause-space : goal.replace_run_by-requires-clause-space
-replace_run_by-requires-clause-space g c =
+pub replace_run_by-requires : goal.replace_run_by-requires
+replace_run_by-requires g c =
     let started = ap length c.start_at.ensures ∙ length_started c.open_sides-start.result.0 c.args.items.items in
     let size = ap length c.end_at.ensures ∙ length_ended c.open_sides-start.result.1 c.start_at.new.items.items in
-    omega (arith, c.requires.space, size, started, c.open_sides-start.ensures.space)
+    record {
+      good = grind (arith, common_steps);
+      in_range = grind (arith, common_steps);
+      space = omega (arith, c.requires.space, size, started, c.open_sides-start.ensures.space);
+    }
 
 pub returns : goal.returns
 returns g c = λ at end before behind start finish left_shape right_shape le.
@@ -32,12 +36,6 @@ returns g c = λ at end before behind start finish left_shape right_shape le.
 
 pub end_at-requires : goal.end_at-requires
 end_at-requires g c = grind (arith, common_steps)
-
-pub replace_run_by-requires-clause-good : goal.replace_run_by-requires-clause-good
-replace_run_by-requires-clause-good g c = grind (arith, common_steps)
-
-pub replace_run_by-requires-clause-in_range : goal.replace_run_by-requires-clause-in_range
-replace_run_by-requires-clause-in_range g c = grind (arith, common_steps)
 
 pub start_at-requires : goal.start_at-requires
 start_at-requires g c = grind (arith, common_steps)

@@ -60,27 +60,25 @@ returns g c =
 pub loop-item-smaller : goal.loop-item-smaller
 loop-item-smaller g c = grind (arith, common_steps)
 
-pub put-cursor-requires-clause-good : goal.put-cursor-requires-clause-good
-put-cursor-requires-clause-good g c =
+pub put-cursor-requires : goal.put-cursor-requires
+put-cursor-requires g c =
     let storage = g.C.Storage in
     let now = c.loop-item.stored in
     let before = storage.items c.args.stored.now in
     let place = place_before (storage.rank c.args.stored.now) (length before) c.args.run.at in
-    good_at (storage.is_good now) (storage.rank now) (length (storage.items now)) c.loop-item.cursor.at (place + length c.loop-item.yielded) c.loop-item.invariant.position
+    record {
+      good = good_at (storage.is_good now) (storage.rank now) (length (storage.items now)) c.loop-item.cursor.at (place + length c.loop-item.yielded) c.loop-item.invariant.position;
+      in_range = grind (arith, common_steps);
+      space = grind (arith, common_steps);
+    }
 
-pub put-cursor-requires-clause-in_range : goal.put-cursor-requires-clause-in_range
-put-cursor-requires-clause-in_range g c = grind (arith, common_steps)
-
-pub put-cursor-requires-clause-space : goal.put-cursor-requires-clause-space
-put-cursor-requires-clause-space g c = grind (arith, common_steps)
-
-pub remove_rest-requires-clause-good : goal.remove_rest-requires-clause-good
-remove_rest-requires-clause-good g c =
+pub remove_rest-requires : goal.remove_rest-requires
+remove_rest-requires g c =
     let storage = g.C.Storage in
     let now = c.loop-item.stored in
     let before = storage.items c.args.stored.now in
     let place = place_before (storage.rank c.args.stored.now) (length before) c.args.run.at in
-    good_at (storage.is_good now) (storage.rank now) (length (storage.items now)) c.loop-item.cursor.at (place + length c.loop-item.yielded) c.loop-item.invariant.position
-
-pub remove_rest-requires-clause-in_range : goal.remove_rest-requires-clause-in_range
-remove_rest-requires-clause-in_range g c = grind (arith, common_steps)
+    record {
+      good = good_at (storage.is_good now) (storage.rank now) (length (storage.items now)) c.loop-item.cursor.at (place + length c.loop-item.yielded) c.loop-item.invariant.position;
+      in_range = grind (arith, common_steps);
+    }

@@ -43,8 +43,8 @@ loop-at-preserved g c =
       counted = record { at_most = omega arith; at_least = omega arith };
     }
 
-pub returns-then-starts_past-clause-walked : goal.returns-then-starts_past-clause-walked
-returns-then-starts_past-clause-walked g c =
+pub returns-then-starts_past : goal.returns-then-starts_past
+returns-then-starts_past g c =
     let order = g.K.MaybeBounded.order in
     let storage = g.C.Storage in
     let stored = c.args.stored.now in
@@ -59,15 +59,15 @@ returns-then-starts_past-clause-walked g c =
     let start = start_position order x.key.start in
     let past : Lt (position_cmp order.cmp) end start = not_le (position_cmp order.cmp) (position_total order.cmp g.met.K.PartialEnum.lawful.total) end start (λ h. let both : true ≡ false = c.if-starts_past.ensures.past ∙ h in cc) in
     record {
-      in_range = was.in_range;
-      last_is = was.last_is;
-      after_is = here;
-      meets = was.meets;
-      stops = λ d some. rw (index, ← get_or_read items (storage.rank stored c.in-Some.p) x within c.get.ensures d) past;
+      walked = record {
+        in_range = was.in_range;
+        last_is = was.last_is;
+        after_is = here;
+        meets = was.meets;
+        stops = λ d some. rw (index, ← get_or_read items (storage.rank stored c.in-Some.p) x within c.get.ensures d) past;
+      };
+      counted = record { at_most = omega arith; at_least = omega arith };
     }
-
-pub returns-then-starts_past-clause-counted : goal.returns-then-starts_past-clause-counted
-returns-then-starts_past-clause-counted g c = record { at_most = omega arith; at_least = omega arith }
 
 pub returns-clause-counted : goal.returns-clause-counted
 returns-clause-counted g c = record { at_most = omega arith; at_least = omega arith }

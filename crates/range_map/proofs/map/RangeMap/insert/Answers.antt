@@ -14,20 +14,35 @@ returns-clause-meets g c = λ full.
     let new = g.C.Storage.items c.bind_in_order.new.stored in
     rw (← c.self.view_is) (subst (λ r. MeetAlso g.K.MaybeBounded.order items new r) c.into_range-range.ensures c.in_ok-bind_in_order.ensures.ok.meets)
 
-pub returns-then-is_empty-clause-coarse : goal.returns-then-is_empty-clause-coarse
-returns-then-is_empty-clause-coarse g c = λ complete. stored_coarse g.K.MaybeBounded.order g.met.K.PartialEnum.lawful g.V.PartialEq.eq g.met.V.Eq.laws complete (g.C.Storage.items c.args.self.now) c.in_form.ensures
+pub returns-then-is_empty : goal.returns-then-is_empty
+returns-then-is_empty g c =
+    record {
+      bound = grind (arith, common_steps);
+      form = c.in_form.ensures;
+      coarse = λ complete. stored_coarse g.K.MaybeBounded.order g.met.K.PartialEnum.lawful g.V.PartialEq.eq g.met.V.Eq.laws complete (g.C.Storage.items c.args.self.now) c.in_form.ensures;
+      only = λ complete. stored_only g.K.MaybeBounded.order g.met.K.PartialEnum.lawful g.V.PartialEq.eq g.met.V.Eq.laws complete (g.C.Storage.items c.args.self.now) c.in_form.ensures;
+      frame = λ full. absurd (full (rw (← c.into_range-range.ensures) (c.is_empty.ensures.by_position.0 c.if-is_empty.true)));
+      meets = λ full. absurd (full (rw (← c.into_range-range.ensures) (c.is_empty.ensures.by_position.0 c.if-is_empty.true)));
+      few = le_sum _ 2;
+      refused = tt;
+      empty = λ _. refl;
+      empty_unchanged = λ _. refl;
+    }
 
-pub returns-then-is_empty-clause-only : goal.returns-then-is_empty-clause-only
-returns-then-is_empty-clause-only g c = λ complete. stored_only g.K.MaybeBounded.order g.met.K.PartialEnum.lawful g.V.PartialEq.eq g.met.V.Eq.laws complete (g.C.Storage.items c.args.self.now) c.in_form.ensures
-
-pub returns-in_err-bind_in_order-clause-form : goal.returns-in_err-bind_in_order-clause-form
-returns-in_err-bind_in_order-clause-form g c = rw (c.in_err-bind_in_order.ensures.refused, c.self.view_is) c.in_form.ensures
-
-pub returns-in_err-bind_in_order-clause-coarse : goal.returns-in_err-bind_in_order-clause-coarse
-returns-in_err-bind_in_order-clause-coarse g c = λ complete. stored_coarse g.K.MaybeBounded.order g.met.K.PartialEnum.lawful g.V.PartialEq.eq g.met.V.Eq.laws complete (g.C.Storage.items c.bind_in_order.new.stored) (returns-in_err-bind_in_order-clause-form g c)
-
-pub returns-in_err-bind_in_order-clause-only : goal.returns-in_err-bind_in_order-clause-only
-returns-in_err-bind_in_order-clause-only g c = λ complete. stored_only g.K.MaybeBounded.order g.met.K.PartialEnum.lawful g.V.PartialEq.eq g.met.V.Eq.laws complete (g.C.Storage.items c.bind_in_order.new.stored) (returns-in_err-bind_in_order-clause-form g c)
+pub returns-in_err-bind_in_order : goal.returns-in_err-bind_in_order
+returns-in_err-bind_in_order g c =
+    record {
+      bound = error_has_no_value _ c.from_residual.result c.from_residual.ensures.0;
+      form = rw (c.in_err-bind_in_order.ensures.refused, c.self.view_is) c.in_form.ensures;
+      coarse = λ complete. stored_coarse g.K.MaybeBounded.order g.met.K.PartialEnum.lawful g.V.PartialEq.eq g.met.V.Eq.laws complete (g.C.Storage.items c.bind_in_order.new.stored) (rw (c.in_err-bind_in_order.ensures.refused, c.self.view_is) c.in_form.ensures);
+      only = λ complete. stored_only g.K.MaybeBounded.order g.met.K.PartialEnum.lawful g.V.PartialEq.eq g.met.V.Eq.laws complete (g.C.Storage.items c.bind_in_order.new.stored) (rw (c.in_err-bind_in_order.ensures.refused, c.self.view_is) c.in_form.ensures);
+      frame = error_has_no_value _ c.from_residual.result c.from_residual.ensures.0;
+      meets = error_has_no_value _ c.from_residual.result c.from_residual.ensures.0;
+      few = rw (← c.self.view_is) c.bind_in_order.ensures.few;
+      refused = on_error _ c.from_residual.result (rw (← c.self.view_is) c.in_err-bind_in_order.ensures.refused);
+      empty = λ empty. let told = c.is_empty.ensures.by_position.1 (rw c.into_range-range.ensures empty) in let not = c.if-is_empty.false in absurd (cc);
+      empty_unchanged = λ empty. let told = c.is_empty.ensures.by_position.1 (rw c.into_range-range.ensures empty) in let not = c.if-is_empty.false in absurd (cc);
+    }
 
 pub returns-clause-form : goal.returns-clause-form
 returns-clause-form g c = c.in_ok-bind_in_order.ensures.ok.stored
@@ -56,59 +71,17 @@ returns-clause-frame g c = λ full. rw (← c.self.view_is) (subst (λ r. GaveWa
 pub returns-clause-refused : goal.returns-clause-refused
 returns-clause-refused g c = tt
 
-pub returns-in_err-bind_in_order-clause-bound : goal.returns-in_err-bind_in_order-clause-bound
-returns-in_err-bind_in_order-clause-bound g c = error_has_no_value _ c.from_residual.result c.from_residual.ensures.0
-
-pub returns-in_err-bind_in_order-clause-empty : goal.returns-in_err-bind_in_order-clause-empty
-returns-in_err-bind_in_order-clause-empty g c = λ empty. let told = c.is_empty.ensures.by_position.1 (rw c.into_range-range.ensures empty) in let not = c.if-is_empty.false in absurd (cc)
-
-pub returns-in_err-bind_in_order-clause-empty_unchanged : goal.returns-in_err-bind_in_order-clause-empty_unchanged
-returns-in_err-bind_in_order-clause-empty_unchanged g c = λ empty. let told = c.is_empty.ensures.by_position.1 (rw c.into_range-range.ensures empty) in let not = c.if-is_empty.false in absurd (cc)
-
-pub returns-in_err-bind_in_order-clause-few : goal.returns-in_err-bind_in_order-clause-few
-returns-in_err-bind_in_order-clause-few g c = rw (← c.self.view_is) c.bind_in_order.ensures.few
-
-pub returns-in_err-bind_in_order-clause-frame : goal.returns-in_err-bind_in_order-clause-frame
-returns-in_err-bind_in_order-clause-frame g c = error_has_no_value _ c.from_residual.result c.from_residual.ensures.0
-
-pub returns-in_err-bind_in_order-clause-meets : goal.returns-in_err-bind_in_order-clause-meets
-returns-in_err-bind_in_order-clause-meets g c = error_has_no_value _ c.from_residual.result c.from_residual.ensures.0
-
-pub returns-in_err-bind_in_order-clause-refused : goal.returns-in_err-bind_in_order-clause-refused
-returns-in_err-bind_in_order-clause-refused g c = on_error _ c.from_residual.result (rw (← c.self.view_is) c.in_err-bind_in_order.ensures.refused)
-
-pub returns-then-is_empty-clause-bound : goal.returns-then-is_empty-clause-bound
-returns-then-is_empty-clause-bound g c = grind (arith, common_steps)
-
-pub returns-then-is_empty-clause-empty : goal.returns-then-is_empty-clause-empty
-returns-then-is_empty-clause-empty g c = λ _. refl
-
-pub returns-then-is_empty-clause-empty_unchanged : goal.returns-then-is_empty-clause-empty_unchanged
-returns-then-is_empty-clause-empty_unchanged g c = λ _. refl
-
-pub returns-then-is_empty-clause-few : goal.returns-then-is_empty-clause-few
-returns-then-is_empty-clause-few g c = le_sum _ 2
-
-pub returns-then-is_empty-clause-form : goal.returns-then-is_empty-clause-form
-returns-then-is_empty-clause-form g c = c.in_form.ensures
-
-pub returns-then-is_empty-clause-frame : goal.returns-then-is_empty-clause-frame
-returns-then-is_empty-clause-frame g c = λ full. absurd (full (rw (← c.into_range-range.ensures) (c.is_empty.ensures.by_position.0 c.if-is_empty.true)))
-
-pub returns-then-is_empty-clause-meets : goal.returns-then-is_empty-clause-meets
-returns-then-is_empty-clause-meets g c = λ full. absurd (full (rw (← c.into_range-range.ensures) (c.is_empty.ensures.by_position.0 c.if-is_empty.true)))
-
-pub returns-then-is_empty-clause-refused : goal.returns-then-is_empty-clause-refused
-returns-then-is_empty-clause-refused g c = tt
-
 pub invariant_of-self : goal.invariant_of-self
 invariant_of-self g c = search rules
 
 pub invariant_of-self-2 : goal.invariant_of-self-2
 invariant_of-self-2 g c = search rules
 
-pub bind_in_order-requires-clause-stored : goal.bind_in_order-requires-clause-stored
-bind_in_order-requires-clause-stored g c = rw c.self.view_is c.in_form.ensures
-
-pub bind_in_order-requires-clause-nonempty : goal.bind_in_order-requires-clause-nonempty
-bind_in_order-requires-clause-nonempty g c = λ empty. let told = c.is_empty.ensures.by_position.1 empty in let not = c.if-is_empty.false in cc
+pub bind_in_order-requires : goal.bind_in_order-requires
+bind_in_order-requires g c =
+    record {
+      keys = c.requires.keys;
+      values = c.requires.values;
+      stored = rw c.self.view_is c.in_form.ensures;
+      nonempty = λ empty. let told = c.is_empty.ensures.by_position.1 empty in let not = c.if-is_empty.false in cc;
+    }

@@ -5,23 +5,21 @@ use Rattle.range_map.specs.Lookups.{MeetsSome}
 use Rattle.range_map.proofs.Meeting.{binding_meets, meeting_binds, first_not_before_decides, none_decides}
 use Rattle.range_map.proofs.map.RangeMap.intersects_counted.Goals as goal
 
-pub returns-in-None-clause-meets : goal.returns-in-None-clause-meets
-returns-in-None-clause-meets g c =
+pub returns-in-None : goal.returns-in-None
+returns-in-None g c =
     let order = g.K.MaybeBounded.order in
     let lawful = g.met.K.PartialEnum.lawful in
     let items = g.C.Storage.items c.self.inside.stored in
     let start = ap (start_position order) c.start.ensures in
     let none : MeetsSome order items (g.R.AsRange.range c.args.range) → ⊥ = none_decides order lawful items (g.R.AsRange.range c.args.range) (start_position order (bound_of c.start.result)) start (rw c.in-None.is at c.find-from.ensures.found.below) in
-    rw (← c.self.view_is) (λ h. absurd (cc), λ h. absurd (none h.1))
-
-pub returns-in-None-clause-bound : goal.returns-in-None-clause-bound
-returns-in-None-clause-bound g c =
-    let order = g.K.MaybeBounded.order in
-    let lawful = g.met.K.PartialEnum.lawful in
-    let items = g.C.Storage.items c.self.inside.stored in
-    let start = ap (start_position order) c.start.ensures in
-    let none : MeetsSome order items (g.R.AsRange.range c.args.range) → ⊥ = none_decides order lawful items (g.R.AsRange.range c.args.range) (start_position order (bound_of c.start.result)) start (rw c.in-None.is at c.find-from.ensures.found.below) in
-    rw (← c.self.view_is) (λ h. absurd (none (binding_meets order lawful items (g.R.AsRange.range c.args.range) h).1))
+    record {
+      meets = rw (← c.self.view_is) (λ h. absurd (cc), λ h. absurd (none h.1));
+      bound = rw (← c.self.view_is) (λ h. absurd (none (binding_meets order lawful items (g.R.AsRange.range c.args.range) h).1));
+      complete = λ complete h. absurd (cc);
+      counted = rw (← c.self.view_is) (λ full. record { at_most = omega (arith, c.find-from.ensures.counted.at_most); at_least = c.find-from.ensures.counted.at_least });
+      none = search rules;
+      empty_uncounted = λ empty. let told = c.is_empty.ensures.by_position.1 empty in let not = c.if-is_empty.false in absurd (cc);
+    }
 
 pub returns-clause-meets : goal.returns-clause-meets
 returns-clause-meets g c =
@@ -69,18 +67,6 @@ returns-then-is_empty-clause-none g c = λ none. record { at_most = omega arith;
 
 pub returns-then-is_empty-clause-empty_uncounted : goal.returns-then-is_empty-clause-empty_uncounted
 returns-then-is_empty-clause-empty_uncounted g c = λ _. refl
-
-pub returns-in-None-clause-complete : goal.returns-in-None-clause-complete
-returns-in-None-clause-complete g c = λ complete h. absurd (cc)
-
-pub returns-in-None-clause-counted : goal.returns-in-None-clause-counted
-returns-in-None-clause-counted g c = rw (← c.self.view_is) (λ full. record { at_most = omega (arith, c.find-from.ensures.counted.at_most); at_least = c.find-from.ensures.counted.at_least })
-
-pub returns-in-None-clause-none : goal.returns-in-None-clause-none
-returns-in-None-clause-none g c = search rules
-
-pub returns-in-None-clause-empty_uncounted : goal.returns-in-None-clause-empty_uncounted
-returns-in-None-clause-empty_uncounted g c = λ empty. let told = c.is_empty.ensures.by_position.1 empty in let not = c.if-is_empty.false in absurd (cc)
 
 pub returns-clause-counted : goal.returns-clause-counted
 returns-clause-counted g c = rw (← c.self.view_is) (λ full. record { at_most = omega (arith, c.find-from.ensures.counted.at_most, c.starts_past.ensures.counted.at_most); at_least = omega (arith, c.find-from.ensures.counted.at_least, c.starts_past.ensures.counted.at_least) })

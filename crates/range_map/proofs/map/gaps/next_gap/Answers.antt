@@ -10,14 +10,8 @@ loop-range-preserved g c = search rules
 pub loop-range-smaller : goal.loop-range-smaller
 loop-range-smaller g c = search rules
 
-pub returns-clause-last : goal.returns-clause-last
-returns-clause-last g c = search rules
+pub returns : goal.returns
+returns g c = record { next = search rules; last = search rules }
 
-pub returns-clause-next : goal.returns-clause-next
-returns-clause-next g c = search rules
-
-pub returns-then-is_some-clause-last : goal.returns-then-is_some-clause-last
-returns-then-is_some-clause-last g c = search rules
-
-pub returns-then-is_some-clause-next : goal.returns-then-is_some-clause-next
-returns-then-is_some-clause-next g c = search rules
+pub returns-then-is_some : goal.returns-then-is_some
+returns-then-is_some g c = record { next = search rules; last = search rules }
