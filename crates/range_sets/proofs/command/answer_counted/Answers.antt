@@ -95,13 +95,13 @@ returns-in-Remove-clause-takes g c =
     rw c.in-Remove.is (record { at_most = λ done. absurd done; at_least = refused.least; none = refused.empty_uncounted })
 
 pub returns-in-Update-clause-step : goal.returns-in-Update-clause-step
-returns-in-Update-clause-step g c = rw c.in-Update.is (search rules)
+returns-in-Update-clause-step g c = rw c.in-Update.is c.update_tagged.ensures
 
 pub returns-in-Update-clause-takes : goal.returns-in-Update-clause-takes
 returns-in-Update-clause-takes g c = rw c.in-Update.is refl
 
 pub returns-in-Ok-get_cloned-clause-step : goal.returns-in-Ok-get_cloned-clause-step
-returns-in-Ok-get_cloned-clause-step g c = rw c.in-Get.is (search rules)
+returns-in-Ok-get_cloned-clause-step g c = rw c.in-Get.is (c.in-Ok-get_cloned.ensures.value, refl)
 
 pub returns-in-Ok-get_cloned-clause-takes : goal.returns-in-Ok-get_cloned-clause-takes
 returns-in-Ok-get_cloned-clause-takes g c = rw c.in-Get.is c.get_cloned.ensures.takes
@@ -113,7 +113,7 @@ pub returns-in-Get-clause-takes : goal.returns-in-Get-clause-takes
 returns-in-Get-clause-takes g c = rw c.in-Get.is c.get_cloned.ensures.takes
 
 pub returns-in-Contains-clause-step : goal.returns-in-Contains-clause-step
-returns-in-Contains-clause-step g c = rw c.in-Contains.is (search rules)
+returns-in-Contains-clause-step g c = rw c.in-Contains.is (c.contains_key_counted.ensures.value, refl)
 
 pub returns-in-Contains-clause-takes : goal.returns-in-Contains-clause-takes
 returns-in-Contains-clause-takes g c =
@@ -121,7 +121,7 @@ returns-in-Contains-clause-takes g c =
     rw c.in-Contains.is (record { counted = λ some. told.counted; idle = told.none; none = λ empty. absurd empty })
 
 pub returns-in-Intersects-clause-step : goal.returns-in-Intersects-clause-step
-returns-in-Intersects-clause-step g c = rw c.in-Intersects.is (search rules)
+returns-in-Intersects-clause-step g c = rw c.in-Intersects.is (c.intersects_counted.ensures.meets, refl)
 
 pub returns-in-Intersects-clause-takes : goal.returns-in-Intersects-clause-takes
 returns-in-Intersects-clause-takes g c =
@@ -129,7 +129,7 @@ returns-in-Intersects-clause-takes g c =
     rw c.in-Intersects.is (record { counted = told.counted; idle = told.none; none = told.empty_uncounted })
 
 pub returns-clause-step : goal.returns-clause-step
-returns-clause-step g c = rw c.in-Count.is (search rules)
+returns-clause-step g c = rw c.in-Count.is (c.range_count.ensures.value, refl)
 
 pub returns-clause-takes : goal.returns-clause-takes
 returns-clause-takes g c = rw c.in-Count.is refl
