@@ -99,7 +99,7 @@ returns-in-Remove-clause-takes g c =
     rw c.in-Remove.is (record { at_most = λ done. absurd done; at_least = refused.least; none = refused.empty_uncounted })
 
 pub returns-in-Update-clause-step : goal.returns-in-Update-clause-step
-returns-in-Update-clause-step g c = rw c.in-Update.is c.update_tagged.ensures
+returns-in-Update-clause-step g c = rw c.in-Update.is (search rules)
 
 pub returns-in-Update-clause-takes : goal.returns-in-Update-clause-takes
 returns-in-Update-clause-takes g c = rw c.in-Update.is refl
@@ -133,7 +133,7 @@ returns-in-Intersects-clause-takes g c =
     rw c.in-Intersects.is (record { counted = told.counted; idle = told.none; none = told.empty_uncounted })
 
 pub returns-clause-step : goal.returns-clause-step
-returns-clause-step g c = rw c.in-Count.is (c.range_count.ensures.value, refl)
+returns-clause-step g c = rw c.in-Count.is (search rules)
 
 pub returns-clause-takes : goal.returns-clause-takes
 returns-clause-takes g c = rw c.in-Count.is refl

@@ -1,9 +1,7 @@
-use Rattle.std.proofs.Common.{◌≡◌, sym, ◌∙◌, true, false, rules, IsTrue}
+use Rattle.std.proofs.Common.{◌≡◌, true, false, rules}
 use Rattle.std.specs.Option.{option_copied}
-use Rattle.std.specs.Prelude.{IfSome}
-use Rattle.range_sets.specs.Members.{among}
-use Rattle.range_sets.proofs.Altered.{IsCopy, added_to_copy, had_already, not_void, answered_by_copy, had_in_copy, never_both}
-use Rattle.range_sets.proofs.multimap.changing.with_value.Goals.{in-Some+in_ok-set-in-Some, in-None, then-not-contains+in_ok-clone+in_ok-insert, else-not-contains}
+use Rattle.range_sets.proofs.Altered.{added_to_copy, had_already, not_void, answered_by_copy, had_in_copy, never_both}
+use Rattle.range_sets.proofs.multimap.changing.with_value.Goals.{then-not-contains+in_ok-clone+in_ok-insert, else-not-contains}
 use Rattle.range_sets.proofs.multimap.changing.with_value.Goals as goal
 
 pub returns-clause-added : goal.returns-clause-added
@@ -12,11 +10,8 @@ returns-clause-added g c =
     let has = g.S.SetMut.has in
     let eq = g.V.PartialEq.eq in
     let v = c.args.value.now in
-    let set = c.match-old.set in
-    let copied : IsCopy has old set = elim c.match-old.branch [
-      | in-Some+in_ok-set-in-Some w ↦ rw (w.in-Some.is, w.set-is) (λ u. sym (g.met.S.SetMut.equal_same w.in-Some.set.now w.in_ok-set-in-Some.set (g.met.S.SetMut.clones_equal c.requires w.in-Some.set.now w.in_ok-set-in-Some.set w.in_ok-set-in-Some.ensures.cases) u))
-      | in-None w ↦ rw (w.in-None.is, w.set-is) ((g.met.S.SetMut.void_is w.default-set.result).0 w.default-set.ensures)
-    ] in
+    let set = c.in_ok-set.set in
+    let copied = c.in_ok-set.ensures.alike in
     elim c.if-not-contains.branch [
       | then-not-contains+in_ok-clone+in_ok-insert w ↦ rw w.set-is (added_to_copy has eq g.met.V.Eq.laws old set w.insert.new.self v w.in_ok-clone.field-0 copied (c.requires v w.in_ok-clone.field-0 w.in_ok-clone.ensures.cases) w.in_ok-insert.ensures.added)
       | else-not-contains w ↦
@@ -28,17 +23,15 @@ pub returns-clause-kept : goal.returns-clause-kept
 returns-clause-kept g c = λ had.
     let old = option_copied c.args.old in
     let has = g.S.SetMut.has in
+    let same = g.S.PartialEq.eq in
     let v = c.args.value.now in
-    let set = c.match-old.set in
-    let copied : IfSome old (λ s. IsTrue (g.S.PartialEq.eq s set)) = elim c.match-old.branch [
-      | in-Some+in_ok-set-in-Some w ↦ rw (w.in-Some.is, w.set-is) (g.met.S.SetMut.clones_equal c.requires w.in-Some.set.now w.in_ok-set-in-Some.set w.in_ok-set-in-Some.ensures.cases)
-      | in-None w ↦ rw w.in-None.is tt
-    ] in
+    let set = c.in_ok-set.set in
+    let equal = c.in_ok-set.ensures.equal in
     elim c.if-not-contains.branch [
       | then-not-contains+in_ok-clone+in_ok-insert w ↦
           let none : has set v ≡ false = search (rules, w.if-not-contains.true, c.contains.ensures) in
-          absurd (never_both (has set v) (had_in_copy has g.S.PartialEq.eq g.met.S.SetMut.equal_same old set v copied had) none)
-      | else-not-contains w ↦ rw w.set-is (answered_by_copy has g.S.PartialEq.eq old set v copied had)
+          absurd (never_both (has set v) (had_in_copy has same g.met.S.SetMut.equal_same old set v equal had) none)
+      | else-not-contains w ↦ rw w.set-is (answered_by_copy has same old set v equal had)
     ]
 
 pub returns-clause-nonempty : goal.returns-clause-nonempty
