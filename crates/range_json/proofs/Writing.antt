@@ -1,7 +1,8 @@
 -- What is written of a list while a loop goes over it.
-use Rattle.std.proofs.Common.{◌≡◌, refl, sym, ap, subst, ◌∙◌, List, [], ◌∷◌, ◌++◌, map, append_assoc}
+use Rattle.std.proofs.Common.{◌≡◌, refl, sym, ap, subst, ◌∙◌, ◌<◌, List, [], ◌∷◌, ◌++◌, length, map, append_assoc, append-nil, arith}
 use Rattle.std.proofs.lemmas.List.{map-append}
 use Rattle.std.specs.List.{AllByRecursion}
+use Rattle.std.specs.Prelude.{Result, Ok, Err, OnOk}
 use Rattle.range_algebra.specs.declared.any.AnyRange.{AnyRange}
 use Rattle.range_store.specs.declared.storage.Item.{Item}
 use Rattle.range_map.specs.FreeRanges.{item_ranges}
@@ -19,12 +20,27 @@ module _ {X : Type 0} (shape : X → Data) where
   written_more all left rest x written v step is h =
       ap (λ ds. ds ++ map shape rest) (map-append view written (v ∷ [])) ∙ (append_assoc (map view written) (view v ∷ []) (map shape rest) ∙ (ap (λ d. map view written ++ d ∷ map shape rest) is ∙ (ap (λ xs. map view written ++ map shape xs) (sym step) ∙ h)))
 
+  -- at the end all was written
+  pub all_written : (all left : List X) (written : List Value) → left ≡ [] → HasWritten all left written → map view written ≡ map shape all
+  all_written all left written none h = sym (append-nil (map view written)) ∙ ap (λ xs. map view written ++ map shape xs) (sym none) ∙ h
+
 -- all that a loop has written are values, where what is left are
 abbrev pub AreValuesSoFar : {X : Type 0} → (X → Type 0) → List X → List X → Type 0
 AreValuesSoFar P all left = AllByRecursion P left → AllByRecursion P all
 
 pub values_more : {X : Type 0} (P : X → Type 0) (all left rest : List X) (x : X) → left ≡ x ∷ rest → P x → AreValuesSoFar P all left → AreValuesSoFar P all rest
 values_more P all left rest x step here h = λ later. h (subst (AllByRecursion P) (sym step) (here, later))
+
+pub all_values : {X : Type 0} (P : X → Type 0) (all left : List X) → left ≡ [] → AreValuesSoFar P all left → AllByRecursion P all
+all_values P all left none h = h (subst (AllByRecursion P) (sym none) tt)
+
+-- a list without its first is shorter
+pub shorter : {X : Type 0} (left rest : List X) (x : X) → left ≡ x ∷ rest → length rest < length left
+shorter left rest x step = omega (arith, ap length step)
+
+pub on_ok : {A E : Type 0} (r : Result A E) (P : Type 0) → P → OnOk r P
+on_ok (Ok x) P p = p
+on_ok (Err e) P p = tt
 
 pub by_ranges : {K V : Type 0} (P : AnyRange K → Type 0) (items : List (Item (AnyRange K) V)) → AllByRecursion P (item_ranges items) → AllByRecursion (λ i. P i.key) items
 by_ranges P [] h = tt

@@ -1,3 +1,4 @@
+pub mod Altered
 pub mod Asked
 pub mod CallHistories
 pub mod ComplementTwice

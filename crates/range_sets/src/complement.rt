@@ -1,5 +1,5 @@
 //! The keys that a set does not hold.
-ghost use Rattle.std.specs.Prelude.{IfOk};
+ghost use Rattle.std.specs.Prelude.{◌≡◌, ◌+◌, ◌≤◌, [], length, IfOk, OnOk};
 ghost use Rattle.range_algebra.specs.Range.{ClonesAreEqual};
 ghost use Rattle.range_sets.specs.Complements.{EqualGapsOf};
 ghost use Rattle.range_sets.specs.KeySets.{HoldsTheOthers, IsStoredSet};
@@ -32,22 +32,36 @@ impl<T: Measure + Clone, C: Storage<Item<AnyRange<T>, ()>>> RangeSet<T, C> {
             (λ others. EqualGapsOf T.order (C.items self.now) (C.items others)) }
         ensures form { IfOk result (λ others. IsStoredSet T.order (C.items others)) }
     {
-        self.in_form();
-        let mut others = RangeMap::new(self.alloc);
         let most = match self.range_count().checked_add(1) {
             Some(most) => most,
             None => return Err(MapError::Memory),
         };
+        let mut others = RangeMap::new(self.alloc);
         reserve(&mut others, most)?;
-        let mut gaps = self.gaps();
-        while let Some(gap) = gaps.next() {
-            let range = gap.cloned()?;
-            inner::known(&range);
-            append(&mut others, range, ());
-        }
+        self.append_gaps(&mut others)?;
         Ok(RangeSet {
             map: others,
             alloc: self.alloc,
         })
+    }
+
+    /// Appends a clone of each gap, in order, to an empty map that has room for all of them.
+    fn append_gaps(&self, others: &mut RangeMap<T, (), C>) -> Result<(), MapError>
+        requires clones { ClonesAreEqual T.is_clone T.eq }
+        requires empty { C.items others.old ≡ [] }
+        requires room { length (C.items self.now) + 1 ≤ C.room others.old }
+        ensures held { OnOk result
+            (HoldsTheOthers T.order (C.items self.now) (C.items others.new)) }
+        ensures gaps { OnOk result (EqualGapsOf T.order (C.items self.now) (C.items others.new)) }
+        ensures form { OnOk result (IsStoredSet T.order (C.items others.new)) }
+    {
+        self.in_form();
+        let mut gaps = self.gaps();
+        while let Some(gap) = gaps.next() {
+            let range = gap.cloned()?;
+            inner::known(&range);
+            append(others, range, ());
+        }
+        Ok(())
     }
 }

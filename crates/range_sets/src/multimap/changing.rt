@@ -18,6 +18,20 @@ use range_map::map::{MapError, stored_lists_bind_once};
 use range_store::storage::{Item, Storage};
 use std::alloc::{AllocError, Global};
 
+/// A copy of the set, or an empty set where there is none.
+fn copied<V: Eq + Clone, S: SetMut<V>>(alloc: Global, old: Option<&S>) -> Result<S, AllocError>
+    requires { ClonesAreEqual V.is_clone V.eq }
+    ensures alike { IfOk result
+        (λ copy. (v : V) → S.has copy v ≡ among S.has (option_copied old.entry) v) }
+    ensures equal { IfOk result
+        (λ copy. IfSome (option_copied old.entry) (λ s. IsTrue (S.eq s copy))) }
+{
+    Ok(match old {
+        Some(set) => set.clone()?,
+        None => S::default(alloc),
+    })
+}
+
 /// The set with the value, or a set of the value alone.
 fn with_value<V: Eq + Clone, S: SetMut<V>>(
     alloc: Global,
@@ -31,10 +45,7 @@ fn with_value<V: Eq + Clone, S: SetMut<V>>(
     ensures kept { IfOk result (λ new. IsTrue (among S.has (option_copied old.entry) value.now)
         → IsAsAnswered S.eq (option_copied old.entry) new) }
 {
-    let mut set = match old {
-        Some(set) => set.clone()?,
-        None => S::default(alloc),
-    };
+    let mut set = copied::<V, S>(alloc, old)?;
     if !set.contains(value) {
         set.insert(value.clone()?)?;
     }

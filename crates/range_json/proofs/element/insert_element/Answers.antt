@@ -26,3 +26,30 @@ returns-else-branch-clause-met g c =
     let met : c.insert_disjoint.result ≡ Ok false = search (rules, c.in_ok-insert_disjoint.is, c.in_ok-insert_disjoint.was, c.if-branch.false) in
     let told = c.insert_disjoint.ensures.met.0 met in
     inr (refl, told.0, told.1)
+
+pub returns-then-branch-clause-known : goal.returns-then-branch-clause-known
+returns-then-branch-clause-known g c = c.known.ensures
+
+pub returns-then-branch-clause-form : goal.returns-then-branch-clause-form
+returns-then-branch-clause-form g c = c.insert_disjoint.ensures.form
+
+pub returns-then-branch-clause-empty_unchanged : goal.returns-then-branch-clause-empty_unchanged
+returns-then-branch-clause-empty_unchanged g c = c.insert_disjoint.ensures.empty_unchanged
+
+pub returns-else-branch-clause-known : goal.returns-else-branch-clause-known
+returns-else-branch-clause-known g c = c.known.ensures
+
+pub returns-else-branch-clause-form : goal.returns-else-branch-clause-form
+returns-else-branch-clause-form g c = c.insert_disjoint.ensures.form
+
+pub returns-else-branch-clause-empty_unchanged : goal.returns-else-branch-clause-empty_unchanged
+returns-else-branch-clause-empty_unchanged g c = c.insert_disjoint.ensures.empty_unchanged
+
+pub returns-in_err-insert_disjoint-clause-known : goal.returns-in_err-insert_disjoint-clause-known
+returns-in_err-insert_disjoint-clause-known g c = c.known.ensures
+
+pub returns-in_err-insert_disjoint-clause-form : goal.returns-in_err-insert_disjoint-clause-form
+returns-in_err-insert_disjoint-clause-form g c = c.insert_disjoint.ensures.form
+
+pub returns-in_err-insert_disjoint-clause-empty_unchanged : goal.returns-in_err-insert_disjoint-clause-empty_unchanged
+returns-in_err-insert_disjoint-clause-empty_unchanged g c = c.insert_disjoint.ensures.empty_unchanged

@@ -1,5 +1,5 @@
-use Rattle.std.proofs.lemmas.Grind.{common_steps}
-use Rattle.std.proofs.Common.{refl, rules, arith}
+use Rattle.std.proofs.Common.{ap, false, refl, rules}
+use Rattle.range_sets.proofs.Altered.{never_both}
 use Rattle.range_sets.proofs.Replies.{meets_some, meets_none}
 use Rattle.range_sets.proofs.command.answer_counted.Goals as goal
 
@@ -21,7 +21,7 @@ returns-in-Ok-clause-takes g c =
 pub returns-in-Insert-clause-step : goal.returns-in-Insert-clause-step
 returns-in-Insert-clause-step g c =
     let refused = c.in-Err-Memory.ensures in
-    rw c.in-Insert.is (λ empty. let ok = refused.empty empty in cc, refused.refused)
+    rw c.in-Insert.is (λ empty. never_both false (refused.empty empty) refl, refused.refused)
 
 pub returns-in-Insert-clause-takes : goal.returns-in-Insert-clause-takes
 returns-in-Insert-clause-takes g c =
@@ -45,7 +45,11 @@ pub returns-in-Ok-insert_disconnected-clause-takes : goal.returns-in-Ok-insert_d
 returns-in-Ok-insert_disconnected-clause-takes g c = rw c.in-InsertDisconnected.is refl
 
 pub returns-in-Err-Connected-clause-step : goal.returns-in-Err-Connected-clause-step
-returns-in-Err-Connected-clause-step g c = grind (arith, common_steps)
+returns-in-Err-Connected-clause-step g c =
+    let refused = c.in-Err-Connected.ensures in
+    let is = c.in-Err-Connected.field-0-is in
+    let given = rw is at refused.given in
+    rw c.in-InsertDisconnected.is (refused.connected.0 (rw is tt), ap (λ p. p.0) given, ap (λ p. p.1) given, refused.refused)
 
 pub returns-in-Err-Connected-clause-takes : goal.returns-in-Err-Connected-clause-takes
 returns-in-Err-Connected-clause-takes g c = rw c.in-InsertDisconnected.is refl
@@ -54,8 +58,8 @@ pub returns-in-InsertDisconnected-clause-step : goal.returns-in-InsertDisconnect
 returns-in-InsertDisconnected-clause-step g c =
     let refused = c.in-Err-Memory-insert_disconnected.ensures in
     rw c.in-InsertDisconnected.is (
-      λ empty. let ok = refused.empty empty in cc,
-      λ near. rw c.in-Err-Memory-insert_disconnected.field-0-is at (refused.connected.1 (λ empty. let ok = refused.empty empty in cc, near)),
+      λ empty. never_both false (refused.empty empty) refl,
+      λ near. rw c.in-Err-Memory-insert_disconnected.field-0-is at (refused.connected.1 (λ empty. never_both false (refused.empty empty) refl, near)),
       refused.refused,
     )
 
@@ -84,8 +88,8 @@ returns-in-Remove-clause-step g c =
     let items = g.C.Storage.items c.args.map.now in
     let refused = c.in-Err-Memory-remove_counted.ensures in
     rw c.in-Remove.is (
-      λ empty. let ok = refused.empty empty in cc,
-      meets_some g.K.MaybeBounded.order items c.in-Remove.range (λ apart. let ok = refused.unmet apart in cc),
+      λ empty. never_both false (refused.empty empty) refl,
+      meets_some g.K.MaybeBounded.order items c.in-Remove.range (λ apart. never_both false (refused.unmet apart) refl),
       refused.refused,
     )
 
@@ -101,7 +105,7 @@ pub returns-in-Update-clause-takes : goal.returns-in-Update-clause-takes
 returns-in-Update-clause-takes g c = rw c.in-Update.is refl
 
 pub returns-in-Ok-get_cloned-clause-step : goal.returns-in-Ok-get_cloned-clause-step
-returns-in-Ok-get_cloned-clause-step g c = rw c.in-Get.is (search rules)
+returns-in-Ok-get_cloned-clause-step g c = rw c.in-Get.is (c.in-Ok-get_cloned.ensures.value, refl)
 
 pub returns-in-Ok-get_cloned-clause-takes : goal.returns-in-Ok-get_cloned-clause-takes
 returns-in-Ok-get_cloned-clause-takes g c = rw c.in-Get.is c.get_cloned.ensures.takes
@@ -113,7 +117,7 @@ pub returns-in-Get-clause-takes : goal.returns-in-Get-clause-takes
 returns-in-Get-clause-takes g c = rw c.in-Get.is c.get_cloned.ensures.takes
 
 pub returns-in-Contains-clause-step : goal.returns-in-Contains-clause-step
-returns-in-Contains-clause-step g c = rw c.in-Contains.is (search rules)
+returns-in-Contains-clause-step g c = rw c.in-Contains.is (c.contains_key_counted.ensures.value, refl)
 
 pub returns-in-Contains-clause-takes : goal.returns-in-Contains-clause-takes
 returns-in-Contains-clause-takes g c =
@@ -121,7 +125,7 @@ returns-in-Contains-clause-takes g c =
     rw c.in-Contains.is (record { counted = λ some. told.counted; idle = told.none; none = λ empty. absurd empty })
 
 pub returns-in-Intersects-clause-step : goal.returns-in-Intersects-clause-step
-returns-in-Intersects-clause-step g c = rw c.in-Intersects.is (search rules)
+returns-in-Intersects-clause-step g c = rw c.in-Intersects.is (c.intersects_counted.ensures.meets, refl)
 
 pub returns-in-Intersects-clause-takes : goal.returns-in-Intersects-clause-takes
 returns-in-Intersects-clause-takes g c =

@@ -1,4 +1,4 @@
-use Rattle.std.proofs.Common.{◌≡◌, ◌++◌, ◌∷◌, [], length, sym, ap, ◌∙◌, arith, append_assoc}
+use Rattle.std.proofs.Common.{◌≡◌, ◌++◌, ◌∷◌, [], length, sym, ap, ◌∙◌, arith, append_assoc, refl}
 use Rattle.range_sets.specs.Tagged.{MayAnswerTo}
 use Rattle.range_sets.proofs.CountedRuns.{one_more_counted}
 use Rattle.range_map.proofs.Endings.{prefix_is_all}
@@ -21,3 +21,19 @@ returns-clause-run g c =
     let none : length rest.items ≡ 0 = omega (arith, rest.ok.0, c.in-None.ensures.steps.0) in
     let all = prefix_is_all c.loop-command.yielded rest.items c.args.commands.items c.loop-command.invariant.left none in
     rw (← all) c.loop-command.invariant.chain
+
+pub answer_counted-reply-requires-clause-keys : goal.answer_counted-reply-requires-clause-keys
+answer_counted-reply-requires-clause-keys g c = c.requires.keys
+
+pub answer_counted-reply-requires-clause-values : goal.answer_counted-reply-requires-clause-values
+answer_counted-reply-requires-clause-values g c = c.requires.values
+
+pub answer_counted-reply-requires-clause-callable : goal.answer_counted-reply-requires-clause-callable
+answer_counted-reply-requires-clause-callable g c = c.requires.callable
+
+pub loop-command-init : goal.loop-command-init
+loop-command-init g c = record {
+  left = c.into_iter-command-iterator.ensures.into_iter_gives.0;
+  chain = rw c.in_ok-replies.ensures.items (refl, refl);
+  space = omega (arith, ap length c.into_iter-command-iterator.ensures.into_iter_gives.0, c.len.ensures, c.in_ok-replies.ensures.len, c.in_ok-replies.ensures.capacity);
+}

@@ -1,6 +1,6 @@
-use Rattle.std.proofs.lemmas.Grind.{common_steps}
-use Rattle.std.proofs.Common.{rules, subst, arith}
+use Rattle.std.proofs.Common.{false, refl, rules, subst}
 use Rattle.range_sets.specs.Tagged.{MayAnswerTo}
+use Rattle.range_sets.proofs.Altered.{never_both}
 use Rattle.range_sets.proofs.Asked.{every_one, answered_as, rebound_as, fails_as}
 use Rattle.range_sets.proofs.command.update_tagged.Goals as goal
 
@@ -24,18 +24,20 @@ returns g c =
     let refused = c.in-Err-Closure.ensures in (
       fails_as g.K.MaybeBounded.order g.V.PartialEq.eq (MayAnswerTo g.F.Fn c.args.f.now c.args.tag) (g.C.Storage.items c.args.map.now) c.args.range c.in-Err-Closure.error (refused.closure c.in-Err-Closure.error (search rules))
           (λ value a m. subst (λ v. MayAnswerTo g.F.Fn c.args.f.now c.args.tag v a) m.shows m.says.1),
-      λ empty. let ok = refused.empty empty in cc,
+      λ empty. never_both false (refused.empty empty) refl,
       refused.refused,
     )
 
 pub returns-in-Err-Memory : goal.returns-in-Err-Memory
-returns-in-Err-Memory g c = grind (arith, common_steps)
+returns-in-Err-Memory g c =
+    let refused = c.in-Err-Memory.ensures in
+    (λ empty. never_both false (refused.empty empty) refl, refused.refused)
 
 pub update-requires-clause-free : goal.update-requires-clause-free
-update-requires-clause-free g c = grind (arith, common_steps)
+update-requires-clause-free g c = λ shown shows. c.requires.callable
 
 pub update-requires-clause-keys : goal.update-requires-clause-keys
-update-requires-clause-keys g c = grind (arith, common_steps)
+update-requires-clause-keys g c = c.requires.keys
 
 pub update-requires-clause-values : goal.update-requires-clause-values
-update-requires-clause-values g c = grind (arith, common_steps)
+update-requires-clause-values g c = c.requires.values

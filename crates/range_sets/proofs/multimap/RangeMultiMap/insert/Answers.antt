@@ -1,4 +1,4 @@
-use Rattle.std.proofs.Common.{subst, IsTrue}
+use Rattle.std.proofs.Common.{refl, subst, IsTrue}
 use Rattle.range_map.specs.Answers.{IsAsAnswered}
 use Rattle.range_sets.specs.Members.{HasAlso, among}
 use Rattle.range_sets.specs.Pairs.{HasPair}
@@ -64,3 +64,42 @@ update-requires-clause-free g c = λ shown shows. c.requires.values
 
 pub update-requires-clause-bound : goal.update-requires-clause-bound
 update-requires-clause-bound g c = every_one _ (g.C.Storage.items c.self.inside.map) (λ i shown shows. c.requires.values)
+
+pub returns-clause-form : goal.returns-clause-form
+returns-clause-form g c = c.update.ensures.form
+
+pub returns-clause-only : goal.returns-clause-only
+returns-clause-only g c = c.update.ensures.only
+
+pub returns-clause-empty_unchanged : goal.returns-clause-empty_unchanged
+returns-clause-empty_unchanged g c = rw (← c.self.view_is) c.update.ensures.empty_unchanged
+
+pub returns-clause-empty : goal.returns-clause-empty
+returns-clause-empty g c = λ empty. refl
+
+pub returns-in-Err-clause-added : goal.returns-in-Err-clause-added
+returns-in-Err-clause-added g c = tt
+
+pub returns-in-Err-clause-kept : goal.returns-in-Err-clause-kept
+returns-in-Err-clause-kept g c = rw (← c.self.view_is, c.in-Err.ensures.refused) (λ k key here b. (λ h. h, λ h. h))
+
+pub returns-in-Err-clause-form : goal.returns-in-Err-clause-form
+returns-in-Err-clause-form g c = c.update.ensures.form
+
+pub returns-in-Err-clause-nonempty : goal.returns-in-Err-clause-nonempty
+returns-in-Err-clause-nonempty g c = rw c.in-Err.ensures.refused c.self.invariant
+
+pub returns-in-Err-clause-only : goal.returns-in-Err-clause-only
+returns-in-Err-clause-only g c = c.update.ensures.only
+
+pub returns-in-Err-clause-refused : goal.returns-in-Err-clause-refused
+returns-in-Err-clause-refused g c = rw (← c.self.view_is) c.in-Err.ensures.refused
+
+pub returns-in-Err-clause-empty : goal.returns-in-Err-clause-empty
+returns-in-Err-clause-empty g c = c.in-Err.ensures.empty
+
+pub returns-in-Err-clause-empty_unchanged : goal.returns-in-Err-clause-empty_unchanged
+returns-in-Err-clause-empty_unchanged g c = rw (← c.self.view_is) c.update.ensures.empty_unchanged
+
+pub invariant_of-self : goal.invariant_of-self
+invariant_of-self g c = rw c.in-Err.ensures.refused c.self.invariant
