@@ -1,12 +1,9 @@
-use crate::support::{InVector, NumberItem, closed, half_open, new_map, range_count};
+use crate::support::{NumberItem, Table, check, closed, half_open, new_map, range_count};
 use range_map::map::{MapError, RangeMap};
 use range_sets::command::{Command, Reply, answer, run};
-use range_store::vec_storage::VecStorage;
-use std::alloc::Global;
-use std::process::Abort;
+use range_store::storage::Storage;
+use std::alloc::{AllocError, Global};
 use std::test::Fail;
-
-type NumberMap = RangeMap<i32, i64, VecStorage<NumberItem>>;
 
 type NumberCommand = Command<i32, i64, i64>;
 
@@ -21,114 +18,143 @@ fn filled(tag: &i64, old: Option<&i64>) -> Result<Option<i64>, u8> {
     }
 }
 
-fn reply(map: &mut NumberMap, command: NumberCommand) -> NumberReply {
+fn reply<C: Storage<NumberItem>>(
+    map: &mut RangeMap<i32, i64, C>,
+    command: NumberCommand,
+) -> NumberReply {
     answer(map, command, &filled)
 }
 
-fn replies(
+fn replies<C: Storage<NumberItem>>(
     alloc: Global,
-    map: &mut NumberMap,
+    map: &mut RangeMap<i32, i64, C>,
     commands: Vec<NumberCommand>,
 ) -> Result<Vec<NumberReply>, MapError> {
     run(alloc, map, commands, &filled)
 }
 
-/// Gives the commands to the map, and compares the replies.
-fn check<R: Abort>(
-    rt: &R,
-    alloc: Global,
-    map: &mut NumberMap,
-    commands: Vec<NumberCommand>,
-    expected: &[NumberReply],
-) -> Result<(), MapError> {
-    let given = replies(alloc, map, commands)?;
-    assert_eq!(rt; given.as_slice(), expected);
-    Ok(())
+fn copy_of(command: &NumberCommand) -> NumberCommand {
+    match command {
+        Command::Insert(range, value) => Command::Insert(*range, *value),
+        Command::InsertDisconnected(range, value) => Command::InsertDisconnected(*range, *value),
+        Command::Remove(range) => Command::Remove(*range),
+        Command::Update(range, tag) => Command::Update(*range, *tag),
+        Command::Get(key) => Command::Get(*key),
+        Command::Contains(key) => Command::Contains(*key),
+        Command::Intersects(range) => Command::Intersects(*range),
+        Command::Count => Command::Count,
+    }
+}
+
+/// A command, and its reply.
+type Row = (NumberCommand, NumberReply);
+
+fn commands_of(alloc: Global, rows: &[Row]) -> Result<Vec<NumberCommand>, AllocError> {
+    let mut commands = Vec::new(alloc);
+    for (command, _) in rows {
+        commands.push(copy_of(command))?;
+    }
+    Ok(commands)
+}
+
+/// The index of the first row that has another reply, or the number of the replies where it is
+/// not that of the rows.
+fn first_other(rows: &[Row], replies: &[NumberReply]) -> Option<usize> {
+    if replies.len() != rows.len() {
+        return Some(replies.len());
+    }
+    for (index, ((_, expected), given)) in rows.iter().zip(replies).enumerate() {
+        if expected != given {
+            return Some(index);
+        }
+    }
+    None
+}
+
+/// The index of the first command to which another reply is given, each by itself.
+fn first_answered_otherwise<C: Storage<NumberItem>>(alloc: Global, rows: &[Row]) -> Option<usize> {
+    let mut map = new_map::<C>(alloc);
+    for (index, (command, expected)) in rows.iter().enumerate() {
+        if reply(&mut map, copy_of(command)) != *expected {
+            return Some(index);
+        }
+    }
+    None
+}
+
+/// Commands that a new map gets as one list, and another map one by one.
+#[derive(Clone, Copy)]
+struct Rows<'a>(&'a [Row]);
+
+impl<'a> Table<NumberItem> for Rows<'a> {
+    fn first_wrong<C: Storage<NumberItem>>(
+        &self,
+        alloc: Global,
+    ) -> Result<Option<usize>, MapError> {
+        let mut map = new_map::<C>(alloc);
+        let given = replies(alloc, &mut map, commands_of(alloc, self.0)?)?;
+        let other = first_other(self.0, given.as_slice());
+        Ok(other.or(first_answered_otherwise::<C>(alloc, self.0)))
+    }
 }
 
 #[test]
 fn a_run_answers_each_command(rt: HostRuntime) -> Result<(), Fail> {
-    let mut map = new_map::<InVector>(rt.alloc());
-    let commands = vec![in rt.alloc();
-        Command::Insert(closed(0, 5), 1),
-        Command::Insert(closed(4, 4), 0),
-        Command::Remove(closed(1, 1)),
-        Command::Count,
-        Command::Get(4),
-        Command::Get(1),
-    ]?;
-    let expected = [
-        Reply::Done,
-        Reply::Done,
-        Reply::Done,
-        Reply::Count(4),
-        Reply::Value(Some(0)),
-        Reply::Value(None),
+    let rows = [
+        (Command::Insert(closed(0, 5), 1), Reply::Done),
+        (Command::Insert(closed(4, 4), 0), Reply::Done),
+        (Command::Remove(closed(1, 1)), Reply::Done),
+        (Command::Count, Reply::Count(4)),
+        (Command::Get(4), Reply::Value(Some(0))),
+        (Command::Get(1), Reply::Value(None)),
+        (Command::Get(5), Reply::Value(Some(1))),
     ];
-    check(&rt, rt.alloc(), &mut map, commands, &expected)?;
-    assert!(rt; reply(&mut map, Command::Get(5)) == Reply::Value(Some(1)));
-    Ok(())
+    check(&rt, rt.alloc(), &Rows(&rows))
 }
 
 #[test]
 fn a_run_tells_what_is_in_the_way(rt: HostRuntime) -> Result<(), Fail> {
-    let mut map = new_map::<InVector>(rt.alloc());
-    let commands = vec![in rt.alloc();
-        Command::InsertDisconnected(half_open(0, 10), 1),
-        Command::InsertDisconnected(half_open(10, 20), 2),
-        Command::InsertDisconnected(half_open(5, 5), 2),
-        Command::InsertDisconnected(half_open(11, 20), 2),
-        Command::Count,
-        Command::Contains(10),
-        Command::Contains(11),
-        Command::Intersects(half_open(10, 11)),
-        Command::Intersects(half_open(10, 12)),
-        Command::Intersects(half_open(12, 10)),
-    ]?;
-    let expected = [
-        Reply::Done,
-        Reply::Connected(half_open(10, 20), 2),
-        Reply::Done,
-        Reply::Done,
-        Reply::Count(2),
-        Reply::Truth(false),
-        Reply::Truth(true),
-        Reply::Truth(false),
-        Reply::Truth(true),
-        Reply::Truth(false),
+    let rows = [
+        (
+            Command::InsertDisconnected(half_open(0, 10), 1),
+            Reply::Done,
+        ),
+        (
+            Command::InsertDisconnected(half_open(10, 20), 2),
+            Reply::Connected(half_open(10, 20), 2),
+        ),
+        (Command::InsertDisconnected(half_open(5, 5), 2), Reply::Done),
+        (
+            Command::InsertDisconnected(half_open(11, 20), 2),
+            Reply::Done,
+        ),
+        (Command::Count, Reply::Count(2)),
+        (Command::Contains(10), Reply::Truth(false)),
+        (Command::Contains(11), Reply::Truth(true)),
+        (Command::Intersects(half_open(10, 11)), Reply::Truth(false)),
+        (Command::Intersects(half_open(10, 12)), Reply::Truth(true)),
+        (Command::Intersects(half_open(12, 10)), Reply::Truth(false)),
     ];
-    check(&rt, rt.alloc(), &mut map, commands, &expected)?;
-    Ok(())
+    check(&rt, rt.alloc(), &Rows(&rows))
 }
 
 #[test]
 fn updates_are_told_apart_by_their_tags(rt: HostRuntime) -> Result<(), Fail> {
-    let mut map = new_map::<InVector>(rt.alloc());
-    let commands = vec![in rt.alloc();
-        Command::Insert(half_open(0, 5), 1),
-        Command::Update(half_open(0, 10), 1),
-        Command::Count,
-        Command::Update(half_open(0, 10), 9),
-        Command::Get(4),
-        Command::Get(7),
-        Command::Count,
-    ]?;
-    let expected = [
-        Reply::Done,
-        Reply::Closure(7),
-        Reply::Count(1),
-        Reply::Done,
-        Reply::Value(Some(1)),
-        Reply::Value(Some(9)),
-        Reply::Count(2),
+    let rows = [
+        (Command::Insert(half_open(0, 5), 1), Reply::Done),
+        (Command::Update(half_open(0, 10), 1), Reply::Closure(7)),
+        (Command::Count, Reply::Count(1)),
+        (Command::Update(half_open(0, 10), 9), Reply::Done),
+        (Command::Get(4), Reply::Value(Some(1))),
+        (Command::Get(7), Reply::Value(Some(9))),
+        (Command::Count, Reply::Count(2)),
     ];
-    check(&rt, rt.alloc(), &mut map, commands, &expected)?;
-    Ok(())
+    check(&rt, rt.alloc(), &Rows(&rows))
 }
 
 /// Whether a command is done on a new map, or else an allocation fails and nothing is changed.
-fn is_done_or_refused(alloc: Global) -> bool {
-    let mut map = new_map::<InVector>(alloc);
+fn is_done_or_refused<C: Storage<NumberItem>>(alloc: Global) -> bool {
+    let mut map = new_map::<C>(alloc);
     let given = reply(&mut map, Command::InsertDisconnected(half_open(0, 10), 1));
     let bound = given == Reply::Done;
     (bound || given == Reply::Memory)
@@ -136,7 +162,23 @@ fn is_done_or_refused(alloc: Global) -> bool {
         && reply(&mut map, Command::Contains(5)) == Reply::Truth(bound)
 }
 
+/// A command to a new map, where an allocation may fail.
+struct Refusal;
+
+impl Table<NumberItem> for Refusal {
+    fn first_wrong<C: Storage<NumberItem>>(
+        &self,
+        alloc: Global,
+    ) -> Result<Option<usize>, MapError> {
+        Ok(if is_done_or_refused::<C>(alloc) {
+            None
+        } else {
+            Some(0)
+        })
+    }
+}
+
 #[test]
-fn a_refused_command_changes_nothing(rt: HostRuntime) {
-    assert!(rt; is_done_or_refused(rt.alloc()));
+fn a_refused_command_changes_nothing(rt: HostRuntime) -> Result<(), Fail> {
+    check(&rt, rt.alloc(), &Refusal)
 }

@@ -1,5 +1,6 @@
 use crate::support::{
-    InTree, InVector, NumberItem, Range, between, closed, half_open, insert, new_map, remove,
+    NumberItem, PairTable, Range, between, closed, find_over_pair, half_open, insert, new_map,
+    remove,
 };
 use range_algebra::any::AnyRange;
 use range_keys::traits::PartialEnum;
@@ -94,25 +95,51 @@ fn are_ordered_within<C: Storage<NumberItem>>(
 type Ranked<'a> = (u8, &'a [Call]);
 
 /// Whether the maps compare by their ranks, over each two containers.
-fn compare_by_rank(alloc: Global, left: Ranked<'_>, right: Ranked<'_>) -> Result<bool, MapError> {
+fn compare_by_rank<C: Storage<NumberItem>, D: Storage<NumberItem>>(
+    alloc: Global,
+    left: Ranked<'_>,
+    right: Ranked<'_>,
+) -> Result<bool, MapError> {
     let order = left.0.cmp(&right.0);
     Ok(
-        are_ordered_within::<InVector>(alloc, left.1, right.1, order)?
-            && are_ordered_within::<InTree>(alloc, left.1, right.1, order)?
-            && are_ordered::<InVector, InTree>(alloc, left.1, right.1, order)?,
+        are_ordered_within::<C>(alloc, left.1, right.1, order)?
+            && are_ordered_within::<D>(alloc, left.1, right.1, order)?
+            && are_ordered::<C, D>(alloc, left.1, right.1, order)?,
     )
 }
 
-/// The first two maps that do not compare by their ranks.
-fn first_wrong(alloc: Global, maps: &[Ranked<'_>]) -> Result<Option<(usize, usize)>, MapError> {
-    for (first, left) in maps.iter().enumerate() {
-        for (second, right) in maps.iter().enumerate() {
-            if !compare_by_rank(alloc, *left, *right)? {
-                return Ok(Some((first, second)));
-            }
+/// The first map that does not compare with the left one by their ranks.
+fn first_unlike<C: Storage<NumberItem>, D: Storage<NumberItem>>(
+    alloc: Global,
+    left: Ranked<'_>,
+    maps: &[Ranked<'_>],
+) -> Result<Option<usize>, MapError> {
+    for (index, right) in maps.iter().enumerate() {
+        if !compare_by_rank::<C, D>(alloc, left, *right)? {
+            return Ok(Some(index));
         }
     }
     Ok(None)
+}
+
+/// Maps that compare by their ranks.
+#[derive(Clone, Copy)]
+struct Ranking<'a>(&'a [Ranked<'a>]);
+
+impl<'a> PairTable<NumberItem> for Ranking<'a> {
+    type Found = Option<(usize, usize)>;
+
+    fn find<C: Storage<NumberItem>, D: Storage<NumberItem>>(
+        &self,
+        alloc: Global,
+    ) -> Result<Option<(usize, usize)>, MapError> {
+        for (first, left) in self.0.iter().enumerate() {
+            if let Some(second) = first_unlike::<C, D>(alloc, *left, self.0)? {
+                return Ok(Some((first, second)));
+            }
+        }
+        Ok(None)
+    }
 }
 
 /// Maps are in dictionary order, and those of one rank bind alike.
@@ -139,6 +166,7 @@ fn maps_compare_by_what_they_bind(rt: HostRuntime) -> Result<(), Fail> {
         (6, &[(half_open(0, 10), Some(2))]),
         (7, &[(half_open(1, 2), Some(0))]),
     ];
-    assert_eq!(rt; first_wrong(rt.alloc(), &maps)?, None, "two of the maps");
+    let unlike = find_over_pair(rt.alloc(), &Ranking(&maps))?;
+    assert_eq!(rt; unlike, None, "two of the maps");
     Ok(())
 }

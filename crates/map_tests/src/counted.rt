@@ -1,11 +1,15 @@
 //! How many steps counted calls take.
 
-use crate::support::{InTree, InVector, NumberItem, Range, closed, half_open};
+use crate::support::{
+    InTree, NumberItem, Range, Table, check_over_vector, closed, half_open, new_map,
+};
 use range_map::map::{MapError, RangeMap};
 use range_sets::command::{Command, Reply, run_counted};
 use range_store::storage::{Steps, Storage};
 use std::alloc::{AllocError, Global};
 use std::test::Fail;
+
+type TreeMap = RangeMap<i32, i64, InTree>;
 
 /// A key alone, apart from those of the numbers beside it.
 fn single(number: u8) -> Range {
@@ -31,6 +35,8 @@ enum Step {
     Count(usize),
     /// The tree has so many levels.
     Levels(usize),
+    /// So many counted commands to the tree are done, and take so many steps at least and at most.
+    Run(usize, u64, u64),
 }
 
 fn insert_singles<C: Storage<NumberItem>>(
@@ -138,18 +144,56 @@ fn holds<C: Storage<NumberItem>>(
         Step::Remove(range, most) => return removes(map, range, most),
         Step::LookUps(least, most) => return Ok(looks_up(map, least, most)),
         Step::Count(count) => return Ok(map.range_count() == count),
-        Step::Levels(_) => (),
+        Step::Levels(_) | Step::Run(_, _, _) => (),
     }
     Ok(true)
+}
+
+/// The insertions of 64 single keys, and one over all of them.
+fn insertions(alloc: Global) -> Result<Vec<Command<i32, i64, u8>>, AllocError> {
+    let mut commands = Vec::new(alloc);
+    for number in 0..64u8 {
+        commands.push(Command::Insert(single(number), i64::from(number)))?;
+    }
+    commands.push(Command::Insert(closed(0, 126), 1))?;
+    Ok(commands)
+}
+
+/// The closure of commands that ask none.
+fn unasked(_tag: &u8, _old: Option<&i64>) -> Result<Option<i64>, u8> {
+    Ok(None)
+}
+
+fn are_done(replies: &[Reply<i32, i64, u8>]) -> bool {
+    for reply in replies {
+        let Reply::Done = reply else {
+            return false;
+        };
+    }
+    true
+}
+
+/// Whether each of so many commands is done, in so many steps.
+fn does_all(
+    alloc: Global,
+    map: &mut TreeMap,
+    number: usize,
+    least: u64,
+    most: u64,
+) -> Result<bool, MapError> {
+    let mut steps = Steps::new();
+    let replies = run_counted(alloc, map, insertions(alloc)?, &unasked, &mut steps)?;
+    Ok(replies.len() == number && are_done(&replies) && is_within(&steps, least, most))
 }
 
 /// Takes the steps in turn on a new map in a tree. Returns the index of the first that does not
 /// hold.
 fn first_wrong_in_tree(alloc: Global, steps: &[Step]) -> Result<Option<usize>, MapError> {
-    let mut map: RangeMap<i32, i64, InTree> = RangeMap::new(alloc);
+    let mut map: TreeMap = new_map(alloc);
     for (place, step) in steps.iter().enumerate() {
         let expected = match step {
             Step::Levels(levels) => map.levels() == *levels,
+            Step::Run(number, least, most) => does_all(alloc, &mut map, *number, *least, *most)?,
             other => holds(&mut map, *other)?,
         };
         if !expected {
@@ -159,15 +203,23 @@ fn first_wrong_in_tree(alloc: Global, steps: &[Step]) -> Result<Option<usize>, M
     Ok(None)
 }
 
-/// The same in a vector, of which no level is asked.
-fn first_wrong_in_vector(alloc: Global, steps: &[Step]) -> Result<Option<usize>, MapError> {
-    let mut map: RangeMap<i32, i64, InVector> = RangeMap::new(alloc);
-    for (place, step) in steps.iter().enumerate() {
-        if !holds(&mut map, *step)? {
-            return Ok(Some(place));
+/// Steps that ask nothing of a tree alone.
+#[derive(Clone, Copy)]
+struct Calls<'a>(&'a [Step]);
+
+impl<'a> Table<NumberItem> for Calls<'a> {
+    fn first_wrong<C: Storage<NumberItem>>(
+        &self,
+        alloc: Global,
+    ) -> Result<Option<usize>, MapError> {
+        let mut map = new_map::<C>(alloc);
+        for (place, step) in self.0.iter().enumerate() {
+            if !holds(&mut map, *step)? {
+                return Ok(Some(place));
+            }
         }
+        Ok(None)
     }
-    Ok(None)
 }
 
 #[test]
@@ -236,51 +288,12 @@ fn counted_calls_answer_over_a_vector(rt: HostRuntime) -> Result<(), Fail> {
         Step::Remove(half_open(8, 3), 0),
         Step::Count(2),
     ];
-    assert_eq!(rt; first_wrong_in_vector(rt.alloc(), &steps)?, None);
-    Ok(())
-}
-
-/// The insertions of 64 single keys, and one over all of them.
-fn insertions(alloc: Global) -> Result<Vec<Command<i32, i64, u8>>, AllocError> {
-    let mut commands = Vec::new(alloc);
-    for number in 0..64u8 {
-        commands.push(Command::Insert(single(number), i64::from(number)))?;
-    }
-    commands.push(Command::Insert(closed(0, 126), 1))?;
-    Ok(commands)
-}
-
-/// The closure of commands that ask none.
-fn unasked(_tag: &u8, _old: Option<&i64>) -> Result<Option<i64>, u8> {
-    Ok(None)
-}
-
-fn are_done(replies: &[Reply<i32, i64, u8>]) -> bool {
-    for reply in replies {
-        let Reply::Done = reply else {
-            return false;
-        };
-    }
-    true
-}
-
-/// Whether each of so many commands is done.
-fn does_all(
-    alloc: Global,
-    map: &mut RangeMap<i32, i64, InTree>,
-    steps: &mut Steps,
-    number: usize,
-) -> Result<bool, MapError> {
-    let replies = run_counted(alloc, map, insertions(alloc)?, &unasked, steps)?;
-    Ok(replies.len() == number && are_done(&replies))
+    check_over_vector(&rt, rt.alloc(), &Calls(&steps))
 }
 
 #[test]
 fn a_list_of_commands_takes_few_steps(rt: HostRuntime) -> Result<(), Fail> {
-    let mut map: RangeMap<i32, i64, InTree> = RangeMap::new(rt.alloc());
-    let mut steps = Steps::new();
-    assert!(rt; does_all(rt.alloc(), &mut map, &mut steps, 65)?);
-    assert_eq!(rt; map.range_count(), 1);
-    assert!(rt; is_within(&steps, 64, 2210));
+    let steps = [Step::Run(65, 64, 2210), Step::Count(1)];
+    assert_eq!(rt; first_wrong_in_tree(rt.alloc(), &steps)?, None);
     Ok(())
 }

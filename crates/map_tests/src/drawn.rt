@@ -1,12 +1,11 @@
 //! Maps after many drawn calls, held against a scan of what they store.
 
 use crate::comparing::order_of;
+use crate::support::{PairTable, Table, check_over_vector, find_over_pair};
 use range_algebra::any::AnyRange;
 use range_map::inner::scan::find;
 use range_map::map::{MapError, RangeMap};
-use range_store::btree::BoxStorage;
 use range_store::storage::{Item, Storage};
-use range_store::vec_storage::VecStorage;
 use std::alloc::{AllocError, Global};
 use std::cmp::Ordering;
 use std::ops::Bound::{Excluded, Included, Unbounded};
@@ -85,22 +84,25 @@ fn take<C: Storage<ByteItem>>(
     Ok(binds(map, &items, bound))
 }
 
-/// The first step after which the map or a scan does not find what the last calls say.
-fn first_wrong<C: Storage<ByteItem>>(alloc: Global) -> Result<Option<u8>, MapError> {
-    let mut map = new_map::<C>(alloc);
-    let mut bound = [None; 8];
-    for step in 0..200u8 {
-        if !take(alloc, &mut map, &mut bound, step)? {
-            return Ok(Some(step));
+/// Calls after each of which the map and a scan find what the last calls say.
+struct Drawn;
+
+impl Table<ByteItem> for Drawn {
+    fn first_wrong<C: Storage<ByteItem>>(&self, alloc: Global) -> Result<Option<usize>, MapError> {
+        let mut map = new_map::<C>(alloc);
+        let mut bound = [None; 8];
+        for step in 0..200u8 {
+            if !take(alloc, &mut map, &mut bound, step)? {
+                return Ok(Some(step as usize));
+            }
         }
+        Ok(None)
     }
-    Ok(None)
 }
 
 #[test]
 fn many_calls_bind_what_the_last_one_says(rt: HostRuntime) -> Result<(), Fail> {
-    assert_eq!(rt; first_wrong::<VecStorage<ByteItem>>(rt.alloc())?, None);
-    Ok(())
+    check_over_vector(&rt, rt.alloc(), &Drawn)
 }
 
 /// The keys from the first to the last, written in one of four ways.
@@ -192,17 +194,25 @@ fn count_alike<C: Storage<ByteItem>, D: Storage<ByteItem>>(
     Ok(Ok(equal))
 }
 
-fn count_alike_from_new<C: Storage<ByteItem>, D: Storage<ByteItem>>(
-    alloc: Global,
-) -> Result<Result<u32, u32>, MapError> {
-    let mut left = new_map::<C>(alloc);
-    let mut right = new_map::<D>(alloc);
-    count_alike(alloc, &mut left, &mut right)
+/// Maps that are equal just where a scan finds the same.
+struct Alike;
+
+impl PairTable<ByteItem> for Alike {
+    type Found = Result<u32, u32>;
+
+    fn find<C: Storage<ByteItem>, D: Storage<ByteItem>>(
+        &self,
+        alloc: Global,
+    ) -> Result<Result<u32, u32>, MapError> {
+        let mut left = new_map::<C>(alloc);
+        let mut right = new_map::<D>(alloc);
+        count_alike(alloc, &mut left, &mut right)
+    }
 }
 
 #[test]
 fn many_maps_are_equal_where_a_scan_finds_the_same(rt: HostRuntime) -> Result<(), Fail> {
-    let found = count_alike_from_new::<VecStorage<ByteItem>, BoxStorage<ByteItem>>(rt.alloc())?;
+    let found = find_over_pair(rt.alloc(), &Alike)?;
     assert!(rt;
         matches!(found, Ok(6..=294)),
         "of 300 were equal: {found:?}"

@@ -1,17 +1,15 @@
 use crate::support::{
-    InTree, InVector, NumberItem, Range, Row, between, closed, insert, is_empty, new_map,
-    range_count, value_at,
+    InTree, NumberItem, Range, Row, Table, between, check, closed, first_false, insert, is_empty,
+    new_map, range_count, value_at,
 };
 use range_algebra::any::AnyRange;
 use range_keys::traits::Measure;
 use range_map::map::{Gaps, Iter, MapError, RangeMap};
-use range_store::btree::BoxStorage;
 use range_store::storage::{Item, Storage};
-use range_store::vec_storage::VecStorage;
 use std::alloc::{AllocError, Global};
 use std::ops::Bound;
 use std::ops::Bound::{Excluded, Included, Unbounded};
-use std::process::Abort;
+use std::test::Fail;
 
 /// The map of `0..=5` bound to 1 and then `4` to 0.
 fn nested<C: Storage<NumberItem>>(alloc: Global) -> Result<RangeMap<i32, i64, C>, MapError> {
@@ -61,16 +59,13 @@ fn first_other<C: Storage<NumberItem>>(
     None
 }
 
-fn iterates_from_both_ends<C: Storage<NumberItem>, R: Abort>(
-    rt: &R,
+/// Whether an iterator over the nested map, and a clone of it, give what they should.
+fn iterates_from_both_ends<C: Storage<NumberItem>>(
     map: &RangeMap<i32, i64, C>,
-) -> Result<(), AllocError> {
+) -> Result<bool, AllocError> {
     let mut iter = map.iter();
-    assert_eq!(rt; iter.len(), 3);
-    assert_eq!(rt;
-        first_other(&mut iter, &[(Side::Front, Some((0, 3, 1)))]),
-        None
-    );
+    let whole = iter.len();
+    let first = first_other(&mut iter, &[(Side::Front, Some((0, 3, 1)))]);
     let mut copy = iter.clone()?;
     let rows = [
         (Side::Back, Some((5, 5, 1))),
@@ -80,15 +75,15 @@ fn iterates_from_both_ends<C: Storage<NumberItem>, R: Abort>(
         (Side::Back, None),
         (Side::Front, None),
     ];
-    assert_eq!(rt; first_other(&mut iter, &rows), None);
-    assert_eq!(rt; copy.len(), 2);
+    let then = first_other(&mut iter, &rows);
+    let left = copy.len();
     let rows = [
         (Side::Front, Some((4, 4, 0))),
         (Side::Front, Some((5, 5, 1))),
         (Side::Front, None),
     ];
-    assert_eq!(rt; first_other(&mut copy, &rows), None);
-    Ok(())
+    let copied = first_other(&mut copy, &rows);
+    Ok((whole, left) == (3, 2) && (first, then, copied) == (None, None, None))
 }
 
 fn loops_forward<C: Storage<NumberItem>>(map: &RangeMap<i32, i64, C>, rows: &[Row]) -> bool {
@@ -124,24 +119,22 @@ fn gap_count<C: Storage<NumberItem>>(map: &RangeMap<i32, i64, C>) -> Option<u64>
     Some(count)
 }
 
-fn loops<C: Storage<NumberItem>, R: Abort>(rt: &R, map: &RangeMap<i32, i64, C>) {
-    let rows = [(0, 3, 1), (4, 4, 0), (5, 5, 1)];
-    assert!(rt; loops_forward(map, &rows));
-    assert!(rt; gap_count(map) == Some(2));
-}
+/// What iterators over the nested map give.
+struct BothEnds;
 
-fn ranges<C: Storage<NumberItem>, R: Abort>(rt: &R, alloc: Global) -> Result<(), MapError> {
-    let map: RangeMap<i32, i64, C> = nested(alloc)?;
-    loops(rt, &map);
-    iterates_from_both_ends(rt, &map)?;
-    Ok(())
-}
-
-fn ranges_from_the_back<R: Abort>(rt: &R, alloc: Global) -> Result<(), MapError> {
-    let map: RangeMap<i32, i64, InTree> = nested(alloc)?;
-    let rows = [(0, 3, 1), (4, 4, 0), (5, 5, 1)];
-    assert!(rt; loops_back(&map, &rows));
-    Ok(())
+impl Table<NumberItem> for BothEnds {
+    fn first_wrong<C: Storage<NumberItem>>(
+        &self,
+        alloc: Global,
+    ) -> Result<Option<usize>, MapError> {
+        let map = nested::<C>(alloc)?;
+        let rows = [(0, 3, 1), (4, 4, 0), (5, 5, 1)];
+        Ok(first_false(&[
+            loops_forward(&map, &rows),
+            gap_count(&map) == Some(2),
+            iterates_from_both_ends(&map)?,
+        ]))
+    }
 }
 
 /// The next gap, over keys of its own.
@@ -209,8 +202,117 @@ fn is_so<C: Storage<ByteItem>>(
     Ok(has_gaps(&map, gaps)? && measures(&map, len))
 }
 
+/// Maps of bytes.
+#[derive(Clone, Copy)]
+struct Maps<'a>(&'a [Bytes<'a>]);
+
+impl<'a> Table<ByteItem> for Maps<'a> {
+    fn first_wrong<C: Storage<ByteItem>>(&self, alloc: Global) -> Result<Option<usize>, MapError> {
+        for (place, case) in self.0.iter().enumerate() {
+            if !is_so::<C>(alloc, *case)? {
+                return Ok(Some(place));
+            }
+        }
+        Ok(None)
+    }
+}
+
+/// The full range over the widest keys.
+struct Widest;
+
+impl Table<Item<AnyRange<u64>, i64>> for Widest {
+    fn first_wrong<C: Storage<Item<AnyRange<u64>, i64>>>(
+        &self,
+        alloc: Global,
+    ) -> Result<Option<usize>, MapError> {
+        let mut map: RangeMap<u64, i64, C> = RangeMap::new(alloc);
+        map.insert(AnyRange::new(Unbounded, Unbounded), 1)?;
+        Ok(first_false(&[map.len() == 18_446_744_073_709_551_616]))
+    }
+}
+
+/// The gap that one key leaves over `u32`, in a map of no values.
+fn gap_beside_zero<C: Storage<Item<AnyRange<u32>, ()>>>(
+    alloc: Global,
+) -> Result<Option<AnyRange<u32>>, MapError> {
+    let mut map: RangeMap<u32, (), C> = RangeMap::new(alloc);
+    map.insert(AnyRange::new(Included(0), Included(0)), ())?;
+    Ok(only_gap(&map)?)
+}
+
+fn is_all_but_zero(gap: &AnyRange<u32>) -> Result<[bool; 4], AllocError> {
+    Ok([
+        *gap == AnyRange::new(Included(1), Unbounded),
+        *gap == AnyRange::new(Excluded(0), Unbounded),
+        gap.first()? == Some(1),
+        gap.len() == 4_294_967_295,
+    ])
+}
+
+/// The keys behind the first one, as a gap.
+struct Behind;
+
+impl Table<Item<AnyRange<u32>, ()>> for Behind {
+    fn first_wrong<C: Storage<Item<AnyRange<u32>, ()>>>(
+        &self,
+        alloc: Global,
+    ) -> Result<Option<usize>, MapError> {
+        Ok(match gap_beside_zero::<C>(alloc)? {
+            None => Some(4),
+            Some(gap) => first_false(&is_all_but_zero(&gap)?),
+        })
+    }
+}
+
+/// A map that `default` makes, which binds nothing.
+struct Free;
+
+impl Table<NumberItem> for Free {
+    fn first_wrong<C: Storage<NumberItem>>(
+        &self,
+        alloc: Global,
+    ) -> Result<Option<usize>, MapError> {
+        let map: RangeMap<i32, i64, C> = RangeMap::default(alloc);
+        Ok(first_false(&[
+            only_gap(&map)? == Some(between(Unbounded, Unbounded)),
+            is_empty(&map),
+            range_count(&map) == 0,
+            map.len() == 0,
+            value_at(&map, 0) == None,
+        ]))
+    }
+}
+
+#[test]
+fn iterators_give_each_range_from_both_ends(rt: HostRuntime) -> Result<(), Fail> {
+    check(&rt, rt.alloc(), &BothEnds)
+}
+
+#[test]
+fn a_loop_from_the_back(rt: HostRuntime) -> Result<(), MapError> {
+    let map: RangeMap<i32, i64, InTree> = nested(rt.alloc())?;
+    assert!(rt; loops_back(&map, &[(0, 3, 1), (4, 4, 0), (5, 5, 1)]));
+    Ok(())
+}
+
+#[test]
+fn a_default_map_binds_nothing(rt: HostRuntime) -> Result<(), Fail> {
+    check(&rt, rt.alloc(), &Free)
+}
+
+#[test]
+fn the_gap_behind_the_first_key(rt: HostRuntime) -> Result<(), Fail> {
+    check(&rt, rt.alloc(), &Behind)
+}
+
+#[test]
+fn the_widest_range_is_counted(rt: HostRuntime) -> Result<(), Fail> {
+    check(&rt, rt.alloc(), &Widest)
+}
+
 /// Bytes at the edges of their type, and ranges that touch.
-fn bytes<C: Storage<ByteItem>, R: Abort>(rt: &R, alloc: Global) -> Result<(), MapError> {
+#[test]
+fn gaps_and_lengths_of_bytes(rt: HostRuntime) -> Result<(), Fail> {
     let cases: [Bytes<'_>; 9] = [
         (&[], &[(Unbounded, Unbounded)], 0),
         (&[(Unbounded, Unbounded, 1)], &[], 256),
@@ -242,81 +344,5 @@ fn bytes<C: Storage<ByteItem>, R: Abort>(rt: &R, alloc: Global) -> Result<(), Ma
             3,
         ),
     ];
-    for (place, case) in cases.iter().enumerate() {
-        assert!(rt; is_so::<C>(alloc, *case)?, "case {place}");
-    }
-    Ok(())
-}
-
-/// The full range over the widest keys.
-fn longest<C: Storage<Item<AnyRange<u64>, i64>>, R: Abort>(
-    rt: &R,
-    alloc: Global,
-) -> Result<(), MapError> {
-    let mut map: RangeMap<u64, i64, C> = RangeMap::new(alloc);
-    map.insert(AnyRange::new(Unbounded, Unbounded), 1)?;
-    assert_eq!(rt; map.len(), 18_446_744_073_709_551_616);
-    Ok(())
-}
-
-/// The gap that one key leaves over `u32`, in a map of no values.
-fn gap_beside_zero<C: Storage<Item<AnyRange<u32>, ()>>>(
-    alloc: Global,
-) -> Result<Option<AnyRange<u32>>, MapError> {
-    let mut map: RangeMap<u32, (), C> = RangeMap::new(alloc);
-    map.insert(AnyRange::new(Included(0), Included(0)), ())?;
-    Ok(only_gap(&map)?)
-}
-
-fn one_gap<C: Storage<Item<AnyRange<u32>, ()>>, R: Abort>(
-    rt: &R,
-    alloc: Global,
-) -> Result<(), MapError> {
-    match gap_beside_zero::<C>(alloc)? {
-        None => assert!(rt; false, "the gap is missing, or is not alone"),
-        Some(gap) => {
-            assert!(rt; gap == AnyRange::new(Included(1), Unbounded));
-            assert!(rt; gap == AnyRange::new(Excluded(0), Unbounded));
-            assert!(rt; gap.first()? == Some(1));
-            assert_eq!(rt; gap.len(), 4_294_967_295);
-        }
-    }
-    Ok(())
-}
-
-fn binds_nothing<C: Storage<NumberItem>, R: Abort>(
-    rt: &R,
-    map: &RangeMap<i32, i64, C>,
-) -> Result<(), AllocError> {
-    assert!(rt; only_gap(map)? == Some(between(Unbounded, Unbounded)));
-    assert!(rt; is_empty(map));
-    assert_eq!(rt; range_count(map), 0);
-    assert_eq!(rt; map.len(), 0);
-    assert!(rt; value_at(map, 0) == None);
-    Ok(())
-}
-
-fn all_free<C: Storage<NumberItem>, R: Abort>(rt: &R, alloc: Global) -> Result<(), MapError> {
-    let map: RangeMap<i32, i64, C> = RangeMap::default(alloc);
-    binds_nothing(rt, &map)?;
-    Ok(())
-}
-
-#[test]
-fn iterates_over_a_vector(rt: HostRuntime) -> Result<(), MapError> {
-    ranges::<InVector, HostRuntime>(&rt, rt.alloc())?;
-    all_free::<InVector, HostRuntime>(&rt, rt.alloc())?;
-    one_gap::<VecStorage<Item<AnyRange<u32>, ()>>, HostRuntime>(&rt, rt.alloc())?;
-    bytes::<VecStorage<ByteItem>, HostRuntime>(&rt, rt.alloc())?;
-    longest::<VecStorage<Item<AnyRange<u64>, i64>>, HostRuntime>(&rt, rt.alloc())
-}
-
-#[test]
-fn iterates_over_a_tree(rt: HostRuntime) -> Result<(), MapError> {
-    ranges::<InTree, HostRuntime>(&rt, rt.alloc())?;
-    ranges_from_the_back(&rt, rt.alloc())?;
-    all_free::<InTree, HostRuntime>(&rt, rt.alloc())?;
-    one_gap::<BoxStorage<Item<AnyRange<u32>, ()>>, HostRuntime>(&rt, rt.alloc())?;
-    bytes::<BoxStorage<ByteItem>, HostRuntime>(&rt, rt.alloc())?;
-    longest::<BoxStorage<Item<AnyRange<u64>, i64>>, HostRuntime>(&rt, rt.alloc())
+    check(&rt, rt.alloc(), &Maps(&cases))
 }

@@ -6,14 +6,15 @@ ghost use Rattle.range_keys.specs.Counted.{counted_lawful, counted_measure};
 ghost use Rattle.range_keys.specs.Indexed.{indexed_order, indexed_counted};
 ghost use Rattle.map_tests.specs.declared.keys.Seat.{Seat};
 
+use crate::support::{Table, check};
 use range_algebra::any::AnyRange;
 use range_keys::traits::{MaybeBounded, Measure, PartialEnum};
 use range_map::map::{MapError, RangeMap};
-use range_store::storage::Item;
-use range_store::vec_storage::VecStorage;
+use range_store::storage::{Item, Storage};
 use std::alloc::{AllocError, Global};
 use std::ops::Bound;
 use std::ops::Bound::{Excluded, Included};
+use std::test::Fail;
 
 /// A key of which no clone can be made.
 #[derive(PartialEq, Eq, PartialOrd, Ord, Drop, Debug)]
@@ -83,7 +84,7 @@ impl Measure for Seat {
         })) (lit< tt) };
 }
 
-type SeatMap = RangeMap<Seat, i64, VecStorage<Item<AnyRange<Seat>, i64>>>;
+type SeatItem = Item<AnyRange<Seat>, i64>;
 
 /// A call on a map and its answer.
 #[derive(Clone, Copy)]
@@ -95,14 +96,18 @@ enum Call {
     Intersects(u16, u16),
 }
 
-fn bind(map: &mut SeatMap, range: AnyRange<Seat>, value: Option<i64>) -> Result<(), MapError> {
+fn bind<C: Storage<SeatItem>>(
+    map: &mut RangeMap<Seat, i64, C>,
+    range: AnyRange<Seat>,
+    value: Option<i64>,
+) -> Result<(), MapError> {
     match value {
         Some(value) => map.insert(range, value),
         None => map.remove(range),
     }
 }
 
-fn answers_so(map: &mut SeatMap, call: Call) -> bool {
+fn answers_so<C: Storage<SeatItem>>(map: &mut RangeMap<Seat, i64, C>, call: Call) -> bool {
     match call {
         Call::Bind(first, end, value, answer) => {
             let range = AnyRange::new(Included(Seat(first)), end.map(Seat));
@@ -114,19 +119,24 @@ fn answers_so(map: &mut SeatMap, call: Call) -> bool {
     }
 }
 
-/// Makes the calls in turn on a new map. Returns the index of the first that answers otherwise.
-fn first_other(alloc: Global, calls: &[Call]) -> Option<usize> {
-    let mut map: SeatMap = RangeMap::new(alloc);
-    for (place, call) in calls.iter().enumerate() {
-        if !answers_so(&mut map, *call) {
-            return Some(place);
+/// Calls that are made in turn on a new map.
+#[derive(Clone, Copy)]
+struct Calls<'a>(&'a [Call]);
+
+impl<'a> Table<SeatItem> for Calls<'a> {
+    fn first_wrong<C: Storage<SeatItem>>(&self, alloc: Global) -> Result<Option<usize>, MapError> {
+        let mut map: RangeMap<Seat, i64, C> = RangeMap::new(alloc);
+        for (place, call) in self.0.iter().enumerate() {
+            if !answers_so(&mut map, *call) {
+                return Ok(Some(place));
+            }
         }
+        Ok(None)
     }
-    None
 }
 
 #[test]
-fn a_call_that_cuts_nothing_clones_no_key(rt: HostRuntime) {
+fn a_call_that_cuts_nothing_clones_no_key(rt: HostRuntime) -> Result<(), Fail> {
     let calls = [
         Call::Bind(10, Excluded(20), Some(1), Ok(())),
         Call::Bind(30, Excluded(40), Some(2), Ok(())),
@@ -139,11 +149,11 @@ fn a_call_that_cuts_nothing_clones_no_key(rt: HostRuntime) {
         Call::Get(24, Some(3)),
         Call::Count(1),
     ];
-    assert_eq!(rt; first_other(rt.alloc(), &calls), None);
+    check(&rt, rt.alloc(), &Calls(&calls))
 }
 
 #[test]
-fn a_call_that_cuts_clones_the_bound(rt: HostRuntime) {
+fn a_call_that_cuts_clones_the_bound(rt: HostRuntime) -> Result<(), Fail> {
     let calls = [
         Call::Bind(10, Excluded(20), Some(1), Ok(())),
         Call::Bind(5, Excluded(11), None, Err(MapError::Memory)),
@@ -156,5 +166,5 @@ fn a_call_that_cuts_clones_the_bound(rt: HostRuntime) {
         Call::Intersects(10, 11),
         Call::Get(19, Some(1)),
     ];
-    assert_eq!(rt; first_other(rt.alloc(), &calls), None);
+    check(&rt, rt.alloc(), &Calls(&calls))
 }

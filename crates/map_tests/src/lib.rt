@@ -28,4 +28,6 @@ mod tallied;
 #[cfg(test)]
 mod text;
 #[cfg(test)]
+mod uncloned;
+#[cfg(test)]
 mod updates;

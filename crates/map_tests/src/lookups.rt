@@ -1,5 +1,5 @@
 use crate::support::{
-    InVector, NumberItem, Range, Step, closed, first_wrong, half_open, insert_disconnected,
+    NumberItem, Range, Step, Table, check, closed, first_wrong, half_open, insert_disconnected,
     is_empty, new_map, play, range_count,
 };
 use range_algebra::any::AnyRange;
@@ -38,9 +38,25 @@ fn is_bound_or_handed_back<C: Storage<NumberItem>>(alloc: Global) -> bool {
     }
 }
 
+/// An insertion that joins nothing, where an allocation may fail.
+struct Refusal;
+
+impl Table<NumberItem> for Refusal {
+    fn first_wrong<C: Storage<NumberItem>>(
+        &self,
+        alloc: Global,
+    ) -> Result<Option<usize>, MapError> {
+        Ok(if is_bound_or_handed_back::<C>(alloc) {
+            None
+        } else {
+            Some(0)
+        })
+    }
+}
+
 #[test]
-fn a_refusal_for_memory_hands_back(rt: HostRuntime) {
-    assert!(rt; is_bound_or_handed_back::<InVector>(rt.alloc()));
+fn a_refusal_for_memory_hands_back(rt: HostRuntime) -> Result<(), Fail> {
+    check(&rt, rt.alloc(), &Refusal)
 }
 
 #[test]
@@ -61,24 +77,33 @@ fn a_range_intersects_what_it_shares_a_key_with(rt: HostRuntime) -> Result<(), F
     play(&rt, rt.alloc(), &steps)
 }
 
-/// Takes steps on a new map, then others on a clone of it, and then others on the map. Returns the
-/// indices of the first that do not hold.
-fn first_wrong_beside_a_clone<C: Storage<NumberItem>>(
-    alloc: Global,
-    [before, on_the_clone, after]: [&[Step<'_>]; 3],
-) -> Result<[Option<usize>; 3], MapError> {
-    let mut map: RangeMap<i32, i64, C> = new_map(alloc);
-    let before = first_wrong(&mut map, before)?;
-    let on_the_clone = first_wrong_in_clone(&map, on_the_clone)?;
-    Ok([before, on_the_clone, first_wrong(&mut map, after)?])
-}
-
 fn first_wrong_in_clone<C: Storage<NumberItem>>(
     map: &RangeMap<i32, i64, C>,
     steps: &[Step<'_>],
 ) -> Result<Option<usize>, MapError> {
     let mut copy = map.clone()?;
     first_wrong(&mut copy, steps)
+}
+
+/// Steps that are taken on a new map, then others on a clone of it, and then others on the map.
+#[derive(Clone, Copy)]
+struct Cloned<'a> {
+    before: &'a [Step<'a>],
+    on_the_clone: &'a [Step<'a>],
+    after: &'a [Step<'a>],
+}
+
+impl<'a> Table<NumberItem> for Cloned<'a> {
+    fn first_wrong<C: Storage<NumberItem>>(
+        &self,
+        alloc: Global,
+    ) -> Result<Option<usize>, MapError> {
+        let mut map = new_map::<C>(alloc);
+        let before = first_wrong(&mut map, self.before)?;
+        let on_the_clone = first_wrong_in_clone(&map, self.on_the_clone)?;
+        let after = first_wrong(&mut map, self.after)?;
+        Ok(before.or(on_the_clone).or(after))
+    }
 }
 
 #[test]
@@ -97,10 +122,13 @@ fn a_clone_is_equal_and_independent(rt: HostRuntime) -> Result<(), Fail> {
         Step::Remove(half_open(0, 30)),
         Step::Count(0),
     ];
-    let steps: [&[Step<'_>]; 3] = [&before, &on_the_clone, &[Step::Count(2)]];
-    let wrong = first_wrong_beside_a_clone::<InVector>(rt.alloc(), steps)?;
-    assert!(rt; wrong == [None; 3], "{wrong:?}");
-    Ok(())
+    let after = [Step::Count(2)];
+    let cloned = Cloned {
+        before: &before,
+        on_the_clone: &on_the_clone,
+        after: &after,
+    };
+    check(&rt, rt.alloc(), &cloned)
 }
 
 /// An item of one key.

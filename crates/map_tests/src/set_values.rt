@@ -1,17 +1,20 @@
 //! A map whose values are sets, as a lexer keeps its transitions.
+ghost use Rattle.range_algebra.specs.Range.{ClonesAreEqual};
 
 use range_algebra::any::AnyRange;
+use range_algebra::range::IntoRange;
+use range_keys::traits::Measure;
 use range_map::map::{MapError, RangeMap, UpdateError};
 use range_store::btree::BoxStorage;
-use range_store::storage::Item;
+use range_store::storage::{Item, Storage};
 use std::alloc::{AllocError, Global};
 use std::collections::BTreeSet;
-use std::process::Abort;
+use std::ops::RangeInclusive;
 use std::test::Fail;
 
 type Targets = BTreeSet<i32>;
 
-type Transitions = RangeMap<char, Targets, BoxStorage<Item<AnyRange<char>, Targets>>>;
+type Transition<K> = Item<AnyRange<K>, Targets>;
 
 /// The digits that have a set, and its number.
 const DIGITS: [(char, i32); 9] = [
@@ -34,13 +37,25 @@ fn set_of(alloc: Global, numbers: &[i32]) -> Result<Targets, AllocError> {
     Ok(set)
 }
 
-fn bind(map: &mut Transitions, digit: char, targets: Targets) -> Result<(), MapError> {
+fn bind<K: Measure + Copy + IntoRange<Item = K>, C: Storage<Transition<K>>>(
+    map: &mut RangeMap<K, Targets, C>,
+    digit: K,
+    targets: Targets,
+) -> Result<(), MapError>
+    requires { ClonesAreEqual K.is_clone K.eq }
+{
     map.insert(digit, targets)
 }
 
-fn bind_digits(alloc: Global, map: &mut Transitions) -> Result<(), MapError> {
-    for (digit, number) in DIGITS {
-        bind(map, digit, set_of(alloc, &[number])?)?;
+fn bind_digits<K: Measure + Copy + IntoRange<Item = K>, C: Storage<Transition<K>>>(
+    alloc: Global,
+    map: &mut RangeMap<K, Targets, C>,
+    digits: &[(K, i32)],
+) -> Result<(), MapError>
+    requires { ClonesAreEqual K.is_clone K.eq }
+{
+    for (digit, number) in digits {
+        bind(map, *digit, set_of(alloc, &[*number])?)?;
     }
     Ok(())
 }
@@ -55,41 +70,81 @@ fn with_number(alloc: Global, old: Option<&Targets>, number: i32) -> Result<Targ
     Ok(set)
 }
 
-fn add_zero(alloc: Global, map: &mut Transitions) -> Result<(), UpdateError<AllocError>> {
-    map.update('0'..='9', |old| Ok(Some(with_number(alloc, old, 0)?)))
+fn add_zero<K: Measure + Copy, C: Storage<Transition<K>>>(
+    alloc: Global,
+    map: &mut RangeMap<K, Targets, C>,
+    digits: RangeInclusive<K>,
+) -> Result<(), UpdateError<AllocError>>
+    requires { ClonesAreEqual K.is_clone K.eq }
+{
+    map.update(digits, |old| Ok(Some(with_number(alloc, old, 0)?)))
 }
 
-fn is_bound_to(map: &Transitions, key: char, targets: Targets) -> bool {
+fn is_bound_to<K: Measure, C: Storage<Transition<K>>>(
+    map: &RangeMap<K, Targets, C>,
+    key: K,
+    targets: Targets,
+) -> bool {
     map.get(key) == Some(&targets)
 }
 
-/// The first digit but 0 that is not bound to the set of 0 and its number.
-fn first_other(alloc: Global, map: &Transitions) -> Result<Option<char>, AllocError> {
-    for (digit, number) in DIGITS {
-        if !is_bound_to(map, digit, set_of(alloc, &[0, number])?) {
-            return Ok(Some(digit));
+/// Whether each digit is bound to the set of 0 and its number.
+fn are_bound_with_zero<K: Measure + Copy, C: Storage<Transition<K>>>(
+    alloc: Global,
+    map: &RangeMap<K, Targets, C>,
+    digits: &[(K, i32)],
+) -> Result<bool, AllocError> {
+    for (digit, number) in digits {
+        if !is_bound_to(map, *digit, set_of(alloc, &[0, *number])?) {
+            return Ok(false);
         }
     }
-    Ok(None)
+    Ok(true)
 }
 
-fn sizes(map: &Transitions) -> (usize, usize) {
-    (map.range_count(), map.levels())
+fn are_free<K: Measure + Copy, C: Storage<Transition<K>>>(
+    map: &RangeMap<K, Targets, C>,
+    keys: &[K],
+) -> bool {
+    for key in keys {
+        if map.get(*key).is_some() {
+            return false;
+        }
+    }
+    true
 }
 
-fn adds_zero<R: Abort>(rt: &R, alloc: Global, map: &mut Transitions) -> Result<(), Fail> {
-    bind_digits(alloc, map)?;
-    assert_eq!(rt; sizes(map).0, 9);
-    assert!(rt; add_zero(alloc, map).is_ok());
-    assert_eq!(rt; sizes(map), (10, 1));
-    assert!(rt; is_bound_to(map, '0', set_of(alloc, &[0])?));
-    assert_eq!(rt; first_other(alloc, map)?, None);
-    assert!(rt; map.get('/').is_none() && map.get(':').is_none());
-    Ok(())
+/// Binds digits to sets, and adds zero to each set of a range. Returns how many ranges there are
+/// before and then, and whether the map binds what it should.
+fn adds_zero<K: Measure + Copy + IntoRange<Item = K>, C: Storage<Transition<K>>>(
+    alloc: Global,
+    map: &mut RangeMap<K, Targets, C>,
+    digits: &[(K, i32)],
+    range: RangeInclusive<K>,
+    zero: K,
+    outside: &[K],
+) -> Result<([usize; 2], [bool; 4]), MapError>
+    requires { ClonesAreEqual K.is_clone K.eq }
+{
+    bind_digits(alloc, map, digits)?;
+    let before = map.range_count();
+    let done = add_zero(alloc, map, range).is_ok();
+    let bound = [
+        done,
+        is_bound_to(map, zero, set_of(alloc, &[0])?),
+        are_bound_with_zero(alloc, map, digits)?,
+        are_free(map, outside),
+    ];
+    Ok(([before, map.range_count()], bound))
 }
 
 #[test]
 fn a_number_is_added_to_each_set_of_a_range(rt: HostRuntime) -> Result<(), Fail> {
-    let mut map: Transitions = RangeMap::new(rt.alloc());
-    adds_zero(&rt, rt.alloc(), &mut map)
+    let mut map: RangeMap<char, Targets, BoxStorage<Transition<char>>> = RangeMap::new(rt.alloc());
+    let found = adds_zero(rt.alloc(), &mut map, &DIGITS, '0'..='9', '0', &['/', ':'])?;
+    assert!(rt;
+        (found, map.levels()) == (([9, 10], [true; 4]), 1),
+        "{found:?}"
+    );
+    Ok(())
 }

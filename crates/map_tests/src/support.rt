@@ -15,8 +15,6 @@ pub type Range = AnyRange<i32>;
 
 pub type NumberItem = Item<Range, i64>;
 
-pub type InVector = VecStorage<NumberItem>;
-
 pub type InTree = BoxStorage<NumberItem>;
 
 /// A stored range from its first key to its last, and its value.
@@ -201,20 +199,86 @@ pub fn first_wrong<C: Storage<NumberItem>>(
     Ok(None)
 }
 
-/// Takes the steps in turn on a new map.
-fn first_wrong_when_new<C: Storage<NumberItem>>(
+/// What is tried on maps over any container.
+pub trait Table<S> {
+    /// Returns the index of the first row that does not hold.
+    fn first_wrong<C: Storage<S>>(&self, alloc: Global) -> Result<Option<usize>, MapError>;
+}
+
+/// What is tried on two maps over any two containers.
+pub trait PairTable<S> {
+    /// What comes of it.
+    type Found: Drop;
+
+    fn find<C: Storage<S>, D: Storage<S>>(&self, alloc: Global) -> Result<Self::Found, MapError>;
+}
+
+fn first_wrong_over_vector<S: Drop, T: Table<S>>(
     alloc: Global,
-    steps: &[Step<'_>],
+    table: &T,
 ) -> Result<Option<usize>, MapError> {
-    let mut map: RangeMap<i32, i64, C> = new_map(alloc);
-    first_wrong(&mut map, steps)
+    table.first_wrong::<VecStorage<S>>(alloc)
+}
+
+fn first_wrong_over_tree<S: Drop, T: Table<S>>(
+    alloc: Global,
+    table: &T,
+) -> Result<Option<usize>, MapError> {
+    table.first_wrong::<BoxStorage<S>>(alloc)
+}
+
+/// Each row of the table has to hold over a vector.
+pub fn check_over_vector<R: Abort, S: Drop, T: Table<S>>(
+    rt: &R,
+    alloc: Global,
+    table: &T,
+) -> Result<(), Fail> {
+    let wrong = first_wrong_over_vector(alloc, table)?;
+    assert_eq!(rt; wrong, None, "the index of a row, over a vector");
+    Ok(())
+}
+
+/// Each row of the table has to hold over either container.
+pub fn check<R: Abort, S: Drop, T: Table<S>>(rt: &R, alloc: Global, table: &T) -> Result<(), Fail> {
+    check_over_vector(rt, alloc, table)?;
+    let wrong = first_wrong_over_tree(alloc, table)?;
+    assert_eq!(rt; wrong, None, "the index of a row, over a tree");
+    Ok(())
+}
+
+/// What comes of two maps over a vector and a tree.
+pub fn find_over_pair<S: Drop, T: PairTable<S>>(
+    alloc: Global,
+    table: &T,
+) -> Result<T::Found, MapError> {
+    table.find::<VecStorage<S>, BoxStorage<S>>(alloc)
+}
+
+/// The index of the first that is false.
+pub fn first_false(found: &[bool]) -> Option<usize> {
+    for (index, holds) in found.iter().enumerate() {
+        if !*holds {
+            return Some(index);
+        }
+    }
+    None
+}
+
+/// Steps that are taken in turn on a new map.
+#[derive(Clone, Copy)]
+struct Steps<'a>(&'a [Step<'a>]);
+
+impl<'a> Table<NumberItem> for Steps<'a> {
+    fn first_wrong<C: Storage<NumberItem>>(
+        &self,
+        alloc: Global,
+    ) -> Result<Option<usize>, MapError> {
+        let mut map = new_map::<C>(alloc);
+        first_wrong(&mut map, self.0)
+    }
 }
 
 /// Takes the steps in turn on a new map over each container. Each has to hold.
 pub fn play<R: Abort>(rt: &R, alloc: Global, steps: &[Step<'_>]) -> Result<(), Fail> {
-    let wrong = first_wrong_when_new::<InVector>(alloc, steps)?;
-    assert_eq!(rt; wrong, None, "the place of a step, over a vector");
-    let wrong = first_wrong_when_new::<InTree>(alloc, steps)?;
-    assert_eq!(rt; wrong, None, "the place of a step, over a tree");
-    Ok(())
+    check(rt, alloc, &Steps(steps))
 }

@@ -6,12 +6,11 @@ ghost use Rattle.std.specs.Cmp.{int_cmp_total, on_total, eq_by_cmp_equiv, partia
 ghost use Rattle.range_keys.specs.Untold.{untold_order, untold_lawful, untold_measured};
 ghost use Rattle.map_tests.specs.declared.tallied.Tallied.{Tallied};
 
+use crate::support::{Table, check};
 use range_algebra::any::AnyRange;
 use range_keys::traits::{MaybeBounded, Measure, PartialEnum};
 use range_map::map::{MapError, RangeMap};
-use range_store::btree::BoxStorage;
 use range_store::storage::{Item, Steps, Storage};
-use range_store::vec_storage::VecStorage;
 use std::alloc::{AllocError, Global};
 use std::cell::Cell;
 use std::cmp::Ordering;
@@ -127,10 +126,6 @@ impl Measure for Tallied {
 
 /// What a map stores.
 type Entry = Item<AnyRange<Tallied>, i64>;
-
-type VectorMap = RangeMap<Tallied, i64, VecStorage<Entry>>;
-
-type TreeMap = RangeMap<Tallied, i64, BoxStorage<Entry>>;
 
 /// The cell in which keys count their comparisons.
 type Tally = Rc<Cell<u64>>;
@@ -377,13 +372,23 @@ static AMONG_MANY: &[Call] = &[
     Call::Contains(7999, false),
 ];
 
+/// Calls that are made in turn on a map of so many even numbers.
+#[derive(Clone, Copy)]
+struct Calls {
+    count: u16,
+    calls: &'static [Call],
+}
+
+impl Table<Entry> for Calls {
+    fn first_wrong<C: Storage<Entry>>(&self, alloc: Global) -> Result<Option<usize>, MapError> {
+        first_other::<RangeMap<Tallied, i64, C>>(alloc, self.count, self.calls)
+    }
+}
+
 #[test]
 fn each_comparison_of_keys_is_a_step(rt: HostRuntime) -> Result<(), Fail> {
     for (count, calls) in [(40, AMONG_FORTY), (4000, AMONG_MANY)] {
-        let wrong = first_other::<VectorMap>(rt.alloc(), count, calls)?;
-        assert_eq!(rt; wrong, None, "among {count}, over a vector");
-        let wrong = first_other::<TreeMap>(rt.alloc(), count, calls)?;
-        assert_eq!(rt; wrong, None, "among {count}, over a tree");
+        check(&rt, rt.alloc(), &Calls { count, calls })?;
     }
     Ok(())
 }

@@ -1,5 +1,8 @@
-use crate::support::{InTree, Step, between, closed, first_wrong, half_open, new_map};
+use crate::support::{
+    NumberItem, Step, Table, between, check, closed, first_wrong, half_open, new_map,
+};
 use range_map::map::{MapError, RangeMap};
+use range_store::storage::Storage;
 use std::alloc::{AllocError, Global};
 use std::fmt::Debug;
 use std::ops::Bound;
@@ -11,19 +14,32 @@ fn is_shown<T: Debug>(alloc: Global, shown: &T, text: &str) -> Result<bool, Allo
 }
 
 /// Takes the steps. Returns whether each holds and how the map is shown then.
-fn is_shown_after(
+fn is_shown_after<C: Storage<NumberItem>>(
     alloc: Global,
-    map: &mut RangeMap<i32, i64, InTree>,
+    map: &mut RangeMap<i32, i64, C>,
     steps: &[Step<'_>],
     text: &str,
 ) -> Result<bool, MapError> {
     Ok(first_wrong(map, steps)?.is_none() && is_shown(alloc, map, text)?)
 }
 
-/// Takes the steps on a new map.
-fn new_is_shown_after(alloc: Global, steps: &[Step<'_>], text: &str) -> Result<bool, MapError> {
-    let mut map = new_map::<InTree>(alloc);
-    is_shown_after(alloc, &mut map, steps, text)
+/// How a map is shown after steps.
+#[derive(Clone, Copy)]
+struct Shown<'a>(&'a [(&'a [Step<'a>], &'a str)]);
+
+impl<'a> Table<NumberItem> for Shown<'a> {
+    fn first_wrong<C: Storage<NumberItem>>(
+        &self,
+        alloc: Global,
+    ) -> Result<Option<usize>, MapError> {
+        for (index, (steps, text)) in self.0.iter().enumerate() {
+            let mut map = new_map::<C>(alloc);
+            if !is_shown_after(alloc, &mut map, steps, text)? {
+                return Ok(Some(index));
+            }
+        }
+        Ok(None)
+    }
 }
 
 #[test]
@@ -33,10 +49,12 @@ fn a_map_is_shown(rt: HostRuntime) -> Result<(), Fail> {
         Step::Insert(closed(10, 12), 2),
         Step::Remove(half_open(-1, 4)),
     ];
-    assert!(rt; new_is_shown_after(rt.alloc(), &[], "{}")?);
-    assert!(rt; new_is_shown_after(rt.alloc(), &steps[..2], "{0..5=>110..=12=>2}")?);
-    assert!(rt; new_is_shown_after(rt.alloc(), &steps, "{4..5=>110..=12=>2}")?);
-    Ok(())
+    let shown: [(&[Step<'_>], &str); 3] = [
+        (&[], "{}"),
+        (&steps[..2], "{0..5=>110..=12=>2}"),
+        (&steps, "{4..5=>110..=12=>2}"),
+    ];
+    check(&rt, rt.alloc(), &Shown(&shown))
 }
 
 /// Bounds, and how the range from the one to the other is shown.

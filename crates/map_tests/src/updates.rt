@@ -1,13 +1,11 @@
-use crate::calls::{Only, OnlyMap, change, number_at};
 use crate::support::{
-    Answers, InTree, InVector, NumberItem, Range, Row, Step, closed, half_open, insert, new_map,
-    play, range_count, stores, update, value_at,
+    Answers, NumberItem, Row, Step, Table, check, closed, half_open, insert, new_map, play,
+    range_count, stores, update, value_at,
 };
-use range_map::map::{RangeMap, UpdateError};
+use range_map::map::{MapError, RangeMap};
 use range_store::storage::Storage;
 use std::alloc::Global;
 use std::cell::Cell;
-use std::process::Abort;
 use std::test::Fail;
 
 #[test]
@@ -99,66 +97,49 @@ fn an_empty_range_asks_nothing(rt: HostRuntime) -> Result<(), Fail> {
     play(&rt, rt.alloc(), &steps)
 }
 
-/// Updates four ranges that are bound and their gaps, each as a whole or, where an allocation
-/// fails, not at all. Returns the index of the first that is not.
-fn first_torn<C: Storage<NumberItem>>(alloc: Global) -> Option<usize> {
-    let ranges = [(-5, 45), (2, 33), (11, 13), (21, 28)];
-    for (place, (first, end)) in ranges.iter().enumerate() {
-        if !all_or_nothing::<C>(alloc, *first, *end) {
-            return Some(place);
-        }
-    }
-    None
-}
-
-fn all_or_nothing<C: Storage<NumberItem>>(alloc: Global, first: i32, end: i32) -> bool {
+/// Binds what there is memory for, and updates it from one key to before another. Returns whether
+/// all of that is done, or nothing.
+fn all_or_nothing<C: Storage<NumberItem>>(
+    map: &mut RangeMap<i32, i64, C>,
+    first: i32,
+    end: i32,
+) -> bool {
     let rows: &[Row] = &[(0, 4, 1), (10, 14, 2), (15, 19, 3), (30, 39, 4)];
-    let mut map: RangeMap<i32, i64, C> = new_map(alloc);
     for (first, last, value) in rows {
-        let _ = insert(&mut map, closed(*first, *last), *value);
+        let _ = insert(map, closed(*first, *last), *value);
     }
-    if range_count(&map) < 4 {
+    if range_count(map) < 4 {
         return true;
     }
     let seven: Answers<'_> = &[(None, Ok(Some(7)))];
-    match update(&mut map, half_open(first, end), seven, &Cell::new((0, 0))) {
-        Ok(()) => value_at(&map, first).is_some(),
-        Err(_) => stores(&map, rows),
+    match update(map, half_open(first, end), seven, &Cell::new((0, 0))) {
+        Ok(()) => value_at(map, first).is_some(),
+        Err(_) => stores(map, rows),
     }
 }
 
-#[test]
-fn a_refused_update_changes_nothing(rt: HostRuntime) {
-    assert_eq!(rt; first_torn::<InVector>(rt.alloc()), None);
-    assert_eq!(rt; first_torn::<InTree>(rt.alloc()), None);
-}
+/// Ranges of which each is updated as a whole or, where an allocation fails, not at all.
+#[derive(Clone, Copy)]
+struct Untorn<'a>(&'a [(i32, i32)]);
 
-fn update_only(
-    map: &mut OnlyMap,
-    range: Range,
-    value: Option<i64>,
-) -> Result<(), UpdateError<i64>> {
-    map.update(range, |_| Ok(value.map(Only)))
-}
-
-fn clones_only_within<R: Abort>(rt: &R, map: &mut OnlyMap) {
-    assert!(rt; change(map, half_open(0, 20), Some(1)).is_ok());
-    let rows = [
-        (half_open(5, 15), Some(0), Err(UpdateError::Memory), 1),
-        (half_open(5, 15), None, Err(UpdateError::Memory), 1),
-        (half_open(15, 25), Some(0), Ok(()), 2),
-    ];
-    for (place, (range, value, answer, count)) in rows.iter().enumerate() {
-        assert!(rt; update_only(map, *range, *value) == *answer, "row {place}");
-        assert!(rt; map.range_count() == *count, "row {place}");
-        assert!(rt; number_at(map, 7) == Some(1), "row {place}");
+impl<'a> Table<NumberItem> for Untorn<'a> {
+    fn first_wrong<C: Storage<NumberItem>>(
+        &self,
+        alloc: Global,
+    ) -> Result<Option<usize>, MapError> {
+        for (index, (first, end)) in self.0.iter().enumerate() {
+            let mut map = new_map::<C>(alloc);
+            if !all_or_nothing(&mut map, *first, *end) {
+                return Ok(Some(index));
+            }
+        }
+        Ok(None)
     }
-    assert!(rt; number_at(map, 14) == Some(1));
-    assert!(rt; number_at(map, 24) == Some(0));
 }
 
+/// Four ranges of bound pieces and their gaps.
 #[test]
-fn values_are_cloned_only_within_a_stored_range(rt: HostRuntime) {
-    let mut map: OnlyMap = RangeMap::new(rt.alloc());
-    clones_only_within(&rt, &mut map);
+fn a_refused_update_changes_nothing(rt: HostRuntime) -> Result<(), Fail> {
+    let ranges = [(-5, 45), (2, 33), (11, 13), (21, 28)];
+    check(&rt, rt.alloc(), &Untorn(&ranges))
 }

@@ -1,6 +1,6 @@
 //! A tree and a vector that get the same calls.
 
-use crate::calls::{Answer, Call, drain, exchanges, fill, first_difference, moves, play};
+use crate::calls::{Answer, Call, first_difference, play};
 use range_store::btree::BoxStorage;
 use range_store::storage::Storage;
 use range_store::vec_storage::VecStorage;
@@ -56,32 +56,19 @@ pub fn append(tree: &mut Tree, first: u64, end: u64) -> Result<(), AllocError> {
     Ok(())
 }
 
-pub fn exchange_in_tree(tree: &mut Tree, times: usize) -> Result<(), AllocError> {
-    exchanges(tree, times)
-}
-
-pub fn exchange_in_list(list: &mut List, times: usize) -> Result<(), AllocError> {
-    exchanges(list, times)
-}
-
 /// A tree that had so many items and has the first few of them.
 pub fn shrunk_tree(alloc: Global, many: u64, few: usize) -> Result<Tree, AllocError> {
     let mut tree = new_tree(alloc);
-    fill(&mut tree, many)?;
-    drain(&mut tree, few);
+    play_tree(&mut tree, Call::Fill(many))?;
+    play_tree(&mut tree, Call::Drain(few))?;
     Ok(tree)
 }
 
 /// A vector of so many items.
 pub fn list_of(alloc: Global, many: u64) -> Result<List, AllocError> {
     let mut list = new_list(alloc);
-    fill(&mut list, many)?;
+    play_list(&mut list, Call::Fill(many))?;
     Ok(list)
-}
-
-pub fn move_in_both(both: &mut Both, times: usize) {
-    moves(&mut both.tree, times);
-    moves(&mut both.list, times);
 }
 
 /// The tree holds so many items, on so many levels.

@@ -20,6 +20,15 @@ pub enum Call {
     Write(usize, u64),
     PopFirst,
     PopLast,
+    /// Exchanges an item here and there so many times. Allocates once, before all.
+    Exchange(usize),
+    /// Takes an item out and puts it elsewhere, so many times. Makes no capacity: what was taken
+    /// out leaves room.
+    Move(usize),
+    /// Puts so many items after all others.
+    Fill(u64),
+    /// Takes items out at the end until so few are left.
+    Drain(usize),
 }
 
 /// What a call returns: the items before, at and after a position, or one item in the middle.
@@ -97,6 +106,11 @@ fn alone(item: Option<u64>) -> Answer {
     [None, item, None]
 }
 
+fn done(outcome: Result<(), AllocError>) -> Result<Answer, AllocError> {
+    outcome?;
+    Ok([None; 3])
+}
+
 /// Does a call, and tells its answer.
 pub fn play<C: Storage<u64>>(storage: &mut C, call: Call) -> Result<Answer, AllocError> {
     match call {
@@ -104,12 +118,22 @@ pub fn play<C: Storage<u64>>(storage: &mut C, call: Call) -> Result<Answer, Allo
         Call::Cut(rank) => Ok(alone(cut(storage, rank))),
         Call::CutBetween(rank) => Ok(cut_between(storage, rank).unwrap_or([None; 3])),
         Call::Swap(rank, item) => Ok(alone(swap(storage, rank, item))),
+        Call::PopFirst => Ok(alone(storage.pop_first())),
+        Call::PopLast => Ok(alone(storage.pop_last())),
+        Call::Exchange(times) => done(exchanges(storage, times)),
+        Call::Fill(many) => done(fill(storage, many)),
         Call::Write(rank, item) => {
             write(storage, rank, item);
             Ok([None; 3])
         }
-        Call::PopFirst => Ok(alone(storage.pop_first())),
-        Call::PopLast => Ok(alone(storage.pop_last())),
+        Call::Move(times) => {
+            moves(storage, times);
+            Ok([None; 3])
+        }
+        Call::Drain(few) => {
+            drain(storage, few);
+            Ok([None; 3])
+        }
     }
 }
 
@@ -122,8 +146,7 @@ fn exchange<C: Storage<u64>>(storage: &mut C, rank: usize) {
     }
 }
 
-/// Exchanges an item here and there so many times. Allocates once, before all.
-pub fn exchanges<C: Storage<u64>>(storage: &mut C, times: usize) -> Result<(), AllocError> {
+fn exchanges<C: Storage<u64>>(storage: &mut C, times: usize) -> Result<(), AllocError> {
     storage.reserve(times)?;
     for turn in 0..times {
         exchange(storage, turn.wrapping_mul(37) % 400);
@@ -146,9 +169,7 @@ fn last_to_first<C: Storage<u64>>(storage: &mut C) {
     }
 }
 
-/// Takes an item out and puts it elsewhere, so many times. Makes no capacity: what was taken out
-/// leaves room.
-pub fn moves<C: Storage<u64>>(storage: &mut C, times: usize) {
+fn moves<C: Storage<u64>>(storage: &mut C, times: usize) {
     for turn in 0..times {
         match turn % 3 {
             0 => exchange(storage, turn.wrapping_mul(37) % 400),
@@ -158,8 +179,7 @@ pub fn moves<C: Storage<u64>>(storage: &mut C, times: usize) {
     }
 }
 
-/// Puts so many items after all others.
-pub fn fill<C: Storage<u64>>(storage: &mut C, many: u64) -> Result<(), AllocError> {
+fn fill<C: Storage<u64>>(storage: &mut C, many: u64) -> Result<(), AllocError> {
     for item in 0..many {
         if storage.reserve(1).is_err() {
             storage.reserve(1)?;
@@ -169,8 +189,7 @@ pub fn fill<C: Storage<u64>>(storage: &mut C, many: u64) -> Result<(), AllocErro
     Ok(())
 }
 
-/// Takes items out at the end until so few are left.
-pub fn drain<C: Storage<u64>>(storage: &mut C, few: usize) {
+fn drain<C: Storage<u64>>(storage: &mut C, few: usize) {
     for _ in few..storage.len() {
         let _last = storage.pop_last();
     }

@@ -1,9 +1,6 @@
 //! Long runs of insertions and removals at ranks.
 
-use crate::both::{
-    Both, exchange_in_list, exchange_in_tree, expect_levels, expect_same, len, move_in_both,
-    new_both, play_both,
-};
+use crate::both::{Both, expect_levels, expect_same, len, new_both, play_both};
 use crate::calls::Call;
 use std::alloc::AllocError;
 use std::process::Abort;
@@ -47,8 +44,7 @@ fn put_behind(rt: &impl Abort, both: &mut Both) -> Result<(), AllocError> {
 
 fn many_exchanges(rt: &impl Abort, both: &mut Both) -> Result<(), AllocError> {
     put_behind(rt, both)?;
-    exchange_in_tree(&mut both.tree, 4000)?;
-    exchange_in_list(&mut both.list, 4000)?;
+    play_both(rt, both, Call::Exchange(4000))?;
     assert!(rt; len(both) == 400);
     expect_same(rt, &both.tree, &both.list);
     Ok(())
@@ -62,7 +58,7 @@ fn exchanges(rt: HostRuntime) -> Result<(), AllocError> {
 
 fn many_moves(rt: &impl Abort, both: &mut Both) -> Result<(), AllocError> {
     put_behind(rt, both)?;
-    move_in_both(both, 600);
+    play_both(rt, both, Call::Move(600))?;
     assert!(rt; len(both) == 400);
     expect_same(rt, &both.tree, &both.list);
     Ok(())

@@ -1,0 +1,132 @@
+//! Which calls clone a value: those that make two ranges of a stored one, and no others.
+
+use crate::support::{Range, Table, check, half_open};
+use range_map::map::{MapError, RangeMap, UpdateError};
+use range_store::storage::{Item, Storage};
+use std::alloc::{AllocError, Global};
+use std::test::Fail;
+
+/// A value of which no clone can be made.
+#[derive(Drop, PartialEq, Eq)]
+struct Only(i64);
+
+impl Clone for Only {
+    ghost is_clone = { λ _ _. ⊥ };
+
+    fn clone(&self) -> Result<Only, AllocError> {
+        Err(AllocError)
+    }
+}
+
+type OnlyItem = Item<Range, Only>;
+
+fn insert<C: Storage<OnlyItem>>(
+    map: &mut RangeMap<i32, Only, C>,
+    range: Range,
+    value: i64,
+) -> Result<(), MapError> {
+    map.insert(range, Only(value))
+}
+
+fn remove<C: Storage<OnlyItem>>(
+    map: &mut RangeMap<i32, Only, C>,
+    range: Range,
+) -> Result<(), MapError> {
+    map.remove(range)
+}
+
+fn update<C: Storage<OnlyItem>>(
+    map: &mut RangeMap<i32, Only, C>,
+    range: Range,
+    value: Option<i64>,
+) -> Result<(), UpdateError<i64>> {
+    map.update(range, |_| Ok(value.map(Only)))
+}
+
+fn number_at<C: Storage<OnlyItem>>(map: &RangeMap<i32, Only, C>, key: i32) -> Option<i64> {
+    map.get(key).map(|only| only.0)
+}
+
+/// A call on a map and its answer, or what has to hold of the map then.
+#[derive(Clone, Copy)]
+enum Step {
+    Insert(Range, i64, Result<(), MapError>),
+    Remove(Range, Result<(), MapError>),
+    /// An update whose closure answers this for each piece.
+    Update(Range, Option<i64>, Result<(), UpdateError<i64>>),
+    /// How many ranges are stored.
+    Count(usize),
+    Get(i32, Option<i64>),
+}
+
+fn holds<C: Storage<OnlyItem>>(map: &mut RangeMap<i32, Only, C>, step: Step) -> bool {
+    match step {
+        Step::Insert(range, value, answer) => insert(map, range, value) == answer,
+        Step::Remove(range, answer) => remove(map, range) == answer,
+        Step::Update(range, value, answer) => update(map, range, value) == answer,
+        Step::Count(count) => map.range_count() == count,
+        Step::Get(key, value) => number_at(map, key) == value,
+    }
+}
+
+/// Steps that are taken in turn on a new map.
+#[derive(Clone, Copy)]
+struct Steps<'a>(&'a [Step]);
+
+impl<'a> Table<OnlyItem> for Steps<'a> {
+    fn first_wrong<C: Storage<OnlyItem>>(&self, alloc: Global) -> Result<Option<usize>, MapError> {
+        let mut map: RangeMap<i32, Only, C> = RangeMap::new(alloc);
+        for (index, step) in self.0.iter().enumerate() {
+            if !holds(&mut map, *step) {
+                return Ok(Some(index));
+            }
+        }
+        Ok(None)
+    }
+}
+
+#[test]
+fn values_are_cloned_only_where_a_range_becomes_two(rt: HostRuntime) -> Result<(), Fail> {
+    let steps = [
+        Step::Insert(half_open(0, 20), 1, Ok(())),
+        Step::Count(1),
+        Step::Get(7, Some(1)),
+        Step::Insert(half_open(5, 15), 0, Err(MapError::Memory)),
+        Step::Count(1),
+        Step::Get(7, Some(1)),
+        Step::Remove(half_open(5, 15), Err(MapError::Memory)),
+        Step::Count(1),
+        Step::Get(7, Some(1)),
+        Step::Insert(half_open(15, 25), 0, Ok(())),
+        Step::Count(2),
+        Step::Get(7, Some(1)),
+        Step::Remove(half_open(0, 3), Ok(())),
+        Step::Count(2),
+        Step::Get(7, Some(1)),
+        Step::Insert(half_open(5, 15), 1, Ok(())),
+        Step::Count(2),
+        Step::Get(7, Some(1)),
+        Step::Get(2, None),
+        Step::Get(15, Some(0)),
+    ];
+    check(&rt, rt.alloc(), &Steps(&steps))
+}
+
+#[test]
+fn updates_clone_values_only_within_a_stored_range(rt: HostRuntime) -> Result<(), Fail> {
+    let steps = [
+        Step::Insert(half_open(0, 20), 1, Ok(())),
+        Step::Update(half_open(5, 15), Some(0), Err(UpdateError::Memory)),
+        Step::Count(1),
+        Step::Get(7, Some(1)),
+        Step::Update(half_open(5, 15), None, Err(UpdateError::Memory)),
+        Step::Count(1),
+        Step::Get(7, Some(1)),
+        Step::Update(half_open(15, 25), Some(0), Ok(())),
+        Step::Count(2),
+        Step::Get(7, Some(1)),
+        Step::Get(14, Some(1)),
+        Step::Get(24, Some(0)),
+    ];
+    check(&rt, rt.alloc(), &Steps(&steps))
+}
