@@ -23,7 +23,6 @@ impl<T: Measure + Clone, C: Storage<Item<AnyRange<T>, ()>>> RangeSet<T, C> {
     /// none.
     ///
     /// ```
-    /// let mut set: RangeSet<i32> = RangeSet::default(rt.alloc()); // in the default container
     /// set.insert(0..=5)?;
     /// ```
     pub fn insert<R: IntoRange<Item = T>>(&mut self, range: R) -> Result<(), MapError>

@@ -18,7 +18,7 @@ impl<T: PartialEnum + Clone, C: Storage<Item<AnyRange<T>, ()>>> RangeSet<T, C> {
     ///
     /// ```
     /// let copy = set.clone()?;
-    /// assert!(rt; copy == set && copy.cmp(&set) == Ordering::Equal);
+    /// assert!(rt; copy == *set && copy.cmp(set) == Ordering::Equal);
     /// ```
     pub fn clone(&self) -> Result<Self, AllocError>
         requires { ClonesAreEqual T.is_clone T.eq }

@@ -162,7 +162,7 @@ fn answer_counted<
 ///
 /// ```
 /// // of a map that binds 0..=5 to 1, where `bound_to(tag, old)` is `Ok(Some(*tag))`
-/// let reply = answer(&mut map, Command::Update((3..9).into_range(), 7), &bound_to);
+/// let reply = answer(map, Command::Update((3..9).into_range(), 7), &bound_to);
 /// assert!(rt; reply == Reply::Done);
 /// assert!(rt; map.get(8).copied() == Some(7));
 /// ```

@@ -26,10 +26,8 @@ impl<T: PartialEnum, C: Storage<Item<AnyRange<T>, ()>>> RangeSet<T, C> {
     /// stored range.
     ///
     /// ```
-    /// let copy = set.clone()?;
-    /// assert!(rt; copy == set && copy.cmp(&set) == Ordering::Equal);
-    /// // likewise where the two are over different containers
-    /// assert!(rt; copy.eq_across(&set) && copy.cmp_across(&set) == Ordering::Equal);
+    /// // of equal sets, which may be over different containers
+    /// assert!(rt; copy.eq_across(set) && copy.cmp_across(set) == Ordering::Equal);
     /// ```
     pub fn eq_across<D: Storage<Item<AnyRange<T>, ()>>>(&self, other: &RangeSet<T, D>) -> bool
         ensures value { result ≡ same_ranges T.order (C.items self.now) (D.items other.now) }
@@ -47,10 +45,8 @@ impl<T: PartialEnum, C: Storage<Item<AnyRange<T>, ()>>> RangeSet<T, C> {
     /// Allocates nothing. Costs one step for each stored range.
     ///
     /// ```
-    /// let copy = set.clone()?;
-    /// assert!(rt; copy == set && copy.cmp(&set) == Ordering::Equal);
-    /// // likewise where the two are over different containers
-    /// assert!(rt; copy.eq_across(&set) && copy.cmp_across(&set) == Ordering::Equal);
+    /// // of equal sets, which may be over different containers
+    /// assert!(rt; copy.eq_across(set) && copy.cmp_across(set) == Ordering::Equal);
     /// ```
     pub fn cmp_across<D: Storage<Item<AnyRange<T>, ()>>>(&self, other: &RangeSet<T, D>) -> Ordering
         ensures value { result ≡ ranges_cmp T.order (C.items self.now) (D.items other.now) }

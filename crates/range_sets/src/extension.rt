@@ -20,7 +20,7 @@ impl<T: Measure + Clone, C: Storage<Item<AnyRange<T>, ()>>> RangeSet<T, C> {
     /// other key. Costs an insertion for each range.
     ///
     /// ```
-    /// let mut set: RangeSet<u8> = RangeSet::new(rt.alloc());
+    /// // of a set of bytes that has no key
     /// set.extend([0..10, 20..30, 10..15])?; // 0..15 and 20..30 are stored
     /// ```
     pub fn extend<R: IntoRange<Item = T>, I: IntoIterator<Item = R>>(
@@ -50,9 +50,7 @@ impl<T: Measure + Clone, C: Storage<Item<AnyRange<T>, ()>>> RangeSet<T, C> {
     /// Fails where an allocation does. Costs an insertion for each range.
     ///
     /// ```
-    /// let mut set: RangeSet<i32> = RangeSet::from_iter(rt.alloc(), [0..2, 4..6])?;
-    /// let mut steps = Steps::new();
-    /// set.insert_counted(2..4, &mut steps)?; // 0..6 is stored
+    /// let mut set: generic::RangeSet<i32, C> = generic::RangeSet::from_iter(alloc, [0..2, 4..6])?;
     /// ```
     pub fn from_iter<R: IntoRange<Item = T>, I: IntoIterator<Item = R>>(
         alloc: Global,

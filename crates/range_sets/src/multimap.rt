@@ -35,7 +35,7 @@ pub type Iter<'a, K, S, C> = map::Iter<'a, K, S, C>;
 /// `HashSet<V>`. A contract sees the container, and its items as `C.items`.
 ///
 /// ```
-/// let mut classes: RangeMultiMap<char, BTreeSet<u8>> = RangeMultiMap::new(rt.alloc());
+/// // of a multimap that has no key
 /// classes.insert('0'..='9', 1)?; // digits
 /// classes.insert('a'..='z', 2)?; // letters
 /// classes.insert('a'..='f', 1)?; // hexadecimal digits, too
@@ -76,7 +76,7 @@ impl<K: PartialEnum, S: MaybeEmpty, C: Storage<Item<AnyRange<K>, S>>> RangeMulti
     /// A multimap without a pair. Allocates nothing.
     ///
     /// ```
-    /// let mut classes: Classes = RangeMultiMap::default(rt.alloc()); // in the default container
+    /// let mut classes: Classes = RangeMultiMap::default(alloc); // in the default container
     /// classes.insert('0'..='9', 1)?;
     /// ```
     pub fn default(alloc: Global) -> Self

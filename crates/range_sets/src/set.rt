@@ -27,7 +27,7 @@ pub type Gaps<'a, T, C> = map::Gaps<'a, T, (), C>;
 /// A contract sees the container, and the stored ranges as `C.items`.
 ///
 /// ```
-/// let mut set: RangeSet<u8> = RangeSet::new(rt.alloc());
+/// // of a set of bytes that has no key
 /// set.extend([0..10, 20..30, 10..15])?; // 0..15 and 20..30 are stored
 /// set.remove(3u8)?;
 /// assert!(rt; set.len() == 24);
@@ -49,7 +49,6 @@ impl<T: PartialEnum, C: Storage<Item<AnyRange<T>, ()>>> RangeSet<T, C> {
     ///
     /// ```
     /// let mut set: RangeSet<u8> = RangeSet::new(rt.alloc());
-    /// set.extend([0..10, 20..30, 10..15])?; // 0..15 and 20..30 are stored
     /// ```
     pub fn new(alloc: Global) -> Self
         ensures { C.items result ≡ [] }
@@ -63,7 +62,7 @@ impl<T: PartialEnum, C: Storage<Item<AnyRange<T>, ()>>> RangeSet<T, C> {
     /// A set without a key. Allocates nothing.
     ///
     /// ```
-    /// let mut set: RangeSet<i32> = RangeSet::default(rt.alloc()); // in the default container
+    /// let mut set: RangeSet<i32> = RangeSet::default(alloc); // in the default container
     /// ```
     pub fn default(alloc: Global) -> Self
         ensures { C.items result ≡ [] }

@@ -1,42 +1,33 @@
 //! The examples of the calls that take commands, and of a search in a list that is no map.
 
-use crate::map_calls::ones;
+use crate::map_calls::{Entry, Map, ones, ones_over};
+use btree_range_map::btree::BoxStorage;
 use btree_range_map::generic::map::{Command, Reply, answer, binary_search, run, run_counted};
-use btree_range_map::storage::{Item, Steps};
+use btree_range_map::storage::{Item, Steps, Storage};
 use btree_range_map::{AnyRange, IntoRange, RangeMap};
 use std::alloc::Global;
 use std::ops::Bound::Included;
+use std::process::Abort;
 use std::test::Fail;
+
+type Replies = Vec<Reply<i32, i64, u8>>;
 
 /// Binds each piece of the range of an update to its tag.
 fn bound_to(tag: &i64, _old: Option<&i64>) -> Result<Option<i64>, u8> {
     Ok(Some(*tag))
 }
 
-#[test]
-fn answered(rt: HostRuntime) -> Result<(), Fail> {
-    let mut map = ones(rt.alloc())?;
+fn answered<R: Abort, C: Storage<Entry>>(rt: &R, map: &mut Map<C>) {
     // of a map that binds 0..=5 to 1, where `bound_to(tag, old)` is `Ok(Some(*tag))`
-    let reply = answer(&mut map, Command::Update((3..9).into_range(), 7), &bound_to);
+    let reply = answer(map, Command::Update((3..9).into_range(), 7), &bound_to);
     assert!(rt; reply == Reply::Done);
     assert!(rt; map.get(8).copied() == Some(7));
-    Ok(())
 }
 
-type Replies = Vec<Reply<i32, i64, u8>>;
-
-fn answered_in_turn(alloc: Global, map: &mut RangeMap<i32, i64>) -> Result<Replies, Fail> {
+fn answered_in_turn<C: Storage<Entry>>(alloc: Global, map: &mut Map<C>) -> Result<Replies, Fail> {
     let commands = vec![in alloc; Command::Update((3..9).into_range(), 7), Command::Get(8)]?;
     let replies = run(alloc, map, commands, &bound_to)?; // `Done` and `Value(Some(7))`
     Ok(replies)
-}
-
-#[test]
-fn given_as_a_list(rt: HostRuntime) -> Result<(), Fail> {
-    let mut map = ones(rt.alloc())?;
-    let replies = answered_in_turn(rt.alloc(), &mut map)?;
-    assert!(rt; matches!(replies.as_slice(), [Reply::Done, Reply::Value(Some(7))]));
-    Ok(())
 }
 
 fn counted_in_turn(
@@ -49,14 +40,29 @@ fn counted_in_turn(
     Ok(replies)
 }
 
+fn are_done_and_seven(replies: &[Reply<i32, i64, u8>]) -> bool {
+    matches!(replies, [Reply::Done, Reply::Value(Some(7))])
+}
+
+fn played<R: Abort, C: Storage<Entry>>(rt: &R, alloc: Global) -> Result<(), Fail> {
+    answered(rt, &mut ones_over::<C>(alloc)?);
+    let replies = answered_in_turn(alloc, &mut ones_over::<C>(alloc)?)?;
+    assert!(rt; are_done_and_seven(replies.as_slice()));
+    Ok(())
+}
+
 #[test]
 fn given_and_counted(rt: HostRuntime) -> Result<(), Fail> {
-    let mut map = ones(rt.alloc())?;
     let mut steps = Steps::new();
-    let replies = counted_in_turn(rt.alloc(), &mut map, &mut steps)?;
-    assert!(rt; matches!(replies.as_slice(), [Reply::Done, Reply::Value(Some(7))]));
+    let replies = counted_in_turn(rt.alloc(), &mut ones(rt.alloc())?, &mut steps)?;
+    assert!(rt; are_done_and_seven(replies.as_slice()));
     assert!(rt; steps.count() <= 34); // of a map of one range: 2 * (6 * 1 + 10) + 2 * 1 at most
     Ok(())
+}
+
+#[test]
+fn given(rt: HostRuntime) -> Result<(), Fail> {
+    played::<_, BoxStorage<Entry>>(&rt, rt.alloc())
 }
 
 /// An item of one key.

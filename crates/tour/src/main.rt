@@ -8,8 +8,6 @@ mod json_values;
 #[cfg(test)]
 mod map_calls;
 #[cfg(test)]
-mod map_lists;
-#[cfg(test)]
 mod maps;
 #[cfg(test)]
 mod multimap_calls;

@@ -1,36 +1,92 @@
-//! The examples of a map's calls, beside what the README shows.
+//! The examples of a map's calls, beside what the README shows, over any container.
 
-use btree_range_map::storage::Steps;
-use btree_range_map::{MapError, RangeMap};
-use std::alloc::Global;
+use btree_range_map::storage::{Item, Steps, Storage, VecStorage};
+use btree_range_map::{AnyRange, IntoRange, MapError, RangeMap, generic};
+use std::alloc::{AllocError, Global};
+use std::cmp::Ordering;
 use std::process::Abort;
 use std::test::Fail;
+
+pub type Entry = Item<AnyRange<i32>, i64>;
+
+pub type Map<C> = generic::RangeMap<i32, i64, C>;
+
+fn bind_ones<C: Storage<Entry>, R: IntoRange<Item = i32>>(
+    map: &mut Map<C>,
+    range: R,
+) -> Result<(), MapError> {
+    map.insert(range, 1)
+}
 
 /// A map that binds 0..=5 to 1.
 pub fn ones(alloc: Global) -> Result<RangeMap<i32, i64>, MapError> {
     let mut map: RangeMap<i32, i64> = RangeMap::default(alloc); // in the default container
-    map.insert(0..=5, 1)?;
+    bind_ones(&mut map, 0..=5)?;
     Ok(map)
 }
 
-fn looked_up<R: Abort>(rt: &R, map: &RangeMap<i32, i64>) {
+/// The same over any container.
+pub fn ones_over<C: Storage<Entry>>(alloc: Global) -> Result<Map<C>, MapError> {
+    let mut map: Map<C> = generic::RangeMap::new(alloc);
+    bind_ones(&mut map, 0..6)?;
+    Ok(map)
+}
+
+fn looked_up<R: Abort, C: Storage<Entry>>(rt: &R, map: &Map<C>) {
     // of a map that binds 0..=5 to 1
-    assert!(rt; !map.is_empty());
     assert!(rt; map.contains_key(5));
     assert!(rt; map.get(5).copied() == Some(1));
+}
+
+fn measured<R: Abort, C: Storage<Entry>>(rt: &R, map: &Map<C>) {
+    // of a map that binds 0..=5 to 1
+    assert!(rt; !map.is_empty());
     assert!(rt; map.bounded_len() == Some(6));
-    assert!(rt; map.levels() == 1);
+}
+
+fn gone_over<R: Abort, C: Storage<Entry>>(rt: &R, map: &Map<C>) {
+    // of a map that binds 0..=5 to 1
     assert!(rt; map.iter().next().is_some()); // 0..=5 with 1
     assert!(rt; map.gaps().next().is_some()); // ..0, and then from 6 on
 }
 
-#[test]
-fn bound(rt: HostRuntime) -> Result<(), Fail> {
-    looked_up(&rt, &ones(rt.alloc())?);
+fn copied<R: Abort, C: Storage<Entry>>(rt: &R, map: &Map<C>) -> Result<(), AllocError> {
+    let copy = map.clone()?;
+    assert!(rt; copy == *map && copy.cmp(map) == Ordering::Equal);
     Ok(())
 }
 
-fn looked_up_counted<R: Abort>(rt: &R, map: &RangeMap<i32, i64>) {
+fn compared_across<R: Abort, C: Storage<Entry>, D: Storage<Entry>>(
+    rt: &R,
+    map: &Map<C>,
+    vector: &Map<D>,
+) {
+    // of a map that binds 0..=5 to 1, and one over a vector that binds 0..6 to 1
+    assert!(rt; map.eq_across(vector) && map.cmp_across(vector) == Ordering::Equal);
+}
+
+fn updated<R: Abort, C: Storage<Entry>>(rt: &R, map: &mut Map<C>) {
+    // of a map that binds 0..=5 to 1
+    let filled = |old: Option<&i64>| -> Result<Option<i64>, u8> {
+        Ok(Some(old.copied().unwrap_or(7)))
+    };
+    assert!(rt; map.update(3..9, filled).is_ok());
+    assert!(rt; map.get(8).copied() == Some(7)); // 0..=5 is bound to 1 as before
+}
+
+fn bound_apart<R: Abort, C: Storage<Entry>>(rt: &R, map: &mut Map<C>) {
+    assert!(rt; map.insert_disconnected(0..5, 1).is_ok());
+    assert!(rt; map.insert_disconnected(5..9, 2).is_err()); // it touches 0..5
+}
+
+fn changed_counted<C: Storage<Entry>>(map: &mut Map<C>) -> Result<(), MapError> {
+    let mut steps = Steps::new();
+    map.insert_counted(0..=5, 1, &mut steps)?;
+    map.remove_counted(4, &mut steps)?;
+    Ok(())
+}
+
+fn looked_up_counted<R: Abort, C: Storage<Entry>>(rt: &R, map: &Map<C>) {
     // of a map that binds 0..=5 to 1, but not 4
     let mut steps = Steps::new();
     assert!(rt; map.get_counted(4, &mut steps).is_none());
@@ -39,31 +95,50 @@ fn looked_up_counted<R: Abort>(rt: &R, map: &RangeMap<i32, i64>) {
     assert!(rt; map.intersects_counted(5..9, &mut steps));
 }
 
-#[test]
-fn counted(rt: HostRuntime) -> Result<(), Fail> {
-    let mut map: RangeMap<i32, i64> = RangeMap::new(rt.alloc());
-    let mut steps = Steps::new();
-    map.insert_counted(0..=5, 1, &mut steps)?;
-    map.remove_counted(4, &mut steps)?;
-    looked_up_counted(&rt, &map);
+fn counted<R: Abort, C: Storage<Entry>>(rt: &R, map: &mut Map<C>) -> Result<(), MapError> {
+    changed_counted(map)?;
+    looked_up_counted(rt, map);
     Ok(())
 }
 
-#[test]
-fn bound_apart(rt: HostRuntime) {
-    let mut map: RangeMap<i32, i64> = RangeMap::new(rt.alloc());
-    assert!(rt; map.insert_disconnected(0..5, 1).is_ok());
-    assert!(rt; map.insert_disconnected(5..9, 2).is_err()); // it touches 0..5
+fn looked_at<R: Abort, C: Storage<Entry>>(rt: &R, map: &Map<C>) -> Result<(), MapError> {
+    looked_up(rt, map);
+    measured(rt, map);
+    gone_over(rt, map);
+    copied(rt, map)?;
+    Ok(())
+}
+
+fn changed<R: Abort, C: Storage<Entry>>(rt: &R, alloc: Global) -> Result<(), MapError> {
+    updated(rt, &mut ones_over::<C>(alloc)?);
+    bound_apart::<R, C>(rt, &mut generic::RangeMap::new(alloc));
+    counted::<R, C>(rt, &mut generic::RangeMap::new(alloc))
+}
+
+fn compared_with_vector<R: Abort, C: Storage<Entry>>(
+    rt: &R,
+    alloc: Global,
+    map: &Map<C>,
+) -> Result<(), MapError> {
+    compared_across(rt, map, &ones_over::<VecStorage<Entry>>(alloc)?);
+    Ok(())
+}
+
+fn played<R: Abort, C: Storage<Entry>>(
+    rt: &R,
+    alloc: Global,
+    map: &Map<C>,
+) -> Result<(), MapError> {
+    looked_at(rt, map)?;
+    changed::<R, C>(rt, alloc)?;
+    compared_with_vector(rt, alloc, map)
 }
 
 #[test]
-fn updated(rt: HostRuntime) -> Result<(), Fail> {
-    let mut map = ones(rt.alloc())?;
+fn calls_of_a_map(rt: HostRuntime) -> Result<(), Fail> {
+    let map = ones(rt.alloc())?;
     // of a map that binds 0..=5 to 1
-    let filled = |old: Option<&i64>| -> Result<Option<i64>, u8> {
-        Ok(Some(old.copied().unwrap_or(7)))
-    };
-    assert!(rt; map.update(3..9, filled).is_ok());
-    assert!(rt; map.get(8).copied() == Some(7)); // 0..=5 is bound to 1 as before
+    assert!(rt; map.levels() == 1);
+    played(&rt, rt.alloc(), &map)?;
     Ok(())
 }

@@ -28,7 +28,6 @@ impl<K: PartialEnum, V: Eq + Drop, C: Storage<Item<AnyRange<K>, V>>> RangeMap<K,
     ///
     /// ```
     /// let mut map: RangeMap<i32, i64> = RangeMap::default(alloc); // in the default container
-    /// map.insert(0..=5, 1)?;
     /// ```
     pub fn default(alloc: Global) -> Self
         ensures { C.items result ≡ [] }
@@ -45,7 +44,7 @@ impl<K: PartialEnum + Clone, V: Eq + Clone, C: Storage<Item<AnyRange<K>, V>>> Ra
     ///
     /// ```
     /// let copy = map.clone()?;
-    /// assert!(rt; copy == map && copy.cmp(&map) == Ordering::Equal);
+    /// assert!(rt; copy == *map && copy.cmp(map) == Ordering::Equal);
     /// ```
     pub fn clone(&self) -> Result<Self, AllocError>
         requires keys { ClonesAreEqual K.is_clone K.eq }

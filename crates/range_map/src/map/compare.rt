@@ -131,10 +131,8 @@ impl<K: PartialEnum, V: Eq + Drop, C: Storage<Item<AnyRange<K>, V>>> RangeMap<K,
     /// for each stored range.
     ///
     /// ```
-    /// // of a map that binds 0..=5 to 1
-    /// let mut vector: generic::RangeMap<i32, i64, VecStorage<_>> = generic::RangeMap::new(alloc);
-    /// vector.insert(0..6, 1)?;
-    /// assert!(rt; map.eq_across(&vector) && map.cmp_across(&vector) == Ordering::Equal);
+    /// // of a map that binds 0..=5 to 1, and one over a vector that binds 0..6 to 1
+    /// assert!(rt; map.eq_across(vector) && map.cmp_across(vector) == Ordering::Equal);
     /// ```
     pub fn eq_across<D: Storage<Item<AnyRange<K>, V>>>(&self, other: &RangeMap<K, V, D>) -> bool
         ensures value { result ≡ same_list K.order V.eq (C.items self.now) (D.items other.now) }
@@ -158,10 +156,8 @@ impl<K: PartialEnum, V: Ord + Drop, C: Storage<Item<AnyRange<K>, V>>> RangeMap<K
     /// Allocates nothing. Costs one step for each stored range.
     ///
     /// ```
-    /// // of a map that binds 0..=5 to 1
-    /// let mut vector: generic::RangeMap<i32, i64, VecStorage<_>> = generic::RangeMap::new(alloc);
-    /// vector.insert(0..6, 1)?;
-    /// assert!(rt; map.eq_across(&vector) && map.cmp_across(&vector) == Ordering::Equal);
+    /// // of a map that binds 0..=5 to 1, and one over a vector that binds 0..6 to 1
+    /// assert!(rt; map.eq_across(vector) && map.cmp_across(vector) == Ordering::Equal);
     /// ```
     pub fn cmp_across<D: Storage<Item<AnyRange<K>, V>>>(
         &self,

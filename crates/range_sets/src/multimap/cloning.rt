@@ -24,7 +24,7 @@ impl<K: PartialEnum + Clone, S: MaybeEmpty, C: Storage<Item<AnyRange<K>, S>>> Ra
     ///
     /// ```
     /// let copy = classes.clone()?;
-    /// assert!(rt; copy == classes);
+    /// assert!(rt; copy == *classes);
     /// ```
     pub fn clone<V: Eq + Clone>(&self) -> Result<Self, AllocError>
     where

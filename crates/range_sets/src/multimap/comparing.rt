@@ -20,8 +20,8 @@ impl<K: PartialEnum, S: MaybeEmpty, C: Storage<Item<AnyRange<K>, S>>> RangeMulti
     ///
     /// ```
     /// let copy = classes.clone()?;
-    /// assert!(rt; copy == classes);
-    /// assert!(rt; copy.eq_across(&classes)); // likewise over different containers
+    /// assert!(rt; copy == *classes);
+    /// assert!(rt; copy.eq_across(classes)); // likewise over different containers
     /// ```
     pub fn eq_across<D: Storage<Item<AnyRange<K>, S>>>(
         &self,
