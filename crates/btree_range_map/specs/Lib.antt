@@ -47,18 +47,18 @@ pub use Rattle.range_map.specs.Stored
 pub use Rattle.range_map.specs.Texts as MapTexts
 pub use Rattle.range_sets.specs.Calls
 pub use Rattle.range_sets.specs.Complements
-pub use Rattle.range_sets.specs.CountedRuns
+pub use Rattle.range_commands.specs.CountedRuns
 pub use Rattle.range_sets.specs.EqualClones
 pub use Rattle.range_sets.specs.Extending
-pub use Rattle.range_sets.specs.History
+pub use Rattle.range_commands.specs.History
 pub use Rattle.range_sets.specs.KeySets
-pub use Rattle.range_sets.specs.LastCommands
+pub use Rattle.range_commands.specs.LastCommands
 pub use Rattle.range_sets.specs.Members
 pub use Rattle.range_sets.specs.Pairs
-pub use Rattle.range_sets.specs.Runs
+pub use Rattle.range_commands.specs.Runs
 pub use Rattle.range_sets.specs.SetOrder
 pub use Rattle.range_sets.specs.SetTexts
-pub use Rattle.range_sets.specs.Tagged
+pub use Rattle.range_commands.specs.Tagged
 pub use Rattle.range_json.specs.Faults
 pub use Rattle.range_json.specs.Keys
 pub use Rattle.range_json.specs.Laws
@@ -80,8 +80,8 @@ pub use Rattle.range_store.specs.declared.storage.Item
 pub use Rattle.range_map.specs.declared.error.MapError
 pub use Rattle.range_map.specs.declared.error.NotInserted
 pub use Rattle.range_map.specs.declared.error.UpdateError
-pub use Rattle.range_sets.specs.declared.command.Command
-pub use Rattle.range_sets.specs.declared.command.Reply
+pub use Rattle.range_commands.specs.declared.command.Command
+pub use Rattle.range_commands.specs.declared.command.Reply
 pub use Rattle.range_json.specs.declared.error.JsonError
 pub use Rattle.range_json.specs.declared.error.ReadError
 -- The least and the greatest number of items of a node.

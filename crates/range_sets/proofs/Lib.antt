@@ -1,17 +1,13 @@
 pub mod Altered
-pub mod Asked
 pub mod CallHistories
 pub mod ComplementTwice
 pub mod Complementing
-pub mod CountedRuns
 pub mod Counting
 pub mod Enclosing
-pub mod FewRanges
 pub mod Filled
 pub mod Filling
 pub mod Likeness
 pub mod Matching
 pub mod Membership
 pub mod Pairing
-pub mod Replies
 pub mod Showing

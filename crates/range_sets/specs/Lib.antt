@@ -1,15 +1,10 @@
 pub mod Calls
 pub mod Complements
-pub mod CountedRuns
 pub mod EqualClones
 pub mod Extending
-pub mod History
 pub mod KeySets
-pub mod LastCommands
 pub mod ListedMembers
 pub mod Members
 pub mod Pairs
-pub mod Runs
 pub mod SetOrder
 pub mod SetTexts
-pub mod Tagged

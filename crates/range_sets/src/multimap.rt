@@ -6,15 +6,15 @@ ghost use Rattle.range_map.specs.Bindings.{Binds, IsOnlyCoarse, IsLeastCount};
 ghost use Rattle.range_map.specs.Stored.{IsStored};
 ghost use Rattle.range_sets.specs.Pairs.{HasNoEmptySet, HasPair, AreValuesAt, IsUnpaired};
 
-mod changing;
-mod cloning;
-mod comparing;
+mod change;
+mod clone;
+mod compare;
 pub(crate) mod disjoint;
-mod iterators;
+mod iter;
 mod laws;
 mod text;
 
-pub use self::iterators::IntoIter;
+pub use self::iter::IntoIter;
 pub use self::laws::last_call_decides_pairs;
 pub use crate::members::{MaybeEmpty, SetMut};
 use range_algebra::any::AnyRange;

@@ -7,9 +7,20 @@ ghost use Rattle.range_store.specs.Counting.{AddsSteps};
 ghost use Rattle.range_map.specs.Lookups.{MeetsSome, BindsKeyOf};
 ghost use Rattle.range_sets.specs.KeySets.{HoldsKey, IsLeastCount, IsStoredSet};
 
-pub use crate::into_iter::IntoIter;
-pub use crate::iter::Iter;
+mod clone;
+mod compare;
+mod complement;
+mod extend;
+mod insert;
+mod into_iter;
+mod iter;
+mod len;
+mod remove;
+mod text;
+
 pub use crate::laws::complementing_twice_restores;
+pub use into_iter::IntoIter;
+pub use iter::Iter;
 use range_algebra::any::AnyRange;
 use range_algebra::range::AsRange;
 use range_keys::traits::{Measure, PartialEnum};

@@ -5,4 +5,4 @@ pub use range_map::map::{
     coarse_lists_are_shortest, coarse_lists_are_unique, one_level_is_greatest,
     stored_lists_are_coarse, stored_lists_bind_once,
 };
-pub use range_sets::command::{Command, Reply, answer, run, run_counted};
+pub use range_commands::command::{Command, Reply, answer, run, run_counted};

@@ -1,0 +1,3 @@
+pub mod CountedRuns
+pub mod FewRanges
+pub mod Replies

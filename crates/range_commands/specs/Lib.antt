@@ -1,0 +1,5 @@
+pub mod CountedRuns
+pub mod History
+pub mod LastCommands
+pub mod Runs
+pub mod Tagged

@@ -1,0 +1,34 @@
+//! Copies of a set.
+ghost use Rattle.std.specs.Prelude.{IfOk, true};
+ghost use Rattle.range_algebra.specs.Range.{ClonesAreEqual};
+ghost use Rattle.range_map.specs.ListOrder.{IsCopyOf};
+ghost use Rattle.range_sets.specs.KeySets.{IsStoredSet};
+
+use super::RangeSet;
+use range_algebra::any::AnyRange;
+use range_keys::traits::PartialEnum;
+use range_store::storage::{Item, Storage};
+use std::alloc::AllocError;
+
+impl<T: PartialEnum + Clone, C: Storage<Item<AnyRange<T>, ()>>> RangeSet<T, C> {
+    /// A set that stores equal ranges, and shares nothing with this one.
+    ///
+    /// Allocates its ranges and each clone of a key; fails where an allocation is refused. Costs
+    /// a clone and a step for each stored range.
+    ///
+    /// ```
+    /// let copy = set.clone()?;
+    /// assert!(rt; copy == *set && copy.cmp(set) == Ordering::Equal);
+    /// ```
+    pub fn clone(&self) -> Result<Self, AllocError>
+        requires { ClonesAreEqual T.is_clone T.eq }
+        ensures equal { IfOk result
+            (λ copy. IsCopyOf T.order (λ _ _. true) (C.items copy) (C.items self.now)) }
+        ensures form { IfOk result (λ copy. IsStoredSet T.order (C.items copy)) }
+    {
+        Ok(RangeSet {
+            map: self.map.clone()?,
+            alloc: self.alloc,
+        })
+    }
+}

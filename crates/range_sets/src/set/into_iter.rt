@@ -1,0 +1,64 @@
+//! The stored ranges, moved out of a set.
+ghost use Rattle.std.specs.Prelude.{◌≡◌};
+ghost use Rattle.std.specs.Iterator.{YieldsFirst, item_count};
+ghost use Rattle.range_map.specs.FreeRanges.{item_ranges};
+ghost use Rattle.range_sets.specs.KeySets.{IsStoredSet};
+
+use super::RangeSet;
+use range_algebra::any::AnyRange;
+use range_keys::traits::PartialEnum;
+use range_map::inner::taking::take_first;
+use range_map::map::RangeMap;
+use range_store::storage::{Item, Storage};
+use std::marker::Model;
+
+/// The ranges that are left of a set that was taken apart, in order. A contract sees their list.
+#[derive(Drop)]
+pub struct IntoIter<T: PartialEnum, C: Storage<Item<AnyRange<T>, ()>>> {
+    map: RangeMap<T, (), C>,
+}
+
+impl<T: PartialEnum, C: Storage<Item<AnyRange<T>, ()>>> Model for IntoIter<T, C> {
+    ghost use Rattle.std.specs.Prelude.{List};
+    ghost use Rattle.range_algebra.specs.declared.any.AnyRange.{AnyRange};
+    ghost use Rattle.range_map.specs.FreeRanges.{item_ranges};
+
+    ghost Value = { List (AnyRange T) };
+
+    ghost view = { λ i. item_ranges (C.items i.map) };
+}
+
+impl<T: PartialEnum, C: Storage<Item<AnyRange<T>, ()>>> Iterator for IntoIter<T, C> {
+    type Item = AnyRange<T>;
+
+    ghost next_gives = { YieldsFirst (λ rest. rest) };
+
+    ghost remaining = { item_count (λ rest. rest) };
+
+    fn next(&mut self) -> Option<AnyRange<T>> {
+        match take_first(&mut self.map) {
+            Some((range, _)) => Some(range),
+            None => None,
+        }
+    }
+
+    fn size_hint(&self) -> (usize, Option<usize>) {
+        let left = self.map.range_count();
+        (left, Some(left))
+    }
+}
+
+/// `for range in set`: the ranges are moved out, one at each step. Allocates nothing.
+impl<T: PartialEnum, C: Storage<Item<AnyRange<T>, ()>>> IntoIterator for RangeSet<T, C> {
+    type Item = AnyRange<T>;
+
+    type IntoIter = IntoIter<T, C>;
+
+    ghost into_iter_gives = { λ set list. (list ≡ item_ranges (C.items set))
+        × IsStoredSet T.order (C.items set) };
+
+    fn into_iter(self) -> IntoIter<T, C> {
+        self.in_form();
+        IntoIter { map: self.map }
+    }
+}
