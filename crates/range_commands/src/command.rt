@@ -1,13 +1,13 @@
 //! Lists of commands to a map.
-ghost use Rattle.std.specs.Prelude.{◌≡◌, ℕ, ◌+◌, ◌*◌, ◌≤◌, length, OnOk, OnErr, MatchResult, IfOk, Option, Some};
+ghost use Rattle.std.specs.Prelude.{◌≡◌, ℕ, ◌+◌, ◌*◌, ◌≤◌, length, IsOk, OnOk, OnErr, IfOk, Option, Some};
 ghost use Rattle.std.specs.Option.{option_copied};
-ghost use Rattle.range_algebra.specs.Range.{ClonesAreEqual};
+ghost use Rattle.range_algebra.specs.Range.{ClonesAreEqual, IsEmptyRange};
 ghost use Rattle.range_map.specs.Bindings.{Binds, IsBound};
 ghost use Rattle.range_store.specs.Holding.{box_items};
 ghost use Rattle.range_store.specs.declared.btree.searching.TheConstants.{HALVINGS};
 ghost use Rattle.range_map.specs.Costs.{TakesAtLeast, greatest_level};
-ghost use Rattle.range_commands.specs.CountedRuns.{LookupTakes, TakesFor, IsCountedRun, IsRunOfDue, HasNoMemory};
-ghost use Rattle.range_commands.specs.Runs.{IsStep, IsRun, HasNoUpdate};
+ghost use Rattle.range_commands.specs.CountedRuns.{ChangeTakes, LookupTakes, TakesFor, least_if, IsCountedRun, IsRunOfDue, HasNoMemory};
+ghost use Rattle.range_commands.specs.Runs.{IsInsertion, IsStep, IsRun, HasNoUpdate};
 ghost use Rattle.range_commands.specs.History.{BindOver};
 ghost use Rattle.range_commands.specs.Tagged.{MayAnswerTo, MayBeAskedAll};
 ghost use Rattle.range_commands.specs.declared.command.Command.TheVariants.{Update};
@@ -81,6 +81,30 @@ fn get_cloned<K: Measure, V: Eq + Clone, C: Storage<Item<AnyRange<K>, V>>>(
     }
 }
 
+/// Does an insertion: by the counted call, or by the other, which takes no search after all ranges.
+fn insert_by<K: Measure + Clone, V: Eq + Clone, C: Storage<Item<AnyRange<K>, V>>>(
+    map: &mut RangeMap<K, V, C>,
+    range: AnyRange<K>,
+    value: V,
+    is_counted: bool,
+    steps: &mut Steps,
+) -> Result<(), MapError>
+    requires keys { ClonesAreEqual K.is_clone K.eq }
+    requires values { ClonesAreEqual V.is_clone V.eq }
+    ensures inserted { OnOk result
+        (IsInsertion K.order V.eq 2 (C.items map.old) (C.items map.new) range value) }
+    ensures refused { OnErr result
+        (¬ IsEmptyRange K.order range × (C.items map.new ≡ C.items map.old)) }
+    ensures takes { ChangeTakes K.order (least_if is_counted (C.least_asks map.old))
+        (C.most_asks map.old) (C.items map.old) (C.items map.new) range (IsOk result)
+        steps.old steps.new }
+{
+    if is_counted {
+        return map.insert_counted(range, value, steps);
+    }
+    map.insert(range, value)
+}
+
 /// Does an update with a tag.
 fn update_tagged<
     K: Measure + Clone,
@@ -107,8 +131,9 @@ fn update_tagged<
     }
 }
 
-/// Answers one command by the counted calls, where there is one.
-fn answer_counted<
+/// Answers one command by the counted calls, where there is one; an insertion only if it is to be
+/// counted.
+fn answer_by<
     K: Measure + Clone,
     V: Eq + Clone,
     T: Drop,
@@ -119,6 +144,7 @@ fn answer_counted<
     map: &mut RangeMap<K, V, C>,
     command: Command<K, V, T>,
     f: &F,
+    is_counted: bool,
     steps: &mut Steps,
 ) -> Reply<K, V, E>
     requires keys { ClonesAreEqual K.is_clone K.eq }
@@ -126,11 +152,12 @@ fn answer_counted<
     requires callable { MayBeAskedAll F.Fn f.now }
     ensures step { IsStep K.order V.eq (MayAnswerTo F.Fn f.now) (C.items map.old) command result
         (C.items map.new) }
-    ensures takes { TakesFor K.order (C.least_asks map.old) (C.most_asks map.old)
-        (C.items map.old) command result (C.items map.new) steps.old steps.new }
+    ensures takes { TakesFor K.order (least_if is_counted (C.least_asks map.old))
+        (C.most_asks map.old) (C.items map.old) command result (C.items map.new)
+        steps.old steps.new }
 {
     match command {
-        Command::Insert(range, value) => match map.insert_counted(range, value, steps) {
+        Command::Insert(range, value) => match insert_by(map, range, value, is_counted, steps) {
             Ok(()) => Reply::Done,
             Err(MapError::Memory) => Reply::Memory,
         },
@@ -181,11 +208,11 @@ pub fn answer<
         (C.items map.new) }
 {
     let mut steps = Steps::new();
-    answer_counted(map, command, f, &mut steps)
+    answer_by(map, command, f, false, &mut steps)
 }
 
-/// Answers the commands in turn by the counted calls, one reply each.
-fn run_steps<
+/// Answers the commands in turn, one reply each, as `answer_by` does.
+fn run_by<
     K: Measure + Clone,
     V: Eq + Clone,
     T: Drop,
@@ -197,6 +224,7 @@ fn run_steps<
     map: &mut RangeMap<K, V, C>,
     commands: Vec<Command<K, V, T>>,
     f: &F,
+    is_counted: bool,
     steps: &mut Steps,
 ) -> Result<Vec<Reply<K, V, E>>, MapError>
     requires keys { ClonesAreEqual K.is_clone K.eq }
@@ -204,14 +232,14 @@ fn run_steps<
     requires callable { MayBeAskedAll F.Fn f.now }
     ensures run { IfOk result
         (λ replies. IsCountedRun K.order V.eq (MayAnswerTo F.Fn f.now) (λ s. C.items s)
-        (λ s. C.least_asks s)
+        (λ s. least_if is_counted (C.least_asks s))
         (λ s. C.most_asks s) map.old commands.items replies.items map.new steps.old steps.new) }
     ensures refused { OnErr result (C.items map.new ≡ C.items map.old) }
     ensures refused_steps { OnErr result (steps.new ≡ steps.old) }
 {
     let mut replies = Vec::with_capacity(alloc, commands.len())?;
     for command in commands {
-        let reply = answer_counted(map, command, f, steps);
+        let reply = answer_by(map, command, f, is_counted, steps);
         match replies.push(reply) {
             Ok(()) => (),
             Err(_) => unreachable!(),
@@ -258,7 +286,7 @@ pub fn run<
     ensures refused { OnErr result (C.items map.new ≡ C.items map.old) }
 {
     let mut steps = Steps::new();
-    run_steps(alloc, map, commands, f, &mut steps)
+    run_by(alloc, map, commands, f, false, &mut steps)
 }
 
 /// Answers the commands in turn as `run` does; adds the steps that they take.
@@ -307,5 +335,5 @@ pub fn run_counted<
         × TakesAtLeast steps.old steps.new due) }
     ensures refused_steps { OnErr result (steps.new ≡ steps.old) }
 {
-    run_steps(alloc, map, commands, f, steps)
+    run_by(alloc, map, commands, f, true, steps)
 }

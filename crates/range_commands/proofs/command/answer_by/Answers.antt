@@ -1,32 +1,25 @@
 use Rattle.std.proofs.Common.{ap, refl, rules}
 use Rattle.std.proofs.lemmas.Bool.{false≢true}
 use Rattle.range_commands.proofs.Replies.{meets_some, meets_none}
-use Rattle.range_commands.proofs.command.answer_counted.Goals as goal
+use Rattle.range_commands.proofs.command.answer_by.Goals as goal
 
 pub returns-in-Ok-clause-step : goal.returns-in-Ok-clause-step
 returns-in-Ok-clause-step g c =
-    let done = c.in-Ok.ensures in
-    rw c.in-Insert.is record {
-      bound = done.bound;
-      form = done.form;
-      few = done.few;
-      empty = done.empty_unchanged;
-    }
+    rw c.in-Insert.is c.in-Ok.ensures.inserted
 
 pub returns-in-Ok-clause-takes : goal.returns-in-Ok-clause-takes
 returns-in-Ok-clause-takes g c =
-    let done = c.in-Ok.ensures in
-    rw c.in-Insert.is (record { at_most = λ unrefused. done.most; at_least = done.least; none = done.empty_uncounted })
+    let takes = c.in-Ok.ensures.takes in
+    rw c.in-Insert.is (record { at_most = λ done. takes.at_most refl; at_least = takes.at_least; none = takes.none })
 
 pub returns-in-Insert-clause-step : goal.returns-in-Insert-clause-step
 returns-in-Insert-clause-step g c =
-    let refused = c.in-Err-Memory.ensures in
-    rw c.in-Insert.is (λ empty. false≢true (refused.empty empty), refused.refused)
+    rw c.in-Insert.is c.in-Err-Memory.ensures.refused
 
 pub returns-in-Insert-clause-takes : goal.returns-in-Insert-clause-takes
 returns-in-Insert-clause-takes g c =
-    let refused = c.in-Err-Memory.ensures in
-    rw c.in-Insert.is (record { at_most = λ done. absurd done; at_least = refused.least; none = refused.empty_uncounted })
+    let takes = c.in-Err-Memory.ensures.takes in
+    rw c.in-Insert.is (record { at_most = λ done. absurd done; at_least = takes.at_least; none = takes.none })
 
 pub returns-in-Ok-insert_disconnected-clause-step : goal.returns-in-Ok-insert_disconnected-clause-step
 returns-in-Ok-insert_disconnected-clause-step g c =

@@ -1,8 +1,9 @@
 use Rattle.std.proofs.Common.{◌≡◌, ◌++◌, ◌∷◌, [], length, sym, ap, ◌∙◌, arith, append_assoc, refl}
 use Rattle.range_commands.specs.Tagged.{MayAnswerTo}
+use Rattle.range_commands.specs.CountedRuns.{least_if}
 use Rattle.range_commands.proofs.CountedRuns.{one_more_counted}
 use Rattle.range_map.proofs.Endings.{prefix_is_all}
-use Rattle.range_commands.proofs.command.run_steps.Goals as goal
+use Rattle.range_commands.proofs.command.run_by.Goals as goal
 
 pub loop-command-preserved : goal.loop-command-preserved
 loop-command-preserved g c =
@@ -11,7 +12,7 @@ loop-command-preserved g c =
     let more = ap length c.in-Some.ensures.steps.0 in
     record {
       left = append_assoc c.loop-command.yielded (c.in-Some.command ∷ []) c.next.new.self.rest.items ∙ (ap (λ rest. c.loop-command.yielded ++ rest) (sym c.in-Some.ensures.steps.0) ∙ was.left);
-      chain = rw c.in-Ok.ensures.items (one_more_counted order g.V.PartialEq.eq (MayAnswerTo g.F.Fn c.args.f.now) (λ s. g.C.Storage.items s) (λ s. g.C.Storage.least_asks s) (λ s. g.C.Storage.most_asks s) c.args.map.now c.loop-command.map c.answer_counted-reply.new.map c.loop-command.yielded c.loop-command.replies.items c.in-Some.command c.answer_counted-reply.result c.args.steps.now c.loop-command.steps c.answer_counted-reply.new.steps was.chain c.answer_counted-reply.ensures.step c.answer_counted-reply.ensures.takes);
+      chain = rw c.in-Ok.ensures.items (one_more_counted order g.V.PartialEq.eq (MayAnswerTo g.F.Fn c.args.f.now) (λ s. g.C.Storage.items s) (λ s. least_if c.args.is_counted (g.C.Storage.least_asks s)) (λ s. g.C.Storage.most_asks s) c.args.map.now c.loop-command.map c.answer_by-reply.new.map c.loop-command.yielded c.loop-command.replies.items c.in-Some.command c.answer_by-reply.result c.args.steps.now c.loop-command.steps c.answer_by-reply.new.steps was.chain c.answer_by-reply.ensures.step c.answer_by-reply.ensures.takes);
       space = omega (arith, was.space, more, c.in-Ok.ensures.len, c.in-Ok.ensures.capacity);
     }
 
@@ -22,14 +23,14 @@ returns-clause-run g c =
     let all = prefix_is_all c.loop-command.yielded rest.items c.args.commands.items c.loop-command.invariant.left none in
     rw (← all) c.loop-command.invariant.chain
 
-pub answer_counted-reply-requires-clause-keys : goal.answer_counted-reply-requires-clause-keys
-answer_counted-reply-requires-clause-keys g c = c.requires.keys
+pub answer_by-reply-requires-clause-keys : goal.answer_by-reply-requires-clause-keys
+answer_by-reply-requires-clause-keys g c = c.requires.keys
 
-pub answer_counted-reply-requires-clause-values : goal.answer_counted-reply-requires-clause-values
-answer_counted-reply-requires-clause-values g c = c.requires.values
+pub answer_by-reply-requires-clause-values : goal.answer_by-reply-requires-clause-values
+answer_by-reply-requires-clause-values g c = c.requires.values
 
-pub answer_counted-reply-requires-clause-callable : goal.answer_counted-reply-requires-clause-callable
-answer_counted-reply-requires-clause-callable g c = c.requires.callable
+pub answer_by-reply-requires-clause-callable : goal.answer_by-reply-requires-clause-callable
+answer_by-reply-requires-clause-callable g c = c.requires.callable
 
 pub loop-command-init : goal.loop-command-init
 loop-command-init g c = record {
