@@ -19,10 +19,10 @@ use Rattle.range_algebra.proofs.Holding.{holds_by_position}
 use Rattle.range_store.specs.declared.storage.Item.{Item}
 use Rattle.range_store.specs.Places.{IsAt, IsFrontOf}
 use Rattle.range_store.proofs.Places.{place_at}
-use Rattle.range_algebra.specs.Intervals.{Le, Lt, Every}
+use Rattle.range_algebra.specs.Intervals.{Any, Le, Lt, Every}
 use Rattle.range_algebra.specs.Orders.{lt_not_le, not_lt, lt_le_trans, le_lt_trans, lt_trans, lt_of}
 use Rattle.range_map.specs.Stored.{IsStored}
-use Rattle.range_map.specs.Bindings.{IsStoredFor, IsBound, BindsTo}
+use Rattle.range_map.specs.Bindings.{IsItemFor, IsStoredFor, IsBound, BindsTo}
 use Rattle.range_map.specs.Window.{IsFound, IsJustBefore}
 use Rattle.range_map.proofs.Forms.{places}
 use Rattle.range_map.proofs.Listed.{IsListed, stored_list_is_listed}
@@ -146,10 +146,21 @@ module _ {K : Type 0} (order : KeyOrder K) (lawful : IsLawful order) {V : Type 0
       let ends : Every (λ i. Le (places order lawful) (Beside k At) (End i)) (x ∷ drop (place + 1) items) = rw more at above in
       (holds_by_position order lawful x.key k key).1 (sym starts, ends.0)
 
-  pub stored_at : (items : List (Item (AnyRange K) V)) (k : K) (place : ℕ) (x : Item (AnyRange K) V) → place < length items → x ≡ get_or items place x → Holds order x.key k → IsStoredFor order items k x.value
-  stored_at [] k place x within read held = absurd (omega arith)
-  stored_at (i ∷ rest) k zero x within read held = let at : x ≡ i = read in rw (← at) (inl (held, refl))
-  stored_at (i ∷ rest) k (suc place) x within read held = inr (stored_at rest k place x (omega arith) read held)
+  pub item_at : (items : List (Item (AnyRange K) V)) (place : ℕ) (x : Item (AnyRange K) V) → place < length items
+      → x ≡ get_or items place x → Any (λ j. j ≡ x) items
+  item_at [] place x within read = absurd (omega arith)
+  item_at (i ∷ rest) zero x within read = inl (sym read)
+  item_at (i ∷ rest) (suc place) x within read = inr (item_at rest place x (omega arith) read)
+
+  -- the value of an item that is stored for the key
+  pub stored_value : (items : List (Item (AnyRange K) V)) (k : K) (x : Item (AnyRange K) V) → IsItemFor order items k x
+      → IsStoredFor order items k x.value
+  stored_value [] k x at = absurd at.1
+  stored_value (i ∷ rest) k x at =
+      elim at.1 [
+        | inl here ↦ rw (← here) at (inl (rw (← here) at at.0, refl))
+        | inr later ↦ inr (stored_value rest k x (at.0, later))
+      ]
 
   pub bound_at : (items : List (Item (AnyRange K) V)) (k : K) (place : ℕ) (x : Item (AnyRange K) V) → IsEquivalence same → place < length items → x ≡ get_or items place x → Holds order x.key k → BindsTo order same items k x.value
   bound_at [] k place x equal within read held = absurd (omega arith)

@@ -3,4 +3,3 @@
 pub mod append;
 pub mod disjoint;
 pub mod scan;
-pub mod taking;

@@ -1,13 +1,15 @@
 //! A map from ranges of keys to values.
 ghost use Rattle.std.specs.Prelude.{◌≡◌, ◌+◌, [], length, IfSome};
-ghost use Rattle.std.specs.Option.{option_copied};
+ghost use Rattle.std.specs.Option.{option_copied, option_map};
 ghost use Rattle.range_map.specs.Stored.{IsStored};
 ghost use Rattle.range_keys.specs.Order.{IsComplete};
 ghost use Rattle.range_store.specs.Counting.{AddsSteps};
-ghost use Rattle.range_map.specs.Bindings.{Binds, IsCoarse, IsStoredFor, IsOnlyCoarse, IsLeastCount};
+ghost use Rattle.range_map.specs.Bindings.{Binds, IsCoarse, IsItemFor, IsStoredFor, IsOnlyCoarse, IsLeastCount};
+ghost use Rattle.range_map.specs.Iterating.{shown_item};
 
 mod clone;
 mod compare;
+mod ends;
 mod gaps;
 mod insert;
 mod insert_disconnected;
@@ -110,6 +112,31 @@ impl<K: PartialEnum, V: Eq + Drop, C: Storage<Item<AnyRange<K>, V>>> RangeMap<K,
         self.stored.len()
     }
 
+    /// The stored item whose range holds the key; adds the steps that it takes to find it.
+    fn stored_for(&self, key: K, steps: &mut Steps) -> Option<&Item<AnyRange<K>, V>>
+        ensures value { Binds K.order V.eq (C.items self.now) key
+            (option_map (λ i. i.now.value) result) }
+        ensures stored { IfSome result (λ i. IsItemFor K.order (C.items self.now) key i.now) }
+        ensures counted { AddsSteps steps.old steps.new (C.least_asks self.now)
+            (C.most_asks self.now + 1) }
+        ensures none { C.items self.now ≡ [] → AddsSteps steps.old steps.new 0 0 }
+    {
+        key.known();
+        let bound = Directed::Start(Bound::Included(&key));
+        let (_, from) = find::<K, V, C>(&self.stored, &bound, steps);
+        match from {
+            None => None,
+            Some(p) => {
+                let item = self.stored.get(p);
+                if starts_past::<K, V>(item, &bound, steps) {
+                    None
+                } else {
+                    Some(item)
+                }
+            }
+        }
+    }
+
     /// The value to which the key is bound, or none.
     ///
     /// Costs one search and one comparison more. Allocates nothing.
@@ -144,19 +171,30 @@ impl<K: PartialEnum, V: Eq + Drop, C: Storage<Item<AnyRange<K>, V>>> RangeMap<K,
             (C.most_asks self.now + 1) }
         ensures none { C.items self.now ≡ [] → AddsSteps steps.old steps.new 0 0 }
     {
-        key.known();
-        let bound = Directed::Start(Bound::Included(&key));
-        let (_, from) = find::<K, V, C>(&self.stored, &bound, steps);
-        match from {
+        match self.stored_for(key, steps) {
+            Some(item) => Some(&item.value),
             None => None,
-            Some(p) => {
-                let item = self.stored.get(p);
-                if starts_past::<K, V>(item, &bound, steps) {
-                    None
-                } else {
-                    Some(&item.value)
-                }
-            }
+        }
+    }
+
+    /// The stored range that holds the key, with its value, or none where the key is not bound.
+    ///
+    /// Costs one search and one comparison more. Allocates nothing.
+    ///
+    /// ```
+    /// // of a map that binds 0..=5 to 1
+    /// assert!(rt; map.get_key_value(5) == map.first_range_value());
+    /// ```
+    pub fn get_key_value(&self, key: K) -> Option<(&AnyRange<K>, &V)>
+        ensures value { Binds K.order V.eq (C.items self.now) key
+            (option_map (λ pair. pair.1.now) result) }
+        ensures stored { IfSome result
+            (λ pair. IsItemFor K.order (C.items self.now) key (shown_item pair)) }
+    {
+        let mut steps = Steps::new();
+        match self.stored_for(key, &mut steps) {
+            Some(item) => Some(item.as_pair()),
+            None => None,
         }
     }
 

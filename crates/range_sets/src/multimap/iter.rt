@@ -11,7 +11,6 @@ use super::{Iter, RangeMultiMap};
 use crate::members::MaybeEmpty;
 use range_algebra::any::AnyRange;
 use range_keys::traits::PartialEnum;
-use range_map::inner::taking::{take_first, take_last};
 use range_map::map::RangeMap;
 use range_store::storage::{Item, Storage};
 use std::marker::Model;
@@ -42,7 +41,7 @@ impl<K: PartialEnum, S: MaybeEmpty, C: Storage<Item<AnyRange<K>, S>>> Iterator
     ghost remaining = { item_count (λ rest. rest) };
 
     fn next(&mut self) -> Option<(AnyRange<K>, S)> {
-        take_first(&mut self.map)
+        self.map.pop_first()
     }
 
     fn size_hint(&self) -> (usize, Option<usize>) {
@@ -56,7 +55,7 @@ impl<K: PartialEnum, S: MaybeEmpty, C: Storage<Item<AnyRange<K>, S>>> DoubleEnde
     ghost next_back_gives = { YieldsLastBy pair_item (λ rest. rest) };
 
     fn next_back(&mut self) -> Option<(AnyRange<K>, S)> {
-        take_last(&mut self.map)
+        self.map.pop_last()
     }
 }
 

@@ -7,7 +7,6 @@ ghost use Rattle.range_sets.specs.KeySets.{IsStoredSet};
 use super::RangeSet;
 use range_algebra::any::AnyRange;
 use range_keys::traits::PartialEnum;
-use range_map::inner::taking::take_first;
 use range_map::map::RangeMap;
 use range_store::storage::{Item, Storage};
 use std::marker::Model;
@@ -36,7 +35,7 @@ impl<T: PartialEnum, C: Storage<Item<AnyRange<T>, ()>>> Iterator for IntoIter<T,
     ghost remaining = { item_count (λ rest. rest) };
 
     fn next(&mut self) -> Option<AnyRange<T>> {
-        match take_first(&mut self.map) {
+        match self.map.pop_first() {
             Some((range, _)) => Some(range),
             None => None,
         }

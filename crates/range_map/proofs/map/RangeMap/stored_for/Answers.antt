@@ -1,6 +1,6 @@
 use Rattle.std.proofs.Common.{◌<◌, length, refl}
-use Rattle.range_map.proofs.Found.{none_bound, other_bound, bound_at, holds_at, stored_at, past_not}
-use Rattle.range_map.proofs.map.RangeMap.get_counted.Goals as goal
+use Rattle.range_map.proofs.Found.{none_bound, other_bound, bound_at, holds_at, item_at, past_not}
+use Rattle.range_map.proofs.map.RangeMap.stored_for.Goals as goal
 
 pub returns-in-None-clause-value : goal.returns-in-None-clause-value
 returns-in-None-clause-value g c =
@@ -37,4 +37,4 @@ returns-clause-stored g c =
     let place = storage.rank stored c.in-Some.p in
     let within : place < length items = g.met.C.Storage.good_is_in_range stored c.in-Some.p position.0 in
     let held = holds_at g.K.MaybeBounded.order g.met.K.PartialEnum.lawful g.V.PartialEq.eq items c.args.key place c.get-item.result.now c.known.ensures within c.get-item.ensures (rw c.in-Some.is at c.find-from.ensures.found.above) c.if-starts_past.ensures.past in
-    rw (← c.self.view_is) (stored_at g.K.MaybeBounded.order g.met.K.PartialEnum.lawful g.V.PartialEq.eq items c.args.key place c.get-item.result.now within c.get-item.ensures held)
+    rw (← c.self.view_is) (held, item_at g.K.MaybeBounded.order g.met.K.PartialEnum.lawful g.V.PartialEq.eq items place c.get-item.result.now within c.get-item.ensures)

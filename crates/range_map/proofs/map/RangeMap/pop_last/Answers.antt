@@ -6,7 +6,7 @@ use Rattle.range_algebra.specs.declared.any.AnyRange.{AnyRange}
 use Rattle.range_store.specs.declared.storage.Item.{Item}
 use Rattle.range_map.specs.Neighbours.{EachNext}
 use Rattle.range_map.specs.Stored.{IsStored}
-use Rattle.range_map.proofs.inner.taking.take_last.Goals as goal
+use Rattle.range_map.proofs.map.RangeMap.pop_last.Goals as goal
 
 module _ {X : Type 0} where
   all_front : (P : X → Type 0) (xs ys : List X) → AllByRecursion P (xs ++ ys) → AllByRecursion P xs
@@ -26,7 +26,7 @@ module _ {K : Type 0} (order : KeyOrder K) {V : Type 0} (same : V → V → Bool
   stored_without_last old new None form h = rw h.1 (rw h.0 at form)
   stored_without_last old new (Some x) form h = stored_front new (x ∷ []) (rw h at form)
 
-pub invariant_of-map : goal.invariant_of-map
-invariant_of-map g c =
+pub invariant_of-self : goal.invariant_of-self
+invariant_of-self g c =
     let items = g.C.Storage.items in
-    stored_without_last g.K.MaybeBounded.order g.V.PartialEq.eq (items c.map.inside.stored) (items c.pop_last.new.self) c.pop_last.result c.map.invariant c.pop_last.ensures.list
+    stored_without_last g.K.MaybeBounded.order g.V.PartialEq.eq (items c.self.inside.stored) (items c.pop_last.new.self) c.pop_last.result c.self.invariant c.pop_last.ensures.list
