@@ -10,6 +10,7 @@ ghost use Rattle.range_sets.specs.KeySets.{HoldsKey, IsLeastCount, IsStoredSet};
 mod clone;
 mod compare;
 mod complement;
+mod ends;
 mod extend;
 mod insert;
 mod into_iter;
