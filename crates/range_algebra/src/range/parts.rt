@@ -16,7 +16,7 @@ pub enum RelativePosition {
 }
 
 /// What is left of a range without another.
-#[derive(Drop)]
+#[derive(Drop, Debug)]
 pub enum Difference<T> {
     /// The part before the other range. The flag says whether the two ranges intersect.
     Before(AnyRange<T>, bool),
