@@ -1,5 +1,5 @@
 -- How many steps a run adds.
-use Rattle.std.proofs.Common.{◌≡◌, refl, ℕ, ◌+◌, ◌*◌, ◌^◌, ◌<◌, ◌≤◌, Bool, List, [], ◌∷◌, ◌++◌, length, ◌⊎◌, inl, inr, ap, arith, suc, zero}
+use Rattle.std.proofs.Common.{◌≡◌, refl, ℕ, ◌+◌, ◌*◌, ◌^◌, ◌<◌, ◌≤◌, Bool, true, false, List, [], ◌∷◌, ◌++◌, length, ◌⊎◌, inl, inr, ap, arith, suc, zero}
 use Rattle.std.specs.Prelude.{Option, Result, Ok, Err, IfOk, OnErr}
 use Rattle.range_keys.specs.Order.{KeyOrder}
 use Rattle.range_algebra.specs.Range.{IsEmptyRange}
@@ -11,7 +11,7 @@ use Rattle.range_store.specs.declared.btree.node.TheConstants.{CAPACITY}
 use Rattle.range_store.specs.declared.btree.searching.TheConstants.{HALVINGS}
 use Rattle.range_store.specs.declared.storage.Item.{Item}
 use Rattle.range_map.specs.Costs.{TakesAtLeast, TakesAsChange, IsGreatestLevel}
-use Rattle.range_commands.specs.CountedRuns.{HasNoMemory, IsDone, ChangeTakes, LookupTakes, TakesFor, IsDue, IsRunOfDue, IsCountedRun}
+use Rattle.range_commands.specs.CountedRuns.{least_if, HasNoMemory, IsDone, ChangeTakes, LookupTakes, TakesFor, IsDue, IsRunOfDue, IsCountedRun}
 use Rattle.range_commands.specs.Runs.{IsStep, IsRun, HasNoUpdate}
 use Rattle.range_commands.specs.declared.command.Command.{Command}
 use Rattle.range_commands.specs.declared.command.Command.TheVariants.{Insert, InsertDisconnected, Remove, Update, Get, Contains, Intersects, Count}
@@ -68,6 +68,33 @@ module _ {K : Type 0} (order : KeyOrder K) where
         ]
         | inr not_done ↦ inr (λ k. not_done k.0)
       ]
+
+least_if_most : (is_counted : Bool) (least : ℕ) → least_if is_counted least ≤ least
+least_if_most true least = omega arith
+least_if_most false least = omega arith
+
+module _ {K : Type 0} (order : KeyOrder K) {V : Type 0} (is_counted : Bool) (least most : ℕ) where
+  -- what is counted anyway takes as much where it need not be
+  pub change_if : (items next : List (Item (AnyRange K) V)) (r : AnyRange K) (done : Type 0)
+      (before after : ℕ) → ChangeTakes order least most items next r done before after
+      → ChangeTakes order (least_if is_counted least) most items next r done before after
+  change_if items next r done before after takes = record {
+    at_most = takes.at_most;
+    at_least = λ full. omega (arith, takes.at_least full, least_if_most is_counted least);
+    none = takes.none;
+  }
+
+  pub lookup_if : (items : List (Item (AnyRange K) V)) (empty : Type 0) (before after : ℕ)
+      → LookupTakes order least most items empty before after
+      → LookupTakes order (least_if is_counted least) most items empty before after
+  lookup_if items empty before after takes = record {
+    counted = λ full. record {
+      at_most = (takes.counted full).at_most;
+      at_least = omega (arith, (takes.counted full).at_least, least_if_most is_counted least);
+    };
+    idle = takes.idle;
+    none = takes.none;
+  }
 
 module _ {K : Type 0} (order : KeyOrder K) {V : Type 0} where
   -- a change, or a look-up, that is due takes at least one step

@@ -1,5 +1,6 @@
 use Rattle.std.proofs.Common.{ap, refl, rules}
 use Rattle.std.proofs.lemmas.Bool.{false≢true}
+use Rattle.range_commands.proofs.CountedRuns.{change_if, lookup_if}
 use Rattle.range_commands.proofs.Replies.{meets_some, meets_none}
 use Rattle.range_commands.proofs.command.answer_by.Goals as goal
 
@@ -74,7 +75,11 @@ returns-in-Ok-remove_counted-clause-step g c =
 pub returns-in-Ok-remove_counted-clause-takes : goal.returns-in-Ok-remove_counted-clause-takes
 returns-in-Ok-remove_counted-clause-takes g c =
     let done = c.in-Ok-remove_counted.ensures in
-    rw c.in-Remove.is (record { at_most = λ unrefused. done.most; at_least = done.least; none = done.empty_uncounted })
+    rw c.in-Remove.is (change_if g.K.MaybeBounded.order c.args.is_counted (g.C.Storage.least_asks c.args.map.now) (g.C.Storage.most_asks c.args.map.now) _ _ _ _ _ _ (record {
+      at_most = λ unrefused. done.most;
+      at_least = done.least;
+      none = done.empty_uncounted;
+    }))
 
 pub returns-in-Remove-clause-step : goal.returns-in-Remove-clause-step
 returns-in-Remove-clause-step g c =
@@ -89,7 +94,11 @@ returns-in-Remove-clause-step g c =
 pub returns-in-Remove-clause-takes : goal.returns-in-Remove-clause-takes
 returns-in-Remove-clause-takes g c =
     let refused = c.in-Err-Memory-remove_counted.ensures in
-    rw c.in-Remove.is (record { at_most = λ done. absurd done; at_least = refused.least; none = refused.empty_uncounted })
+    rw c.in-Remove.is (change_if g.K.MaybeBounded.order c.args.is_counted (g.C.Storage.least_asks c.args.map.now) (g.C.Storage.most_asks c.args.map.now) _ _ _ _ _ _ (record {
+      at_most = λ done. absurd done;
+      at_least = refused.least;
+      none = refused.empty_uncounted;
+    }))
 
 pub returns-in-Update-clause-step : goal.returns-in-Update-clause-step
 returns-in-Update-clause-step g c = rw c.in-Update.is (search rules)
@@ -101,13 +110,13 @@ pub returns-in-Ok-get_cloned-clause-step : goal.returns-in-Ok-get_cloned-clause-
 returns-in-Ok-get_cloned-clause-step g c = rw c.in-Get.is (c.in-Ok-get_cloned.ensures.value, refl)
 
 pub returns-in-Ok-get_cloned-clause-takes : goal.returns-in-Ok-get_cloned-clause-takes
-returns-in-Ok-get_cloned-clause-takes g c = rw c.in-Get.is c.get_cloned.ensures.takes
+returns-in-Ok-get_cloned-clause-takes g c = rw c.in-Get.is (lookup_if g.K.MaybeBounded.order c.args.is_counted (g.C.Storage.least_asks c.args.map.now) (g.C.Storage.most_asks c.args.map.now) _ _ _ _ c.get_cloned.ensures.takes)
 
 pub returns-in-Get-clause-step : goal.returns-in-Get-clause-step
 returns-in-Get-clause-step g c = rw c.in-Get.is (search rules)
 
 pub returns-in-Get-clause-takes : goal.returns-in-Get-clause-takes
-returns-in-Get-clause-takes g c = rw c.in-Get.is c.get_cloned.ensures.takes
+returns-in-Get-clause-takes g c = rw c.in-Get.is (lookup_if g.K.MaybeBounded.order c.args.is_counted (g.C.Storage.least_asks c.args.map.now) (g.C.Storage.most_asks c.args.map.now) _ _ _ _ c.get_cloned.ensures.takes)
 
 pub returns-in-Contains-clause-step : goal.returns-in-Contains-clause-step
 returns-in-Contains-clause-step g c = rw c.in-Contains.is (c.contains_key_counted.ensures.value, refl)
@@ -115,7 +124,7 @@ returns-in-Contains-clause-step g c = rw c.in-Contains.is (c.contains_key_counte
 pub returns-in-Contains-clause-takes : goal.returns-in-Contains-clause-takes
 returns-in-Contains-clause-takes g c =
     let told = c.contains_key_counted.ensures in
-    rw c.in-Contains.is (record { counted = λ some. told.counted; idle = told.none; none = λ empty. absurd empty })
+    rw c.in-Contains.is (lookup_if g.K.MaybeBounded.order c.args.is_counted (g.C.Storage.least_asks c.args.map.now) (g.C.Storage.most_asks c.args.map.now) _ _ _ _ (record { counted = λ some. told.counted; idle = told.none; none = λ empty. absurd empty }))
 
 pub returns-in-Intersects-clause-step : goal.returns-in-Intersects-clause-step
 returns-in-Intersects-clause-step g c = rw c.in-Intersects.is (c.intersects_counted.ensures.meets, refl)
@@ -123,7 +132,7 @@ returns-in-Intersects-clause-step g c = rw c.in-Intersects.is (c.intersects_coun
 pub returns-in-Intersects-clause-takes : goal.returns-in-Intersects-clause-takes
 returns-in-Intersects-clause-takes g c =
     let told = c.intersects_counted.ensures in
-    rw c.in-Intersects.is (record { counted = told.counted; idle = told.none; none = told.empty_uncounted })
+    rw c.in-Intersects.is (lookup_if g.K.MaybeBounded.order c.args.is_counted (g.C.Storage.least_asks c.args.map.now) (g.C.Storage.most_asks c.args.map.now) _ _ _ _ (record { counted = told.counted; idle = told.none; none = told.empty_uncounted }))
 
 pub returns-clause-step : goal.returns-clause-step
 returns-clause-step g c = rw c.in-Count.is (search rules)
