@@ -158,7 +158,7 @@ module _ {K : Type 0} (order : KeyOrder K) (lawful : IsLawful order) {V : Type 0
   stored_value [] k x at = absurd at.1
   stored_value (i ∷ rest) k x at =
       elim at.1 [
-        | inl here ↦ rw (← here) at (inl (rw (← here) at at.0, refl))
+        | inl here ↦ inl (rw here at.0, ap (λ j. j.value) here)
         | inr later ↦ inr (stored_value rest k x (at.0, later))
       ]
 

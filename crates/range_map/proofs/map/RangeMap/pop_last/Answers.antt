@@ -30,3 +30,6 @@ pub invariant_of-self : goal.invariant_of-self
 invariant_of-self g c =
     let items = g.C.Storage.items in
     stored_without_last g.K.MaybeBounded.order g.V.PartialEq.eq (items c.self.inside.stored) (items c.pop_last.new.self) c.pop_last.result c.self.invariant c.pop_last.ensures.list
+
+pub returns-clause-form : goal.returns-clause-form
+returns-clause-form g c = invariant_of-self g c
