@@ -4,6 +4,7 @@ pub mod ComplementTwice
 pub mod Complementing
 pub mod Counting
 pub mod Enclosing
+pub mod EndRanges
 pub mod Filled
 pub mod Filling
 pub mod Likeness
