@@ -1,6 +1,6 @@
 use crate::support::{NumberItem, Table, check, closed, half_open, new_map, range_count};
-use range_map::map::{MapError, RangeMap};
 use range_commands::command::{Command, Reply, answer, run};
+use range_map::map::{MapError, RangeMap};
 use range_store::storage::Storage;
 use std::alloc::{AllocError, Global};
 use std::test::Fail;

@@ -3,8 +3,8 @@
 use crate::support::{
     InTree, NumberItem, Range, Table, check_over_vector, closed, half_open, new_map,
 };
-use range_map::map::{MapError, RangeMap};
 use range_commands::command::{Command, Reply, run_counted};
+use range_map::map::{MapError, RangeMap};
 use range_store::storage::{Steps, Storage};
 use std::alloc::{AllocError, Global};
 use std::test::Fail;

@@ -14,6 +14,8 @@ mod counted;
 #[cfg(test)]
 mod drawn;
 #[cfg(test)]
+mod ends;
+#[cfg(test)]
 mod iterators;
 #[cfg(test)]
 mod keys;
