@@ -97,6 +97,17 @@ static NUMBERS: &[Step<'static, i32>] = &[
     Step::Remove(All),
     Step::Gather(&[HalfOpen(0, 2), HalfOpen(4, 6), HalfOpen(2, 4)]),
     Step::Size(1, 6),
+    Step::Gather(&[
+        HalfOpen(0, 2),
+        HalfOpen(4, 6),
+        HalfOpen(8, 9),
+        HalfOpen(20, 30),
+    ]),
+    Step::Holder(5, HalfOpen(4, 6)),
+    Step::PopEnds(HalfOpen(0, 2), HalfOpen(20, 30)),
+    Step::Size(2, 3),
+    Step::PopEnds(HalfOpen(4, 6), HalfOpen(8, 9)),
+    Step::Size(0, 0),
 ];
 
 #[test]

@@ -81,6 +81,10 @@ pub enum Step<'a, T> {
     Meets(Keys<T>, bool),
     /// The first stored range.
     First(Keys<T>),
+    /// The stored range that holds a key.
+    Holder(T, Keys<T>),
+    /// The first and the last stored range, which are taken out.
+    PopEnds(Keys<T>, Keys<T>),
     /// The only gap, and how many keys it holds.
     Gap(Keys<T>, u128),
     NoGap,
@@ -281,6 +285,12 @@ pub trait Played<T: Copy + PartialEq> {
 
     fn starts_with(&self, first: AnyRange<T>) -> bool;
 
+    /// Whether the range is the one that holds the key.
+    fn has_holder(&self, key: T, range: AnyRange<T>) -> bool;
+
+    /// Takes the first and the last range out. Whether they are these, and were shown as the ends.
+    fn pop_ends(&mut self, first: AnyRange<T>, last: AnyRange<T>) -> bool;
+
     /// Whether the range, of so many keys, is the only gap.
     fn has_one_gap(&self, range: AnyRange<T>, len: u128) -> Result<bool, MapError>
         requires { ClonesAreEqual T.is_clone T.eq };
@@ -344,6 +354,15 @@ impl<T: Key, C: Storage<Entry<T>>> Played<T> for RangeSet<T, C> {
 
     fn starts_with(&self, first: AnyRange<T>) -> bool {
         self.iter().next() == Some(&first)
+    }
+
+    fn has_holder(&self, key: T, range: AnyRange<T>) -> bool {
+        self.get(key) == Some(&range)
+    }
+
+    fn pop_ends(&mut self, first: AnyRange<T>, last: AnyRange<T>) -> bool {
+        let shown = self.first() == Some(&first) && self.last() == Some(&last);
+        shown && self.pop_first() == Some(first) && self.pop_last() == Some(last)
     }
 
     fn has_one_gap(&self, range: AnyRange<T>, len: u128) -> Result<bool, MapError>
@@ -420,6 +439,8 @@ fn goes<T: Copy + PartialEq, S: Played<T> + Ord + Across<S> + Across<O>, O: Play
         Step::Size(count, len) => Ok(set.has_size(*count, *len)),
         Step::Holds(key, held) => Ok(set.holds(*key) == *held),
         Step::First(keys) => Ok(set.starts_with(range_of(*keys))),
+        Step::Holder(key, keys) => Ok(set.has_holder(*key, range_of(*keys))),
+        Step::PopEnds(first, last) => Ok(set.pop_ends(range_of(*first), range_of(*last))),
         Step::Gap(keys, len) => set.has_one_gap(range_of(*keys), *len),
         Step::NoGap => Ok(set.has_no_gap()),
         Step::Shows(text) => set.shows(alloc, text),
