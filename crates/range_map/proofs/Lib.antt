@@ -1,10 +1,10 @@
 pub mod Adding
 pub mod Appending
-pub mod Asked
 pub mod Between
 pub mod ChainJoins
 pub mod ChainSides
 pub mod Chains
+pub mod ClosureAnswers
 pub mod Coarse
 pub mod Copying
 pub mod Covering

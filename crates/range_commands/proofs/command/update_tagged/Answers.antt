@@ -1,7 +1,7 @@
 use Rattle.std.proofs.Common.{rules, subst}
 use Rattle.range_commands.specs.Tagged.{MayAnswerTo}
 use Rattle.std.proofs.lemmas.Bool.{false≢true}
-use Rattle.range_map.proofs.Asked.{every_one, answered_as, rebound_as, fails_as}
+use Rattle.range_map.proofs.ClosureAnswers.{every_one, answered_as, rebound_as, fails_as}
 use Rattle.range_commands.proofs.command.update_tagged.Goals as goal
 
 pub update-requires-clause-bound : goal.update-requires-clause-bound

@@ -2,7 +2,7 @@ use Rattle.std.proofs.Common.{refl, subst, IsTrue}
 use Rattle.range_map.specs.Answers.{IsAsAnswered}
 use Rattle.range_sets.specs.Members.{HasAlso, among}
 use Rattle.range_sets.specs.Pairs.{HasPair}
-use Rattle.range_map.proofs.Asked.{every_one}
+use Rattle.range_map.proofs.ClosureAnswers.{every_one}
 use Rattle.range_sets.proofs.Pairing.{added, values_at, stay_bound, stays_full, not_refused}
 use Rattle.range_sets.proofs.multimap.RangeMultiMap.insert.Goals as goal
 

@@ -3,7 +3,7 @@ use Rattle.std.specs.Prelude.{IfSome}
 use Rattle.range_map.specs.Answers.{IsAsAnswered}
 use Rattle.range_sets.specs.Members.{HasAllBut, among}
 use Rattle.range_sets.specs.Pairs.{HasPair}
-use Rattle.range_map.proofs.Asked.{every_one}
+use Rattle.range_map.proofs.ClosureAnswers.{every_one}
 use Rattle.range_sets.proofs.Pairing.{removed, values_at, full_some, stay_bound, stays_full, not_refused}
 use Rattle.range_sets.proofs.multimap.RangeMultiMap.remove.Goals as goal
 
