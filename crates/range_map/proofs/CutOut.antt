@@ -84,17 +84,17 @@ module _ {K : Type 0} (order : KeyOrder K) (lawful : IsLawful order) {V : Type 0
   known_drop items n known = every_right _ (take n items) (drop n items) (rw (list_is_take_and_drop items n) at known)
 
   -- a range that meets nothing
-  pub unmet_is_unbound : {P : Type 0} (is_good : P → Type 0) (rank : P → ℕ) (items : List (Item (AnyRange K) V)) (r : AnyRange K) (w : Window P) (place : ℕ) →
-      IsStored order same items → IsKnownRange order r → (IsEmptyRange order r → ⊥) → IsWindow order is_good rank items r w place → w.count ≡ 0 → IsUnboundAfter order same items items r
-  unmet_is_unbound is_good rank items r w place stored known full window none =
+  pub unmet_is_unbound : {P : Type 0} {is_good : P → Type 0} {rank : P → ℕ} {items : List (Item (AnyRange K) V)} {r : AnyRange K} {w : Window P} {place : ℕ} →
+      IsWindow order same is_good rank items r w place → w.count ≡ 0 → IsUnboundAfter order same items items r
+  unmet_is_unbound {P} {is_good} {rank} {items} {r} {w} {place} window none =
       let cmp = places order lawful in
       let total = position_total order.cmp lawful.total in
-      let chain = stored_chain order lawful same equal items stored in
-      let all = stored_known order lawful same equal items stored in
-      let good = (nonempty_good order lawful r known).0 full in
+      let chain = stored_chain order lawful same equal items window.stored in
+      let all = stored_known order lawful same equal items window.stored in
+      let good = (nonempty_good order lawful r window.known).0 window.nonempty in
       let at : place + w.count ≡ place = omega (arith, none) in
       let behind : Every (λ i. Le cmp (upper order r) (item_lower order i)) (drop place items) = rw at at window.behind in
       let on_left = left_all items (take place items) (drop place items) (lower order r) (list_is_take_and_drop items place) chain window.below (every_weaker _ _ (drop place items) (λ i h. le_trans cmp total (lower order r) (upper order r) (item_lower order i) (lt_le cmp total (lower order r) (upper order r) good) h) behind) in
       let on_right = right_all items (take place items) (drop place items) (upper order r) (list_is_take_and_drop items place) chain (every_weaker _ _ (take place items) (λ i h. le_trans cmp total (item_upper order i) (lower order r) (upper order r) h (lt_le cmp total (lower order r) (upper order r) good)) window.below) behind in
       let result = places_between_are_unbound (places order lawful) (position_total order.cmp lawful.total) same equal (item_lower order) (item_upper order) (λ i. i.value) items (take place items) (drop place items) (lower order r) (upper order r) on_left on_right good in
-      unbound_after order lawful same equal items items r known all all (subst (λ (ys : List (Item (AnyRange K) V)). IsUnbound (places order lawful) (position_total order.cmp lawful.total) same equal (item_lower order) (item_upper order) (λ i. i.value) items ys (lower order r) (upper order r)) (sym (list_is_take_and_drop items place)) result)
+      unbound_after order lawful same equal items items r window.known all all (subst (λ (ys : List (Item (AnyRange K) V)). IsUnbound (places order lawful) (position_total order.cmp lawful.total) same equal (item_lower order) (item_upper order) (λ i. i.value) items ys (lower order r) (upper order r)) (sym (list_is_take_and_drop items place)) result)

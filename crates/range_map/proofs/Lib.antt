@@ -30,6 +30,7 @@ pub mod Meeting
 pub mod Merging
 pub mod Once
 pub mod Openings
+pub mod Planned
 pub mod Planning
 pub mod Rebinding
 pub mod Replaced
@@ -40,6 +41,7 @@ pub mod Searching
 pub mod Separating
 pub mod Splicing
 pub mod StoredLists
+pub mod Surrounded
 pub mod Updating
 pub mod Walking
 pub mod Windows

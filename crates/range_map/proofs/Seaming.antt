@@ -43,7 +43,7 @@ use Rattle.range_map.proofs.Endings.{last_of, regrouped_last, item_with_end, wit
 use Rattle.range_map.proofs.Forms.{places, Known, Chained, stored_known, stored_chain}
 use Rattle.range_map.proofs.Edging.{element_at, element_at_is_read}
 use Rattle.range_map.proofs.Openings.{cut_joins_none}
-use Rattle.range_map.proofs.Planning.{left_cut_plan, right_cut_plan, left_plan_free, left_joined_at, right_plan_joined, right_plan_plain}
+use Rattle.range_map.proofs.Planning.{left_cut_plan, right_cut_plan, left_plan_free, left_joined_at, right_joined_at, right_plan_plain}
 use Rattle.range_map.proofs.Splicing.{IsFilled, IsSpliced, filled_apart, filled_joined, spliced_apart, spliced_joined}
 
 pub got_only : {X : Type 0} (P : X → Type 0) (o : Option (Bor X)) (i : Bor X) → o ≡ Some i → P i.now → (m : X) → option_copied o ≡ Some m → P m
@@ -325,23 +325,23 @@ module _ {K : Type 0} (order : KeyOrder K) (lawful : IsLawful order) {V : Type 0
         let inside = every_right (λ i. LiesIn order i.key r) end.0 (m ∷ []) (subst (λ ys. Every (λ (i : Item (AnyRange K) V). LiesIn order i.key r) ys) end.2 within) in
         right_cutting (x ∷ xs) front start last edge (item_upper order m) stored in_range (le_trans cmp total (lower order r) (item_lower order m) (item_upper order m) inside.0.starts (lt_le cmp total (item_lower order m) (item_upper order m) full)) (h.0 m end.3) (subst (λ ys. Every (λ (i : Item (AnyRange K) V). Le cmp (item_upper order i) (item_upper order m)) ys) (sym end.2) below) fill known h.1
 
-module _ {K : Type 0} (order : KeyOrder K) (lawful : IsLawful order) {V : Type 0} (same : V → V → Bool) (equal : IsEquivalence same) {P : Type 0} (is_good : P → Type 0) (rank : P → ℕ) (items : List (Item (AnyRange K) V)) (r : AnyRange K) (w : Window P) (place : ℕ) (stored : IsStored order same items) (known : IsKnownRange order r) (full : IsEmptyRange order r → ⊥) (window : IsWindow order is_good rank items r w place) where
+module _ {K : Type 0} {order : KeyOrder K} (lawful : IsLawful order) {V : Type 0} {same : V → V → Bool} (equal : IsEquivalence same) {P : Type 0} {is_good : P → Type 0} {rank : P → ℕ} {items : List (Item (AnyRange K) V)} {r : AnyRange K} {w : Window P} {place : ℕ} (window : IsWindow order same is_good rank items r w place) where
   -- an item that reaches out of the range is cut
   pub left_cut_out : (first : Option P) (b : Bound K) (from : Option P) → ReachesBefore order is_good rank items r place w.count first → IsKnownBound order b → SameBound order (turned_bound r.start) b → IsAt is_good rank (length items) from (place + length (option_items first)) → IsLeftCutting order same lawful equal is_good rank items r place w.count first (edge_at first b) from
   left_cut_out first b from reach known_b same_b next =
-      let cut = left_cut_plan order lawful same equal is_good rank items r w place stored known full window first b reach known_b same_b in
+      let cut = left_cut_plan lawful equal window first b reach known_b same_b in
       record { rest = cut.rest; shape = cut.shape; side = cut.side; run = next; valued = every_weaker _ _ (option_items cut.rest) (λ j h. h.value) cut.made }
 
   -- no item reaches out of it, and the one before may join
   pub left_touched : (v : V) (joined : Option P) (b : Bound K) (behind : Option P) → ((p : P) → is_good p → rank p < length items) → ReachesBefore order is_good rank items r place w.count None → MatchOption joined (TouchesNoneBefore order same items place r v) (λ q. is_good q × (rank q + 1 ≡ place) × TouchesBefore order same items place r v) → IsAt is_good rank (length items) behind (place + 0) → IsLeftPlan order same lawful equal is_good rank items r v place w.count None (seam_edge joined None b) (option_or joined behind)
   left_touched v None b behind in_range reach none next =
       let plus : place + 0 ≡ place = omega arith in
-      left_plan_free order lawful same equal is_good rank items r w place stored known full window v behind (subst (λ n. IsAt is_good rank (length items) behind n) plus next) reach none
-  left_touched v (Some q) b behind in_range reach found next = left_joined_at order lawful same equal is_good rank items r w place stored known full window v q reach found.0 found.1 (in_range q found.0) found.2
+      left_plan_free lawful equal window v behind (subst (λ n. IsAt is_good rank (length items) behind n) plus next) reach none
+  left_touched v (Some q) b behind in_range reach found next = left_joined_at lawful equal window v q reach found.0 found.1 (in_range q found.0) found.2
 
   right_cut_from : (last : Option P) (b : Bound K) (upto : ℕ) → upto + length (option_items last) ≡ place + w.count → ReachesAfter order is_good rank items r place w.count last → IsKnownBound order b → SameBound order (turned_bound r.end) b → IsRightCutting order same lawful equal is_good rank items r place w.count last (edge_at last b)
   right_cut_from last b upto at reach known_b same_b =
-      let cut = right_cut_plan order lawful same equal is_good rank items r w place stored known full window last b upto at reach known_b same_b in
+      let cut = right_cut_plan lawful equal window last b upto at reach known_b same_b in
       record { upto = upto; rest = cut.rest; shape = cut.shape; side = cut.side; valued = every_weaker _ _ (option_items cut.rest) (λ j h. h.value) cut.made; ends = at }
 
   pub right_cut_any : (last : Option P) (b : Bound K) → ReachesAfter order is_good rank items r place w.count last → IsKnownBound order b → SameBound order (turned_bound r.end) b → IsRightCutting order same lawful equal is_good rank items r place w.count last (edge_at last b)
@@ -349,8 +349,5 @@ module _ {K : Type 0} (order : KeyOrder K) (lawful : IsLawful order) {V : Type 0
   right_cut_any (Some p) b reach known_b same_b = right_cut_from (Some p) b (place + w.count - 1) (omega (arith, reach.2)) reach known_b same_b
 
   pub right_touched : (v : V) (joined : Option P) (b : Bound K) → ((p : P) → is_good p → rank p < length items) → ReachesAfter order is_good rank items r place w.count None → MatchOption joined (TouchesNoneAfter order same items (place + w.count) r v) (λ q. is_good q × (rank q ≡ place + w.count) × TouchesAfter order same items (place + w.count) r v) → IsRightPlan order same lawful equal is_good rank items r v place w.count None (seam_edge joined None b)
-  right_touched v None b in_range reach none = right_plan_plain order lawful same equal is_good rank items r w place stored known full window v reach none
-  right_touched v (Some q) b in_range reach found =
-      let within = in_range q found.0 in
-      let x = element_at items (rank q) within in
-      right_plan_joined order lawful same equal is_good rank items r w place stored known full window v q x reach found.0 found.1 within (element_at_is_read items (rank q) within x) found.2
+  right_touched v None b in_range reach none = right_plan_plain lawful equal window v reach none
+  right_touched v (Some q) b in_range reach found = right_joined_at lawful equal window v q reach found.0 found.1 (in_range q found.0) found.2

@@ -7,7 +7,7 @@ use Rattle.range_keys.specs.Position.{start_position, end_position}
 use Rattle.range_keys.specs.PositionOrder.{position_total}
 use Rattle.range_keys.specs.declared.inner.position.Position.{Position}
 use Rattle.range_algebra.specs.declared.any.AnyRange.{AnyRange}
-use Rattle.range_algebra.specs.Range.{IsKnownRange}
+use Rattle.range_algebra.specs.Range.{IsEmptyRange, IsKnownRange}
 use Rattle.range_store.specs.declared.storage.Item.{Item}
 use Rattle.range_store.specs.Places.{place_before}
 use Rattle.range_algebra.specs.Intervals.{Le, Lt, Every}
@@ -31,10 +31,10 @@ module _ {K : Type 0} (order : KeyOrder K) (lawful : IsLawful order) {V : Type 0
       ((before_is order lawful r.end y.key.start known.1 others.0.0).0 (rw at at (h y (omega arith))))
 
   pub window_is : {P : Type 0} (is_good : P → Type 0) (rank : P → ℕ) (items : List (Item (AnyRange K) V)) (r : AnyRange K) (p e : Position K) (before from last after : Option P) (count : ℕ) →
-      IsKnownRange order r → IsStored order same items → p ≡ lower order r → e ≡ end_position order r.end →
+      IsKnownRange order r → (IsEmptyRange order r → ⊥) → IsStored order same items → p ≡ lower order r → e ≡ end_position order r.end →
       IsFound order is_good rank items p before from → IsWalk order is_good rank items e (place_before rank (length items) from) count last after →
-      IsWindow order is_good rank items r (record { before = before; from = from; count = count; last = last; after = after }) (place_before rank (length items) from)
-  window_is is_good rank items r p e before from last after count known stored at_start at_end found walk =
+      IsWindow order same is_good rank items r (record { before = before; from = from; count = count; last = last; after = after }) (place_before rank (length items) from)
+  window_is is_good rank items r p e before from last after count known nonempty stored at_start at_end found walk =
       let cmp = places order lawful in
       let place = place_before rank (length items) from in
       let all = stored_known order lawful same equal items stored in
@@ -42,6 +42,9 @@ module _ {K : Type 0} (order : KeyOrder K) (lawful : IsLawful order) {V : Type 0
       let known_parts : (n : ℕ) → Known order lawful same equal (take n items ++ drop n items) = λ n. rw (list_is_take_and_drop items n) at all in
       let chain_parts : (n : ℕ) → Chained order lawful same equal (take n items ++ drop n items) = λ n. rw (list_is_take_and_drop items n) at chain in
       record {
+        stored = stored;
+        known = known;
+        nonempty = nonempty;
         position = found.position;
         previous = found.previous;
         in_range = walk.in_range;

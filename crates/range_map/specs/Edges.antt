@@ -12,6 +12,8 @@ use Rattle.std.specs.Option.{unwrap_or}
 use Rattle.std.specs.declared.ops.Bound.TheVariants.{Unbounded}
 use Rattle.range_map.specs.declared.change.edges.Edge.{Edge}
 use Rattle.range_map.specs.declared.change.edges.Edge.TheVariants.{Plain, Cut, Joined}
+use Rattle.range_map.specs.declared.change.edges.JoinedBeside.{JoinedBeside}
+use Rattle.range_map.specs.declared.change.reach.Reach.{Reach}
 use Rattle.range_map.specs.Edits.{turned_bound, with_start, with_end}
 use Rattle.range_algebra.specs.Clones.{SameBound}
 use Rattle.range_algebra.specs.declared.any.AnyRange.{AnyRange}
@@ -159,3 +161,9 @@ module _ {K : Type 0} (order : KeyOrder K) {V : Type 0} (same : V → V → Bool
   -- the item just after it, if the range touches it and has an equal value
   abbrev pub IsJoinedAfter : Option P → Type 0
   IsJoinedAfter found = let end = place_before (rank stored) (length (items stored)) w.from + w.count in MatchOption found (TouchesNoneAfter order same (items stored) end r v) (λ q. is_good stored q × (rank stored q ≡ end) × TouchesAfter order same (items stored) end r v)
+
+module _ {K : Type 0} (order : KeyOrder K) {V : Type 0} (same : V → V → Bool) {P S : Type 0} (is_good : S → P → Type 0) (rank : S → P → ℕ) (items : S → List (Item (AnyRange K) V)) (stored : S) (r : AnyRange K) (v : V) (reach : Reach P) where
+  -- the items beside the window that the range joins, asked for where none reaches out of it
+  pub record AreJoinedBeside (joined : JoinedBeside P) : Type 0 where
+    pub before : reach.first ≡ None → IsJoinedBefore order same is_good rank items stored r v reach.window joined.before
+    pub after : reach.last ≡ None → IsJoinedAfter order same is_good rank items stored r v reach.window joined.after

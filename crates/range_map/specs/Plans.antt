@@ -12,7 +12,7 @@ use Rattle.range_algebra.specs.Intervals.{Every}
 use Rattle.range_algebra.specs.Relations.{Touches}
 use Rattle.range_map.specs.Frames.{IsStartOf, IsEndOf, IsNewItem}
 use Rattle.range_map.specs.Window.{option_items}
-use Rattle.range_map.specs.declared.change.window.Window.{Window}
+use Rattle.range_map.specs.declared.change.reach.Reach.{Reach}
 use Rattle.range_map.specs.Edges.{IsLeftEdge, IsRightEdge, IsLeftShape, IsRightShape, joined_count}
 
 module _ {K : Type 0} (order : KeyOrder K) {V : Type 0} (same : V → V → Bool) (items : List (Item (AnyRange K) V)) (r : AnyRange K) (v : V) (place count : ℕ) where
@@ -62,11 +62,11 @@ module _ {K : Type 0} (order : KeyOrder K) {V : Type 0} (same : V → V → Bool
     pub few : length (option_items rest) ≤ length (option_items last)
     pub ends : upto + length (option_items last) ≡ place + count + joined_count edge
 
-module _ {K : Type 0} (order : KeyOrder K) {V : Type 0} (same : V → V → Bool) {P : Type 0} {S : Type 0} (is_good : S → P → Type 0) (rank : S → P → ℕ) (items : S → List (Item (AnyRange K) V)) (stored : S) (r : AnyRange K) (v : V) (w : Window P) where
+module _ {K : Type 0} (order : KeyOrder K) {V : Type 0} (same : V → V → Bool) {P : Type 0} {S : Type 0} (is_good : S → P → Type 0) (rank : S → P → ℕ) (items : S → List (Item (AnyRange K) V)) (stored : S) (r : AnyRange K) (v : V) (reach : Reach P) where
   -- what becomes of the items before a window, and where the run starts
-  abbrev pub IsPlannedBefore : Option P → Edge K P → Option P → Type 0
-  IsPlannedBefore first edge from = (lawful : IsLawful order) → (equal : IsEquivalence same) → IsLeftPlan order same lawful equal (is_good stored) (rank stored) (items stored) r v (place_before (rank stored) (length (items stored)) w.from) w.count first edge from
+  abbrev pub IsPlannedBefore : Edge K P → Option P → Type 0
+  IsPlannedBefore edge from = (lawful : IsLawful order) → (equal : IsEquivalence same) → IsLeftPlan order same lawful equal (is_good stored) (rank stored) (items stored) r v (place_before (rank stored) (length (items stored)) reach.window.from) reach.window.count reach.first edge from
 
   -- what becomes of the items after it
-  abbrev pub IsPlannedAfter : Option P → Edge K P → Type 0
-  IsPlannedAfter last edge = (lawful : IsLawful order) → (equal : IsEquivalence same) → IsRightPlan order same lawful equal (is_good stored) (rank stored) (items stored) r v (place_before (rank stored) (length (items stored)) w.from) w.count last edge
+  abbrev pub IsPlannedAfter : Edge K P → Type 0
+  IsPlannedAfter edge = (lawful : IsLawful order) → (equal : IsEquivalence same) → IsRightPlan order same lawful equal (is_good stored) (rank stored) (items stored) r v (place_before (rank stored) (length (items stored)) reach.window.from) reach.window.count reach.last edge

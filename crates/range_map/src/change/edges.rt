@@ -1,17 +1,16 @@
 //! What a range that is bound leaves or joins on each side.
-ghost use Rattle.std.specs.Prelude.{◌≡◌, ◌+◌, ◌-◌, ◌≤◌, length, None, IfOk};
+ghost use Rattle.std.specs.Prelude.{◌≡◌, ◌+◌, IfOk};
 ghost use Rattle.range_keys.specs.Position.{bound_of, start_position};
 ghost use Rattle.range_algebra.specs.Compared.{starts_at_end};
-ghost use Rattle.range_algebra.specs.Range.{ClonesAreEqual, IsEmptyRange};
+ghost use Rattle.range_algebra.specs.Range.{ClonesAreEqual};
 ghost use Rattle.range_store.specs.Counting.{AddsSteps};
-ghost use Rattle.range_map.specs.Stored.{IsStored};
-ghost use Rattle.range_map.specs.Window.{option_items, IsWindowOf};
-ghost use Rattle.range_map.specs.Reach.{IsFirstReaching, IsLastReaching};
-ghost use Rattle.range_map.specs.Edges.{joined_count, IsCutAt, IsJoinedBefore, IsJoinedAfter};
+ghost use Rattle.range_map.specs.Window.{IsWindowOf};
+ghost use Rattle.range_map.specs.Reach.{inner_count, AreApart, IsReachOf};
+ghost use Rattle.range_map.specs.Edges.{joined_count, IsCutAt, IsJoinedBefore, IsJoinedAfter, AreJoinedBeside};
 ghost use Rattle.range_map.specs.Plans.{IsPlannedBefore, IsPlannedAfter};
 
 use crate::change::cut::cut_bound;
-use crate::change::reach::item_count;
+use crate::change::reach::{Reach, item_count};
 use crate::change::window::Window;
 use range_algebra::any::AnyRange;
 use range_algebra::inner;
@@ -88,7 +87,7 @@ pub(crate) fn joined_before<K: PartialEnum, V: Eq + Drop, C: Storage<Item<AnyRan
     value: &V,
     steps: &mut Steps,
 ) -> Option<C::Position>
-    requires window { IsWindowOf K.order C.is_good C.rank C.items stored.now range.now window.now }
+    requires { IsWindowOf K.order V.eq C.is_good C.rank C.items stored.now range.now window.now }
     ensures joined { IsJoinedBefore K.order V.eq C.is_good C.rank C.items stored.now range.now
         value.now window.now result }
     ensures counted { AddsSteps steps.old steps.new 0 1 }
@@ -115,7 +114,7 @@ pub(crate) fn joined_after<K: PartialEnum, V: Eq + Drop, C: Storage<Item<AnyRang
     value: &V,
     steps: &mut Steps,
 ) -> Option<C::Position>
-    requires window { IsWindowOf K.order C.is_good C.rank C.items stored.now range.now window.now }
+    requires { IsWindowOf K.order V.eq C.is_good C.rank C.items stored.now range.now window.now }
     ensures joined { IsJoinedAfter K.order V.eq C.is_good C.rank C.items stored.now range.now
         value.now window.now result }
     ensures counted { AddsSteps steps.old steps.new 0 1 }
@@ -137,70 +136,56 @@ pub(crate) fn joined_after<K: PartialEnum, V: Eq + Drop, C: Storage<Item<AnyRang
 /// The items just before and after a window that a bound range touches and whose value equals its
 /// own. Both are `None` where the range is not compared with them.
 #[derive(Drop)]
-pub struct Joined<P: Copy> {
+pub struct JoinedBeside<P: Copy> {
     pub before: Option<P>,
     pub after: Option<P>,
 }
 
 /// The items beside a window that the range joins; it is compared with none on a side where one
-/// that it meets reaches out of it (`first` before it, `last` after it).
+/// that it meets reaches out of it.
 pub(crate) fn joined_beside<K: PartialEnum, V: Eq + Drop, C: Storage<Item<AnyRange<K>, V>>>(
     stored: &C,
-    window: &Window<C::Position>,
-    first: &Option<C::Position>,
-    last: &Option<C::Position>,
+    reach: &Reach<C::Position>,
     range: &AnyRange<K>,
     value: &V,
     steps: &mut Steps,
-) -> Joined<C::Position>
-    requires window { IsWindowOf K.order C.is_good C.rank C.items stored.now range.now window.now }
-    ensures before { first.now ≡ None
-        → IsJoinedBefore K.order V.eq C.is_good C.rank C.items stored.now range.now value.now
-        window.now result.before }
-    ensures after { last.now ≡ None
-        → IsJoinedAfter K.order V.eq C.is_good C.rank C.items stored.now range.now value.now
-        window.now result.after }
+) -> JoinedBeside<C::Position>
+    requires { IsReachOf K.order V.eq C.is_good C.rank C.items stored.now range.now reach.now }
+    ensures joined { AreJoinedBeside K.order V.eq C.is_good C.rank C.items stored.now range.now
+        value.now reach.now result }
     ensures counted { AddsSteps steps.old steps.new 0 2 }
 {
-    let before = match first {
+    let before = match reach.first {
         Some(_) => None,
-        None => joined_before::<K, V, C>(stored, window, range, value, steps),
+        None => joined_before::<K, V, C>(stored, &reach.window, range, value, steps),
     };
-    let after = match last {
+    let after = match reach.last {
         Some(_) => None,
-        None => joined_after::<K, V, C>(stored, window, range, value, steps),
+        None => joined_after::<K, V, C>(stored, &reach.window, range, value, steps),
     };
-    Joined { before, after }
+    JoinedBeside { before, after }
 }
 
-/// What a bound range leaves or joins before it; `first` is the item that reaches out of it there,
-/// `before` the one that it joins.
+/// What a bound range leaves or joins before it; `joined` are the items that it joins there.
 pub(crate) fn left_side<K: PartialEnum + Clone, V: Eq + Drop, C: Storage<Item<AnyRange<K>, V>>>(
     stored: &C,
-    window: &Window<C::Position>,
-    first: Option<C::Position>,
-    before: Option<C::Position>,
+    reach: &Reach<C::Position>,
+    joined: &JoinedBeside<C::Position>,
     range: &AnyRange<K>,
     value: &V,
 ) -> Result<LeftSide<K, C::Position>, AllocError>
     requires keys { ClonesAreEqual K.is_clone K.eq }
-    requires stored { IsStored K.order V.eq (C.items stored.now) }
-    requires nonempty { ¬ IsEmptyRange K.order range.now }
-    requires window { IsWindowOf K.order C.is_good C.rank C.items stored.now range.now window.now }
-    requires first { IsFirstReaching K.order C.is_good C.rank C.items stored.now range.now
-        window.now first }
-    requires before { first ≡ None
-        → IsJoinedBefore K.order V.eq C.is_good C.rank C.items stored.now range.now value.now
-        window.now before }
+    requires reach { IsReachOf K.order V.eq C.is_good C.rank C.items stored.now range.now
+        reach.now }
+    requires joined { AreJoinedBeside K.order V.eq C.is_good C.rank C.items stored.now range.now
+        value.now reach.now joined.now }
     ensures { IfOk result
         (λ side. IsPlannedBefore K.order V.eq C.is_good C.rank C.items stored.now range.now
-        value.now window.now first side.edge side.from) }
+        value.now reach.now side.edge side.from) }
 {
-    inner::known(range);
-    match first {
+    match reach.first {
         Some(first) => {
             let item = stored.get(first);
-            inner::known(&item.key);
             let joins = item.value == *value;
             if joins {
                 return Ok(LeftSide {
@@ -214,47 +199,39 @@ pub(crate) fn left_side<K: PartialEnum + Clone, V: Eq + Drop, C: Storage<Item<An
                 from: stored.next(first),
             })
         }
-        None => match before {
+        None => match joined.before {
             Some(before) => Ok(LeftSide {
                 edge: Edge::Joined(before),
                 from: Some(before),
             }),
             None => Ok(LeftSide {
                 edge: Edge::Plain,
-                from: window.from,
+                from: reach.window.from,
             }),
         },
     }
 }
 
-/// What a bound range leaves or joins after it; `last` is the item that reaches out of it there,
-/// `after` the one that it joins.
+/// What a bound range leaves or joins after it.
 pub(crate) fn right_side<K: PartialEnum + Clone, V: Eq + Drop, C: Storage<Item<AnyRange<K>, V>>>(
     stored: &C,
-    window: &Window<C::Position>,
-    last: Option<C::Position>,
-    after: Option<C::Position>,
+    reach: &Reach<C::Position>,
+    joined: &JoinedBeside<C::Position>,
     range: &AnyRange<K>,
     value: &V,
 ) -> Result<Edge<K, C::Position>, AllocError>
     requires keys { ClonesAreEqual K.is_clone K.eq }
-    requires stored { IsStored K.order V.eq (C.items stored.now) }
-    requires nonempty { ¬ IsEmptyRange K.order range.now }
-    requires window { IsWindowOf K.order C.is_good C.rank C.items stored.now range.now window.now }
-    requires last { IsLastReaching K.order C.is_good C.rank C.items stored.now range.now window.now
-        last }
-    requires after { last ≡ None
-        → IsJoinedAfter K.order V.eq C.is_good C.rank C.items stored.now range.now value.now
-        window.now after }
+    requires reach { IsReachOf K.order V.eq C.is_good C.rank C.items stored.now range.now
+        reach.now }
+    requires joined { AreJoinedBeside K.order V.eq C.is_good C.rank C.items stored.now range.now
+        value.now reach.now joined.now }
     ensures { IfOk result
         (λ edge. IsPlannedAfter K.order V.eq C.is_good C.rank C.items stored.now range.now value.now
-        window.now last edge) }
+        reach.now edge) }
 {
-    inner::known(range);
-    match last {
+    match reach.last {
         Some(last) => {
             let item = stored.get(last);
-            inner::known(&item.key);
             let joins = item.value == *value;
             if joins {
                 return Ok(Edge::Joined(last));
@@ -262,11 +239,8 @@ pub(crate) fn right_side<K: PartialEnum + Clone, V: Eq + Drop, C: Storage<Item<A
             let start = cut_bound(range.end_bound())?;
             Ok(Edge::Cut(last, start))
         }
-        None => match after {
-            Some(after) => {
-                inner::known(&stored.get(after).key);
-                Ok(Edge::Joined(after))
-            }
+        None => match joined.after {
+            Some(after) => Ok(Edge::Joined(after)),
             None => Ok(Edge::Plain),
         },
     }
@@ -280,47 +254,33 @@ pub struct Sides<K, P: Copy> {
     pub run: Cursor<P>,
 }
 
-/// What a bound range leaves or joins on both sides; `first` and `last` are the items that reach
-/// out of it there, `joined` the ones that it joins.
+/// What a bound range leaves or joins on both sides; `joined` are the items that it joins there.
 pub(crate) fn both_sides<K: PartialEnum + Clone, V: Eq + Drop, C: Storage<Item<AnyRange<K>, V>>>(
     stored: &C,
-    window: &Window<C::Position>,
-    first: Option<C::Position>,
-    last: Option<C::Position>,
-    joined: &Joined<C::Position>,
+    reach: &Reach<C::Position>,
+    joined: &JoinedBeside<C::Position>,
     range: &AnyRange<K>,
     value: &V,
 ) -> Result<Sides<K, C::Position>, AllocError>
     requires keys { ClonesAreEqual K.is_clone K.eq }
-    requires stored { IsStored K.order V.eq (C.items stored.now) }
-    requires nonempty { ¬ IsEmptyRange K.order range.now }
-    requires window { IsWindowOf K.order C.is_good C.rank C.items stored.now range.now window.now }
-    requires first { IsFirstReaching K.order C.is_good C.rank C.items stored.now range.now
-        window.now first }
-    requires last { IsLastReaching K.order C.is_good C.rank C.items stored.now range.now window.now
-        last }
-    requires before { first ≡ None
-        → IsJoinedBefore K.order V.eq C.is_good C.rank C.items stored.now range.now value.now
-        window.now joined.now.before }
-    requires after { last ≡ None
-        → IsJoinedAfter K.order V.eq C.is_good C.rank C.items stored.now range.now value.now
-        window.now joined.now.after }
-    requires apart { length (option_items first) + length (option_items last) ≤ window.now.count }
+    requires reach { IsReachOf K.order V.eq C.is_good C.rank C.items stored.now range.now
+        reach.now }
+    requires joined { AreJoinedBeside K.order V.eq C.is_good C.rank C.items stored.now range.now
+        value.now reach.now joined.now }
+    requires apart { AreApart reach.now }
     ensures left { IfOk result
         (λ sides. IsPlannedBefore K.order V.eq C.is_good C.rank C.items stored.now range.now
-        value.now window.now first sides.left sides.run.at) }
+        value.now reach.now sides.left sides.run.at) }
     ensures right { IfOk result
         (λ sides. IsPlannedAfter K.order V.eq C.is_good C.rank C.items stored.now range.now
-        value.now window.now last sides.right) }
+        value.now reach.now sides.right) }
     ensures run { IfOk result
         (λ sides. sides.run.left
-        ≡ joined_count sides.left
-        + (window.now.count - (length (option_items first) + length (option_items last)))
-        + joined_count sides.right) }
+        ≡ joined_count sides.left + inner_count reach.now + joined_count sides.right) }
 {
-    let left = left_side::<K, V, C>(stored, window, first, joined.before, range, value)?;
-    let right = right_side::<K, V, C>(stored, window, last, joined.after, range, value)?;
-    let inner = window.count - (item_count(&first) + item_count(&last));
+    let left = left_side::<K, V, C>(stored, reach, joined, range, value)?;
+    let right = right_side::<K, V, C>(stored, reach, joined, range, value)?;
+    let inner = reach.window.count - (item_count(&reach.first) + item_count(&reach.last));
     let count = joined_items(&left.edge) + inner + joined_items(&right);
     let run = Cursor {
         at: left.from,

@@ -1,20 +1,17 @@
 //! Letting a list of items stand for all that a range held.
 ghost use Rattle.std.specs.Prelude.{◌≡◌, ◌+◌, ◌≤◌, Option, length, option_copied, IfSome, OnOk, OnErr};
 ghost use Rattle.std.specs.declared.ops.Bound.{Bound};
-ghost use Rattle.range_algebra.specs.Range.{IsEmptyRange};
 ghost use Rattle.range_map.specs.Edits.{turned_bound};
 ghost use Rattle.range_map.specs.Pieces.{LiesIn};
-ghost use Rattle.range_map.specs.Reach.{IsFirstReaching, IsLastReaching};
+ghost use Rattle.range_map.specs.Reach.{AreApart, IsReachOf};
 ghost use Rattle.range_map.specs.Replaced.{AreWithin, IsReplaced};
 ghost use Rattle.range_map.specs.Seams.{seam_edge, IsJoiningFirst, IsJoiningLast};
 ghost use Rattle.range_map.specs.Stored.{IsStored};
-ghost use Rattle.range_map.specs.Window.{option_items, IsWindowOf};
 
 use crate::change::cut::{ends_after, starts_before, turned};
 use crate::change::edges::{Edge, joined_after, joined_before};
-use crate::change::reach::{item_count, run_start};
+use crate::change::reach::{Reach, item_count, run_start};
 use crate::change::splice::change_to;
-use crate::change::window::Window;
 use range_algebra::any::AnyRange;
 use range_algebra::inner;
 use range_keys::traits::Measure;
@@ -24,32 +21,25 @@ use std::alloc::AllocError;
 use std::ops::Bound;
 
 /// The stored item that becomes one with the first item to stand in a range, where there is one.
-///
-/// `first` is the item that reaches out of the range there.
 fn joined_left<K: Measure, V: Eq + Drop, C: Storage<Item<AnyRange<K>, V>>>(
     stored: &C,
-    window: &Window<C::Position>,
-    first: Option<C::Position>,
+    reach: &Reach<C::Position>,
     range: &AnyRange<K>,
     next: Option<&Item<AnyRange<K>, V>>,
 ) -> Option<C::Position>
-    requires stored { IsStored K.order V.eq (C.items stored.now) }
-    requires nonempty { ¬ IsEmptyRange K.order range.now }
-    requires window { IsWindowOf K.order C.is_good C.rank C.items stored.now range.now window.now }
-    requires first { IsFirstReaching K.order C.is_good C.rank C.items stored.now range.now
-        window.now first }
+    requires reach { IsReachOf K.order V.eq C.is_good C.rank C.items stored.now range.now
+        reach.now }
     requires within { IfSome next (λ i. LiesIn K.order i.now.key range.now) }
-    ensures { IsJoiningFirst K.order V.eq C.is_good C.rank C.items stored.now range.now window.now
-        (option_copied next.entry) first result }
+    ensures { IsJoiningFirst K.order V.eq C.is_good C.rank C.items stored.now range.now reach.now
+        (option_copied next.entry) result }
 {
-    inner::known(range);
     let Some(item) = next else {
         return None;
     };
     if starts_before(range, &item.key) {
         return None;
     }
-    match first {
+    match reach.first {
         Some(first) => {
             if stored.get(first).value == item.value {
                 Some(first)
@@ -59,31 +49,24 @@ fn joined_left<K: Measure, V: Eq + Drop, C: Storage<Item<AnyRange<K>, V>>>(
         }
         None => {
             let mut steps = Steps::new();
-            joined_before::<K, V, C>(stored, window, range, &item.value, &mut steps)
+            joined_before::<K, V, C>(stored, &reach.window, range, &item.value, &mut steps)
         }
     }
 }
 
 /// The stored item that becomes one with the last item to stand in a range, where there is one.
-///
-/// `last` is the item that reaches out of the range there.
 fn joined_right<K: Measure, V: Eq + Drop, C: Storage<Item<AnyRange<K>, V>>>(
     stored: &C,
-    window: &Window<C::Position>,
-    last: Option<C::Position>,
+    reach: &Reach<C::Position>,
     range: &AnyRange<K>,
     previous: Option<&Item<AnyRange<K>, V>>,
 ) -> Option<C::Position>
-    requires stored { IsStored K.order V.eq (C.items stored.now) }
-    requires nonempty { ¬ IsEmptyRange K.order range.now }
-    requires window { IsWindowOf K.order C.is_good C.rank C.items stored.now range.now window.now }
-    requires last { IsLastReaching K.order C.is_good C.rank C.items stored.now range.now window.now
-        last }
+    requires reach { IsReachOf K.order V.eq C.is_good C.rank C.items stored.now range.now
+        reach.now }
     requires within { IfSome previous (λ i. LiesIn K.order i.now.key range.now) }
-    ensures { IsJoiningLast K.order V.eq C.is_good C.rank C.items stored.now range.now window.now
-        (option_copied previous.entry) last result }
+    ensures { IsJoiningLast K.order V.eq C.is_good C.rank C.items stored.now range.now reach.now
+        (option_copied previous.entry) result }
 {
-    inner::known(range);
     let Some(item) = previous else {
         return None;
     };
@@ -91,7 +74,7 @@ fn joined_right<K: Measure, V: Eq + Drop, C: Storage<Item<AnyRange<K>, V>>>(
     if ends_after(range, &item.key) {
         return None;
     }
-    match last {
+    match reach.last {
         Some(last) => {
             if stored.get(last).value == item.value {
                 Some(last)
@@ -101,7 +84,7 @@ fn joined_right<K: Measure, V: Eq + Drop, C: Storage<Item<AnyRange<K>, V>>>(
         }
         None => {
             let mut steps = Steps::new();
-            joined_after::<K, V, C>(stored, window, range, &item.value, &mut steps)
+            joined_after::<K, V, C>(stored, &reach.window, range, &item.value, &mut steps)
         }
     }
 }
@@ -140,31 +123,23 @@ fn seams<K: Drop, P: Copy>(
 /// Clones nothing, and allocates only where more items come than are replaced.
 pub(crate) fn replace<K: Measure, V: Eq + Drop, C: Storage<Item<AnyRange<K>, V>>>(
     stored: &mut C,
-    window: &Window<C::Position>,
-    first: Option<C::Position>,
-    last: Option<C::Position>,
+    reach: &Reach<C::Position>,
     range: AnyRange<K>,
     middle: Vec<Item<AnyRange<K>, V>>,
 ) -> Result<(), AllocError>
-    requires stored { IsStored K.order V.eq (C.items stored.old) }
-    requires nonempty { ¬ IsEmptyRange K.order range }
-    requires window { IsWindowOf K.order C.is_good C.rank C.items stored.old range window.now }
-    requires first { IsFirstReaching K.order C.is_good C.rank C.items stored.old range window.now
-        first }
-    requires last { IsLastReaching K.order C.is_good C.rank C.items stored.old range window.now
-        last }
-    requires apart { length (option_items first) + length (option_items last) ≤ window.now.count }
+    requires reach { IsReachOf K.order V.eq C.is_good C.rank C.items stored.old range reach.now }
+    requires apart { AreApart reach.now }
     requires middle { IsStored K.order V.eq middle.items }
     requires within { AreWithin K.order middle.items range }
     ensures ok { OnOk result
         (IsReplaced K.order V.eq (C.items stored.old) (C.items stored.new) middle.items range) }
     ensures refused { OnErr result (C.items stored.new ≡ C.items stored.old) }
 {
-    inner::known(&range);
-    let before = joined_left::<K, V, C>(stored, window, first, &range, middle.first());
-    let behind = joined_right::<K, V, C>(stored, window, last, &range, middle.last());
-    let from = run_start::<K, V, C>(stored, window.from, first);
-    let inner = window.count - (item_count(&first) + item_count(&last));
+    let (first, last) = (reach.first, reach.last);
+    let before = joined_left::<K, V, C>(stored, reach, &range, middle.first());
+    let behind = joined_right::<K, V, C>(stored, reach, &range, middle.last());
+    let from = run_start::<K, V, C>(stored, reach.window.from, first);
+    let inner = reach.window.count - (item_count(&first) + item_count(&last));
     let count = item_count(&before) + inner + item_count(&behind);
     stored.reserve(middle.len().saturating_sub(count))?;
     let run = Cursor {

@@ -15,8 +15,7 @@ overflow_add-count g c =
     let left = c.in_ok-left.ensures g.met.K.PartialEnum.lawful g.met.V.Eq.laws in
     let right = c.in_ok-right.ensures g.met.K.PartialEnum.lawful g.met.V.Eq.laws in
     let within : right.upto ≤ right.end = upto_end (storage.is_good stored) (storage.is_good stored) (storage.rank stored) (storage.rank stored) items items (λ p h. (h, refl)) refl c.in_ok-right.right right.upto right.end right.rest right.finish right.shape in
-    let upto = run_ends left.begin (joined_count c.in_ok-left.left.edge) (place_before (storage.rank stored) (length items) c.args.window.now.from) (length (option_items c.args.first)) (length (option_items c.args.last)) c.args.window.now.count right.upto (joined_count c.in_ok-right.right) _ left.begins right.ends c.requires.apart refl in
-    omega (arith, upto, within, right.side.in_range, g.met.C.Storage.length_fits stored, c.joined_items.ensures, c.item_count.ensures, c.item_count-2.ensures)
+    omega (arith, left.begins, right.ends, c.requires.apart, within, right.side.in_range, g.met.C.Storage.length_fits stored, c.joined_items.ensures, c.item_count.ensures, c.item_count-2.ensures)
 
 pub overflow_add-count-2 : goal.overflow_add-count-2
 overflow_add-count-2 g c =
@@ -26,30 +25,13 @@ overflow_add-count-2 g c =
     let left = c.in_ok-left.ensures g.met.K.PartialEnum.lawful g.met.V.Eq.laws in
     let right = c.in_ok-right.ensures g.met.K.PartialEnum.lawful g.met.V.Eq.laws in
     let within : right.upto ≤ right.end = upto_end (storage.is_good stored) (storage.is_good stored) (storage.rank stored) (storage.rank stored) items items (λ p h. (h, refl)) refl c.in_ok-right.right right.upto right.end right.rest right.finish right.shape in
-    let upto = run_ends left.begin (joined_count c.in_ok-left.left.edge) (place_before (storage.rank stored) (length items) c.args.window.now.from) (length (option_items c.args.first)) (length (option_items c.args.last)) c.args.window.now.count right.upto (joined_count c.in_ok-right.right) _ left.begins right.ends c.requires.apart refl in
-    omega (arith, upto, within, right.side.in_range, g.met.C.Storage.length_fits stored, c.joined_items.ensures, c.joined_items-2.ensures, c.item_count.ensures, c.item_count-2.ensures)
+    omega (arith, left.begins, right.ends, c.requires.apart, within, right.side.in_range, g.met.C.Storage.length_fits stored, c.joined_items.ensures, c.joined_items-2.ensures, c.item_count.ensures, c.item_count-2.ensures)
 
 pub left_side-requires : goal.left_side-requires
-left_side-requires g c =
-    record {
-      keys = c.requires.keys;
-      stored = c.requires.stored;
-      nonempty = c.requires.nonempty;
-      window = c.requires.window;
-      first = c.requires.first;
-      before = c.requires.before;
-    }
+left_side-requires g c = record { keys = c.requires.keys; reach = c.requires.reach; joined = c.requires.joined }
 
 pub right_side-requires : goal.right_side-requires
-right_side-requires g c =
-    record {
-      keys = c.requires.keys;
-      stored = c.requires.stored;
-      nonempty = c.requires.nonempty;
-      window = c.requires.window;
-      last = c.requires.last;
-      after = c.requires.after;
-    }
+right_side-requires g c = record { keys = c.requires.keys; reach = c.requires.reach; joined = c.requires.joined }
 
 pub returns-in_err-left : goal.returns-in_err-left
 returns-in_err-left g c = record { left = error_has_no_value _ c.from_residual.result c.from_residual.ensures.0; right = error_has_no_value _ c.from_residual.result c.from_residual.ensures.0; run = error_has_no_value _ c.from_residual.result c.from_residual.ensures.0 }

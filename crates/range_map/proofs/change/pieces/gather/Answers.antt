@@ -65,8 +65,8 @@ ask_item-requires g c =
     let lawful = g.met.K.PartialEnum.lawful in
     let same = g.V.PartialEq.eq in
     let equal = g.met.V.Eq.laws in
-    let known = stored_known order lawful same equal items c.requires.stored in
-    let chain = stored_chain order lawful same equal items c.requires.stored in
+    let known = stored_known order lawful same equal items c.requires.window.stored in
+    let chain = stored_chain order lawful same equal items c.requires.window.stored in
     let full = all_full order lawful same equal r items known chain in
     let within_list = c.requires.window.in_range in
     let met = c.loop-met._met in
@@ -95,8 +95,8 @@ returns-in_err-ask_item g c =
     let lawful = g.met.K.PartialEnum.lawful in
     let same = g.V.PartialEq.eq in
     let equal = g.met.V.Eq.laws in
-    let known = stored_known order lawful same equal items c.requires.stored in
-    let chain = stored_chain order lawful same equal items c.requires.stored in
+    let known = stored_known order lawful same equal items c.requires.window.stored in
+    let chain = stored_chain order lawful same equal items c.requires.window.stored in
     let full = all_full order lawful same equal r items known chain in
     let within_list = c.requires.window.in_range in
     let met = c.loop-met._met in
@@ -105,14 +105,14 @@ returns-in_err-ask_item g c =
     let x = c.get.result.now in
     let within : place + met < length items = omega (arith, more, within_list) in
     let read : x ≡ get_or items (place + met) x = c.get.ensures ∙ ap (λ n. get_or items n x) here.1 in
-    let some = (nonempty_good order lawful r c.known.ensures).0 c.requires.nonempty in
-    let meets = run_at (λ i. Overlap order i.key r) items place w.count met x (all_meet order lawful same equal (storage.is_good stored) (storage.rank stored) items r w place c.requires.stored c.known.ensures c.requires.window) more within_list read in
+    let some = (nonempty_good order lawful r c.requires.window.known).0 c.requires.window.nonempty in
+    let meets = run_at (λ i. Overlap order i.key r) items place w.count met x (all_meet lawful equal c.requires.window) more within_list read in
     let list = listed_at items (place + met) x within read in
     let before = option_copied c.key_at-before.result in
     let was = c.loop-met.invariant.underway lawful equal before c.key_at-before.ensures in
     record {
       ok = error_has_no_value _ c.from_residual.result c.from_residual.ensures.0;
-      closure = λ e failed. gap_or_item_fails order lawful same equal g.F.Fn c.args.f.now items r c.known.ensures full chain some (take (place + met) items) (drop (place + met + 1) items) x list meets before c.loop-met.middle.items was e (c.ask_item.ensures.closure e (search rules));
+      closure = λ e failed. gap_or_item_fails order lawful same equal g.F.Fn c.args.f.now items r c.requires.window.known full chain some (take (place + met) items) (drop (place + met + 1) items) x list meets before c.loop-met.middle.items was e (c.ask_item.ensures.closure e (search rules));
     }
 
 pub next-at-requires : goal.next-at-requires
@@ -132,7 +132,7 @@ loop-met-preserved g c =
     let lawful = g.met.K.PartialEnum.lawful in
     let same = g.V.PartialEq.eq in
     let equal = g.met.V.Eq.laws in
-    let known = stored_known order lawful same equal items c.requires.stored in
+    let known = stored_known order lawful same equal items c.requires.window.stored in
     let within_list = c.requires.window.in_range in
     let met = c.loop-met._met in
     let more = c.loop-met-test.true in
@@ -142,7 +142,7 @@ loop-met-preserved g c =
     let read : x ≡ get_or items (place + met) x = c.get.ensures ∙ ap (λ n. get_or items n x) here.1 in
     let equal_keys = λ (a : g.row.K.Denot) (b : g.row.K.Denot) (h : g.K.Clone.is_clone a b).
     sym (g.met.K.MaybeBounded.order_is_cmp a b) ∙ (Equal-is (g.K.Ord.cmp a b)).0 (sym (g.met.K.Ord.matches_eq a b) ∙ c.requires.keys a b h) in
-    let meets = run_at (λ i. Overlap order i.key r) items place w.count met x (all_meet order lawful same equal (storage.is_good stored) (storage.rank stored) items r w place c.requires.stored c.known.ensures c.requires.window) more within_list read in
+    let meets = run_at (λ i. Overlap order i.key r) items place w.count met x (all_meet lawful equal c.requires.window) more within_list read in
     let list = listed_at items (place + met) x within read in
     let before = option_copied c.key_at-before.result in
     let next : storage.rank stored c.in-Some.p + 1 ≡ place + (met + 1) = omega (arith, here.1) in
@@ -152,7 +152,7 @@ loop-met-preserved g c =
       underway = λ lawful' equal' key h.
           let was' = c.loop-met.invariant.underway lawful' equal' before c.key_at-before.ensures in
           let is = h x ∙ ap (λ y. Some y) (ap (λ (i : Item (AnyRange g.row.K.Denot) g.row.V.Denot). i.key) (sym c.get.ensures)) in
-          rw (is, take_one_more items (place + met) (place + (met + 1)) x within read (omega arith)) (asked_item_is_underway order lawful' same equal' g.F.Fn c.args.f.now items r c.known.ensures (all_full order lawful' same equal' r items (stored_known order lawful' same equal' items c.requires.stored) (stored_chain order lawful' same equal' items c.requires.stored)) (stored_chain order lawful' same equal' items c.requires.stored) ((nonempty_good order lawful' r c.known.ensures).0 c.requires.nonempty) (take (place + met) items) (drop (place + met + 1) items) x list meets before c.loop-met.middle.items was' g.K.Clone.is_clone (bound_clone order lawful' g.K.Clone.is_clone equal_keys) c.ask_item.new.items.items c.in_ok-ask_item.ensures.ok);
+          rw (is, take_one_more items (place + met) (place + (met + 1)) x within read (omega arith)) (asked_item_is_underway order lawful' same equal' g.F.Fn c.args.f.now items r c.requires.window.known (all_full order lawful' same equal' r items (stored_known order lawful' same equal' items c.requires.window.stored) (stored_chain order lawful' same equal' items c.requires.window.stored)) (stored_chain order lawful' same equal' items c.requires.window.stored) ((nonempty_good order lawful' r c.requires.window.known).0 c.requires.window.nonempty) (take (place + met) items) (drop (place + met + 1) items) x list meets before c.loop-met.middle.items was' g.K.Clone.is_clone (bound_clone order lawful' g.K.Clone.is_clone equal_keys) c.ask_item.new.items.items c.in_ok-ask_item.ensures.ok);
     }
 
 pub key_at-requires : goal.key_at-requires
@@ -176,8 +176,8 @@ ask_gap-requires-clause-before g c =
     let lawful = g.met.K.PartialEnum.lawful in
     let same = g.V.PartialEq.eq in
     let equal = g.met.V.Eq.laws in
-    let known = stored_known order lawful same equal items c.requires.stored in
-    let chain = stored_chain order lawful same equal items c.requires.stored in
+    let known = stored_known order lawful same equal items c.requires.window.stored in
+    let chain = stored_chain order lawful same equal items c.requires.window.stored in
     let full = all_full order lawful same equal r items known chain in
     let within_list = c.requires.window.in_range in
     let all : place + c.loop-met._met ≡ place + w.count = omega (arith, c.loop-met-test.false, c.loop-met.auto._met-end) in
@@ -195,16 +195,16 @@ returns-in_err-ask_gap g c =
     let lawful = g.met.K.PartialEnum.lawful in
     let same = g.V.PartialEq.eq in
     let equal = g.met.V.Eq.laws in
-    let known = stored_known order lawful same equal items c.requires.stored in
-    let chain = stored_chain order lawful same equal items c.requires.stored in
+    let known = stored_known order lawful same equal items c.requires.window.stored in
+    let chain = stored_chain order lawful same equal items c.requires.window.stored in
     let full = all_full order lawful same equal r items known chain in
     let all : place + c.loop-met._met ≡ place + w.count = omega (arith, c.loop-met-test.false, c.loop-met.auto._met-end) in
-    let some = (nonempty_good order lawful r c.known.ensures).0 c.requires.nonempty in
+    let some = (nonempty_good order lawful r c.requires.window.known).0 c.requires.window.nonempty in
     let before = option_copied c.key_at.result in
     let was = rw all at (c.loop-met.invariant.underway lawful equal before c.key_at.ensures) in
     record {
       ok = error_has_no_value _ c.from_residual-in_err-ask_gap.result c.from_residual-in_err-ask_gap.ensures.0;
-      closure = λ e failed. fails_last order lawful same equal g.F.Fn c.args.f.now items r c.known.ensures full chain some (take (place + w.count) items) (drop (place + w.count) items) (list_is_take_and_drop items (place + w.count)) c.requires.window.behind before c.loop-met.middle.items was e (c.ask_gap.ensures.closure e (grind (arith, common_steps)));
+      closure = λ e failed. fails_last order lawful same equal g.F.Fn c.args.f.now items r c.requires.window.known full chain some (take (place + w.count) items) (drop (place + w.count) items) (list_is_take_and_drop items (place + w.count)) c.requires.window.behind before c.loop-met.middle.items was e (c.ask_gap.ensures.closure e (grind (arith, common_steps)));
     }
 
 pub returns : goal.returns
@@ -219,18 +219,18 @@ returns g c =
     let lawful = g.met.K.PartialEnum.lawful in
     let same = g.V.PartialEq.eq in
     let equal = g.met.V.Eq.laws in
-    let known = stored_known order lawful same equal items c.requires.stored in
-    let chain = stored_chain order lawful same equal items c.requires.stored in
+    let known = stored_known order lawful same equal items c.requires.window.stored in
+    let chain = stored_chain order lawful same equal items c.requires.window.stored in
     let full = all_full order lawful same equal r items known chain in
     let all : place + c.loop-met._met ≡ place + w.count = omega (arith, c.loop-met-test.false, c.loop-met.auto._met-end) in
     let equal_keys = λ (a : g.row.K.Denot) (b : g.row.K.Denot) (h : g.K.Clone.is_clone a b).
     sym (g.met.K.MaybeBounded.order_is_cmp a b) ∙ (Equal-is (g.K.Ord.cmp a b)).0 (sym (g.met.K.Ord.matches_eq a b) ∙ c.requires.keys a b h) in
     let clones = bound_clone order lawful g.K.Clone.is_clone equal_keys in
-    let some = (nonempty_good order lawful r c.known.ensures).0 c.requires.nonempty in
+    let some = (nonempty_good order lawful r c.requires.window.known).0 c.requires.window.nonempty in
     let before = option_copied c.key_at.result in
     let was = rw all at (c.loop-met.invariant.underway lawful equal before c.key_at.ensures) in
     record {
-      ok = last_gap_asked_is_gathered order lawful same equal g.F.Fn c.args.f.now items r c.known.ensures full chain some (take (place + w.count) items) (drop (place + w.count) items) (list_is_take_and_drop items (place + w.count)) c.requires.window.behind before c.loop-met.middle.items was g.K.Clone.is_clone clones c.ask_gap.new.items.items c.in_ok-ask_gap.ensures.ok;
+      ok = last_gap_asked_is_gathered order lawful same equal g.F.Fn c.args.f.now items r c.requires.window.known full chain some (take (place + w.count) items) (drop (place + w.count) items) (list_is_take_and_drop items (place + w.count)) c.requires.window.behind before c.loop-met.middle.items was g.K.Clone.is_clone clones c.ask_gap.new.items.items c.in_ok-ask_gap.ensures.ok;
       closure = λ e failed. absurd (cc);
     }
 

@@ -18,7 +18,7 @@ use Rattle.range_map.proofs.change.replace.replace.Goals.{After-item_count-3}
 use Rattle.range_map.proofs.change.replace.replace.Goals as goal
 
 -- how the run is divided between the items that join and those that are cut
-plan_is_replacement : (g : Over) (c : After-item_count-3 g) → IsReplacement g.K.MaybeBounded.order g.met.K.PartialEnum.lawful g.V.PartialEq.eq g.met.V.Eq.laws (g.C.Storage.is_good c.args.stored.now) (g.C.Storage.rank c.args.stored.now) (g.C.Storage.items c.args.stored.now) c.args.range (place_before (g.C.Storage.rank c.args.stored.now) (length (g.C.Storage.items c.args.stored.now)) c.args.window.now.from) c.args.window.now.count c.args.middle.items c.args.first c.args.last c.joined_left-before.result c.joined_right-behind.result c.run_start-from.result
+plan_is_replacement : (g : Over) (c : After-item_count-3 g) → IsReplacement g.K.MaybeBounded.order g.met.K.PartialEnum.lawful g.V.PartialEq.eq g.met.V.Eq.laws (g.C.Storage.is_good c.args.stored.now) (g.C.Storage.rank c.args.stored.now) (g.C.Storage.items c.args.stored.now) c.args.range (place_before (g.C.Storage.rank c.args.stored.now) (length (g.C.Storage.items c.args.stored.now)) c.args.reach.now.window.from) c.args.reach.now.window.count c.args.middle.items c.args.reach.now.first c.args.reach.now.last c.joined_left-before.result c.joined_right-behind.result c.run_start-from.result
 plan_is_replacement g c =
     let order = g.K.MaybeBounded.order in
     let lawful = g.met.K.PartialEnum.lawful in
@@ -28,17 +28,17 @@ plan_is_replacement g c =
     let stored = c.args.stored.now in
     let items = storage.items stored in
     let r = c.args.range in
-    let w = c.args.window.now in
+    let w = c.args.reach.now.window in
     let place = place_before (storage.rank stored) (length items) w.from in
     let middle = c.args.middle.items in
-    let first = c.args.first in
-    let last = c.args.last in
+    let first = c.args.reach.now.first in
+    let last = c.args.reach.now.last in
     let joined = c.joined_left-before.result in
     let other = c.joined_right-behind.result in
     let from = c.run_start-from.result in
     let is_first = c.first.ensures.value ∙ ap (λ xs. slice_get xs 0) c.deref.ensures.value in
     let is_last = c.last.ensures.value ∙ ap (λ xs. slice_get xs (length xs - 1)) c.deref-2.ensures.value in
-    plans_replacement order lawful equal_values equal (storage.is_good stored) (storage.rank stored) items r place w.count middle first last joined other from (option_copied c.first.result) (option_copied c.last.result) c.requires.stored c.requires.middle c.requires.within c.known.ensures c.requires.nonempty c.requires.window.in_range c.requires.apart is_first is_last c.run_start-from.ensures (c.joined_left-before.ensures lawful equal) (c.joined_right-behind.ensures lawful equal)
+    plans_replacement order lawful equal_values equal (storage.is_good stored) (storage.rank stored) items r place w.count middle first last joined other from (option_copied c.first.result) (option_copied c.last.result) c.requires.reach.window.stored c.requires.middle c.requires.within c.requires.reach.window.known c.requires.reach.window.nonempty c.requires.reach.window.in_range c.requires.apart is_first is_last c.run_start-from.ensures (c.joined_left-before.ensures lawful equal) (c.joined_right-behind.ensures lawful equal)
 
 pub overflow_add-count : goal.overflow_add-count
 overflow_add-count g c =
@@ -58,7 +58,7 @@ change_to-requires-clause-left g c =
     let stored = c.args.stored.now in
     let items = storage.items stored in
     let r = c.args.range in
-    let first = c.args.first in
+    let first = c.args.reach.now.first in
     let joined = c.joined_left-before.result in
     let plan = plan_is_replacement g (goal.at.change_to-requires-clause-left g c).After-item_count-3 in
     let left = plan.left in
@@ -75,7 +75,7 @@ change_to-requires-clause-right g c =
     let stored = c.args.stored.now in
     let items = storage.items stored in
     let r = c.args.range in
-    let last = c.args.last in
+    let last = c.args.reach.now.last in
     let other = c.joined_right-behind.result in
     let plan = plan_is_replacement g (goal.at.change_to-requires-clause-right g c).After-item_count-3 in
     let right = plan.right in
@@ -105,7 +105,7 @@ change_to-requires-clause-in_range g c =
     let storage = g.C.Storage in
     let stored = c.args.stored.now in
     let items = storage.items stored in
-    let w = c.args.window.now in
+    let w = c.args.reach.now.window in
     let joined = c.joined_left-before.result in
     let from = c.run_start-from.result in
     let plan = plan_is_replacement g (goal.at.change_to-requires-clause-in_range g c).After-item_count-3 in
@@ -131,11 +131,11 @@ returns-clause-ok g c =
     let stored = c.args.stored.now in
     let items = storage.items stored in
     let r = c.args.range in
-    let w = c.args.window.now in
+    let w = c.args.reach.now.window in
     let place = place_before (storage.rank stored) (length items) w.from in
     let middle = c.args.middle.items in
-    let first = c.args.first in
-    let last = c.args.last in
+    let first = c.args.reach.now.first in
+    let last = c.args.reach.now.last in
     let joined = c.joined_left-before.result in
     let other = c.joined_right-behind.result in
     let from = c.run_start-from.result in
@@ -160,27 +160,20 @@ returns-clause-ok g c =
     let joins = ap joined_count edge_is ∙ seam_count joined first (turned_bound r.start) in
     let joins_behind = ap joined_count behind_is ∙ seam_count other last (turned_bound r.end) in
     let done = c.change_to.ensures left.at right.end left.rest right.rest left.start right.finish on_left on_right (omega (arith, joins, joins_behind, c.item_count-3.ensures, c.item_count-4.ensures)) in
-    let met = all_meet order lawful equal_values equal (storage.is_good stored) (storage.rank stored) items r w place c.requires.stored c.known.ensures c.requires.window in
-    replacement_is_made order lawful equal_values equal (storage.is_good stored) (storage.rank stored) items r place w.count (storage.items c.change_to.new.stored) middle first last edge edge_behind (option_or joined from) c.requires.stored c.requires.middle c.known.ensures met left right (rw same at done)
+    let met = all_meet lawful equal c.requires.reach.window in
+    replacement_is_made order lawful equal_values equal (storage.is_good stored) (storage.rank stored) items r place w.count (storage.items c.change_to.new.stored) middle first last edge edge_behind (option_or joined from) c.requires.reach.window.stored c.requires.middle c.requires.reach.window.known met left right (rw same at done)
 
 pub change_to-requires-clause-space : goal.change_to-requires-clause-space
 change_to-requires-clause-space g c = grind (arith, common_steps)
 
 pub joined_left-before-requires : goal.joined_left-before-requires
-joined_left-before-requires g c =
-    record {
-      stored = c.requires.stored;
-      nonempty = c.requires.nonempty;
-      window = c.requires.window;
-      first = c.requires.first;
-      within = grind (arith, common_steps);
-    }
+joined_left-before-requires g c = record { reach = c.requires.reach; within = grind (arith, common_steps) }
 
 pub joined_right-behind-requires : goal.joined_right-behind-requires
-joined_right-behind-requires g c = record { stored = c.requires.stored; nonempty = c.requires.nonempty; window = c.requires.window; last = c.requires.last; within = grind (arith, common_steps) }
+joined_right-behind-requires g c = record { reach = c.requires.reach; within = grind (arith, common_steps) }
 
 pub overflow_add-inner : goal.overflow_add-inner
-overflow_add-inner g c = omega (arith, one_item c.args.first, one_item c.args.last, c.item_count.ensures, c.item_count-2.ensures)
+overflow_add-inner g c = omega (arith, one_item c.args.reach.now.first, one_item c.args.reach.now.last, c.item_count.ensures, c.item_count-2.ensures)
 
 pub overflow_sub-inner : goal.overflow_sub-inner
 overflow_sub-inner g c = omega (arith, c.requires.apart, c.item_count.ensures, c.item_count-2.ensures)
@@ -194,8 +187,8 @@ run_start-from-requires g c =
     let stored = c.args.stored.now in
     let len = length (storage.items stored) in
     record {
-      from = good_at (storage.is_good stored) (storage.rank stored) len c.args.window.now.from (place_before (storage.rank stored) len c.args.window.now.from) c.requires.window.position;
-      first = λ p e. let found = rw e at c.requires.first in (found.0, found.1);
+      from = good_at (storage.is_good stored) (storage.rank stored) len c.args.reach.now.window.from (place_before (storage.rank stored) len c.args.reach.now.window.from) c.requires.reach.window.position;
+      first = λ p e. let found = rw e at c.requires.reach.first in (found.0, found.1);
     }
 
 pub returns-in_err-reserve : goal.returns-in_err-reserve

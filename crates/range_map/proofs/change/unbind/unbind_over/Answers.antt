@@ -1,7 +1,7 @@
 use Rattle.std.proofs.Common.{refl, ◌≡◌, [], ◌+◌, ◌-◌, length, ap, sym, ◌∙◌, arith, None, subst}
 use Rattle.range_store.specs.Places.{place_before}
 use Rattle.range_store.proofs.Places.{place_at}
-use Rattle.range_map.specs.Edges.{IsLeftShape, IsRightShape, joined_count, edge_at}
+use Rattle.range_map.specs.Edges.{IsLeftShape, IsRightShape, joined_count}
 use Rattle.range_map.specs.Window.{option_items}
 use Rattle.range_map.proofs.Framing.{cut_way}
 use Rattle.range_map.proofs.Lengths.{one_item, changed_length}
@@ -13,42 +13,32 @@ use Rattle.range_map.proofs.change.unbind.unbind_over.Goals as goal
 
 pub returns : goal.returns
 returns g c =
-    let order = g.K.MaybeBounded.order in
     let lawful = g.met.K.PartialEnum.lawful in
     let equal = g.met.V.Eq.laws in
-    let same = g.V.PartialEq.eq in
     let storage = g.C.Storage in
     let stored = c.args.stored.now in
     let items = storage.items stored in
-    let r = g.R.AsRange.range c.args.range.now in
-    let w = c.args.window.now in
-    let place = place_before (storage.rank stored) (length items) w.from in
-    let cut_before = c.in_ok-before.ensures in
-    let cut_behind = c.in_ok-behind.ensures in
-    let end = cut_before.cut in
-    let start = cut_behind.cut in
-    let end_turned = rw c.start.ensures at cut_before.turned in
-    let start_turned = rw c.end.ensures at cut_behind.turned in
-    let first = c.args.first in
-    let last = c.args.last in
-    let begin = place + length (option_items first) in
-    let count = w.count - (c.item_count.result + c.item_count-2.result) in
-    let upto : begin + count + length (option_items last) ≡ place + w.count = omega (arith, c.requires.apart, c.item_count.ensures, c.item_count-2.ensures) in
-    let left = left_cut_plan order lawful same equal (storage.is_good stored) (storage.rank stored) items r w place c.requires.stored c.known_range.ensures c.requires.nonempty c.requires.window first end c.requires.first cut_before.known end_turned in
-    let right = right_cut_plan order lawful same equal (storage.is_good stored) (storage.rank stored) items r w place c.requires.stored c.known_range.ensures c.requires.nonempty c.requires.window last start (begin + count) upto c.requires.last cut_behind.known start_turned in
-    let from = place_before (storage.rank stored) (length items) c.run_start.result in
-    let here : from ≡ begin = place_at (storage.is_good stored) (storage.rank stored) (length items) c.run_start.result begin c.run_start.ensures in
-    let edge : c.in_ok-before.before ≡ edge_at first end = cut_before.at in
-    let edge_behind : c.in_ok-behind.behind ≡ edge_at last start = cut_behind.at in
-    let on_left = subst (λ n. IsLeftShape (storage.is_good stored) (storage.rank stored) items c.in_ok-before.before place n left.rest None) (sym here) (rw edge left.shape) in
-    let on_right = subst (λ n. IsRightShape (storage.is_good stored) (storage.rank stored) items c.in_ok-behind.behind n (place + w.count) right.rest None) (sym (ap (λ n. n + count) here)) (rw edge_behind right.shape) in
-    let none : joined_count c.in_ok-before.before ≡ 0 = ap joined_count edge ∙ cut_joins_none first end in
-    let none_behind : joined_count c.in_ok-behind.behind ≡ 0 = ap joined_count edge_behind ∙ cut_joins_none last start in
-    let done = c.change.ensures place (place + w.count) left.rest right.rest None None on_left on_right (omega (arith, none, none_behind)) in
-    let frame = cut_way order lawful same equal (storage.is_good stored) (storage.rank stored) items r w place c.requires.stored c.known_range.ensures c.requires.window (storage.items c.change.new.stored) left.rest right.rest c.requires.some left.made right.made left.few right.few done in
-    let size = changed_length items (storage.items c.change.new.stored) (option_items left.rest) [] (option_items right.rest) place (place + w.count) (omega (arith, c.requires.window.in_range)) c.requires.window.in_range done in
+    let reach = c.args.reach.now in
+    let window = c.requires.reach.window in
+    let place = place_before (storage.rank stored) (length items) reach.window.from in
+    let before = c.in_ok-before.ensures in
+    let behind = c.in_ok-behind.ensures in
+    let begin = place + length (option_items reach.first) in
+    let count = reach.window.count - (c.item_count.result + c.item_count-2.result) in
+    let upto : begin + count + length (option_items reach.last) ≡ place + reach.window.count = omega (arith, c.requires.apart, c.item_count.ensures, c.item_count-2.ensures) in
+    let left = left_cut_plan lawful equal window reach.first before.cut c.requires.reach.first before.known (rw c.start.ensures at before.turned) in
+    let right = right_cut_plan lawful equal window reach.last behind.cut (begin + count) upto c.requires.reach.last behind.known (rw c.end.ensures at behind.turned) in
+    let here = place_at (storage.is_good stored) (storage.rank stored) (length items) c.run_start.result begin c.run_start.ensures in
+    let on_left = subst (λ n. IsLeftShape (storage.is_good stored) (storage.rank stored) items c.in_ok-before.before place n left.rest None) (sym here) (rw before.at left.shape) in
+    let on_right = subst (λ n. IsRightShape (storage.is_good stored) (storage.rank stored) items c.in_ok-behind.behind n (place + reach.window.count) right.rest None) (sym (ap (λ n. n + count) here)) (rw behind.at right.shape) in
+    let none = ap joined_count before.at ∙ cut_joins_none reach.first before.cut in
+    let none_behind = ap joined_count behind.at ∙ cut_joins_none reach.last behind.cut in
+    let done = c.change.ensures place (place + reach.window.count) left.rest right.rest None None on_left on_right (omega (arith, none, none_behind)) in
+    let new = storage.items c.change.new.stored in
+    let frame = cut_way lawful equal window new left.rest right.rest c.requires.some left.made right.made left.few right.few done in
+    let size = changed_length items new (option_items left.rest) [] (option_items right.rest) place (place + reach.window.count) (omega (arith, window.in_range)) window.in_range done in
     record {
-      ok = edges_remove order lawful same equal (storage.is_good stored) (storage.rank stored) items r w place c.requires.stored c.known_range.ensures c.requires.nonempty c.requires.window (storage.items c.change.new.stored) place (place + w.count) left.rest right.rest left.side right.side frame done;
+      ok = edges_remove lawful equal window new place (place + reach.window.count) left.rest right.rest left.side right.side frame done;
       few = omega (arith, size, one_item left.rest, one_item right.rest, c.requires.some);
       refused = tt;
     }
