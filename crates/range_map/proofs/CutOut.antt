@@ -6,7 +6,6 @@ use Rattle.range_keys.specs.Order.{KeyOrder, IsLawful}
 use Rattle.range_keys.specs.PositionOrder.{position_total}
 use Rattle.range_keys.specs.declared.inner.position.Position.{Position}
 use Rattle.range_algebra.specs.declared.any.AnyRange.{AnyRange}
-use Rattle.range_algebra.specs.Range.{IsKnownRange, IsEmptyRange}
 use Rattle.range_store.specs.declared.storage.Item.{Item}
 use Rattle.range_algebra.specs.Intervals.{Le, Lt, Every}
 use Rattle.range_algebra.specs.Orders.{lt_le, le_trans}
@@ -15,7 +14,7 @@ use Rattle.range_map.proofs.Chains.{chain_above, chain_right, chain_before}
 use Rattle.range_map.proofs.ChainSides.{left_whole, left_cut, right_whole, right_cut}
 use Rattle.range_map.proofs.ChainJoins.{places_between_are_unbound}
 use Rattle.range_algebra.specs.Cuts.{lower, upper}
-use Rattle.range_map.specs.Stored.{item_lower, item_upper, IsStored}
+use Rattle.range_map.specs.Stored.{item_lower, item_upper}
 use Rattle.range_map.specs.Bindings.{IsUnboundAfter}
 use Rattle.range_map.specs.Window.{IsWindow, IsLeftPart, IsRightPart, option_items}
 use Rattle.range_map.specs.declared.change.window.Window.{Window}

@@ -7,14 +7,14 @@ use Rattle.range_keys.specs.Order.{KeyOrder, IsLawful}
 use Rattle.range_keys.specs.Position.{start_position, end_position}
 use Rattle.range_keys.specs.PositionOrder.{position_total}
 use Rattle.range_algebra.specs.declared.any.AnyRange.{AnyRange}
-use Rattle.range_algebra.specs.Range.{IsKnownRange, IsEmptyRange}
+use Rattle.range_algebra.specs.Range.{IsKnownRange}
 use Rattle.range_store.specs.declared.storage.Item.{Item}
 use Rattle.range_algebra.specs.Intervals.{Le, Lt, Every}
 use Rattle.range_algebra.specs.Orders.{lt_le, le_trans}
 use Rattle.range_map.specs.Chains.{Leads, Trails}
 use Rattle.range_map.proofs.ChainJoins.{places_between_are_unbound, left_apart, left_joined, right_apart, right_joined, leading_last, trailing_first, places_between_are_bound}
 use Rattle.range_algebra.specs.Cuts.{past, lower, upper}
-use Rattle.range_map.specs.Stored.{item_lower, item_upper, IsStored}
+use Rattle.range_map.specs.Stored.{item_lower, item_upper}
 use Rattle.range_map.specs.Window.{IsWindow, IsLeftPart, IsRightPart, option_items}
 use Rattle.range_map.specs.declared.change.window.Window.{Window}
 use Rattle.range_map.proofs.Forms.{places, nonempty_good, Known, stored_known, stored_chain, chain_stored, unbound_after}

@@ -15,7 +15,7 @@ use Rattle.range_algebra.specs.Cuts.{lower, upper}
 use Rattle.range_algebra.proofs.Lists.{list_is_take_and_drop, parts_at, every_at, any_left, any_right, any_none, every_weaker, every_append, every_left, every_right}
 use Rattle.range_map.proofs.Edging.{element_at}
 use Rattle.range_store.specs.declared.storage.Item.{Item}
-use Rattle.range_map.specs.Stored.{item_lower, item_upper, IsStored}
+use Rattle.range_map.specs.Stored.{item_lower, item_upper}
 use Rattle.range_algebra.specs.Relations.{LiesBefore}
 use Rattle.range_map.specs.Lookups.{MeetsSome, Overlap}
 use Rattle.range_map.specs.Window.{IsWindow, option_items}

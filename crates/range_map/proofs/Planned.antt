@@ -1,5 +1,5 @@
 -- What a change makes of a list where both sides of a range are planned.
-use Rattle.std.proofs.Common.{◌≡◌, ℕ, ◌+◌, ◌-◌, ◌*◌, ◌≤◌, List, ◌++◌, length, take, drop, refl, ap, sym, ◌∙◌, arith, subst, Option, Some, Bool}
+use Rattle.std.proofs.Common.{◌≡◌, ℕ, ◌+◌, ◌-◌, ◌*◌, ◌≤◌, List, ◌++◌, length, take, drop, refl, ap, sym, ◌∙◌, subst, Option, Some, Bool}
 use Rattle.std.specs.Cmp.{IsEquivalence}
 use Rattle.std.specs.Option.{ForSome, unwrap_or}
 use Rattle.std.specs.declared.ops.Bound.{Bound}
@@ -17,7 +17,7 @@ use Rattle.range_map.specs.declared.change.edges.Edge.{Edge}
 use Rattle.range_map.specs.declared.change.window.Window.{Window}
 use Rattle.range_map.proofs.Edging.{edges_insert}
 use Rattle.range_map.proofs.Framing.{gave_way}
-use Rattle.range_map.proofs.Lengths.{one_item, changed_length, left_length, right_length, run_ends, joins_fit, few_rest, begins_within, le_of, bound_size}
+use Rattle.range_map.proofs.Lengths.{one_item, changed_length, left_length, right_length, run_ends, few_rest, begins_within, le_of, bound_size}
 use Rattle.range_map.proofs.Openings.{left_kept, right_kept, left_good, right_good, upto_end}
 
 -- the edges and the run are such that a container can be changed so

@@ -10,11 +10,10 @@ use Rattle.std.specs.Cmp.{IsEquivalence}
 use Rattle.std.specs.declared.ops.Bound.{Bound}
 use Rattle.range_keys.specs.Order.{KeyOrder, IsLawful}
 use Rattle.range_algebra.specs.declared.any.AnyRange.{AnyRange}
-use Rattle.range_algebra.specs.Range.{IsKnownRange, IsKnownBound, IsEmptyRange}
+use Rattle.range_algebra.specs.Range.{IsKnownBound}
 use Rattle.range_algebra.specs.Clones.{SameBound}
 use Rattle.range_store.specs.declared.storage.Item.{Item}
 use Rattle.range_store.specs.Places.{IsAt}
-use Rattle.range_map.specs.Stored.{IsStored}
 use Rattle.range_map.specs.Window.{IsWindow, option_items}
 use Rattle.range_map.specs.declared.change.window.Window.{Window}
 use Rattle.range_map.specs.Edits.{turned_bound, with_start, with_end}

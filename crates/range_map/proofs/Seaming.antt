@@ -18,7 +18,7 @@ use Rattle.range_algebra.specs.Compared.{inverted}
 use Rattle.range_algebra.specs.Cuts.{past, lower, upper}
 use Rattle.range_algebra.specs.Intervals.{Le, Lt, Any, Every}
 use Rattle.range_algebra.specs.Orders.{eq_ge, le_lt_trans, le_refl, lt_le, eq_le, le_trans, lt_trans, lt_le_trans, lt_not_le, not_lt}
-use Rattle.range_algebra.specs.Range.{IsKnownBound, IsKnownRange, IsEmptyRange}
+use Rattle.range_algebra.specs.Range.{IsKnownBound, IsKnownRange}
 use Rattle.range_algebra.specs.Relations.{Touches}
 use Rattle.range_algebra.specs.declared.any.AnyRange.{AnyRange}
 use Rattle.range_algebra.proofs.Places.{reaching_is_before_past, inverted_bound_is_past, turned_known}
@@ -41,7 +41,6 @@ use Rattle.range_map.proofs.CutOut.{known_take, known_drop}
 use Rattle.range_map.proofs.CutParts.{ends_never}
 use Rattle.range_map.proofs.Endings.{last_of, regrouped_last, item_with_end, with_last, started_last}
 use Rattle.range_map.proofs.Forms.{places, Known, Chained, stored_known, stored_chain}
-use Rattle.range_map.proofs.Edging.{element_at, element_at_is_read}
 use Rattle.range_map.proofs.Openings.{cut_joins_none}
 use Rattle.range_map.proofs.Planning.{left_cut_plan, right_cut_plan, left_plan_free, left_joined_at, right_joined_at, right_plan_plain}
 use Rattle.range_map.proofs.Splicing.{IsFilled, IsSpliced, filled_apart, filled_joined, spliced_apart, spliced_joined}

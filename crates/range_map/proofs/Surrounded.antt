@@ -16,7 +16,7 @@ use Rattle.range_map.specs.Edits.{turned_bound, with_end}
 use Rattle.range_map.specs.Lookups.{Overlap, IsConnectedTo}
 use Rattle.range_map.specs.Pieces.{IsPiece}
 use Rattle.range_map.specs.Reach.{ReachesBefore, ReachesAfter, IsReach, IsSurrounded}
-use Rattle.range_map.specs.Stored.{item_lower, item_upper}
+use Rattle.range_map.specs.Stored.{item_upper}
 use Rattle.range_map.specs.Window.{option_items}
 use Rattle.range_map.specs.declared.change.cut.Parts.{Parts}
 use Rattle.range_map.specs.declared.change.reach.Reach.{Reach}
@@ -32,26 +32,27 @@ use Rattle.range_map.proofs.Openings.{standing_item_splits_list}
 use Rattle.range_map.proofs.Planning.{left_frame_inside, left_frame_cut, right_frame_inside, right_frame_cut, left_part, right_part}
 use Rattle.range_map.proofs.Updating.{whole_piece, whole_answer}
 
+none_of : {P : Type 0} (o : Option P) → length (option_items o) ≤ 0 → o ≡ None
+none_of None few = refl
+none_of (Some p) few = absurd (omega (arith, few))
+
+module _ {K : Type 0} (order : KeyOrder K) {V : Type 0} {P : Type 0} (is_good : P → Type 0) (rank : P → ℕ) (items : List (Item (AnyRange K) V)) (r : AnyRange K) (place count : ℕ) where
+  few_before : (first : Option P) → ReachesBefore order is_good rank items r place count first → length (option_items first) ≤ count
+  few_before None reach = omega arith
+  few_before (Some p) reach = omega (arith, reach.2)
+
+  few_after : (last : Option P) → ReachesAfter order is_good rank items r place count last → length (option_items last) ≤ count
+  few_after None reach = omega arith
+  few_after (Some p) reach = omega (arith, reach.2)
+
+  ends_by : (last : Option P) → count ≡ 1 → IsSome last → ReachesAfter order is_good rank items r place count last → (x : Item (AnyRange K) V) → x ≡ get_or items place x → Lt (position_cmp order.cmp) (upper order r) (item_upper order x)
+  ends_by None one some reach x read = absurd (cc)
+  ends_by (Some p) one some reach x read = let at : place ≡ place + count - 1 = omega (arith, one) in reach.3 x (read ∙ ap (λ n. get_or items n x) at)
+
 module _ {K : Type 0} {order : KeyOrder K} {V : Type 0} {same : V → V → Bool} {P : Type 0} {is_good : P → Type 0} {rank : P → ℕ} {items : List (Item (AnyRange K) V)} {r : AnyRange K} {place : ℕ} where
-  ends_by : (last : Option P) (count : ℕ) → count ≡ 1 → IsSome last → ReachesAfter order is_good rank items r place count last → (x : Item (AnyRange K) V) → x ≡ get_or items place x → Lt (position_cmp order.cmp) (upper order r) (item_upper order x)
-  ends_by None count one some reach x read = absurd (cc)
-  ends_by (Some p) count one some reach x read = let at : place ≡ place + count - 1 = omega (arith, one) in reach.3 x (read ∙ ap (λ n. get_or items n x) at)
-
-  few_before : (first : Option P) (count : ℕ) → ReachesBefore order is_good rank items r place count first → length (option_items first) ≤ count
-  few_before None count reach = omega arith
-  few_before (Some p) count reach = omega (arith, reach.2)
-
-  few_after : (last : Option P) (count : ℕ) → ReachesAfter order is_good rank items r place count last → length (option_items last) ≤ count
-  few_after None count reach = omega arith
-  few_after (Some p) count reach = omega (arith, reach.2)
-
   -- what reaches out of the range is among the items of the window
   pub reach_is_met : {reach : Reach P} → IsReach order same is_good rank items r reach place → (length (option_items reach.first) ≤ reach.window.count) × (length (option_items reach.last) ≤ reach.window.count)
-  reach_is_met {reach} found = (few_before reach.first reach.window.count found.first, few_after reach.last reach.window.count found.last)
-
-  none_of : (o : Option P) → length (option_items o) ≤ 0 → o ≡ None
-  none_of None few = refl
-  none_of (Some p) few = absurd (omega (arith, few))
+  reach_is_met {reach} found = (few_before order is_good rank items r place reach.window.count reach.first found.first, few_after order is_good rank items r place reach.window.count reach.last found.last)
 
   -- so none does where the window is empty
   pub none_reach : {reach : Reach P} → IsReach order same is_good rank items r reach place → reach.window.count ≡ 0 → (reach.first ≡ None) × (reach.last ≡ None)
@@ -67,7 +68,7 @@ module _ {K : Type 0} {order : KeyOrder K} {V : Type 0} {same : V → V → Bool
         good = first.0;
         here = first.1;
         starts = first.3;
-        ends = ends_by reach.last reach.window.count alone.0 alone.2 found.last;
+        ends = ends_by order is_good rank items r place reach.window.count reach.last alone.0 alone.2 found.last;
       }
 
 module _ {K : Type 0} {order : KeyOrder K} (lawful : IsLawful order) {V : Type 0} {same : V → V → Bool} (equal : IsEquivalence same) {P : Type 0} {is_good : P → Type 0} {rank : P → ℕ} {items : List (Item (AnyRange K) V)} {r : AnyRange K} {w : Window P} {place : ℕ} {p : P} (within : IsSurrounded order same is_good rank items r w place p) (x : Item (AnyRange K) V) (read : x ≡ get_or items (rank p) x) where

@@ -1,8 +1,4 @@
-use Rattle.std.proofs.Common.{◌≤◌, length, refl, arith}
-use Rattle.range_store.specs.Places.{place_before}
-use Rattle.range_map.specs.Edges.{joined_count}
-use Rattle.range_map.specs.Window.{option_items}
-use Rattle.range_map.proofs.Lengths.{run_ends}
+use Rattle.std.proofs.Common.{◌≤◌, refl, arith}
 use Rattle.range_map.proofs.Openings.{upto_end}
 use Rattle.range_map.proofs.Results.{error_has_no_value}
 use Rattle.range_map.proofs.change.edges.both_sides.Goals as goal

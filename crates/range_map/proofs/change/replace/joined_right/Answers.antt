@@ -1,4 +1,4 @@
-use Rattle.std.proofs.Common.{◌≡◌, length, refl, ap, sym, inl, inr}
+use Rattle.std.proofs.Common.{◌≡◌, refl, ap, sym, inl, inr}
 use Rattle.std.specs.Prelude.{option_copied}
 use Rattle.std.specs.declared.cmp.Ordering.TheVariants.{Equal}
 use Rattle.range_keys.specs.PositionOrder.{position_total}

@@ -1,4 +1,4 @@
-use Rattle.std.proofs.Common.{◌<◌, arith}
+use Rattle.std.proofs.Common.{arith}
 use Rattle.std.proofs.lemmas.Grind.{common_steps}
 use Rattle.range_map.proofs.Surrounded.{reach_is_met, surrounded_by}
 use Rattle.range_map.proofs.change.unbind.unbind_met.Goals as goal

@@ -19,7 +19,7 @@ pub surrounding-requires : goal.surrounding-requires
 surrounding-requires g c = let met = reach_is_met c.reaching-reach.ensures.reach in record { first = met.0; last = met.1 }
 
 pub replace-requires : goal.replace-requires
-replace-requires g c = record { reach = c.reaching-reach.ensures.reach; apart = c.in-None.ensures; middle = c.in_ok-middle.ensures.ok.stored; within = c.in_ok-middle.ensures.ok.within }
+replace-requires g c = record { reach = c.reaching-reach.ensures.reach; apart = c.in_default.ensures; middle = c.in_ok-middle.ensures.ok.stored; within = c.in_ok-middle.ensures.ok.within }
 
 pub returns-in-Some : goal.returns-in-Some
 returns-in-Some g c =
