@@ -1,12 +1,11 @@
 -- What a change makes of a list where both sides of a range are planned.
-use Rattle.std.proofs.Common.{◌≡◌, ℕ, ◌+◌, ◌-◌, ◌*◌, ◌≤◌, List, ◌++◌, length, take, drop, refl, ap, sym, ◌∙◌, subst, Option, Some, Bool}
+use Rattle.std.proofs.Common.{◌≡◌, ℕ, ◌+◌, ◌-◌, ◌*◌, ◌≤◌, List, ◌++◌, length, take, drop, refl, ap, sym, ◌∙◌, arith, subst, Option, Some, Bool}
 use Rattle.std.specs.Cmp.{IsEquivalence}
 use Rattle.std.specs.Option.{ForSome, unwrap_or}
 use Rattle.std.specs.declared.ops.Bound.{Bound}
 use Rattle.range_keys.specs.Order.{KeyOrder, IsLawful}
 use Rattle.range_algebra.specs.declared.any.AnyRange.{AnyRange}
 use Rattle.range_store.specs.Places.{place_before, IsAt}
-use Rattle.range_store.specs.declared.inner.cursor.Cursor.{Cursor}
 use Rattle.range_store.specs.declared.storage.Item.{Item}
 use Rattle.range_store.proofs.Places.{place_at, kept_at, good_at}
 use Rattle.range_map.specs.Changes.{IsInserted}
@@ -21,35 +20,35 @@ use Rattle.range_map.proofs.Lengths.{one_item, changed_length, left_length, righ
 use Rattle.range_map.proofs.Openings.{left_kept, right_kept, left_good, right_good, upto_end}
 
 -- the edges and the run are such that a container can be changed so
-pub record IsFit {K V P : Type 0} (is_good : P → Type 0) (rank : P → ℕ) (items : List (Item (AnyRange K) V)) (left right : Edge K P) (run : Cursor P) (at end : ℕ) (before after : Option (Item (AnyRange K) V)) (start finish : Option (Bound K)) : Type 0 where
+pub record IsFit {K V P : Type 0} (is_good : P → Type 0) (rank : P → ℕ) (items : List (Item (AnyRange K) V)) (left right : Edge K P) (from : Option P) (count : ℕ) (at end : ℕ) (before after : Option (Item (AnyRange K) V)) (start finish : Option (Bound K)) : Type 0 where
   pub left_good : IsGoodEdge is_good left
   pub right_good : IsGoodEdge is_good right
-  pub good : ForSome run.at is_good
-  pub in_range : place_before rank (length items) run.at + run.left ≤ length items
-  pub on_left : IsLeftShape is_good rank items left at (place_before rank (length items) run.at) before start
-  pub on_right : IsRightShape is_good rank items right (place_before rank (length items) run.at + run.left) end after finish
+  pub good : ForSome from is_good
+  pub in_range : place_before rank (length items) from + count ≤ length items
+  pub on_left : IsLeftShape is_good rank items left at (place_before rank (length items) from) before start
+  pub on_right : IsRightShape is_good rank items right (place_before rank (length items) from + count) end after finish
 
 module _ {K V P : Type 0} {is_good is_good' : P → Type 0} {rank rank' : P → ℕ} {items items' : List (Item (AnyRange K) V)} (kept : (p : P) → is_good p → is_good' p × (rank' p ≡ rank p)) (same_list : items' ≡ items) where
   -- so they are where positions and items are kept since they were planned
-  pub plan_fits : (left right : Edge K P) (run : Cursor P) (at begin upto end : ℕ) (before after : Option (Item (AnyRange K) V)) (start finish : Option (Bound K)) →
+  pub plan_fits : (left right : Edge K P) (from : Option P) (count at begin upto end : ℕ) (before after : Option (Item (AnyRange K) V)) (start finish : Option (Bound K)) →
       IsLeftShape is_good rank items left at begin before start → IsRightShape is_good rank items right upto end after finish →
-      IsAt is_good rank (length items) run.at begin → begin + run.left ≡ upto → end ≤ length items →
-      IsFit is_good' rank' items' left right run at end before after start finish
-  plan_fits left right run at begin upto end before after start finish on_left on_right is_at sum within =
-      let moved = kept_at is_good is_good' rank rank' (length items) run.at begin kept is_at in
+      IsAt is_good rank (length items) from begin → begin + count ≡ upto → end ≤ length items →
+      IsFit is_good' rank' items' left right from count at end before after start finish
+  plan_fits left right from count at begin upto end before after start finish on_left on_right is_at sum within =
+      let moved = kept_at is_good is_good' rank rank' (length items) from begin kept is_at in
       let size : length items' ≡ length items = ap length same_list in
-      let here : place_before rank' (length items') run.at ≡ begin = ap (λ n. place_before rank' n run.at) size ∙ place_at is_good' rank' (length items) run.at begin moved in
+      let here : place_before rank' (length items') from ≡ begin = ap (λ n. place_before rank' n from) size ∙ place_at is_good' rank' (length items) from begin moved in
       let least : upto ≤ end = upto_end is_good is_good' rank rank' items items' kept same_list right upto end after finish on_right in
       record {
         left_good = left_good is_good is_good' rank rank' items items' kept same_list left at begin before start on_left;
         right_good = right_good is_good is_good' rank rank' items items' kept same_list right upto end after finish on_right;
-        good = good_at is_good' rank' (length items) run.at begin moved;
+        good = good_at is_good' rank' (length items) from begin moved;
         in_range = rw (here, size, sum) (le_of upto end (length items) least within);
         on_left = subst (λ n. IsLeftShape is_good' rank' items' left at n before start) (sym here) (left_kept is_good is_good' rank rank' items items' kept same_list left at begin before start on_left);
-        on_right = subst (λ n. IsRightShape is_good' rank' items' right n end after finish) (sym (ap (λ n. n + run.left) here ∙ sum)) (right_kept is_good is_good' rank rank' items items' kept same_list right upto end after finish on_right);
+        on_right = subst (λ n. IsRightShape is_good' rank' items' right n end after finish) (sym (ap (λ n. n + count) here ∙ sum)) (right_kept is_good is_good' rank rank' items items' kept same_list right upto end after finish on_right);
       }
 
-module _ {K : Type 0} {order : KeyOrder K} {lawful : IsLawful order} {V : Type 0} {same : V → V → Bool} {equal : IsEquivalence same} {P : Type 0} {is_good : P → Type 0} {rank : P → ℕ} {items : List (Item (AnyRange K) V)} {r : AnyRange K} {w : Window P} {place : ℕ} (window : IsWindow order same is_good rank items r w place) {v : V} {first last : Option P} {edge behind : Edge K P} (run : Cursor P) (left : IsLeftPlan order same lawful equal is_good rank items r v place w.count first edge run.at) (right : IsRightPlan order same lawful equal is_good rank items r v place w.count last behind) (apart : length (option_items first) + length (option_items last) ≤ w.count) where
+module _ {K : Type 0} {order : KeyOrder K} {lawful : IsLawful order} {V : Type 0} {same : V → V → Bool} {equal : IsEquivalence same} {P : Type 0} {is_good : P → Type 0} {rank : P → ℕ} {items : List (Item (AnyRange K) V)} {r : AnyRange K} {w : Window P} {place : ℕ} (window : IsWindow order same is_good rank items r w place) {v : V} {first last : Option P} {edge behind : Edge K P} {from : Option P} (left : IsLeftPlan order same lawful equal is_good rank items r v place w.count first edge from) (right : IsRightPlan order same lawful equal is_good rank items r v place w.count last behind) (apart : length (option_items first) + length (option_items last) ≤ w.count) where
   -- the range with the bounds of those that it joins
   abbrev made_item : Item (AnyRange K) V
   made_item = record { key = record { start = unwrap_or left.start r.start; end = unwrap_or right.finish r.end }; value = v }
@@ -70,6 +69,12 @@ module _ {K : Type 0} {order : KeyOrder K} {lawful : IsLawful order} {V : Type 0
       let size = changed_length items new (option_items left.rest) (option_items (Some made_item)) (option_items right.rest) left.at right.end begins right.side.in_range made in
       bound_size (length new) right.end left.at (length (option_items left.rest)) (length (option_items right.rest)) (length items) left.begin place firsts (joined_count edge) right.upto lasts w.count (joined_count behind) size left_is right_is left.begins right.ends apart (one_item first) (one_item last)
 
+  -- such a run is within the list
+  pub planned_count : joined_count edge + (w.count - (length (option_items first) + length (option_items last))) + joined_count behind ≤ length items
+  planned_count =
+      let least : right.upto ≤ right.end = upto_end is_good is_good rank rank items items (λ p h. (h, refl)) refl behind right.upto right.end right.rest right.finish right.shape in
+      omega (arith, left.begins, right.ends, apart, least, right.side.in_range)
+
   -- where the run takes in the items that join, it ends where the plan after it begins
-  pub planned_run : run.left ≡ joined_count edge + (w.count - (length (option_items first) + length (option_items last))) + joined_count behind → left.begin + run.left ≡ right.upto
-  planned_run is = run_ends left.begin (joined_count edge) place (length (option_items first)) (length (option_items last)) w.count right.upto (joined_count behind) run.left left.begins right.ends apart is
+  pub planned_run : (n : ℕ) → n ≡ joined_count edge + (w.count - (length (option_items first) + length (option_items last))) + joined_count behind → left.begin + n ≡ right.upto
+  planned_run n is = run_ends left.begin (joined_count edge) place (length (option_items first)) (length (option_items last)) w.count right.upto (joined_count behind) n left.begins right.ends apart is

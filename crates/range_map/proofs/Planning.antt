@@ -118,7 +118,7 @@ module _ {K : Type 0} {order : KeyOrder K} (lawful : IsLawful order) {V : Type 0
         begins = omega arith;
       }
 
-  pub left_plan_cut : (p : P) (x : Item (AnyRange K) V) (b : Bound K) (from : Option P) → ReachesBefore order is_good rank items r place w.count (Some p) → x ≡ get_or items (rank p) x → same x.value v ≡ false → IsKnownBound order b → SameBound order (turned_bound r.start) b → IsAt is_good rank (length items) from (rank p + 1) → IsLeftPlan order same lawful equal is_good rank items r v place w.count (Some p) (Cut p b) from
+  pub left_plan_cut : (p : P) (x : Item (AnyRange K) V) (b : Bound K) (from : Option P) → ReachesBefore order is_good rank items r place w.count (Some p) → x ≡ get_or items (rank p) x → same x.value v ≡ false → IsKnownBound order b → SameBound order (turned_bound r.start) b → IsAt is_good rank (length items) from (place + 1) → IsLeftPlan order same lawful equal is_good rank items r v place w.count (Some p) (Cut p b) from
   left_plan_cut p x b from reach read values known_b same_b next =
       let here : x ≡ get_or items place x = read ∙ ap (λ n. get_or items n x) reach.1 in
       record {
@@ -128,7 +128,7 @@ module _ {K : Type 0} {order : KeyOrder K} (lawful : IsLawful order) {V : Type 0
         start = None;
         shape = (reach.0, reach.1, refl, refl, (x, here, refl));
         side = left_edge_rest lawful equal window v (with_end x b) (left_rest_cut lawful equal window x here reach.2 (reach.3 x here) b known_b same_b) values;
-        run = subst (λ (n : ℕ). IsAt is_good rank (length items) from (n + 1)) reach.1 next;
+        run = next;
         frame = left_frame_cut x here reach.2 b same_b values;
         few = omega arith;
         begins = omega arith;
@@ -181,9 +181,6 @@ module _ {K : Type 0} {order : KeyOrder K} (lawful : IsLawful order) {V : Type 0
     few = omega arith;
     begins = omega arith;
   }
-
-  pub left_plan_plain : ReachesBefore order is_good rank items r place w.count None → TouchesNoneBefore order same items place r v → IsLeftPlan order same lawful equal is_good rank items r v place w.count None Plain w.from
-  left_plan_plain reach none = left_plan_free w.from window.position reach none
 
   last_at : (p : P) (x : Item (AnyRange K) V) → rank p + 1 ≡ place + w.count → x ≡ get_or items (rank p) x → x ≡ get_or items (place + w.count - 1) x
   last_at p x at read = let index : rank p ≡ place + w.count - 1 = omega arith in read ∙ ap (λ n. get_or items n x) index

@@ -3,7 +3,7 @@ use Rattle.std.proofs.Common.{◌≡◌, ℕ, ◌+◌, ◌-◌, ◌<◌, ◌≤�
 use Rattle.std.proofs.lemmas.List.{append-nil}
 use Rattle.std.specs.Prelude.{slice_get, option_copied, MatchOption}
 use Rattle.std.specs.Cmp.{IsEquivalence, tied_itself}
-use Rattle.std.specs.Option.{unwrap_or, option_or}
+use Rattle.std.specs.Option.{unwrap_or}
 use Rattle.std.specs.declared.cmp.Ordering.TheVariants.{Equal}
 use Rattle.std.specs.declared.ops.Bound.{Bound}
 use Rattle.range_keys.specs.Order.{KeyOrder, IsLawful}
@@ -27,7 +27,7 @@ use Rattle.range_store.specs.Places.{IsAt}
 use Rattle.range_map.specs.declared.change.edges.Edge.{Edge}
 use Rattle.range_map.specs.declared.change.edges.Edge.TheVariants.{Plain, Cut, Joined}
 use Rattle.range_map.specs.declared.change.window.Window.{Window}
-use Rattle.range_map.specs.Edges.{IsLeftShape, IsRightShape, joined_count, edge_at, edge_start, edge_end, TouchesBefore, TouchesNoneBefore, TouchesAfter, TouchesNoneAfter}
+use Rattle.range_map.specs.Edges.{IsLeftShape, IsRightShape, IsRunStart, joined_count, edge_at, seam_edge, edge_start, edge_end, TouchesBefore, TouchesNoneBefore, TouchesAfter, TouchesNoneAfter}
 use Rattle.range_map.specs.Edits.{turned_bound, with_start}
 use Rattle.range_map.specs.Frames.{HasValue}
 use Rattle.range_map.specs.Stored.{item_lower, item_upper, IsStored}
@@ -35,7 +35,7 @@ use Rattle.range_map.specs.Pieces.{LiesIn}
 use Rattle.range_map.specs.Plans.{IsLeftPlan, IsRightPlan}
 use Rattle.range_map.specs.Reach.{ReachesBefore, ReachesAfter}
 use Rattle.range_map.specs.Replaced.{AreWithin}
-use Rattle.range_map.specs.Seams.{seam_edge, with_first_start, with_last_end, IsLeftCutting, IsRightCutting, IsLeftSeam, IsRightSeam}
+use Rattle.range_map.specs.Seams.{with_first_start, with_last_end, IsLeftCutting, IsRightCutting, IsLeftSeam, IsRightSeam}
 use Rattle.range_map.specs.Window.{IsWindow, option_items}
 use Rattle.range_map.proofs.CutOut.{known_take, known_drop}
 use Rattle.range_map.proofs.CutParts.{ends_never}
@@ -332,11 +332,11 @@ module _ {K : Type 0} {order : KeyOrder K} (lawful : IsLawful order) {V : Type 0
       record { rest = cut.rest; shape = cut.shape; side = cut.side; run = next; valued = every_weaker _ _ (option_items cut.rest) (λ j h. h.value) cut.made }
 
   -- no item reaches out of it, and the one before may join
-  pub left_touched : (v : V) (joined : Option P) (b : Bound K) (behind : Option P) → ((p : P) → is_good p → rank p < length items) → ReachesBefore order is_good rank items r place w.count None → MatchOption joined (TouchesNoneBefore order same items place r v) (λ q. is_good q × (rank q + 1 ≡ place) × TouchesBefore order same items place r v) → IsAt is_good rank (length items) behind (place + 0) → IsLeftPlan order same lawful equal is_good rank items r v place w.count None (seam_edge joined None b) (option_or joined behind)
-  left_touched v None b behind in_range reach none next =
+  pub left_touched : (v : V) (joined : Option P) (b : Bound K) (at : Option P) → ((p : P) → is_good p → rank p < length items) → ReachesBefore order is_good rank items r place w.count None → MatchOption joined (TouchesNoneBefore order same items place r v) (λ q. is_good q × (rank q + 1 ≡ place) × TouchesBefore order same items place r v) → IsRunStart is_good rank (length items) place None joined at → IsLeftPlan order same lawful equal is_good rank items r v place w.count None (seam_edge joined None b) at
+  left_touched v None b at in_range reach none start =
       let plus : place + 0 ≡ place = omega arith in
-      left_plan_free lawful equal window v behind (subst (λ n. IsAt is_good rank (length items) behind n) plus next) reach none
-  left_touched v (Some q) b behind in_range reach found next = left_joined_at lawful equal window v q reach found.0 found.1 (in_range q found.0) found.2
+      left_plan_free lawful equal window v at (subst (λ n. IsAt is_good rank (length items) at n) plus start) reach none
+  left_touched v (Some q) b at in_range reach found start = rw start (left_joined_at lawful equal window v q reach found.0 found.1 (in_range q found.0) found.2)
 
   right_cut_from : (last : Option P) (b : Bound K) (upto : ℕ) → upto + length (option_items last) ≡ place + w.count → ReachesAfter order is_good rank items r place w.count last → IsKnownBound order b → SameBound order (turned_bound r.end) b → IsRightCutting order same lawful equal is_good rank items r place w.count last (edge_at last b)
   right_cut_from last b upto at reach known_b same_b =

@@ -1,6 +1,7 @@
 -- What becomes of the one item that a range meets where it surrounds the range.
 use Rattle.std.proofs.Common.{◌≡◌, ℕ, ◌+◌, ◌-◌, ◌<◌, ◌≤◌, List, [], ◌∷◌, ◌++◌, length, take, drop, get_or, refl, ap, sym, ◌∙◌, arith, Option, Some, None, Bool, true, false, IsTrue, IsSome}
 use Rattle.std.specs.Cmp.{IsEquivalence}
+use Rattle.std.specs.Option.{ForSome}
 use Rattle.range_keys.specs.Order.{KeyOrder, IsLawful}
 use Rattle.range_keys.specs.Position.{position_cmp}
 use Rattle.range_algebra.specs.Clones.{SameBound}
@@ -8,6 +9,7 @@ use Rattle.range_algebra.specs.Cuts.{lower, upper}
 use Rattle.range_algebra.specs.Intervals.{Lt, Every}
 use Rattle.range_algebra.specs.Range.{IsKnownBound}
 use Rattle.range_algebra.specs.declared.any.AnyRange.{AnyRange}
+use Rattle.range_store.proofs.Places.{good_at}
 use Rattle.range_store.specs.declared.storage.Item.{Item}
 use Rattle.range_map.specs.Answers.{AreAnswersTo}
 use Rattle.range_map.specs.Changes.{IsInserted, IsRemoved}
@@ -53,6 +55,10 @@ module _ {K : Type 0} {order : KeyOrder K} {V : Type 0} {same : V → V → Bool
   -- what reaches out of the range is among the items of the window
   pub reach_is_met : {reach : Reach P} → IsReach order same is_good rank items r reach place → (length (option_items reach.first) ≤ reach.window.count) × (length (option_items reach.last) ≤ reach.window.count)
   reach_is_met {reach} found = (few_before order is_good rank items r place reach.window.count reach.first found.first, few_after order is_good rank items r place reach.window.count reach.last found.last)
+
+  -- and a run can start there
+  pub run_can_start : {reach : Reach P} → IsReach order same is_good rank items r reach place → ForSome reach.window.from is_good × ForSome reach.first (λ p. is_good p × (rank p ≡ place))
+  run_can_start {reach} found = (good_at is_good rank (length items) reach.window.from place found.window.position, λ p is. let first = rw is at found.first in (first.0, first.1))
 
   -- so none does where the window is empty
   pub none_reach : {reach : Reach P} → IsReach order same is_good rank items r reach place → reach.window.count ≡ 0 → (reach.first ≡ None) × (reach.last ≡ None)

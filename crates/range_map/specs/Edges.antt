@@ -12,12 +12,12 @@ use Rattle.std.specs.Option.{unwrap_or}
 use Rattle.std.specs.declared.ops.Bound.TheVariants.{Unbounded}
 use Rattle.range_map.specs.declared.change.edges.Edge.{Edge}
 use Rattle.range_map.specs.declared.change.edges.Edge.TheVariants.{Plain, Cut, Joined}
-use Rattle.range_map.specs.declared.change.edges.JoinedBeside.{JoinedBeside}
+use Rattle.range_map.specs.declared.change.edges.Joins.{Joins}
 use Rattle.range_map.specs.declared.change.reach.Reach.{Reach}
 use Rattle.range_map.specs.Edits.{turned_bound, with_start, with_end}
 use Rattle.range_algebra.specs.Clones.{SameBound}
 use Rattle.range_algebra.specs.declared.any.AnyRange.{AnyRange}
-use Rattle.range_store.specs.Places.{place_before}
+use Rattle.range_store.specs.Places.{place_before, IsAt}
 use Rattle.range_store.specs.declared.inner.cursor.Cursor.{Cursor}
 use Rattle.range_store.specs.declared.storage.Item.{Item}
 use Rattle.range_map.specs.declared.change.cut.Parts.{Parts}
@@ -27,6 +27,7 @@ use Rattle.range_map.specs.Chains.{IsLeft, IsRight, IsLeftOf, IsRightOf}
 use Rattle.range_algebra.specs.Cuts.{past, lower, upper}
 use Rattle.range_map.specs.Stored.{item_lower, item_upper}
 use Rattle.range_algebra.specs.Relations.{Touches}
+use Rattle.range_map.specs.Reach.{inner_count}
 use Rattle.range_map.specs.Window.{option_items}
 
 module _ {K : Type 0} (order : KeyOrder K) {V : Type 0} (same : V → V → Bool) where
@@ -101,10 +102,15 @@ module _ {K P : Type 0} where
   edge_at None b = Plain
   edge_at (Some p) b = Cut p b
 
-  -- an item that is cut just outside the bound of a range, if there is one
-  pub record IsCutAt (order : KeyOrder K) (item : Option P) (bound : Bound K) (edge : Edge K P) : Type 0 where
+  -- what becomes of an item that joins, or else of one that reaches out and is cut at the bound
+  abbrev pub seam_edge : Option P → Option P → Bound K → Edge K P
+  seam_edge None reaching b = edge_at reaching b
+  seam_edge (Some q) reaching b = Joined q
+
+  -- the same where the cut is just outside the bound of a range
+  pub record IsSeamAt (order : KeyOrder K) (joined reaching : Option P) (bound : Bound K) (edge : Edge K P) : Type 0 where
     pub cut : Bound K
-    pub at : edge ≡ edge_at item cut
+    pub at : edge ≡ seam_edge joined reaching cut
     pub known : IsKnownBound order cut
     pub turned : SameBound order (turned_bound bound) cut
 
@@ -162,8 +168,12 @@ module _ {K : Type 0} (order : KeyOrder K) {V : Type 0} (same : V → V → Bool
   abbrev pub IsJoinedAfter : Option P → Type 0
   IsJoinedAfter found = let end = place_before (rank stored) (length (items stored)) w.from + w.count in MatchOption found (TouchesNoneAfter order same (items stored) end r v) (λ q. is_good stored q × (rank stored q ≡ end) × TouchesAfter order same (items stored) end r v)
 
-module _ {K : Type 0} (order : KeyOrder K) {V : Type 0} (same : V → V → Bool) {P S : Type 0} (is_good : S → P → Type 0) (rank : S → P → ℕ) (items : S → List (Item (AnyRange K) V)) (stored : S) (r : AnyRange K) (v : V) (reach : Reach P) where
-  -- the items beside the window that the range joins, asked for where none reaches out of it
-  pub record AreJoinedBeside (joined : JoinedBeside P) : Type 0 where
-    pub before : reach.first ≡ None → IsJoinedBefore order same is_good rank items stored r v reach.window joined.before
-    pub after : reach.last ≡ None → IsJoinedAfter order same is_good rank items stored r v reach.window joined.after
+module _ {P : Type 0} where
+  -- how many items are replaced
+  abbrev pub run_length : Reach P → Joins P → ℕ
+  run_length reach joins = length (option_items joins.before) + inner_count reach + length (option_items joins.after)
+
+  -- they begin with the item that joins, or else after the one that reaches out
+  abbrev pub IsRunStart : (P → Type 0) → (P → ℕ) → ℕ → ℕ → Option P → Option P → Option P → Type 0
+  IsRunStart is_good rank len place first None at = IsAt is_good rank len at (place + length (option_items first))
+  IsRunStart is_good rank len place first (Some q) at = at ≡ Some q

@@ -5,19 +5,20 @@ ghost use Rattle.range_store.specs.Counting.{AddsSteps};
 ghost use Rattle.range_map.specs.Stored.{IsStored};
 ghost use Rattle.range_map.specs.Window.{IsWindowOf};
 ghost use Rattle.range_map.specs.Reach.{AreApart, IsReachOf, IsSurroundedOf};
-ghost use Rattle.range_map.specs.Edges.{IsJoinedBefore, IsJoinedAfter, AreJoinedBeside};
+ghost use Rattle.range_map.specs.Plans.{JoinsBefore, JoinsAfter};
 ghost use Rattle.range_map.specs.Lookups.{MeetsSome};
 ghost use Rattle.range_map.specs.Costs.{TakesAtLeast, TakesAsChange};
 ghost use Rattle.range_map.specs.Changes.{IsInserted};
 
 use crate::change::apart::{bind_last, comes_last};
 use crate::change::cut::cut_parts;
-use crate::change::edges::{JoinedBeside, both_sides, joined_beside};
-use crate::change::reach::{Reach, reaching, surrounding};
+use crate::change::edges::{Joins, Sides, joins_after, joins_before, run_length, seam_at};
+use crate::change::reach::{Reach, reaching, run_start, surrounding};
 use crate::change::splice::{change, divide};
 use crate::change::window::{Window, find_window};
 use range_algebra::any::AnyRange;
 use range_keys::traits::{Measure, PartialEnum};
+use range_store::inner::cursor::Cursor;
 use range_store::storage::{Item, Steps, Storage};
 use std::alloc::AllocError;
 use std::ops::RangeBounds;
@@ -62,23 +63,22 @@ pub(crate) fn bind_within<K: PartialEnum + Clone, V: Eq + Clone, C: Storage<Item
 /// Stores an item between those beside its range, which meets no stored range and joins none.
 fn bind_between<K: PartialEnum, V: Eq + Drop, C: Storage<Item<AnyRange<K>, V>>>(
     stored: &mut C,
-    window: &Window<C::Position>,
+    reach: &Reach<C::Position>,
     item: Item<AnyRange<K>, V>,
 ) -> Result<(), AllocError>
-    requires window { IsWindowOf K.order V.eq C.is_good C.rank C.items stored.old item.key
-        window.now }
-    requires none { window.now.count ≡ 0 }
-    requires before { IsJoinedBefore K.order V.eq C.is_good C.rank C.items stored.old item.key
-        item.value window.now None }
-    requires after { IsJoinedAfter K.order V.eq C.is_good C.rank C.items stored.old item.key
-        item.value window.now None }
+    requires reach { IsReachOf K.order V.eq C.is_good C.rank C.items stored.old item.key reach.now }
+    requires none { reach.now.window.count ≡ 0 }
+    requires before { JoinsBefore K.order V.eq C.is_good C.rank C.items stored.old item.key
+        item.value reach.now None }
+    requires after { JoinsAfter K.order V.eq C.is_good C.rank C.items stored.old item.key item.value
+        reach.now None }
     ensures ok { OnOk result
         (IsInserted K.order V.eq (C.items stored.old) (C.items stored.new) item.key item.value) }
     ensures few { OnOk result (length (C.items stored.new) ≤ length (C.items stored.old) + 1) }
     ensures refused { OnErr result (C.items stored.new ≡ C.items stored.old) }
 {
     stored.reserve(1)?;
-    let _position = stored.insert_at(window.from, item);
+    let _position = stored.insert_at(reach.window.from, item);
     Ok(())
 }
 
@@ -87,13 +87,15 @@ fn bind_between<K: PartialEnum, V: Eq + Drop, C: Storage<Item<AnyRange<K>, V>>>(
 fn bind_among<K: PartialEnum + Clone, V: Eq + Clone, C: Storage<Item<AnyRange<K>, V>>>(
     stored: &mut C,
     reach: &Reach<C::Position>,
-    joined: &JoinedBeside<C::Position>,
+    joins: &Joins<C::Position>,
     item: Item<AnyRange<K>, V>,
 ) -> Result<(), AllocError>
     requires keys { ClonesAreEqual K.is_clone K.eq }
     requires reach { IsReachOf K.order V.eq C.is_good C.rank C.items stored.old item.key reach.now }
-    requires joined { AreJoinedBeside K.order V.eq C.is_good C.rank C.items stored.old item.key
-        item.value reach.now joined.now }
+    requires before { JoinsBefore K.order V.eq C.is_good C.rank C.items stored.old item.key
+        item.value reach.now joins.now.before }
+    requires after { JoinsAfter K.order V.eq C.is_good C.rank C.items stored.old item.key item.value
+        reach.now joins.now.after }
     requires apart { AreApart reach.now }
     ensures ok { OnOk result
         (IsInserted K.order V.eq (C.items stored.old) (C.items stored.new) item.key item.value) }
@@ -102,9 +104,14 @@ fn bind_among<K: PartialEnum + Clone, V: Eq + Clone, C: Storage<Item<AnyRange<K>
         ≤ 2 * length (C.items stored.old) + 4) }
     ensures refused { OnErr result (C.items stored.new ≡ C.items stored.old) }
 {
-    let sides = both_sides::<K, V, C>(stored, reach, joined, &item.key, &item.value)?;
-    stored.reserve(growth(sides.run.left))?;
-    change::<K, V, C>(stored, sides, Some(item));
+    let left = seam_at(joins.before, reach.first, item.key.start_bound())?;
+    let right = seam_at(joins.after, reach.last, item.key.end_bound())?;
+    let run = Cursor {
+        at: run_start::<K, V, C>(stored, reach, joins.before),
+        left: run_length(reach, joins),
+    };
+    stored.reserve(growth(run.left))?;
+    change::<K, V, C>(stored, Sides { left, right, run }, Some(item));
     Ok(())
 }
 
@@ -126,11 +133,12 @@ fn bind_over<K: PartialEnum + Clone, V: Eq + Clone, C: Storage<Item<AnyRange<K>,
     ensures counted { AddsSteps steps.old steps.new 0 2 }
     ensures refused { OnErr result (C.items stored.new ≡ C.items stored.old) }
 {
-    let joined = joined_beside::<K, V, C>(stored, reach, &item.key, &item.value, steps);
-    if reach.window.count == 0 && joined.before.is_none() && joined.after.is_none() {
-        return bind_between::<K, V, C>(stored, &reach.window, item);
+    let before = joins_before::<K, V, C>(stored, reach, &item.key, &item.value, steps);
+    let after = joins_after::<K, V, C>(stored, reach, &item.key, &item.value, steps);
+    if reach.window.count == 0 && before.is_none() && after.is_none() {
+        return bind_between::<K, V, C>(stored, reach, item);
     }
-    bind_among::<K, V, C>(stored, reach, &joined, item)
+    bind_among::<K, V, C>(stored, reach, &Joins { before, after }, item)
 }
 
 /// Binds each key of a nonempty range to the value.

@@ -2,8 +2,9 @@
 ghost use Rattle.std.specs.Prelude.{◌≡◌, ◌+◌, ◌≤◌, length, Some, IsSome, MatchOption};
 ghost use Rattle.std.specs.Option.{ForSome};
 ghost use Rattle.range_store.specs.Counting.{AddsSteps};
-ghost use Rattle.range_store.specs.Places.{place_before, IsAt};
+ghost use Rattle.range_store.specs.Places.{place_before};
 ghost use Rattle.range_map.specs.Window.{option_items, IsWindowOf};
+ghost use Rattle.range_map.specs.Edges.{IsRunStart};
 ghost use Rattle.range_map.specs.Reach.{AreApart, IsFirstReaching, IsLastReaching, IsReachOf};
 
 use crate::change::cut::{ends_after, starts_before};
@@ -116,24 +117,26 @@ pub(crate) fn surrounding<P: Copy>(reach: &Reach<P>) -> Option<P>
     }
 }
 
-/// The first item after the one that reaches out before the range.
+/// The first item that is replaced: the one that joins, or else the one after that which reaches out
+/// before the range.
 pub(crate) fn run_start<K: PartialEnum, V: Eq + Drop, C: Storage<Item<AnyRange<K>, V>>>(
     stored: &C,
-    from: Option<C::Position>,
-    first: Option<C::Position>,
+    reach: &Reach<C::Position>,
+    joined: Option<C::Position>,
 ) -> Option<C::Position>
-    requires from { ForSome from (C.is_good stored.now) }
-    requires first { ForSome first
+    requires from { ForSome reach.now.window.from (C.is_good stored.now) }
+    requires first { ForSome reach.now.first
         (λ p. C.is_good stored.now p
         × (C.rank stored.now p
-        ≡ place_before (C.rank stored.now) (length (C.items stored.now)) from)) }
-    ensures { IsAt (C.is_good stored.now) (C.rank stored.now) (length (C.items stored.now)) result
-        (place_before (C.rank stored.now) (length (C.items stored.now)) from
-        + length (option_items first)) }
+        ≡ place_before (C.rank stored.now) (length (C.items stored.now)) reach.now.window.from)) }
+    ensures { IsRunStart (C.is_good stored.now) (C.rank stored.now) (length (C.items stored.now))
+        (place_before (C.rank stored.now) (length (C.items stored.now)) reach.now.window.from)
+        reach.now.first joined result }
 {
-    match first {
-        Some(p) => stored.next(p),
-        None => from,
+    match (joined, reach.first) {
+        (Some(p), _) => Some(p),
+        (None, Some(p)) => stored.next(p),
+        (None, None) => reach.window.from,
     }
 }
 

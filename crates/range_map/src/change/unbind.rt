@@ -11,8 +11,8 @@ ghost use Rattle.range_map.specs.Costs.{TakesAtLeast, TakesAsChange};
 ghost use Rattle.range_map.specs.Changes.{IsRemoved};
 
 use crate::change::cut::cut_parts;
-use crate::change::edges::{Sides, cut_edge};
-use crate::change::reach::{Reach, item_count, reaching, run_start, surrounding};
+use crate::change::edges::{Joins, Sides, run_length, seam_at};
+use crate::change::reach::{Reach, reaching, run_start, surrounding};
 use crate::change::splice::{change, divide};
 use crate::change::window::{Window, find_window};
 use range_algebra::any::AnyRange;
@@ -85,18 +85,17 @@ fn unbind_over<
         ≤ 2 * length (C.items stored.old) + 3) }
     ensures refused { OnErr result (C.items stored.new ≡ C.items stored.old) }
 {
-    let before = cut_edge(reach.first, range.start())?;
-    let behind = cut_edge(reach.last, range.end())?;
+    let left = seam_at(None, reach.first, range.start())?;
+    let right = seam_at(None, reach.last, range.end())?;
+    let joins = Joins {
+        before: None,
+        after: None,
+    };
     let run = Cursor {
-        at: run_start::<K, V, C>(stored, reach.window.from, reach.first),
-        left: reach.window.count - (item_count(&reach.first) + item_count(&reach.last)),
+        at: run_start::<K, V, C>(stored, reach, None),
+        left: run_length(reach, &joins),
     };
-    let sides = Sides {
-        left: before,
-        right: behind,
-        run,
-    };
-    change::<K, V, C>(stored, sides, None);
+    change::<K, V, C>(stored, Sides { left, right, run }, None);
     Ok(())
 }
 
