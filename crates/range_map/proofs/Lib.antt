@@ -1,5 +1,6 @@
 pub mod Adding
 pub mod Appending
+pub mod Asked
 pub mod Between
 pub mod ChainJoins
 pub mod ChainSides
