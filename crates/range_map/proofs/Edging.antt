@@ -11,7 +11,7 @@ use Rattle.range_algebra.specs.Range.{IsKnownRange}
 use Rattle.range_store.specs.declared.storage.Item.{Item}
 use Rattle.range_algebra.specs.Intervals.{Le, Lt, Every}
 use Rattle.range_algebra.specs.Orders.{lt_le, le_trans}
-use Rattle.range_map.specs.Chains.{Leads, Trails}
+use Rattle.range_map.specs.Chains.{line_of, Leads, Trails}
 use Rattle.range_map.proofs.ChainJoins.{places_between_are_unbound, left_apart, left_joined, right_apart, right_joined, leading_last, trailing_first, places_between_are_bound}
 use Rattle.range_algebra.specs.Cuts.{past, lower, upper}
 use Rattle.range_map.specs.Stored.{item_lower, item_upper}
@@ -161,7 +161,7 @@ module _ {K : Type 0} {order : KeyOrder K} (lawful : IsLawful order) {V : Type 0
         record {
           s = item_lower order x;
           starts = tied_itself total (item_lower order x);
-          left = rw (append-nil (take place items)) (left_joined (places order lawful) (position_total order.cmp lawful.total) same equal (item_lower order) (item_upper order) (λ i. i.value) items (take place items) y (lower order r) v rest.left (rest.reaches y refl) values);
+          left = rw (append-nil (take place items)) (left_joined (line_of order lawful same equal) items (take place items) y (lower order r) v rest.left (rest.reaches y refl) values);
           known = tt;
           known_start = (known_at place x (omega (arith, window.in_range)) read).0;
         }
@@ -174,8 +174,8 @@ module _ {K : Type 0} {order : KeyOrder K} (lawful : IsLawful order) {V : Type 0
         record {
           s = lower order r;
           starts = tied_itself total (lower order r);
-          left = left_apart (places order lawful) (position_total order.cmp lawful.total) same equal (item_lower order) (item_upper order) (λ i. i.value) items (take place items ++ y ∷ []) (lower order r) v rest.left
-              (leading_last (places order lawful) (position_total order.cmp lawful.total) same equal (item_lower order) (item_upper order) (λ i. i.value) (take place items) y (lower order r) v rest.left.chain (ends.0, λ k t. both_truths (same y.value v) t values));
+          left = left_apart (line_of order lawful same equal) items (take place items ++ y ∷ []) (lower order r) v rest.left
+              (leading_last (line_of order lawful same equal) (take place items) y (lower order r) v rest.left.chain (ends.0, λ k t. both_truths (same y.value v) t values));
           known = rest.known;
           known_start = window.known.0;
         }
@@ -198,7 +198,7 @@ module _ {K : Type 0} {order : KeyOrder K} (lawful : IsLawful order) {V : Type 0
         record {
           s = item_lower order x;
           starts = tied_itself total (item_lower order x);
-          left = rw (append-nil (take n items)) (left_joined (places order lawful) (position_total order.cmp lawful.total) same equal (item_lower order) (item_upper order) (λ i. i.value) items (take n items) x (lower order r) v left ((touches_is order lawful x.key.end r window.known range_has_places ends.0).0 touch.0) touch.1);
+          left = rw (append-nil (take n items)) (left_joined (line_of order lawful same equal) items (take n items) x (lower order r) v left ((touches_is order lawful x.key.end r window.known range_has_places ends.0).0 touch.0) touch.1);
           known = tt;
           known_start = (known_at n x within read).0;
         }
@@ -206,16 +206,16 @@ module _ {K : Type 0} {order : KeyOrder K} (lawful : IsLawful order) {V : Type 0
     first_of : (n : ℕ) → n < length items → Item (AnyRange K) V
     first_of n within = element_at items n within
 
-    parts_lead : (n : ℕ) (v : V) (d : Item (AnyRange K) V) → place - 1 ≡ n → n < length items → Left order lawful same equal items (take place items) (lower order r) → TouchesNoneBefore order same items place r v → suc n ≡ place → Every (λ i. Leads (places order lawful) (position_total order.cmp lawful.total) same equal (item_lower order) (item_upper order) (λ i. i.value) i (lower order r) v) (take (suc n) items)
+    parts_lead : (n : ℕ) (v : V) (d : Item (AnyRange K) V) → place - 1 ≡ n → n < length items → Left order lawful same equal items (take place items) (lower order r) → TouchesNoneBefore order same items place r v → suc n ≡ place → Every (λ i. Leads (line_of order lawful same equal) i (lower order r) v) (take (suc n) items)
     parts_lead n v d before within left none e =
         let size : place ≤ length items = omega arith in
         let split : take place items ≡ take n items ++ get_or items n d ∷ [] = take_last place d (omega arith) size ∙ ap (λ m. take m items ++ get_or items m d ∷ []) before in
         let whole : Left order lawful same equal items (take n items ++ get_or items n d ∷ []) (lower order r) = subst (λ (ys : List (Item (AnyRange K) V)). Left order lawful same equal items ys (lower order r)) split left in
         let ends = every_right _ (take n items) (get_or items n d ∷ []) whole.ends in
         let apart : Touches order (get_or items n d).key r → same (get_or items n d).value v ≡ true → ⊥ = subst (λ (m : ℕ). Touches order (get_or items m d).key r → same (get_or items m d).value v ≡ true → ⊥) before (none d (omega arith)) in
-        subst (λ (m : ℕ). Every (λ i. Leads (places order lawful) (position_total order.cmp lawful.total) same equal (item_lower order) (item_upper order) (λ i. i.value) i (lower order r) v) (take m items)) (sym e) (rw split (leading_last (places order lawful) (position_total order.cmp lawful.total) same equal (item_lower order) (item_upper order) (λ i. i.value) (take n items) (get_or items n d) (lower order r) v whole.chain (ends.0, λ k t. apart ((touches_is order lawful (get_or items n d).key.end r window.known range_has_places ends.0).1 k) t)))
+        subst (λ (m : ℕ). Every (λ i. Leads (line_of order lawful same equal) i (lower order r) v) (take m items)) (sym e) (rw split (leading_last (line_of order lawful same equal) (take n items) (get_or items n d) (lower order r) v whole.chain (ends.0, λ k t. apart ((touches_is order lawful (get_or items n d).key.end r window.known range_has_places ends.0).1 k) t)))
 
-    all_lead : (n : ℕ) (v : V) → n ≡ place → place ≤ length items → IsLeftRest order same lawful equal items r place None → TouchesNoneBefore order same items place r v → Every (λ i. Leads (places order lawful) (position_total order.cmp lawful.total) same equal (item_lower order) (item_upper order) (λ i. i.value) i (lower order r) v) (take n items)
+    all_lead : (n : ℕ) (v : V) → n ≡ place → place ≤ length items → IsLeftRest order same lawful equal items r place None → TouchesNoneBefore order same items place r v → Every (λ i. Leads (line_of order lawful same equal) i (lower order r) v) (take n items)
     all_lead zero v e within rest none = tt
     all_lead (suc n) v e within rest none =
         let before : place - 1 ≡ n = omega arith in
@@ -228,7 +228,7 @@ module _ {K : Type 0} {order : KeyOrder K} (lawful : IsLawful order) {V : Type 0
         record {
           s = lower order r;
           starts = tied_itself total (lower order r);
-          left = left_apart (places order lawful) (position_total order.cmp lawful.total) same equal (item_lower order) (item_upper order) (λ i. i.value) items (take place items ++ []) (lower order r) v rest.left (rw (append-nil (take place items)) (all_lead place v refl within rest none));
+          left = left_apart (line_of order lawful same equal) items (take place items ++ []) (lower order r) v rest.left (rw (append-nil (take place items)) (all_lead place v refl within rest none));
           known = tt;
           known_start = window.known.0;
         }
@@ -242,7 +242,7 @@ module _ {K : Type 0} {order : KeyOrder K} (lawful : IsLawful order) {V : Type 0
           in_range = window.in_range;
           e = item_upper order x;
           ends = tied_itself total (item_upper order x);
-          right = right_joined (places order lawful) (position_total order.cmp lawful.total) same equal (item_lower order) (item_upper order) (λ i. i.value) items (drop (place + w.count) items) y (upper order r) v rest.right (rest.reaches y refl) values;
+          right = right_joined (line_of order lawful same equal) items (drop (place + w.count) items) y (upper order r) v rest.right (rest.reaches y refl) values;
           known = tt;
           known_end = (known_at (place + w.count - 1) x (omega (arith, window.in_range)) read).1;
         }
@@ -254,8 +254,8 @@ module _ {K : Type 0} {order : KeyOrder K} (lawful : IsLawful order) {V : Type 0
           in_range = within;
           e = upper order r;
           ends = tied_itself total (upper order r);
-          right = right_apart (places order lawful) (position_total order.cmp lawful.total) same equal (item_lower order) (item_upper order) (λ i. i.value) items (y ∷ drop end items) (upper order r) v rest.right
-              (trailing_first (places order lawful) (position_total order.cmp lawful.total) same equal (item_lower order) (item_upper order) (λ i. i.value) y (drop end items) (upper order r) v rest.right.chain (rest.right.starts.0, λ k t. both_truths (same y.value v) (equal.symm y.value v ∙ t) values));
+          right = right_apart (line_of order lawful same equal) items (y ∷ drop end items) (upper order r) v rest.right
+              (trailing_first (line_of order lawful same equal) y (drop end items) (upper order r) v rest.right.chain (rest.right.starts.0, λ k t. both_truths (same y.value v) (equal.symm y.value v ∙ t) values));
           known = rest.known;
           known_end = window.known.1;
         }
@@ -271,15 +271,15 @@ module _ {K : Type 0} {order : KeyOrder K} (lawful : IsLawful order) {V : Type 0
           in_range = omega arith;
           e = item_upper order x;
           ends = tied_itself total (item_upper order x);
-          right = right_joined (places order lawful) (position_total order.cmp lawful.total) same equal (item_lower order) (item_upper order) (λ i. i.value) items (drop (end + 1) items) x (upper order r) v right ((touches_is order lawful r.end x.key known_x right.chain.0 right.starts.0).0 touch.0) (equal.symm x.value v ∙ touch.1);
+          right = right_joined (line_of order lawful same equal) items (drop (end + 1) items) x (upper order r) v right ((touches_is order lawful r.end x.key known_x right.chain.0 right.starts.0).0 touch.0) (equal.symm x.value v ∙ touch.1);
           known = tt;
           known_end = known_x.1;
         }
 
-    all_trail : (end : ℕ) (v : V) (ys : List (Item (AnyRange K) V)) → Known order lawful same equal ys → Right order lawful same equal items ys (upper order r) → ((d : Item (AnyRange K) V) → 0 < length ys → Touches order r (get_or ys 0 d).key → same v (get_or ys 0 d).value ≡ true → ⊥) → Every (λ i. Trails (places order lawful) (position_total order.cmp lawful.total) same equal (item_lower order) (item_upper order) (λ i. i.value) (upper order r) v i) ys
+    all_trail : (end : ℕ) (v : V) (ys : List (Item (AnyRange K) V)) → Known order lawful same equal ys → Right order lawful same equal items ys (upper order r) → ((d : Item (AnyRange K) V) → 0 < length ys → Touches order r (get_or ys 0 d).key → same v (get_or ys 0 d).value ≡ true → ⊥) → Every (λ i. Trails (line_of order lawful same equal) (upper order r) v i) ys
     all_trail end v [] others right none = tt
     all_trail end v (y ∷ ys) others right none =
-        trailing_first (places order lawful) (position_total order.cmp lawful.total) same equal (item_lower order) (item_upper order) (λ i. i.value) y ys (upper order r) v right.chain (right.starts.0, λ k t. none y (omega arith) ((touches_is order lawful r.end y.key others.0 right.chain.0 right.starts.0).1 k) t)
+        trailing_first (line_of order lawful same equal) y ys (upper order r) v right.chain (right.starts.0, λ k t. none y (omega arith) ((touches_is order lawful r.end y.key others.0 right.chain.0 right.starts.0).1 k) t)
 
     pub right_edge_none : (end : ℕ) (v : V) → end ≤ length items → IsRightRest order same lawful equal items r end None → TouchesNoneAfter order same items end r v → IsRightEdge order same lawful equal items r v end None None
     right_edge_none end v within rest none =
@@ -290,7 +290,7 @@ module _ {K : Type 0} {order : KeyOrder K} (lawful : IsLawful order) {V : Type 0
           in_range = within;
           e = upper order r;
           ends = tied_itself total (upper order r);
-          right = right_apart (places order lawful) (position_total order.cmp lawful.total) same equal (item_lower order) (item_upper order) (λ i. i.value) items (drop end items) (upper order r) v rest.right
+          right = right_apart (line_of order lawful same equal) items (drop end items) (upper order r) v rest.right
               (all_trail end v (drop end items) others rest.right (λ d some. let at : get_or (drop end items) 0 d ≡ get_or items end d = get_or-drop end items 0 d ∙ ap (λ n. get_or items n d) plus in rw at (none d (omega (arith, length-drop end items)))));
           known = tt;
           known_end = window.known.1;
@@ -310,7 +310,7 @@ module _ {K : Type 0} {order : KeyOrder K} (lawful : IsLawful order) {V : Type 0
         let list : new ≡ front ++ m ∷ behind = changed ∙ sym (opening_regroups (take at items) (option_items left) (option_items right) (drop end items) m) in
         let at_start : places order lawful (item_lower order m) on_left.s ≡ Equal = rw starts (rw (edge_start_is order same start r) on_left.starts) in
         let at_end : places order lawful (item_upper order m) on_right.e ≡ Equal = rw ends (rw (edge_end_is order same finish r) on_right.ends) in
-        let result = places_between_are_bound (places order lawful) (position_total order.cmp lawful.total) same equal (item_lower order) (item_upper order) (λ i. i.value) items front behind m (lower order r) (upper order r) on_left.s on_right.e v on_left.left on_right.right range_has_places at_start at_end values in
+        let result = places_between_are_bound (line_of order lawful same equal) items front behind m (lower order r) (upper order r) on_left.s on_right.e v on_left.left on_right.right range_has_places at_start at_end values in
         let known_m : IsKnownRange order m.key = (rw starts on_left.known_start, rw ends on_right.known_end) in
         let others = every_append _ front (m ∷ behind)
         (every_append _ (take at items) (option_items left) (known_take order lawful same equal items at all) on_left.known)
@@ -328,7 +328,7 @@ module _ {K : Type 0} {order : KeyOrder K} (lawful : IsLawful order) {V : Type 0
         let front = take at items ++ option_items left in
         let behind = option_items right ++ drop end items in
         let list : new ≡ front ++ behind = changed ∙ sym (regrouped_out (take at items) (option_items left) (option_items right) (drop end items)) in
-        let result = places_between_are_unbound (places order lawful) (position_total order.cmp lawful.total) same equal (item_lower order) (item_upper order) (λ i. i.value) items front behind (lower order r) (upper order r) on_left.left on_right.right range_has_places in
+        let result = places_between_are_unbound (line_of order lawful same equal) items front behind (lower order r) (upper order r) on_left.left on_right.right range_has_places in
         let others = every_append _ front behind
         (every_append _ (take at items) (option_items left) (known_take order lawful same equal items at all) on_left.known)
         (every_append _ (option_items right) (drop end items) on_right.known (known_drop order lawful same equal items end all)) in

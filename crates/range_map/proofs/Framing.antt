@@ -10,6 +10,7 @@ use Rattle.range_algebra.specs.declared.any.AnyRange.{AnyRange}
 use Rattle.range_algebra.specs.Range.{IsKnownRange}
 use Rattle.range_algebra.specs.Intervals.{Le, Lt, Any, Every}
 use Rattle.range_algebra.specs.Orders.{lt_trans, lt_not_le, le_lt_trans}
+use Rattle.range_map.specs.Chains.{line_of}
 use Rattle.range_map.proofs.Chains.{chain_before}
 use Rattle.range_algebra.specs.Cuts.{lower, upper}
 use Rattle.range_algebra.proofs.Lists.{list_is_take_and_drop, parts_at, every_at, any_left, any_right, any_none, every_weaker, every_append, every_left, every_right}
@@ -145,7 +146,7 @@ module _ {K : Type 0} {order : KeyOrder K} (lawful : IsLawful order) {V : Type 0
         let next : end - 1 + 1 ≡ end = omega (arith, some) in
         let within : end - 1 < length items = omega (arith, some, window.in_range) in
         let split = parts_at items (end - 1) d within in
-        let ordered = chain_before cmp total same equal (item_lower order) (item_upper order) (λ i. i.value) (take (end - 1) items) last (drop (end - 1 + 1) items) (rw split at chain) in
+        let ordered = chain_before (line_of order lawful same equal) (take (end - 1) items) last (drop (end - 1 + 1) items) (rw split at chain) in
         let meets = window.meets d some in
         let full = front_items_have_places (take (end - 1) items) (last ∷ drop (end - 1 + 1) items) (rw split at chain) in
         every_weaker _ _ (take end items) (λ i h k. lt_not_le cmp total (item_lower order i) (upper order r) h.1 ((before_is order lawful r.end i.key.start window.known.1 h.0.0).0 k)) (every_both (λ i. IsKnownRange order i.key) _ (take end items) (known_take order lawful same equal items end all)

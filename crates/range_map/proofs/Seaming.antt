@@ -11,7 +11,7 @@ use Rattle.range_keys.specs.Position.{start_position, end_position}
 use Rattle.range_keys.specs.PositionOrder.{position_total}
 use Rattle.range_keys.specs.declared.inner.position.Position.{Position}
 use Rattle.range_algebra.proofs.Lists.{any_left, any_right, every_weaker, every_append, every_left, every_right}
-use Rattle.range_map.specs.Chains.{IsLeftOf, IsRightOf}
+use Rattle.range_map.specs.Chains.{line_of, IsLeftOf, IsRightOf}
 use Rattle.range_map.proofs.Chains.{chain_before, chain_right, follows_above}
 use Rattle.range_algebra.specs.Clones.{SameBound}
 use Rattle.range_algebra.specs.Compared.{inverted}
@@ -85,10 +85,10 @@ seam_count (Some q) reaching b = refl
 
 module _ {K : Type 0} (order : KeyOrder K) (lawful : IsLawful order) {V : Type 0} (same : V → V → Bool) (equal : IsEquivalence same) where
   abbrev pub Filled : List (Item (AnyRange K) V) → List (Item (AnyRange K) V) → List (Item (AnyRange K) V) → Position K → Type 0
-  Filled items middle new c = IsFilled (places order lawful) (position_total order.cmp lawful.total) same equal (item_lower order) (item_upper order) (λ i. i.value) items middle new c
+  Filled items middle new c = IsFilled (line_of order lawful same equal) items middle new c
 
   abbrev pub Spliced : List (Item (AnyRange K) V) → List (Item (AnyRange K) V) → List (Item (AnyRange K) V) → AnyRange K → Type 0
-  Spliced items middle new r = IsSpliced (places order lawful) (position_total order.cmp lawful.total) same equal (item_lower order) (item_upper order) (λ i. i.value) items middle new (lower order r) (upper order r)
+  Spliced items middle new r = IsSpliced (line_of order lawful same equal) items middle new (lower order r) (upper order r)
 
   module _ {P : Type 0} (is_good : P → Type 0) (rank : P → ℕ) (items : List (Item (AnyRange K) V)) (r : AnyRange K) (place count : ℕ) where
     -- the item starts before the range ends, and ends after the range starts
@@ -135,13 +135,13 @@ module _ {K : Type 0} (order : KeyOrder K) (lawful : IsLawful order) {V : Type 0
       pub reaches : (b : Bound K) → finish ≡ Some b → Lt (places order lawful) (lower order r) (past order (end_position order b))
       pub valued : Every (λ j. HasValue order same (take count (drop place items) ++ extra) j.value ⊎ HasValue order same middle j.value) (option_items rest)
 
-    start_filled : (start : Option (Bound K)) (front ms : List (Item (AnyRange K) V)) (m : Item (AnyRange K) V) (s : Position K) → places order lawful (edge_start order same start r) s ≡ Equal → IsLeftOf (places order lawful) (position_total order.cmp lawful.total) same equal (item_lower order) (item_upper order) (λ i. i.value) items front (lower order r) s m.value → Chained order lawful same equal (m ∷ ms) → places order lawful (item_lower order m) (lower order r) ≡ Equal → Filled items (m ∷ ms) (front ++ with_first_start start (m ∷ ms)) (lower order r)
+    start_filled : (start : Option (Bound K)) (front ms : List (Item (AnyRange K) V)) (m : Item (AnyRange K) V) (s : Position K) → places order lawful (edge_start order same start r) s ≡ Equal → IsLeftOf (line_of order lawful same equal) items front (lower order r) s m.value → Chained order lawful same equal (m ∷ ms) → places order lawful (item_lower order m) (lower order r) ≡ Equal → Filled items (m ∷ ms) (front ++ with_first_start start (m ∷ ms)) (lower order r)
     start_filled None front ms m s starts left chain at =
         let total = position_total order.cmp lawful.total in
-        filled_joined (places order lawful) total same equal (item_lower order) (item_upper order) (λ i. i.value) items front m m ms (lower order r) s left chain at (total.congr (item_lower order m) (lower order r) s at ∙ starts) (tied_itself total (item_upper order m)) (equal.refl m.value)
+        filled_joined (line_of order lawful same equal) items front m m ms (lower order r) s left chain at (total.congr (item_lower order m) (lower order r) s at ∙ starts) (tied_itself total (item_upper order m)) (equal.refl m.value)
     start_filled (Some b) front ms m s starts left chain at =
         let total = position_total order.cmp lawful.total in
-        filled_joined (places order lawful) total same equal (item_lower order) (item_upper order) (λ i. i.value) items front m (with_start m b) ms (lower order r) s left chain at starts (tied_itself total (item_upper order m)) (equal.refl m.value)
+        filled_joined (line_of order lawful same equal) items front m (with_start m b) ms (lower order r) s left chain at starts (tied_itself total (item_upper order m)) (equal.refl m.value)
 
     start_known : (start : Option (Bound K)) (m : Item (AnyRange K) V) (ms : List (Item (AnyRange K) V)) → IsKnownBound order (unwrap_or start r.start) → Known order lawful same equal (m ∷ ms) → Known order lawful same equal (with_first_start start (m ∷ ms))
     start_known None m ms known all = all
@@ -187,7 +187,7 @@ module _ {K : Type 0} (order : KeyOrder K) (lawful : IsLawful order) {V : Type 0
           shape = cut.shape;
           run = cut.run;
           begins = omega (arith, none);
-          filled = filled_apart (places order lawful) (position_total order.cmp lawful.total) same equal (item_lower order) (item_upper order) (λ i. i.value) items (take place items ++ option_items cut.rest) middle (lower order r) cut.side.left (stored_chain order lawful same equal middle others) starts;
+          filled = filled_apart (line_of order lawful same equal) items (take place items ++ option_items cut.rest) middle (lower order r) cut.side.left (stored_chain order lawful same equal middle others) starts;
           known = every_append _ (take place items ++ option_items cut.rest) middle (every_append _ (take place items) (option_items cut.rest) (known_take order lawful same equal items place (stored_known order lawful same equal items stored)) cut.side.known) (stored_known order lawful same equal middle others);
           extra = [];
           split = sym (append-nil (take place items));
@@ -199,7 +199,7 @@ module _ {K : Type 0} (order : KeyOrder K) (lawful : IsLawful order) {V : Type 0
     all_later m ms chain later =
         let cmp = places order lawful in
         let total = position_total order.cmp lawful.total in
-        let above = follows_above cmp total same equal (item_lower order) (item_upper order) (λ i. i.value) m ms chain.1 in
+        let above = follows_above (line_of order lawful same equal) m ms chain.1 in
         (later, every_weaker _ _ ms (λ i h. lt_le_trans cmp total (lower order r) (item_upper order m) (item_lower order i) (lt_trans cmp total (lower order r) (item_lower order m) (item_upper order m) later chain.0) h) above)
 
     pub left_fill : (middle : List (Item (AnyRange K) V)) (first : Option P) (edge : Edge K P) (from : Option P) → Lt (places order lawful) (lower order r) (upper order r) → IsStored order same items → IsStored order same middle → IsLeftSeam order same lawful equal is_good rank items r place count (slice_get middle 0) first edge from → IsLeftFill middle first edge from
@@ -252,19 +252,19 @@ module _ {K : Type 0} (order : KeyOrder K) (lawful : IsLawful order) {V : Type 0
         let grouped : front ++ with_first_start start middle ≡ (front ++ s.0) ++ z ∷ [] = ap (λ ys. front ++ ys) body ∙ sym (append_assoc front s.0 (z ∷ [])) in
         let list : (front ++ with_last_end plan.finish (with_first_start start middle)) ++ behind ≡ (front ++ s.0) ++ other ∷ behind = ap (λ ys. (front ++ ys) ++ behind) (ap (with_last_end plan.finish) body ∙ with_last plan.finish s.0 z) ∙ regrouped_last front s.0 behind other in
         let z_ends : places order lawful (item_upper order z) (upper order r) ≡ Equal = subst (λ (b : Bound K). places order lawful (past order (end_position order b)) (upper order r) ≡ Equal) (sym s.3) at in
-        let right = subst (λ (v : V). IsRightOf (places order lawful) (position_total order.cmp lawful.total) same equal (item_lower order) (item_upper order) (λ i. i.value) items behind (upper order r) plan.side.e v) (sym s.4) plan.side.right in
+        let right = subst (λ (v : V). IsRightOf (line_of order lawful same equal) items behind (upper order r) plan.side.e v) (sym s.4) plan.side.right in
         let filled = subst (λ ys. Filled items middle ys (lower order r)) grouped fill in
         let all = subst (λ ys. Known order lawful same equal ys) grouped known in
         let known_z = every_right _ (front ++ s.0) (z ∷ []) all in
         let cmp = places order lawful in
         let body_end : with_last_end plan.finish (with_first_start start middle) ≡ s.0 ++ other ∷ [] = ap (with_last_end plan.finish) body ∙ with_last plan.finish s.0 z in
-        let full = (chain_right cmp total same equal (item_lower order) (item_upper order) (λ i. i.value) (front ++ s.0) (z ∷ []) filled.chain).0 in
+        let full = (chain_right (line_of order lawful same equal) (front ++ s.0) (z ∷ []) filled.chain).0 in
         let under = le_lt_trans cmp total (item_lower order other) (item_lower order z) (upper order r) (eq_le cmp total (item_lower order other) (item_lower order z) (ended_lower plan.finish z)) (lt_le_trans cmp total (item_lower order z) (item_upper order z) (upper order r) full (eq_le cmp total (item_upper order z) (upper order r) z_ends)) in
         let above = lt_le_trans cmp total (lower order r) (upper order r) plan.side.e good plan.side.right.above in
         let over = lt_le_trans cmp total (lower order r) plan.side.e (item_upper order other) above (eq_ge cmp total (item_upper order other) plan.side.e (ended_upper plan.finish z plan.side.e plan.side.ends z_ends)) in
         let same_value : m.value ≡ other.value = sym (ended_same plan.finish z ∙ s.4) in
         let beyond = lt_le_trans cmp total (lower order r) plan.side.e (edge_end order same plan.finish r) above (eq_ge cmp total (edge_end order same plan.finish r) plan.side.e plan.side.ends) in
-        let done = spliced_joined (places order lawful) total same equal (item_lower order) (item_upper order) (λ i. i.value) items middle (front ++ s.0) behind z other (lower order r) (upper order r) plan.side.e filled good z_ends right (ended_lower plan.finish z) (ended_upper plan.finish z plan.side.e plan.side.ends z_ends) (ended_value plan.finish z) in
+        let done = spliced_joined (line_of order lawful same equal) items middle (front ++ s.0) behind z other (lower order r) (upper order r) plan.side.e filled good z_ends right (ended_lower plan.finish z) (ended_upper plan.finish z plan.side.e plan.side.ends z_ends) (ended_value plan.finish z) in
         let known_new = every_append _ (front ++ s.0) (other ∷ behind) (every_left _ (front ++ s.0) (z ∷ []) all) (ended_known plan.finish z known_z.0 plan.side.known_end, every_append _ (option_items plan.rest) (drop plan.end items) plan.side.known (known_drop order lawful same equal items plan.end (stored_known order lawful same equal items stored))) in
         record {
           upto = plan.upto;
@@ -295,7 +295,7 @@ module _ {K : Type 0} (order : KeyOrder K) (lawful : IsLawful order) {V : Type 0
           shape = cut.shape;
           ends = omega (arith, none, cut.ends);
           in_range = within;
-          spliced = spliced_apart (places order lawful) (position_total order.cmp lawful.total) same equal (item_lower order) (item_upper order) (λ i. i.value) items middle (front ++ with_first_start start middle) behind (lower order r) u (upper order r) fill le lt all cut.side.right;
+          spliced = spliced_apart (line_of order lawful same equal) items middle (front ++ with_first_start start middle) behind (lower order r) u (upper order r) fill le lt all cut.side.right;
           known = every_append _ (front ++ with_first_start start middle) behind known (every_append _ (option_items cut.rest) (drop (place + count) items) cut.side.known (known_drop order lawful same equal items (place + count) (stored_known order lawful same equal items stored)));
           extra = [];
           split = refl;
@@ -318,8 +318,8 @@ module _ {K : Type 0} (order : KeyOrder K) (lawful : IsLawful order) {V : Type 0
         let end = last_of x xs in
         let m = end.1 in
         let chain = subst (λ ys. Chained order lawful same equal ys) end.2 (stored_chain order lawful same equal (x ∷ xs) others) in
-        let full = (chain_right cmp total same equal (item_lower order) (item_upper order) (λ i. i.value) end.0 (m ∷ []) chain).0 in
-        let before = chain_before cmp total same equal (item_lower order) (item_upper order) (λ i. i.value) end.0 m [] chain in
+        let full = (chain_right (line_of order lawful same equal) end.0 (m ∷ []) chain).0 in
+        let before = chain_before (line_of order lawful same equal) end.0 m [] chain in
         let below = every_append (λ i. Le cmp (item_upper order i) (item_upper order m)) end.0 (m ∷ []) (every_weaker _ _ end.0 (λ i k. le_trans cmp total (item_upper order i) (item_lower order m) (item_upper order m) k.0 (lt_le cmp total (item_lower order m) (item_upper order m) full)) before) (le_refl cmp total (item_upper order m), tt) in
         let inside = every_right (λ i. LiesIn order i.key r) end.0 (m ∷ []) (subst (λ ys. Every (λ (i : Item (AnyRange K) V). LiesIn order i.key r) ys) end.2 within) in
         right_cutting (x ∷ xs) front start last edge (item_upper order m) stored in_range (le_trans cmp total (lower order r) (item_lower order m) (item_upper order m) inside.0.starts (lt_le cmp total (item_lower order m) (item_upper order m) full)) (h.0 m end.3) (subst (λ ys. Every (λ (i : Item (AnyRange K) V). Le cmp (item_upper order i) (item_upper order m)) ys) (sym end.2) below) fill known h.1

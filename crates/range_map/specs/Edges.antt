@@ -5,7 +5,6 @@ use Rattle.std.specs.declared.cmp.Ordering.TheVariants.{Equal}
 use Rattle.std.specs.Cmp.{IsEquivalence}
 use Rattle.range_keys.specs.Order.{KeyOrder, IsLawful}
 use Rattle.range_keys.specs.Position.{start_position, end_position, position_cmp}
-use Rattle.range_keys.specs.PositionOrder.{position_total}
 use Rattle.range_keys.specs.declared.inner.position.Position.{Position}
 use Rattle.range_algebra.specs.Range.{IsKnownRange, IsKnownBound}
 use Rattle.std.specs.Option.{unwrap_or}
@@ -23,7 +22,7 @@ use Rattle.range_store.specs.declared.storage.Item.{Item}
 use Rattle.range_map.specs.declared.change.cut.Parts.{Parts}
 use Rattle.range_map.specs.declared.change.window.Window.{Window}
 use Rattle.range_algebra.specs.Intervals.{Every, Le}
-use Rattle.range_map.specs.Chains.{IsLeft, IsRight, IsLeftOf, IsRightOf}
+use Rattle.range_map.specs.Chains.{line_of, IsLeft, IsRight, IsLeftOf, IsRightOf}
 use Rattle.range_algebra.specs.Cuts.{past, lower, upper}
 use Rattle.range_map.specs.Stored.{item_lower, item_upper}
 use Rattle.range_algebra.specs.Relations.{Touches}
@@ -57,12 +56,12 @@ module _ {K : Type 0} (order : KeyOrder K) {V : Type 0} (same : V → V → Bool
   module _ (lawful : IsLawful order) (equal : IsEquivalence same) where
     -- what stands before the range when it is cut out
     pub record IsLeftRest (items : List (Item (AnyRange K) V)) (r : AnyRange K) (place : ℕ) (rest : Option (Item (AnyRange K) V)) : Type 0 where
-      pub left : IsLeft (position_cmp order.cmp) (position_total order.cmp lawful.total) same equal (item_lower order) (item_upper order) (λ i. i.value) items (take place items ++ option_items rest) (lower order r)
+      pub left : IsLeft (line_of order lawful same equal) items (take place items ++ option_items rest) (lower order r)
       pub known : Every (λ i. IsKnownRange order i.key) (option_items rest)
       pub reaches : (y : Item (AnyRange K) V) → rest ≡ Some y → Le (position_cmp order.cmp) (lower order r) (item_upper order y)
 
     pub record IsRightRest (items : List (Item (AnyRange K) V)) (r : AnyRange K) (end : ℕ) (rest : Option (Item (AnyRange K) V)) : Type 0 where
-      pub right : IsRight (position_cmp order.cmp) (position_total order.cmp lawful.total) same equal (item_lower order) (item_upper order) (λ i. i.value) items (option_items rest ++ drop end items) (upper order r)
+      pub right : IsRight (line_of order lawful same equal) items (option_items rest ++ drop end items) (upper order r)
       pub known : Every (λ i. IsKnownRange order i.key) (option_items rest)
       pub reaches : (y : Item (AnyRange K) V) → rest ≡ Some y → Le (position_cmp order.cmp) (item_lower order y) (upper order r)
 
@@ -70,7 +69,7 @@ module _ {K : Type 0} (order : KeyOrder K) {V : Type 0} (same : V → V → Bool
     pub record IsLeftEdge (items : List (Item (AnyRange K) V)) (r : AnyRange K) (v : V) (at : ℕ) (rest : Option (Item (AnyRange K) V)) (start : Option (Bound K)) : Type 0 where
       pub s : Position K
       pub starts : position_cmp order.cmp (edge_start start r) s ≡ Equal
-      pub left : IsLeftOf (position_cmp order.cmp) (position_total order.cmp lawful.total) same equal (item_lower order) (item_upper order) (λ i. i.value) items (take at items ++ option_items rest) (lower order r) s v
+      pub left : IsLeftOf (line_of order lawful same equal) items (take at items ++ option_items rest) (lower order r) s v
       pub known : Every (λ i. IsKnownRange order i.key) (option_items rest)
       pub known_start : IsKnownBound order (unwrap_or start r.start)
 
@@ -79,7 +78,7 @@ module _ {K : Type 0} (order : KeyOrder K) {V : Type 0} (same : V → V → Bool
       pub in_range : end ≤ length items
       pub e : Position K
       pub ends : position_cmp order.cmp (edge_end finish r) e ≡ Equal
-      pub right : IsRightOf (position_cmp order.cmp) (position_total order.cmp lawful.total) same equal (item_lower order) (item_upper order) (λ i. i.value) items (option_items rest ++ drop end items) (upper order r) e v
+      pub right : IsRightOf (line_of order lawful same equal) items (option_items rest ++ drop end items) (upper order r) e v
       pub known : Every (λ i. IsKnownRange order i.key) (option_items rest)
       pub known_end : IsKnownBound order (unwrap_or finish r.end)
 
