@@ -11,7 +11,7 @@ use Rattle.range_keys.specs.PositionOrder.{position_total}
 use Rattle.range_keys.proofs.Orderings.{eq_is_equal}
 use Rattle.range_algebra.specs.declared.any.AnyRange.{AnyRange}
 use Rattle.range_algebra.proofs.Lists.{every_left, every_right}
-use Rattle.range_map.specs.Chains.{Leads}
+use Rattle.range_map.specs.Chains.{line_of, Leads}
 use Rattle.range_map.proofs.Chains.{chain_before, chain_left, chain_right}
 use Rattle.range_algebra.specs.Compared.{starts_at_end}
 use Rattle.range_algebra.specs.Cuts.{past, lower, upper}
@@ -49,7 +49,7 @@ module _ {K V : Type 0} (order : KeyOrder K) (lawful : IsLawful order) (same : V
   touching_at Unbounded s h = absurd (cc)
 
   abbrev LeadsTo : Item (AnyRange K) V → Item (AnyRange K) V → Type 0
-  LeadsTo i x = Leads (places order lawful) (position_total order.cmp lawful.total) same equal (item_lower order) (item_upper order) (λ j. j.value) i (item_lower order x) x.value
+  LeadsTo i x = Leads (line_of order lawful same equal) i (item_lower order x) x.value
 
   -- what lies before x, and touches it only beside another value, does not join it
   not_joined : (i x : Item (AnyRange K) V) → IsKnownRange order i.key → IsKnownRange order x.key → Lt (places order lawful) (item_lower order i) (item_upper order i) → Lt (places order lawful) (item_lower order x) (item_upper order x) → LeadsTo i x → ¬ JoinsOrMeets order same x.key x.value i
@@ -71,7 +71,7 @@ module _ {K V : Type 0} (order : KeyOrder K) (lawful : IsLawful order) (same : V
 
   chained_items_have_places : (xs : List (Item (AnyRange K) V)) → Known order lawful same equal xs → Chained order lawful same equal xs → Goods xs
   chained_items_have_places [] known chain = tt
-  chained_items_have_places (x ∷ xs) known chain = ((known.0, chain.0), chained_items_have_places xs known.1 (chain_right (places order lawful) (position_total order.cmp lawful.total) same equal (item_lower order) (item_upper order) (λ j. j.value) (x ∷ []) xs chain))
+  chained_items_have_places (x ∷ xs) known chain = ((known.0, chain.0), chained_items_have_places xs known.1 (chain_right (line_of order lawful same equal) (x ∷ []) xs chain))
 
   none_joined : (xs : List (Item (AnyRange K) V)) (x : Item (AnyRange K) V) → Goods xs → IsKnownRange order x.key → Lt (places order lawful) (item_lower order x) (item_upper order x) → Every (λ i. LeadsTo i x) xs → Every (λ i. ¬ JoinsOrMeets order same x.key x.value i) xs
   none_joined [] x good known_x good_x leads = tt
@@ -83,7 +83,7 @@ module _ {K V : Type 0} (order : KeyOrder K) (lawful : IsLawful order) (same : V
   none_behind front (b ∷ behind) x good good_x leads chain =
       let cmp = places order lawful in
       let total = position_total order.cmp lawful.total in
-      let own = chain_right cmp total same equal (item_lower order) (item_upper order) (λ j. j.value) front (x ∷ b ∷ behind) chain in
+      let own = chain_right (line_of order lawful same equal) front (x ∷ b ∷ behind) chain in
       let after : Le cmp (item_upper order x) (item_lower order b) = own.1.0.0 in
       absurd (lt_not_le cmp total (item_lower order x) (item_upper order x) good_x (le_trans cmp total (item_upper order x) (item_lower order b) (item_lower order x) after (le_trans cmp total (item_lower order b) (item_upper order b) (item_lower order x) (lt_le cmp total (item_lower order b) (item_upper order b) good.0.1) leads.0.0)))
 
@@ -94,9 +94,9 @@ module _ {K V : Type 0} (order : KeyOrder K) (lawful : IsLawful order) (same : V
       let total = position_total order.cmp lawful.total in
       let chain = stored_chain order lawful same equal (xs ++ x ∷ []) whole in
       let known = stored_known order lawful same equal (xs ++ x ∷ []) whole in
-      let leads = chain_before cmp total same equal (item_lower order) (item_upper order) (λ j. j.value) xs x [] chain in
-      let last = chain_right cmp total same equal (item_lower order) (item_upper order) (λ j. j.value) xs (x ∷ []) chain in
-      let good = chained_items_have_places xs (every_left (λ i. IsKnownRange order i.key) xs (x ∷ []) known) (chain_left cmp total same equal (item_lower order) (item_upper order) (λ j. j.value) xs (x ∷ []) chain) in
+      let leads = chain_before (line_of order lawful same equal) xs x [] chain in
+      let last = chain_right (line_of order lawful same equal) xs (x ∷ []) chain in
+      let good = chained_items_have_places xs (every_left (λ i. IsKnownRange order i.key) xs (x ∷ []) known) (chain_left (line_of order lawful same equal) xs (x ∷ []) chain) in
       none_joined xs x good (every_right (λ i. IsKnownRange order i.key) xs (x ∷ []) known).0 last.0 leads
 
   -- a list in the form stands as it is, where its last item is put to the others
@@ -106,9 +106,9 @@ module _ {K V : Type 0} (order : KeyOrder K) (lawful : IsLawful order) (same : V
       let total = position_total order.cmp lawful.total in
       let chain = stored_chain order lawful same equal (xs ++ x ∷ []) whole in
       let known = stored_known order lawful same equal (xs ++ x ∷ []) whole in
-      let leads = chain_before cmp total same equal (item_lower order) (item_upper order) (λ j. j.value) xs x [] chain in
-      let last = chain_right cmp total same equal (item_lower order) (item_upper order) (λ j. j.value) xs (x ∷ []) chain in
-      let good = chained_items_have_places xs (every_left (λ i. IsKnownRange order i.key) xs (x ∷ []) known) (chain_left cmp total same equal (item_lower order) (item_upper order) (λ j. j.value) xs (x ∷ []) chain) in
+      let leads = chain_before (line_of order lawful same equal) xs x [] chain in
+      let last = chain_right (line_of order lawful same equal) xs (x ∷ []) chain in
+      let good = chained_items_have_places xs (every_left (λ i. IsKnownRange order i.key) xs (x ∷ []) known) (chain_left (line_of order lawful same equal) xs (x ∷ []) chain) in
       let apart = apart_from_last xs x whole in
       let empty : frame.run ≡ [] = no_item (JoinsOrMeets order same x.key x.value) frame.front frame.run frame.behind (subst (λ is. Every (λ i. ¬ JoinsOrMeets order same x.key x.value i) is) frame.before apart) frame.such.concerned in
       let split : xs ≡ frame.front ++ frame.behind = frame.before ∙ ap (λ is. frame.front ++ is ++ frame.behind) empty ∙ ap (λ is. is ++ frame.behind) (append-nil frame.front) in
@@ -118,7 +118,7 @@ module _ {K V : Type 0} (order : KeyOrder K) (lawful : IsLawful order) (same : V
 
   -- the front of a list in the form is in the form
   pub stored_front : (xs ys : List (Item (AnyRange K) V)) → IsStored order same (xs ++ ys) → IsStored order same xs
-  stored_front xs ys whole = chain_stored order lawful same equal xs (every_left (λ i. IsKnownRange order i.key) xs ys (stored_known order lawful same equal (xs ++ ys) whole)) (chain_left (places order lawful) (position_total order.cmp lawful.total) same equal (item_lower order) (item_upper order) (λ j. j.value) xs ys (stored_chain order lawful same equal (xs ++ ys) whole))
+  stored_front xs ys whole = chain_stored order lawful same equal xs (every_left (λ i. IsKnownRange order i.key) xs ys (stored_known order lawful same equal (xs ++ ys) whole)) (chain_left (line_of order lawful same equal) xs ys (stored_chain order lawful same equal (xs ++ ys) whole))
 
   -- the list before the last is in the form
   pub stored_before : (xs : List (Item (AnyRange K) V)) (x : Item (AnyRange K) V) → IsStored order same (xs ++ x ∷ []) → IsStored order same xs

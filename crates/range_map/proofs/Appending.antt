@@ -1,5 +1,5 @@
 -- A range that comes after all stored ones.
-use Rattle.std.proofs.Common.{◌≡◌, ◌≤◌, ◌+◌, ◌++◌, ◌∷◌, ◌∙◌, List, [], length, take, drop, refl, sym, ap, Bool, IsTrue, inl, inr, arith}
+use Rattle.std.proofs.Common.{◌≡◌, ◌≤◌, ◌+◌, ◌++◌, ◌∷◌, ◌∙◌, List, [], length, take, refl, sym, ap, Bool, inl, arith}
 use Rattle.std.specs.Prelude.{insert}
 use Rattle.std.specs.Cmp.{IsEquivalence}
 use Rattle.std.proofs.Math.Seq.{take-length}
@@ -7,13 +7,11 @@ use Rattle.std.proofs.lemmas.List.{append-nil}
 use Rattle.std.proofs.lemmas.List.Edits.{length-insert}
 use Rattle.range_keys.specs.Order.{KeyOrder, IsLawful}
 use Rattle.range_map.proofs.Cutting.{any_over}
-use Rattle.range_algebra.specs.Intervals.{Every}
 use Rattle.range_algebra.specs.Range.{IsEmptyRange, IsKnownRange}
 use Rattle.range_algebra.specs.declared.any.AnyRange.{AnyRange}
 use Rattle.range_algebra.proofs.Lists.{drop_all}
 use Rattle.range_store.specs.declared.storage.Item.{Item}
 use Rattle.range_map.specs.Changes.{IsInserted}
-use Rattle.range_map.specs.Frames.{GaveWayTo}
 use Rattle.range_map.specs.Apart.{AllEndBefore}
 use Rattle.range_map.specs.Lookups.{MeetsSome}
 use Rattle.range_map.specs.Stored.{IsStored}

@@ -8,7 +8,7 @@ use Rattle.range_keys.specs.declared.inner.position.Position.{Position}
 use Rattle.range_algebra.specs.declared.any.AnyRange.{AnyRange}
 use Rattle.range_algebra.specs.Range.{IsKnownRange}
 use Rattle.range_algebra.specs.Cuts.{lower, upper}
-use Rattle.range_map.specs.Chains.{IsBoundTo}
+use Rattle.range_map.specs.Chains.{line_of, IsBoundTo}
 use Rattle.range_algebra.specs.Intervals.{Le, Lt, Any, Every}
 use Rattle.range_algebra.proofs.Lists.{list_is_take_and_drop, any_left, any_right, any_split}
 use Rattle.range_algebra.specs.Orders.{le_refl, lt_le, le_lt_trans, lt_not_le, cases, not_le}
@@ -86,7 +86,7 @@ module _ {K : Type 0} (order : KeyOrder K) (lawful : IsLawful order) where
 
     -- what meets the range or a range of the list meets one of the list in which it was bound, and nothing else does
     pub meets_bound : (items new : List (Item (AnyRange K) V)) (r : AnyRange K) (v : V) → Known order lawful same equal items → Known order lawful same equal new → Chained order lawful same equal items → IsKnownRange order r → Lt (places order lawful) (lower order r) (upper order r) →
-        IsBoundTo (places order lawful) (position_total order.cmp lawful.total) same equal (item_lower order) (item_upper order) (λ i. i.value) items new (lower order r) (upper order r) v → MeetAlso order items new r
+        IsBoundTo (line_of order lawful same equal) items new (lower order r) (upper order r) v → MeetAlso order items new r
     meets_bound items new r v all all_new chain known good changed = λ s known_s full.
         let cmp = places order lawful in
         let total = position_total order.cmp lawful.total in

@@ -1,10 +1,10 @@
 -- What is left of an item that a range cuts, by places.
-use Rattle.std.proofs.Common.{◌≡◌, refl, sym, ◌∙◌, ◌↔◌, Some, None, Bool, false, IsTrue}
+use Rattle.std.proofs.Common.{◌≡◌, refl, sym, ◌∙◌, ◌↔◌, Some, None, false, IsTrue}
 use Rattle.std.specs.declared.ops.Bound.{Bound}
 use Rattle.std.specs.declared.ops.Bound.TheVariants.{Included, Excluded, Unbounded}
 use Rattle.std.specs.declared.cmp.Ordering.{Ordering}
 use Rattle.std.specs.declared.cmp.Ordering.TheVariants.{Less, Equal, Greater}
-use Rattle.std.specs.Ordering.{is_gt, is_le, is_lt}
+use Rattle.std.specs.Ordering.{is_gt, is_le}
 use Rattle.std.specs.Cmp.{tied_back, tied_itself}
 use Rattle.range_keys.specs.Order.{KeyOrder, IsLawful}
 use Rattle.range_keys.specs.Position.{start_position, end_position}

@@ -14,6 +14,7 @@ use Rattle.range_algebra.specs.RangeOrder.{range_cmp}
 use Rattle.range_algebra.specs.Intervals.{Le, Lt, Any, Every}
 use Rattle.range_algebra.specs.Orders.{le_refl, lt_le, eq_le, eq_ge, le_trans, lt_not_le, cases, both, le_lt_trans, lt_le_trans}
 use Rattle.range_algebra.proofs.Lists.{any_left, every_weaker, every_append}
+use Rattle.range_map.specs.Chains.{line_of}
 use Rattle.range_map.proofs.Chains.{follows_above, chain_tail}
 use Rattle.range_algebra.specs.Combined.{common}
 use Rattle.range_algebra.proofs.Commons.{gt_le, later_is, earlier_is, later_over as starts_over, earlier_under as ends_under}
@@ -21,7 +22,6 @@ use Rattle.range_algebra.specs.Cuts.{lower, upper}
 use Rattle.range_algebra.specs.Relations.{LiesBefore}
 use Rattle.range_store.specs.declared.storage.Item.{Item}
 use Rattle.range_map.specs.Answers.{Answered, piece_of, AreAnswersTo}
-use Rattle.range_map.specs.Stored.{item_lower, item_upper}
 use Rattle.range_map.specs.Neighbours.{EachNext}
 use Rattle.range_map.specs.Pieces.{later, earlier, IsCommonPart, LiesIn, IsFreePart, IsPiece}
 use Rattle.range_map.specs.Lookups.{Overlap}
@@ -301,15 +301,15 @@ module _ {K : Type 0} (order : KeyOrder K) (lawful : IsLawful order) where
           both_held : (p : Position K) (P Q : Item (AnyRange K) V → Type 0) (xs : List (Item (AnyRange K) V)) → Chained order lawful same equal xs → Any (λ i. P i × Holding p i) xs → Any (λ i. Q i × Holding p i) xs → Any (λ i. P i × Q i) xs
           both_held p P Q [] chain h k = h
           both_held p P Q (x ∷ xs) chain (inl h) (inl k) = inl (h.0, k.0)
-          both_held p P Q (x ∷ xs) chain (inr h) (inr k) = inr (both_held p P Q xs (chain_tail (position_cmp order.cmp) (position_total order.cmp lawful.total) same equal (item_lower order) (item_upper order) (λ i. i.value) x xs chain.1) h k)
+          both_held p P Q (x ∷ xs) chain (inr h) (inr k) = inr (both_held p P Q xs (chain_tail (line_of order lawful same equal) x xs chain.1) h k)
           both_held p P Q (x ∷ xs) chain (inl h) (inr k) =
               let cmp = position_cmp order.cmp in
               let total = position_total order.cmp lawful.total in
-              any_use (λ i. Q i × Holding p i) (λ i. PLe (Hi x.key) (Lo i.key)) xs k (follows_above cmp total same equal (item_lower order) (item_upper order) (λ i. i.value) x xs chain.1) (λ i g le. absurd (lt_not_le cmp total p (Hi x.key) h.1.1 (le_trans cmp total (Hi x.key) (Lo i.key) p le g.1.0)))
+              any_use (λ i. Q i × Holding p i) (λ i. PLe (Hi x.key) (Lo i.key)) xs k (follows_above (line_of order lawful same equal) x xs chain.1) (λ i g le. absurd (lt_not_le cmp total p (Hi x.key) h.1.1 (le_trans cmp total (Hi x.key) (Lo i.key) p le g.1.0)))
           both_held p P Q (x ∷ xs) chain (inr h) (inl k) =
               let cmp = position_cmp order.cmp in
               let total = position_total order.cmp lawful.total in
-              any_use (λ i. P i × Holding p i) (λ i. PLe (Hi x.key) (Lo i.key)) xs h (follows_above cmp total same equal (item_lower order) (item_upper order) (λ i. i.value) x xs chain.1) (λ i g le. absurd (lt_not_le cmp total p (Hi x.key) k.1.1 (le_trans cmp total (Hi x.key) (Lo i.key) p le g.1.0)))
+              any_use (λ i. P i × Holding p i) (λ i. PLe (Hi x.key) (Lo i.key)) xs h (follows_above (line_of order lawful same equal) x xs chain.1) (λ i g le. absurd (lt_not_le cmp total p (Hi x.key) k.1.1 (le_trans cmp total (Hi x.key) (Lo i.key) p le g.1.0)))
 
           common_held : (p : Position K) (key : AnyRange K) (v : V) → IsKnownRange order key → Any (λ i. IsCommonPart order r i.key key × (i.value ≡ v)) items → PLe (Lo key) p → PLt p (Hi key) → Any (λ i. (IsCommonPart order r i.key key × (i.value ≡ v)) × Holding p i) items
           common_held p key v known h from upto =

@@ -15,14 +15,14 @@ use Rattle.range_algebra.specs.Range.{IsKnownRange}
 use Rattle.range_algebra.specs.Intervals.{Any, Every}
 use Rattle.range_algebra.specs.Orders.{lt_le, eq_le, eq_ge, le_trans, cases, le_lt_trans, lt_le_trans}
 use Rattle.range_algebra.proofs.Lists.{any_left, any_right, any_split, every_weaker, every_append, every_left, every_right}
-use Rattle.range_map.specs.Chains.{Leads, Respects}
+use Rattle.range_map.specs.Chains.{line_of, Leads, Respects}
 use Rattle.range_map.proofs.Chains.{strictly_leads, chain_left, chain_right, chain_before, chains_join, same_is_symmetric}
 use Rattle.range_algebra.specs.Relations.{Touches}
 use Rattle.range_store.specs.declared.storage.Item.{Item}
 use Rattle.range_map.specs.Answers.{Answered}
 use Rattle.range_map.specs.Asking.{JoinsNoLast, IsPut}
 use Rattle.range_map.specs.Edits.{with_end}
-use Rattle.range_map.specs.Stored.{item_lower, item_upper}
+use Rattle.range_map.specs.Stored.{item_lower}
 use Rattle.range_map.proofs.CutParts.{same_past}
 use Rattle.range_map.proofs.Cutting.{PLe, PLt, Lo, Hi, any_end}
 use Rattle.range_map.proofs.Forms.{Known, Chained, Hold, touches_is}
@@ -46,7 +46,7 @@ module _ {K : Type 0} (order : KeyOrder K) (lawful : IsLawful order) {V : Type 0
   Gives W (Some v) = W v ≡ true
 
   abbrev pub Alike : (V → Bool) → Type 0
-  Alike W = Respects (position_cmp order.cmp) (position_total order.cmp lawful.total) same equal (item_lower order) (item_upper order) (λ (i : Item (AnyRange K) V). i.value) W
+  Alike W = Respects (line_of order lawful same equal) W
 
   -- a nonempty part between the places of the range
   abbrev pub IsWithin : AnyRange K → Type 0
@@ -97,7 +97,7 @@ module _ {K : Type 0} (order : KeyOrder K) (lawful : IsLawful order) {V : Type 0
           valued = more_valued a middle was.valued;
         }
 
-    lead_all : (v : V) (j : Item (AnyRange K) V) → position_cmp order.cmp (Lo order lawful j.key) (Lo order lawful key) ≡ Equal → j.value ≡ v → (xs : List (Item (AnyRange K) V)) → Chained order lawful same equal xs → Every (LiesUpTo m) xs → ((k : ℕ) (d : Item (AnyRange K) V) → k + 1 ≡ length xs → Touches order (get_or xs k d).key key → same (get_or xs k d).value v ≡ true → ⊥) → Every (λ x. Leads (position_cmp order.cmp) (position_total order.cmp lawful.total) same equal (item_lower order) (item_upper order) (λ i. i.value) x (item_lower order j) j.value) xs
+    lead_all : (v : V) (j : Item (AnyRange K) V) → position_cmp order.cmp (Lo order lawful j.key) (Lo order lawful key) ≡ Equal → j.value ≡ v → (xs : List (Item (AnyRange K) V)) → Chained order lawful same equal xs → Every (LiesUpTo m) xs → ((k : ℕ) (d : Item (AnyRange K) V) → k + 1 ≡ length xs → Touches order (get_or xs k d).key key → same (get_or xs k d).value v ≡ true → ⊥) → Every (λ x. Leads (line_of order lawful same equal) x (item_lower order j) j.value) xs
     lead_all v j at is [] chain within apart = tt
     lead_all v j at is (x ∷ []) chain within apart =
         let cmp = position_cmp order.cmp in
@@ -109,7 +109,7 @@ module _ {K : Type 0} (order : KeyOrder K) (lawful : IsLawful order) {V : Type 0
         let total = position_total order.cmp lawful.total in
         let rest = lead_all v j at is (y ∷ ys) chain.1.1 within.1 (λ k d size. apart (suc k) d (omega (arith, size))) in
         let strict = le_lt_trans cmp total (Hi order lawful x.key) (Lo order lawful y.key) (Lo order lawful j.key) chain.1.0.0 (lt_le_trans cmp total (Lo order lawful y.key) (Hi order lawful y.key) (Lo order lawful j.key) chain.1.1.0 rest.0.0) in
-        (strictly_leads cmp total same equal (item_lower order) (item_upper order) (λ i. i.value) x (item_lower order j) j.value strict, rest)
+        (strictly_leads (line_of order lawful same equal) x (item_lower order j) j.value strict, rest)
 
     filled_with_item_after : (v : V) (value : Option V) (j : Item (AnyRange K) V) (middle : List (Item (AnyRange K) V)) → IsFilledUpTo m answers middle → IsKnownRange order j.key → position_cmp order.cmp (Lo order lawful j.key) (Lo order lawful key) ≡ Equal → position_cmp order.cmp (Hi order lawful j.key) (Hi order lawful key) ≡ Equal → j.value ≡ v → JoinsNoLast order same middle key v → IsFilledUpTo n (answers ++ record { key = key; value = value; answer = Some v } ∷ []) (middle ++ j ∷ [])
     filled_with_item_after v value j middle was known at to is apart =
@@ -123,7 +123,7 @@ module _ {K : Type 0} (order : KeyOrder K) (lawful : IsLawful order) {V : Type 0
         let good = lt_le_trans cmp total p0 hi q0 (le_lt_trans cmp total p0 lo hi (eq_le cmp total p0 lo at) inside.2) (eq_ge cmp total q0 hi to) in
         record {
           known = every_append (λ i. IsKnownRange order i.key) middle (j ∷ []) was.known (known, tt);
-          chain = chains_join cmp total same equal (item_lower order) (item_upper order) (λ i. i.value) middle j [] was.chain (good, tt) (lead_all v j at is middle was.chain was.inside (λ k d size. let last : k ≡ length middle - 1 = omega (arith, size) in rw last (apart d (omega (arith, size)))));
+          chain = chains_join (line_of order lawful same equal) middle j [] was.chain (good, tt) (lead_all v j at is middle was.chain was.inside (λ k d size. let last : k ≡ length middle - 1 = omega (arith, size) in rw last (apart d (omega (arith, size)))));
           inside = every_append (LiesUpTo n) middle (j ∷ []) (every_weaker (LiesUpTo m) (LiesUpTo n) middle lies_up_to_later_place was.inside) ((le_trans cmp total (Lo order lawful r) lo p0 inside.1 (eq_ge cmp total p0 lo at), le_trans cmp total q0 hi (Hi order lawful r) (eq_le cmp total q0 hi to) inside.3, le_trans cmp total q0 hi n (eq_le cmp total q0 hi to) upto), tt);
           has = λ p W alike.
               let P = λ (b : Answered K V). HoldsAt p b.key × Gives W b.answer in
@@ -157,16 +157,16 @@ module _ {K : Type 0} (order : KeyOrder K) (lawful : IsLawful order) {V : Type 0
         let q0 = Hi order lawful j.key in
         let low = Lo order lawful last.key in
         let high = Hi order lawful last.key in
-        let tail = chain_right cmp total same equal (item_lower order) (item_upper order) (λ i. i.value) front (last ∷ []) was.chain in
+        let tail = chain_right (line_of order lawful same equal) front (last ∷ []) was.chain in
         let within = every_right (LiesUpTo m) front (last ∷ []) was.inside in
         let before : PLe order lawful high lo = le_trans cmp total high m lo within.0.2 from in
         let past_lo : PLt order lawful low hi = lt_le_trans cmp total low high hi tail.0 (le_trans cmp total high lo hi before (lt_le cmp total lo hi inside.2)) in
         let good : PLt order lawful (Lo order lawful j.key) q0 = rw at (lt_le_trans cmp total low hi q0 past_lo (eq_ge cmp total q0 hi to)) in
-        let leads = chain_before cmp total same equal (item_lower order) (item_upper order) (λ i. i.value) front last [] was.chain in
+        let leads = chain_before (line_of order lawful same equal) front last [] was.chain in
         let old_valued = every_right (λ i. Any (λ b. b.answer ≡ Some i.value) answers) front (last ∷ []) was.valued in
         record {
           known = every_append (λ i. IsKnownRange order i.key) front (j ∷ []) (every_left (λ i. IsKnownRange order i.key) front (last ∷ []) was.known) (known, tt);
-          chain = chains_join cmp total same equal (item_lower order) (item_upper order) (λ i. i.value) front j [] (chain_left cmp total same equal (item_lower order) (item_upper order) (λ i. i.value) front (last ∷ []) was.chain) (good, tt) (rw (at, is) leads);
+          chain = chains_join (line_of order lawful same equal) front j [] (chain_left (line_of order lawful same equal) front (last ∷ []) was.chain) (good, tt) (rw (at, is) leads);
           inside = every_append (LiesUpTo n) front (j ∷ []) (every_weaker (LiesUpTo m) (LiesUpTo n) front lies_up_to_later_place (every_left (LiesUpTo m) front (last ∷ []) was.inside)) ((rw at within.0.0, le_trans cmp total q0 hi (Hi order lawful r) (eq_le cmp total q0 hi to) inside.3, le_trans cmp total q0 hi n (eq_le cmp total q0 hi to) upto), tt);
           has = λ p W alike.
               let P = λ (b : Answered K V). HoldsAt p b.key × Gives W b.answer in
@@ -192,7 +192,7 @@ module _ {K : Type 0} (order : KeyOrder K) (lawful : IsLawful order) {V : Type 0
                     ]
                   ]
                   | inr g ↦ elim g [
-                    | inl e ↦ any_end Q front j ((rw at (le_trans cmp total low lo p (le_trans cmp total low high lo (lt_le cmp total low high tail.0) before) e.0.0), into e.0.1), rw is (alike v last.value (same_is_symmetric cmp total same equal (item_lower order) (item_upper order) (λ (i : Item (AnyRange K) V). i.value) last.value v alike_values) e.1))
+                    | inl e ↦ any_end Q front j ((rw at (le_trans cmp total low lo p (le_trans cmp total low high lo (lt_le cmp total low high tail.0) before) e.0.0), into e.0.1), rw is (alike v last.value (same_is_symmetric (line_of order lawful same equal) last.value v alike_values) e.1))
                     | inr e ↦ absurd e
                   ]
                 ],

@@ -18,9 +18,9 @@ use Rattle.range_algebra.specs.Compared.{inverted, start_is_at, starts_at_end}
 use Rattle.range_store.specs.declared.storage.Item.{Item}
 use Rattle.range_algebra.specs.Intervals.{Le, Lt, Every}
 use Rattle.range_algebra.specs.Orders.{eq_ge, le_trans, lt_not_le, cases, not_le, not_lt, both}
-use Rattle.range_map.specs.Chains.{IsChain, Has, Respects, IsBoundTo, IsUnbound}
+use Rattle.range_map.specs.Chains.{line_of, IsChain, Has, Respects, IsBoundTo, IsUnbound}
 use Rattle.range_algebra.specs.Cuts.{past, lower, upper}
-use Rattle.range_map.specs.Stored.{item_lower, item_upper, IsStored}
+use Rattle.range_map.specs.Stored.{IsStored}
 use Rattle.range_map.specs.Bindings.{IsBound, BindsTo, Binds, IsSomeOf, IsBoundAfter, IsUnboundAfter}
 use Rattle.range_map.proofs.Listed.{IsListed, stored_list_is_listed, stored_by}
 use Rattle.range_algebra.proofs.Places.{reaching_is_before_past, inverted_bound_is_past, unbounded_end, held_between}
@@ -65,10 +65,10 @@ module _ {K : Type 0} (order : KeyOrder K) (lawful : IsLawful order) where
     Known items = Every (λ i. IsKnownRange order i.key) items
 
     abbrev pub Chained : List (Item (AnyRange K) V) → Type 0
-    Chained items = IsChain places (position_total order.cmp lawful.total) same equal (item_lower order) (item_upper order) (λ i. i.value) items
+    Chained items = IsChain (line_of order lawful same equal) items
 
     abbrev pub Hold : (V → Bool) → Position K → List (Item (AnyRange K) V) → Type 0
-    Hold W p items = Has places (position_total order.cmp lawful.total) same equal (item_lower order) (item_upper order) (λ i. i.value) W p items
+    Hold W p items = Has (line_of order lawful same equal) W p items
 
     listed_known : (items : List (Item (AnyRange K) V)) → IsListed order lawful same items → Known items
     listed_known [] h = tt
@@ -122,10 +122,10 @@ module _ {K : Type 0} (order : KeyOrder K) (lawful : IsLawful order) where
           λ h. elim h [ inl e ↦ inl (own.1 e.0) | inr e ↦ inr (others.1 e) ],
         )
 
-    respects_same : (v : V) → Respects places (position_total order.cmp lawful.total) same equal (item_lower order) (item_upper order) (λ (i : Item (AnyRange K) V). i.value) (λ u. same u v)
+    respects_same : (v : V) → Respects (line_of order lawful same equal) (λ u. same u v)
     respects_same v a b s h = sym (equal.congr a b v s) ∙ h
 
-    pub respects_any : Respects places (position_total order.cmp lawful.total) same equal (item_lower order) (item_upper order) (λ (i : Item (AnyRange K) V). i.value) (λ u. true)
+    pub respects_any : Respects (line_of order lawful same equal) (λ u. true)
     respects_any a b s h = h
 
     pub unheld_lies_outside : (r : AnyRange K) (k : K) → IsKnownRange order r → order.is_key k → (Holds order r k → ⊥) → Lt places (Beside k At) (lower order r) ⊎ Le places (upper order r) (Beside k At)
@@ -136,7 +136,7 @@ module _ {K : Type 0} (order : KeyOrder K) (lawful : IsLawful order) where
           | inr from ↦ inr (not_lt places total (upper order r) (Beside k At) (λ upto. h ((held_between order lawful r k known key).1 (from, upto))))
         ]
 
-    pub same_binds : (before after : List (Item (AnyRange K) V)) (k : K) → Known before → Known after → order.is_key k → ((W : V → Bool) → Respects places (position_total order.cmp lawful.total) same equal (item_lower order) (item_upper order) (λ (i : Item (AnyRange K) V). i.value) W → Hold W (Beside k At) after ↔ Hold W (Beside k At) before) → (b : Option V) → Binds order same after k b ↔ Binds order same before k b
+    pub same_binds : (before after : List (Item (AnyRange K) V)) (k : K) → Known before → Known after → order.is_key k → ((W : V → Bool) → Respects (line_of order lawful same equal) W → Hold W (Beside k At) after ↔ Hold W (Beside k At) before) → (b : Option V) → Binds order same after k b ↔ Binds order same before k b
     same_binds before after k known known' key f (Some v) =
         let own = f (λ u. same u v) (respects_same v) in
         let old = binds_hold before k v known key in
@@ -148,7 +148,7 @@ module _ {K : Type 0} (order : KeyOrder K) (lawful : IsLawful order) where
         let new = bound_hold after k known' key in
         (λ h e. h (new.1 (own.1 (old.0 e))), λ h e. h (old.1 (own.0 (new.0 e))))
 
-    inside_bound : (before after : List (Item (AnyRange K) V)) (r : AnyRange K) (v : V) (k : K) → Known after → order.is_key k → IsBoundTo places (position_total order.cmp lawful.total) same equal (item_lower order) (item_upper order) (λ i. i.value) before after (lower order r) (upper order r) v → Le places (lower order r) (Beside k At) → Lt places (Beside k At) (upper order r) → (b : Option V) → Binds order same after k b ↔ IsSomeOf order same v b
+    inside_bound : (before after : List (Item (AnyRange K) V)) (r : AnyRange K) (v : V) (k : K) → Known after → order.is_key k → IsBoundTo (line_of order lawful same equal) before after (lower order r) (upper order r) v → Le places (lower order r) (Beside k At) → Lt places (Beside k At) (upper order r) → (b : Option V) → Binds order same after k b ↔ IsSomeOf order same v b
     inside_bound before after r v k known key changed from upto (Some w) =
         let own = changed.inside (Beside k At) (λ u. same u w) (respects_same w) from upto in
         let new = binds_hold after k w known key in
@@ -156,19 +156,19 @@ module _ {K : Type 0} (order : KeyOrder K) (lawful : IsLawful order) where
     inside_bound before after r v k known key changed from upto None =
         (λ h. h ((bound_hold after k known key).1 ((changed.inside (Beside k At) (λ u. true) respects_any from upto).1 refl)), λ h. absurd h)
 
-    pub bound_after : (before after : List (Item (AnyRange K) V)) (r : AnyRange K) (v : V) → IsKnownRange order r → Known before → Known after → IsBoundTo places (position_total order.cmp lawful.total) same equal (item_lower order) (item_upper order) (λ i. i.value) before after (lower order r) (upper order r) v → IsBoundAfter order same before after r v
+    pub bound_after : (before after : List (Item (AnyRange K) V)) (r : AnyRange K) (v : V) → IsKnownRange order r → Known before → Known after → IsBoundTo (line_of order lawful same equal) before after (lower order r) (upper order r) v → IsBoundAfter order same before after r v
     bound_after before after r v known_range known known' changed = record {
       held = λ k key h. let within = (held_between order lawful r k known_range key).0 h in inside_bound before after r v k known' key changed within.0 within.1;
       others = λ k key h. same_binds before after k known known' key (λ W alike. changed.outside (Beside k At) W alike (unheld_lies_outside r k known_range key h));
     }
 
-    inside_unbound : (before after : List (Item (AnyRange K) V)) (r : AnyRange K) (k : K) → Known after → order.is_key k → IsUnbound places (position_total order.cmp lawful.total) same equal (item_lower order) (item_upper order) (λ i. i.value) before after (lower order r) (upper order r) → Le places (lower order r) (Beside k At) → Lt places (Beside k At) (upper order r) → (b : Option V) → Binds order same after k b ↔ (b ≡ None)
+    inside_unbound : (before after : List (Item (AnyRange K) V)) (r : AnyRange K) (k : K) → Known after → order.is_key k → IsUnbound (line_of order lawful same equal) before after (lower order r) (upper order r) → Le places (lower order r) (Beside k At) → Lt places (Beside k At) (upper order r) → (b : Option V) → Binds order same after k b ↔ (b ≡ None)
     inside_unbound before after r k known key changed from upto (Some w) =
         (λ h. absurd (changed.inside (Beside k At) (λ u. same u w) from upto ((binds_hold after k w known key).0 h)), λ h. absurd (cc))
     inside_unbound before after r k known key changed from upto None =
         (λ h. refl, λ h e. changed.inside (Beside k At) (λ u. true) from upto ((bound_hold after k known key).0 e))
 
-    pub unbound_after : (before after : List (Item (AnyRange K) V)) (r : AnyRange K) → IsKnownRange order r → Known before → Known after → IsUnbound places (position_total order.cmp lawful.total) same equal (item_lower order) (item_upper order) (λ i. i.value) before after (lower order r) (upper order r) → IsUnboundAfter order same before after r
+    pub unbound_after : (before after : List (Item (AnyRange K) V)) (r : AnyRange K) → IsKnownRange order r → Known before → Known after → IsUnbound (line_of order lawful same equal) before after (lower order r) (upper order r) → IsUnboundAfter order same before after r
     unbound_after before after r known_range known known' changed = record {
       held = λ k key h. let within = (held_between order lawful r k known_range key).0 h in inside_unbound before after r k known' key changed within.0 within.1;
       others = λ k key h. same_binds before after k known known' key (λ W alike. changed.outside (Beside k At) W alike (unheld_lies_outside r k known_range key h));

@@ -10,12 +10,13 @@ use Rattle.range_algebra.specs.declared.any.AnyRange.{AnyRange}
 use Rattle.range_algebra.specs.Range.{IsKnownRange}
 use Rattle.range_algebra.specs.Intervals.{Le, Lt, Any, Every}
 use Rattle.range_algebra.specs.Orders.{lt_trans, lt_not_le, le_lt_trans}
+use Rattle.range_map.specs.Chains.{line_of}
 use Rattle.range_map.proofs.Chains.{chain_before}
 use Rattle.range_algebra.specs.Cuts.{lower, upper}
 use Rattle.range_algebra.proofs.Lists.{list_is_take_and_drop, parts_at, every_at, any_left, any_right, any_none, every_weaker, every_append, every_left, every_right}
 use Rattle.range_map.proofs.Edging.{element_at}
 use Rattle.range_store.specs.declared.storage.Item.{Item}
-use Rattle.range_map.specs.Stored.{item_lower, item_upper, IsStored}
+use Rattle.range_map.specs.Stored.{item_lower, item_upper}
 use Rattle.range_algebra.specs.Relations.{LiesBefore}
 use Rattle.range_map.specs.Lookups.{MeetsSome, Overlap}
 use Rattle.range_map.specs.Window.{IsWindow, option_items}
@@ -72,7 +73,7 @@ item_is {K} {V} m r v e f h =
     let by_value : V → Item (AnyRange K) V = λ u. record { key = r; value = u } in
     ap by_start e ∙ (ap by_end f ∙ ap by_value h)
 
-module _ {K : Type 0} (order : KeyOrder K) (lawful : IsLawful order) {V : Type 0} (same : V → V → Bool) (equal : IsEquivalence same) where
+module _ {K : Type 0} {order : KeyOrder K} (lawful : IsLawful order) {V : Type 0} {same : V → V → Bool} (equal : IsEquivalence same) where
   abbrev Stored : Type 0
   Stored = Item (AnyRange K) V
 
@@ -127,28 +128,28 @@ module _ {K : Type 0} (order : KeyOrder K) (lawful : IsLawful order) {V : Type 0
   front_items_have_places (x ∷ []) ys h = (h.0, tt)
   front_items_have_places (x ∷ y ∷ xs) ys h = (h.0, front_items_have_places (y ∷ xs) ys h.1.1)
 
-  module _ {P : Type 0} (is_good : P → Type 0) (rank : P → ℕ) (items : List (Item (AnyRange K) V)) (r : AnyRange K) (w : Window P) (place : ℕ) (stored : IsStored order same items) (known : IsKnownRange order r) (window : IsWindow order is_good rank items r w place) where
+  module _ {P : Type 0} {is_good : P → Type 0} {rank : P → ℕ} {items : List (Item (AnyRange K) V)} {r : AnyRange K} {w : Window P} {place : ℕ} (window : IsWindow order same is_good rank items r w place) where
     not_before : Every (λ i. LiesBefore order i.key r → ⊥) (drop place items)
     not_before =
         let cmp = places order lawful in
         let total = position_total order.cmp lawful.total in
-        every_weaker _ _ (drop place items) (λ i h k. lt_not_le cmp total (lower order r) (item_upper order i) h.1 ((before_is order lawful i.key.end r.start h.0.1 known.0).0 k)) (every_both (λ i. IsKnownRange order i.key) _ (drop place items) (known_drop order lawful same equal items place (stored_known order lawful same equal items stored)) window.above)
+        every_weaker _ _ (drop place items) (λ i h k. lt_not_le cmp total (lower order r) (item_upper order i) h.1 ((before_is order lawful i.key.end r.start h.0.1 window.known.0).0 k)) (every_both (λ i. IsKnownRange order i.key) _ (drop place items) (known_drop order lawful same equal items place (stored_known order lawful same equal items window.stored)) window.above)
 
     window_items_reach_range : (d : Item (AnyRange K) V) → 0 < w.count → Every (λ i. LiesBefore order r i.key → ⊥) (take (place + w.count) items)
     window_items_reach_range d some =
         let cmp = places order lawful in
         let total = position_total order.cmp lawful.total in
-        let chain = stored_chain order lawful same equal items stored in
-        let all = stored_known order lawful same equal items stored in
+        let chain = stored_chain order lawful same equal items window.stored in
+        let all = stored_known order lawful same equal items window.stored in
         let end = place + w.count in
         let last = get_or items (end - 1) d in
         let next : end - 1 + 1 ≡ end = omega (arith, some) in
         let within : end - 1 < length items = omega (arith, some, window.in_range) in
         let split = parts_at items (end - 1) d within in
-        let ordered = chain_before cmp total same equal (item_lower order) (item_upper order) (λ i. i.value) (take (end - 1) items) last (drop (end - 1 + 1) items) (rw split at chain) in
+        let ordered = chain_before (line_of order lawful same equal) (take (end - 1) items) last (drop (end - 1 + 1) items) (rw split at chain) in
         let meets = window.meets d some in
         let full = front_items_have_places (take (end - 1) items) (last ∷ drop (end - 1 + 1) items) (rw split at chain) in
-        every_weaker _ _ (take end items) (λ i h k. lt_not_le cmp total (item_lower order i) (upper order r) h.1 ((before_is order lawful r.end i.key.start known.1 h.0.0).0 k)) (every_both (λ i. IsKnownRange order i.key) _ (take end items) (known_take order lawful same equal items end all)
+        every_weaker _ _ (take end items) (λ i h k. lt_not_le cmp total (item_lower order i) (upper order r) h.1 ((before_is order lawful r.end i.key.start window.known.1 h.0.0).0 k)) (every_both (λ i. IsKnownRange order i.key) _ (take end items) (known_take order lawful same equal items end all)
         (subst (λ (ys : List (Item (AnyRange K) V)). Every (λ i. Lt cmp (item_lower order i) (upper order r)) ys) (sym (take_more items (end - 1) d within) ∙ ap (λ n. take n items) next)
         (every_append _ (take (end - 1) items) (last ∷ []) (every_weaker _ _ (take (end - 1) items) (λ i h. lt_trans cmp total (item_lower order i) (item_upper order i) (upper order r) h.1 (le_lt_trans cmp total (item_upper order i) (item_lower order last) (upper order r) h.0.0 meets)) (every_both _ _ (take (end - 1) items) ordered full)) (meets, tt))))
 
@@ -184,11 +185,11 @@ module _ {K : Type 0} (order : KeyOrder K) (lawful : IsLawful order) {V : Type 0
     -- an empty window leaves no item that meets the range
     pub none_meets : w.count ≡ 0 → Every (λ i. Overlap order i.key r → ⊥) items
     none_meets none =
-        let all = stored_known order lawful same equal items stored in
+        let all = stored_known order lawful same equal items window.stored in
         let at : place + w.count ≡ place = omega (arith, none) in
         let behind : Every (λ i. Le (places order lawful) (upper order r) (item_lower order i)) (drop place items) = rw at at window.behind in
-        let before = every_weaker _ _ (take place items) (λ i h m. m.0 ((before_is order lawful i.key.end r.start h.0.1 known.0).1 h.1)) (every_both (λ i. IsKnownRange order i.key) _ (take place items) (known_take order lawful same equal items place all) window.below) in
-        let after = every_weaker _ _ (drop place items) (λ i h m. m.1 ((before_is order lawful r.end i.key.start known.1 h.0.0).1 h.1)) (every_both (λ i. IsKnownRange order i.key) _ (drop place items) (known_drop order lawful same equal items place all) behind) in
+        let before = every_weaker _ _ (take place items) (λ i h m. m.0 ((before_is order lawful i.key.end r.start h.0.1 window.known.0).1 h.1)) (every_both (λ i. IsKnownRange order i.key) _ (take place items) (known_take order lawful same equal items place all) window.below) in
+        let after = every_weaker _ _ (drop place items) (λ i h m. m.1 ((before_is order lawful r.end i.key.start window.known.1 h.0.0).1 h.1)) (every_both (λ i. IsKnownRange order i.key) _ (drop place items) (known_drop order lawful same equal items place all) behind) in
         rw (list_is_take_and_drop items place) (every_append (λ i. Overlap order i.key r → ⊥) (take place items) (drop place items) before after)
 
     -- nothing gives way to nothing
@@ -227,13 +228,12 @@ module _ {K : Type 0} (order : KeyOrder K) (lawful : IsLawful order) {V : Type 0
         }
 
     pub gave_way : (new : List (Item (AnyRange K) V)) (v : V) (m : Item (AnyRange K) V) (at end : ℕ) (left right : Option (Item (AnyRange K) V)) (start finish : Option (Bound K)) →
-        Every (λ i. Overlap order i.key r) (take w.count (drop place items)) →
         IsLeftFrame order same items r v place w.count at left start → IsRightFrame order same items r v place w.count end right finish →
         length (option_items left) + length (option_items right) ≤ w.count + 1 →
         m.key.start ≡ unwrap_or start r.start → m.key.end ≡ unwrap_or finish r.end → same m.value v ≡ true → (w.count ≡ 0 → m.value ≡ v) →
         new ≡ take at items ++ option_items left ++ option_items (Some m) ++ option_items right ++ drop end items →
         GaveWayTo order same items new r v
-    gave_way new v m at end left right start finish meets on_left on_right few starts ends values own_value list =
+    gave_way new v m at end left right start finish on_left on_right few starts ends values own_value list =
         let met = take w.count (drop place items) in
         let run = on_left.extra ++ met ++ on_right.extra in
         let pieces = option_items left ++ option_items (Some m) ++ option_items right in
@@ -256,7 +256,7 @@ module _ {K : Type 0} (order : KeyOrder K) (lawful : IsLawful order) {V : Type 0
           before = list_is_take_and_drop items place ∙ (ap (λ ys. ys ++ drop place items) on_left.split ∙ (ap (λ ys. (take at items ++ on_left.extra) ++ ys) (middle ∙ ap (λ ys. met ++ ys) on_right.split) ∙ append_reassociates (take at items) on_left.extra met on_right.extra (drop end items)));
           after = list ∙ reassociate_pieces (take at items) (option_items left) (option_items (Some m)) (option_items right) (drop end items);
           such = record {
-            concerned = every_append _ (on_left.extra ++ met) on_right.extra (every_append _ on_left.extra met (every_weaker _ _ on_left.extra (λ i h. inr (inl h.0, h.1)) on_left.touched) (every_weaker _ _ met (λ i h. inl h) meets)) (every_weaker _ _ on_right.extra (λ i h. inr (inr h.0, h.1)) on_right.touched);
+            concerned = every_append _ (on_left.extra ++ met) on_right.extra (every_append _ on_left.extra met (every_weaker _ _ on_left.extra (λ i h. inr (inl h.0, h.1)) on_left.touched) (every_weaker _ _ met (λ i h. inl h) all_meet)) (every_weaker _ _ on_right.extra (λ i h. inr (inr h.0, h.1)) on_right.touched);
             few = omega (arith, few, size, length-append (on_left.extra ++ met) on_right.extra, length-append on_left.extra met, length-append (option_items left ++ option_items (Some m)) (option_items right), length-append (option_items left) (option_items (Some m)));
             whole = λ e. let l = on_left.whole (none_left (on_left.extra ++ met) on_right.extra e) in let k = on_right.whole (none_right on_left.extra (met ++ on_right.extra) (sym regroup ∙ e)) in let none : w.count ≡ 0 = sym size ∙ ap length (none_right on_left.extra met (none_left (on_left.extra ++ met) on_right.extra e)) in let item = item_is m r v (starts ∙ ap (λ o. unwrap_or o r.start) l.1) (ends ∙ ap (λ o. unwrap_or o r.end) k.1) (own_value none) in rw (l.0, k.0) (ap (λ y. y ∷ []) item);
             one = λ all.

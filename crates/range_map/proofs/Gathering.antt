@@ -21,7 +21,7 @@ use Rattle.range_algebra.specs.Cuts.{past}
 use Rattle.range_algebra.specs.Range.{Holds, IsKnownBound, IsKnownRange, IsEmptyRange}
 use Rattle.range_algebra.specs.Intervals.{Any, Every}
 use Rattle.range_algebra.specs.Orders.{le_refl, lt_le, eq_le, eq_ge, le_trans, lt_not_le, cases, not_le, lt_le_trans}
-use Rattle.range_map.specs.Chains.{Leads}
+use Rattle.range_map.specs.Chains.{line_of, Leads}
 use Rattle.range_map.proofs.Chains.{chain_before, chain_right, follows_above}
 use Rattle.range_algebra.proofs.Commons.{later_is, earlier_is}
 use Rattle.range_algebra.proofs.Lists.{every_at, parts_at, any_left, any_right, every_weaker, every_append, every_right}
@@ -30,7 +30,7 @@ use Rattle.range_store.specs.declared.storage.Item.{Item}
 use Rattle.range_map.specs.Answers.{MayAnswer, Answered, IsAsAnswered, FailsAt, IsGathered}
 use Rattle.range_map.specs.Asking.{gap_lower, IsPut, IsGapAsked, IsItemAsked, FailsAtGap, IsKeyAt}
 use Rattle.range_map.specs.Bindings.{Binds}
-use Rattle.range_map.specs.Stored.{item_lower, item_upper}
+use Rattle.range_map.specs.Stored.{item_lower}
 use Rattle.range_map.specs.Neighbours.{EachNext}
 use Rattle.range_map.specs.Pieces.{IsCommonPart, LiesIn}
 use Rattle.range_map.specs.Lookups.{Overlap}
@@ -257,8 +257,8 @@ module _ {K : Type 0} (order : KeyOrder K) (lawful : IsLawful order) {V : Type 0
       above_it =
           let cmp = position_cmp order.cmp in
           let total = position_total order.cmp lawful.total in
-          let tail = chain_right cmp total same equal (item_lower order) (item_upper order) (λ i. i.value) done (x ∷ rest) whole_list_is_chained in
-          (le_refl cmp total (Lo order lawful x.key), every_weaker (λ i. PLe order lawful (Hi order lawful x.key) (Lo order lawful i.key)) (λ i. PLe order lawful (Lo order lawful x.key) (Lo order lawful i.key)) rest (λ i le. le_trans cmp total (Lo order lawful x.key) (Hi order lawful x.key) (Lo order lawful i.key) (lt_le cmp total (Lo order lawful x.key) (Hi order lawful x.key) good_at.1) le) (follows_above cmp total same equal (item_lower order) (item_upper order) (λ i. i.value) x rest tail.1))
+          let tail = chain_right (line_of order lawful same equal) done (x ∷ rest) whole_list_is_chained in
+          (le_refl cmp total (Lo order lawful x.key), every_weaker (λ i. PLe order lawful (Hi order lawful x.key) (Lo order lawful i.key)) (λ i. PLe order lawful (Lo order lawful x.key) (Lo order lawful i.key)) rest (λ i le. le_trans cmp total (Lo order lawful x.key) (Hi order lawful x.key) (Lo order lawful i.key) (lt_le cmp total (Lo order lawful x.key) (Hi order lawful x.key) good_at.1) le) (follows_above (line_of order lawful same equal) x rest tail.1))
 
       within_it : PLe order lawful (Lo order lawful x.key) (Hi order lawful r)
       within_it = lt_le (position_cmp order.cmp) (position_total order.cmp lawful.total) (Lo order lawful x.key) (Hi order lawful r) starts_at
@@ -276,7 +276,7 @@ module _ {K : Type 0} (order : KeyOrder K) (lawful : IsLawful order) {V : Type 0
           let inner = both_within x good_at starts_at ends_at in
           elim was.edge [
             | inl le ↦ le_trans cmp total from (Lo order lawful r) c le inner.0
-            | inr some_item ↦ any_use (λ j. PLe order lawful from (Hi order lawful j.key) × PLe order lawful (Hi order lawful j.key) from) (λ j. Leads cmp total same equal (item_lower order) (item_upper order) (λ i. i.value) j (item_lower order x) x.value) done some_item (chain_before cmp total same equal (item_lower order) (item_upper order) (λ i. i.value) done x rest whole_list_is_chained) (λ j h leads. le_trans cmp total from (Hi order lawful j.key) c h.0 (le_trans cmp total (Hi order lawful j.key) (Lo order lawful x.key) c leads.0 inner.1))
+            | inr some_item ↦ any_use (λ j. PLe order lawful from (Hi order lawful j.key) × PLe order lawful (Hi order lawful j.key) from) (λ j. Leads (line_of order lawful same equal) j (item_lower order x) x.value) done some_item (chain_before (line_of order lawful same equal) done x rest whole_list_is_chained) (λ j h leads. le_trans cmp total from (Hi order lawful j.key) c h.0 (le_trans cmp total (Hi order lawful j.key) (Lo order lawful x.key) c leads.0 inner.1))
           ]
 
       done_it : (new : List (Item (AnyRange K) V)) → IsAnsweredUpTo (Hi order lawful x.key) new → IsUnderway (done ++ x ∷ []) (Hi order lawful x.key) new
@@ -284,12 +284,12 @@ module _ {K : Type 0} (order : KeyOrder K) (lawful : IsLawful order) {V : Type 0
           let cmp = position_cmp order.cmp in
           let total = position_total order.cmp lawful.total in
           let hi = Hi order lawful x.key in
-          let leads = chain_before cmp total same equal (item_lower order) (item_upper order) (λ i. i.value) done x rest whole_list_is_chained in
+          let leads = chain_before (line_of order lawful same equal) done x rest whole_list_is_chained in
           record {
             answers = h.answers;
             edge = inr (any_end (λ j. PLe order lawful hi (Hi order lawful j.key) × PLe order lawful (Hi order lawful j.key) hi) done x (le_refl cmp total hi, le_refl cmp total hi));
             at_least = lt_le cmp total (Lo order lawful r) hi ends_at;
-            below = every_append (λ j. PLe order lawful (Hi order lawful j.key) hi) done (x ∷ []) (every_weaker (λ j. Leads cmp total same equal (item_lower order) (item_upper order) (λ i. i.value) j (item_lower order x) x.value) (λ j. PLe order lawful (Hi order lawful j.key) hi) done (λ j l. le_trans cmp total (Hi order lawful j.key) (Lo order lawful x.key) hi l.0 (lt_le cmp total (Lo order lawful x.key) hi good_at.1)) leads) (le_refl cmp total hi, tt);
+            below = every_append (λ j. PLe order lawful (Hi order lawful j.key) hi) done (x ∷ []) (every_weaker (λ j. Leads (line_of order lawful same equal) j (item_lower order x) x.value) (λ j. PLe order lawful (Hi order lawful j.key) hi) done (λ j l. le_trans cmp total (Hi order lawful j.key) (Lo order lawful x.key) hi l.0 (lt_le cmp total (Lo order lawful x.key) hi good_at.1)) leads) (le_refl cmp total hi, tt);
             cut = h.cut;
             filled = h.filled;
             given = h.given;

@@ -1,5 +1,6 @@
 pub mod Adding
 pub mod Appending
+pub mod Asked
 pub mod Between
 pub mod ChainJoins
 pub mod ChainSides
@@ -31,6 +32,7 @@ pub mod Meeting
 pub mod Merging
 pub mod Once
 pub mod Openings
+pub mod Planned
 pub mod Planning
 pub mod Rebinding
 pub mod Replaced
@@ -41,6 +43,7 @@ pub mod Searching
 pub mod Separating
 pub mod Splicing
 pub mod StoredLists
+pub mod Surrounded
 pub mod Updating
 pub mod Walking
 pub mod Windows

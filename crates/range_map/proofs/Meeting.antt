@@ -18,13 +18,14 @@ use Rattle.range_algebra.specs.declared.any.AnyRange.{AnyRange}
 use Rattle.range_algebra.specs.Range.{Holds, IsKnownBound, IsKnownRange, IsEmptyRange}
 use Rattle.range_algebra.specs.Intervals.{Le, Lt, Any, Every}
 use Rattle.range_algebra.specs.Orders.{le_refl, lt_le, le_trans, lt_not_le, cases, not_le, not_lt, lt_le_trans}
+use Rattle.range_map.specs.Chains.{line_of}
 use Rattle.range_map.proofs.Chains.{chain_above, chain_right}
 use Rattle.range_algebra.proofs.Completeness.{nonempty_holds}
 use Rattle.range_algebra.proofs.Holding.{holds_by_position}
 use Rattle.range_algebra.proofs.Lists.{list_is_take_and_drop, any_none, any_split, every_weaker}
 use Rattle.range_store.specs.declared.storage.Item.{Item}
 use Rattle.range_map.specs.Bindings.{IsBound, BindsTo, Binds}
-use Rattle.range_map.specs.Stored.{item_lower, item_upper, IsStored}
+use Rattle.range_map.specs.Stored.{IsStored}
 use Rattle.range_map.specs.Lookups.{MeetsSome, BindsKeyOf, Overlap}
 use Rattle.range_map.proofs.Forms.{Chained, stored_chain}
 
@@ -155,8 +156,8 @@ module _ {K : Type 0} (order : KeyOrder K) (lawful : IsLawful order) where
           let more : drop place items ≡ x ∷ drop (place + 1) items = drop_more items place x within ∙ ap (λ y. y ∷ drop (place + 1) items) (sym read) in
           let split : items ≡ take place items ++ x ∷ drop (place + 1) items = list_is_take_and_drop items place ∙ ap (λ ys. take place items ++ ys) more in
           let whole : Chained order lawful same equal (take place items ++ x ∷ drop (place + 1) items) = rw split at (stored_chain order lawful same equal items stored) in
-          let chain = chain_right cmp total same equal (item_lower order) (item_upper order) (λ i. i.value) (take place items) (x ∷ drop (place + 1) items) whole in
-          let above = chain_above cmp total same equal (item_lower order) (item_upper order) (λ i. i.value) (Start x.key) x (drop (place + 1) items) chain (le_refl cmp total (Start x.key)) in
+          let chain = chain_right (line_of order lawful same equal) (take place items) (x ∷ drop (place + 1) items) whole in
+          let above = chain_above (line_of order lawful same equal) (Start x.key) x (drop (place + 1) items) chain (le_refl cmp total (Start x.key)) in
           let over : PLt (End r) (Start x.key) = not_le_end (Start x.key) (End r) past in
           let behind : Every (λ i. PLt (End r) (Start i.key)) (x ∷ drop (place + 1) items) = every_weaker _ _ (x ∷ drop (place + 1) items) (λ i l. lt_le_trans cmp total (End r) (Start x.key) (Start i.key) over l) above in
           let parted : MeetsSome order (take place items ++ x ∷ drop (place + 1) items) r = rw split at h in

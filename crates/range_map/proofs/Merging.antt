@@ -5,6 +5,7 @@ use Rattle.range_keys.specs.Order.{KeyOrder, IsLawful}
 use Rattle.range_keys.specs.Position.{start_position, end_position}
 use Rattle.range_keys.specs.PositionOrder.{position_total}
 use Rattle.range_algebra.proofs.Lists.{any_left, any_right, every_weaker, every_append, every_left, every_right}
+use Rattle.range_map.specs.Chains.{line_of}
 use Rattle.range_map.proofs.Chains.{chain_right, chain_before, follows_above}
 use Rattle.range_algebra.specs.Cuts.{lower, upper}
 use Rattle.range_algebra.specs.Intervals.{Lt, Any, Every}
@@ -63,8 +64,8 @@ module _ {K : Type 0} (order : KeyOrder K) (lawful : IsLawful order) where
         let whole = rw list at chain in
         let all = rw list at full in
         let own = every_right _ done (x ∷ rest) all in
-        let before = chain_before cmp total same equal (item_lower order) (item_upper order) (λ i. i.value) done x rest whole in
-        let after = follows_above cmp total same equal (item_lower order) (item_upper order) (λ i. i.value) x rest (chain_right cmp total same equal (item_lower order) (item_upper order) (λ i. i.value) done (x ∷ rest) whole).1 in
+        let before = chain_before (line_of order lawful same equal) done x rest whole in
+        let after = follows_above (line_of order lawful same equal) x rest (chain_right (line_of order lawful same equal) done (x ∷ rest) whole).1 in
         let front = every_with _ _ IsAlone done before (every_left _ done (x ∷ rest) all) (λ i h f. alone_before i f (le_lt_trans cmp total (item_upper order i) (item_lower order x) (lower order r) h.0 starts)) in
         let behind = every_with _ _ IsAlone rest after own.1 (λ i h f. alone_after i f (lt_le_trans cmp total (upper order r) (item_upper order x) (item_lower order i) ends h)) in
         rw list (every_append IsAlone done (x ∷ rest) front (alone_around own.0, behind))

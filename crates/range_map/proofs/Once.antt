@@ -6,6 +6,7 @@ use Rattle.range_keys.specs.PositionOrder.{position_total}
 use Rattle.range_keys.specs.declared.inner.position.Position.{Position}
 use Rattle.range_keys.specs.declared.inner.position.Position.TheVariants.{Beside}
 use Rattle.range_keys.specs.declared.inner.position.Side.TheVariants.{At}
+use Rattle.range_map.specs.Chains.{line_of}
 use Rattle.range_map.proofs.Chains.{chain_above, chain_tail}
 use Rattle.range_algebra.specs.Intervals.{Le, Lt, Every}
 use Rattle.range_algebra.specs.Orders.{lt_not_le, le_trans}
@@ -40,7 +41,7 @@ module _ {K : Type 0} (order : KeyOrder K) (lawful : IsLawful order) {V : Type 0
     only_first v i (j ∷ rest) known chain held h =
         let total = position_total order.cmp lawful.total in
         let own = (held_between order lawful i.key k known.0 key).0 held in
-        later_not v (item_upper order i) (j ∷ rest) own.1 known.1 (chain_above (places order lawful) total same equal (item_lower order) (item_upper order) (λ x. x.value) (item_upper order i) j rest chain.1.1 chain.1.0.0) h
+        later_not v (item_upper order i) (j ∷ rest) own.1 known.1 (chain_above (line_of order lawful same equal) (item_upper order i) j rest chain.1.1 chain.1.0.0) h
 
     two_bindings_are_same : (items : Items) (v w : V) → Known order lawful same equal items → Chained order lawful same equal items → BindsTo order same items k v → BindsTo order same items k w → IsTrue (same v w)
     two_bindings_are_same [] v w known chain b c = absurd b
@@ -48,7 +49,7 @@ module _ {K : Type 0} (order : KeyOrder K) (lawful : IsLawful order) {V : Type 0
     two_bindings_are_same (i ∷ rest) v w known chain (inl b) (inr c) = absurd (only_first w i rest known chain b.0 c)
     two_bindings_are_same (i ∷ rest) v w known chain (inr b) (inl c) = absurd (only_first v i rest known chain c.0 b)
     two_bindings_are_same (i ∷ rest) v w known chain (inr b) (inr c) =
-        two_bindings_are_same rest v w known.1 (chain_tail (places order lawful) (position_total order.cmp lawful.total) same equal (item_lower order) (item_upper order) (λ x. x.value) i rest chain.1) b c
+        two_bindings_are_same rest v w known.1 (chain_tail (line_of order lawful same equal) i rest chain.1) b c
 
   pub bound_once : (items : Items) → IsStored order same items → (k : K) → order.is_key k → (v w : V) → BindsTo order same items k v → BindsTo order same items k w → IsTrue (same v w)
   bound_once items form k key v w = two_bindings_are_same k key items v w (stored_known order lawful same equal items form) (stored_chain order lawful same equal items form)

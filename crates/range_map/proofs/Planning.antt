@@ -10,11 +10,10 @@ use Rattle.std.specs.Cmp.{IsEquivalence}
 use Rattle.std.specs.declared.ops.Bound.{Bound}
 use Rattle.range_keys.specs.Order.{KeyOrder, IsLawful}
 use Rattle.range_algebra.specs.declared.any.AnyRange.{AnyRange}
-use Rattle.range_algebra.specs.Range.{IsKnownRange, IsKnownBound, IsEmptyRange}
+use Rattle.range_algebra.specs.Range.{IsKnownBound}
 use Rattle.range_algebra.specs.Clones.{SameBound}
 use Rattle.range_store.specs.declared.storage.Item.{Item}
 use Rattle.range_store.specs.Places.{IsAt}
-use Rattle.range_map.specs.Stored.{IsStored}
 use Rattle.range_map.specs.Window.{IsWindow, option_items}
 use Rattle.range_map.specs.declared.change.window.Window.{Window}
 use Rattle.range_map.specs.Edits.{turned_bound, with_start, with_end}
@@ -28,7 +27,7 @@ none_last : {X : Type 0} (xs : List X) (y : X) → xs ++ y ∷ [] ≡ [] → ⊥
 none_last [] y e = cc
 none_last (x ∷ xs) y e = cc
 
-module _ {K : Type 0} (order : KeyOrder K) (lawful : IsLawful order) {V : Type 0} (same : V → V → Bool) (equal : IsEquivalence same) {P : Type 0} (is_good : P → Type 0) (rank : P → ℕ) (items : List (Item (AnyRange K) V)) (r : AnyRange K) (w : Window P) (place : ℕ) (stored : IsStored order same items) (known : IsKnownRange order r) (full : IsEmptyRange order r → ⊥) (window : IsWindow order is_good rank items r w place) (v : V) where
+module _ {K : Type 0} {order : KeyOrder K} (lawful : IsLawful order) {V : Type 0} {same : V → V → Bool} (equal : IsEquivalence same) {P : Type 0} {is_good : P → Type 0} {rank : P → ℕ} {items : List (Item (AnyRange K) V)} {r : AnyRange K} {w : Window P} {place : ℕ} (window : IsWindow order same is_good rank items r w place) (v : V) where
   first_read : (x : Item (AnyRange K) V) → x ≡ get_or items place x → x ≡ get_or items (place + 0) x
   first_read x read = let plus : place ≡ place + 0 = omega arith in read ∙ ap (λ n. get_or items n x) plus
 
@@ -112,14 +111,14 @@ module _ {K : Type 0} (order : KeyOrder K) (lawful : IsLawful order) {V : Type 0
         rest = None;
         start = Some x.key.start;
         shape = (reach.0, reach.1, refl, refl, (x, here, refl));
-        side = left_edge_inside order lawful same equal is_good rank items r w place stored known full window v x here reach.2 (reach.3 x here) values;
+        side = left_edge_inside lawful equal window v x here reach.2 (reach.3 x here) values;
         run = (reach.0, reach.1);
         frame = left_frame_inside x here reach.2;
         few = omega arith;
         begins = omega arith;
       }
 
-  pub left_plan_cut : (p : P) (x : Item (AnyRange K) V) (b : Bound K) (from : Option P) → ReachesBefore order is_good rank items r place w.count (Some p) → x ≡ get_or items (rank p) x → same x.value v ≡ false → IsKnownBound order b → SameBound order (turned_bound r.start) b → IsAt is_good rank (length items) from (rank p + 1) → IsLeftPlan order same lawful equal is_good rank items r v place w.count (Some p) (Cut p b) from
+  pub left_plan_cut : (p : P) (x : Item (AnyRange K) V) (b : Bound K) (from : Option P) → ReachesBefore order is_good rank items r place w.count (Some p) → x ≡ get_or items (rank p) x → same x.value v ≡ false → IsKnownBound order b → SameBound order (turned_bound r.start) b → IsAt is_good rank (length items) from (place + 1) → IsLeftPlan order same lawful equal is_good rank items r v place w.count (Some p) (Cut p b) from
   left_plan_cut p x b from reach read values known_b same_b next =
       let here : x ≡ get_or items place x = read ∙ ap (λ n. get_or items n x) reach.1 in
       record {
@@ -128,8 +127,8 @@ module _ {K : Type 0} (order : KeyOrder K) (lawful : IsLawful order) {V : Type 0
         rest = Some (with_end x b);
         start = None;
         shape = (reach.0, reach.1, refl, refl, (x, here, refl));
-        side = left_edge_rest order lawful same equal is_good rank items r w place stored known full window v (with_end x b) (left_rest_cut order lawful same equal is_good rank items r w place stored known full window x here reach.2 (reach.3 x here) b known_b same_b) values;
-        run = subst (λ (n : ℕ). IsAt is_good rank (length items) from (n + 1)) reach.1 next;
+        side = left_edge_rest lawful equal window v (with_end x b) (left_rest_cut lawful equal window x here reach.2 (reach.3 x here) b known_b same_b) values;
+        run = next;
         frame = left_frame_cut x here reach.2 b same_b values;
         few = omega arith;
         begins = omega arith;
@@ -142,7 +141,7 @@ module _ {K : Type 0} (order : KeyOrder K) (lawful : IsLawful order) {V : Type 0
     rest = None;
     start = Some x.key.start;
     shape = (is, refl, refl, refl, (x, read, refl));
-    side = left_edge_joined order lawful same equal is_good rank items r w place stored known full window v (rank q) x (left_rest_whole order lawful same equal is_good rank items r w place stored known full window reach) at within read touching;
+    side = left_edge_joined lawful equal window v (rank q) x (left_rest_whole lawful equal window reach) at within read touching;
     run = (is, refl);
     frame = record {
       extra = x ∷ [];
@@ -168,7 +167,7 @@ module _ {K : Type 0} (order : KeyOrder K) (lawful : IsLawful order) {V : Type 0
     rest = None;
     start = None;
     shape = (refl, refl, refl);
-    side = left_edge_none order lawful same equal is_good rank items r w place stored known full window v (omega (arith, window.in_range)) (left_rest_whole order lawful same equal is_good rank items r w place stored known full window reach) none;
+    side = left_edge_none lawful equal window v (omega (arith, window.in_range)) (left_rest_whole lawful equal window reach) none;
     run = run;
     frame = record {
       extra = [];
@@ -183,9 +182,6 @@ module _ {K : Type 0} (order : KeyOrder K) (lawful : IsLawful order) {V : Type 0
     begins = omega arith;
   }
 
-  pub left_plan_plain : ReachesBefore order is_good rank items r place w.count None → TouchesNoneBefore order same items place r v → IsLeftPlan order same lawful equal is_good rank items r v place w.count None Plain w.from
-  left_plan_plain reach none = left_plan_free w.from window.position reach none
-
   last_at : (p : P) (x : Item (AnyRange K) V) → rank p + 1 ≡ place + w.count → x ≡ get_or items (rank p) x → x ≡ get_or items (place + w.count - 1) x
   last_at p x at read = let index : rank p ≡ place + w.count - 1 = omega arith in read ∙ ap (λ n. get_or items n x) index
 
@@ -198,7 +194,7 @@ module _ {K : Type 0} (order : KeyOrder K) (lawful : IsLawful order) {V : Type 0
         rest = None;
         finish = Some x.key.end;
         shape = (reach.0, reach.1, refl, refl, (x, read, refl));
-        side = right_edge_inside order lawful same equal is_good rank items r w place stored known full window v x here reach.2 (reach.3 x here) values;
+        side = right_edge_inside lawful equal window v x here reach.2 (reach.3 x here) values;
         frame = right_frame_inside x here reach.2;
         few = omega arith;
         ends = omega arith;
@@ -213,7 +209,7 @@ module _ {K : Type 0} (order : KeyOrder K) (lawful : IsLawful order) {V : Type 0
         rest = Some (with_start x b);
         finish = None;
         shape = (reach.0, omega (arith, reach.1), omega (arith, reach.2), refl, (x, here, refl));
-        side = right_edge_rest order lawful same equal is_good rank items r w place stored known full window (place + w.count) v (with_start x b) window.in_range (right_rest_cut order lawful same equal is_good rank items r w place stored known full window x here reach.2 (reach.3 x here) b known_b same_b x.value (equal.refl x.value)) values;
+        side = right_edge_rest lawful equal window (place + w.count) v (with_start x b) window.in_range (right_rest_cut lawful equal window x here reach.2 (reach.3 x here) b known_b same_b x.value (equal.refl x.value)) values;
         frame = right_frame_cut x here reach.2 b x.value same_b (equal.refl x.value) values;
         few = omega arith;
         ends = omega (arith, reach.2);
@@ -228,7 +224,7 @@ module _ {K : Type 0} (order : KeyOrder K) (lawful : IsLawful order) {V : Type 0
         rest = None;
         finish = Some x.key.end;
         shape = (is, omega (arith, at), refl, refl, (x, read, refl));
-        side = right_edge_joined order lawful same equal is_good rank items r w place stored known full window (place + w.count) v x (omega (arith, at, within)) here (right_rest_whole order lawful same equal is_good rank items r w place stored known full window reach) touching;
+        side = right_edge_joined lawful equal window (place + w.count) v x (omega (arith, at, within)) here (right_rest_whole lawful equal window reach) touching;
         frame = record {
           extra = x ∷ [];
           split = drop_more items (place + w.count) x (omega (arith, at, within)) ∙ ap (λ y. y ∷ drop (place + w.count + 1) items) (sym here);
@@ -242,6 +238,9 @@ module _ {K : Type 0} (order : KeyOrder K) (lawful : IsLawful order) {V : Type 0
         ends = omega arith;
       }
 
+  pub right_joined_at : (q : P) → ReachesAfter order is_good rank items r place w.count None → is_good q → rank q ≡ place + w.count → rank q < length items → TouchesAfter order same items (place + w.count) r v → IsRightPlan order same lawful equal is_good rank items r v place w.count None (Joined q)
+  right_joined_at q reach is at within touching = right_plan_joined q (element_at items (rank q) within) reach is at within (element_at_is_read items (rank q) within (element_at items (rank q) within)) touching
+
   pub right_plan_plain : ReachesAfter order is_good rank items r place w.count None → TouchesNoneAfter order same items (place + w.count) r v → IsRightPlan order same lawful equal is_good rank items r v place w.count None Plain
   right_plan_plain reach none = record {
     upto = place + w.count;
@@ -249,7 +248,7 @@ module _ {K : Type 0} (order : KeyOrder K) (lawful : IsLawful order) {V : Type 0
     rest = None;
     finish = None;
     shape = (refl, refl, refl);
-    side = right_edge_none order lawful same equal is_good rank items r w place stored known full window (place + w.count) v window.in_range (right_rest_whole order lawful same equal is_good rank items r w place stored known full window reach) none;
+    side = right_edge_none lawful equal window (place + w.count) v window.in_range (right_rest_whole lawful equal window reach) none;
     frame = record {
       extra = [];
       split = refl;
@@ -263,7 +262,7 @@ module _ {K : Type 0} (order : KeyOrder K) (lawful : IsLawful order) {V : Type 0
     ends = omega arith;
   }
 
-module _ {K : Type 0} (order : KeyOrder K) (lawful : IsLawful order) {V : Type 0} (same : V → V → Bool) (equal : IsEquivalence same) {P : Type 0} (is_good : P → Type 0) (rank : P → ℕ) (items : List (Item (AnyRange K) V)) (r : AnyRange K) (w : Window P) (place : ℕ) (stored : IsStored order same items) (known : IsKnownRange order r) (full : IsEmptyRange order r → ⊥) (window : IsWindow order is_good rank items r w place) where
+module _ {K : Type 0} {order : KeyOrder K} (lawful : IsLawful order) {V : Type 0} {same : V → V → Bool} (equal : IsEquivalence same) {P : Type 0} {is_good : P → Type 0} {rank : P → ℕ} {items : List (Item (AnyRange K) V)} {r : AnyRange K} {w : Window P} {place : ℕ} (window : IsWindow order same is_good rank items r w place) where
   -- what is left of the first item of a window, and of the last
   pub left_part : (x : Item (AnyRange K) V) → x ≡ get_or items place x → 0 < w.count → (b : Bound K) → SameBound order (turned_bound r.start) b → IsPart order same (take w.count (drop place items)) r (with_end x b)
   left_part x here some b same_b =
@@ -297,7 +296,7 @@ module _ {K : Type 0} (order : KeyOrder K) (lawful : IsLawful order) {V : Type 0
   left_cut_plan None b reach known_b same_b = record {
     rest = None;
     shape = (omega arith, refl, refl);
-    side = left_rest_whole order lawful same equal is_good rank items r w place stored known full window reach;
+    side = left_rest_whole lawful equal window reach;
     made = tt;
     few = omega arith;
   }
@@ -308,7 +307,7 @@ module _ {K : Type 0} (order : KeyOrder K) (lawful : IsLawful order) {V : Type 0
       record {
         rest = Some (with_end x b);
         shape = (reach.0, reach.1, omega arith, refl, (x, here, refl));
-        side = left_rest_cut order lawful same equal is_good rank items r w place stored known full window x here reach.2 (reach.3 x here) b known_b same_b;
+        side = left_rest_cut lawful equal window x here reach.2 (reach.3 x here) b known_b same_b;
         made = (left_part x here reach.2 b same_b, tt);
         few = omega arith;
       }
@@ -324,7 +323,7 @@ module _ {K : Type 0} (order : KeyOrder K) (lawful : IsLawful order) {V : Type 0
   right_cut_plan None b upto at reach known_b same_b = record {
     rest = None;
     shape = (omega (arith, at), refl, refl);
-    side = right_rest_whole order lawful same equal is_good rank items r w place stored known full window reach;
+    side = right_rest_whole lawful equal window reach;
     made = tt;
     few = omega arith;
   }
@@ -336,7 +335,7 @@ module _ {K : Type 0} (order : KeyOrder K) (lawful : IsLawful order) {V : Type 0
       record {
         rest = Some (with_start x b);
         shape = (reach.0, omega (arith, at, reach.1), omega (arith, at), refl, (x, here ∙ ap (λ n. get_or items n x) index, refl));
-        side = right_rest_cut order lawful same equal is_good rank items r w place stored known full window x here reach.2 (reach.3 x here) b known_b same_b x.value (equal.refl x.value);
+        side = right_rest_cut lawful equal window x here reach.2 (reach.3 x here) b known_b same_b x.value (equal.refl x.value);
         made = (right_part x here reach.2 b x.value same_b (equal.refl x.value), tt);
         few = omega arith;
       }

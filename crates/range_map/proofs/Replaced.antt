@@ -2,7 +2,6 @@
 use Rattle.std.proofs.Common.{◌≡◌, refl, ℕ, ◌+◌, ◌-◌, ◌≤◌, List, ◌++◌, length, take, drop, ap, ◌∙◌, arith, subst, Option, Bool, IsTrue, ◌⊎◌, inl, inr, append_assoc}
 use Rattle.std.specs.Cmp.{IsEquivalence}
 use Rattle.std.specs.Prelude.{slice_get}
-use Rattle.std.specs.Option.{option_or}
 use Rattle.std.specs.declared.ops.Bound.{Bound}
 use Rattle.range_keys.specs.Order.{KeyOrder, IsLawful}
 use Rattle.range_keys.specs.declared.inner.position.Position.TheVariants.{Beside}
@@ -13,14 +12,14 @@ use Rattle.range_algebra.specs.Range.{IsKnownBound, IsKnownRange, IsEmptyRange}
 use Rattle.range_algebra.specs.declared.any.AnyRange.{AnyRange}
 use Rattle.range_algebra.proofs.Lists.{list_is_take_and_drop, any_left, any_right, every_weaker, every_append, every_left, every_right}
 use Rattle.range_algebra.proofs.Places.{held_between}
-use Rattle.range_store.specs.Places.{IsAt}
 use Rattle.range_store.specs.declared.storage.Item.{Item}
 use Rattle.range_map.specs.declared.change.edges.Edge.{Edge}
 use Rattle.range_map.specs.Edits.{turned_bound}
 use Rattle.range_map.specs.Frames.{HasValue}
 use Rattle.range_map.specs.Lookups.{Overlap}
 use Rattle.range_map.specs.Replaced.{AreWithin, IsReplaced}
-use Rattle.range_map.specs.Seams.{seam_edge, with_first_start, with_last_end, IsLeftSeam, IsRightSeam}
+use Rattle.range_map.specs.Edges.{IsRunStart, seam_edge}
+use Rattle.range_map.specs.Seams.{with_first_start, with_last_end, IsLeftSeam, IsRightSeam}
 use Rattle.range_map.specs.Stored.{IsStored}
 use Rattle.range_map.specs.Window.{option_items}
 use Rattle.range_map.proofs.CutParts.{known_turned, same_turned}
@@ -85,21 +84,21 @@ module _ {K : Type 0} (order : KeyOrder K) (lawful : IsLawful order) {V : Type 0
 
   -- both sides of what is planned, and the run between them
   pub record IsReplacement (middle : List (Item (AnyRange K) V)) (first last joined other from : Option P) : Type 0 where
-    pub left : IsLeftFill order lawful same equal is_good rank items r place count middle first (seam_edge joined first (turned_bound r.start)) (option_or joined from)
+    pub left : IsLeftFill order lawful same equal is_good rank items r place count middle first (seam_edge joined first (turned_bound r.start)) from
     pub right : IsRightFill order lawful same equal is_good rank items r place count middle (take left.at items ++ option_items left.rest) left.start last (seam_edge other last (turned_bound r.end))
     pub upto : left.begin + (length (option_items joined) + (count - (length (option_items first) + length (option_items last))) + length (option_items other)) ≡ right.upto
     pub within : right.upto ≤ length items
 
   pub plans_replacement : (middle : List (Item (AnyRange K) V)) (first last joined other from : Option P) (next previous : Option (Item (AnyRange K) V)) → IsStored order same items → IsStored order same middle → AreWithin order middle r → IsKnownRange order r → (IsEmptyRange order r → ⊥) → place + count ≤ length items → length (option_items first) + length (option_items last) ≤ count →
-      next ≡ slice_get middle 0 → previous ≡ slice_get middle (length middle - 1) → IsAt is_good rank (length items) from (place + length (option_items first)) →
-      ((b : Bound K) (behind : Option P) → IsKnownBound order b → SameBound order (turned_bound r.start) b → IsAt is_good rank (length items) behind (place + length (option_items first)) → IsLeftSeam order same lawful equal is_good rank items r place count next first (seam_edge joined first b) (option_or joined behind)) →
+      next ≡ slice_get middle 0 → previous ≡ slice_get middle (length middle - 1) → IsRunStart is_good rank (length items) place first joined from →
+      ((b : Bound K) (at : Option P) → IsKnownBound order b → SameBound order (turned_bound r.start) b → IsRunStart is_good rank (length items) place first joined at → IsLeftSeam order same lawful equal is_good rank items r place count next first (seam_edge joined first b) at) →
       ((b : Bound K) → IsKnownBound order b → SameBound order (turned_bound r.end) b → IsRightSeam order same lawful equal is_good rank items r place count previous last (seam_edge other last b)) →
       IsReplacement middle first last joined other from
   plans_replacement middle first last joined other from next previous stored others within known full in_range apart is_first is_last begins on_left on_right =
       let before = turned_bound r.start in
       let behind = turned_bound r.end in
       let good = (nonempty_good order lawful r known).0 full in
-      let left = left_fill order lawful same equal is_good rank items r place count middle first (seam_edge joined first before) (option_or joined from) good stored others (subst (λ o. IsLeftSeam order same lawful equal is_good rank items r place count o first (seam_edge joined first before) (option_or joined from)) is_first (on_left before from (known_turned order lawful r.start known.0) (same_turned order lawful r.start) begins)) in
+      let left = left_fill order lawful same equal is_good rank items r place count middle first (seam_edge joined first before) from good stored others (subst (λ o. IsLeftSeam order same lawful equal is_good rank items r place count o first (seam_edge joined first before) from) is_first (on_left before from (known_turned order lawful r.start known.0) (same_turned order lawful r.start) begins)) in
       let right = right_fill order lawful same equal is_good rank items r place count middle (take left.at items ++ option_items left.rest) left.start last (seam_edge other last behind) stored others within good in_range left.filled left.known (subst (λ o. IsRightSeam order same lawful equal is_good rank items r place count o last (seam_edge other last behind)) is_last (on_right behind (known_turned order lawful r.end known.1) (same_turned order lawful r.end))) in
       let least = upto_end is_good is_good rank rank items items (λ p h. (h, refl)) refl (seam_edge other last behind) right.upto right.end right.rest right.finish right.shape in
       record {

@@ -3,7 +3,7 @@ use Rattle.std.proofs.Common.{◌≡◌, ℕ, ◌+◌, ◌-◌, ◌<◌, ◌≤�
 use Rattle.std.proofs.lemmas.List.{append-nil}
 use Rattle.std.specs.Prelude.{slice_get, option_copied, MatchOption}
 use Rattle.std.specs.Cmp.{IsEquivalence, tied_itself}
-use Rattle.std.specs.Option.{unwrap_or, option_or}
+use Rattle.std.specs.Option.{unwrap_or}
 use Rattle.std.specs.declared.cmp.Ordering.TheVariants.{Equal}
 use Rattle.std.specs.declared.ops.Bound.{Bound}
 use Rattle.range_keys.specs.Order.{KeyOrder, IsLawful}
@@ -11,14 +11,14 @@ use Rattle.range_keys.specs.Position.{start_position, end_position}
 use Rattle.range_keys.specs.PositionOrder.{position_total}
 use Rattle.range_keys.specs.declared.inner.position.Position.{Position}
 use Rattle.range_algebra.proofs.Lists.{any_left, any_right, every_weaker, every_append, every_left, every_right}
-use Rattle.range_map.specs.Chains.{IsLeftOf, IsRightOf}
+use Rattle.range_map.specs.Chains.{line_of, IsLeftOf, IsRightOf}
 use Rattle.range_map.proofs.Chains.{chain_before, chain_right, follows_above}
 use Rattle.range_algebra.specs.Clones.{SameBound}
 use Rattle.range_algebra.specs.Compared.{inverted}
 use Rattle.range_algebra.specs.Cuts.{past, lower, upper}
 use Rattle.range_algebra.specs.Intervals.{Le, Lt, Any, Every}
 use Rattle.range_algebra.specs.Orders.{eq_ge, le_lt_trans, le_refl, lt_le, eq_le, le_trans, lt_trans, lt_le_trans, lt_not_le, not_lt}
-use Rattle.range_algebra.specs.Range.{IsKnownBound, IsKnownRange, IsEmptyRange}
+use Rattle.range_algebra.specs.Range.{IsKnownBound, IsKnownRange}
 use Rattle.range_algebra.specs.Relations.{Touches}
 use Rattle.range_algebra.specs.declared.any.AnyRange.{AnyRange}
 use Rattle.range_algebra.proofs.Places.{reaching_is_before_past, inverted_bound_is_past, turned_known}
@@ -27,7 +27,7 @@ use Rattle.range_store.specs.Places.{IsAt}
 use Rattle.range_map.specs.declared.change.edges.Edge.{Edge}
 use Rattle.range_map.specs.declared.change.edges.Edge.TheVariants.{Plain, Cut, Joined}
 use Rattle.range_map.specs.declared.change.window.Window.{Window}
-use Rattle.range_map.specs.Edges.{IsLeftShape, IsRightShape, joined_count, edge_at, edge_start, edge_end, TouchesBefore, TouchesNoneBefore, TouchesAfter, TouchesNoneAfter}
+use Rattle.range_map.specs.Edges.{IsLeftShape, IsRightShape, IsRunStart, joined_count, edge_at, seam_edge, edge_start, edge_end, TouchesBefore, TouchesNoneBefore, TouchesAfter, TouchesNoneAfter}
 use Rattle.range_map.specs.Edits.{turned_bound, with_start}
 use Rattle.range_map.specs.Frames.{HasValue}
 use Rattle.range_map.specs.Stored.{item_lower, item_upper, IsStored}
@@ -35,15 +35,14 @@ use Rattle.range_map.specs.Pieces.{LiesIn}
 use Rattle.range_map.specs.Plans.{IsLeftPlan, IsRightPlan}
 use Rattle.range_map.specs.Reach.{ReachesBefore, ReachesAfter}
 use Rattle.range_map.specs.Replaced.{AreWithin}
-use Rattle.range_map.specs.Seams.{seam_edge, with_first_start, with_last_end, IsLeftCutting, IsRightCutting, IsLeftSeam, IsRightSeam}
+use Rattle.range_map.specs.Seams.{with_first_start, with_last_end, IsLeftCutting, IsRightCutting, IsLeftSeam, IsRightSeam}
 use Rattle.range_map.specs.Window.{IsWindow, option_items}
 use Rattle.range_map.proofs.CutOut.{known_take, known_drop}
 use Rattle.range_map.proofs.CutParts.{ends_never}
 use Rattle.range_map.proofs.Endings.{last_of, regrouped_last, item_with_end, with_last, started_last}
 use Rattle.range_map.proofs.Forms.{places, Known, Chained, stored_known, stored_chain}
-use Rattle.range_map.proofs.Edging.{element_at, element_at_is_read}
 use Rattle.range_map.proofs.Openings.{cut_joins_none}
-use Rattle.range_map.proofs.Planning.{left_cut_plan, right_cut_plan, left_plan_free, left_joined_at, right_plan_joined, right_plan_plain}
+use Rattle.range_map.proofs.Planning.{left_cut_plan, right_cut_plan, left_plan_free, left_joined_at, right_joined_at, right_plan_plain}
 use Rattle.range_map.proofs.Splicing.{IsFilled, IsSpliced, filled_apart, filled_joined, spliced_apart, spliced_joined}
 
 pub got_only : {X : Type 0} (P : X → Type 0) (o : Option (Bor X)) (i : Bor X) → o ≡ Some i → P i.now → (m : X) → option_copied o ≡ Some m → P m
@@ -86,10 +85,10 @@ seam_count (Some q) reaching b = refl
 
 module _ {K : Type 0} (order : KeyOrder K) (lawful : IsLawful order) {V : Type 0} (same : V → V → Bool) (equal : IsEquivalence same) where
   abbrev pub Filled : List (Item (AnyRange K) V) → List (Item (AnyRange K) V) → List (Item (AnyRange K) V) → Position K → Type 0
-  Filled items middle new c = IsFilled (places order lawful) (position_total order.cmp lawful.total) same equal (item_lower order) (item_upper order) (λ i. i.value) items middle new c
+  Filled items middle new c = IsFilled (line_of order lawful same equal) items middle new c
 
   abbrev pub Spliced : List (Item (AnyRange K) V) → List (Item (AnyRange K) V) → List (Item (AnyRange K) V) → AnyRange K → Type 0
-  Spliced items middle new r = IsSpliced (places order lawful) (position_total order.cmp lawful.total) same equal (item_lower order) (item_upper order) (λ i. i.value) items middle new (lower order r) (upper order r)
+  Spliced items middle new r = IsSpliced (line_of order lawful same equal) items middle new (lower order r) (upper order r)
 
   module _ {P : Type 0} (is_good : P → Type 0) (rank : P → ℕ) (items : List (Item (AnyRange K) V)) (r : AnyRange K) (place count : ℕ) where
     -- the item starts before the range ends, and ends after the range starts
@@ -136,13 +135,13 @@ module _ {K : Type 0} (order : KeyOrder K) (lawful : IsLawful order) {V : Type 0
       pub reaches : (b : Bound K) → finish ≡ Some b → Lt (places order lawful) (lower order r) (past order (end_position order b))
       pub valued : Every (λ j. HasValue order same (take count (drop place items) ++ extra) j.value ⊎ HasValue order same middle j.value) (option_items rest)
 
-    start_filled : (start : Option (Bound K)) (front ms : List (Item (AnyRange K) V)) (m : Item (AnyRange K) V) (s : Position K) → places order lawful (edge_start order same start r) s ≡ Equal → IsLeftOf (places order lawful) (position_total order.cmp lawful.total) same equal (item_lower order) (item_upper order) (λ i. i.value) items front (lower order r) s m.value → Chained order lawful same equal (m ∷ ms) → places order lawful (item_lower order m) (lower order r) ≡ Equal → Filled items (m ∷ ms) (front ++ with_first_start start (m ∷ ms)) (lower order r)
+    start_filled : (start : Option (Bound K)) (front ms : List (Item (AnyRange K) V)) (m : Item (AnyRange K) V) (s : Position K) → places order lawful (edge_start order same start r) s ≡ Equal → IsLeftOf (line_of order lawful same equal) items front (lower order r) s m.value → Chained order lawful same equal (m ∷ ms) → places order lawful (item_lower order m) (lower order r) ≡ Equal → Filled items (m ∷ ms) (front ++ with_first_start start (m ∷ ms)) (lower order r)
     start_filled None front ms m s starts left chain at =
         let total = position_total order.cmp lawful.total in
-        filled_joined (places order lawful) total same equal (item_lower order) (item_upper order) (λ i. i.value) items front m m ms (lower order r) s left chain at (total.congr (item_lower order m) (lower order r) s at ∙ starts) (tied_itself total (item_upper order m)) (equal.refl m.value)
+        filled_joined (line_of order lawful same equal) items front m m ms (lower order r) s left chain at (total.congr (item_lower order m) (lower order r) s at ∙ starts) (tied_itself total (item_upper order m)) (equal.refl m.value)
     start_filled (Some b) front ms m s starts left chain at =
         let total = position_total order.cmp lawful.total in
-        filled_joined (places order lawful) total same equal (item_lower order) (item_upper order) (λ i. i.value) items front m (with_start m b) ms (lower order r) s left chain at starts (tied_itself total (item_upper order m)) (equal.refl m.value)
+        filled_joined (line_of order lawful same equal) items front m (with_start m b) ms (lower order r) s left chain at starts (tied_itself total (item_upper order m)) (equal.refl m.value)
 
     start_known : (start : Option (Bound K)) (m : Item (AnyRange K) V) (ms : List (Item (AnyRange K) V)) → IsKnownBound order (unwrap_or start r.start) → Known order lawful same equal (m ∷ ms) → Known order lawful same equal (with_first_start start (m ∷ ms))
     start_known None m ms known all = all
@@ -188,7 +187,7 @@ module _ {K : Type 0} (order : KeyOrder K) (lawful : IsLawful order) {V : Type 0
           shape = cut.shape;
           run = cut.run;
           begins = omega (arith, none);
-          filled = filled_apart (places order lawful) (position_total order.cmp lawful.total) same equal (item_lower order) (item_upper order) (λ i. i.value) items (take place items ++ option_items cut.rest) middle (lower order r) cut.side.left (stored_chain order lawful same equal middle others) starts;
+          filled = filled_apart (line_of order lawful same equal) items (take place items ++ option_items cut.rest) middle (lower order r) cut.side.left (stored_chain order lawful same equal middle others) starts;
           known = every_append _ (take place items ++ option_items cut.rest) middle (every_append _ (take place items) (option_items cut.rest) (known_take order lawful same equal items place (stored_known order lawful same equal items stored)) cut.side.known) (stored_known order lawful same equal middle others);
           extra = [];
           split = sym (append-nil (take place items));
@@ -200,7 +199,7 @@ module _ {K : Type 0} (order : KeyOrder K) (lawful : IsLawful order) {V : Type 0
     all_later m ms chain later =
         let cmp = places order lawful in
         let total = position_total order.cmp lawful.total in
-        let above = follows_above cmp total same equal (item_lower order) (item_upper order) (λ i. i.value) m ms chain.1 in
+        let above = follows_above (line_of order lawful same equal) m ms chain.1 in
         (later, every_weaker _ _ ms (λ i h. lt_le_trans cmp total (lower order r) (item_upper order m) (item_lower order i) (lt_trans cmp total (lower order r) (item_lower order m) (item_upper order m) later chain.0) h) above)
 
     pub left_fill : (middle : List (Item (AnyRange K) V)) (first : Option P) (edge : Edge K P) (from : Option P) → Lt (places order lawful) (lower order r) (upper order r) → IsStored order same items → IsStored order same middle → IsLeftSeam order same lawful equal is_good rank items r place count (slice_get middle 0) first edge from → IsLeftFill middle first edge from
@@ -253,19 +252,19 @@ module _ {K : Type 0} (order : KeyOrder K) (lawful : IsLawful order) {V : Type 0
         let grouped : front ++ with_first_start start middle ≡ (front ++ s.0) ++ z ∷ [] = ap (λ ys. front ++ ys) body ∙ sym (append_assoc front s.0 (z ∷ [])) in
         let list : (front ++ with_last_end plan.finish (with_first_start start middle)) ++ behind ≡ (front ++ s.0) ++ other ∷ behind = ap (λ ys. (front ++ ys) ++ behind) (ap (with_last_end plan.finish) body ∙ with_last plan.finish s.0 z) ∙ regrouped_last front s.0 behind other in
         let z_ends : places order lawful (item_upper order z) (upper order r) ≡ Equal = subst (λ (b : Bound K). places order lawful (past order (end_position order b)) (upper order r) ≡ Equal) (sym s.3) at in
-        let right = subst (λ (v : V). IsRightOf (places order lawful) (position_total order.cmp lawful.total) same equal (item_lower order) (item_upper order) (λ i. i.value) items behind (upper order r) plan.side.e v) (sym s.4) plan.side.right in
+        let right = subst (λ (v : V). IsRightOf (line_of order lawful same equal) items behind (upper order r) plan.side.e v) (sym s.4) plan.side.right in
         let filled = subst (λ ys. Filled items middle ys (lower order r)) grouped fill in
         let all = subst (λ ys. Known order lawful same equal ys) grouped known in
         let known_z = every_right _ (front ++ s.0) (z ∷ []) all in
         let cmp = places order lawful in
         let body_end : with_last_end plan.finish (with_first_start start middle) ≡ s.0 ++ other ∷ [] = ap (with_last_end plan.finish) body ∙ with_last plan.finish s.0 z in
-        let full = (chain_right cmp total same equal (item_lower order) (item_upper order) (λ i. i.value) (front ++ s.0) (z ∷ []) filled.chain).0 in
+        let full = (chain_right (line_of order lawful same equal) (front ++ s.0) (z ∷ []) filled.chain).0 in
         let under = le_lt_trans cmp total (item_lower order other) (item_lower order z) (upper order r) (eq_le cmp total (item_lower order other) (item_lower order z) (ended_lower plan.finish z)) (lt_le_trans cmp total (item_lower order z) (item_upper order z) (upper order r) full (eq_le cmp total (item_upper order z) (upper order r) z_ends)) in
         let above = lt_le_trans cmp total (lower order r) (upper order r) plan.side.e good plan.side.right.above in
         let over = lt_le_trans cmp total (lower order r) plan.side.e (item_upper order other) above (eq_ge cmp total (item_upper order other) plan.side.e (ended_upper plan.finish z plan.side.e plan.side.ends z_ends)) in
         let same_value : m.value ≡ other.value = sym (ended_same plan.finish z ∙ s.4) in
         let beyond = lt_le_trans cmp total (lower order r) plan.side.e (edge_end order same plan.finish r) above (eq_ge cmp total (edge_end order same plan.finish r) plan.side.e plan.side.ends) in
-        let done = spliced_joined (places order lawful) total same equal (item_lower order) (item_upper order) (λ i. i.value) items middle (front ++ s.0) behind z other (lower order r) (upper order r) plan.side.e filled good z_ends right (ended_lower plan.finish z) (ended_upper plan.finish z plan.side.e plan.side.ends z_ends) (ended_value plan.finish z) in
+        let done = spliced_joined (line_of order lawful same equal) items middle (front ++ s.0) behind z other (lower order r) (upper order r) plan.side.e filled good z_ends right (ended_lower plan.finish z) (ended_upper plan.finish z plan.side.e plan.side.ends z_ends) (ended_value plan.finish z) in
         let known_new = every_append _ (front ++ s.0) (other ∷ behind) (every_left _ (front ++ s.0) (z ∷ []) all) (ended_known plan.finish z known_z.0 plan.side.known_end, every_append _ (option_items plan.rest) (drop plan.end items) plan.side.known (known_drop order lawful same equal items plan.end (stored_known order lawful same equal items stored))) in
         record {
           upto = plan.upto;
@@ -296,7 +295,7 @@ module _ {K : Type 0} (order : KeyOrder K) (lawful : IsLawful order) {V : Type 0
           shape = cut.shape;
           ends = omega (arith, none, cut.ends);
           in_range = within;
-          spliced = spliced_apart (places order lawful) (position_total order.cmp lawful.total) same equal (item_lower order) (item_upper order) (λ i. i.value) items middle (front ++ with_first_start start middle) behind (lower order r) u (upper order r) fill le lt all cut.side.right;
+          spliced = spliced_apart (line_of order lawful same equal) items middle (front ++ with_first_start start middle) behind (lower order r) u (upper order r) fill le lt all cut.side.right;
           known = every_append _ (front ++ with_first_start start middle) behind known (every_append _ (option_items cut.rest) (drop (place + count) items) cut.side.known (known_drop order lawful same equal items (place + count) (stored_known order lawful same equal items stored)));
           extra = [];
           split = refl;
@@ -319,29 +318,29 @@ module _ {K : Type 0} (order : KeyOrder K) (lawful : IsLawful order) {V : Type 0
         let end = last_of x xs in
         let m = end.1 in
         let chain = subst (λ ys. Chained order lawful same equal ys) end.2 (stored_chain order lawful same equal (x ∷ xs) others) in
-        let full = (chain_right cmp total same equal (item_lower order) (item_upper order) (λ i. i.value) end.0 (m ∷ []) chain).0 in
-        let before = chain_before cmp total same equal (item_lower order) (item_upper order) (λ i. i.value) end.0 m [] chain in
+        let full = (chain_right (line_of order lawful same equal) end.0 (m ∷ []) chain).0 in
+        let before = chain_before (line_of order lawful same equal) end.0 m [] chain in
         let below = every_append (λ i. Le cmp (item_upper order i) (item_upper order m)) end.0 (m ∷ []) (every_weaker _ _ end.0 (λ i k. le_trans cmp total (item_upper order i) (item_lower order m) (item_upper order m) k.0 (lt_le cmp total (item_lower order m) (item_upper order m) full)) before) (le_refl cmp total (item_upper order m), tt) in
         let inside = every_right (λ i. LiesIn order i.key r) end.0 (m ∷ []) (subst (λ ys. Every (λ (i : Item (AnyRange K) V). LiesIn order i.key r) ys) end.2 within) in
         right_cutting (x ∷ xs) front start last edge (item_upper order m) stored in_range (le_trans cmp total (lower order r) (item_lower order m) (item_upper order m) inside.0.starts (lt_le cmp total (item_lower order m) (item_upper order m) full)) (h.0 m end.3) (subst (λ ys. Every (λ (i : Item (AnyRange K) V). Le cmp (item_upper order i) (item_upper order m)) ys) (sym end.2) below) fill known h.1
 
-module _ {K : Type 0} (order : KeyOrder K) (lawful : IsLawful order) {V : Type 0} (same : V → V → Bool) (equal : IsEquivalence same) {P : Type 0} (is_good : P → Type 0) (rank : P → ℕ) (items : List (Item (AnyRange K) V)) (r : AnyRange K) (w : Window P) (place : ℕ) (stored : IsStored order same items) (known : IsKnownRange order r) (full : IsEmptyRange order r → ⊥) (window : IsWindow order is_good rank items r w place) where
+module _ {K : Type 0} {order : KeyOrder K} (lawful : IsLawful order) {V : Type 0} {same : V → V → Bool} (equal : IsEquivalence same) {P : Type 0} {is_good : P → Type 0} {rank : P → ℕ} {items : List (Item (AnyRange K) V)} {r : AnyRange K} {w : Window P} {place : ℕ} (window : IsWindow order same is_good rank items r w place) where
   -- an item that reaches out of the range is cut
   pub left_cut_out : (first : Option P) (b : Bound K) (from : Option P) → ReachesBefore order is_good rank items r place w.count first → IsKnownBound order b → SameBound order (turned_bound r.start) b → IsAt is_good rank (length items) from (place + length (option_items first)) → IsLeftCutting order same lawful equal is_good rank items r place w.count first (edge_at first b) from
   left_cut_out first b from reach known_b same_b next =
-      let cut = left_cut_plan order lawful same equal is_good rank items r w place stored known full window first b reach known_b same_b in
+      let cut = left_cut_plan lawful equal window first b reach known_b same_b in
       record { rest = cut.rest; shape = cut.shape; side = cut.side; run = next; valued = every_weaker _ _ (option_items cut.rest) (λ j h. h.value) cut.made }
 
   -- no item reaches out of it, and the one before may join
-  pub left_touched : (v : V) (joined : Option P) (b : Bound K) (behind : Option P) → ((p : P) → is_good p → rank p < length items) → ReachesBefore order is_good rank items r place w.count None → MatchOption joined (TouchesNoneBefore order same items place r v) (λ q. is_good q × (rank q + 1 ≡ place) × TouchesBefore order same items place r v) → IsAt is_good rank (length items) behind (place + 0) → IsLeftPlan order same lawful equal is_good rank items r v place w.count None (seam_edge joined None b) (option_or joined behind)
-  left_touched v None b behind in_range reach none next =
+  pub left_touched : (v : V) (joined : Option P) (b : Bound K) (at : Option P) → ((p : P) → is_good p → rank p < length items) → ReachesBefore order is_good rank items r place w.count None → MatchOption joined (TouchesNoneBefore order same items place r v) (λ q. is_good q × (rank q + 1 ≡ place) × TouchesBefore order same items place r v) → IsRunStart is_good rank (length items) place None joined at → IsLeftPlan order same lawful equal is_good rank items r v place w.count None (seam_edge joined None b) at
+  left_touched v None b at in_range reach none start =
       let plus : place + 0 ≡ place = omega arith in
-      left_plan_free order lawful same equal is_good rank items r w place stored known full window v behind (subst (λ n. IsAt is_good rank (length items) behind n) plus next) reach none
-  left_touched v (Some q) b behind in_range reach found next = left_joined_at order lawful same equal is_good rank items r w place stored known full window v q reach found.0 found.1 (in_range q found.0) found.2
+      left_plan_free lawful equal window v at (subst (λ n. IsAt is_good rank (length items) at n) plus start) reach none
+  left_touched v (Some q) b at in_range reach found start = rw start (left_joined_at lawful equal window v q reach found.0 found.1 (in_range q found.0) found.2)
 
   right_cut_from : (last : Option P) (b : Bound K) (upto : ℕ) → upto + length (option_items last) ≡ place + w.count → ReachesAfter order is_good rank items r place w.count last → IsKnownBound order b → SameBound order (turned_bound r.end) b → IsRightCutting order same lawful equal is_good rank items r place w.count last (edge_at last b)
   right_cut_from last b upto at reach known_b same_b =
-      let cut = right_cut_plan order lawful same equal is_good rank items r w place stored known full window last b upto at reach known_b same_b in
+      let cut = right_cut_plan lawful equal window last b upto at reach known_b same_b in
       record { upto = upto; rest = cut.rest; shape = cut.shape; side = cut.side; valued = every_weaker _ _ (option_items cut.rest) (λ j h. h.value) cut.made; ends = at }
 
   pub right_cut_any : (last : Option P) (b : Bound K) → ReachesAfter order is_good rank items r place w.count last → IsKnownBound order b → SameBound order (turned_bound r.end) b → IsRightCutting order same lawful equal is_good rank items r place w.count last (edge_at last b)
@@ -349,8 +348,5 @@ module _ {K : Type 0} (order : KeyOrder K) (lawful : IsLawful order) {V : Type 0
   right_cut_any (Some p) b reach known_b same_b = right_cut_from (Some p) b (place + w.count - 1) (omega (arith, reach.2)) reach known_b same_b
 
   pub right_touched : (v : V) (joined : Option P) (b : Bound K) → ((p : P) → is_good p → rank p < length items) → ReachesAfter order is_good rank items r place w.count None → MatchOption joined (TouchesNoneAfter order same items (place + w.count) r v) (λ q. is_good q × (rank q ≡ place + w.count) × TouchesAfter order same items (place + w.count) r v) → IsRightPlan order same lawful equal is_good rank items r v place w.count None (seam_edge joined None b)
-  right_touched v None b in_range reach none = right_plan_plain order lawful same equal is_good rank items r w place stored known full window v reach none
-  right_touched v (Some q) b in_range reach found =
-      let within = in_range q found.0 in
-      let x = element_at items (rank q) within in
-      right_plan_joined order lawful same equal is_good rank items r w place stored known full window v q x reach found.0 found.1 within (element_at_is_read items (rank q) within x) found.2
+  right_touched v None b in_range reach none = right_plan_plain lawful equal window v reach none
+  right_touched v (Some q) b in_range reach found = right_joined_at lawful equal window v q reach found.0 found.1 (in_range q found.0) found.2

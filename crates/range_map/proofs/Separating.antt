@@ -9,6 +9,7 @@ use Rattle.range_keys.specs.Position.{end_position, position_cmp}
 use Rattle.range_keys.specs.PositionOrder.{position_total}
 use Rattle.range_keys.specs.declared.inner.position.Position.{Position}
 use Rattle.range_keys.proofs.Orderings.{less_or_not}
+use Rattle.range_map.specs.Chains.{line_of}
 use Rattle.range_map.proofs.Chains.{chain_above, chain_before, chain_right, strictly_leads, strictly_trails}
 use Rattle.range_map.proofs.ChainSides.{left_whole, right_whole}
 use Rattle.range_map.proofs.ChainJoins.{places_between_are_bound, left_apart, right_apart}
@@ -120,8 +121,8 @@ module _ {K : Type 0} (order : KeyOrder K) (lawful : IsLawful order) where
           let split : items ≡ take n items ++ x ∷ drop (n + 1) items = list_is_take_and_drop items n ∙ ap (λ ys. take n items ++ ys) more in
           let whole : Chained order lawful same equal (take n items ++ x ∷ drop (n + 1) items) = rw split at (stored_chain order lawful same equal items stored) in
           let all_known : Known order lawful same equal (take n items ++ x ∷ drop (n + 1) items) = rw split at (stored_known order lawful same equal items stored) in
-          let good = chain_right cmp total same equal (item_lower order) (item_upper order) (λ i. i.value) (take n items) (x ∷ drop (n + 1) items) whole in
-          let before = chain_before cmp total same equal (item_lower order) (item_upper order) (λ i. i.value) (take n items) x (drop (n + 1) items) whole in
+          let good = chain_right (line_of order lawful same equal) (take n items) (x ∷ drop (n + 1) items) whole in
+          let before = chain_before (line_of order lawful same equal) (take n items) x (drop (n + 1) items) whole in
           let own = apart_is x.key r (every_right (λ i. IsKnownRange order i.key) (take n items) (x ∷ drop (n + 1) items) all_known).0 known full apart in
           let longer : take (n + 1) items ≡ take n items ++ x ∷ [] = take_more items n x within ∙ ap (λ y. take n items ++ y ∷ []) (sym read) in
           rw longer (every_append (Before r) (take n items) (x ∷ []) (every_weaker _ _ (take n items) (λ y h. le_lt_trans cmp total (item_upper order y) (item_lower order x) (lower order r) h.0 (lt_trans cmp total (item_lower order x) (item_upper order x) (lower order r) good.0 own)) before) (own, tt))
@@ -134,8 +135,8 @@ module _ {K : Type 0} (order : KeyOrder K) (lawful : IsLawful order) where
           let split : items ≡ take n items ++ x ∷ drop (n + 1) items = list_is_take_and_drop items n ∙ ap (λ ys. take n items ++ ys) more in
           let whole : Chained order lawful same equal (take n items ++ x ∷ drop (n + 1) items) = rw split at (stored_chain order lawful same equal items stored) in
           let all_known : Known order lawful same equal (take n items ++ x ∷ drop (n + 1) items) = rw split at (stored_known order lawful same equal items stored) in
-          let chain = chain_right cmp total same equal (item_lower order) (item_upper order) (λ i. i.value) (take n items) (x ∷ drop (n + 1) items) whole in
-          let above = chain_above cmp total same equal (item_lower order) (item_upper order) (λ i. i.value) (item_lower order x) x (drop (n + 1) items) chain (le_refl cmp total (item_lower order x)) in
+          let chain = chain_right (line_of order lawful same equal) (take n items) (x ∷ drop (n + 1) items) whole in
+          let above = chain_above (line_of order lawful same equal) (item_lower order x) x (drop (n + 1) items) chain (le_refl cmp total (item_lower order x)) in
           let known_x = (every_right (λ i. IsKnownRange order i.key) (take n items) (x ∷ drop (n + 1) items) all_known).0 in
           let own = apart_is r x.key known known_x ((nonempty_good order lawful x.key known_x).1 chain.0) apart in
           rw more (every_weaker _ _ (x ∷ drop (n + 1) items) (λ y h. lt_le_trans cmp total (upper order r) (item_lower order x) (item_lower order y) own h) above)
@@ -246,12 +247,11 @@ module _ {K : Type 0} (order : KeyOrder K) (lawful : IsLawful order) where
             let split : items ≡ take place items ++ drop place items = list_is_take_and_drop items place in
             let all_known : Known order lawful same equal (take place items ++ drop place items) = rw split at (stored_known order lawful same equal items stored) in
             let whole : Chained order lawful same equal (take place items ++ drop place items) = rw split at (stored_chain order lawful same equal items stored) in
-            let value : Item (AnyRange K) V → V = λ i. i.value in
-            let left = left_whole cmp total same equal (item_lower order) (item_upper order) value (take place items) (drop place items) c whole (every_weaker _ _ (take place items) (λ i h. lt_le cmp total (item_upper order i) c h) front) (every_weaker _ _ (drop place items) (λ i h. lt_le cmp total c (item_lower order i) (lt_trans cmp total c d (item_lower order i) range_good h)) back) in
-            let right = right_whole cmp total same equal (item_lower order) (item_upper order) value (take place items) (drop place items) d whole (every_weaker _ _ (take place items) (λ i h. lt_le cmp total (item_upper order i) d (lt_trans cmp total (item_upper order i) c d h range_good)) front) (every_weaker _ _ (drop place items) (λ i h. lt_le cmp total d (item_lower order i) h) back) in
-            let on_left = left_apart cmp total same equal (item_lower order) (item_upper order) value (take place items ++ drop place items) (take place items) c v left (every_weaker _ _ (take place items) (λ i h. strictly_leads cmp total same equal (item_lower order) (item_upper order) value i c v h) front) in
-            let on_right = right_apart cmp total same equal (item_lower order) (item_upper order) value (take place items ++ drop place items) (drop place items) d v right (every_weaker _ _ (drop place items) (λ i h. strictly_trails cmp total same equal (item_lower order) (item_upper order) value i d v h) back) in
-            let changed = places_between_are_bound cmp total same equal (item_lower order) (item_upper order) value (take place items ++ drop place items) (take place items) (drop place items) x c d c d v on_left on_right range_good (tied_itself total c) (tied_itself total d) (equal.refl v) in
+            let left = left_whole (line_of order lawful same equal) (take place items) (drop place items) c whole (every_weaker _ _ (take place items) (λ i h. lt_le cmp total (item_upper order i) c h) front) (every_weaker _ _ (drop place items) (λ i h. lt_le cmp total c (item_lower order i) (lt_trans cmp total c d (item_lower order i) range_good h)) back) in
+            let right = right_whole (line_of order lawful same equal) (take place items) (drop place items) d whole (every_weaker _ _ (take place items) (λ i h. lt_le cmp total (item_upper order i) d (lt_trans cmp total (item_upper order i) c d h range_good)) front) (every_weaker _ _ (drop place items) (λ i h. lt_le cmp total d (item_lower order i) h) back) in
+            let on_left = left_apart (line_of order lawful same equal) (take place items ++ drop place items) (take place items) c v left (every_weaker _ _ (take place items) (λ i h. strictly_leads (line_of order lawful same equal) i c v h) front) in
+            let on_right = right_apart (line_of order lawful same equal) (take place items ++ drop place items) (drop place items) d v right (every_weaker _ _ (drop place items) (λ i h. strictly_trails (line_of order lawful same equal) i d v h) back) in
+            let changed = places_between_are_bound (line_of order lawful same equal) (take place items ++ drop place items) (take place items) (drop place items) x c d c d v on_left on_right range_good (tied_itself total c) (tied_itself total d) (equal.refl v) in
             let new_known : Known order lawful same equal (take place items ++ x ∷ drop place items) = every_append (λ i. IsKnownRange order i.key) (take place items) (x ∷ drop place items) (every_left (λ i. IsKnownRange order i.key) (take place items) (drop place items) all_known) (known, every_right (λ i. IsKnownRange order i.key) (take place items) (drop place items) all_known) in
             let after = bound_after order lawful same equal (take place items ++ drop place items) (take place items ++ x ∷ drop place items) r v known all_known new_known changed in
             let joined : take place items ++ drop place items ≡ items = sym split in

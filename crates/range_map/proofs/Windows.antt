@@ -4,16 +4,16 @@ use Rattle.std.specs.Cmp.{IsEquivalence}
 use Rattle.std.proofs.lemmas.List.{drop_more, take_more, get_or-drop}
 use Rattle.range_keys.specs.Order.{KeyOrder, IsLawful}
 use Rattle.range_keys.specs.Position.{start_position, end_position}
-use Rattle.range_keys.specs.PositionOrder.{position_total}
 use Rattle.range_keys.specs.declared.inner.position.Position.{Position}
 use Rattle.range_algebra.specs.declared.any.AnyRange.{AnyRange}
-use Rattle.range_algebra.specs.Range.{IsKnownRange}
+use Rattle.range_algebra.specs.Range.{IsEmptyRange, IsKnownRange}
 use Rattle.range_store.specs.declared.storage.Item.{Item}
 use Rattle.range_store.specs.Places.{place_before}
 use Rattle.range_algebra.specs.Intervals.{Le, Lt, Every}
+use Rattle.range_map.specs.Chains.{line_of}
 use Rattle.range_map.proofs.Chains.{chain_above, chain_right}
 use Rattle.range_algebra.specs.Cuts.{lower, upper}
-use Rattle.range_map.specs.Stored.{item_lower, item_upper, IsStored}
+use Rattle.range_map.specs.Stored.{item_lower, IsStored}
 use Rattle.range_map.specs.Window.{IsFound, IsWalk, IsWindow}
 use Rattle.range_algebra.proofs.Places.{reaching_is_before_past}
 use Rattle.range_map.proofs.Forms.{places, before_is, Known, Chained, stored_known, stored_chain}
@@ -27,14 +27,14 @@ module _ {K : Type 0} (order : KeyOrder K) (lawful : IsLawful order) {V : Type 0
   rest_starts_after_range : (e : Position K) (r : AnyRange K) (ys : List (Item (AnyRange K) V)) → e ≡ end_position order r.end → IsKnownRange order r → Known order lawful same equal ys → Chained order lawful same equal ys → ((d : Item (AnyRange K) V) → 0 < length ys → Lt (places order lawful) e (start_position order (get_or ys 0 d).key.start)) → Every (λ i. Le (places order lawful) (upper order r) (item_lower order i)) ys
   rest_starts_after_range e r [] at known others chain h = tt
   rest_starts_after_range e r (y ∷ ys) at known others chain h =
-      chain_above (places order lawful) (position_total order.cmp lawful.total) same equal (item_lower order) (item_upper order) (λ i. i.value) (upper order r) y ys chain
+      chain_above (line_of order lawful same equal) (upper order r) y ys chain
       ((before_is order lawful r.end y.key.start known.1 others.0.0).0 (rw at at (h y (omega arith))))
 
   pub window_is : {P : Type 0} (is_good : P → Type 0) (rank : P → ℕ) (items : List (Item (AnyRange K) V)) (r : AnyRange K) (p e : Position K) (before from last after : Option P) (count : ℕ) →
-      IsKnownRange order r → IsStored order same items → p ≡ lower order r → e ≡ end_position order r.end →
+      IsKnownRange order r → (IsEmptyRange order r → ⊥) → IsStored order same items → p ≡ lower order r → e ≡ end_position order r.end →
       IsFound order is_good rank items p before from → IsWalk order is_good rank items e (place_before rank (length items) from) count last after →
-      IsWindow order is_good rank items r (record { before = before; from = from; count = count; last = last; after = after }) (place_before rank (length items) from)
-  window_is is_good rank items r p e before from last after count known stored at_start at_end found walk =
+      IsWindow order same is_good rank items r (record { before = before; from = from; count = count; last = last; after = after }) (place_before rank (length items) from)
+  window_is is_good rank items r p e before from last after count known nonempty stored at_start at_end found walk =
       let cmp = places order lawful in
       let place = place_before rank (length items) from in
       let all = stored_known order lawful same equal items stored in
@@ -42,6 +42,9 @@ module _ {K : Type 0} (order : KeyOrder K) (lawful : IsLawful order) {V : Type 0
       let known_parts : (n : ℕ) → Known order lawful same equal (take n items ++ drop n items) = λ n. rw (list_is_take_and_drop items n) at all in
       let chain_parts : (n : ℕ) → Chained order lawful same equal (take n items ++ drop n items) = λ n. rw (list_is_take_and_drop items n) at chain in
       record {
+        stored = stored;
+        known = known;
+        nonempty = nonempty;
         position = found.position;
         previous = found.previous;
         in_range = walk.in_range;
@@ -51,7 +54,7 @@ module _ {K : Type 0} (order : KeyOrder K) (lawful : IsLawful order) {V : Type 0
         above = every_weaker _ _ (drop place items) (λ i h. (reaching_is_before_past order lawful r.start i.key.end known.0 h.0.1).0 (rw at_start at h.1)) (every_both (λ i. IsKnownRange order i.key) _ (drop place items) (every_right _ (take place items) (drop place items) (known_parts place)) found.above);
         meets = λ d some. let x = get_or items (place + count - 1) d in (reaching_is_before_past order lawful x.key.start r.end (every_at (λ i. IsKnownRange order i.key) items (place + count - 1) d all (omega (arith, walk.in_range))).0 known.1).0 (rw at_end at (walk.meets d some));
         behind = rest_starts_after_range e r (drop (place + count) items) at_end known (every_right _ (take (place + count) items) (drop (place + count) items) (known_parts (place + count)))
-            (chain_right (places order lawful) (position_total order.cmp lawful.total) same equal (item_lower order) (item_upper order) (λ i. i.value) (take (place + count) items) (drop (place + count) items) (chain_parts (place + count)))
+            (chain_right (line_of order lawful same equal) (take (place + count) items) (drop (place + count) items) (chain_parts (place + count)))
             (λ d some. let index : place + count + 0 ≡ place + count = omega arith in rw (get_or-drop (place + count) items 0 d, index) (walk.stops d (omega (arith, length-drop (place + count) items, walk.in_range))));
       }
 

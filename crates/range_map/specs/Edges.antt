@@ -5,26 +5,28 @@ use Rattle.std.specs.declared.cmp.Ordering.TheVariants.{Equal}
 use Rattle.std.specs.Cmp.{IsEquivalence}
 use Rattle.range_keys.specs.Order.{KeyOrder, IsLawful}
 use Rattle.range_keys.specs.Position.{start_position, end_position, position_cmp}
-use Rattle.range_keys.specs.PositionOrder.{position_total}
 use Rattle.range_keys.specs.declared.inner.position.Position.{Position}
 use Rattle.range_algebra.specs.Range.{IsKnownRange, IsKnownBound}
 use Rattle.std.specs.Option.{unwrap_or}
 use Rattle.std.specs.declared.ops.Bound.TheVariants.{Unbounded}
 use Rattle.range_map.specs.declared.change.edges.Edge.{Edge}
 use Rattle.range_map.specs.declared.change.edges.Edge.TheVariants.{Plain, Cut, Joined}
+use Rattle.range_map.specs.declared.change.edges.Joins.{Joins}
+use Rattle.range_map.specs.declared.change.reach.Reach.{Reach}
 use Rattle.range_map.specs.Edits.{turned_bound, with_start, with_end}
 use Rattle.range_algebra.specs.Clones.{SameBound}
 use Rattle.range_algebra.specs.declared.any.AnyRange.{AnyRange}
-use Rattle.range_store.specs.Places.{place_before}
+use Rattle.range_store.specs.Places.{place_before, IsAt}
 use Rattle.range_store.specs.declared.inner.cursor.Cursor.{Cursor}
 use Rattle.range_store.specs.declared.storage.Item.{Item}
 use Rattle.range_map.specs.declared.change.cut.Parts.{Parts}
 use Rattle.range_map.specs.declared.change.window.Window.{Window}
 use Rattle.range_algebra.specs.Intervals.{Every, Le}
-use Rattle.range_map.specs.Chains.{IsLeft, IsRight, IsLeftOf, IsRightOf}
+use Rattle.range_map.specs.Chains.{line_of, IsLeft, IsRight, IsLeftOf, IsRightOf}
 use Rattle.range_algebra.specs.Cuts.{past, lower, upper}
 use Rattle.range_map.specs.Stored.{item_lower, item_upper}
 use Rattle.range_algebra.specs.Relations.{Touches}
+use Rattle.range_map.specs.Reach.{inner_count}
 use Rattle.range_map.specs.Window.{option_items}
 
 module _ {K : Type 0} (order : KeyOrder K) {V : Type 0} (same : V → V → Bool) where
@@ -54,12 +56,12 @@ module _ {K : Type 0} (order : KeyOrder K) {V : Type 0} (same : V → V → Bool
   module _ (lawful : IsLawful order) (equal : IsEquivalence same) where
     -- what stands before the range when it is cut out
     pub record IsLeftRest (items : List (Item (AnyRange K) V)) (r : AnyRange K) (place : ℕ) (rest : Option (Item (AnyRange K) V)) : Type 0 where
-      pub left : IsLeft (position_cmp order.cmp) (position_total order.cmp lawful.total) same equal (item_lower order) (item_upper order) (λ i. i.value) items (take place items ++ option_items rest) (lower order r)
+      pub left : IsLeft (line_of order lawful same equal) items (take place items ++ option_items rest) (lower order r)
       pub known : Every (λ i. IsKnownRange order i.key) (option_items rest)
       pub reaches : (y : Item (AnyRange K) V) → rest ≡ Some y → Le (position_cmp order.cmp) (lower order r) (item_upper order y)
 
     pub record IsRightRest (items : List (Item (AnyRange K) V)) (r : AnyRange K) (end : ℕ) (rest : Option (Item (AnyRange K) V)) : Type 0 where
-      pub right : IsRight (position_cmp order.cmp) (position_total order.cmp lawful.total) same equal (item_lower order) (item_upper order) (λ i. i.value) items (option_items rest ++ drop end items) (upper order r)
+      pub right : IsRight (line_of order lawful same equal) items (option_items rest ++ drop end items) (upper order r)
       pub known : Every (λ i. IsKnownRange order i.key) (option_items rest)
       pub reaches : (y : Item (AnyRange K) V) → rest ≡ Some y → Le (position_cmp order.cmp) (item_lower order y) (upper order r)
 
@@ -67,7 +69,7 @@ module _ {K : Type 0} (order : KeyOrder K) {V : Type 0} (same : V → V → Bool
     pub record IsLeftEdge (items : List (Item (AnyRange K) V)) (r : AnyRange K) (v : V) (at : ℕ) (rest : Option (Item (AnyRange K) V)) (start : Option (Bound K)) : Type 0 where
       pub s : Position K
       pub starts : position_cmp order.cmp (edge_start start r) s ≡ Equal
-      pub left : IsLeftOf (position_cmp order.cmp) (position_total order.cmp lawful.total) same equal (item_lower order) (item_upper order) (λ i. i.value) items (take at items ++ option_items rest) (lower order r) s v
+      pub left : IsLeftOf (line_of order lawful same equal) items (take at items ++ option_items rest) (lower order r) s v
       pub known : Every (λ i. IsKnownRange order i.key) (option_items rest)
       pub known_start : IsKnownBound order (unwrap_or start r.start)
 
@@ -76,7 +78,7 @@ module _ {K : Type 0} (order : KeyOrder K) {V : Type 0} (same : V → V → Bool
       pub in_range : end ≤ length items
       pub e : Position K
       pub ends : position_cmp order.cmp (edge_end finish r) e ≡ Equal
-      pub right : IsRightOf (position_cmp order.cmp) (position_total order.cmp lawful.total) same equal (item_lower order) (item_upper order) (λ i. i.value) items (option_items rest ++ drop end items) (upper order r) e v
+      pub right : IsRightOf (line_of order lawful same equal) items (option_items rest ++ drop end items) (upper order r) e v
       pub known : Every (λ i. IsKnownRange order i.key) (option_items rest)
       pub known_end : IsKnownBound order (unwrap_or finish r.end)
 
@@ -99,10 +101,15 @@ module _ {K P : Type 0} where
   edge_at None b = Plain
   edge_at (Some p) b = Cut p b
 
-  -- an item that is cut just outside the bound of a range, if there is one
-  pub record IsCutAt (order : KeyOrder K) (item : Option P) (bound : Bound K) (edge : Edge K P) : Type 0 where
+  -- what becomes of an item that joins, or else of one that reaches out and is cut at the bound
+  abbrev pub seam_edge : Option P → Option P → Bound K → Edge K P
+  seam_edge None reaching b = edge_at reaching b
+  seam_edge (Some q) reaching b = Joined q
+
+  -- the same where the cut is just outside the bound of a range
+  pub record IsSeamAt (order : KeyOrder K) (joined reaching : Option P) (bound : Bound K) (edge : Edge K P) : Type 0 where
     pub cut : Bound K
-    pub at : edge ≡ edge_at item cut
+    pub at : edge ≡ seam_edge joined reaching cut
     pub known : IsKnownBound order cut
     pub turned : SameBound order (turned_bound bound) cut
 
@@ -159,3 +166,13 @@ module _ {K : Type 0} (order : KeyOrder K) {V : Type 0} (same : V → V → Bool
   -- the item just after it, if the range touches it and has an equal value
   abbrev pub IsJoinedAfter : Option P → Type 0
   IsJoinedAfter found = let end = place_before (rank stored) (length (items stored)) w.from + w.count in MatchOption found (TouchesNoneAfter order same (items stored) end r v) (λ q. is_good stored q × (rank stored q ≡ end) × TouchesAfter order same (items stored) end r v)
+
+module _ {P : Type 0} where
+  -- how many items are replaced
+  abbrev pub run_length : Reach P → Joins P → ℕ
+  run_length reach joins = length (option_items joins.before) + inner_count reach + length (option_items joins.after)
+
+  -- they begin with the item that joins, or else after the one that reaches out
+  abbrev pub IsRunStart : (P → Type 0) → (P → ℕ) → ℕ → ℕ → Option P → Option P → Option P → Type 0
+  IsRunStart is_good rank len place first None at = IsAt is_good rank len at (place + length (option_items first))
+  IsRunStart is_good rank len place first (Some q) at = at ≡ Some q

@@ -3,6 +3,8 @@ use Rattle.std.specs.Prelude.{◌≡◌, ℕ, ◌+◌, ◌≤◌, Bool, IsTrue, 
 use Rattle.std.specs.Cmp.{IsEquivalence}
 use Rattle.std.specs.declared.ops.Bound.{Bound}
 use Rattle.range_keys.specs.Order.{KeyOrder, IsLawful}
+use Rattle.range_algebra.specs.Clones.{SameBound}
+use Rattle.range_algebra.specs.Range.{IsKnownBound}
 use Rattle.range_algebra.specs.declared.any.AnyRange.{AnyRange}
 use Rattle.range_store.specs.declared.storage.Item.{Item}
 use Rattle.range_store.specs.Places.{IsAt, place_before}
@@ -12,8 +14,9 @@ use Rattle.range_algebra.specs.Intervals.{Every}
 use Rattle.range_algebra.specs.Relations.{Touches}
 use Rattle.range_map.specs.Frames.{IsStartOf, IsEndOf, IsNewItem}
 use Rattle.range_map.specs.Window.{option_items}
-use Rattle.range_map.specs.declared.change.window.Window.{Window}
-use Rattle.range_map.specs.Edges.{IsLeftEdge, IsRightEdge, IsLeftShape, IsRightShape, joined_count}
+use Rattle.range_map.specs.declared.change.reach.Reach.{Reach}
+use Rattle.range_map.specs.Edges.{IsLeftEdge, IsRightEdge, IsLeftShape, IsRightShape, IsRunStart, joined_count, seam_edge}
+use Rattle.range_map.specs.Edits.{turned_bound}
 
 module _ {K : Type 0} (order : KeyOrder K) {V : Type 0} (same : V → V → Bool) (items : List (Item (AnyRange K) V)) (r : AnyRange K) (v : V) (place count : ℕ) where
   -- which items before the window give way, and what stands in their place
@@ -62,11 +65,11 @@ module _ {K : Type 0} (order : KeyOrder K) {V : Type 0} (same : V → V → Bool
     pub few : length (option_items rest) ≤ length (option_items last)
     pub ends : upto + length (option_items last) ≡ place + count + joined_count edge
 
-module _ {K : Type 0} (order : KeyOrder K) {V : Type 0} (same : V → V → Bool) {P : Type 0} {S : Type 0} (is_good : S → P → Type 0) (rank : S → P → ℕ) (items : S → List (Item (AnyRange K) V)) (stored : S) (r : AnyRange K) (v : V) (w : Window P) where
-  -- what becomes of the items before a window, and where the run starts
-  abbrev pub IsPlannedBefore : Option P → Edge K P → Option P → Type 0
-  IsPlannedBefore first edge from = (lawful : IsLawful order) → (equal : IsEquivalence same) → IsLeftPlan order same lawful equal (is_good stored) (rank stored) (items stored) r v (place_before (rank stored) (length (items stored)) w.from) w.count first edge from
+module _ {K : Type 0} (order : KeyOrder K) {V : Type 0} (same : V → V → Bool) {P : Type 0} {S : Type 0} (is_good : S → P → Type 0) (rank : S → P → ℕ) (items : S → List (Item (AnyRange K) V)) (stored : S) (r : AnyRange K) (v : V) (reach : Reach P) where
+  -- the item that the range joins where it starts, and so what becomes of the one there
+  abbrev pub JoinsBefore : Option P → Type 0
+  JoinsBefore found = let place = place_before (rank stored) (length (items stored)) reach.window.from in (lawful : IsLawful order) → (equal : IsEquivalence same) → (b : Bound K) (at : Option P) → IsKnownBound order b → SameBound order (turned_bound r.start) b → IsRunStart (is_good stored) (rank stored) (length (items stored)) place reach.first found at → IsLeftPlan order same lawful equal (is_good stored) (rank stored) (items stored) r v place reach.window.count reach.first (seam_edge found reach.first b) at
 
-  -- what becomes of the items after it
-  abbrev pub IsPlannedAfter : Option P → Edge K P → Type 0
-  IsPlannedAfter last edge = (lawful : IsLawful order) → (equal : IsEquivalence same) → IsRightPlan order same lawful equal (is_good stored) (rank stored) (items stored) r v (place_before (rank stored) (length (items stored)) w.from) w.count last edge
+  -- the one that it joins where it ends
+  abbrev pub JoinsAfter : Option P → Type 0
+  JoinsAfter found = (lawful : IsLawful order) → (equal : IsEquivalence same) → (b : Bound K) → IsKnownBound order b → SameBound order (turned_bound r.end) b → IsRightPlan order same lawful equal (is_good stored) (rank stored) (items stored) r v (place_before (rank stored) (length (items stored)) reach.window.from) reach.window.count reach.last (seam_edge found reach.last b)

@@ -1,7 +1,6 @@
 -- What is to become of the items beside a range in which a list of items comes to stand.
 use Rattle.std.specs.Prelude.{◌≡◌, ℕ, ◌+◌, Bool, List, [], ◌∷◌, ◌⊎◌, length, take, drop, Option, Some, None}
 use Rattle.std.specs.Cmp.{IsEquivalence}
-use Rattle.std.specs.Option.{option_or}
 use Rattle.std.specs.declared.cmp.Ordering.TheVariants.{Equal}
 use Rattle.std.specs.declared.ops.Bound.{Bound}
 use Rattle.range_keys.specs.Order.{KeyOrder, IsLawful}
@@ -14,14 +13,13 @@ use Rattle.range_algebra.specs.declared.any.AnyRange.{AnyRange}
 use Rattle.range_store.specs.declared.storage.Item.{Item}
 use Rattle.range_store.specs.Places.{IsAt, place_before}
 use Rattle.range_map.specs.declared.change.edges.Edge.{Edge}
-use Rattle.range_map.specs.declared.change.edges.Edge.TheVariants.{Joined}
-use Rattle.range_map.specs.Edges.{IsLeftRest, IsRightRest, IsLeftShape, IsRightShape, edge_at}
+use Rattle.range_map.specs.Edges.{IsLeftRest, IsRightRest, IsLeftShape, IsRightShape, IsRunStart, seam_edge}
 use Rattle.range_map.specs.Edits.{turned_bound, with_start, with_end}
 use Rattle.range_map.specs.Frames.{HasValue}
 use Rattle.range_map.specs.Stored.{item_lower, item_upper}
 use Rattle.range_map.specs.Plans.{IsLeftPlan, IsRightPlan}
 use Rattle.range_map.specs.Window.{option_items}
-use Rattle.range_map.specs.declared.change.window.Window.{Window}
+use Rattle.range_map.specs.declared.change.reach.Reach.{Reach}
 
 module _ {K V : Type 0} where
   -- the first item starts at the bound, if there are both
@@ -36,12 +34,6 @@ module _ {K V : Type 0} where
   with_last_end (Some b) [] = []
   with_last_end (Some b) (i ∷ []) = with_end i b ∷ []
   with_last_end (Some b) (i ∷ j ∷ rest) = i ∷ with_last_end (Some b) (j ∷ rest)
-
-module _ {K P : Type 0} where
-  -- what becomes of an item that joins, or else of one that reaches out and is cut at the bound
-  abbrev pub seam_edge : Option P → Option P → Bound K → Edge K P
-  seam_edge None reaching b = edge_at reaching b
-  seam_edge (Some q) reaching b = Joined q
 
 module _ {K : Type 0} (order : KeyOrder K) {V : Type 0} (same : V → V → Bool) (lawful : IsLawful order) (equal : IsEquivalence same) {P : Type 0} (is_good : P → Type 0) (rank : P → ℕ) (items : List (Item (AnyRange K) V)) (r : AnyRange K) (place count : ℕ) where
   -- nothing joins the range from before: `first`, which reaches out of it, is cut
@@ -72,11 +64,11 @@ module _ {K : Type 0} (order : KeyOrder K) {V : Type 0} (same : V → V → Bool
       ((m : Item (AnyRange K) V) × (previous ≡ Some m) × (position_cmp order.cmp (item_upper order m) (upper order r) ≡ Equal) × IsRightPlan order same lawful equal is_good rank items r m.value place count last edge)
       ⊎ (((m : Item (AnyRange K) V) → previous ≡ Some m → Lt (position_cmp order.cmp) (item_upper order m) (upper order r)) × IsRightCutting last edge)
 
-module _ {K : Type 0} (order : KeyOrder K) {V : Type 0} (same : V → V → Bool) {P : Type 0} {S : Type 0} (is_good : S → P → Type 0) (rank : S → P → ℕ) (items : S → List (Item (AnyRange K) V)) (stored : S) (r : AnyRange K) (w : Window P) where
+module _ {K : Type 0} (order : KeyOrder K) {V : Type 0} (same : V → V → Bool) {P : Type 0} {S : Type 0} (is_good : S → P → Type 0) (rank : S → P → ℕ) (items : S → List (Item (AnyRange K) V)) (stored : S) (r : AnyRange K) (reach : Reach P) where
   -- the item that the first of a run is to join, where there is one
-  abbrev pub IsJoiningFirst : Option (Item (AnyRange K) V) → Option P → Option P → Type 0
-  IsJoiningFirst next first found = let place = place_before (rank stored) (length (items stored)) w.from in (lawful : IsLawful order) → (equal : IsEquivalence same) → (b : Bound K) (from : Option P) → IsKnownBound order b → SameBound order (turned_bound r.start) b → IsAt (is_good stored) (rank stored) (length (items stored)) from (place + length (option_items first)) → IsLeftSeam order same lawful equal (is_good stored) (rank stored) (items stored) r place w.count next first (seam_edge found first b) (option_or found from)
+  abbrev pub IsJoiningFirst : Option (Item (AnyRange K) V) → Option P → Type 0
+  IsJoiningFirst next found = let place = place_before (rank stored) (length (items stored)) reach.window.from in (lawful : IsLawful order) → (equal : IsEquivalence same) → (b : Bound K) (at : Option P) → IsKnownBound order b → SameBound order (turned_bound r.start) b → IsRunStart (is_good stored) (rank stored) (length (items stored)) place reach.first found at → IsLeftSeam order same lawful equal (is_good stored) (rank stored) (items stored) r place reach.window.count next reach.first (seam_edge found reach.first b) at
 
   -- the item that the last of a run is to join, where there is one
-  abbrev pub IsJoiningLast : Option (Item (AnyRange K) V) → Option P → Option P → Type 0
-  IsJoiningLast previous last found = let place = place_before (rank stored) (length (items stored)) w.from in (lawful : IsLawful order) → (equal : IsEquivalence same) → (b : Bound K) → IsKnownBound order b → SameBound order (turned_bound r.end) b → IsRightSeam order same lawful equal (is_good stored) (rank stored) (items stored) r place w.count previous last (seam_edge found last b)
+  abbrev pub IsJoiningLast : Option (Item (AnyRange K) V) → Option P → Type 0
+  IsJoiningLast previous found = let place = place_before (rank stored) (length (items stored)) reach.window.from in (lawful : IsLawful order) → (equal : IsEquivalence same) → (b : Bound K) → IsKnownBound order b → SameBound order (turned_bound r.end) b → IsRightSeam order same lawful equal (is_good stored) (rank stored) (items stored) r place reach.window.count previous reach.last (seam_edge found reach.last b)

@@ -4,13 +4,13 @@ use Rattle.std.specs.declared.cmp.Ordering.TheVariants.{Equal}
 use Rattle.range_keys.specs.Order.{KeyOrder}
 use Rattle.range_keys.specs.Position.{start_position, end_position, position_cmp}
 use Rattle.range_keys.specs.declared.inner.position.Position.{Position}
-use Rattle.range_algebra.specs.Range.{IsKnownRange}
+use Rattle.range_algebra.specs.Range.{IsEmptyRange, IsKnownRange}
 use Rattle.range_algebra.specs.declared.any.AnyRange.{AnyRange}
 use Rattle.range_store.specs.declared.storage.Item.{Item}
 use Rattle.range_store.specs.Places.{IsAt, place_before}
 use Rattle.range_algebra.specs.Intervals.{Le, Lt, Every}
 use Rattle.range_algebra.specs.Cuts.{lower, upper}
-use Rattle.range_map.specs.Stored.{item_lower, item_upper}
+use Rattle.range_map.specs.Stored.{item_lower, item_upper, IsStored}
 use Rattle.range_map.specs.declared.change.window.Window.{Window}
 
 -- a good position just below the place, or none at the front
@@ -45,23 +45,26 @@ module _ {K : Type 0} (order : KeyOrder K) {V : Type 0} where
     pub meets : (d : Item (AnyRange K) V) → 0 < count → Le (position_cmp order.cmp) (start_position order (slice_index_or items (place + count - 1) d).key.start) e
     pub stops : (d : Item (AnyRange K) V) → place + count < length items → Lt (position_cmp order.cmp) e (start_position order (slice_index_or items (place + count) d).key.start)
 
-  -- the items that meet the range
-  pub record IsWindow {P : Type 0} (is_good : P → Type 0) (rank : P → ℕ) (items : List (Item (AnyRange K) V)) (r : AnyRange K) (w : Window P) (place : ℕ) : Type 0 where
-    pub position : IsAt is_good rank (length items) w.from place
-    pub previous : IsJustBefore is_good rank w.before place
-    pub in_range : place + w.count ≤ length items
-    pub last_is : IsLastOf is_good rank w.last place w.count
-    pub after_is : IsAt is_good rank (length items) w.after (place + w.count)
-    pub below : Every (λ i. Le (position_cmp order.cmp) (item_upper order i) (lower order r)) (take place items)
-    pub above : Every (λ i. Lt (position_cmp order.cmp) (lower order r) (item_upper order i)) (drop place items)
-    pub meets : (d : Item (AnyRange K) V) → 0 < w.count → Lt (position_cmp order.cmp) (item_lower order (slice_index_or items (place + w.count - 1) d)) (upper order r)
-    pub behind : Every (λ i. Le (position_cmp order.cmp) (upper order r) (item_lower order i)) (drop (place + w.count) items)
-
-  -- the items of a container that meet the range, as the window says where they are
-  abbrev pub IsWindowOf : {S P : Type 0} → (S → P → Type 0) → (S → P → ℕ) → (S → List (Item (AnyRange K) V)) → S → AnyRange K → Window P → Type 0
-  IsWindowOf is_good rank items stored r w = IsWindow (is_good stored) (rank stored) (items stored) r w (place_before (rank stored) (length (items stored)) w.from)
-
   module _ (same : V → V → Bool) where
+    -- the items of a stored list that meet a nonempty range of keys
+    pub record IsWindow {P : Type 0} (is_good : P → Type 0) (rank : P → ℕ) (items : List (Item (AnyRange K) V)) (r : AnyRange K) (w : Window P) (place : ℕ) : Type 0 where
+      pub stored : IsStored order same items
+      pub known : IsKnownRange order r
+      pub nonempty : ¬ IsEmptyRange order r
+      pub position : IsAt is_good rank (length items) w.from place
+      pub previous : IsJustBefore is_good rank w.before place
+      pub in_range : place + w.count ≤ length items
+      pub last_is : IsLastOf is_good rank w.last place w.count
+      pub after_is : IsAt is_good rank (length items) w.after (place + w.count)
+      pub below : Every (λ i. Le (position_cmp order.cmp) (item_upper order i) (lower order r)) (take place items)
+      pub above : Every (λ i. Lt (position_cmp order.cmp) (lower order r) (item_upper order i)) (drop place items)
+      pub meets : (d : Item (AnyRange K) V) → 0 < w.count → Lt (position_cmp order.cmp) (item_lower order (slice_index_or items (place + w.count - 1) d)) (upper order r)
+      pub behind : Every (λ i. Le (position_cmp order.cmp) (upper order r) (item_lower order i)) (drop (place + w.count) items)
+
+    -- the items of a container that do, as the window says where they are
+    abbrev pub IsWindowOf : {S P : Type 0} → (S → P → Type 0) → (S → P → ℕ) → (S → List (Item (AnyRange K) V)) → S → AnyRange K → Window P → Type 0
+    IsWindowOf is_good rank items stored r w = IsWindow (is_good stored) (rank stored) (items stored) r w (place_before (rank stored) (length (items stored)) w.from)
+
     -- what is left of an item below a range
     abbrev pub IsLeftPart : Item (AnyRange K) V → AnyRange K → Option (Item (AnyRange K) V) → Type 0
     IsLeftPart i r None = Le (position_cmp order.cmp) (lower order r) (item_lower order i)

@@ -3,22 +3,22 @@ ghost use Rattle.std.specs.Prelude.{◌≡◌, ◌↔◌, ◌+◌, ◌-◌, ◌*
 ghost use Rattle.range_algebra.specs.Range.{ClonesAreEqual, IsEmptyRange};
 ghost use Rattle.range_store.specs.Counting.{AddsSteps};
 ghost use Rattle.range_map.specs.Stored.{IsStored};
-ghost use Rattle.range_map.specs.Window.{option_items, IsWindowOf};
-ghost use Rattle.range_map.specs.Reach.{IsFirstReaching, IsLastReaching};
-ghost use Rattle.range_map.specs.Edges.{IsJoinedBefore, IsJoinedAfter};
+ghost use Rattle.range_map.specs.Window.{IsWindowOf};
+ghost use Rattle.range_map.specs.Reach.{AreApart, IsReachOf, IsSurroundedOf};
+ghost use Rattle.range_map.specs.Plans.{JoinsBefore, JoinsAfter};
 ghost use Rattle.range_map.specs.Lookups.{MeetsSome};
 ghost use Rattle.range_map.specs.Costs.{TakesAtLeast, TakesAsChange};
 ghost use Rattle.range_map.specs.Changes.{IsInserted};
 
 use crate::change::apart::{bind_last, comes_last};
 use crate::change::cut::cut_parts;
-use crate::change::edges::{Joined, both_sides, joined_beside};
-use crate::change::reach::{reaching_after, reaching_before, surrounding};
+use crate::change::edges::{Joins, Sides, joins_after, joins_before, run_length, seam_at};
+use crate::change::reach::{Reach, reaching, run_start, surrounding};
 use crate::change::splice::{change, divide};
 use crate::change::window::{Window, find_window};
 use range_algebra::any::AnyRange;
-use range_algebra::inner;
 use range_keys::traits::{Measure, PartialEnum};
+use range_store::inner::cursor::Cursor;
 use range_store::storage::{Item, Steps, Storage};
 use std::alloc::AllocError;
 use std::ops::RangeBounds;
@@ -41,20 +41,13 @@ pub(crate) fn bind_within<K: PartialEnum + Clone, V: Eq + Clone, C: Storage<Item
 ) -> Result<(), AllocError>
     requires keys { ClonesAreEqual K.is_clone K.eq }
     requires values { ClonesAreEqual V.is_clone V.eq }
-    requires stored { IsStored K.order V.eq (C.items stored.old) }
-    requires nonempty { ¬ IsEmptyRange K.order range }
-    requires window { IsWindowOf K.order C.is_good C.rank C.items stored.old range window.now }
-    requires one { window.now.count ≡ 1 }
-    requires first { IsFirstReaching K.order C.is_good C.rank C.items stored.old range window.now
-        (Some p) }
-    requires last { IsLastReaching K.order C.is_good C.rank C.items stored.old range window.now
-        (Some p) }
+    requires within { IsSurroundedOf K.order V.eq C.is_good C.rank C.items stored.old range window.now
+        p }
     ensures ok { OnOk result
         (IsInserted K.order V.eq (C.items stored.old) (C.items stored.new) range value) }
     ensures few { OnOk result (length (C.items stored.new) ≤ length (C.items stored.old) + 2) }
     ensures refused { OnErr result (C.items stored.new ≡ C.items stored.old) }
 {
-    inner::known(&range);
     let joins = stored.get(p).value == value;
     if joins {
         drop(range);
@@ -70,25 +63,22 @@ pub(crate) fn bind_within<K: PartialEnum + Clone, V: Eq + Clone, C: Storage<Item
 /// Stores an item between those beside its range, which meets no stored range and joins none.
 fn bind_between<K: PartialEnum, V: Eq + Drop, C: Storage<Item<AnyRange<K>, V>>>(
     stored: &mut C,
-    window: &Window<C::Position>,
+    reach: &Reach<C::Position>,
     item: Item<AnyRange<K>, V>,
 ) -> Result<(), AllocError>
-    requires stored { IsStored K.order V.eq (C.items stored.old) }
-    requires nonempty { ¬ IsEmptyRange K.order item.key }
-    requires window { IsWindowOf K.order C.is_good C.rank C.items stored.old item.key window.now }
-    requires none { window.now.count ≡ 0 }
-    requires before { IsJoinedBefore K.order V.eq C.is_good C.rank C.items stored.old item.key
-        item.value window.now None }
-    requires after { IsJoinedAfter K.order V.eq C.is_good C.rank C.items stored.old item.key
-        item.value window.now None }
+    requires reach { IsReachOf K.order V.eq C.is_good C.rank C.items stored.old item.key reach.now }
+    requires none { reach.now.window.count ≡ 0 }
+    requires before { JoinsBefore K.order V.eq C.is_good C.rank C.items stored.old item.key
+        item.value reach.now None }
+    requires after { JoinsAfter K.order V.eq C.is_good C.rank C.items stored.old item.key item.value
+        reach.now None }
     ensures ok { OnOk result
         (IsInserted K.order V.eq (C.items stored.old) (C.items stored.new) item.key item.value) }
     ensures few { OnOk result (length (C.items stored.new) ≤ length (C.items stored.old) + 1) }
     ensures refused { OnErr result (C.items stored.new ≡ C.items stored.old) }
 {
-    inner::known(&item.key);
     stored.reserve(1)?;
-    let _position = stored.insert_at(window.from, item);
+    let _position = stored.insert_at(reach.window.from, item);
     Ok(())
 }
 
@@ -96,72 +86,59 @@ fn bind_between<K: PartialEnum, V: Eq + Drop, C: Storage<Item<AnyRange<K>, V>>>(
 /// it.
 fn bind_among<K: PartialEnum + Clone, V: Eq + Clone, C: Storage<Item<AnyRange<K>, V>>>(
     stored: &mut C,
-    window: &Window<C::Position>,
-    first: Option<C::Position>,
-    last: Option<C::Position>,
-    joined: &Joined<C::Position>,
+    reach: &Reach<C::Position>,
+    joins: &Joins<C::Position>,
     item: Item<AnyRange<K>, V>,
 ) -> Result<(), AllocError>
     requires keys { ClonesAreEqual K.is_clone K.eq }
-    requires stored { IsStored K.order V.eq (C.items stored.old) }
-    requires nonempty { ¬ IsEmptyRange K.order item.key }
-    requires window { IsWindowOf K.order C.is_good C.rank C.items stored.old item.key window.now }
-    requires first { IsFirstReaching K.order C.is_good C.rank C.items stored.old item.key window.now
-        first }
-    requires last { IsLastReaching K.order C.is_good C.rank C.items stored.old item.key window.now
-        last }
-    requires before { first ≡ None
-        → IsJoinedBefore K.order V.eq C.is_good C.rank C.items stored.old item.key item.value
-        window.now joined.now.before }
-    requires after { last ≡ None
-        → IsJoinedAfter K.order V.eq C.is_good C.rank C.items stored.old item.key item.value
-        window.now joined.now.after }
-    requires apart { length (option_items first) + length (option_items last) ≤ window.now.count }
+    requires reach { IsReachOf K.order V.eq C.is_good C.rank C.items stored.old item.key reach.now }
+    requires before { JoinsBefore K.order V.eq C.is_good C.rank C.items stored.old item.key
+        item.value reach.now joins.now.before }
+    requires after { JoinsAfter K.order V.eq C.is_good C.rank C.items stored.old item.key item.value
+        reach.now joins.now.after }
+    requires apart { AreApart reach.now }
     ensures ok { OnOk result
         (IsInserted K.order V.eq (C.items stored.old) (C.items stored.new) item.key item.value) }
     ensures few { OnOk result
-        (2 * length (C.items stored.new) + window.now.count ≤ 2 * length (C.items stored.old) + 4) }
+        (2 * length (C.items stored.new) + reach.now.window.count
+        ≤ 2 * length (C.items stored.old) + 4) }
     ensures refused { OnErr result (C.items stored.new ≡ C.items stored.old) }
 {
-    inner::known(&item.key);
-    let (range, value) = (&item.key, &item.value);
-    let sides = both_sides::<K, V, C>(stored, window, first, last, joined, range, value)?;
-    stored.reserve(growth(sides.run.left))?;
-    change::<K, V, C>(stored, sides, Some(item));
+    let left = seam_at(joins.before, reach.first, item.key.start_bound())?;
+    let right = seam_at(joins.after, reach.last, item.key.end_bound())?;
+    let run = Cursor {
+        at: run_start::<K, V, C>(stored, reach, joins.before),
+        left: run_length(reach, joins),
+    };
+    stored.reserve(growth(run.left))?;
+    change::<K, V, C>(stored, Sides { left, right, run }, Some(item));
     Ok(())
 }
 
 /// Binds an item's range, which no stored range surrounds, to its value.
 fn bind_over<K: PartialEnum + Clone, V: Eq + Clone, C: Storage<Item<AnyRange<K>, V>>>(
     stored: &mut C,
-    window: &Window<C::Position>,
-    first: Option<C::Position>,
-    last: Option<C::Position>,
+    reach: &Reach<C::Position>,
     item: Item<AnyRange<K>, V>,
     steps: &mut Steps,
 ) -> Result<(), AllocError>
     requires keys { ClonesAreEqual K.is_clone K.eq }
-    requires stored { IsStored K.order V.eq (C.items stored.old) }
-    requires nonempty { ¬ IsEmptyRange K.order item.key }
-    requires window { IsWindowOf K.order C.is_good C.rank C.items stored.old item.key window.now }
-    requires first { IsFirstReaching K.order C.is_good C.rank C.items stored.old item.key window.now
-        first }
-    requires last { IsLastReaching K.order C.is_good C.rank C.items stored.old item.key window.now
-        last }
-    requires apart { length (option_items first) + length (option_items last) ≤ window.now.count }
+    requires reach { IsReachOf K.order V.eq C.is_good C.rank C.items stored.old item.key reach.now }
+    requires apart { AreApart reach.now }
     ensures ok { OnOk result
         (IsInserted K.order V.eq (C.items stored.old) (C.items stored.new) item.key item.value) }
     ensures few { OnOk result
-        (2 * length (C.items stored.new) + window.now.count ≤ 2 * length (C.items stored.old) + 4) }
+        (2 * length (C.items stored.new) + reach.now.window.count
+        ≤ 2 * length (C.items stored.old) + 4) }
     ensures counted { AddsSteps steps.old steps.new 0 2 }
     ensures refused { OnErr result (C.items stored.new ≡ C.items stored.old) }
 {
-    let (range, value) = (&item.key, &item.value);
-    let joined = joined_beside::<K, V, C>(stored, window, &first, &last, range, value, steps);
-    if window.count == 0 && joined.before.is_none() && joined.after.is_none() {
-        return bind_between::<K, V, C>(stored, window, item);
+    let before = joins_before::<K, V, C>(stored, reach, &item.key, &item.value, steps);
+    let after = joins_after::<K, V, C>(stored, reach, &item.key, &item.value, steps);
+    if reach.window.count == 0 && before.is_none() && after.is_none() {
+        return bind_between::<K, V, C>(stored, reach, item);
     }
-    bind_among::<K, V, C>(stored, window, first, last, &joined, item)
+    bind_among::<K, V, C>(stored, reach, &Joins { before, after }, item)
 }
 
 /// Binds each key of a nonempty range to the value.
@@ -184,14 +161,10 @@ pub(crate) fn bind<K: Measure + Clone, V: Eq + Clone, C: Storage<Item<AnyRange<K
     ensures refused { OnErr result (C.items stored.new ≡ C.items stored.old) }
 {
     let window = find_window::<K, V, C, AnyRange<K>>(stored, &range, steps);
-    let first = reaching_before::<K, V, C, AnyRange<K>>(stored, &window, &range, steps);
-    let last = reaching_after::<K, V, C, AnyRange<K>>(stored, &window, &range, steps);
-    match surrounding(window.count, first, last) {
-        Some(p) => bind_within::<K, V, C>(stored, &window, p, range, value),
-        None => {
-            let item = Item { key: range, value };
-            bind_over::<K, V, C>(stored, &window, first, last, item, steps)
-        }
+    let reach = reaching::<K, V, C, AnyRange<K>>(stored, window, &range, steps);
+    match surrounding(&reach) {
+        Some(p) => bind_within::<K, V, C>(stored, &reach.window, p, range, value),
+        None => bind_over::<K, V, C>(stored, &reach, Item { key: range, value }, steps),
     }
 }
 
@@ -234,7 +207,6 @@ pub(crate) fn bind_disjoint<K: Measure + Clone, V: Eq + Clone, C: Storage<Item<A
         → IsInserted K.order V.eq (C.items stored.old) (C.items stored.new) range value }
     ensures refused { OnErr result (C.items stored.new ≡ C.items stored.old) }
 {
-    inner::known(&range);
     if comes_last::<K, V, C>(stored, &range) {
         bind_last::<K, V, C>(stored, range, value)?;
         return Ok(true);
@@ -245,7 +217,11 @@ pub(crate) fn bind_disjoint<K: Measure + Clone, V: Eq + Clone, C: Storage<Item<A
         drop(range);
         return Ok(false);
     }
-    let item = Item { key: range, value };
-    bind_over::<K, V, C>(stored, &window, None, None, item, &mut steps)?;
+    let reach = Reach {
+        window,
+        first: None,
+        last: None,
+    };
+    bind_over::<K, V, C>(stored, &reach, Item { key: range, value }, &mut steps)?;
     Ok(true)
 }

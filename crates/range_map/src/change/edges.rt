@@ -1,17 +1,16 @@
 //! What a range that is bound leaves or joins on each side.
-ghost use Rattle.std.specs.Prelude.{◌≡◌, ◌+◌, ◌-◌, ◌≤◌, length, None, IfOk};
+ghost use Rattle.std.specs.Prelude.{◌≡◌, ◌≤◌, IfOk};
 ghost use Rattle.range_keys.specs.Position.{bound_of, start_position};
 ghost use Rattle.range_algebra.specs.Compared.{starts_at_end};
-ghost use Rattle.range_algebra.specs.Range.{ClonesAreEqual, IsEmptyRange};
+ghost use Rattle.range_algebra.specs.Range.{ClonesAreEqual};
 ghost use Rattle.range_store.specs.Counting.{AddsSteps};
-ghost use Rattle.range_map.specs.Stored.{IsStored};
-ghost use Rattle.range_map.specs.Window.{option_items, IsWindowOf};
-ghost use Rattle.range_map.specs.Reach.{IsFirstReaching, IsLastReaching};
-ghost use Rattle.range_map.specs.Edges.{joined_count, IsCutAt, IsJoinedBefore, IsJoinedAfter};
-ghost use Rattle.range_map.specs.Plans.{IsPlannedBefore, IsPlannedAfter};
+ghost use Rattle.range_map.specs.Window.{IsWindowOf};
+ghost use Rattle.range_map.specs.Reach.{AreApart, IsReachOf};
+ghost use Rattle.range_map.specs.Edges.{seam_edge, run_length, IsSeamAt, IsJoinedBefore, IsJoinedAfter};
+ghost use Rattle.range_map.specs.Plans.{JoinsBefore, JoinsAfter};
 
 use crate::change::cut::cut_bound;
-use crate::change::reach::item_count;
+use crate::change::reach::{Reach, item_count};
 use crate::change::window::Window;
 use range_algebra::any::AnyRange;
 use range_algebra::inner;
@@ -33,41 +32,19 @@ pub enum Edge<K, P: Copy> {
     Joined(P),
 }
 
-/// The side before a range, and the first item that is replaced.
+/// What a range leaves or joins on both sides, and the items that are replaced.
 #[derive(Drop)]
-pub struct LeftSide<K, P: Copy> {
-    pub edge: Edge<K, P>,
-    pub from: Option<P>,
+pub struct Sides<K, P: Copy> {
+    pub left: Edge<K, P>,
+    pub right: Edge<K, P>,
+    pub run: Cursor<P>,
 }
 
-/// How many items an edge adds to those that are replaced.
-pub(crate) fn joined_items<K, P: Copy>(edge: &Edge<K, P>) -> usize
-    ensures { result ≡ joined_count edge.now }
-{
-    match edge {
-        Edge::Plain => 0,
-        Edge::Cut(_, _) => 0,
-        Edge::Joined(_) => 1,
-    }
-}
-
-/// What becomes of an item that is cut at the bound, where there is one. Clones the bound for it
-/// alone.
-pub(crate) fn cut_edge<K: PartialEnum + Clone, P: Copy>(
-    item: Option<P>,
-    bound: Bound<&K>,
-) -> Result<Edge<K, P>, AllocError>
-    requires { ClonesAreEqual K.is_clone K.eq }
-    ensures { IfOk result (IsCutAt K.order item (bound_of bound.entry)) }
-{
-    inner::known_bound(bound);
-    match item {
-        Some(p) => {
-            let cut = cut_bound(bound)?;
-            Ok(Edge::Cut(p, cut))
-        }
-        None => Ok(Edge::Plain),
-    }
+/// The stored items that become one with what comes to stand in a range: before it and after it.
+#[derive(Drop)]
+pub struct Joins<P: Copy> {
+    pub before: Option<P>,
+    pub after: Option<P>,
 }
 
 /// Whether the first range touches the second. A step.
@@ -88,7 +65,7 @@ pub(crate) fn joined_before<K: PartialEnum, V: Eq + Drop, C: Storage<Item<AnyRan
     value: &V,
     steps: &mut Steps,
 ) -> Option<C::Position>
-    requires window { IsWindowOf K.order C.is_good C.rank C.items stored.now range.now window.now }
+    requires { IsWindowOf K.order V.eq C.is_good C.rank C.items stored.now range.now window.now }
     ensures joined { IsJoinedBefore K.order V.eq C.is_good C.rank C.items stored.now range.now
         value.now window.now result }
     ensures counted { AddsSteps steps.old steps.new 0 1 }
@@ -115,7 +92,7 @@ pub(crate) fn joined_after<K: PartialEnum, V: Eq + Drop, C: Storage<Item<AnyRang
     value: &V,
     steps: &mut Steps,
 ) -> Option<C::Position>
-    requires window { IsWindowOf K.order C.is_good C.rank C.items stored.now range.now window.now }
+    requires { IsWindowOf K.order V.eq C.is_good C.rank C.items stored.now range.now window.now }
     ensures joined { IsJoinedAfter K.order V.eq C.is_good C.rank C.items stored.now range.now
         value.now window.now result }
     ensures counted { AddsSteps steps.old steps.new 0 1 }
@@ -134,201 +111,99 @@ pub(crate) fn joined_after<K: PartialEnum, V: Eq + Drop, C: Storage<Item<AnyRang
     }
 }
 
-/// The items just before and after a window that a bound range touches and whose value equals its
-/// own. Both are `None` where the range is not compared with them.
-#[derive(Drop)]
-pub struct Joined<P: Copy> {
-    pub before: Option<P>,
-    pub after: Option<P>,
-}
-
-/// The items beside a window that the range joins; it is compared with none on a side where one
-/// that it meets reaches out of it (`first` before it, `last` after it).
-pub(crate) fn joined_beside<K: PartialEnum, V: Eq + Drop, C: Storage<Item<AnyRange<K>, V>>>(
+/// The item that becomes one with a range where it starts, if the range is bound to the value: the
+/// one that reaches out of it there, or else the one that it touches.
+pub(crate) fn joins_before<K: PartialEnum, V: Eq + Drop, C: Storage<Item<AnyRange<K>, V>>>(
     stored: &C,
-    window: &Window<C::Position>,
-    first: &Option<C::Position>,
-    last: &Option<C::Position>,
+    reach: &Reach<C::Position>,
     range: &AnyRange<K>,
     value: &V,
     steps: &mut Steps,
-) -> Joined<C::Position>
-    requires window { IsWindowOf K.order C.is_good C.rank C.items stored.now range.now window.now }
-    ensures before { first.now ≡ None
-        → IsJoinedBefore K.order V.eq C.is_good C.rank C.items stored.now range.now value.now
-        window.now result.before }
-    ensures after { last.now ≡ None
-        → IsJoinedAfter K.order V.eq C.is_good C.rank C.items stored.now range.now value.now
-        window.now result.after }
-    ensures counted { AddsSteps steps.old steps.new 0 2 }
+) -> Option<C::Position>
+    requires { IsReachOf K.order V.eq C.is_good C.rank C.items stored.now range.now reach.now }
+    ensures joins { JoinsBefore K.order V.eq C.is_good C.rank C.items stored.now range.now value.now
+        reach.now result }
+    ensures counted { AddsSteps steps.old steps.new 0 1 }
 {
-    let before = match first {
-        Some(_) => None,
-        None => joined_before::<K, V, C>(stored, window, range, value, steps),
-    };
-    let after = match last {
-        Some(_) => None,
-        None => joined_after::<K, V, C>(stored, window, range, value, steps),
-    };
-    Joined { before, after }
-}
-
-/// What a bound range leaves or joins before it; `first` is the item that reaches out of it there,
-/// `before` the one that it joins.
-pub(crate) fn left_side<K: PartialEnum + Clone, V: Eq + Drop, C: Storage<Item<AnyRange<K>, V>>>(
-    stored: &C,
-    window: &Window<C::Position>,
-    first: Option<C::Position>,
-    before: Option<C::Position>,
-    range: &AnyRange<K>,
-    value: &V,
-) -> Result<LeftSide<K, C::Position>, AllocError>
-    requires keys { ClonesAreEqual K.is_clone K.eq }
-    requires stored { IsStored K.order V.eq (C.items stored.now) }
-    requires nonempty { ¬ IsEmptyRange K.order range.now }
-    requires window { IsWindowOf K.order C.is_good C.rank C.items stored.now range.now window.now }
-    requires first { IsFirstReaching K.order C.is_good C.rank C.items stored.now range.now
-        window.now first }
-    requires before { first ≡ None
-        → IsJoinedBefore K.order V.eq C.is_good C.rank C.items stored.now range.now value.now
-        window.now before }
-    ensures { IfOk result
-        (λ side. IsPlannedBefore K.order V.eq C.is_good C.rank C.items stored.now range.now
-        value.now window.now first side.edge side.from) }
-{
-    inner::known(range);
-    match first {
+    match reach.first {
         Some(first) => {
-            let item = stored.get(first);
-            inner::known(&item.key);
-            let joins = item.value == *value;
-            if joins {
-                return Ok(LeftSide {
-                    edge: Edge::Joined(first),
-                    from: Some(first),
-                });
+            if stored.get(first).value == *value {
+                Some(first)
+            } else {
+                None
             }
-            let end = cut_bound(range.start_bound())?;
-            Ok(LeftSide {
-                edge: Edge::Cut(first, end),
-                from: stored.next(first),
-            })
         }
-        None => match before {
-            Some(before) => Ok(LeftSide {
-                edge: Edge::Joined(before),
-                from: Some(before),
-            }),
-            None => Ok(LeftSide {
-                edge: Edge::Plain,
-                from: window.from,
-            }),
-        },
+        None => joined_before::<K, V, C>(stored, &reach.window, range, value, steps),
     }
 }
 
-/// What a bound range leaves or joins after it; `last` is the item that reaches out of it there,
-/// `after` the one that it joins.
-pub(crate) fn right_side<K: PartialEnum + Clone, V: Eq + Drop, C: Storage<Item<AnyRange<K>, V>>>(
+/// The item that becomes one with a range where it ends, if the range is bound to the value.
+pub(crate) fn joins_after<K: PartialEnum, V: Eq + Drop, C: Storage<Item<AnyRange<K>, V>>>(
     stored: &C,
-    window: &Window<C::Position>,
-    last: Option<C::Position>,
-    after: Option<C::Position>,
+    reach: &Reach<C::Position>,
     range: &AnyRange<K>,
     value: &V,
-) -> Result<Edge<K, C::Position>, AllocError>
-    requires keys { ClonesAreEqual K.is_clone K.eq }
-    requires stored { IsStored K.order V.eq (C.items stored.now) }
-    requires nonempty { ¬ IsEmptyRange K.order range.now }
-    requires window { IsWindowOf K.order C.is_good C.rank C.items stored.now range.now window.now }
-    requires last { IsLastReaching K.order C.is_good C.rank C.items stored.now range.now window.now
-        last }
-    requires after { last ≡ None
-        → IsJoinedAfter K.order V.eq C.is_good C.rank C.items stored.now range.now value.now
-        window.now after }
-    ensures { IfOk result
-        (λ edge. IsPlannedAfter K.order V.eq C.is_good C.rank C.items stored.now range.now value.now
-        window.now last edge) }
+    steps: &mut Steps,
+) -> Option<C::Position>
+    requires { IsReachOf K.order V.eq C.is_good C.rank C.items stored.now range.now reach.now }
+    ensures joins { JoinsAfter K.order V.eq C.is_good C.rank C.items stored.now range.now value.now
+        reach.now result }
+    ensures counted { AddsSteps steps.old steps.new 0 1 }
 {
-    inner::known(range);
-    match last {
+    match reach.last {
         Some(last) => {
-            let item = stored.get(last);
-            inner::known(&item.key);
-            let joins = item.value == *value;
-            if joins {
-                return Ok(Edge::Joined(last));
+            if stored.get(last).value == *value {
+                Some(last)
+            } else {
+                None
             }
-            let start = cut_bound(range.end_bound())?;
-            Ok(Edge::Cut(last, start))
         }
-        None => match after {
-            Some(after) => {
-                inner::known(&stored.get(after).key);
-                Ok(Edge::Joined(after))
-            }
-            None => Ok(Edge::Plain),
-        },
+        None => joined_after::<K, V, C>(stored, &reach.window, range, value, steps),
     }
 }
 
-/// What a bound range leaves or joins on both sides, and the items that it replaces.
-#[derive(Drop)]
-pub struct Sides<K, P: Copy> {
-    pub left: Edge<K, P>,
-    pub right: Edge<K, P>,
-    pub run: Cursor<P>,
+/// What becomes of the item that joins a range on one side, or else of the one that reaches out of
+/// it, which is cut at the bound.
+pub(crate) fn seam<K: Drop, P: Copy>(
+    joined: Option<P>,
+    reaching: Option<P>,
+    bound: Bound<K>,
+) -> Edge<K, P>
+    ensures { result ≡ seam_edge joined reaching bound }
+{
+    match (joined, reaching) {
+        (Some(p), _) => Edge::Joined(p),
+        (None, Some(p)) => Edge::Cut(p, bound),
+        (None, None) => Edge::Plain,
+    }
 }
 
-/// What a bound range leaves or joins on both sides; `first` and `last` are the items that reach
-/// out of it there, `joined` the ones that it joins.
-pub(crate) fn both_sides<K: PartialEnum + Clone, V: Eq + Drop, C: Storage<Item<AnyRange<K>, V>>>(
-    stored: &C,
-    window: &Window<C::Position>,
-    first: Option<C::Position>,
-    last: Option<C::Position>,
-    joined: &Joined<C::Position>,
-    range: &AnyRange<K>,
-    value: &V,
-) -> Result<Sides<K, C::Position>, AllocError>
-    requires keys { ClonesAreEqual K.is_clone K.eq }
-    requires stored { IsStored K.order V.eq (C.items stored.now) }
-    requires nonempty { ¬ IsEmptyRange K.order range.now }
-    requires window { IsWindowOf K.order C.is_good C.rank C.items stored.now range.now window.now }
-    requires first { IsFirstReaching K.order C.is_good C.rank C.items stored.now range.now
-        window.now first }
-    requires last { IsLastReaching K.order C.is_good C.rank C.items stored.now range.now window.now
-        last }
-    requires before { first ≡ None
-        → IsJoinedBefore K.order V.eq C.is_good C.rank C.items stored.now range.now value.now
-        window.now joined.now.before }
-    requires after { last ≡ None
-        → IsJoinedAfter K.order V.eq C.is_good C.rank C.items stored.now range.now value.now
-        window.now joined.now.after }
-    requires apart { length (option_items first) + length (option_items last) ≤ window.now.count }
-    ensures left { IfOk result
-        (λ sides. IsPlannedBefore K.order V.eq C.is_good C.rank C.items stored.now range.now
-        value.now window.now first sides.left sides.run.at) }
-    ensures right { IfOk result
-        (λ sides. IsPlannedAfter K.order V.eq C.is_good C.rank C.items stored.now range.now
-        value.now window.now last sides.right) }
-    ensures run { IfOk result
-        (λ sides. sides.run.left
-        ≡ joined_count sides.left
-        + (window.now.count - (length (option_items first) + length (option_items last)))
-        + joined_count sides.right) }
+/// The same at a bound of the range that is cloned, where an item is cut there.
+pub(crate) fn seam_at<K: PartialEnum + Clone, P: Copy>(
+    joined: Option<P>,
+    reaching: Option<P>,
+    bound: Bound<&K>,
+) -> Result<Edge<K, P>, AllocError>
+    requires { ClonesAreEqual K.is_clone K.eq }
+    ensures { IfOk result (IsSeamAt K.order joined reaching (bound_of bound.entry)) }
 {
-    let left = left_side::<K, V, C>(stored, window, first, joined.before, range, value)?;
-    let right = right_side::<K, V, C>(stored, window, last, joined.after, range, value)?;
-    let inner = window.count - (item_count(&first) + item_count(&last));
-    let count = joined_items(&left.edge) + inner + joined_items(&right);
-    let run = Cursor {
-        at: left.from,
-        left: count,
-    };
-    Ok(Sides {
-        left: left.edge,
-        right,
-        run,
-    })
+    inner::known_bound(bound);
+    match (joined, reaching) {
+        (Some(p), _) => Ok(Edge::Joined(p)),
+        (None, Some(p)) => {
+            let cut = cut_bound(bound)?;
+            Ok(Edge::Cut(p, cut))
+        }
+        (None, None) => Ok(Edge::Plain),
+    }
+}
+
+/// How many items are replaced: those that join, and those that lie within the range.
+pub(crate) fn run_length<P: Copy>(reach: &Reach<P>, joins: &Joins<P>) -> usize
+    requires apart { AreApart reach.now }
+    requires fits { run_length reach.now joins.now ≤ usize.MAX }
+    ensures { result ≡ run_length reach.now joins.now }
+{
+    let inner = reach.window.count - (item_count(&reach.first) + item_count(&reach.last));
+    item_count(&joins.before) + inner + item_count(&joins.after)
 }

@@ -8,7 +8,6 @@ ghost use Rattle.range_algebra.specs.References.{range_of};
 ghost use Rattle.range_map.specs.Answers.{MayAnswer, MayBeAsked, IsAnsweredBy, FailsAt, IsGathered};
 ghost use Rattle.range_map.specs.Asking.{IsGapStart, IsGapEnd, IsGapBetween, JoinsLast, JoinsNoLast, IsPut, IsGapAsked, FailsAtGap, IsItemAsked, IsKeyAt};
 ghost use Rattle.range_map.specs.Edits.{with_end, IsEditedAt};
-ghost use Rattle.range_map.specs.Stored.{IsStored};
 ghost use Rattle.range_map.specs.Window.{IsWindowOf};
 ghost use Rattle.range_map.specs.declared.error.UpdateError.TheVariants.{Closure as ClosureError};
 
@@ -260,9 +259,8 @@ pub(crate) fn gather<
     f: &F,
 ) -> Result<Vec<Item<AnyRange<K>, V>>, UpdateError<E>>
     requires keys { ClonesAreEqual K.is_clone K.eq }
-    requires stored { IsStored K.order V.eq (C.items stored.now) }
-    requires nonempty { ¬ IsEmptyRange K.order range.now }
-    requires window { IsWindowOf K.order C.is_good C.rank C.items stored.now range.now window.now }
+    requires window { IsWindowOf K.order V.eq C.is_good C.rank C.items stored.now range.now
+        window.now }
     requires free { MayBeAsked F.Fn f.now None }
     requires bound { Every (λ i. MayBeAsked F.Fn f.now (Some i.value)) (C.items stored.now) }
     ensures ok { IfOk result
@@ -270,7 +268,6 @@ pub(crate) fn gather<
     ensures closure { (e : E) → result ≡ Err (ClosureError e)
         → FailsAt K.order V.eq F.Fn f.now (C.items stored.now) range.now e }
 {
-    inner::known(range);
     let mut middle = Vec::new(alloc);
     let mut last = None;
     let mut at = window.from;

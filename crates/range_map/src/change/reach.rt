@@ -2,9 +2,10 @@
 ghost use Rattle.std.specs.Prelude.{◌≡◌, ◌+◌, ◌≤◌, length, Some, IsSome, MatchOption};
 ghost use Rattle.std.specs.Option.{ForSome};
 ghost use Rattle.range_store.specs.Counting.{AddsSteps};
-ghost use Rattle.range_store.specs.Places.{place_before, IsAt};
+ghost use Rattle.range_store.specs.Places.{place_before};
 ghost use Rattle.range_map.specs.Window.{option_items, IsWindowOf};
-ghost use Rattle.range_map.specs.Reach.{IsFirstReaching, IsLastReaching};
+ghost use Rattle.range_map.specs.Edges.{IsRunStart};
+ghost use Rattle.range_map.specs.Reach.{AreApart, IsFirstReaching, IsLastReaching, IsReachOf};
 
 use crate::change::cut::{ends_after, starts_before};
 use crate::change::window::Window;
@@ -13,6 +14,16 @@ use range_algebra::range::AsRange;
 use range_keys::traits::{Measure, PartialEnum};
 use range_store::storage::{Item, Steps, Storage};
 
+/// The items that a range meets, and those of them that reach out of it.
+#[derive(Drop)]
+pub struct Reach<P: Copy> {
+    pub window: Window<P>,
+    /// The first one, if it starts before the range.
+    pub first: Option<P>,
+    /// The last one, if it ends after the range.
+    pub last: Option<P>,
+}
+
 /// The first item that the range meets, if it starts before the range. A step, if there is one.
 pub(crate) fn reaching_before<
     K: Measure,
@@ -20,8 +31,8 @@ pub(crate) fn reaching_before<
     C: Storage<Item<AnyRange<K>, V>>,
     R: AsRange<Item = K>,
 >(stored: &C, window: &Window<C::Position>, range: &R, steps: &mut Steps) -> Option<C::Position>
-    requires window { IsWindowOf K.order C.is_good C.rank C.items stored.now (R.range range.now)
-        window.now }
+    requires window { IsWindowOf K.order V.eq C.is_good C.rank C.items stored.now
+        (R.range range.now) window.now }
     ensures reaching { IsFirstReaching K.order C.is_good C.rank C.items stored.now
         (R.range range.now) window.now result }
     ensures counted { AddsSteps steps.old steps.new 0 1 }
@@ -49,8 +60,8 @@ pub(crate) fn reaching_after<
     C: Storage<Item<AnyRange<K>, V>>,
     R: AsRange<Item = K>,
 >(stored: &C, window: &Window<C::Position>, range: &R, steps: &mut Steps) -> Option<C::Position>
-    requires window { IsWindowOf K.order C.is_good C.rank C.items stored.now (R.range range.now)
-        window.now }
+    requires window { IsWindowOf K.order V.eq C.is_good C.rank C.items stored.now
+        (R.range range.now) window.now }
     ensures reaching { IsLastReaching K.order C.is_good C.rank C.items stored.now
         (R.range range.now) window.now result }
     ensures counted { AddsSteps steps.old steps.new 0 1 }
@@ -68,38 +79,64 @@ pub(crate) fn reaching_after<
     }
 }
 
-/// The one item that a range meets, if it reaches out on both sides.
-pub(crate) fn surrounding<P: Copy>(count: usize, first: Option<P>, last: Option<P>) -> Option<P>
-    requires first { length (option_items first) ≤ count }
-    requires last { length (option_items last) ≤ count }
-    ensures { MatchOption result (length (option_items first) + length (option_items last) ≤ count)
-        (λ p. (count ≡ 1) × (first ≡ Some p) × IsSome last) }
+/// What a window has at its edges: which of its items reach out of the range. A step for each side.
+pub(crate) fn reaching<
+    K: Measure,
+    V: Eq + Drop,
+    C: Storage<Item<AnyRange<K>, V>>,
+    R: AsRange<Item = K>,
+>(stored: &C, window: Window<C::Position>, range: &R, steps: &mut Steps) -> Reach<C::Position>
+    requires { IsWindowOf K.order V.eq C.is_good C.rank C.items stored.now (R.range range.now)
+        window }
+    ensures reach { IsReachOf K.order V.eq C.is_good C.rank C.items stored.now (R.range range.now)
+        result }
+    ensures window { result.window ≡ window }
+    ensures counted { AddsSteps steps.old steps.new 0 2 }
 {
-    if count == 1 && last.is_some() {
-        first
+    let first = reaching_before::<K, V, C, R>(stored, &window, range, steps);
+    let last = reaching_after::<K, V, C, R>(stored, &window, range, steps);
+    Reach {
+        window,
+        first,
+        last,
+    }
+}
+
+/// The one item that a range meets, if it reaches out on both sides.
+pub(crate) fn surrounding<P: Copy>(reach: &Reach<P>) -> Option<P>
+    requires first { length (option_items reach.now.first) ≤ reach.now.window.count }
+    requires last { length (option_items reach.now.last) ≤ reach.now.window.count }
+    ensures { MatchOption result (AreApart reach.now)
+        (λ p. (reach.now.window.count ≡ 1) × (reach.now.first ≡ Some p)
+        × IsSome reach.now.last) }
+{
+    if reach.window.count == 1 && reach.last.is_some() {
+        reach.first
     } else {
         None
     }
 }
 
-/// The first item after the one that reaches out before the range.
+/// The first item that is replaced: the one that joins, or else the one after that which reaches out
+/// before the range.
 pub(crate) fn run_start<K: PartialEnum, V: Eq + Drop, C: Storage<Item<AnyRange<K>, V>>>(
     stored: &C,
-    from: Option<C::Position>,
-    first: Option<C::Position>,
+    reach: &Reach<C::Position>,
+    joined: Option<C::Position>,
 ) -> Option<C::Position>
-    requires from { ForSome from (C.is_good stored.now) }
-    requires first { ForSome first
+    requires from { ForSome reach.now.window.from (C.is_good stored.now) }
+    requires first { ForSome reach.now.first
         (λ p. C.is_good stored.now p
         × (C.rank stored.now p
-        ≡ place_before (C.rank stored.now) (length (C.items stored.now)) from)) }
-    ensures { IsAt (C.is_good stored.now) (C.rank stored.now) (length (C.items stored.now)) result
-        (place_before (C.rank stored.now) (length (C.items stored.now)) from
-        + length (option_items first)) }
+        ≡ place_before (C.rank stored.now) (length (C.items stored.now)) reach.now.window.from)) }
+    ensures { IsRunStart (C.is_good stored.now) (C.rank stored.now) (length (C.items stored.now))
+        (place_before (C.rank stored.now) (length (C.items stored.now)) reach.now.window.from)
+        reach.now.first joined result }
 {
-    match first {
-        Some(p) => stored.next(p),
-        None => from,
+    match (joined, reach.first) {
+        (Some(p), _) => Some(p),
+        (None, Some(p)) => stored.next(p),
+        (None, None) => reach.window.from,
     }
 }
 

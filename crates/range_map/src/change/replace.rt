@@ -1,89 +1,58 @@
 //! Letting a list of items stand for all that a range held.
-ghost use Rattle.std.specs.Prelude.{◌≡◌, ◌+◌, ◌≤◌, Option, length, option_copied, IfSome, OnOk, OnErr};
-ghost use Rattle.std.specs.declared.ops.Bound.{Bound};
-ghost use Rattle.range_algebra.specs.Range.{IsEmptyRange};
-ghost use Rattle.range_map.specs.Edits.{turned_bound};
+ghost use Rattle.std.specs.Prelude.{◌≡◌, option_copied, IfSome, OnOk, OnErr};
 ghost use Rattle.range_map.specs.Pieces.{LiesIn};
-ghost use Rattle.range_map.specs.Reach.{IsFirstReaching, IsLastReaching};
+ghost use Rattle.range_map.specs.Reach.{AreApart, IsReachOf};
 ghost use Rattle.range_map.specs.Replaced.{AreWithin, IsReplaced};
-ghost use Rattle.range_map.specs.Seams.{seam_edge, IsJoiningFirst, IsJoiningLast};
+ghost use Rattle.range_map.specs.Seams.{IsJoiningFirst, IsJoiningLast};
 ghost use Rattle.range_map.specs.Stored.{IsStored};
-ghost use Rattle.range_map.specs.Window.{option_items, IsWindowOf};
 
 use crate::change::cut::{ends_after, starts_before, turned};
-use crate::change::edges::{Edge, joined_after, joined_before};
-use crate::change::reach::{item_count, run_start};
+use crate::change::edges::{Joins, Sides, joins_after, joins_before, run_length, seam};
+use crate::change::reach::{Reach, run_start};
 use crate::change::splice::change_to;
-use crate::change::window::Window;
 use range_algebra::any::AnyRange;
 use range_algebra::inner;
 use range_keys::traits::Measure;
 use range_store::inner::cursor::Cursor;
 use range_store::storage::{Item, Steps, Storage};
 use std::alloc::AllocError;
-use std::ops::Bound;
 
 /// The stored item that becomes one with the first item to stand in a range, where there is one.
-///
-/// `first` is the item that reaches out of the range there.
 fn joined_left<K: Measure, V: Eq + Drop, C: Storage<Item<AnyRange<K>, V>>>(
     stored: &C,
-    window: &Window<C::Position>,
-    first: Option<C::Position>,
+    reach: &Reach<C::Position>,
     range: &AnyRange<K>,
     next: Option<&Item<AnyRange<K>, V>>,
 ) -> Option<C::Position>
-    requires stored { IsStored K.order V.eq (C.items stored.now) }
-    requires nonempty { ¬ IsEmptyRange K.order range.now }
-    requires window { IsWindowOf K.order C.is_good C.rank C.items stored.now range.now window.now }
-    requires first { IsFirstReaching K.order C.is_good C.rank C.items stored.now range.now
-        window.now first }
+    requires reach { IsReachOf K.order V.eq C.is_good C.rank C.items stored.now range.now
+        reach.now }
     requires within { IfSome next (λ i. LiesIn K.order i.now.key range.now) }
-    ensures { IsJoiningFirst K.order V.eq C.is_good C.rank C.items stored.now range.now window.now
-        (option_copied next.entry) first result }
+    ensures { IsJoiningFirst K.order V.eq C.is_good C.rank C.items stored.now range.now reach.now
+        (option_copied next.entry) result }
 {
-    inner::known(range);
     let Some(item) = next else {
         return None;
     };
     if starts_before(range, &item.key) {
         return None;
     }
-    match first {
-        Some(first) => {
-            if stored.get(first).value == item.value {
-                Some(first)
-            } else {
-                None
-            }
-        }
-        None => {
-            let mut steps = Steps::new();
-            joined_before::<K, V, C>(stored, window, range, &item.value, &mut steps)
-        }
-    }
+    let mut steps = Steps::new();
+    joins_before::<K, V, C>(stored, reach, range, &item.value, &mut steps)
 }
 
 /// The stored item that becomes one with the last item to stand in a range, where there is one.
-///
-/// `last` is the item that reaches out of the range there.
 fn joined_right<K: Measure, V: Eq + Drop, C: Storage<Item<AnyRange<K>, V>>>(
     stored: &C,
-    window: &Window<C::Position>,
-    last: Option<C::Position>,
+    reach: &Reach<C::Position>,
     range: &AnyRange<K>,
     previous: Option<&Item<AnyRange<K>, V>>,
 ) -> Option<C::Position>
-    requires stored { IsStored K.order V.eq (C.items stored.now) }
-    requires nonempty { ¬ IsEmptyRange K.order range.now }
-    requires window { IsWindowOf K.order C.is_good C.rank C.items stored.now range.now window.now }
-    requires last { IsLastReaching K.order C.is_good C.rank C.items stored.now range.now window.now
-        last }
+    requires reach { IsReachOf K.order V.eq C.is_good C.rank C.items stored.now range.now
+        reach.now }
     requires within { IfSome previous (λ i. LiesIn K.order i.now.key range.now) }
-    ensures { IsJoiningLast K.order V.eq C.is_good C.rank C.items stored.now range.now window.now
-        (option_copied previous.entry) last result }
+    ensures { IsJoiningLast K.order V.eq C.is_good C.rank C.items stored.now range.now reach.now
+        (option_copied previous.entry) result }
 {
-    inner::known(range);
     let Some(item) = previous else {
         return None;
     };
@@ -91,47 +60,8 @@ fn joined_right<K: Measure, V: Eq + Drop, C: Storage<Item<AnyRange<K>, V>>>(
     if ends_after(range, &item.key) {
         return None;
     }
-    match last {
-        Some(last) => {
-            if stored.get(last).value == item.value {
-                Some(last)
-            } else {
-                None
-            }
-        }
-        None => {
-            let mut steps = Steps::new();
-            joined_after::<K, V, C>(stored, window, range, &item.value, &mut steps)
-        }
-    }
-}
-
-/// What becomes of the item that joins, or else of the one that reaches out of the range.
-fn seam<K: Drop, P: Copy>(joined: Option<P>, reaching: Option<P>, bound: Bound<K>) -> Edge<K, P>
-    ensures { result ≡ seam_edge joined reaching bound }
-{
-    match (joined, reaching) {
-        (Some(p), _) => Edge::Joined(p),
-        (None, Some(p)) => Edge::Cut(p, bound),
-        (None, None) => Edge::Plain,
-    }
-}
-
-/// What becomes of the items on both sides of a range: of those that join before and behind it, or
-/// else of those that reach out of it.
-fn seams<K: Drop, P: Copy>(
-    range: AnyRange<K>,
-    before: Option<P>,
-    first: Option<P>,
-    behind: Option<P>,
-    last: Option<P>,
-) -> (Edge<K, P>, Edge<K, P>)
-    ensures left { result.0 ≡ seam_edge before first (turned_bound range.start) }
-    ensures right { result.1 ≡ seam_edge behind last (turned_bound range.end) }
-{
-    let (start, end) = range.into_bounds();
-    let (left, right) = (turned(start), turned(end));
-    (seam(before, first, left), seam(behind, last, right))
+    let mut steps = Steps::new();
+    joins_after::<K, V, C>(stored, reach, range, &item.value, &mut steps)
 }
 
 /// Lets the items of a list stand for all that a nonempty range held, where no stored range
@@ -140,38 +70,28 @@ fn seams<K: Drop, P: Copy>(
 /// Clones nothing, and allocates only where more items come than are replaced.
 pub(crate) fn replace<K: Measure, V: Eq + Drop, C: Storage<Item<AnyRange<K>, V>>>(
     stored: &mut C,
-    window: &Window<C::Position>,
-    first: Option<C::Position>,
-    last: Option<C::Position>,
+    reach: &Reach<C::Position>,
     range: AnyRange<K>,
     middle: Vec<Item<AnyRange<K>, V>>,
 ) -> Result<(), AllocError>
-    requires stored { IsStored K.order V.eq (C.items stored.old) }
-    requires nonempty { ¬ IsEmptyRange K.order range }
-    requires window { IsWindowOf K.order C.is_good C.rank C.items stored.old range window.now }
-    requires first { IsFirstReaching K.order C.is_good C.rank C.items stored.old range window.now
-        first }
-    requires last { IsLastReaching K.order C.is_good C.rank C.items stored.old range window.now
-        last }
-    requires apart { length (option_items first) + length (option_items last) ≤ window.now.count }
+    requires reach { IsReachOf K.order V.eq C.is_good C.rank C.items stored.old range reach.now }
+    requires apart { AreApart reach.now }
     requires middle { IsStored K.order V.eq middle.items }
     requires within { AreWithin K.order middle.items range }
     ensures ok { OnOk result
         (IsReplaced K.order V.eq (C.items stored.old) (C.items stored.new) middle.items range) }
     ensures refused { OnErr result (C.items stored.new ≡ C.items stored.old) }
 {
-    inner::known(&range);
-    let before = joined_left::<K, V, C>(stored, window, first, &range, middle.first());
-    let behind = joined_right::<K, V, C>(stored, window, last, &range, middle.last());
-    let from = run_start::<K, V, C>(stored, window.from, first);
-    let inner = window.count - (item_count(&first) + item_count(&last));
-    let count = item_count(&before) + inner + item_count(&behind);
-    stored.reserve(middle.len().saturating_sub(count))?;
+    let before = joined_left::<K, V, C>(stored, reach, &range, middle.first());
+    let after = joined_right::<K, V, C>(stored, reach, &range, middle.last());
     let run = Cursor {
-        at: before.or(from),
-        left: count,
+        at: run_start::<K, V, C>(stored, reach, before),
+        left: run_length(reach, &Joins { before, after }),
     };
-    let (left, right) = seams(range, before, first, behind, last);
-    change_to::<K, V, C>(stored, run, left, right, middle);
+    stored.reserve(middle.len().saturating_sub(run.left))?;
+    let (start, end) = range.into_bounds();
+    let left = seam(before, reach.first, turned(start));
+    let right = seam(after, reach.last, turned(end));
+    change_to::<K, V, C>(stored, Sides { left, right, run }, middle);
     Ok(())
 }

@@ -199,27 +199,25 @@ fn replace_run_by<T: Drop, C: Storage<T>>(stored: &mut C, run: Cursor<C::Positio
     remove_rest::<T, C>(stored, cursor);
 }
 
-/// Binds the ranges of a list, which replace a run; `left` and `right` say what becomes of the
-/// items beside them.
+/// Lets the items of a list stand for the whole run of `sides`.
 ///
 /// A start that the run joins becomes that of the first item, and an end that of the last.
 pub(crate) fn change_to<K: Drop, V: Drop, C: Storage<Item<AnyRange<K>, V>>>(
     stored: &mut C,
-    run: Cursor<C::Position>,
-    left: Edge<K, C::Position>,
-    right: Edge<K, C::Position>,
+    sides: Sides<K, C::Position>,
     items: Vec<Item<AnyRange<K>, V>>,
 )
-    requires left { IsGoodEdge (C.is_good stored.old) left }
-    requires right { IsGoodEdge (C.is_good stored.old) right }
-    requires good { ForSome run.at (C.is_good stored.old) }
-    requires in_range { place_before (C.rank stored.old) (length (C.items stored.old)) run.at
-        + run.left ≤ length (C.items stored.old) }
-    requires space { length items.items ≤ run.left + C.room stored.old }
+    requires left { IsGoodEdge (C.is_good stored.old) sides.left }
+    requires right { IsGoodEdge (C.is_good stored.old) sides.right }
+    requires good { ForSome sides.run.at (C.is_good stored.old) }
+    requires in_range { place_before (C.rank stored.old) (length (C.items stored.old)) sides.run.at
+        + sides.run.left ≤ length (C.items stored.old) }
+    requires space { length items.items ≤ sides.run.left + C.room stored.old }
     ensures { IsSpliced (C.is_good stored.old) (C.rank stored.old) (C.items stored.old)
-        (C.items stored.new) left right run
+        (C.items stored.new) sides.left sides.right sides.run
         (λ start finish. with_last_end finish (with_first_start start items.items)) }
 {
+    let Sides { left, right, run } = sides;
     let (start, end) = open_sides::<K, V, C>(stored, left, right);
     let mut items = items;
     start_at(&mut items, start);

@@ -3,20 +3,19 @@ ghost use Rattle.std.specs.Prelude.{◌≡◌, ◌+◌, ◌*◌, ◌≤◌, ◌<
 ghost use Rattle.range_algebra.specs.Range.{ClonesAreEqual, IsEmptyRange};
 ghost use Rattle.range_store.specs.Counting.{AddsSteps};
 ghost use Rattle.range_map.specs.Stored.{IsStored};
-ghost use Rattle.range_map.specs.Window.{option_items, IsWindowOf};
-ghost use Rattle.range_map.specs.Reach.{IsFirstReaching, IsLastReaching};
+ghost use Rattle.range_map.specs.Window.{IsWindowOf};
+ghost use Rattle.range_map.specs.Reach.{AreApart, IsReachOf, IsSurroundedOf};
 ghost use Rattle.range_algebra.specs.Intervals.{Every};
 ghost use Rattle.range_map.specs.Lookups.{Overlap};
 ghost use Rattle.range_map.specs.Costs.{TakesAtLeast, TakesAsChange};
 ghost use Rattle.range_map.specs.Changes.{IsRemoved};
 
 use crate::change::cut::cut_parts;
-use crate::change::edges::{Sides, cut_edge};
-use crate::change::reach::{item_count, reaching_after, reaching_before, run_start, surrounding};
+use crate::change::edges::{Joins, Sides, run_length, seam_at};
+use crate::change::reach::{Reach, reaching, run_start, surrounding};
 use crate::change::splice::{change, divide};
 use crate::change::window::{Window, find_window};
 use range_algebra::any::AnyRange;
-use range_algebra::inner;
 use range_algebra::range::AsRange;
 use range_keys::traits::Measure;
 use range_store::inner::cursor::{Cursor, remove_rest};
@@ -32,21 +31,13 @@ pub(crate) fn unbind_within<
 >(stored: &mut C, window: &Window<C::Position>, p: C::Position, range: &R) -> Result<(), AllocError>
     requires keys { ClonesAreEqual K.is_clone K.eq }
     requires values { ClonesAreEqual V.is_clone V.eq }
-    requires stored { IsStored K.order V.eq (C.items stored.old) }
-    requires nonempty { ¬ IsEmptyRange K.order (R.range range.now) }
-    requires window { IsWindowOf K.order C.is_good C.rank C.items stored.old (R.range range.now)
-        window.now }
-    requires one { window.now.count ≡ 1 }
-    requires first { IsFirstReaching K.order C.is_good C.rank C.items stored.old (R.range range.now)
-        window.now (Some p) }
-    requires last { IsLastReaching K.order C.is_good C.rank C.items stored.old (R.range range.now)
-        window.now (Some p) }
+    requires within { IsSurroundedOf K.order V.eq C.is_good C.rank C.items stored.old
+        (R.range range.now) window.now p }
     ensures ok { OnOk result
         (IsRemoved K.order V.eq (C.items stored.old) (C.items stored.new) (R.range range.now)) }
     ensures few { OnOk result (length (C.items stored.new) ≤ length (C.items stored.old) + 1) }
     ensures refused { OnErr result (C.items stored.new ≡ C.items stored.old) }
 {
-    inner::known_range(range);
     let parts = cut_parts::<K, V, C>(stored, p, range.start(), range.end(), 1)?;
     divide::<K, V, C>(stored, p, parts, None, window.after);
     Ok(())
@@ -55,26 +46,22 @@ pub(crate) fn unbind_within<
 /// Unbinds a range that meets stored ranges of which none reaches out of it: takes these out.
 fn unbind_whole<K: Measure, V: Eq + Drop, C: Storage<Item<AnyRange<K>, V>>, R: AsRange<Item = K>>(
     stored: &mut C,
-    window: &Window<C::Position>,
+    reach: &Reach<C::Position>,
     range: &R,
 )
-    requires stored { IsStored K.order V.eq (C.items stored.old) }
-    requires nonempty { ¬ IsEmptyRange K.order (R.range range.now) }
-    requires window { IsWindowOf K.order C.is_good C.rank C.items stored.old (R.range range.now)
-        window.now }
-    requires some { 0 < window.now.count }
-    requires first { IsFirstReaching K.order C.is_good C.rank C.items stored.old (R.range range.now)
-        window.now None }
-    requires last { IsLastReaching K.order C.is_good C.rank C.items stored.old (R.range range.now)
-        window.now None }
+    requires reach { IsReachOf K.order V.eq C.is_good C.rank C.items stored.old (R.range range.now)
+        reach.now }
+    requires some { 0 < reach.now.window.count }
+    requires first { reach.now.first ≡ None }
+    requires last { reach.now.last ≡ None }
     ensures removed { IsRemoved K.order V.eq (C.items stored.old) (C.items stored.new)
         (R.range range.now) }
-    ensures few { length (C.items stored.new) + window.now.count ≡ length (C.items stored.old) }
+    ensures few { length (C.items stored.new) + reach.now.window.count
+        ≡ length (C.items stored.old) }
 {
-    inner::known_range(range);
     let run = Cursor {
-        at: window.from,
-        left: window.count,
+        at: reach.window.from,
+        left: reach.window.count,
     };
     remove_rest::<Item<AnyRange<K>, V>, C>(stored, run);
 }
@@ -85,43 +72,30 @@ fn unbind_over<
     V: Eq + Drop,
     C: Storage<Item<AnyRange<K>, V>>,
     R: AsRange<Item = K>,
->(
-    stored: &mut C,
-    window: &Window<C::Position>,
-    first: Option<C::Position>,
-    last: Option<C::Position>,
-    range: &R,
-) -> Result<(), AllocError>
+>(stored: &mut C, reach: &Reach<C::Position>, range: &R) -> Result<(), AllocError>
     requires keys { ClonesAreEqual K.is_clone K.eq }
-    requires stored { IsStored K.order V.eq (C.items stored.old) }
-    requires nonempty { ¬ IsEmptyRange K.order (R.range range.now) }
-    requires window { IsWindowOf K.order C.is_good C.rank C.items stored.old (R.range range.now)
-        window.now }
-    requires some { 0 < window.now.count }
-    requires first { IsFirstReaching K.order C.is_good C.rank C.items stored.old (R.range range.now)
-        window.now first }
-    requires last { IsLastReaching K.order C.is_good C.rank C.items stored.old (R.range range.now)
-        window.now last }
-    requires apart { length (option_items first) + length (option_items last) ≤ window.now.count }
+    requires reach { IsReachOf K.order V.eq C.is_good C.rank C.items stored.old (R.range range.now)
+        reach.now }
+    requires some { 0 < reach.now.window.count }
+    requires apart { AreApart reach.now }
     ensures ok { OnOk result
         (IsRemoved K.order V.eq (C.items stored.old) (C.items stored.new) (R.range range.now)) }
     ensures few { OnOk result
-        (2 * length (C.items stored.new) + window.now.count ≤ 2 * length (C.items stored.old) + 3) }
+        (2 * length (C.items stored.new) + reach.now.window.count
+        ≤ 2 * length (C.items stored.old) + 3) }
     ensures refused { OnErr result (C.items stored.new ≡ C.items stored.old) }
 {
-    inner::known_range(range);
-    let before = cut_edge(first, range.start())?;
-    let behind = cut_edge(last, range.end())?;
+    let left = seam_at(None, reach.first, range.start())?;
+    let right = seam_at(None, reach.last, range.end())?;
+    let joins = Joins {
+        before: None,
+        after: None,
+    };
     let run = Cursor {
-        at: run_start::<K, V, C>(stored, window.from, first),
-        left: window.count - (item_count(&first) + item_count(&last)),
+        at: run_start::<K, V, C>(stored, reach, None),
+        left: run_length(reach, &joins),
     };
-    let sides = Sides {
-        left: before,
-        right: behind,
-        run,
-    };
-    change::<K, V, C>(stored, sides, None);
+    change::<K, V, C>(stored, Sides { left, right, run }, None);
     Ok(())
 }
 
@@ -133,33 +107,30 @@ fn unbind_met<
     R: AsRange<Item = K>,
 >(
     stored: &mut C,
-    window: &Window<C::Position>,
+    window: Window<C::Position>,
     range: &R,
     steps: &mut Steps,
 ) -> Result<(), AllocError>
     requires keys { ClonesAreEqual K.is_clone K.eq }
     requires values { ClonesAreEqual V.is_clone V.eq }
-    requires stored { IsStored K.order V.eq (C.items stored.old) }
-    requires nonempty { ¬ IsEmptyRange K.order (R.range range.now) }
-    requires window { IsWindowOf K.order C.is_good C.rank C.items stored.old (R.range range.now)
-        window.now }
-    requires some { 0 < window.now.count }
+    requires window { IsWindowOf K.order V.eq C.is_good C.rank C.items stored.old
+        (R.range range.now) window }
+    requires some { 0 < window.count }
     ensures ok { OnOk result
         (IsRemoved K.order V.eq (C.items stored.old) (C.items stored.new) (R.range range.now)) }
     ensures few { OnOk result
-        (2 * length (C.items stored.new) + window.now.count ≤ 2 * length (C.items stored.old) + 3) }
+        (2 * length (C.items stored.new) + window.count ≤ 2 * length (C.items stored.old) + 3) }
     ensures counted { AddsSteps steps.old steps.new 0 2 }
     ensures refused { OnErr result (C.items stored.new ≡ C.items stored.old) }
 {
-    let first = reaching_before::<K, V, C, R>(stored, window, range, steps);
-    let last = reaching_after::<K, V, C, R>(stored, window, range, steps);
-    if first.is_none() && last.is_none() {
-        unbind_whole::<K, V, C, R>(stored, window, range);
+    let reach = reaching::<K, V, C, R>(stored, window, range, steps);
+    if reach.first.is_none() && reach.last.is_none() {
+        unbind_whole::<K, V, C, R>(stored, &reach, range);
         return Ok(());
     }
-    match surrounding(window.count, first, last) {
-        Some(p) => unbind_within::<K, V, C, R>(stored, window, p, range),
-        None => unbind_over::<K, V, C, R>(stored, window, first, last, range),
+    match surrounding(&reach) {
+        Some(p) => unbind_within::<K, V, C, R>(stored, &reach.window, p, range),
+        None => unbind_over::<K, V, C, R>(stored, &reach, range),
     }
 }
 
@@ -186,10 +157,9 @@ pub(crate) fn unbind<
     ensures unmet_unchanged { Every (λ i. ¬ Overlap K.order i.key (R.range range.now))
         (C.items stored.old) → C.items stored.new ≡ C.items stored.old }
 {
-    inner::known_range(range);
     let window = find_window::<K, V, C, R>(stored, range, steps);
     if window.count == 0 {
         return Ok(());
     }
-    unbind_met::<K, V, C, R>(stored, &window, range, steps)
+    unbind_met::<K, V, C, R>(stored, window, range, steps)
 }

@@ -4,6 +4,7 @@ ghost use Rattle.std.specs.Option.{ForSome};
 ghost use Rattle.range_keys.specs.Directed.{reference_position};
 ghost use Rattle.range_keys.specs.Position.{position_cmp, start_position};
 ghost use Rattle.std.specs.Ordering.{is_gt};
+ghost use Rattle.range_algebra.specs.Range.{IsEmptyRange};
 ghost use Rattle.range_store.specs.Counting.{AddsSteps};
 ghost use Rattle.range_store.specs.Places.{place_before};
 ghost use Rattle.range_map.specs.Stored.{IsStored};
@@ -102,7 +103,7 @@ pub(crate) fn walk<K: PartialEnum, V: Eq + Drop, C: Storage<Item<AnyRange<K>, V>
     (count, last, None)
 }
 
-/// The items that a range meets. Costs one search, and a step for each of them and for the one
+/// The items that a nonempty range meets. Costs one search, and a step for each of them and for the one
 /// after them.
 pub(crate) fn find_window<
     K: Measure,
@@ -110,8 +111,9 @@ pub(crate) fn find_window<
     C: Storage<Item<AnyRange<K>, V>>,
     R: AsRange<Item = K>,
 >(stored: &C, range: &R, steps: &mut Steps) -> Window<C::Position>
-    requires { IsStored K.order V.eq (C.items stored.now) }
-    ensures window { IsWindowOf K.order C.is_good C.rank C.items stored.now (R.range range.now)
+    requires stored { IsStored K.order V.eq (C.items stored.now) }
+    requires nonempty { ¬ IsEmptyRange K.order (R.range range.now) }
+    ensures window { IsWindowOf K.order V.eq C.is_good C.rank C.items stored.now (R.range range.now)
         result }
     ensures counted { AddsSteps steps.old steps.new (C.least_asks stored.now)
         (C.most_asks stored.now + result.count + 1) }

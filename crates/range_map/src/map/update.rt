@@ -8,15 +8,14 @@ ghost use Rattle.range_map.specs.Answers.{MayAnswer, MayBeAsked, FailsAt, IsUpda
 ghost use Rattle.range_map.specs.Askable.{MayBeAskedOfEach};
 ghost use Rattle.range_map.specs.Bindings.{IsCoarse, IsOnlyCoarse};
 ghost use Rattle.range_map.specs.Frames.{StandOrMerge};
-ghost use Rattle.range_map.specs.Reach.{IsFirstReaching, IsLastReaching};
+ghost use Rattle.range_map.specs.Reach.{IsSurroundedOf};
 ghost use Rattle.range_map.specs.Rebinding.{AreRebound};
 ghost use Rattle.range_map.specs.Stored.{IsStored};
-ghost use Rattle.range_map.specs.Window.{IsWindowOf};
 ghost use Rattle.range_map.specs.declared.error.UpdateError.TheVariants.{Closure as ClosureError};
 
 use crate::change::bind::bind_within;
 use crate::change::pieces::gather;
-use crate::change::reach::{reaching_after, reaching_before, surrounding};
+use crate::change::reach::{reaching, surrounding};
 use crate::change::replace::replace;
 use crate::change::unbind::unbind_within;
 use crate::change::window::{Window, find_window};
@@ -45,14 +44,8 @@ fn update_within<
 ) -> Result<(), UpdateError<E>>
     requires keys { ClonesAreEqual K.is_clone K.eq }
     requires values { ClonesAreEqual V.is_clone V.eq }
-    requires stored { IsStored K.order V.eq (C.items stored.old) }
-    requires nonempty { ¬ IsEmptyRange K.order range }
-    requires window { IsWindowOf K.order C.is_good C.rank C.items stored.old range window.now }
-    requires one { window.now.count ≡ 1 }
-    requires first { IsFirstReaching K.order C.is_good C.rank C.items stored.old range window.now
-        (Some p) }
-    requires last { IsLastReaching K.order C.is_good C.rank C.items stored.old range window.now
-        (Some p) }
+    requires within { IsSurroundedOf K.order V.eq C.is_good C.rank C.items stored.old range window.now
+        p }
     requires bound { Every (λ i. MayBeAsked F.Fn f.now (Some i.value)) (C.items stored.old) }
     ensures ok { OnOk result
         (IsUpdated K.order V.eq F.Fn f.now (C.items stored.old) (C.items stored.new) range) }
@@ -61,7 +54,6 @@ fn update_within<
         → FailsAt K.order V.eq F.Fn f.now (C.items stored.old) range e }
     ensures refused { OnErr result (C.items stored.new ≡ C.items stored.old) }
 {
-    inner::known(&range);
     match f(Some(&stored.get(p).value)) {
         Ok(Some(value)) => {
             bind_within::<K, V, C>(stored, window, p, range, value)?;
@@ -102,13 +94,12 @@ fn update_pieces<
 {
     let mut steps = Steps::new();
     let window = find_window::<K, V, C, AnyRange<K>>(stored, &range, &mut steps);
-    let first = reaching_before::<K, V, C, AnyRange<K>>(stored, &window, &range, &mut steps);
-    let last = reaching_after::<K, V, C, AnyRange<K>>(stored, &window, &range, &mut steps);
-    if let Some(p) = surrounding(window.count, first, last) {
-        return update_within(stored, &window, p, range, f);
+    let reach = reaching::<K, V, C, AnyRange<K>>(stored, window, &range, &mut steps);
+    if let Some(p) = surrounding(&reach) {
+        return update_within(stored, &reach.window, p, range, f);
     }
-    let middle = gather(alloc, stored, &window, &range, f)?;
-    replace::<K, V, C>(stored, &window, first, last, range, middle)?;
+    let middle = gather(alloc, stored, &reach.window, &range, f)?;
+    replace::<K, V, C>(stored, &reach, range, middle)?;
     Ok(())
 }
 

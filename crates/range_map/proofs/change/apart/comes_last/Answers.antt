@@ -1,4 +1,3 @@
-use Rattle.std.proofs.Common.{refl}
 use Rattle.range_map.proofs.Separating.{all_before}
 use Rattle.range_map.proofs.change.apart.comes_last.Goals as goal
 

@@ -1,31 +1,16 @@
 use Rattle.std.proofs.Common.{arith}
 use Rattle.std.proofs.lemmas.Grind.{common_steps}
+use Rattle.range_map.proofs.Surrounded.{reach_is_met, surrounded_by}
 use Rattle.range_map.proofs.change.bind.bind.Goals as goal
 
+pub surrounding-requires : goal.surrounding-requires
+surrounding-requires g c = let met = reach_is_met c.reaching-reach.ensures.reach in record { first = met.0; last = met.1 }
+
 pub bind_within-requires : goal.bind_within-requires
-bind_within-requires g c =
-    record {
-      keys = c.requires.keys;
-      values = c.requires.values;
-      stored = c.requires.stored;
-      nonempty = c.requires.nonempty;
-      window = c.find_window-window.ensures.window;
-      one = c.in-Some.ensures.0;
-      first = rw c.in-Some.ensures.1 at c.reaching_before-first.ensures.reaching;
-      last = grind (arith, common_steps);
-    }
+bind_within-requires g c = record { keys = c.requires.keys; values = c.requires.values; within = surrounded_by c.reaching-reach.ensures.reach c.in-Some.ensures }
 
 pub bind_over-requires : goal.bind_over-requires
-bind_over-requires g c =
-    record {
-      keys = c.requires.keys;
-      stored = c.requires.stored;
-      nonempty = c.requires.nonempty;
-      window = c.find_window-window.ensures.window;
-      first = c.reaching_before-first.ensures.reaching;
-      last = c.reaching_after-last.ensures.reaching;
-      apart = grind (arith, common_steps);
-    }
+bind_over-requires g c = record { keys = c.requires.keys; reach = c.reaching-reach.ensures.reach; apart = c.in-None.ensures }
 
 pub returns-in-Some : goal.returns-in-Some
 returns-in-Some g c = record { ok = c.bind_within.ensures.ok; most = grind (arith, common_steps); least = grind (arith, common_steps); refused = c.bind_within.ensures.refused }

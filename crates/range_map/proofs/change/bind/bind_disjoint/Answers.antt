@@ -1,30 +1,19 @@
 use Rattle.std.proofs.lemmas.Grind.{common_steps}
-use Rattle.std.proofs.Common.{◌≡◌, refl, ◌<◌, length, arith, rules}
+use Rattle.std.proofs.Common.{◌≡◌, refl, arith, rules}
 use Rattle.range_algebra.proofs.Lists.{any_none}
 use Rattle.range_map.specs.Lookups.{Overlap}
-use Rattle.range_store.specs.Places.{place_before}
 use Rattle.range_map.proofs.Framing.{meets_some, none_meets}
 use Rattle.range_map.proofs.change.bind.bind_disjoint.Goals as goal
 
 pub returns-then-window-gt0-clause-met : goal.returns-then-window-gt0-clause-met
-returns-then-window-gt0-clause-met g c =
-    let storage = g.C.Storage in
-    let stored = c.args.stored.now in
-    let items = storage.items stored in
-    let w = c.find_window-window.result in
-    let some : 0 < w.count = omega (arith, c.if-window-gt0.true) in
-    (λ _. meets_some g.K.MaybeBounded.order g.met.K.PartialEnum.lawful g.V.PartialEq.eq g.met.V.Eq.laws (storage.is_good stored) (storage.rank stored) items c.args.range w (place_before (storage.rank stored) (length items) w.from) c.requires.stored c.known.ensures c.find_window-window.ensures.window some, λ _. refl)
+returns-then-window-gt0-clause-met g c = (λ _. meets_some g.met.K.PartialEnum.lawful g.met.V.Eq.laws c.find_window-window.ensures.window (omega (arith, c.if-window-gt0.true)), λ _. refl)
 
 pub returns : goal.returns
 returns g c =
-    let storage = g.C.Storage in
-    let stored = c.args.stored.now in
-    let items = storage.items stored in
-    let w = c.find_window-window.result in
-    let none : w.count ≡ 0 = omega (arith, c.if-window-gt0.false) in
-    let unmet = none_meets g.K.MaybeBounded.order g.met.K.PartialEnum.lawful g.V.PartialEq.eq g.met.V.Eq.laws (storage.is_good stored) (storage.rank stored) items c.args.range w (place_before (storage.rank stored) (length items) w.from) c.requires.stored c.known.ensures c.find_window-window.ensures.window none in
+    let none : c.find_window-window.result.count ≡ 0 = omega (arith, c.if-window-gt0.false) in
+    let unmet = none_meets g.met.K.PartialEnum.lawful g.met.V.Eq.laws c.find_window-window.ensures.window none in
     record {
-      met = (λ e. cc, λ met. absurd (any_none (λ i. Overlap g.K.MaybeBounded.order i.key c.args.range) (λ i. ¬ Overlap g.K.MaybeBounded.order i.key c.args.range) items unmet (λ i no at. no at) met));
+      met = (λ e. cc, λ met. absurd (any_none (λ i. Overlap g.K.MaybeBounded.order i.key c.args.range) _ _ unmet (λ i no at. no at) met));
       met_unchanged = λ e. absurd (cc);
       bound = λ _. c.in_ok-bind_over.ensures.ok;
       refused = tt;
@@ -32,14 +21,10 @@ returns g c =
 
 pub returns-in_err-bind_over : goal.returns-in_err-bind_over
 returns-in_err-bind_over g c =
-    let storage = g.C.Storage in
-    let stored = c.args.stored.now in
-    let items = storage.items stored in
-    let w = c.find_window-window.result in
-    let none : w.count ≡ 0 = omega (arith, c.if-window-gt0.false) in
-    let unmet = none_meets g.K.MaybeBounded.order g.met.K.PartialEnum.lawful g.V.PartialEq.eq g.met.V.Eq.laws (storage.is_good stored) (storage.rank stored) items c.args.range w (place_before (storage.rank stored) (length items) w.from) c.requires.stored c.known.ensures c.find_window-window.ensures.window none in
+    let none : c.find_window-window.result.count ≡ 0 = omega (arith, c.if-window-gt0.false) in
+    let unmet = none_meets g.met.K.PartialEnum.lawful g.met.V.Eq.laws c.find_window-window.ensures.window none in
     record {
-      met = (λ e. absurd (search (rules, e)), λ met. absurd (any_none (λ i. Overlap g.K.MaybeBounded.order i.key c.args.range) (λ i. ¬ Overlap g.K.MaybeBounded.order i.key c.args.range) items unmet (λ i no at. no at) met));
+      met = (λ e. absurd (search (rules, e)), λ met. absurd (any_none (λ i. Overlap g.K.MaybeBounded.order i.key c.args.range) _ _ unmet (λ i no at. no at) met));
       met_unchanged = λ e. absurd (search (rules, e));
       bound = λ e. absurd (search (rules, e));
       refused = grind (arith, common_steps);
@@ -53,12 +38,9 @@ bind_last-requires g c = record { stored = c.requires.stored; nonempty = c.requi
 
 pub bind_over-requires : goal.bind_over-requires
 bind_over-requires g c =
+    let none : c.find_window-window.result.count ≡ 0 = omega (arith, c.if-window-gt0.false) in
     record {
       keys = c.requires.keys;
-      stored = c.requires.stored;
-      nonempty = c.requires.nonempty;
-      window = c.find_window-window.ensures.window;
-      first = λ x some. absurd (omega (arith, some, c.if-window-gt0.false));
-      last = λ x some. absurd (omega (arith, some, c.if-window-gt0.false));
+      reach = record { window = c.find_window-window.ensures.window; first = λ x some. absurd (omega (arith, some, none)); last = λ x some. absurd (omega (arith, some, none)) };
       apart = omega arith;
     }

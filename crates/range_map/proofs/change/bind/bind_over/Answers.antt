@@ -1,37 +1,15 @@
-use Rattle.std.proofs.Common.{arith}
+use Rattle.std.proofs.Common.{◌≡◌, arith, None}
 use Rattle.std.proofs.lemmas.Grind.{common_steps}
 use Rattle.range_map.proofs.change.bind.bind_over.Goals as goal
 
 pub bind_between-requires : goal.bind_between-requires
 bind_between-requires g c =
-    record {
-      stored = c.requires.stored;
-      nonempty = c.requires.nonempty;
-      window = c.requires.window;
-      none = grind (arith, common_steps);
-      before = grind (arith, common_steps);
-      after = grind (arith, common_steps);
-    }
+    let before : c.joins_before-before.result ≡ None = grind (arith, common_steps) in
+    let after : c.joins_after-after.result ≡ None = grind (arith, common_steps) in
+    record { reach = c.requires.reach; none = grind (arith, common_steps); before = rw before at c.joins_before-before.ensures.joins; after = rw after at c.joins_after-after.ensures.joins }
 
 pub bind_among-requires : goal.bind_among-requires
-bind_among-requires g c =
-    record {
-      keys = c.requires.keys;
-      stored = c.requires.stored;
-      nonempty = c.requires.nonempty;
-      window = c.requires.window;
-      first = c.requires.first;
-      last = c.requires.last;
-      before = c.joined_beside-joined.ensures.before;
-      after = c.joined_beside-joined.ensures.after;
-      apart = c.requires.apart;
-    }
+bind_among-requires g c = record { keys = c.requires.keys; reach = c.requires.reach; before = c.joins_before-before.ensures.joins; after = c.joins_after-after.ensures.joins; apart = c.requires.apart }
 
 pub returns : goal.returns
-returns g c =
-    record {
-      ok = c.bind_among.ensures.ok;
-      few = c.bind_among.ensures.few;
-      counted = c.joined_beside-joined.ensures.counted;
-      refused = c.bind_among.ensures.refused;
-    }
+returns g c = record { ok = c.bind_among.ensures.ok; few = c.bind_among.ensures.few; counted = grind (arith, common_steps); refused = c.bind_among.ensures.refused }

@@ -1,4 +1,4 @@
-use Rattle.std.proofs.Common.{◌≡◌, length, refl, ap, sym, inl, inr}
+use Rattle.std.proofs.Common.{◌≡◌, refl, ap, inl, inr}
 use Rattle.std.specs.Prelude.{option_copied}
 use Rattle.std.specs.declared.cmp.Ordering.TheVariants.{Equal}
 use Rattle.range_keys.specs.PositionOrder.{position_total}
@@ -7,84 +7,28 @@ use Rattle.range_algebra.specs.Intervals.{Lt}
 use Rattle.range_algebra.specs.Orders.{both, not_lt}
 use Rattle.range_algebra.specs.declared.any.AnyRange.{AnyRange}
 use Rattle.range_store.specs.declared.storage.Item.{Item}
-use Rattle.range_store.specs.Places.{place_before}
 use Rattle.range_map.specs.Stored.{item_upper}
 use Rattle.range_map.proofs.Forms.{places}
-use Rattle.range_map.proofs.Planning.{right_plan_inside, right_plan_cut}
-use Rattle.range_map.proofs.Seaming.{got_only, got_none, within_end, right_cut_any, right_touched}
+use Rattle.range_map.proofs.Seaming.{got_only, got_none, within_end, right_cut_any}
 use Rattle.range_map.proofs.change.replace.joined_right.Goals as goal
 
 pub returns-in_default : goal.returns-in_default
 returns-in_default g c = λ lawful equal b known_b same_b.
-    let order = g.K.MaybeBounded.order in
-    let storage = g.C.Storage in
-    let stored = c.args.stored.now in
-    let items = storage.items stored in
-    let r = c.args.range.now in
-    let w = c.args.window.now in
-    let place = place_before (storage.rank stored) (length items) w.from in
-    let Earlier = λ (m : Item (AnyRange g.row.K.Denot) g.row.V.Denot). Lt (places order lawful) (item_upper order m) (upper order r) in
-    inr (got_none Earlier c.args.previous c.in_default.is, right_cut_any order lawful g.V.PartialEq.eq equal (storage.is_good stored) (storage.rank stored) items r w place c.requires.stored c.known.ensures c.requires.nonempty c.requires.window c.args.last b c.requires.last known_b same_b)
+    inr (got_none _ c.args.previous c.in_default.is, right_cut_any lawful equal c.requires.reach.window c.args.reach.now.last b c.requires.reach.last known_b same_b)
 
 pub returns-then-ends_after : goal.returns-then-ends_after
 returns-then-ends_after g c = λ lawful equal b known_b same_b.
     let order = g.K.MaybeBounded.order in
-    let storage = g.C.Storage in
-    let stored = c.args.stored.now in
-    let items = storage.items stored in
-    let r = c.args.range.now in
-    let w = c.args.window.now in
-    let place = place_before (storage.rank stored) (length items) w.from in
-    let Earlier = λ (m : Item (AnyRange g.row.K.Denot) g.row.V.Denot). Lt (places order lawful) (item_upper order m) (upper order r) in
-    inr (got_only Earlier c.args.previous c.in-Some.item c.in-Some.is (c.if-ends_after.ensures.0 refl), right_cut_any order lawful g.V.PartialEq.eq equal (storage.is_good stored) (storage.rank stored) items r w place c.requires.stored c.known.ensures c.requires.nonempty c.requires.window c.args.last b c.requires.last known_b same_b)
+    let Earlier = λ (m : Item (AnyRange g.row.K.Denot) g.row.V.Denot). Lt (places order lawful) (item_upper order m) (upper order c.args.range.now) in
+    inr (got_only Earlier c.args.previous c.in-Some.item c.in-Some.is (c.if-ends_after.ensures.0 refl), right_cut_any lawful equal c.requires.reach.window c.args.reach.now.last b c.requires.reach.last known_b same_b)
 
-pub returns-then-eq : goal.returns-then-eq
-returns-then-eq g c = λ lawful equal b known_b same_b.
+pub returns : goal.returns
+returns g c = λ lawful equal b known_b same_b.
     let order = g.K.MaybeBounded.order in
-    let storage = g.C.Storage in
-    let stored = c.args.stored.now in
-    let items = storage.items stored in
-    let r = c.args.range.now in
-    let w = c.args.window.now in
-    let place = place_before (storage.rank stored) (length items) w.from in
     let cmp = places order lawful in
     let total = position_total order.cmp lawful.total in
     let m = c.in-Some.item.now in
-    let within = rw c.in-Some.is at c.requires.within in
-    let at : cmp (item_upper order m) (upper order r) ≡ Equal = both cmp total (item_upper order m) (upper order r) (within_end order lawful m.key r c.known-2.ensures c.known.ensures within) (not_lt cmp total (upper order r) (item_upper order m) (λ l. let earlier = c.if-ends_after.ensures.1 l in cc)) in
-    let is = c.in-Some-last.is in
-    inl (m, ap option_copied c.in-Some.is, at, rw is (right_plan_inside order lawful g.V.PartialEq.eq equal (storage.is_good stored) (storage.rank stored) items r w place c.requires.stored c.known.ensures c.requires.nonempty c.requires.window m.value c.in-Some-last.last c.get.result.now (rw is at c.requires.last) c.get.ensures (sym c.if-eq.ensures)))
-
-pub returns-else-eq : goal.returns-else-eq
-returns-else-eq g c = λ lawful equal b known_b same_b.
-    let order = g.K.MaybeBounded.order in
-    let storage = g.C.Storage in
-    let stored = c.args.stored.now in
-    let items = storage.items stored in
     let r = c.args.range.now in
-    let w = c.args.window.now in
-    let place = place_before (storage.rank stored) (length items) w.from in
-    let cmp = places order lawful in
-    let total = position_total order.cmp lawful.total in
-    let m = c.in-Some.item.now in
     let within = rw c.in-Some.is at c.requires.within in
-    let at : cmp (item_upper order m) (upper order r) ≡ Equal = both cmp total (item_upper order m) (upper order r) (within_end order lawful m.key r c.known-2.ensures c.known.ensures within) (not_lt cmp total (upper order r) (item_upper order m) (λ l. let earlier = c.if-ends_after.ensures.1 l in cc)) in
-    let is = c.in-Some-last.is in
-    inl (m, ap option_copied c.in-Some.is, at, rw is (right_plan_cut order lawful g.V.PartialEq.eq equal (storage.is_good stored) (storage.rank stored) items r w place c.requires.stored c.known.ensures c.requires.nonempty c.requires.window m.value c.in-Some-last.last c.get.result.now b (rw is at c.requires.last) c.get.ensures (sym c.if-eq.ensures) known_b same_b))
-
-pub returns-in-None : goal.returns-in-None
-returns-in-None g c = λ lawful equal b known_b same_b.
-    let order = g.K.MaybeBounded.order in
-    let storage = g.C.Storage in
-    let stored = c.args.stored.now in
-    let items = storage.items stored in
-    let r = c.args.range.now in
-    let w = c.args.window.now in
-    let place = place_before (storage.rank stored) (length items) w.from in
-    let cmp = places order lawful in
-    let total = position_total order.cmp lawful.total in
-    let m = c.in-Some.item.now in
-    let within = rw c.in-Some.is at c.requires.within in
-    let at : cmp (item_upper order m) (upper order r) ≡ Equal = both cmp total (item_upper order m) (upper order r) (within_end order lawful m.key r c.known-2.ensures c.known.ensures within) (not_lt cmp total (upper order r) (item_upper order m) (λ l. let earlier = c.if-ends_after.ensures.1 l in cc)) in
-    let is = c.in-None.is in
-    inl (m, ap option_copied c.in-Some.is, at, rw is (right_touched order lawful g.V.PartialEq.eq equal (storage.is_good stored) (storage.rank stored) items r w place c.requires.stored c.known.ensures c.requires.nonempty c.requires.window m.value c.joined_after.result b (g.met.C.Storage.good_is_in_range stored) (rw is at c.requires.last) c.joined_after.ensures.joined))
+    let here : cmp (item_upper order m) (upper order r) ≡ Equal = both cmp total (item_upper order m) (upper order r) (within_end order lawful m.key r c.known.ensures c.requires.reach.window.known within) (not_lt cmp total (upper order r) (item_upper order m) (λ l. let earlier = c.if-ends_after.ensures.1 l in cc)) in
+    inl (m, ap option_copied c.in-Some.is, here, c.joins_after.ensures.joins lawful equal b known_b same_b)

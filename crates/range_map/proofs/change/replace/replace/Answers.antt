@@ -1,24 +1,21 @@
 use Rattle.std.proofs.lemmas.Grind.{common_steps}
-use Rattle.std.proofs.Common.{◌≡◌, ◌+◌, ◌-◌, length, ap, sym, ◌∙◌, arith, subst}
-use Rattle.std.specs.Option.{option_or}
+use Rattle.std.proofs.Common.{◌≡◌, ◌+◌, ◌-◌, length, ap, ◌∙◌, arith}
 use Rattle.std.specs.Prelude.{slice_get, option_copied}
 use Rattle.range_store.specs.Places.{place_before}
-use Rattle.range_store.proofs.Places.{place_at, kept_at, good_at}
-use Rattle.range_map.specs.Edges.{IsLeftShape, IsRightShape, joined_count}
+use Rattle.range_map.specs.Edges.{joined_count, seam_edge}
 use Rattle.range_map.specs.Edits.{turned_bound}
-use Rattle.range_map.specs.Seams.{seam_edge}
 use Rattle.range_map.proofs.Framing.{all_meet}
-use Rattle.range_map.proofs.Lengths.{one_item}
-use Rattle.range_map.proofs.Openings.{left_kept, right_kept, left_good, right_good}
+use Rattle.range_map.proofs.Planned.{plan_fits}
 use Rattle.range_map.proofs.Replaced.{IsReplacement, plans_replacement, replacement_is_made}
 use Rattle.range_map.proofs.Results.{error_has_no_value, on_error}
 use Rattle.range_map.proofs.Seaming.{seam_count}
+use Rattle.range_map.proofs.Surrounded.{run_can_start}
 use Rattle.range_map.proofs.change.replace.replace.Given.{Over}
-use Rattle.range_map.proofs.change.replace.replace.Goals.{After-item_count-3}
+use Rattle.range_map.proofs.change.replace.replace.Goals.{After-run_start}
 use Rattle.range_map.proofs.change.replace.replace.Goals as goal
 
 -- how the run is divided between the items that join and those that are cut
-plan_is_replacement : (g : Over) (c : After-item_count-3 g) → IsReplacement g.K.MaybeBounded.order g.met.K.PartialEnum.lawful g.V.PartialEq.eq g.met.V.Eq.laws (g.C.Storage.is_good c.args.stored.now) (g.C.Storage.rank c.args.stored.now) (g.C.Storage.items c.args.stored.now) c.args.range (place_before (g.C.Storage.rank c.args.stored.now) (length (g.C.Storage.items c.args.stored.now)) c.args.window.now.from) c.args.window.now.count c.args.middle.items c.args.first c.args.last c.joined_left-before.result c.joined_right-behind.result c.run_start-from.result
+plan_is_replacement : (g : Over) (c : After-run_start g) → IsReplacement g.K.MaybeBounded.order g.met.K.PartialEnum.lawful g.V.PartialEq.eq g.met.V.Eq.laws (g.C.Storage.is_good c.args.stored.now) (g.C.Storage.rank c.args.stored.now) (g.C.Storage.items c.args.stored.now) c.args.range (place_before (g.C.Storage.rank c.args.stored.now) (length (g.C.Storage.items c.args.stored.now)) c.args.reach.now.window.from) c.args.reach.now.window.count c.args.middle.items c.args.reach.now.first c.args.reach.now.last c.joined_left-before.result c.joined_right-after.result c.run_start.result
 plan_is_replacement g c =
     let order = g.K.MaybeBounded.order in
     let lawful = g.met.K.PartialEnum.lawful in
@@ -28,175 +25,78 @@ plan_is_replacement g c =
     let stored = c.args.stored.now in
     let items = storage.items stored in
     let r = c.args.range in
-    let w = c.args.window.now in
+    let w = c.args.reach.now.window in
     let place = place_before (storage.rank stored) (length items) w.from in
     let middle = c.args.middle.items in
-    let first = c.args.first in
-    let last = c.args.last in
+    let first = c.args.reach.now.first in
+    let last = c.args.reach.now.last in
     let joined = c.joined_left-before.result in
-    let other = c.joined_right-behind.result in
-    let from = c.run_start-from.result in
+    let other = c.joined_right-after.result in
+    let from = c.run_start.result in
     let is_first = c.first.ensures.value ∙ ap (λ xs. slice_get xs 0) c.deref.ensures.value in
     let is_last = c.last.ensures.value ∙ ap (λ xs. slice_get xs (length xs - 1)) c.deref-2.ensures.value in
-    plans_replacement order lawful equal_values equal (storage.is_good stored) (storage.rank stored) items r place w.count middle first last joined other from (option_copied c.first.result) (option_copied c.last.result) c.requires.stored c.requires.middle c.requires.within c.known.ensures c.requires.nonempty c.requires.window.in_range c.requires.apart is_first is_last c.run_start-from.ensures (c.joined_left-before.ensures lawful equal) (c.joined_right-behind.ensures lawful equal)
+    plans_replacement order lawful equal_values equal (storage.is_good stored) (storage.rank stored) items r place w.count middle first last joined other from (option_copied c.first.result) (option_copied c.last.result) c.requires.reach.window.stored c.requires.middle c.requires.within c.requires.reach.window.known c.requires.reach.window.nonempty c.requires.reach.window.in_range c.requires.apart is_first is_last c.run_start.ensures (c.joined_left-before.ensures lawful equal) (c.joined_right-after.ensures lawful equal)
 
-pub overflow_add-count : goal.overflow_add-count
-overflow_add-count g c =
-    let stored = c.args.stored.now in
-    let plan = plan_is_replacement g (goal.at.overflow_add-count g c).After-item_count-3 in
-    omega (arith, plan.upto, plan.within, g.met.C.Storage.length_fits stored, c.item_count.ensures, c.item_count-2.ensures, c.item_count-3.ensures)
+pub run_start-requires : goal.run_start-requires
+run_start-requires g c = let start = run_can_start c.requires.reach in record { from = start.0; first = start.1 }
 
-pub overflow_add-count-2 : goal.overflow_add-count-2
-overflow_add-count-2 g c =
-    let stored = c.args.stored.now in
-    let plan = plan_is_replacement g (goal.at.overflow_add-count-2 g c).After-item_count-3 in
-    omega (arith, plan.upto, plan.within, g.met.C.Storage.length_fits stored, c.item_count.ensures, c.item_count-2.ensures, c.item_count-3.ensures, c.item_count-4.ensures)
+pub run_length-requires : goal.run_length-requires
+run_length-requires g c =
+    let plan = plan_is_replacement g (goal.at.run_length-requires g c).After-run_start in
+    record { apart = c.requires.apart; fits = omega (arith, plan.upto, plan.within, g.met.C.Storage.length_fits c.args.stored.now) }
 
-pub change_to-requires-clause-left : goal.change_to-requires-clause-left
-change_to-requires-clause-left g c =
-    let storage = g.C.Storage in
-    let stored = c.args.stored.now in
-    let items = storage.items stored in
-    let r = c.args.range in
-    let first = c.args.first in
-    let joined = c.joined_left-before.result in
-    let plan = plan_is_replacement g (goal.at.change_to-requires-clause-left g c).After-item_count-3 in
-    let left = plan.left in
-    let ready = c.reserve.new.self in
-    let same = c.reserve.ensures.list in
-    let kept = c.reserve.ensures.positions in
-    let edge = seam_edge joined first (turned_bound r.start) in
-    let edge_is : c.seams-left.result.0 ≡ edge = c.seams-left.ensures.left in
-    rw edge_is (left_good (storage.is_good stored) (storage.is_good ready) (storage.rank stored) (storage.rank ready) items (storage.items ready) kept same edge left.at left.begin left.rest left.start left.shape)
-
-pub change_to-requires-clause-right : goal.change_to-requires-clause-right
-change_to-requires-clause-right g c =
-    let storage = g.C.Storage in
-    let stored = c.args.stored.now in
-    let items = storage.items stored in
-    let r = c.args.range in
-    let last = c.args.last in
-    let other = c.joined_right-behind.result in
-    let plan = plan_is_replacement g (goal.at.change_to-requires-clause-right g c).After-item_count-3 in
-    let right = plan.right in
-    let ready = c.reserve.new.self in
-    let same = c.reserve.ensures.list in
-    let kept = c.reserve.ensures.positions in
-    let edge_behind = seam_edge other last (turned_bound r.end) in
-    let behind_is : c.seams-left.result.1 ≡ edge_behind = c.seams-left.ensures.right in
-    rw behind_is (right_good (storage.is_good stored) (storage.is_good ready) (storage.rank stored) (storage.rank ready) items (storage.items ready) kept same edge_behind right.upto right.end right.rest right.finish right.shape)
-
-pub change_to-requires-clause-good : goal.change_to-requires-clause-good
-change_to-requires-clause-good g c =
-    let storage = g.C.Storage in
-    let stored = c.args.stored.now in
-    let items = storage.items stored in
-    let joined = c.joined_left-before.result in
-    let from = c.run_start-from.result in
-    let plan = plan_is_replacement g (goal.at.change_to-requires-clause-good g c).After-item_count-3 in
-    let left = plan.left in
-    let ready = c.reserve.new.self in
-    let kept = c.reserve.ensures.positions in
-    let run = kept_at (storage.is_good stored) (storage.is_good ready) (storage.rank stored) (storage.rank ready) (length items) (option_or joined from) left.begin kept left.run in
-    rw c.or.ensures (good_at (storage.is_good ready) (storage.rank ready) (length items) (option_or joined from) left.begin run)
-
-pub change_to-requires-clause-in_range : goal.change_to-requires-clause-in_range
-change_to-requires-clause-in_range g c =
-    let storage = g.C.Storage in
-    let stored = c.args.stored.now in
-    let items = storage.items stored in
-    let w = c.args.window.now in
-    let joined = c.joined_left-before.result in
-    let from = c.run_start-from.result in
-    let plan = plan_is_replacement g (goal.at.change_to-requires-clause-in_range g c).After-item_count-3 in
-    let left = plan.left in
-    let right = plan.right in
-    let ready = c.reserve.new.self in
-    let same = c.reserve.ensures.list in
-    let kept = c.reserve.ensures.positions in
-    let run = kept_at (storage.is_good stored) (storage.is_good ready) (storage.rank stored) (storage.rank ready) (length items) (option_or joined from) left.begin kept left.run in
-    let size : length (storage.items ready) ≡ length items = ap length same in
-    let here : place_before (storage.rank ready) (length (storage.items ready)) c.or.result ≡ left.begin = ap (λ n. place_before (storage.rank ready) n c.or.result) size ∙ (ap (place_before (storage.rank ready) (length items)) c.or.ensures ∙ place_at (storage.is_good ready) (storage.rank ready) (length items) (option_or joined from) left.begin run) in
-    let count = c.item_count-3.result + (w.count - (c.item_count.result + c.item_count-2.result)) + c.item_count-4.result in
-    let upto : left.begin + count ≡ right.upto = omega (arith, plan.upto, c.item_count.ensures, c.item_count-2.ensures, c.item_count-3.ensures, c.item_count-4.ensures) in
-    rw (here, size) (omega (arith, upto, plan.within))
-
-pub returns-clause-ok : goal.returns-clause-ok
-returns-clause-ok g c =
+pub change_to-requires : goal.change_to-requires
+change_to-requires g c =
+    let plan = plan_is_replacement g (goal.at.change_to-requires g c).After-run_start in
     let order = g.K.MaybeBounded.order in
-    let lawful = g.met.K.PartialEnum.lawful in
-    let equal_values = g.V.PartialEq.eq in
-    let equal = g.met.V.Eq.laws in
-    let storage = g.C.Storage in
-    let stored = c.args.stored.now in
-    let items = storage.items stored in
+    let reach = c.args.reach.now in
     let r = c.args.range in
-    let w = c.args.window.now in
-    let place = place_before (storage.rank stored) (length items) w.from in
-    let middle = c.args.middle.items in
-    let first = c.args.first in
-    let last = c.args.last in
     let joined = c.joined_left-before.result in
-    let other = c.joined_right-behind.result in
-    let from = c.run_start-from.result in
-    let plan = plan_is_replacement g (goal.at.returns-clause-ok g c).After-item_count-3 in
+    let other = c.joined_right-after.result in
+    let edge = seam_edge joined reach.first (turned_bound r.start) in
+    let behind = seam_edge other reach.last (turned_bound r.end) in
+    let edge_is : c.seam-left.result ≡ edge = c.seam-left.ensures ∙ ap (seam_edge joined reach.first) (c.turned.ensures ∙ ap turned_bound c.into_bounds-start.ensures.start) in
+    let behind_is : c.seam-right.result ≡ behind = c.seam-right.ensures ∙ ap (seam_edge other reach.last) (c.turned-2.ensures ∙ ap turned_bound c.into_bounds-start.ensures.end) in
     let left = plan.left in
     let right = plan.right in
-    let ready = c.reserve.new.self in
-    let same = c.reserve.ensures.list in
-    let kept = c.reserve.ensures.positions in
-    let run = kept_at (storage.is_good stored) (storage.is_good ready) (storage.rank stored) (storage.rank ready) (length items) (option_or joined from) left.begin kept left.run in
-    let size : length (storage.items ready) ≡ length items = ap length same in
-    let here : place_before (storage.rank ready) (length (storage.items ready)) c.or.result ≡ left.begin = ap (λ n. place_before (storage.rank ready) n c.or.result) size ∙ (ap (place_before (storage.rank ready) (length items)) c.or.ensures ∙ place_at (storage.is_good ready) (storage.rank ready) (length items) (option_or joined from) left.begin run) in
-    let count = c.item_count-3.result + (w.count - (c.item_count.result + c.item_count-2.result)) + c.item_count-4.result in
-    let upto : left.begin + count ≡ right.upto = omega (arith, plan.upto, c.item_count.ensures, c.item_count-2.ensures, c.item_count-3.ensures, c.item_count-4.ensures) in
-    let edge = seam_edge joined first (turned_bound r.start) in
-    let edge_behind = seam_edge other last (turned_bound r.end) in
-    let edge_is : c.seams-left.result.0 ≡ edge = c.seams-left.ensures.left in
-    let behind_is : c.seams-left.result.1 ≡ edge_behind = c.seams-left.ensures.right in
-    let start = place_before (storage.rank ready) (length (storage.items ready)) c.or.result in
-    let on_left = subst (λ n. IsLeftShape (storage.is_good ready) (storage.rank ready) (storage.items ready) c.seams-left.result.0 left.at n left.rest left.start) (sym here) (rw edge_is (left_kept (storage.is_good stored) (storage.is_good ready) (storage.rank stored) (storage.rank ready) items (storage.items ready) kept same edge left.at left.begin left.rest left.start left.shape)) in
-    let on_right = subst (λ n. IsRightShape (storage.is_good ready) (storage.rank ready) (storage.items ready) c.seams-left.result.1 n right.end right.rest right.finish) (sym (ap (λ n. n + count) here ∙ upto)) (rw behind_is (right_kept (storage.is_good stored) (storage.is_good ready) (storage.rank stored) (storage.rank ready) items (storage.items ready) kept same edge_behind right.upto right.end right.rest right.finish right.shape)) in
-    let joins = ap joined_count edge_is ∙ seam_count joined first (turned_bound r.start) in
-    let joins_behind = ap joined_count behind_is ∙ seam_count other last (turned_bound r.end) in
-    let done = c.change_to.ensures left.at right.end left.rest right.rest left.start right.finish on_left on_right (omega (arith, joins, joins_behind, c.item_count-3.ensures, c.item_count-4.ensures)) in
-    let met = all_meet order lawful equal_values equal (storage.is_good stored) (storage.rank stored) items r w place c.requires.stored c.known.ensures c.requires.window in
-    replacement_is_made order lawful equal_values equal (storage.is_good stored) (storage.rank stored) items r place w.count (storage.items c.change_to.new.stored) middle first last edge edge_behind (option_or joined from) c.requires.stored c.requires.middle c.known.ensures met left right (rw same at done)
+    let sum : left.begin + c.run_length.result ≡ right.upto = omega (arith, plan.upto, c.run_length.ensures) in
+    let fit = plan_fits c.reserve.ensures.positions c.reserve.ensures.list edge behind c.run_start.result c.run_length.result left.at left.begin right.upto right.end left.rest right.rest left.start right.finish left.shape right.shape left.run sum right.in_range in
+    record { left = rw edge_is fit.left_good; right = rw behind_is fit.right_good; good = fit.good; in_range = fit.in_range; space = grind (arith, common_steps) }
 
-pub change_to-requires-clause-space : goal.change_to-requires-clause-space
-change_to-requires-clause-space g c = grind (arith, common_steps)
+pub returns : goal.returns
+returns g c =
+    let plan = plan_is_replacement g (goal.at.returns g c).After-run_start in
+    let order = g.K.MaybeBounded.order in
+    let reach = c.args.reach.now in
+    let r = c.args.range in
+    let joined = c.joined_left-before.result in
+    let other = c.joined_right-after.result in
+    let edge = seam_edge joined reach.first (turned_bound r.start) in
+    let behind = seam_edge other reach.last (turned_bound r.end) in
+    let edge_is : c.seam-left.result ≡ edge = c.seam-left.ensures ∙ ap (seam_edge joined reach.first) (c.turned.ensures ∙ ap turned_bound c.into_bounds-start.ensures.start) in
+    let behind_is : c.seam-right.result ≡ behind = c.seam-right.ensures ∙ ap (seam_edge other reach.last) (c.turned-2.ensures ∙ ap turned_bound c.into_bounds-start.ensures.end) in
+    let left = plan.left in
+    let right = plan.right in
+    let sum : left.begin + c.run_length.result ≡ right.upto = omega (arith, plan.upto, c.run_length.ensures) in
+    let fit = plan_fits c.reserve.ensures.positions c.reserve.ensures.list edge behind c.run_start.result c.run_length.result left.at left.begin right.upto right.end left.rest right.rest left.start right.finish left.shape right.shape left.run sum right.in_range in
+    let joins = seam_count joined reach.first (turned_bound r.start) in
+    let joins_behind = seam_count other reach.last (turned_bound r.end) in
+    let done = c.change_to.ensures left.at right.end left.rest right.rest left.start right.finish (rw edge_is fit.on_left) (rw behind_is fit.on_right) (omega (arith, ap joined_count edge_is ∙ joins, ap joined_count behind_is ∙ joins_behind, c.run_length.ensures)) in
+    let lawful = g.met.K.PartialEnum.lawful in
+    let equal = g.met.V.Eq.laws in
+    let stored = c.args.stored.now in
+    let items = g.C.Storage.items stored in
+    let window = c.requires.reach.window in
+    record {
+      ok = replacement_is_made order lawful g.V.PartialEq.eq equal (g.C.Storage.is_good stored) (g.C.Storage.rank stored) items r (place_before (g.C.Storage.rank stored) (length items) reach.window.from) reach.window.count (g.C.Storage.items c.change_to.new.stored) c.args.middle.items reach.first reach.last edge behind c.run_start.result window.stored c.requires.middle window.known (all_meet lawful equal window) left right (rw c.reserve.ensures.list at done);
+      refused = tt;
+    }
 
 pub joined_left-before-requires : goal.joined_left-before-requires
-joined_left-before-requires g c =
-    record {
-      stored = c.requires.stored;
-      nonempty = c.requires.nonempty;
-      window = c.requires.window;
-      first = c.requires.first;
-      within = grind (arith, common_steps);
-    }
+joined_left-before-requires g c = record { reach = c.requires.reach; within = grind (arith, common_steps) }
 
-pub joined_right-behind-requires : goal.joined_right-behind-requires
-joined_right-behind-requires g c = record { stored = c.requires.stored; nonempty = c.requires.nonempty; window = c.requires.window; last = c.requires.last; within = grind (arith, common_steps) }
-
-pub overflow_add-inner : goal.overflow_add-inner
-overflow_add-inner g c = omega (arith, one_item c.args.first, one_item c.args.last, c.item_count.ensures, c.item_count-2.ensures)
-
-pub overflow_sub-inner : goal.overflow_sub-inner
-overflow_sub-inner g c = omega (arith, c.requires.apart, c.item_count.ensures, c.item_count-2.ensures)
-
-pub returns-clause-refused : goal.returns-clause-refused
-returns-clause-refused g c = tt
-
-pub run_start-from-requires : goal.run_start-from-requires
-run_start-from-requires g c =
-    let storage = g.C.Storage in
-    let stored = c.args.stored.now in
-    let len = length (storage.items stored) in
-    record {
-      from = good_at (storage.is_good stored) (storage.rank stored) len c.args.window.now.from (place_before (storage.rank stored) len c.args.window.now.from) c.requires.window.position;
-      first = λ p e. let found = rw e at c.requires.first in (found.0, found.1);
-    }
+pub joined_right-after-requires : goal.joined_right-after-requires
+joined_right-after-requires g c = record { reach = c.requires.reach; within = grind (arith, common_steps) }
 
 pub returns-in_err-reserve : goal.returns-in_err-reserve
 returns-in_err-reserve g c = record { ok = error_has_no_value _ c.from_residual.result c.from_residual.ensures.0; refused = on_error _ c.from_residual.result c.reserve.ensures.list }

@@ -1,40 +1,22 @@
 use Rattle.std.proofs.Common.{arith}
 use Rattle.std.proofs.lemmas.Grind.{common_steps}
+use Rattle.range_map.proofs.Surrounded.{reach_is_met, surrounded_by}
 use Rattle.range_map.proofs.change.unbind.unbind_met.Goals as goal
+
+pub surrounding-requires : goal.surrounding-requires
+surrounding-requires g c = let met = reach_is_met c.reaching-reach.ensures.reach in record { first = met.0; last = met.1 }
 
 pub unbind_whole-requires : goal.unbind_whole-requires
 unbind_whole-requires g c =
     record {
-      stored = c.requires.stored;
-      nonempty = c.requires.nonempty;
-      window = c.requires.window;
-      some = c.requires.some;
+      reach = c.reaching-reach.ensures.reach;
+      some = rw c.reaching-reach.ensures.window c.requires.some;
       first = grind (arith, common_steps);
       last = grind (arith, common_steps);
     }
 
 pub unbind_within-requires : goal.unbind_within-requires
-unbind_within-requires g c =
-    record {
-      keys = c.requires.keys;
-      values = c.requires.values;
-      stored = c.requires.stored;
-      nonempty = c.requires.nonempty;
-      window = c.requires.window;
-      one = c.in-Some.ensures.0;
-      first = rw c.in-Some.ensures.1 at c.reaching_before-first.ensures.reaching;
-      last = grind (arith, common_steps);
-    }
+unbind_within-requires g c = record { keys = c.requires.keys; values = c.requires.values; within = surrounded_by c.reaching-reach.ensures.reach c.in-Some.ensures }
 
 pub unbind_over-requires : goal.unbind_over-requires
-unbind_over-requires g c =
-    record {
-      keys = c.requires.keys;
-      stored = c.requires.stored;
-      nonempty = c.requires.nonempty;
-      window = c.requires.window;
-      some = c.requires.some;
-      first = c.reaching_before-first.ensures.reaching;
-      last = c.reaching_after-last.ensures.reaching;
-      apart = grind (arith, common_steps);
-    }
+unbind_over-requires g c = record { keys = c.requires.keys; reach = c.reaching-reach.ensures.reach; some = rw c.reaching-reach.ensures.window c.requires.some; apart = c.in-None.ensures }

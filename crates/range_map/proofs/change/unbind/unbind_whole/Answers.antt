@@ -8,22 +8,17 @@ use Rattle.range_map.proofs.change.unbind.unbind_whole.Goals as goal
 
 pub returns : goal.returns
 returns g c =
-    let order = g.K.MaybeBounded.order in
     let lawful = g.met.K.PartialEnum.lawful in
     let equal = g.met.V.Eq.laws in
-    let same = g.V.PartialEq.eq in
     let storage = g.C.Storage in
-    let stored = c.args.stored.now in
-    let items = storage.items stored in
+    let items = storage.items c.args.stored.now in
     let new = storage.items c.remove_rest.new.stored in
-    let r = g.R.AsRange.range c.args.range.now in
-    let w = c.args.window.now in
-    let place = place_before (storage.rank stored) (length items) w.from in
-    let known = c.known_range.ensures in
-    let done : new ≡ take place items ++ [] ++ [] ++ [] ++ drop (place + w.count) items = rw (append-nil (take place items), append-nil (take place items), append-nil (take place items)) c.remove_rest.ensures.list in
-    let frame = cut_way order lawful same equal (storage.is_good stored) (storage.rank stored) items r w place c.requires.stored known c.requires.window new None None c.requires.some tt tt (omega arith) (omega arith) done in
-    let size = changed_length items new [] [] [] place (place + w.count) (omega (arith, c.requires.window.in_range)) c.requires.window.in_range done in
-    record {
-      removed = edges_remove order lawful same equal (storage.is_good stored) (storage.rank stored) items r w place c.requires.stored known c.requires.nonempty c.requires.window new place (place + w.count) None None (left_rest_whole order lawful same equal (storage.is_good stored) (storage.rank stored) items r w place c.requires.stored known c.requires.nonempty c.requires.window c.requires.first) (right_rest_whole order lawful same equal (storage.is_good stored) (storage.rank stored) items r w place c.requires.stored known c.requires.nonempty c.requires.window c.requires.last) frame done;
-      few = omega (arith, size);
-    }
+    let window = c.requires.reach.window in
+    let place = place_before (storage.rank c.args.stored.now) (length items) c.args.reach.now.window.from in
+    let end = place + c.args.reach.now.window.count in
+    let done : new ≡ take place items ++ [] ++ [] ++ [] ++ drop end items = rw (append-nil (take place items), append-nil (take place items), append-nil (take place items)) c.remove_rest.ensures.list in
+    let frame = cut_way lawful equal window new None None c.requires.some tt tt (omega arith) (omega arith) done in
+    let left = left_rest_whole lawful equal window (rw c.requires.first at c.requires.reach.first) in
+    let right = right_rest_whole lawful equal window (rw c.requires.last at c.requires.reach.last) in
+    let size = changed_length items new [] [] [] place end (omega (arith, window.in_range)) window.in_range done in
+    record { removed = edges_remove lawful equal window new place end None None left right frame done; few = omega (arith, size) }

@@ -1,5 +1,6 @@
 use Rattle.std.proofs.Common.{arith, refl}
 use Rattle.std.proofs.lemmas.Grind.{common_steps}
+use Rattle.range_map.proofs.Surrounded.{reach_is_met, surrounded_by}
 use Rattle.range_map.proofs.Updating.{by_middle}
 use Rattle.range_map.proofs.Results.{error_has_no_value, on_error}
 use Rattle.range_map.proofs.map.update.update_pieces.Goals as goal
@@ -14,18 +15,11 @@ returns g c =
       refused = tt;
     }
 
+pub surrounding-requires : goal.surrounding-requires
+surrounding-requires g c = let met = reach_is_met c.reaching-reach.ensures.reach in record { first = met.0; last = met.1 }
+
 pub replace-requires : goal.replace-requires
-replace-requires g c =
-    record {
-      stored = c.requires.stored;
-      nonempty = c.requires.nonempty;
-      window = c.find_window-window.ensures.window;
-      first = c.reaching_before-first.ensures.reaching;
-      last = c.reaching_after-last.ensures.reaching;
-      apart = grind (arith, common_steps);
-      middle = c.in_ok-middle.ensures.ok.stored;
-      within = c.in_ok-middle.ensures.ok.within;
-    }
+replace-requires g c = record { reach = c.reaching-reach.ensures.reach; apart = c.in_default.ensures; middle = c.in_ok-middle.ensures.ok.stored; within = c.in_ok-middle.ensures.ok.within }
 
 pub returns-in-Some : goal.returns-in-Some
 returns-in-Some g c =
@@ -55,26 +49,7 @@ returns-in_err-replace g c =
     }
 
 pub update_within-requires : goal.update_within-requires
-update_within-requires g c =
-    record {
-      keys = c.requires.keys;
-      values = c.requires.values;
-      stored = c.requires.stored;
-      nonempty = c.requires.nonempty;
-      window = c.find_window-window.ensures.window;
-      one = c.in-Some.ensures.0;
-      first = rw c.in-Some.ensures.1 at c.reaching_before-first.ensures.reaching;
-      last = grind (arith, common_steps);
-      bound = c.requires.bound;
-    }
+update_within-requires g c = record { keys = c.requires.keys; values = c.requires.values; within = surrounded_by c.reaching-reach.ensures.reach c.in-Some.ensures; bound = c.requires.bound }
 
 pub gather-requires : goal.gather-requires
-gather-requires g c =
-    record {
-      keys = c.requires.keys;
-      stored = c.requires.stored;
-      nonempty = c.requires.nonempty;
-      window = c.find_window-window.ensures.window;
-      free = c.requires.free;
-      bound = c.requires.bound;
-    }
+gather-requires g c = record { keys = c.requires.keys; window = c.reaching-reach.ensures.reach.window; free = c.requires.free; bound = c.requires.bound }
