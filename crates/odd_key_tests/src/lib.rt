@@ -6,4 +6,6 @@ mod containers;
 #[cfg(test)]
 mod maps;
 #[cfg(test)]
+mod ranges;
+#[cfg(test)]
 mod sets;

@@ -3,3 +3,4 @@ pub mod Classes
 pub mod Fractions
 pub mod Halves
 pub mod Onlys
+pub mod Singles

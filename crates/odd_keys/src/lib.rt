@@ -6,3 +6,4 @@ pub mod fraction;
 pub mod half;
 pub mod loose;
 pub mod only;
+pub mod single;
