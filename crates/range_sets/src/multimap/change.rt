@@ -84,10 +84,11 @@ impl<K: Measure + Clone, S: MaybeEmpty, C: Storage<Item<AnyRange<K>, S>>> RangeM
     ///
     /// Each key that has an equal value already keeps its set, and so does each key outside the
     /// range. A stored range that the range neither meets nor touches stands as it was. An empty
-    /// range changes nothing. Allocates for a copy of each set that the range meets, for a clone of the value in each set
-    /// that it joins, for clones of bounds, and where more ranges are stored than the container has
-    /// capacity for; after an error nothing is changed. Costs one search, and a step for each
-    /// stored range that the range meets or touches.
+    /// range changes nothing. Allocates for a copy of each set that the range meets, for a clone of
+    /// the value in each set that it joins, for clones of bounds, and where more ranges are stored
+    /// than the container has capacity for; after an error nothing is changed. Costs one search, a
+    /// step for each stored range that the range meets or touches, and the copies: `n` values that
+    /// are given to one range one by one copy `n * n / 2` values in all.
     ///
     /// ```
     /// classes.insert('0'..='9', 1)?; // digits
@@ -143,10 +144,10 @@ impl<K: Measure + Clone, S: MaybeEmpty, C: Storage<Item<AnyRange<K>, S>>> RangeM
     ///
     /// A key without a value left is bound no more; each key that has no equal value keeps its set,
     /// and so does each key outside the range. A stored range that the range neither meets nor
-    /// touches stands as it was. An empty range changes nothing. Allocates for a copy of each set that the range meets, for
-    /// clones of bounds, and where more ranges are stored than the container has capacity for;
-    /// after an error nothing is changed. Costs one search, and a step for each stored range that
-    /// the range meets or touches.
+    /// touches stands as it was. An empty range changes nothing. Allocates for a copy of each set
+    /// that the range meets, for clones of bounds, and where more ranges are stored than the
+    /// container has capacity for; after an error nothing is changed. Costs one search, a step for
+    /// each stored range that the range meets or touches, and the copies.
     ///
     /// ```
     /// classes.remove('0'..='z', &1)?;
