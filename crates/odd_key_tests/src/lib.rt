@@ -8,4 +8,6 @@ mod maps;
 #[cfg(test)]
 mod ranges;
 #[cfg(test)]
+mod rights;
+#[cfg(test)]
 mod sets;
