@@ -54,6 +54,7 @@ pub use Rattle.range_commands.specs.History
 pub use Rattle.range_sets.specs.KeySets
 pub use Rattle.range_commands.specs.LastCommands
 pub use Rattle.range_sets.specs.Members
+pub use Rattle.range_sets.specs.Multimaps
 pub use Rattle.range_sets.specs.Pairs
 pub use Rattle.range_commands.specs.Runs
 pub use Rattle.range_sets.specs.SetOrder

@@ -4,28 +4,25 @@ use Rattle.std.specs.Ordering.{nat_cmp}
 use Rattle.std.specs.BTreeMap as map
 use Rattle.std.specs.BTreeSet.{BTreeSet, contains}
 use Rattle.btree_range_map.specs.AnyRange.{AnyRange}
-use Rattle.btree_range_map.specs.BoxStorage.{BoxStorage}
 use Rattle.btree_range_map.specs.Characters.{IsCharacter, character_order}
-use Rattle.btree_range_map.specs.Holding.{box_items}
-use Rattle.btree_range_map.specs.Item.{Item}
 use Rattle.btree_range_map.specs.Range.{Holds}
 use Rattle.btree_range_map.specs.Members.{among}
-use Rattle.btree_range_map.specs.Pairs.{HasPair}
+use Rattle.btree_range_map.specs.Multimaps.{Multimap, IsPairOf}
 use Rattle.charmoves.specs.declared.moves.Moves.{Moves}
 use Rattle.charmoves.specs.declared.rules.Rules.{Rules}
 
--- ranges of characters, each with the states that it leads to
+-- the characters and the states that they lead to from one state
 abbrev pub Transitions : Type 0
-Transitions = List (Item (AnyRange ℕ) (BTreeSet ℕ))
+Transitions = Multimap ℕ (BTreeSet ℕ)
 
--- those of a state for which some are stored, or none
-abbrev pub transitions_of : Option (BoxStorage (Item (AnyRange ℕ) (BTreeSet ℕ))) → Transitions
-transitions_of None = []
-transitions_of (Some stored) = box_items stored
+-- the character leads to the state by the transitions, if there are some
+abbrev pub Leads : Option Transitions → ℕ → ℕ → Type 0
+Leads None c q = ⊥
+Leads (Some transitions) c q = IsPairOf character_order (contains nat_cmp) transitions c q
 
 -- some rule leads from state p by character c to state q
 abbrev pub HasRule : Rules → ℕ → ℕ → ℕ → Type 0
-HasRule rules p c q = HasPair character_order (contains nat_cmp) (transitions_of (map.get nat_cmp rules.transitions p)) c q
+HasRule rules p = Leads (map.get nat_cmp rules.transitions p)
 
 -- a text may start in the state
 abbrev pub IsStart : Rules → ℕ → Type 0

@@ -6,4 +6,8 @@ mod containers;
 #[cfg(test)]
 mod maps;
 #[cfg(test)]
+mod ranges;
+#[cfg(test)]
+mod rights;
+#[cfg(test)]
 mod sets;

@@ -3,3 +3,5 @@ pub mod Classes
 pub mod Fractions
 pub mod Halves
 pub mod Onlys
+pub mod RightSets
+pub mod Singles

@@ -1,4 +1,4 @@
-//! Keys and values that are lawful and unlike numbers.
+//! Keys, values and sets of values that are lawful and unlike those of std.
 #![tactic(auto)]
 
 pub mod blind;
@@ -6,3 +6,5 @@ pub mod fraction;
 pub mod half;
 pub mod loose;
 pub mod only;
+pub mod rights;
+pub mod single;

@@ -33,6 +33,12 @@ IsBoundInfallible is_infallible (Included a) = is_infallible a
 IsBoundInfallible is_infallible (Excluded a) = is_infallible a
 IsBoundInfallible is_infallible Unbounded = Unit {0}
 
+-- the value, if the bound includes one, is cloned without fail
+abbrev pub IsIncludedInfallible : {T : Type 0} → (T → Type 0) → Bound T → Type 0
+IsIncludedInfallible is_infallible (Included a) = is_infallible a
+IsIncludedInfallible is_infallible (Excluded a) = Unit {0}
+IsIncludedInfallible is_infallible Unbounded = Unit {0}
+
 -- both bounds are cloned
 abbrev pub IsRangeClone : {T : Type 0} → (T → T → Type 0) → AnyRange T → AnyRange T → Type 0
 IsRangeClone is_clone r s = IsBoundClone is_clone r.start s.start × IsBoundClone is_clone r.end s.end

@@ -1,8 +1,8 @@
 //! Ranges by their two bounds.
 
-ghost use Rattle.std.specs.Prelude.{◌≡◌, ◌↔◌, ⊤, IsTrue, IfOk, OnErr, IfSome, IfNone, MatchResult, None};
+ghost use Rattle.std.specs.Prelude.{◌≡◌, ◌↔◌, ◌⊎◌, ⊤, IsTrue, IfOk, OnErr, IfSome, IfNone, MatchResult, Ok, None};
 ghost use Rattle.range_algebra.specs.Extremes.{IsLeastOf, IsGreatestOf, HasNoLeast, HasNoGreatest};
-ghost use Rattle.range_algebra.specs.Clones.{IsBoundClone, IsBoundInfallible, IsRangeInfallible};
+ghost use Rattle.range_algebra.specs.Clones.{IsBoundClone, IsBoundInfallible, IsIncludedInfallible};
 ghost use Rattle.std.specs.declared.cmp.Ordering.TheVariants.{Equal};
 ghost use Rattle.std.specs.Option.{option_or};
 ghost use Rattle.range_keys.specs.Order.{IsComplete, SameAnswer};
@@ -125,16 +125,16 @@ impl<T: PartialEnum + Bounded + Clone> AnyRange<T> {
     /// The least key of the range, or `None` where the range is empty or its start names no key.
     ///
     /// An included start is cloned, so the call allocates what a clone of a key does, and fails
-    /// only where the clone fails.
+    /// only where the clone fails: never at an excluded or unbounded start, nor of an empty range.
     pub fn first(&self) -> Result<Option<T>, AllocError>
         requires clones { ClonesAreEqual T.is_clone T.eq }
-        ensures empty { IsEmptyRange T.order self.now → IfOk result (λ key. key ≡ None) }
+        ensures empty { IsEmptyRange T.order self.now → result ≡ Ok None }
         ensures nonempty { ¬ IsEmptyRange T.order self.now
             → IfOk result (λ key. SameAnswer T.order (start_key T.order self.now.start) key) }
         ensures least { IfOk result (λ key. IfSome key (IsLeastOf T.order self.now)) }
         ensures complete { IsComplete T.order
             → IfOk result (λ key. IfNone key (HasNoLeast T.order self.now)) }
-        ensures fails { OnErr result (¬ IsBoundInfallible T.is_infallible self.now.start) }
+        ensures fails { OnErr result (¬ IsIncludedInfallible T.is_infallible self.now.start) }
     {
         inner::known(self);
         if self.is_empty() {
@@ -146,16 +146,16 @@ impl<T: PartialEnum + Bounded + Clone> AnyRange<T> {
     /// The greatest key of the range, or `None` where the range is empty or its end names no key.
     ///
     /// An included end is cloned, so the call allocates what a clone of a key does, and fails
-    /// only where the clone fails.
+    /// only where the clone fails: never at an excluded or unbounded end, nor of an empty range.
     pub fn last(&self) -> Result<Option<T>, AllocError>
         requires clones { ClonesAreEqual T.is_clone T.eq }
-        ensures empty { IsEmptyRange T.order self.now → IfOk result (λ key. key ≡ None) }
+        ensures empty { IsEmptyRange T.order self.now → result ≡ Ok None }
         ensures nonempty { ¬ IsEmptyRange T.order self.now
             → IfOk result (λ key. SameAnswer T.order (end_key T.order self.now.end) key) }
         ensures greatest { IfOk result (λ key. IfSome key (IsGreatestOf T.order self.now)) }
         ensures complete { IsComplete T.order
             → IfOk result (λ key. IfNone key (HasNoGreatest T.order self.now)) }
-        ensures fails { OnErr result (¬ IsBoundInfallible T.is_infallible self.now.end) }
+        ensures fails { OnErr result (¬ IsIncludedInfallible T.is_infallible self.now.end) }
     {
         inner::known(self);
         if self.is_empty() {
@@ -167,15 +167,16 @@ impl<T: PartialEnum + Bounded + Clone> AnyRange<T> {
 
 impl<T: PartialEnum + Bounded + Clone> AnyRange<T> {
     /// A key of the range: the least, or else the greatest, or `None` where the range is empty or
-    /// its bounds name no key. Fails only where a clone of a key fails.
+    /// its bounds name no key. Fails only where a clone of an included bound's key fails.
     pub fn pick(&self) -> Result<Option<T>, AllocError>
         requires clones { ClonesAreEqual T.is_clone T.eq }
-        ensures empty { IsEmptyRange T.order self.now → IfOk result (λ key. key ≡ None) }
+        ensures empty { IsEmptyRange T.order self.now → result ≡ Ok None }
         ensures nonempty { ¬ IsEmptyRange T.order self.now
             → IfOk result (λ key. SameAnswer T.order
             (option_or (start_key T.order self.now.start) (end_key T.order self.now.end)) key) }
         ensures held { IfOk result (λ key. IfSome key (Holds T.order self.now)) }
-        ensures fails { OnErr result (¬ IsRangeInfallible T.is_infallible self.now) }
+        ensures fails { OnErr result (¬ IsIncludedInfallible T.is_infallible self.now.start
+            ⊎ ¬ IsIncludedInfallible T.is_infallible self.now.end) }
     {
         match self.first()? {
             Some(key) => Ok(Some(key)),
@@ -188,7 +189,7 @@ impl<T: PartialEnum + Bounded + Clone> AnyRange<T> {
 fn key_of_start<T: PartialEnum + Bounded + Clone>(start: &Bound<T>) -> Result<Option<T>, AllocError>
     requires { ClonesAreEqual T.is_clone T.eq }
     ensures named { IfOk result (SameAnswer T.order (start_key T.order start.now)) }
-    ensures fails { OnErr result (¬ IsBoundInfallible T.is_infallible start.now) }
+    ensures fails { OnErr result (¬ IsIncludedInfallible T.is_infallible start.now) }
 {
     Ok(match start {
         Bound::Included(key) => Some(key.clone()?),
@@ -201,7 +202,7 @@ fn key_of_start<T: PartialEnum + Bounded + Clone>(start: &Bound<T>) -> Result<Op
 fn key_of_end<T: PartialEnum + Bounded + Clone>(end: &Bound<T>) -> Result<Option<T>, AllocError>
     requires { ClonesAreEqual T.is_clone T.eq }
     ensures named { IfOk result (SameAnswer T.order (end_key T.order end.now)) }
-    ensures fails { OnErr result (¬ IsBoundInfallible T.is_infallible end.now) }
+    ensures fails { OnErr result (¬ IsIncludedInfallible T.is_infallible end.now) }
 {
     Ok(match end {
         Bound::Included(key) => Some(key.clone()?),

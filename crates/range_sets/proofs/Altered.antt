@@ -1,5 +1,5 @@
 -- What a copy of a set has once a value is put into it or taken out of it.
-use Rattle.std.proofs.Common.{◌≡◌, refl, sym, ap, ◌∙◌, Bool, true, false, not, ◌&&◌, ◌||◌, IsTrue, Option, Some, None}
+use Rattle.std.proofs.Common.{◌≡◌, refl, sym, ap, ◌∙◌, ◌↔◌, ◌⊎◌, inl, inr, Bool, true, false, not, ◌&&◌, ◌||◌, IsTrue, Option, Some, None}
 use Rattle.std.specs.Prelude.{IfSome}
 use Rattle.std.specs.Cmp.{IsEquivalence}
 use Rattle.range_map.specs.Answers.{IsAsAnswered}
@@ -20,6 +20,14 @@ or_absorbs false b h = refl
 and_absorbs : (a b : Bool) → (IsTrue a → b ≡ false) → b ≡ (not a && b)
 and_absorbs true b h = h refl
 and_absorbs false b h = refl
+
+pub or_true : (a b : Bool) → IsTrue (a || b) ↔ (IsTrue a ⊎ IsTrue b)
+or_true true b = (λ _. inl refl, λ _. refl)
+or_true false b = (λ h. inr h, λ h. elim h [ inl e ↦ cc | inr e ↦ e ])
+
+pub but_true : (a b : Bool) → IsTrue (not a && b) ↔ (IsTrue b × ¬ IsTrue a)
+but_true true b = (λ h. cc, λ h. absurd (h.1 refl))
+but_true false b = (λ h. (h, λ e. cc), λ h. h.0)
 
 or_false : (a b c : Bool) → c ≡ (a || b) → IsTrue a → c ≡ false → ⊥
 or_false true b c e t f = never_both c e f

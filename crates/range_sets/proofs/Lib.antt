@@ -7,6 +7,7 @@ pub mod Enclosing
 pub mod EndRanges
 pub mod Filled
 pub mod Filling
+pub mod Keeping
 pub mod Likeness
 pub mod Matching
 pub mod Membership

@@ -1,5 +1,5 @@
 -- Which pairs a list with sets has, read off what it binds, and what an update makes of them.
-use Rattle.std.proofs.Common.{◌≡◌, refl, sym, ◌∙◌, ◌↔◌, ◌⊎◌, inl, inr, Bool, true, false, not, ◌&&◌, ◌||◌, IsTrue, List, [], ◌∷◌, ◌++◌, Option, Some, None, Result, Ok, Err, OnOk}
+use Rattle.std.proofs.Common.{◌≡◌, refl, sym, ◌∙◌, ◌↔◌, ◌⊎◌, inl, inr, Bool, true, false, IsTrue, List, [], ◌∷◌, ◌++◌, Option, Some, None, Result, Ok, Err, OnOk}
 use Rattle.std.specs.Prelude.{IfSome, IsNone}
 use denote.Ref.{Bor}
 use Rattle.std.specs.Option.{option_copied}
@@ -12,23 +12,19 @@ use Rattle.range_algebra.specs.Intervals.{Every}
 use Rattle.range_algebra.specs.Range.{Holds, IsEmptyRange}
 use Rattle.range_algebra.specs.declared.any.AnyRange.{AnyRange}
 use Rattle.range_store.specs.declared.storage.Item.{Item}
-use Rattle.range_map.specs.Answers.{Answered, IsAsAnswered, IsGivenBy, MayAnswer, IsUpdated}
+use Rattle.range_map.specs.Answers.{IsAsAnswered, MayAnswer, IsUpdated}
 use Rattle.range_map.specs.Bindings.{IsBound, BindsTo, Binds}
 use Rattle.range_map.specs.ListOrder.{IsCopyOf}
-use Rattle.range_map.specs.Frames.{HasValue}
+use Rattle.range_map.specs.Frames.{GaveWay, HasValue}
 use Rattle.range_map.specs.Rebinding.{AreRebound}
 use Rattle.range_sets.specs.Members.{HasNone, HaveSame, HasAlso, HasAllBut, among}
 use Rattle.range_sets.specs.Pairs.{HasNoEmptySet, HasPair, IsUnpaired, AreValuesAt, HasPairsAlso, HasPairsWithout, StayBound}
+use Rattle.range_sets.proofs.Altered.{or_true, but_true}
+use Rattle.range_sets.proofs.Keeping.{gave_way_to_such}
+use Rattle.range_algebra.proofs.Lists.{every_weaker, every_append, every_left, every_right}
 use Rattle.range_algebra.proofs.Meeting.{held_or_not}
+use Rattle.range_map.proofs.Cutting.{any_use}
 use Rattle.range_map.proofs.Meeting.{binds_bound}
-
-or_true : (a b : Bool) → IsTrue (a || b) ↔ (IsTrue a ⊎ IsTrue b)
-or_true true b = (λ _. inl refl, λ _. refl)
-or_true false b = (λ h. inr h, λ h. elim h [ inl e ↦ cc | inr e ↦ e ])
-
-but_true : (a b : Bool) → IsTrue (not a && b) ↔ (IsTrue b × ¬ IsTrue a)
-but_true true b = (λ h. cc, λ h. absurd (h.1 refl))
-but_true false b = (λ h. (h, λ e. cc), λ h. h.0)
 
 module _ {K : Type 0} (order : KeyOrder K) {S V : Type 0} (same : S → S → Bool) (equal : IsEquivalence same) (has : S → V → Bool) (respects : (s t : S) → IsTrue (same s t) → HaveSame has s t) where
   abbrev Items : Type 0
@@ -153,42 +149,52 @@ module _ {K : Type 0} (order : KeyOrder K) {S V : Type 0} (same : S → S → Bo
 
 module _ {K : Type 0} (order : KeyOrder K) {S : Type 0} (same : S → S → Bool) (equal : IsEquivalence same) (is_void : S → Type 0) (void_equal : (s t : S) → IsTrue (same s t) → is_void s → is_void t) {F E : Type 0} (calls : Shared F (Option (Bor S) × Unit {0}) (Result (Option S) E)) (f : F)
     (told : (old answer : Option S) → MayAnswer calls f old (Ok answer) → IfSome answer (λ s. ¬ is_void s)) where
-  front_of : (xs ys : List (Item (AnyRange K) S)) → HasNoEmptySet is_void (xs ++ ys) → HasNoEmptySet is_void xs × HasNoEmptySet is_void ys
-  front_of [] ys h = (tt, h)
-  front_of (x ∷ xs) ys h = let (a, b) = front_of xs ys h.1 in ((h.0, a), b)
+  from_run : (run : List (Item (AnyRange K) S)) (s : S) → HasNoEmptySet is_void run
+      → HasValue order same run s → ¬ is_void s
+  from_run run s full was void =
+      any_use (λ i. IsTrue (same s i.value)) (λ i. ¬ is_void i.value) run was full
+      (λ i e here. here (void_equal s i.value e void))
 
-  back_to : (xs ys : List (Item (AnyRange K) S)) → HasNoEmptySet is_void xs → HasNoEmptySet is_void ys → HasNoEmptySet is_void (xs ++ ys)
-  back_to [] ys h k = k
-  back_to (x ∷ xs) ys h k = (h.0, back_to xs ys h.1 k)
+  from_answer : (answer : Option S) (s : S) → IfSome answer (λ t. ¬ is_void t)
+      → IsAsAnswered same answer (Some s) → ¬ is_void s
+  from_answer None s full e void = cc
+  from_answer (Some t) s full e void = full (void_equal s t (equal.symm s t ∙ e) void)
 
-  from_run : (run : List (Item (AnyRange K) S)) (s : S) → HasNoEmptySet is_void run → HasValue order same run s → ¬ is_void s
-  from_run [] s full h void = h
-  from_run (i ∷ rest) s full (inl e) void = full.0 (void_equal s i.value e void)
-  from_run (i ∷ rest) s full (inr h) void = from_run rest s full.1 h void
+  others_full : (run others : List (Item (AnyRange K) S)) → HasNoEmptySet is_void run
+      → Every (λ j. HasValue order same run j.value ⊎ ¬ is_void j.value) others
+      → HasNoEmptySet is_void others
+  others_full run others full =
+      every_weaker (λ j. HasValue order same run j.value ⊎ ¬ is_void j.value)
+      (λ j. ¬ is_void j.value) others
+      (λ j t. elim t [ inl was ↦ from_run run j.value full was | inr new ↦ new ])
 
-  answer_full : (answer : Option S) (s : S) → IfSome answer (λ t. ¬ is_void t) → IsAsAnswered same answer (Some s) → ¬ is_void s
-  answer_full None s full e void = cc
-  answer_full (Some t) s full e void = full (void_equal s t (equal.symm s t ∙ e) void)
+  way_full : (items next : List (Item (AnyRange K) S)) (r : AnyRange K)
+      → HasNoEmptySet is_void items
+      → GaveWay order same items next r (λ s. ¬ is_void s) → HasNoEmptySet is_void next
+  way_full items next r full way =
+      let P : Item (AnyRange K) S → Type 0 = λ i. ¬ is_void i.value in
+      let all = rw way.before at full in
+      let ahead = every_left P (way.front ++ way.run) way.behind all in
+      let others = others_full way.run way.others (every_right P way.front way.run ahead)
+          way.such.valued in
+      rw way.after (every_append P (way.front ++ way.others) way.behind
+      (every_append P way.front way.others (every_left P way.front way.run ahead) others)
+      (every_right P (way.front ++ way.run) way.behind all))
 
-  from_answers : (answers : List (Answered K S)) (s : S) → Every (λ a. MayAnswer calls f a.value (Ok a.answer)) answers → IsGivenBy same answers s → ¬ is_void s
-  from_answers [] s given h void = h
-  from_answers (a ∷ rest) s given (inl e) void = answer_full a.answer s (told a.value a.answer given.0) e void
-  from_answers (a ∷ rest) s given (inr h) void = from_answers rest s given.1 h void
-
-  all_full : (run others : List (Item (AnyRange K) S)) (answers : List (Answered K S)) → HasNoEmptySet is_void run → Every (λ a. MayAnswer calls f a.value (Ok a.answer)) answers → Every (λ j. HasValue order same run j.value ⊎ IsGivenBy same answers j.value) others → HasNoEmptySet is_void others
-  all_full run [] answers full given h = tt
-  all_full run (j ∷ rest) answers full given h = (elim h.0 [ inl was ↦ from_run run j.value full was | inr new ↦ from_answers answers j.value given new ], all_full run rest answers full given h.1)
-
-  pub stay_full : (items next : List (Item (AnyRange K) S)) (r : AnyRange K) → HasNoEmptySet is_void items → (IsEmptyRange order r → next ≡ items) → ((¬ IsEmptyRange order r) → IsUpdated order same calls f items next r) → HasNoEmptySet is_void next
-  stay_full items next r full unchanged updated = elim (greater_or_not (position_cmp order.cmp (start_position order r.start) (end_position order r.end))) [
-    | inl empty ↦ rw (unchanged empty) full
-    | inr nonempty ↦
-        let done = updated nonempty in
-        let frame = done.frame in
-        let parts = front_of (frame.front ++ frame.run) frame.behind (rw frame.before at full) in
-        let first = front_of frame.front frame.run parts.0 in
-        rw frame.after (back_to (frame.front ++ frame.others) frame.behind (back_to frame.front frame.others first.0 (all_full frame.run frame.others done.answered.answers first.1 done.answered.given frame.such.valued)) parts.1)
-  ]
+  pub stay_full : (items next : List (Item (AnyRange K) S)) (r : AnyRange K)
+      → HasNoEmptySet is_void items → (IsEmptyRange order r → next ≡ items)
+      → ((¬ IsEmptyRange order r) → IsUpdated order same calls f items next r)
+      → HasNoEmptySet is_void next
+  stay_full items next r full unchanged updated =
+      let start = start_position order r.start in
+      let end = end_position order r.end in
+      elim (greater_or_not (position_cmp order.cmp start end)) [
+        | inl empty ↦ rw (unchanged empty) full
+        | inr nonempty ↦ way_full items next r full
+            (gave_way_to_such order same calls f (λ s. ¬ is_void s)
+            (λ old answer may s. from_answer answer s (told old answer may)) items next r
+            (updated nonempty))
+      ]
 
 module _ {K : Type 0} (order : KeyOrder K) {S : Type 0} (same : S → S → Bool) (equal : IsEquivalence same) (is_void : S → Type 0) (void_equal : (s t : S) → IsTrue (same s t) → is_void s → is_void t) {F E : Type 0} (calls : Shared F (Option (Bor S) × Unit {0}) (Result (Option S) E)) (f : F) (items next : List (Item (AnyRange K) S)) (r : AnyRange K) where
   pub stays_full : ((¬ IsEmptyRange order r) → IsUpdated order same calls f items next r) → ((old answer : Option S) → MayAnswer calls f old (Ok answer) → IfSome answer (λ s. ¬ is_void s)) → HasNoEmptySet is_void items → (IsEmptyRange order r → next ≡ items) → HasNoEmptySet is_void next

@@ -5,6 +5,7 @@ pub mod Extending
 pub mod KeySets
 pub mod ListedMembers
 pub mod Members
+pub mod Multimaps
 pub mod Pairs
 pub mod SetOrder
 pub mod SetTexts

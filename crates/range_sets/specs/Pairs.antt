@@ -17,6 +17,18 @@ module _ {K : Type 0} (order : KeyOrder K) {S : Type 0} (same : S → S → Bool
   abbrev pub StayBound : List (Item (AnyRange K) S) → List (Item (AnyRange K) S) → (K → Type 0) → Type 0
   StayBound before after P = (k : K) → order.is_key k → P k → (b : Option S) → Binds order same after k b ↔ Binds order same before k b
 
+-- of two relations between keys and values, each of which says which pairs there are
+module _ {K : Type 0} (order : KeyOrder K) {V : Type 0} (eq : V → V → Bool) where
+  -- the second has the pairs of the first, and those of the range's keys with what equals the value
+  abbrev pub AddsPairs : (K → V → Type 0) → (K → V → Type 0) → AnyRange K → V → Type 0
+  AddsPairs before after r v = (k : K) → order.is_key k → (w : V)
+      → after k w ↔ (before k w ⊎ (Holds order r k × IsTrue (eq v w)))
+
+  -- the second has the pairs of the first, but for those of the range's keys with what equals it
+  abbrev pub TakesPairs : (K → V → Type 0) → (K → V → Type 0) → AnyRange K → V → Type 0
+  TakesPairs before after r v = (k : K) → order.is_key k → (w : V)
+      → after k w ↔ (before k w × ¬ (Holds order r k × IsTrue (eq v w)))
+
 module _ {K : Type 0} (order : KeyOrder K) {S V : Type 0} (has : S → V → Bool) where
   abbrev Items : Type 0
   Items = List (Item (AnyRange K) S)
@@ -36,8 +48,8 @@ module _ {K : Type 0} (order : KeyOrder K) {S V : Type 0} (has : S → V → Boo
   module _ (eq : V → V → Bool) where
     -- the pairs of the range's keys with what equals the value were added, and no others
     abbrev pub HasPairsAlso : List (Item (AnyRange K) S) → List (Item (AnyRange K) S) → AnyRange K → V → Type 0
-    HasPairsAlso before after r v = (k : K) → order.is_key k → (w : V) → HasPair after k w ↔ (HasPair before k w ⊎ (Holds order r k × IsTrue (eq v w)))
+    HasPairsAlso before after = AddsPairs order eq (HasPair before) (HasPair after)
 
     -- the pairs of the range's keys with what equals the value were taken away, and no others
     abbrev pub HasPairsWithout : List (Item (AnyRange K) S) → List (Item (AnyRange K) S) → AnyRange K → V → Type 0
-    HasPairsWithout before after r v = (k : K) → order.is_key k → (w : V) → HasPair after k w ↔ (HasPair before k w × ¬ (Holds order r k × IsTrue (eq v w)))
+    HasPairsWithout before after = TakesPairs order eq (HasPair before) (HasPair after)

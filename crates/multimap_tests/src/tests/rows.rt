@@ -67,6 +67,24 @@ fn ranges_with_equal_sets_are_joined(rt: HostRuntime) -> Result<(), Fail> {
     passes_numbers(&rt, rt.alloc(), &Table(JOINED))
 }
 
+/// Ranges apart from those of the calls, some with the value, keep their bounds and their sets.
+static FAR_RANGES: &[Step<'static, i32>] = &[
+    Step::Insert(HalfOpen(0, 5), 1),
+    Step::Insert(Closed(20, 24), 2),
+    Step::Insert(HalfOpen(30, 35), 1),
+    Step::Insert(Closed(8, 12), 1),
+    Step::Insert(HalfOpen(10, 16), 2),
+    Step::Remove(Closed(7, 18), 1),
+    Step::Remove(HalfOpen(7, 18), 2),
+    Step::Bounds(&[HalfOpen(0, 5), Closed(20, 24), HalfOpen(30, 35)]),
+    Step::Stores(&[(0, 4, One(1)), (20, 24, One(2)), (30, 34, One(1))]),
+];
+
+#[test]
+fn far_ranges_stand(rt: HostRuntime) -> Result<(), Fail> {
+    passes_numbers(&rt, rt.alloc(), &Table(FAR_RANGES))
+}
+
 /// Digits with a number each, and then one number more for all of them.
 static DIGITS: &[Step<'static, char>] = &[
     Step::Insert(Alone('1'), 100),

@@ -55,6 +55,8 @@ pub enum Step<'a, K> {
     /// Whether the key has the value.
     Contains(K, i32, bool),
     Stores(&'a [Row<K>]),
+    /// The ranges that are stored, each with just these bounds.
+    Bounds(&'a [Keys<K>]),
 }
 
 /// The same range, by its bounds.
@@ -97,6 +99,12 @@ fn is_row<K: Measure + Copy, S: SetMut<i32>>(
     Ok(*range == range_of(Keys::Closed(first, last)) && is_set_of(alloc, set, values)?)
 }
 
+/// Whether the range has just these bounds, as they are written.
+fn has_bounds<K: Copy + PartialEq>(range: &AnyRange<K>, keys: Keys<K>) -> bool {
+    let other = range_of(keys);
+    range.start == other.start && range.end == other.end
+}
+
 /// A multimap over some container, with sets of some type.
 pub trait Played<K: Copy + PartialEq> {
     fn insert(&mut self, keys: Keys<K>, value: i32) -> Result<(), MapError>
@@ -115,6 +123,9 @@ pub trait Played<K: Copy + PartialEq> {
 
     /// Whether just these ranges and values are stored.
     fn stores(&self, alloc: Global, rows: &[Row<K>]) -> Result<bool, AllocError>;
+
+    /// Whether just these ranges are stored, with these bounds.
+    fn stores_bounds(&self, ranges: &[Keys<K>]) -> bool;
 }
 
 impl<K: Measure + Copy, S: SetMut<i32>, C: Storage<Item<AnyRange<K>, S>>> Played<K>
@@ -156,6 +167,17 @@ impl<K: Measure + Copy, S: SetMut<i32>, C: Storage<Item<AnyRange<K>, S>>> Played
         }
         Ok(items.next().is_none())
     }
+
+    fn stores_bounds(&self, ranges: &[Keys<K>]) -> bool {
+        let mut items = self.iter();
+        for keys in ranges {
+            match items.next() {
+                Some((range, _)) if has_bounds(range, *keys) => (),
+                _ => return false,
+            }
+        }
+        items.next().is_none()
+    }
 }
 
 /// Makes the call, or tells whether what has to hold does.
@@ -172,6 +194,7 @@ fn goes<K: Copy + PartialEq, M: Played<K>>(
         Step::Has(key, values) => Ok(map.has(alloc, *key, *values)?),
         Step::Contains(key, value, held) => Ok(map.has_value(*key, *value) == *held),
         Step::Stores(rows) => Ok(map.has_count(rows.len()) && map.stores(alloc, rows)?),
+        Step::Bounds(ranges) => Ok(map.stores_bounds(ranges)),
     }
 }
 

@@ -2,9 +2,10 @@
 ghost use Rattle.std.specs.Prelude.{◌≡◌, IsTrue, IsOk, IfOk, OnOk, OnErr, IfSome};
 ghost use Rattle.std.specs.Option.{option_copied};
 ghost use Rattle.range_keys.specs.Order.{IsComplete};
-ghost use Rattle.range_algebra.specs.Range.{ClonesAreEqual, IsEmptyRange};
+ghost use Rattle.range_algebra.specs.Range.{ClonesAreEqual, Holds, IsEmptyRange};
 ghost use Rattle.range_map.specs.Answers.{IsAsAnswered};
-ghost use Rattle.range_map.specs.Bindings.{IsOnlyCoarse};
+ghost use Rattle.range_map.specs.Bindings.{IsCoarse, IsOnlyCoarse};
+ghost use Rattle.range_map.specs.Frames.{GaveWay};
 ghost use Rattle.range_map.specs.Stored.{IsStored};
 ghost use Rattle.range_sets.specs.Members.{HasAlso, HasAllBut, among};
 ghost use Rattle.range_sets.specs.Pairs.{HasNoEmptySet, HasPair, HasPairsAlso, HasPairsWithout, StayBound};
@@ -81,11 +82,13 @@ fn without_value<V: Eq + Clone, S: SetMut<V>>(
 impl<K: Measure + Clone, S: MaybeEmpty, C: Storage<Item<AnyRange<K>, S>>> RangeMultiMap<K, S, C> {
     /// Pairs each key of the range with the value.
     ///
-    /// Each key that has an equal value already keeps its set. An empty range changes nothing.
-    /// Allocates for a copy of each set that the range meets, for a clone of the value in each set
-    /// that it joins, for clones of bounds, and where more ranges are stored than the container has
-    /// capacity for; after an error nothing is changed. Costs one search, and a step for each
-    /// stored range that the range meets or touches.
+    /// Each key that has an equal value already keeps its set, and so does each key outside the
+    /// range. A stored range that the range neither meets nor touches stands as it was. An empty
+    /// range changes nothing. Allocates for a copy of each set that the range meets, for a clone of
+    /// the value in each set that it joins, for clones of bounds, and where more ranges are stored
+    /// than the container has capacity for; after an error nothing is changed. Costs one search, a
+    /// step for each stored range that the range meets or touches, and the copies: `n` values that
+    /// are given to one range one by one copy `n * n / 2` values in all.
     ///
     /// ```
     /// classes.insert('0'..='9', 1)?; // digits
@@ -106,8 +109,14 @@ impl<K: Measure + Clone, S: MaybeEmpty, C: Storage<Item<AnyRange<K>, S>>> RangeM
             (R.range range) value) }
         ensures kept { StayBound K.order S.eq (C.items self.old) (C.items self.new)
             (λ k. HasPair K.order S.has (C.items self.old) k value) }
+        ensures others { StayBound K.order S.eq (C.items self.old) (C.items self.new)
+            (λ k. ¬ Holds K.order (R.range range) k) }
+        ensures frame { OnOk result (¬ IsEmptyRange K.order (R.range range)
+            → GaveWay K.order S.eq (C.items self.old) (C.items self.new) (R.range range)
+            (λ s. IsTrue (S.has s value))) }
         ensures form { IsStored K.order S.eq (C.items self.new) }
         ensures nonempty { HasNoEmptySet S.is_void (C.items self.new) }
+        ensures coarse { IsComplete K.order → IsCoarse K.order S.eq (C.items self.new) }
         ensures only { IsComplete K.order → IsOnlyCoarse K.order S.eq (C.items self.new) }
         ensures refused { OnErr result (C.items self.new ≡ C.items self.old) }
         ensures empty { IsEmptyRange K.order (R.range range) → IsOk result }
@@ -133,11 +142,12 @@ impl<K: Measure + Clone, S: MaybeEmpty, C: Storage<Item<AnyRange<K>, S>>> RangeM
 
     /// Takes the value from each key of the range.
     ///
-    /// A key without a value left is bound no more; each key that has no equal value keeps its set.
-    /// An empty range changes nothing. Allocates for a copy of each set that the range meets, for
-    /// clones of bounds, and where more ranges are stored than the container has capacity for;
-    /// after an error nothing is changed. Costs one search, and a step for each stored range that
-    /// the range meets or touches.
+    /// A key without a value left is bound no more; each key that has no equal value keeps its set,
+    /// and so does each key outside the range. A stored range that the range neither meets nor
+    /// touches stands as it was. An empty range changes nothing. Allocates for a copy of each set
+    /// that the range meets, for clones of bounds, and where more ranges are stored than the
+    /// container has capacity for; after an error nothing is changed. Costs one search, a step for
+    /// each stored range that the range meets or touches, and the copies.
     ///
     /// ```
     /// classes.remove('0'..='z', &1)?;
@@ -157,8 +167,14 @@ impl<K: Measure + Clone, S: MaybeEmpty, C: Storage<Item<AnyRange<K>, S>>> RangeM
             (R.range range) value.now) }
         ensures kept { StayBound K.order S.eq (C.items self.old) (C.items self.new)
             (λ k. ¬ HasPair K.order S.has (C.items self.old) k value.now) }
+        ensures others { StayBound K.order S.eq (C.items self.old) (C.items self.new)
+            (λ k. ¬ Holds K.order (R.range range) k) }
+        ensures frame { OnOk result (¬ IsEmptyRange K.order (R.range range)
+            → GaveWay K.order S.eq (C.items self.old) (C.items self.new) (R.range range)
+            (λ s. ¬ IsTrue (S.has s value.now))) }
         ensures form { IsStored K.order S.eq (C.items self.new) }
         ensures nonempty { HasNoEmptySet S.is_void (C.items self.new) }
+        ensures coarse { IsComplete K.order → IsCoarse K.order S.eq (C.items self.new) }
         ensures only { IsComplete K.order → IsOnlyCoarse K.order S.eq (C.items self.new) }
         ensures refused { OnErr result (C.items self.new ≡ C.items self.old) }
         ensures empty { IsEmptyRange K.order (R.range range) → IsOk result }

@@ -3,6 +3,7 @@ use Rattle.range_map.specs.Answers.{IsAsAnswered}
 use Rattle.range_sets.specs.Members.{HasAlso, among}
 use Rattle.range_sets.specs.Pairs.{HasPair}
 use Rattle.range_map.proofs.ClosureAnswers.{every_one}
+use Rattle.range_sets.proofs.Keeping.{added_is_had, gave_way_to_such}
 use Rattle.range_sets.proofs.Pairing.{added, values_at, stay_bound, stays_full, not_refused}
 use Rattle.range_sets.proofs.multimap.RangeMultiMap.insert.Goals as goal
 
@@ -39,6 +40,25 @@ returns-clause-kept g c =
     (λ k key here old answer was m.
     subst (λ o. IsTrue (among has o c.args.value) → IsAsAnswered same o answer) m.shows m.says.1.1.1 ((values_at order same equal has respects k items old (once k key) was c.args.value).0 here)))
 
+pub returns-clause-others : goal.returns-clause-others
+returns-clause-others g c =
+    let now = not_refused c.update.result c.update.ensures.rebound c.in_default.not-Err in
+    rw (← c.self.view_is) now.others
+
+pub returns-clause-frame : goal.returns-clause-frame
+returns-clause-frame g c =
+    let items = g.C.Storage.items c.self.inside.map in
+    let next = g.C.Storage.items c.update.new.self in
+    let same = g.S.PartialEq.eq in
+    let has = g.S.SetMut.has in
+    let value = c.args.value in
+    let done = not_refused c.update.result c.update.ensures.updated c.in_default.not-Err in
+    rw (← c.self.view_is) (λ nonempty. gave_way_to_such g.K.MaybeBounded.order same _ _
+    (λ s. IsTrue (has s value))
+    (λ old answer m s. added_is_had same has g.met.S.SetMut.equal_same g.V.PartialEq.eq
+    g.met.V.Eq.laws value _ answer s m.says.1.0)
+    items next (g.R.AsRange.range c.args.range) (done nonempty))
+
 pub invariant_of-self-2 : goal.invariant_of-self-2
 invariant_of-self-2 g c =
     let done = c.update.ensures in
@@ -68,6 +88,9 @@ update-requires-clause-bound g c = every_one _ (g.C.Storage.items c.self.inside.
 pub returns-clause-form : goal.returns-clause-form
 returns-clause-form g c = c.update.ensures.form
 
+pub returns-clause-coarse : goal.returns-clause-coarse
+returns-clause-coarse g c = c.update.ensures.coarse
+
 pub returns-clause-only : goal.returns-clause-only
 returns-clause-only g c = c.update.ensures.only
 
@@ -83,11 +106,21 @@ returns-in-Err-clause-added g c = tt
 pub returns-in-Err-clause-kept : goal.returns-in-Err-clause-kept
 returns-in-Err-clause-kept g c = rw (← c.self.view_is, c.in-Err.ensures.refused) (λ k key here b. (λ h. h, λ h. h))
 
+pub returns-in-Err-clause-others : goal.returns-in-Err-clause-others
+returns-in-Err-clause-others g c =
+    rw (← c.self.view_is, c.in-Err.ensures.refused) (λ k key out b. (λ h. h, λ h. h))
+
+pub returns-in-Err-clause-frame : goal.returns-in-Err-clause-frame
+returns-in-Err-clause-frame g c = tt
+
 pub returns-in-Err-clause-form : goal.returns-in-Err-clause-form
 returns-in-Err-clause-form g c = c.update.ensures.form
 
 pub returns-in-Err-clause-nonempty : goal.returns-in-Err-clause-nonempty
 returns-in-Err-clause-nonempty g c = rw c.in-Err.ensures.refused c.self.invariant
+
+pub returns-in-Err-clause-coarse : goal.returns-in-Err-clause-coarse
+returns-in-Err-clause-coarse g c = c.update.ensures.coarse
 
 pub returns-in-Err-clause-only : goal.returns-in-Err-clause-only
 returns-in-Err-clause-only g c = c.update.ensures.only

@@ -4,6 +4,7 @@ use Rattle.range_map.specs.Answers.{IsAsAnswered}
 use Rattle.range_sets.specs.Members.{HasAllBut, among}
 use Rattle.range_sets.specs.Pairs.{HasPair}
 use Rattle.range_map.proofs.ClosureAnswers.{every_one}
+use Rattle.range_sets.proofs.Keeping.{removed_is_not_had, gave_way_to_such}
 use Rattle.range_sets.proofs.Pairing.{removed, values_at, full_some, stay_bound, stays_full, not_refused}
 use Rattle.range_sets.proofs.multimap.RangeMultiMap.remove.Goals as goal
 
@@ -42,6 +43,25 @@ returns-clause-kept g c =
     (full_some order same equal g.S.MaybeEmpty.is_void g.met.S.MaybeEmpty.void_equal k items c.self.invariant old was)
     (λ h. here ((values_at order same equal has respects k items old (once k key) was c.args.value.now).1 h))))
 
+pub returns-clause-others : goal.returns-clause-others
+returns-clause-others g c =
+    let now = not_refused c.update.result c.update.ensures.rebound c.in_default.not-Err in
+    rw (← c.self.view_is) now.others
+
+pub returns-clause-frame : goal.returns-clause-frame
+returns-clause-frame g c =
+    let items = g.C.Storage.items c.self.inside.map in
+    let next = g.C.Storage.items c.update.new.self in
+    let same = g.S.PartialEq.eq in
+    let has = g.S.SetMut.has in
+    let value = c.args.value.now in
+    let done = not_refused c.update.result c.update.ensures.updated c.in_default.not-Err in
+    rw (← c.self.view_is) (λ nonempty. gave_way_to_such g.K.MaybeBounded.order same _ _
+    (λ s. ¬ IsTrue (has s value))
+    (λ old answer m s. removed_is_not_had same has g.met.S.SetMut.equal_same g.V.PartialEq.eq
+    g.met.V.Eq.laws value _ answer s m.says.1.0)
+    items next (g.R.AsRange.range c.args.range) (done nonempty))
+
 pub invariant_of-self-2 : goal.invariant_of-self-2
 invariant_of-self-2 g c =
     let done = c.update.ensures in
@@ -71,6 +91,9 @@ update-requires-clause-bound g c = every_one _ (g.C.Storage.items c.self.inside.
 pub returns-clause-form : goal.returns-clause-form
 returns-clause-form g c = c.update.ensures.form
 
+pub returns-clause-coarse : goal.returns-clause-coarse
+returns-clause-coarse g c = c.update.ensures.coarse
+
 pub returns-clause-only : goal.returns-clause-only
 returns-clause-only g c = c.update.ensures.only
 
@@ -86,11 +109,21 @@ returns-in-Err-clause-removed g c = tt
 pub returns-in-Err-clause-kept : goal.returns-in-Err-clause-kept
 returns-in-Err-clause-kept g c = rw (← c.self.view_is, c.in-Err.ensures.refused) (λ k key here b. (λ h. h, λ h. h))
 
+pub returns-in-Err-clause-others : goal.returns-in-Err-clause-others
+returns-in-Err-clause-others g c =
+    rw (← c.self.view_is, c.in-Err.ensures.refused) (λ k key out b. (λ h. h, λ h. h))
+
+pub returns-in-Err-clause-frame : goal.returns-in-Err-clause-frame
+returns-in-Err-clause-frame g c = tt
+
 pub returns-in-Err-clause-form : goal.returns-in-Err-clause-form
 returns-in-Err-clause-form g c = c.update.ensures.form
 
 pub returns-in-Err-clause-nonempty : goal.returns-in-Err-clause-nonempty
 returns-in-Err-clause-nonempty g c = rw c.in-Err.ensures.refused c.self.invariant
+
+pub returns-in-Err-clause-coarse : goal.returns-in-Err-clause-coarse
+returns-in-Err-clause-coarse g c = c.update.ensures.coarse
 
 pub returns-in-Err-clause-only : goal.returns-in-Err-clause-only
 returns-in-Err-clause-only g c = c.update.ensures.only
