@@ -79,7 +79,7 @@ pub(crate) fn reaching_after<
     }
 }
 
-/// What a window has at its edges: which of its items reach out of the range. A step for each side.
+/// The items that a range meets, with those that reach out of it. A step for each side that has one.
 pub(crate) fn reaching<
     K: Measure,
     V: Eq + Drop,
@@ -117,8 +117,8 @@ pub(crate) fn surrounding<P: Copy>(reach: &Reach<P>) -> Option<P>
     }
 }
 
-/// The first item that is replaced: the one that joins, or else the one after that which reaches out
-/// before the range.
+/// The first item that is replaced: the one that joins, or else the first one that does not reach
+/// out before the range.
 pub(crate) fn run_start<K: PartialEnum, V: Eq + Drop, C: Storage<Item<AnyRange<K>, V>>>(
     stored: &C,
     reach: &Reach<C::Position>,
