@@ -31,10 +31,10 @@ number_is_at_itself a = grind (arith, nat_tests)
 
 module _ (before after : Rules) (from : ℕ) (new : Transitions)
     (updates : (p : ℕ) → map.get nat_cmp after.transitions p
-      ≡ cond (is_at (nat_cmp from) p) (Some new) (map.get nat_cmp before.transitions p)) where
+    ≡ cond (is_at (nat_cmp from) p) (Some new) (map.get nat_cmp before.transitions p)) where
   transitions_by : (p : ℕ) (b : Bool) → is_at (nat_cmp from) p ≡ b
       → map.get nat_cmp after.transitions p
-        ≡ cond b (Some new) (map.get nat_cmp before.transitions p)
+      ≡ cond b (Some new) (map.get nat_cmp before.transitions p)
   transitions_by p b e =
       updates p ∙ ap (λ b. cond b (Some new) (map.get nat_cmp before.transitions p)) e
 

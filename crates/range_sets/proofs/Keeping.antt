@@ -1,6 +1,20 @@
 -- What an update of sets leaves as it was, by what each of its answers is.
-use Rattle.std.proofs.Common.{refl, sym, ◌∙◌, ◌⊎◌, inl, inr, Bool, IsTrue, List, Option, Some, None,
-    Result, Ok}
+use Rattle.std.proofs.Common.{
+  refl,
+  sym,
+  ◌∙◌,
+  ◌⊎◌,
+  inl,
+  inr,
+  Bool,
+  IsTrue,
+  List,
+  Option,
+  Some,
+  None,
+  Result,
+  Ok,
+}
 use denote.Ref.{Bor}
 use Rattle.std.specs.Fn.{Shared}
 use Rattle.std.specs.Cmp.{IsEquivalence}
@@ -37,14 +51,14 @@ module _ {K : Type 0} (order : KeyOrder K) {S : Type 0} (same : S → S → Bool
     (calls : Shared F (Option (Bor S) × Unit {0}) (Result (Option S) E)) (f : F)
     (IsSuch : S → Type 0)
     (told : (old answer : Option S) → MayAnswer calls f old (Ok answer)
-      → (s : S) → IsAsAnswered same answer (Some s) → IsSuch s) where
+    → (s : S) → IsAsAnswered same answer (Some s) → IsSuch s) where
   given_is_such : (answers : List (Answered K S)) (s : S)
       → Every (λ a. MayAnswer calls f a.value (Ok a.answer)) answers → IsGivenBy same answers s
       → IsSuch s
   given_is_such answers s given by =
       any_use (λ a. IsAsAnswered same a.answer (Some s))
-          (λ a. MayAnswer calls f a.value (Ok a.answer)) answers by given
-          (λ a is may. told a.value a.answer may s is)
+      (λ a. MayAnswer calls f a.value (Ok a.answer)) answers by given
+      (λ a is may. told a.value a.answer may s is)
 
   -- each set that comes in the place of others equals one of them, or is such
   pub gave_way_to_such : (items next : List (Item (AnyRange K) S)) (r : AnyRange K)
@@ -54,7 +68,7 @@ module _ {K : Type 0} (order : KeyOrder K) {S : Type 0} (same : S → S → Bool
     valued = every_weaker (λ j. HasValue order same run j.value
         ⊎ IsGivenBy same done.answered.answers j.value) (λ j. HasValue order same run j.value
         ⊎ IsSuch j.value) others (λ j t. elim t [
-      | inl old ↦ inl old
-      | inr new ↦ inr (given_is_such done.answered.answers j.value done.answered.given new)
-    ]) way.valued;
+          | inl old ↦ inl old
+          | inr new ↦ inr (given_is_such done.answered.answers j.value done.answered.given new)
+        ]) way.valued;
   }) done.frame

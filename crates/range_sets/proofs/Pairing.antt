@@ -176,7 +176,7 @@ module _ {K : Type 0} (order : KeyOrder K) {S : Type 0} (same : S → S → Bool
       let all = rw way.before at full in
       let ahead = every_left P (way.front ++ way.run) way.behind all in
       let others = others_full way.run way.others (every_right P way.front way.run ahead)
-          way.such.valued in
+      way.such.valued in
       rw way.after (every_append P (way.front ++ way.others) way.behind
       (every_append P way.front way.others (every_left P way.front way.run ahead) others)
       (every_right P (way.front ++ way.run) way.behind all))
