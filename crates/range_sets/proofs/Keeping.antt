@@ -1,6 +1,6 @@
 -- What an update of sets leaves as it was, by what each of its answers is.
-use Rattle.std.proofs.Common.{refl, sym, ◌∙◌, ◌⊎◌, inl, inr, Bool, IsTrue, List, Option, Some, None,
-    Result, Ok}
+use Rattle.std.proofs.Common.{sym, ◌∙◌, ◌⊎◌, inl, inr, Bool, IsTrue, List, Option, Some, None, Result,
+    Ok}
 use denote.Ref.{Bor}
 use Rattle.std.specs.Fn.{Shared}
 use Rattle.std.specs.Cmp.{IsEquivalence}
