@@ -4,7 +4,6 @@ use btree_range_map::AnyRange;
 use odd_keys::single::Single;
 use std::alloc::AllocError;
 use std::ops::Bound::{self, Excluded, Included, Unbounded};
-use std::test::Fail;
 
 /// What became of the question for a key.
 #[derive(Clone, Copy, PartialEq, Eq, Debug)]
@@ -14,15 +13,7 @@ enum Answer {
     Key(u8),
 }
 
-/// The bounds of a range, and its least, its greatest and some key.
-#[derive(Clone, Copy)]
-struct Row {
-    start: Bound<u8>,
-    end: Bound<u8>,
-    answers: [Answer; 3],
-}
-
-fn single(bound: Bound<u8>) -> Bound<Single> {
+fn bound_of(bound: Bound<u8>) -> Bound<Single> {
     match bound {
         Included(number) => Included(Single(number)),
         Excluded(number) => Excluded(Single(number)),
@@ -30,7 +21,7 @@ fn single(bound: Bound<u8>) -> Bound<Single> {
     }
 }
 
-fn answer(key: Result<Option<Single>, AllocError>) -> Answer {
+fn answer_of(key: Result<Option<Single>, AllocError>) -> Answer {
     match key {
         Ok(Some(key)) => Answer::Key(key.0),
         Ok(None) => Answer::Missing,
@@ -38,53 +29,34 @@ fn answer(key: Result<Option<Single>, AllocError>) -> Answer {
     }
 }
 
-/// Only what an included bound names is cloned, and of an empty range nothing.
-static ROWS: &[Row] = &[
-    Row {
-        start: Excluded(3),
-        end: Excluded(9),
-        answers: [Answer::Key(4), Answer::Key(8), Answer::Key(4)],
-    },
-    Row {
-        start: Unbounded,
-        end: Unbounded,
-        answers: [Answer::Key(0), Answer::Key(255), Answer::Key(0)],
-    },
-    Row {
-        start: Included(3),
-        end: Excluded(9),
-        answers: [Answer::Failed, Answer::Key(8), Answer::Failed],
-    },
-    Row {
-        start: Excluded(3),
-        end: Included(9),
-        answers: [Answer::Key(4), Answer::Failed, Answer::Key(4)],
-    },
-    Row {
-        start: Included(9),
-        end: Included(3),
-        answers: [Answer::Missing; 3],
-    },
-    Row {
-        start: Excluded(255),
-        end: Included(255),
-        answers: [Answer::Missing; 3],
-    },
-];
-
-fn asked(row: &Row) -> [Answer; 3] {
-    let range = AnyRange::new(single(row.start), single(row.end));
+/// The least, the greatest and some key of the range.
+fn asked(start: Bound<u8>, end: Bound<u8>) -> [Answer; 3] {
+    let range = AnyRange::new(bound_of(start), bound_of(end));
     [
-        answer(range.first()),
-        answer(range.last()),
-        answer(range.pick()),
+        answer_of(range.first()),
+        answer_of(range.last()),
+        answer_of(range.pick()),
     ]
 }
 
 #[test]
-fn only_included_keys_are_cloned(rt: HostRuntime) -> Result<(), Fail> {
-    for row in ROWS {
-        assert_eq!(rt; asked(row), row.answers);
-    }
-    Ok(())
+fn excluded_bounds_are_not_cloned(rt: HostRuntime) {
+    let inside = asked(Excluded(3), Excluded(9));
+    assert_eq!(rt; inside, [Answer::Key(4), Answer::Key(8), Answer::Key(4)]);
+    let all = asked(Unbounded, Unbounded);
+    assert_eq!(rt; all, [Answer::Key(0), Answer::Key(255), Answer::Key(0)]);
+}
+
+#[test]
+fn included_bounds_are_cloned(rt: HostRuntime) {
+    let from = asked(Included(3), Excluded(9));
+    assert_eq!(rt; from, [Answer::Failed, Answer::Key(8), Answer::Failed]);
+    let upto = asked(Excluded(3), Included(9));
+    assert_eq!(rt; upto, [Answer::Key(4), Answer::Failed, Answer::Key(4)]);
+}
+
+#[test]
+fn bounds_of_empty_ranges_are_not_cloned(rt: HostRuntime) {
+    assert_eq!(rt; asked(Included(9), Included(3)), [Answer::Missing; 3]);
+    assert_eq!(rt; asked(Excluded(255), Included(255)), [Answer::Missing; 3]);
 }

@@ -1,6 +1,5 @@
 -- What an update of sets leaves as it was, by what each of its answers is.
 use Rattle.std.proofs.Common.{
-  refl,
   sym,
   ◌∙◌,
   ◌⊎◌,
