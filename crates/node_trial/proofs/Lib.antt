@@ -1,0 +1,6 @@
+pub mod Counts
+pub mod FullCells
+pub mod Halves
+pub mod Heaps
+pub mod Lists
+pub mod Wholes
