@@ -3,4 +3,5 @@ pub mod FullCells
 pub mod Halves
 pub mod Heaps
 pub mod Lists
+pub mod Steps
 pub mod Wholes
