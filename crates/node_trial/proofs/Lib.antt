@@ -3,5 +3,6 @@ pub mod FullCells
 pub mod Halves
 pub mod Heaps
 pub mod Lists
+pub mod Siblings
 pub mod Steps
 pub mod Wholes
