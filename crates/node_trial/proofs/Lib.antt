@@ -1,4 +1,5 @@
 pub mod Counts
+pub mod Dividing
 pub mod FullCells
 pub mod Halves
 pub mod Heaps

@@ -119,6 +119,24 @@ pub fn take_child(
     lists[list].pop_at(index)
 }
 
+// The children from `start` on, moved out.
+fn list_from(
+    list: &mut ArrayVec<usize, CHILD_PLACES>,
+    start: usize,
+) -> ArrayVec<usize, CHILD_PLACES>
+    requires { start ≤ length list.old.items }
+    ensures left { list.new.items ≡ take start list.old.items }
+    ensures right { result.items ≡ drop start list.old.items }
+{
+    let _many = list.len();
+    let mut upper = ArrayVec::new();
+    upper
+        .try_extend_from_slice(&list.as_slice()[start..])
+        .unwrap();
+    list.truncate(start);
+    upper
+}
+
 // Puts a child into a full list, of which the first half stays; the rest is moved out.
 fn divide_list(
     list: &mut ArrayVec<usize, CHILD_PLACES>,
@@ -130,19 +148,12 @@ fn divide_list(
     ensures left { list.new.items ≡ take (HALF + 1) (insert list.old.items index child) }
     ensures right { result.items ≡ drop (HALF + 1) (insert list.old.items index child) }
 {
-    let mut upper = ArrayVec::new();
     if index <= HALF {
-        upper
-            .try_extend_from_slice(&list.as_slice()[HALF..])
-            .unwrap();
-        list.truncate(HALF);
+        let upper = list_from(list, HALF);
         list.insert(index, child);
         return upper;
     }
-    upper
-        .try_extend_from_slice(&list.as_slice()[HALF + 1..])
-        .unwrap();
-    list.truncate(HALF + 1);
+    let mut upper = list_from(list, HALF + 1);
     upper.insert(index - HALF - 1, child);
     upper
 }
