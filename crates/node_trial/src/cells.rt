@@ -1,6 +1,8 @@
 //! The steps of a change of nodes in one array of cells, or in one list of children.
 ghost use Rattle.std.specs.Prelude.{◌≡◌, ◌≢◌, ◌⊎◌, ℕ, ◌+◌, ◌-◌, ◌<◌, ◌≤◌, List, [], ◌∷◌, ◌++◌, length, take, drop, slice_get, slice_index_or, insert, remove, IsSome, None, Some};
+ghost use Rattle.std.specs.Borrow.{sem};
 ghost use Rattle.std.specs.Option.{ForSome};
+ghost use Rattle.std.specs.Option.Follows.{option_follows_value};
 ghost use Rattle.slab.specs.Slab.{get, HasRoomFor};
 ghost use Rattle.node_trial.specs.Heap.{full_cells, with_child};
 ghost use Rattle.node_trial.specs.Cells.{items_in, IsFull, list_in, IsListKey, FitsPlaces, WritesList, DropsList, DividesList, AppendsList};
@@ -8,6 +10,18 @@ ghost use Rattle.node_trial.specs.Cells.{items_in, IsFull, list_in, IsListKey, F
 use crate::nodes::{CAPACITY, CHILD_PLACES, HALF, NO_LIST};
 use arrayvec::ArrayVec;
 use slab::Slab;
+
+// The item in a full cell.
+pub fn filled<T>(cell: &mut Option<T>) -> &mut T
+    requires { IsSome cell.old }
+    ensures* lends { sem 𝓛 (option_follows_value T.row cell.entry result) }
+    ensures value { cell.old ≡ Some result.now }
+{
+    match cell {
+        Some(item) => item,
+        None => unreachable!(),
+    }
+}
 
 // Takes the item at an index out.
 pub fn take_filled<T: Drop>(cells: &mut ArrayVec<Option<T>, CAPACITY>, index: usize) -> T

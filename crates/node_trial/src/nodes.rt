@@ -5,7 +5,7 @@ ghost use Rattle.slab.specs.Slab.{get, ContainsKey};
 ghost use Rattle.node_trial.specs.Heap.{node_of, HasNode, items_of, children_of, full_cells, node_count, HasRoomFor, with_child, with_item, FitsChild, Writes, Stores, Removes, Divides, left_items, right_items, HasPair, RotatesLeft, RotatesRight, Merges, Absorbs};
 
 use crate::cells::{
-    append_cells, append_list, divide_cells, divide_children, drop_list, put_child, take_child,
+    append_cells, append_list, divide_cells, divide_children, drop_list, filled, put_child, take_child,
     take_filled,
 };
 use arrayvec::ArrayVec;
@@ -152,8 +152,8 @@ impl<T: Drop> Nodes<T> {
             ≡ slice_index_or (items_of (node_of self.old number)) index result.now }
     {
         match self.nodes[number].cells.get_mut(index) {
-            Some(Some(item)) => item,
-            _ => unreachable!(),
+            Some(cell) => filled(cell),
+            None => unreachable!(),
         }
     }
 
