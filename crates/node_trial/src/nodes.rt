@@ -5,7 +5,7 @@ ghost use Rattle.slab.specs.Slab.{get, ContainsKey};
 ghost use Rattle.node_trial.specs.Heap.{node_of, HasNode, items_of, children_of, full_cells, node_count, HasRoomFor, with_child, with_item, FitsChild, Writes, Stores, Removes, Divides, left_items, right_items, HasPair, RotatesLeft, RotatesRight, Merges, Absorbs};
 
 use crate::cells::{
-    append_cells, append_list, divide_cells, divide_children, drop_list, filled, put_child, take_child,
+    append_cells, append_list, divide_cells, divide_children, drop_list, filled, put_child, store_list, take_child,
     take_filled,
 };
 use arrayvec::ArrayVec;
@@ -100,6 +100,8 @@ impl<T: Drop> Nodes<T> {
         ensures rest_kept { self.new ≡ record self.old { capacity = self.new.capacity } }
     {
         self.nodes.reserve(additional)?;
+        // Tells the proof that a `usize` counts the nodes and `additional` more.
+        let _capacity = self.nodes.capacity();
         let wanted = self.nodes.len() + additional;
         self.lists.reserve(wanted - self.lists.len())
     }
@@ -203,7 +205,7 @@ impl<T: Drop> Nodes<T> {
     {
         let node = &mut self.nodes[number];
         let (middle, cells) = divide_cells(&mut node.cells, index, item);
-        let list = divide_children(&mut self.lists, node.list, index, child);
+        let list = divide_children(&mut self.lists, node.list, index + 1, child);
         let right = self.nodes.insert_reserved(Node { cells, list });
         Split { middle, right }
     }
@@ -243,7 +245,7 @@ impl<T: Drop> Nodes<T> {
         let mut children = ArrayVec::new();
         children.push(left);
         children.push(right);
-        let list = self.lists.insert_reserved(children);
+        let list = store_list(&mut self.lists, children);
         self.nodes.insert_reserved(Node { cells, list })
     }
 
