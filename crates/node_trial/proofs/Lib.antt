@@ -1,3 +1,4 @@
+pub mod Absorbing
 pub mod Counts
 pub mod Dividing
 pub mod FullCells
@@ -5,5 +6,6 @@ pub mod Halves
 pub mod Heaps
 pub mod Lists
 pub mod Siblings
+pub mod Splitting
 pub mod Steps
 pub mod Wholes

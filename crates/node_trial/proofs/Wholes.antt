@@ -1,5 +1,5 @@
 -- What a change of one node, and of its list, leaves of the nodes.
-use Rattle.std.proofs.Common.{◌≡◌, ◌≢◌, ℕ, ◌+◌, ◌<◌, ◌≤◌, Bool, true, false, not, eqb, cond, List, [], ◌∷◌, length, get_or, map, Option, Some, None, is_some, IsSome, count_by, refl, sym, ap, subst, ◌∙◌, inl, inr, arith}
+use Rattle.std.proofs.Common.{◌≡◌, ◌≢◌, ℕ, ◌+◌, ◌<◌, ◌≤◌, Bool, true, false, not, eqb, cond, List, [], ◌∷◌, length, get_or, map, min, Option, Some, None, is_some, IsSome, count_by, refl, sym, ap, subst, ◌∙◌, inl, inr, arith}
 use Rattle.std.proofs.Math.ListN.{set}
 use Rattle.std.proofs.lemmas.Bool.{cases_eq, cases_lt, eq-eqb, ne_eqb}
 use Rattle.std.proofs.lemmas.List.{get_or-map, get_or_past, length-map, map-set}
@@ -40,6 +40,11 @@ module _ {T : Type 0} where
   pub content_node : (lists : Slab (ArrayVec ℕ)) (slot : Option (Node T)) → IsSome (content_of lists slot) → (node : Node T) × (slot ≡ Some node)
   content_node lists None present = absurd (cc)
   content_node lists (Some node) present = (node, refl)
+
+  pub node_there : (nodes : Slab (Node T)) (lists : Slab (ArrayVec ℕ)) (n : ℕ) → IsSome (node_of (heap_of nodes lists) n) → IsSome (get nodes n)
+  node_there nodes lists n present =
+      let there = content_node lists (get nodes n) (rw (node_read nodes lists n) at present) in
+      rw there.1 refl
 
   pub found_read : (nodes : Slab (Node T)) (lists : Slab (ArrayVec ℕ)) (n : ℕ) (node : Node T) → get nodes n ≡ Some node → node_of (heap_of nodes lists) n ≡ Some (record { items = items_in node.cells.items; children = list_in lists node.list })
   found_read nodes lists n node found = node_read nodes lists n ∙ ap (content_of lists) found
@@ -214,3 +219,13 @@ module _ {T : Type 0} where
 
     pub list_room : slab_len nodes + more ≤ lists.capacity
     list_room = omega (arith, room, nodes_count nodes lists)
+
+  pub reserved_whole : (nodes new : Slab (Node T)) (lists new_lists : Slab (ArrayVec ℕ)) → IsWhole nodes lists → new ≡ record nodes { capacity = new.capacity } → new_lists ≡ record lists { capacity = new_lists.capacity } → lists.capacity ≤ new_lists.capacity → IsWhole new new_lists
+  reserved_whole nodes new lists new_lists whole same same_lists more =
+      let base : IsWhole (record nodes { capacity = new.capacity }) (record lists { capacity = new_lists.capacity }) =
+      record { full = whole.full; kept = whole.kept; apart = whole.apart; none = whole.none; counted = whole.counted; fits = omega (arith, whole.fits, more) } in
+      subst (λ x. IsWhole x new_lists) (sym same) (subst (λ y. IsWhole (record nodes { capacity = new.capacity }) y) (sym same_lists) base)
+
+  pub reserved_heap : (nodes new : Slab (Node T)) (lists new_lists : Slab (ArrayVec ℕ)) → new ≡ record nodes { capacity = new.capacity } → new_lists ≡ record lists { capacity = new_lists.capacity } → heap_of new new_lists ≡ record (heap_of nodes lists) { capacity = min new.capacity new_lists.capacity }
+  reserved_heap nodes new lists new_lists same same_lists =
+      ap (λ x. heap_of x new_lists) same ∙ ap (λ y. heap_of (record nodes { capacity = new.capacity }) y) same_lists

@@ -265,6 +265,7 @@ impl<T: Drop> Nodes<T> {
         requires room { length (left_items self.old number index) < CAPACITY }
         ensures { RotatesLeft self.old self.new number index }
     {
+        let _many = self.item_count(number);
         let left = self.child_at(number, index);
         let right = self.child_at(number, index + 1);
         let (up, child) = self.take_beside(right, 0, 0);
@@ -280,6 +281,7 @@ impl<T: Drop> Nodes<T> {
         requires room { length (right_items self.old number index) < CAPACITY }
         ensures { RotatesRight self.old self.new number index }
     {
+        let _many = self.item_count(number);
         let left = self.child_at(number, index);
         let right = self.child_at(number, index + 1);
         let end = self.item_count(left);
@@ -295,6 +297,7 @@ impl<T: Drop> Nodes<T> {
             + length (right_items self.old number index) ≤ CAPACITY }
         ensures { Merges self.old self.new number index }
     {
+        let _many = self.item_count(number);
         let left = self.child_at(number, index);
         let right = self.child_at(number, index + 1);
         let (down, _) = self.take_beside(number, index, index + 1);
