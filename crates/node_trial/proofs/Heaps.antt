@@ -1,5 +1,5 @@
 -- Changes of several nodes, in another order.
-use Rattle.std.proofs.Common.{◌≡◌, ◌≢◌, ℕ, ◌+◌, ◌<◌, List, length, get_or, cond, Option, Some, None, is_some, IsSome, refl, sym, ap, ◌∙◌, inl, inr, arith}
+use Rattle.std.proofs.Common.{◌≡◌, ◌≢◌, ℕ, ◌+◌, ◌<◌, List, length, cond, Option, Some, None, is_some, IsSome, refl, sym, ap, ◌∙◌, inl, inr, arith}
 use Rattle.std.proofs.Math.ListN.{set}
 use Rattle.std.proofs.lemmas.Bool.{cases_eq, cases_lt, false≢true}
 use Rattle.std.proofs.lemmas.List.{get_or-set_same, get_or-set_other, get_or_past}
@@ -75,10 +75,10 @@ module _ {T : Type 0} where
         items_are = ap items_of (after n apart) ∙ writes.items_are;
         children_are = ap children_of (after n apart) ∙ writes.children_are;
         others = λ k other.
-        elim (cases_eq k m) [
-          | inl same ↦ rw same here
-          | inr differs ↦ after k differs ∙ writes.others k other ∙ sym (before k differs)
-        ];
+            elim (cases_eq k m) [
+              | inl same ↦ rw same here
+              | inr differs ↦ after k differs ∙ writes.others k other ∙ sym (before k differs)
+            ];
         len = len;
         capacity = capacity;
       }
@@ -135,10 +135,10 @@ module _ {T : Type 0} where
             was = rw (first.others m apart) one.was;
             gone = two.others m apart ∙ one.gone;
             others = λ k other.
-            elim (cases_eq k n) [
-              | inl same ↦ rw same (written_is t u n xs ks two ∙ sym (written_is s between n xs ks first))
-              | inr differs ↦ two.others k differs ∙ one.others k other ∙ sym (first.others k differs)
-            ];
+                elim (cases_eq k n) [
+                  | inl same ↦ rw same (written_is t u n xs ks two ∙ sym (written_is s between n xs ks first))
+                  | inr differs ↦ two.others k differs ∙ one.others k other ∙ sym (first.others k differs)
+                ];
             len = omega (arith, one.len, two.len, first.len);
             capacity = two.capacity ∙ one.capacity ∙ sym first.capacity;
           };

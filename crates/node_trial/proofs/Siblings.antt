@@ -1,11 +1,11 @@
 -- Items that move between two children of a node and the node.
-use Rattle.std.proofs.Common.{◌≡◌, ◌≢◌, ◌⊎◌, ℕ, zero, suc, ◌+◌, ◌-◌, ◌<◌, ◌≤◌, List, [], ◌∷◌, ◌++◌, length, get_or, take, drop, Option, Some, None, refl, sym, ap, subst, ◌∙◌, inl, inr, arith, slice_get}
+use Rattle.std.proofs.Common.{◌≡◌, ◌⊎◌, ℕ, zero, suc, ◌+◌, ◌-◌, ◌<◌, ◌≤◌, List, [], ◌∷◌, ◌++◌, length, get_or, take, drop, Some, refl, sym, ap, subst, ◌∙◌, inl, inr, arith, slice_get}
 use Rattle.std.proofs.Math.ListN.{set}
 use Rattle.std.specs.List.{insert, remove}
 use Rattle.std.proofs.lemmas.List.{append-nil, drop_all, drop_more, take_all, take_more, nil_from_length}
 use Rattle.std.proofs.lemmas.List.Edits.{insert_end}
 use Rattle.std.proofs.lemmas.Option.{slice_get-get_or}
-use Rattle.node_trial.specs.Heap.{Heap, node_of, HasNode, items_of, children_of, child_count, with_child, with_item, FitsChild, Writes, Removes, HasPair, Rotates, RotatesLeft, RotatesRight, Merges, Absorbs, left_child, right_child, left_items, right_items, left_children, right_children}
+use Rattle.node_trial.specs.Heap.{Heap, node_of, items_of, children_of, child_count, with_child, with_item, FitsChild, Writes, HasPair, RotatesLeft, RotatesRight, Merges, Absorbs, left_child, right_child, left_items, right_items, left_children, right_children}
 use Rattle.node_trial.proofs.Heaps.{item_other, write_first, remove_first, remove_last}
 
 module _ {X : Type 0} where
@@ -86,10 +86,10 @@ module _ {T : Type 0} (s t u v : Heap T) (n i : ℕ) (pair : HasPair s n i) (dow
   left_after w xs ks writes = writes.others l pair.apart
 
   pub rotated_left : up ≡ get_or (right_items s n i) 0 up → 0 < length (right_items s n i) → down ≡ get_or (items_of (node_of t n)) i down
-    → Writes s t r (remove (right_items s n i) 0) (remove (right_children s n i) 0)
-    → Writes t u n (set (items_of (node_of t n)) i up) (children_of (node_of t n))
-    → Writes u v l (insert (items_of (node_of u l)) (length (items_of (node_of u l))) down) (with_child (children_of (node_of u l)) (length (items_of (node_of u l)) + 1) (slice_get (right_children s n i) 0))
-    → RotatesLeft s v n i
+      → Writes s t r (remove (right_items s n i) 0) (remove (right_children s n i) 0)
+      → Writes t u n (set (items_of (node_of t n)) i up) (children_of (node_of t n))
+      → Writes u v l (insert (items_of (node_of u l)) (length (items_of (node_of u l))) down) (with_child (children_of (node_of u l)) (length (items_of (node_of u l)) + 1) (slice_get (right_children s n i) 0))
+      → RotatesLeft s v n i
   rotated_left up_is some down_is one two three =
       let parent : node_of t n ≡ node_of s n = one.others n (λ e. pair.right_apart (sym e)) in
       let here = subst (λ node. Writes t u n (set (items_of node) i up) (children_of node)) parent two in
@@ -116,10 +116,10 @@ module _ {T : Type 0} (s t u v : Heap T) (n i : ℕ) (pair : HasPair s n i) (dow
       }
 
   pub rotated_right : up ≡ get_or (left_items s n i) (length (left_items s n i) - 1) up → 0 < length (left_items s n i) → down ≡ get_or (items_of (node_of t n)) i down
-    → Writes s t l (remove (left_items s n i) (length (left_items s n i) - 1)) (remove (left_children s n i) (length (left_items s n i)))
-    → Writes t u n (set (items_of (node_of t n)) i up) (children_of (node_of t n))
-    → Writes u v r (insert (items_of (node_of u r)) 0 down) (with_child (children_of (node_of u r)) 0 (slice_get (left_children s n i) (length (left_items s n i))))
-    → RotatesRight s v n i
+      → Writes s t l (remove (left_items s n i) (length (left_items s n i) - 1)) (remove (left_children s n i) (length (left_items s n i)))
+      → Writes t u n (set (items_of (node_of t n)) i up) (children_of (node_of t n))
+      → Writes u v r (insert (items_of (node_of u r)) 0 down) (with_child (children_of (node_of u r)) 0 (slice_get (left_children s n i) (length (left_items s n i))))
+      → RotatesRight s v n i
   rotated_right up_is some down_is one two three =
       let xs = left_items s n i in
       let ks = left_children s n i in

@@ -1,5 +1,5 @@
 -- What a change of one node, and of its list, leaves of the nodes.
-use Rattle.std.proofs.Common.{◌≡◌, ◌≢◌, ℕ, ◌+◌, ◌<◌, ◌≤◌, Bool, true, false, not, eqb, cond, List, [], ◌∷◌, length, get_or, map, min, Option, Some, None, is_some, IsSome, count_by, refl, sym, ap, subst, ◌∙◌, inl, inr, arith}
+use Rattle.std.proofs.Common.{◌≡◌, ◌≢◌, ℕ, ◌+◌, ◌<◌, ◌≤◌, true, false, not, cond, List, [], ◌∷◌, length, get_or, map, min, Option, Some, None, is_some, IsSome, count_by, refl, sym, ap, subst, ◌∙◌, inl, inr, arith}
 use Rattle.std.proofs.Math.ListN.{set}
 use Rattle.std.proofs.lemmas.Bool.{cases_eq, cases_lt, eq-eqb, ne_eqb}
 use Rattle.std.proofs.lemmas.List.{get_or-map, get_or_past, length-map, map-set}
@@ -9,10 +9,10 @@ use Rattle.slab.specs.Slab.{Slab, get, slab_len, with_value}
 use Rattle.arrayvec.specs.ArrayVec.{ArrayVec}
 use Rattle.node_trial.specs.declared.nodes.Node.{Node}
 use Rattle.node_trial.specs.declared.nodes.TheConstants.{NO_LIST}
-use Rattle.node_trial.specs.Heap.{Content, full_cells, node_of, items_of, children_of, node_count, HasRoomFor, with_item}
+use Rattle.node_trial.specs.Heap.{full_cells, node_of, items_of, children_of, node_count, HasRoomFor, with_item}
 use Rattle.node_trial.specs.Cells.{items_in, IsFull, numbers_of, list_in, cells_of, list_of, has_list, content_of, heap_of, IsWhole, list_count, WritesList, IsListKey}
 use Rattle.node_trial.proofs.Counts.{count_moved}
-use Rattle.node_trial.proofs.FullCells.{IsFull-from, items_are, length-full, full_set, standing}
+use Rattle.node_trial.proofs.FullCells.{items_are, length-full, full_set, standing}
 use Rattle.node_trial.proofs.Lists.{list_kept}
 
 module _ {T : Type 0} where

@@ -5,8 +5,8 @@ ghost use Rattle.slab.specs.Slab.{get, ContainsKey};
 ghost use Rattle.node_trial.specs.Heap.{node_of, HasNode, items_of, children_of, full_cells, node_count, HasRoomFor, with_child, with_item, FitsChild, Writes, Stores, Removes, Divides, left_items, right_items, HasPair, RotatesLeft, RotatesRight, Merges, Absorbs};
 
 use crate::cells::{
-    append_cells, append_list, divide_cells, divide_children, drop_list, filled, put_child, store_list, take_child,
-    take_filled,
+    append_cells, append_list, divide_cells, divide_children, drop_list, filled, put_child,
+    store_list, take_child, take_filled,
 };
 use arrayvec::ArrayVec;
 use slab::Slab;
@@ -185,13 +185,7 @@ impl<T: Drop> Nodes<T> {
     }
 
     /// Puts an item into a full node, and a child with it, as `put` does, and cuts the node in two.
-    pub fn split(
-        &mut self,
-        number: usize,
-        index: usize,
-        item: T,
-        child: Option<usize>,
-    ) -> Split<T>
+    pub fn split(&mut self, number: usize, index: usize, item: T, child: Option<usize>) -> Split<T>
         requires present { HasNode self.old number }
         requires within { index ≤ length (items_of (node_of self.old number)) }
         requires full { length (items_of (node_of self.old number)) ≡ CAPACITY }

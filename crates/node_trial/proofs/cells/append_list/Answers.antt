@@ -1,4 +1,4 @@
-use Rattle.std.proofs.Common.{◌≡◌, ◌++◌, Ok, ap, ◌∙◌}
+use Rattle.std.proofs.Common.{◌++◌, ap, ◌∙◌}
 use Rattle.node_trial.proofs.Lists.{list_appended}
 use Rattle.node_trial.proofs.cells.append_list.Goals as goal
 

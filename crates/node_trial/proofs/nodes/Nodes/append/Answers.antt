@@ -1,4 +1,4 @@
-use Rattle.std.proofs.Common.{◌≡◌, ◌+◌, ◌<◌, ◌≤◌, length, IsSome, sym, ap, ◌∙◌, arith, rules, length-append}
+use Rattle.std.proofs.Common.{◌+◌, ◌<◌, ◌≤◌, length, IsSome, sym, ap, ◌∙◌, arith, rules}
 use Rattle.node_trial.specs.Heap.{node_of, children_of}
 use Rattle.node_trial.specs.Cells.{heap_of}
 use Rattle.node_trial.proofs.Absorbing.{children_alike, lists_apart, absorbed, absorbed_whole}

@@ -1,4 +1,4 @@
-use Rattle.std.proofs.Common.{sym, arith, rules}
+use Rattle.std.proofs.Common.{arith, rules}
 use Rattle.node_trial.proofs.Siblings.{merged, merged_children, merged_places}
 use Rattle.node_trial.proofs.nodes.Nodes.merge.Goals as goal
 

@@ -1,6 +1,6 @@
 use Rattle.std.proofs.Common.{◌≡◌, ℕ, ◌+◌, ◌<◌, ◌≤◌, List, length, Option, Some, refl, sym, ap, subst, ◌∙◌, arith, rules}
 use Rattle.std.specs.List.{insert}
-use Rattle.node_trial.specs.Heap.{full_cells, node_of, items_of, children_of, with_child, FitsChild}
+use Rattle.node_trial.specs.Heap.{node_of, items_of, children_of, with_child, FitsChild}
 use Rattle.node_trial.specs.Cells.{heap_of, WritesList}
 use Rattle.node_trial.proofs.FullCells.{full_insert}
 use Rattle.node_trial.proofs.Steps.{written, written_whole}

@@ -1,6 +1,6 @@
-use Rattle.std.proofs.Common.{◌≡◌, ◌+◌, ◌<◌, ◌≤◌, length, sym, ap, subst, arith, rules}
+use Rattle.std.proofs.Common.{sym, subst, arith, rules}
 use Rattle.std.proofs.Math.ListN.{set}
-use Rattle.node_trial.specs.Heap.{HasNode, node_of, items_of, children_of, FitsChild, Writes, left_items, left_children, right_items, right_children}
+use Rattle.node_trial.specs.Heap.{HasNode, node_of, items_of, children_of, Writes, left_items, left_children, right_items, right_children}
 use Rattle.node_trial.proofs.Heaps.{writes_item}
 use Rattle.node_trial.proofs.Siblings.{fits_last, right_kept, rotated_right}
 use Rattle.node_trial.proofs.nodes.Nodes.rotate_right.Goals as goal

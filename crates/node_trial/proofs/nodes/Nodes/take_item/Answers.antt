@@ -1,4 +1,4 @@
-use Rattle.std.proofs.Common.{◌≡◌, get_or, refl, ap, ◌∙◌}
+use Rattle.std.proofs.Common.{get_or, refl, ap, ◌∙◌}
 use Rattle.std.specs.List.{remove}
 use Rattle.node_trial.specs.Heap.{full_cells, node_of, items_of, children_of}
 use Rattle.node_trial.specs.Cells.{heap_of}
