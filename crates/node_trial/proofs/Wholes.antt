@@ -13,7 +13,7 @@ use Rattle.node_trial.specs.Heap.{full_cells, node_of, items_of, children_of, no
 use Rattle.node_trial.specs.Cells.{items_in, IsFull, numbers_of, list_in, cells_of, list_of, has_list, content_of, heap_of, IsWhole, list_count, WritesList, IsListKey}
 use Rattle.node_trial.proofs.Counts.{count_moved}
 use Rattle.node_trial.proofs.FullCells.{items_are, length-full, full_set, standing}
-use Rattle.node_trial.proofs.Lists.{list_kept}
+use Rattle.node_trial.proofs.Lists.{found_list, list_kept}
 
 module _ {T : Type 0} where
   -- what is read of a node
@@ -167,6 +167,12 @@ module _ {T : Type 0} where
 
     pub node_children : children_of (node_of (heap_of nodes lists) n) ≡ list_in lists node.list
     node_children = ap children_of (found_read nodes lists n node found)
+
+    -- a node with a child has a list
+    pub list_there : (i : ℕ) → i < length (children_of (node_of (heap_of nodes lists) n)) → IsSome (get lists node.list)
+    list_there i within =
+        let there = found_list (get lists node.list) (omega (arith, within, ap length node_children)) in
+        rw there.1 refl
 
     pub children_kept : WritesList lists lists node.list (children_of (node_of (heap_of nodes lists) n))
     children_kept = subst (λ ks. WritesList lists lists node.list ks) (sym node_children) (list_kept lists node.list)

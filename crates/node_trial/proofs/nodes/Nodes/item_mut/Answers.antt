@@ -5,7 +5,7 @@ use Rattle.node_trial.specs.Heap.{node_of, items_of}
 use Rattle.node_trial.specs.Cells.{list_in, heap_of}
 use Rattle.node_trial.proofs.Lists.{list_kept}
 use Rattle.node_trial.proofs.Steps.{written_whole}
-use Rattle.node_trial.proofs.Wholes.{node_length, node_cell, filled_cell, cells_set, cell_written}
+use Rattle.node_trial.proofs.Wholes.{node_length, node_cell, filled_cell, cells_set, cell_written, node_there}
 use Rattle.node_trial.proofs.nodes.Nodes.item_mut.Goals as goal
 
 pub unreachable-requires : goal.unreachable-requires
@@ -39,3 +39,6 @@ returns g c =
         value = rw (← c.self.view_is) (node_cell nodes lists c.self.invariant c.args.number node found c.args.index c.filled.result.now c.in-Some.cell.now within (sym c.filled.ensures.value ∙ c.in-Some.ensures.value));
       },
     )
+
+pub index_mut-requires : goal.index_mut-requires
+index_mut-requires g c = node_there c.self.inside.nodes c.self.inside.lists c.args.number (rw (← c.self.view_is) at c.requires.present)
