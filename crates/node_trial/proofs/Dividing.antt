@@ -10,7 +10,7 @@ use Rattle.node_trial.proofs.Halves.{take_insert_before, take_insert_after, drop
 
 module _ {T : Type 0} (cells : List (Option T)) (xs : List T) (full : cells ≡ full_cells xs) where
   module _ (k : ℕ) (front : List (Option T)) (is : front ≡ take k cells) where
-    front_cells : front ≡ full_cells (take k xs)
+    pub front_cells : front ≡ full_cells (take k xs)
     front_cells = is ∙ ap (take k) full ∙ full_take k xs
 
     pub front_full : IsFull front
