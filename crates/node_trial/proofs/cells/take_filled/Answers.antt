@@ -8,7 +8,9 @@ use Rattle.node_trial.proofs.cells.take_filled.Goals as goal
 pub unreachable-requires : goal.unreachable-requires
 unreachable-requires g c =
     let there = standing (items_in c.args.cells.now.items) c.args.index c.requires.within in
-    none-some there.item (sym c.in-None.is ∙ c.remove.ensures.value ∙ ap (λ zs. get_or zs c.args.index c.remove.result) c.requires.full ∙ there.cell_is c.remove.result)
+    none-some there.item (sym c.in-None.is ∙ c.remove.ensures.value
+    ∙ ap (λ zs. get_or zs c.args.index c.remove.result) c.requires.full
+    ∙ there.cell_is c.remove.result)
 
 pub returns-clause-rest : goal.returns-clause-rest
 returns-clause-rest g c =

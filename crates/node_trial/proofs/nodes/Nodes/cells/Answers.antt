@@ -3,8 +3,11 @@ use Rattle.node_trial.proofs.Wholes.{node_there, node_cells}
 use Rattle.node_trial.proofs.nodes.Nodes.cells.Goals as goal
 
 pub index-requires : goal.index-requires
-index-requires g c = node_there c.self.inside.nodes c.self.inside.lists c.args.number (rw (← c.self.view_is) at c.requires)
+index-requires g c = node_there c.self.inside.nodes c.self.inside.lists c.args.number
+    (rw (← c.self.view_is) at c.requires)
 
 pub returns : goal.returns
 returns g c =
-    rw (← c.self.view_is) (c.as_slice.ensures.value ∙ node_cells c.self.inside.nodes c.self.inside.lists c.self.invariant c.args.number c.index.result.now c.index.ensures)
+    rw (← c.self.view_is) (c.as_slice.ensures.value
+    ∙ node_cells c.self.inside.nodes c.self.inside.lists c.self.invariant c.args.number
+    c.index.result.now c.index.ensures)

@@ -10,13 +10,21 @@ invariant_of-self g c =
     let nodes = c.self.inside.nodes in
     let lists = c.self.inside.lists in
     let added = c.insert_reserved.ensures in
-    let cells : c.push.new.self.items ≡ full_cells (c.args.item ∷ []) = c.push.ensures.items ∙ ap (λ cs. cs ++ Some c.args.item ∷ []) c.new-cells.ensures in
-    stored_whole nodes lists c.insert_reserved.result c.self.invariant c.insert_reserved.new.self lists _ (c.args.item ∷ []) [] added.was_vacant added.updates added.len added.capacity cells (list_room nodes lists 1 (rw (← c.self.view_is) at c.requires)) (list_absent lists c.self.invariant.none)
+    let cells : c.push.new.self.items ≡ full_cells (c.args.item ∷ []) = c.push.ensures.items
+    ∙ ap (λ cs. cs ++ Some c.args.item ∷ []) c.new-cells.ensures in
+    stored_whole nodes lists c.insert_reserved.result c.self.invariant c.insert_reserved.new.self
+    lists _ (c.args.item ∷ []) [] added.was_vacant added.updates added.len added.capacity cells
+    (list_room nodes lists 1 (rw (← c.self.view_is) at c.requires))
+    (list_absent lists c.self.invariant.none)
 
 pub returns : goal.returns
 returns g c =
     let nodes = c.self.inside.nodes in
     let lists = c.self.inside.lists in
     let added = c.insert_reserved.ensures in
-    let cells : c.push.new.self.items ≡ full_cells (c.args.item ∷ []) = c.push.ensures.items ∙ ap (λ cs. cs ++ Some c.args.item ∷ []) c.new-cells.ensures in
-    rw (← c.self.view_is) (stored nodes lists c.insert_reserved.result c.self.invariant c.insert_reserved.new.self lists _ (c.args.item ∷ []) [] added.was_vacant added.updates added.len added.capacity cells (list_room nodes lists 1 (rw (← c.self.view_is) at c.requires)) (list_absent lists c.self.invariant.none))
+    let cells : c.push.new.self.items ≡ full_cells (c.args.item ∷ []) = c.push.ensures.items
+    ∙ ap (λ cs. cs ++ Some c.args.item ∷ []) c.new-cells.ensures in
+    rw (← c.self.view_is) (stored nodes lists c.insert_reserved.result c.self.invariant
+    c.insert_reserved.new.self lists _ (c.args.item ∷ []) [] added.was_vacant added.updates
+    added.len added.capacity cells (list_room nodes lists 1
+    (rw (← c.self.view_is) at c.requires)) (list_absent lists c.self.invariant.none))
