@@ -25,3 +25,10 @@ returns g c =
     ∙ sym (node_children c.self.inside.nodes c.self.inside.lists c.self.invariant c.args.number
     c.index.result.now c.index.ensures) in
     rw (← c.self.view_is) (ap (λ ks. get_or ks c.args.index 0) same)
+
+pub offset_bounds-as_slice-index : goal.offset_bounds-as_slice-index
+offset_bounds-as_slice-index g c =
+    let same = c.as_slice.ensures.value ∙ ap numbers_of (sym c.index-2.ensures)
+    ∙ sym (node_children c.self.inside.nodes c.self.inside.lists c.self.invariant c.args.number
+    c.index.result.now c.index.ensures) in
+    omega (arith, c.as_slice.type_inv.1, ap length same, rw (← c.self.view_is) at c.requires.within)

@@ -31,3 +31,13 @@ bounds-as_slice-index g c =
           c.self.inside.lists c.self.invariant c.args.number c.index.result.now c.index.ensures,
       rw (← c.self.view_is) at c.requires.within,
     )
+
+pub offset_bounds-as_slice-index : goal.offset_bounds-as_slice-index
+offset_bounds-as_slice-index g c =
+    omega (
+      arith,
+      ap length c.as_slice.ensures.value,
+      node_length c.self.inside.nodes
+          c.self.inside.lists c.self.invariant c.args.number c.index.result.now c.index.ensures,
+      rw (← c.self.view_is) at c.requires.within,
+    )

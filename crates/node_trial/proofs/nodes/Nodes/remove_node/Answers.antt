@@ -1,5 +1,5 @@
 use Rattle.node_trial.proofs.Steps.{removed, removed_whole}
-use Rattle.node_trial.proofs.Wholes.{list_key}
+use Rattle.node_trial.proofs.Wholes.{list_key, node_there}
 use Rattle.node_trial.proofs.nodes.Nodes.remove_node.Goals as goal
 
 pub drop_list-requires : goal.drop_list-requires
@@ -20,3 +20,7 @@ returns g c =
     rw (← c.self.view_is) (removed c.self.inside.nodes c.self.inside.lists c.args.number
     c.self.invariant c.remove-node.result removal.value c.remove-node.new.self
     c.drop_list.new.lists removal.updates removal.len removal.capacity c.drop_list.ensures)
+
+pub remove-node-requires : goal.remove-node-requires
+remove-node-requires g c = node_there c.self.inside.nodes c.self.inside.lists c.args.number
+    (rw (← c.self.view_is) at c.requires)

@@ -1,7 +1,7 @@
 use Rattle.std.proofs.Common.{ap, arith}
 use Rattle.std.proofs.lemmas.Bool.{false≢true}
 use Rattle.slab.specs.Slab.{slab_len}
-use Rattle.node_trial.proofs.Wholes.{node_room, list_room, fewer_lists, reserved_whole}
+use Rattle.node_trial.proofs.Wholes.{node_room, list_room, fewer_lists, reserved_whole, reserved_heap}
 use Rattle.node_trial.proofs.nodes.Nodes.reserve.Goals as goal
 
 pub returns-in_err-reserve-clause-succeeds : goal.returns-in_err-reserve-clause-succeeds
@@ -40,3 +40,12 @@ returns-clause-succeeds g c room =
       fewer_lists c.self.inside.nodes c.self.inside.lists
           c.self.invariant,
     ))
+
+pub returns-clause-rest_kept : goal.returns-clause-rest_kept
+returns-clause-rest_kept g c =
+    rw (← c.self.view_is) (reserved_heap c.self.inside.nodes c.reserve.new.self c.self.inside.lists
+    c.reserve-2.new.self c.reserve.ensures.rest_kept c.reserve-2.ensures.rest_kept)
+
+pub returns-clause-no_less : goal.returns-clause-no_less
+returns-clause-no_less g c =
+    rw (← c.self.view_is) (omega (arith, c.reserve.ensures.capacity, c.reserve-2.ensures.capacity))

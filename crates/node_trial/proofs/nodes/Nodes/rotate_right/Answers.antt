@@ -62,8 +62,12 @@ put_beside-requires g c =
             omega arith,
             (
               rw same c.requires.room,
-              rw
-                  (c.take_beside-up.ensures.child, same, c.item_count-end.ensures, c.child_at-left.ensures)
+              rw (
+                c.take_beside-up.ensures.child,
+                same,
+                c.item_count-end.ensures,
+                c.child_at-left.ensures,
+              )
                   fits,
             ),
           ),

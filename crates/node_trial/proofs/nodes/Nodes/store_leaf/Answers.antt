@@ -1,7 +1,7 @@
 use Rattle.std.proofs.Common.{◌≡◌, [], ◌∷◌, ◌++◌, Some, ap, ◌∙◌}
 use Rattle.node_trial.specs.Heap.{full_cells}
 use Rattle.node_trial.proofs.Steps.{stored, stored_whole}
-use Rattle.node_trial.proofs.Wholes.{list_room}
+use Rattle.node_trial.proofs.Wholes.{list_room, node_room}
 use Rattle.node_trial.proofs.Lists.{list_absent}
 use Rattle.node_trial.proofs.nodes.Nodes.store_leaf.Goals as goal
 
@@ -28,3 +28,7 @@ returns g c =
     c.insert_reserved.new.self lists _ (c.args.item ∷ []) [] added.was_vacant added.updates
     added.len added.capacity cells (list_room nodes lists 1
     (rw (← c.self.view_is) at c.requires)) (list_absent lists c.self.invariant.none))
+
+pub insert_reserved-requires : goal.insert_reserved-requires
+insert_reserved-requires g c = node_room c.self.inside.nodes c.self.inside.lists 1
+    (rw (← c.self.view_is) at c.requires)
