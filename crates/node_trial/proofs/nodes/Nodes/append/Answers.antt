@@ -33,7 +33,8 @@ append_cells-requires g c =
     let found = sym (c.remove-cells.ensures.updates.others c.args.left c.requires.apart)
     ∙ c.index_mut-node.ensures.value in
     let few = rw (← c.self.view_is) at c.requires.room in
-    let room : length c.push.new.self.items + length c.remove-cells.result.cells.items ≤ 11 = omega (
+    let room :
+    length c.push.new.self.items + length c.remove-cells.result.cells.items ≤ 11 = omega (
       arith,
       few,
       node_length c.self.inside.nodes c.self.inside.lists c.self.invariant
