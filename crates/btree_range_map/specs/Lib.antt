@@ -39,6 +39,7 @@ pub use Rattle.range_map.specs.Iterating
 pub use Rattle.range_map.specs.ListOrder
 pub use Rattle.range_map.specs.Lookups
 pub use Rattle.range_map.specs.Neighbours
+pub use Rattle.range_map.specs.Outcomes
 pub use Rattle.range_map.specs.Pieces
 pub use Rattle.range_map.specs.Rebinding
 pub use Rattle.range_map.specs.Replaced
@@ -51,6 +52,7 @@ pub use Rattle.range_commands.specs.CountedRuns
 pub use Rattle.range_sets.specs.EqualClones
 pub use Rattle.range_sets.specs.Extending
 pub use Rattle.range_commands.specs.History
+pub use Rattle.range_sets.specs.KeyOutcomes
 pub use Rattle.range_sets.specs.KeySets
 pub use Rattle.range_commands.specs.LastCommands
 pub use Rattle.range_sets.specs.Members

@@ -31,6 +31,7 @@ pub mod Meeting
 pub mod Merging
 pub mod Once
 pub mod Openings
+pub mod Outcomes
 pub mod Planning
 pub mod Rebinding
 pub mod Replaced

@@ -14,6 +14,7 @@ pub mod Iterating
 pub mod ListOrder
 pub mod Lookups
 pub mod Neighbours
+pub mod Outcomes
 pub mod Pieces
 pub mod Plans
 pub mod Reach

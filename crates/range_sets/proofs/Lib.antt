@@ -6,6 +6,7 @@ pub mod Counting
 pub mod Enclosing
 pub mod Filled
 pub mod Filling
+pub mod KeyOutcomes
 pub mod Likeness
 pub mod Matching
 pub mod Membership

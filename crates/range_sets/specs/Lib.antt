@@ -2,6 +2,7 @@ pub mod Calls
 pub mod Complements
 pub mod EqualClones
 pub mod Extending
+pub mod KeyOutcomes
 pub mod KeySets
 pub mod ListedMembers
 pub mod Members

@@ -1,12 +1,8 @@
 //! Binding the keys of a range.
-ghost use Rattle.std.specs.Prelude.{◌≡◌, ◌+◌, ◌≤◌, length, OnOk, OnErr, IsOk};
-ghost use Rattle.range_keys.specs.Order.{IsComplete};
+ghost use Rattle.std.specs.Prelude.{◌≡◌, length, OnOk};
 ghost use Rattle.range_algebra.specs.Range.{ClonesAreEqual, IsEmptyRange};
-ghost use Rattle.range_map.specs.Stored.{IsStored};
 ghost use Rattle.range_map.specs.Costs.{TakesAtLeast, TakesAsChange};
-ghost use Rattle.range_map.specs.Frames.{GaveWayTo};
-ghost use Rattle.range_map.specs.Bindings.{IsBoundAfter, IsCoarse, IsOnlyCoarse};
-ghost use Rattle.range_map.specs.Lookups.{MeetAlso};
+ghost use Rattle.range_map.specs.Outcomes.{InsertedOrRefused};
 
 use crate::change::bind::{bind, bind_in_order};
 use crate::error::MapError;
@@ -32,24 +28,8 @@ impl<K: Measure + Clone, V: Eq + Clone, C: Storage<Item<AnyRange<K>, V>>> RangeM
     pub fn insert<R: IntoRange<Item = K>>(&mut self, range: R, value: V) -> Result<(), MapError>
         requires keys { ClonesAreEqual K.is_clone K.eq }
         requires values { ClonesAreEqual V.is_clone V.eq }
-        ensures bound { OnOk result
-            (IsBoundAfter K.order V.eq (C.items self.old) (C.items self.new) (R.range range)
-            value) }
-        ensures form { IsStored K.order V.eq (C.items self.new) }
-        ensures coarse { IsComplete K.order → IsCoarse K.order V.eq (C.items self.new) }
-        ensures only { IsComplete K.order → IsOnlyCoarse K.order V.eq (C.items self.new) }
-        ensures frame { OnOk result
-            (¬ IsEmptyRange K.order (R.range range)
-            → GaveWayTo K.order V.eq (C.items self.old) (C.items self.new) (R.range range) value) }
-        ensures meets { OnOk result
-            (¬ IsEmptyRange K.order (R.range range)
-            → MeetAlso K.order (C.items self.old) (C.items self.new) (R.range range)) }
-        ensures few { length (C.items self.new) ≤ length (C.items self.old) + 2 }
-
-        ensures refused { OnErr result (C.items self.new ≡ C.items self.old) }
-        ensures empty { IsEmptyRange K.order (R.range range) → IsOk result }
-        ensures empty_unchanged { IsEmptyRange K.order (R.range range)
-            → C.items self.new ≡ C.items self.old }
+        ensures { InsertedOrRefused K.order V.eq (C.items self.old) (C.items self.new)
+            (R.range range) value result }
     {
         self.in_form();
         let range = range.into_range();
@@ -79,24 +59,8 @@ impl<K: Measure + Clone, V: Eq + Clone, C: Storage<Item<AnyRange<K>, V>>> RangeM
     ) -> Result<(), MapError>
         requires keys { ClonesAreEqual K.is_clone K.eq }
         requires values { ClonesAreEqual V.is_clone V.eq }
-        ensures bound { OnOk result
-            (IsBoundAfter K.order V.eq (C.items self.old) (C.items self.new) (R.range range)
-            value) }
-        ensures form { IsStored K.order V.eq (C.items self.new) }
-        ensures coarse { IsComplete K.order → IsCoarse K.order V.eq (C.items self.new) }
-        ensures only { IsComplete K.order → IsOnlyCoarse K.order V.eq (C.items self.new) }
-        ensures frame { OnOk result
-            (¬ IsEmptyRange K.order (R.range range)
-            → GaveWayTo K.order V.eq (C.items self.old) (C.items self.new) (R.range range) value) }
-        ensures meets { OnOk result
-            (¬ IsEmptyRange K.order (R.range range)
-            → MeetAlso K.order (C.items self.old) (C.items self.new) (R.range range)) }
-        ensures few { length (C.items self.new) ≤ length (C.items self.old) + 2 }
-
-        ensures refused { OnErr result (C.items self.new ≡ C.items self.old) }
-        ensures empty { IsEmptyRange K.order (R.range range) → IsOk result }
-        ensures empty_unchanged { IsEmptyRange K.order (R.range range)
-            → C.items self.new ≡ C.items self.old }
+        ensures outcome { InsertedOrRefused K.order V.eq (C.items self.old) (C.items self.new)
+            (R.range range) value result }
         ensures most { OnOk result
             (TakesAsChange steps.old steps.new (C.most_asks self.old) (length (C.items self.old))
             (length (C.items self.new))) }

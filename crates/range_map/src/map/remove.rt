@@ -1,13 +1,8 @@
 //! Unbinding the keys of a range.
-ghost use Rattle.std.specs.Prelude.{◌≡◌, ◌+◌, ◌≤◌, length, OnOk, OnErr, IsOk};
-ghost use Rattle.range_keys.specs.Order.{IsComplete};
+ghost use Rattle.std.specs.Prelude.{◌≡◌, length, OnOk};
 ghost use Rattle.range_algebra.specs.Range.{ClonesAreEqual, IsEmptyRange};
-ghost use Rattle.range_map.specs.Stored.{IsStored};
-ghost use Rattle.range_algebra.specs.Intervals.{Every};
-ghost use Rattle.range_map.specs.Lookups.{Overlap};
 ghost use Rattle.range_map.specs.Costs.{TakesAtLeast, TakesAsChange};
-ghost use Rattle.range_map.specs.Frames.{WasCutOut};
-ghost use Rattle.range_map.specs.Bindings.{IsUnboundAfter, IsCoarse, IsOnlyCoarse};
+ghost use Rattle.range_map.specs.Outcomes.{RemovedOrRefused};
 
 use crate::change::unbind::unbind;
 use crate::error::MapError;
@@ -33,27 +28,8 @@ impl<K: Measure + Clone, V: Eq + Clone, C: Storage<Item<AnyRange<K>, V>>> RangeM
     pub fn remove<R: AsRange<Item = K>>(&mut self, range: R) -> Result<(), MapError>
         requires keys { ClonesAreEqual K.is_clone K.eq }
         requires values { ClonesAreEqual V.is_clone V.eq }
-        ensures unbound { OnOk result
-            (IsUnboundAfter K.order V.eq (C.items self.old) (C.items self.new) (R.range range)) }
-        ensures form { IsStored K.order V.eq (C.items self.new) }
-        ensures coarse { IsComplete K.order → IsCoarse K.order V.eq (C.items self.new) }
-        ensures only { IsComplete K.order → IsOnlyCoarse K.order V.eq (C.items self.new) }
-        ensures apart { OnOk result
-            (¬ IsEmptyRange K.order (R.range range)
-            → Every (λ i. ¬ Overlap K.order i.key (R.range range)) (C.items self.new)) }
-        ensures frame { OnOk result
-            (¬ IsEmptyRange K.order (R.range range)
-            → WasCutOut K.order V.eq (C.items self.old) (C.items self.new) (R.range range)) }
-        ensures few { length (C.items self.new) ≤ length (C.items self.old) + 1 }
-
-        ensures refused { OnErr result (C.items self.new ≡ C.items self.old) }
-        ensures empty { IsEmptyRange K.order (R.range range) → IsOk result }
-        ensures empty_unchanged { IsEmptyRange K.order (R.range range)
-            → C.items self.new ≡ C.items self.old }
-        ensures unmet { Every (λ i. ¬ Overlap K.order i.key (R.range range)) (C.items self.old)
-            → IsOk result }
-        ensures unmet_unchanged { Every (λ i. ¬ Overlap K.order i.key (R.range range))
-            (C.items self.old) → C.items self.new ≡ C.items self.old }
+        ensures { RemovedOrRefused K.order V.eq (C.items self.old) (C.items self.new)
+            (R.range range) result }
     {
         let mut steps = Steps::new();
         self.remove_counted(range, &mut steps)
@@ -76,27 +52,8 @@ impl<K: Measure + Clone, V: Eq + Clone, C: Storage<Item<AnyRange<K>, V>>> RangeM
     ) -> Result<(), MapError>
         requires keys { ClonesAreEqual K.is_clone K.eq }
         requires values { ClonesAreEqual V.is_clone V.eq }
-        ensures unbound { OnOk result
-            (IsUnboundAfter K.order V.eq (C.items self.old) (C.items self.new) (R.range range)) }
-        ensures form { IsStored K.order V.eq (C.items self.new) }
-        ensures coarse { IsComplete K.order → IsCoarse K.order V.eq (C.items self.new) }
-        ensures only { IsComplete K.order → IsOnlyCoarse K.order V.eq (C.items self.new) }
-        ensures apart { OnOk result
-            (¬ IsEmptyRange K.order (R.range range)
-            → Every (λ i. ¬ Overlap K.order i.key (R.range range)) (C.items self.new)) }
-        ensures frame { OnOk result
-            (¬ IsEmptyRange K.order (R.range range)
-            → WasCutOut K.order V.eq (C.items self.old) (C.items self.new) (R.range range)) }
-        ensures few { length (C.items self.new) ≤ length (C.items self.old) + 1 }
-
-        ensures refused { OnErr result (C.items self.new ≡ C.items self.old) }
-        ensures empty { IsEmptyRange K.order (R.range range) → IsOk result }
-        ensures empty_unchanged { IsEmptyRange K.order (R.range range)
-            → C.items self.new ≡ C.items self.old }
-        ensures unmet { Every (λ i. ¬ Overlap K.order i.key (R.range range)) (C.items self.old)
-            → IsOk result }
-        ensures unmet_unchanged { Every (λ i. ¬ Overlap K.order i.key (R.range range))
-            (C.items self.old) → C.items self.new ≡ C.items self.old }
+        ensures outcome { RemovedOrRefused K.order V.eq (C.items self.old) (C.items self.new)
+            (R.range range) result }
         ensures most { OnOk result
             (TakesAsChange steps.old steps.new (C.most_asks self.old) (length (C.items self.old))
             (length (C.items self.new))) }

@@ -1,10 +1,8 @@
 //! Adding the keys of a range.
-ghost use Rattle.std.specs.Prelude.{◌≡◌, ◌+◌, ◌≤◌, true, length, IsOk, OnOk, OnErr};
+ghost use Rattle.std.specs.Prelude.{◌≡◌, length, OnOk};
 ghost use Rattle.range_algebra.specs.Range.{ClonesAreEqual, IsEmptyRange};
 ghost use Rattle.range_map.specs.Costs.{TakesAtLeast, TakesAsChange};
-ghost use Rattle.range_map.specs.Frames.{GaveWayTo};
-ghost use Rattle.range_map.specs.Lookups.{MeetAlso};
-ghost use Rattle.range_sets.specs.KeySets.{HoldsAlso, IsStoredSet};
+ghost use Rattle.range_sets.specs.KeyOutcomes.{KeysAddedOrRefused};
 
 use super::RangeSet;
 use range_algebra::any::AnyRange;
@@ -26,20 +24,8 @@ impl<T: Measure + Clone, C: Storage<Item<AnyRange<T>, ()>>> RangeSet<T, C> {
     /// ```
     pub fn insert<R: IntoRange<Item = T>>(&mut self, range: R) -> Result<(), MapError>
         requires { ClonesAreEqual T.is_clone T.eq }
-        ensures added { OnOk result
-            (HoldsAlso T.order (C.items self.old) (C.items self.new) (R.range range)) }
-        ensures form { IsStoredSet T.order (C.items self.new) }
-        ensures frame { OnOk result (¬ IsEmptyRange T.order (R.range range)
-            → GaveWayTo T.order (λ _ _. true) (C.items self.old) (C.items self.new)
-            (R.range range) tt) }
-        ensures meets { OnOk result (¬ IsEmptyRange T.order (R.range range)
-            → MeetAlso T.order (C.items self.old) (C.items self.new) (R.range range)) }
-        ensures few { length (C.items self.new) ≤ length (C.items self.old) + 1 }
-
-        ensures refused { OnErr result (C.items self.new ≡ C.items self.old) }
-        ensures empty { IsEmptyRange T.order (R.range range) → IsOk result }
-        ensures empty_unchanged { IsEmptyRange T.order (R.range range)
-            → C.items self.new ≡ C.items self.old }
+        ensures { KeysAddedOrRefused T.order (C.items self.old) (C.items self.new)
+            (R.range range) result }
     {
         self.map.insert(range, ())
     }
@@ -59,20 +45,8 @@ impl<T: Measure + Clone, C: Storage<Item<AnyRange<T>, ()>>> RangeSet<T, C> {
         steps: &mut Steps,
     ) -> Result<(), MapError>
         requires { ClonesAreEqual T.is_clone T.eq }
-        ensures added { OnOk result
-            (HoldsAlso T.order (C.items self.old) (C.items self.new) (R.range range)) }
-        ensures form { IsStoredSet T.order (C.items self.new) }
-        ensures frame { OnOk result (¬ IsEmptyRange T.order (R.range range)
-            → GaveWayTo T.order (λ _ _. true) (C.items self.old) (C.items self.new)
-            (R.range range) tt) }
-        ensures meets { OnOk result (¬ IsEmptyRange T.order (R.range range)
-            → MeetAlso T.order (C.items self.old) (C.items self.new) (R.range range)) }
-        ensures few { length (C.items self.new) ≤ length (C.items self.old) + 1 }
-
-        ensures refused { OnErr result (C.items self.new ≡ C.items self.old) }
-        ensures empty { IsEmptyRange T.order (R.range range) → IsOk result }
-        ensures empty_unchanged { IsEmptyRange T.order (R.range range)
-            → C.items self.new ≡ C.items self.old }
+        ensures outcome { KeysAddedOrRefused T.order (C.items self.old) (C.items self.new)
+            (R.range range) result }
         ensures most { OnOk result
             (TakesAsChange steps.old steps.new (C.most_asks self.old) (length (C.items self.old))
             (length (C.items self.new))) }

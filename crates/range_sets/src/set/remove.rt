@@ -1,11 +1,8 @@
 //! Taking the keys of a range away.
-ghost use Rattle.std.specs.Prelude.{◌≡◌, ◌+◌, ◌≤◌, true, length, IsOk, OnOk, OnErr};
+ghost use Rattle.std.specs.Prelude.{◌≡◌, length, OnOk};
 ghost use Rattle.range_algebra.specs.Range.{ClonesAreEqual, IsEmptyRange};
-ghost use Rattle.range_algebra.specs.Intervals.{Every};
 ghost use Rattle.range_map.specs.Costs.{TakesAtLeast, TakesAsChange};
-ghost use Rattle.range_map.specs.Frames.{WasCutOut};
-ghost use Rattle.range_map.specs.Lookups.{Overlap};
-ghost use Rattle.range_sets.specs.KeySets.{HoldsWithout, IsStoredSet};
+ghost use Rattle.range_sets.specs.KeyOutcomes.{KeysRemovedOrRefused};
 
 use super::RangeSet;
 use range_algebra::any::AnyRange;
@@ -29,24 +26,8 @@ impl<T: Measure + Clone, C: Storage<Item<AnyRange<T>, ()>>> RangeSet<T, C> {
     /// ```
     pub fn remove<R: AsRange<Item = T>>(&mut self, range: R) -> Result<(), MapError>
         requires { ClonesAreEqual T.is_clone T.eq }
-        ensures removed { OnOk result
-            (HoldsWithout T.order (C.items self.old) (C.items self.new) (R.range range)) }
-        ensures form { IsStoredSet T.order (C.items self.new) }
-        ensures apart { OnOk result (¬ IsEmptyRange T.order (R.range range)
-            → Every (λ i. ¬ Overlap T.order i.key (R.range range)) (C.items self.new)) }
-        ensures frame { OnOk result (¬ IsEmptyRange T.order (R.range range)
-            → WasCutOut T.order (λ _ _. true) (C.items self.old) (C.items self.new)
-            (R.range range)) }
-        ensures few { length (C.items self.new) ≤ length (C.items self.old) + 1 }
-
-        ensures refused { OnErr result (C.items self.new ≡ C.items self.old) }
-        ensures empty { IsEmptyRange T.order (R.range range) → IsOk result }
-        ensures empty_unchanged { IsEmptyRange T.order (R.range range)
-            → C.items self.new ≡ C.items self.old }
-        ensures unmet { Every (λ i. ¬ Overlap T.order i.key (R.range range)) (C.items self.old)
-            → IsOk result }
-        ensures unmet_unchanged { Every (λ i. ¬ Overlap T.order i.key (R.range range))
-            (C.items self.old) → C.items self.new ≡ C.items self.old }
+        ensures { KeysRemovedOrRefused T.order (C.items self.old) (C.items self.new)
+            (R.range range) result }
     {
         let mut steps = Steps::new();
         self.remove_counted(range, &mut steps)
@@ -68,24 +49,8 @@ impl<T: Measure + Clone, C: Storage<Item<AnyRange<T>, ()>>> RangeSet<T, C> {
         steps: &mut Steps,
     ) -> Result<(), MapError>
         requires { ClonesAreEqual T.is_clone T.eq }
-        ensures removed { OnOk result
-            (HoldsWithout T.order (C.items self.old) (C.items self.new) (R.range range)) }
-        ensures form { IsStoredSet T.order (C.items self.new) }
-        ensures apart { OnOk result (¬ IsEmptyRange T.order (R.range range)
-            → Every (λ i. ¬ Overlap T.order i.key (R.range range)) (C.items self.new)) }
-        ensures frame { OnOk result (¬ IsEmptyRange T.order (R.range range)
-            → WasCutOut T.order (λ _ _. true) (C.items self.old) (C.items self.new)
-            (R.range range)) }
-        ensures few { length (C.items self.new) ≤ length (C.items self.old) + 1 }
-
-        ensures refused { OnErr result (C.items self.new ≡ C.items self.old) }
-        ensures empty { IsEmptyRange T.order (R.range range) → IsOk result }
-        ensures empty_unchanged { IsEmptyRange T.order (R.range range)
-            → C.items self.new ≡ C.items self.old }
-        ensures unmet { Every (λ i. ¬ Overlap T.order i.key (R.range range)) (C.items self.old)
-            → IsOk result }
-        ensures unmet_unchanged { Every (λ i. ¬ Overlap T.order i.key (R.range range))
-            (C.items self.old) → C.items self.new ≡ C.items self.old }
+        ensures outcome { KeysRemovedOrRefused T.order (C.items self.old) (C.items self.new)
+            (R.range range) result }
         ensures most { OnOk result
             (TakesAsChange steps.old steps.new (C.most_asks self.old) (length (C.items self.old))
             (length (C.items self.new))) }

@@ -63,7 +63,7 @@ returns-in-InsertDisconnected-clause-takes g c = rw c.in-InsertDisconnected.is r
 pub returns-in-Ok-remove_counted-clause-step : goal.returns-in-Ok-remove_counted-clause-step
 returns-in-Ok-remove_counted-clause-step g c =
     let items = g.C.Storage.items c.args.map.now in
-    let done = c.in-Ok-remove_counted.ensures in
+    let done = c.in-Ok-remove_counted.ensures.outcome in
     rw c.in-Remove.is record {
       unbound = done.unbound;
       form = done.form;
@@ -84,7 +84,7 @@ returns-in-Ok-remove_counted-clause-takes g c =
 pub returns-in-Remove-clause-step : goal.returns-in-Remove-clause-step
 returns-in-Remove-clause-step g c =
     let items = g.C.Storage.items c.args.map.now in
-    let refused = c.in-Err-Memory-remove_counted.ensures in
+    let refused = c.in-Err-Memory-remove_counted.ensures.outcome in
     rw c.in-Remove.is (
       λ empty. false≢true (refused.empty empty),
       meets_some g.K.MaybeBounded.order items c.in-Remove.range (λ apart. false≢true (refused.unmet apart)),
