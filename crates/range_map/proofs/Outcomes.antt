@@ -29,87 +29,87 @@ at_most_more items next AreSuch n h few =
     let others = length-append h.front h.others in
     omega (arith, few, ap length h.before, ap length h.after, before, after, run, others)
 
+abbrev Items : Type 0 → Type 0 → Type 0
+Items K V = List (Item (AnyRange K) V)
+
 module _ {K V : Type 0} (order : KeyOrder K) (lawful : IsLawful order) (same : V → V → Bool) where
   module _ (equal : IsEquivalence same) {A E : Type 0} (r : AnyRange K) where
-    abbrev Items : Type 0
-    Items = List (Item (AnyRange K) V)
-
-    pub range_is_inserted : (items next : Items) (v : V) (a : A) → ¬ IsEmptyRange order r
+    pub range_is_inserted : (items next : Items K V) (v : V) (a : A) → ¬ IsEmptyRange order r
         → IsInserted order same items next r v
-        → InsertedOrRefused order same items next r {A} {E} v (Ok a)
+        → InsertedOrRefused order same items next r {A = A} {E = E} v (Ok a)
     range_is_inserted items next v a full done =
-      record {
-        bound = done.bound;
-        form = done.stored;
-        coarse = λ complete. stored_coarse order lawful same equal complete next done.stored;
-        only = λ complete. stored_only order lawful same equal complete next done.stored;
-        frame = λ _. done.frame;
-        meets = λ _. done.meets;
-        few = at_most_more items next _ 2 done.frame done.frame.such.few;
-        refused = tt;
-        empty = λ _. refl;
-        empty_unchanged = λ empty. absurd (full empty);
-      }
+        record {
+          bound = done.bound;
+          form = done.stored;
+          coarse = λ complete. stored_coarse order lawful same equal complete next done.stored;
+          only = λ complete. stored_only order lawful same equal complete next done.stored;
+          frame = λ _. done.frame;
+          meets = λ _. done.meets;
+          few = at_most_more items next _ 2 done.frame done.frame.such.few;
+          refused = tt;
+          empty = λ _. refl;
+          empty_unchanged = λ empty. absurd (full empty);
+        }
 
-    pub nothing_is_inserted : (items : Items) (v : V) (result : Result A E)
+    pub nothing_is_inserted : (items : Items K V) (v : V) (result : Result A E)
         → OnOk result (IsEmptyRange order r) → (IsEmptyRange order r → IsOk result)
         → IsStored order same items → InsertedOrRefused order same items items r v result
     nothing_is_inserted items v result empty ok stored =
-      record {
-        bound = on_ok_weaker result (λ none. record {
-          held = λ k key held b. absurd (empty_is_keyless order lawful r none k key held);
-          others = λ k key out b. (λ h. h, λ h. h);
-        }) empty;
-        form = stored;
-        coarse = λ complete. stored_coarse order lawful same equal complete items stored;
-        only = λ complete. stored_only order lawful same equal complete items stored;
-        frame = on_ok_weaker result (λ none full. absurd (full none)) empty;
-        meets = on_ok_weaker result (λ none full. absurd (full none)) empty;
-        few = le_sum (length items) 2;
-        refused = on_error _ result refl;
-        empty = ok;
-        empty_unchanged = λ _. refl;
-      }
+        record {
+          bound = on_ok_weaker result (λ none. record {
+            held = λ k key held b. absurd (empty_is_keyless order lawful r none k key held);
+            others = λ k key out b. (λ h. h, λ h. h);
+          }) empty;
+          form = stored;
+          coarse = λ complete. stored_coarse order lawful same equal complete items stored;
+          only = λ complete. stored_only order lawful same equal complete items stored;
+          frame = on_ok_weaker result (λ none full. absurd (full none)) empty;
+          meets = on_ok_weaker result (λ none full. absurd (full none)) empty;
+          few = le_sum (length items) 2;
+          refused = on_error _ result refl;
+          empty = ok;
+          empty_unchanged = λ _. refl;
+        }
 
-    pub range_is_removed : (items next : Items) (a : A) → ¬ IsEmptyRange order r
+    pub range_is_removed : (items next : Items K V) (a : A) → ¬ IsEmptyRange order r
         → IsRemoved order same items next r
         → (Every (λ i. ¬ Overlap order i.key r) items → next ≡ items)
-        → RemovedOrRefused order same items next r {A} {E} (Ok a)
+        → RemovedOrRefused order same items next r {A = A} {E = E} (Ok a)
     range_is_removed items next a full done unmet_unchanged =
-      record {
-        unbound = done.unbound;
-        form = done.stored;
-        coarse = λ complete. stored_coarse order lawful same equal complete next done.stored;
-        only = λ complete. stored_only order lawful same equal complete next done.stored;
-        apart = λ _. done.apart;
-        frame = λ _. done.frame;
-        few = at_most_more items next _ 1 done.frame done.frame.such.few;
-        refused = tt;
-        empty = λ _. refl;
-        empty_unchanged = λ empty. absurd (full empty);
-        unmet = λ _. refl;
-        unmet_unchanged = unmet_unchanged;
-      }
+        record {
+          unbound = done.unbound;
+          form = done.stored;
+          coarse = λ complete. stored_coarse order lawful same equal complete next done.stored;
+          only = λ complete. stored_only order lawful same equal complete next done.stored;
+          apart = λ _. done.apart;
+          frame = λ _. done.frame;
+          few = at_most_more items next _ 1 done.frame done.frame.such.few;
+          refused = tt;
+          empty = λ _. refl;
+          empty_unchanged = λ empty. absurd (full empty);
+          unmet = λ _. refl;
+          unmet_unchanged = unmet_unchanged;
+        }
 
-    pub nothing_is_removed : (items : Items) (result : Result A E)
+    pub nothing_is_removed : (items : Items K V) (result : Result A E)
         → OnOk result (IsEmptyRange order r) → (IsEmptyRange order r → IsOk result)
         → (Every (λ i. ¬ Overlap order i.key r) items → IsOk result)
         → IsStored order same items → RemovedOrRefused order same items items r result
     nothing_is_removed items result empty ok unmet stored =
-      record {
-        unbound = on_ok_weaker result (λ none. record {
-          held = λ k key held b. absurd (empty_is_keyless order lawful r none k key held);
-          others = λ k key out b. (λ h. h, λ h. h);
-        }) empty;
-        form = stored;
-        coarse = λ complete. stored_coarse order lawful same equal complete items stored;
-        only = λ complete. stored_only order lawful same equal complete items stored;
-        apart = on_ok_weaker result (λ none full. absurd (full none)) empty;
-        frame = on_ok_weaker result (λ none full. absurd (full none)) empty;
-        few = le_sum (length items) 1;
-        refused = on_error _ result refl;
-        empty = ok;
-        empty_unchanged = λ _. refl;
-        unmet = unmet;
-        unmet_unchanged = λ _. refl;
-      }
+        record {
+          unbound = on_ok_weaker result (λ none. record {
+            held = λ k key held b. absurd (empty_is_keyless order lawful r none k key held);
+            others = λ k key out b. (λ h. h, λ h. h);
+          }) empty;
+          form = stored;
+          coarse = λ complete. stored_coarse order lawful same equal complete items stored;
+          only = λ complete. stored_only order lawful same equal complete items stored;
+          apart = on_ok_weaker result (λ none full. absurd (full none)) empty;
+          frame = on_ok_weaker result (λ none full. absurd (full none)) empty;
+          few = le_sum (length items) 1;
+          refused = on_error _ result refl;
+          empty = ok;
+          empty_unchanged = λ _. refl;
+          unmet = unmet;
+          unmet_unchanged = λ _. refl;
+        }

@@ -24,7 +24,7 @@ module _ {K V : Type 0} (order : KeyOrder K) (same : V → V → Bool) where
       pub only : IsComplete order → IsOnlyCoarse order same next
       -- what the range neither meets nor joins stands item for item
       pub frame : OnOk result (¬ IsEmptyRange order r → GaveWayTo order same items next r v)
-      -- a range meets the new list where it meets the old one or the inserted range
+      -- a nonempty range meets the new list where it meets the old one or the inserted range
       pub meets : OnOk result (¬ IsEmptyRange order r → MeetAlso order items next r)
       -- there are at most two ranges more
       pub few : length next ≤ length items + 2

@@ -14,31 +14,31 @@ module _ {K A E : Type 0} (order : KeyOrder K) (lawful : IsLawful order) (r : An
     pub keys_are_added : InsertedOrRefused order (λ _ _. true) items next r tt result
         → KeysAddedOrRefused order items next r result
     keys_are_added h =
-      let keys = added order lawful (λ _ _. true) (λ _ _. refl) items next r in
-      record {
-        added = on_ok_weaker result keys h.bound;
-        form = h.form;
-        frame = h.frame;
-        meets = h.meets;
-        few = one_more order result items next r h.frame h.refused h.empty_unchanged;
-        refused = h.refused;
-        empty = h.empty;
-        empty_unchanged = h.empty_unchanged;
-      }
+        let keys = added order lawful (λ _ _. true) (λ _ _. refl) items next r in
+        record {
+          added = on_ok_weaker result keys h.bound;
+          form = h.form;
+          frame = h.frame;
+          meets = h.meets;
+          few = one_more order result items next r h.frame h.refused h.empty_unchanged;
+          refused = h.refused;
+          empty = h.empty;
+          empty_unchanged = h.empty_unchanged;
+        }
 
     pub keys_are_removed : RemovedOrRefused order (λ _ _. true) items next r result
         → KeysRemovedOrRefused order items next r result
     keys_are_removed h =
-      let keys = removed order lawful (λ _ _. true) (λ _ _. refl) items next r in
-      record {
-        removed = on_ok_weaker result keys h.unbound;
-        form = h.form;
-        apart = h.apart;
-        frame = h.frame;
-        few = h.few;
-        refused = h.refused;
-        empty = h.empty;
-        empty_unchanged = h.empty_unchanged;
-        unmet = h.unmet;
-        unmet_unchanged = h.unmet_unchanged;
-      }
+        let keys = removed order lawful (λ _ _. true) (λ _ _. refl) items next r in
+        record {
+          removed = on_ok_weaker result keys h.unbound;
+          form = h.form;
+          apart = h.apart;
+          frame = h.frame;
+          few = h.few;
+          refused = h.refused;
+          empty = h.empty;
+          empty_unchanged = h.empty_unchanged;
+          unmet = h.unmet;
+          unmet_unchanged = h.unmet_unchanged;
+        }

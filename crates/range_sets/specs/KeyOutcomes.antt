@@ -20,7 +20,7 @@ module _ {K : Type 0} (order : KeyOrder K) (items next : List (Item (AnyRange K)
       -- what the range neither meets nor touches stands item for item
       pub frame : OnOk result
           (¬ IsEmptyRange order r → GaveWayTo order (λ _ _. true) items next r tt)
-      -- a range meets the new list where it meets the old one or the added range
+      -- a nonempty range meets the new list where it meets the old one or the added range
       pub meets : OnOk result (¬ IsEmptyRange order r → MeetAlso order items next r)
       -- there is at most one range more
       pub few : length next ≤ length items + 1

@@ -9,8 +9,8 @@ returns g c =
     let full = iff_false c.is_empty.ensures.by_position c.if-is_empty.false in
     record {
       outcome = rw (← c.into_range-range.ensures, ← c.self.view_is)
-      (range_is_inserted g.K.MaybeBounded.order g.met.K.PartialEnum.lawful g.V.PartialEq.eq
-      g.met.V.Eq.laws _ _ _ _ _ full c.in_ok-bind.ensures.ok);
+          (range_is_inserted g.K.MaybeBounded.order g.met.K.PartialEnum.lawful g.V.PartialEq.eq
+          g.met.V.Eq.laws _ _ _ _ _ full c.in_ok-bind.ensures.ok);
       most = rw (← c.self.view_is) c.in_ok-bind.ensures.most;
       least = λ _. rw (← c.self.view_is) c.bind.ensures.least;
       empty_uncounted = λ empty. absurd (full (rw (← c.into_range-range.ensures) at empty));
@@ -21,8 +21,8 @@ returns-then-is_empty g c =
     let empty = c.is_empty.ensures.by_position.0 c.if-is_empty.true in
     record {
       outcome = rw (← c.into_range-range.ensures)
-      (nothing_is_inserted g.K.MaybeBounded.order g.met.K.PartialEnum.lawful g.V.PartialEq.eq
-      g.met.V.Eq.laws _ _ _ _ empty (λ _. refl) c.in_form.ensures);
+          (nothing_is_inserted g.K.MaybeBounded.order g.met.K.PartialEnum.lawful g.V.PartialEq.eq
+          g.met.V.Eq.laws _ _ _ _ empty (λ _. refl) c.in_form.ensures);
       most = search rules;
       least = λ full. absurd (full (rw (← c.into_range-range.ensures) empty));
       empty_uncounted = λ _. refl;
@@ -34,9 +34,9 @@ returns-in_err-bind g c =
     let none = error_has_no_value _ c.from_residual.result c.from_residual.ensures.0 in
     record {
       outcome = rw (← c.into_range-range.ensures, c.in_err-bind.ensures.refused, ← c.self.view_is)
-      (nothing_is_inserted g.K.MaybeBounded.order g.met.K.PartialEnum.lawful g.V.PartialEq.eq
-      g.met.V.Eq.laws _ _ _ _ none (λ empty. absurd (full empty))
-      (rw c.self.view_is c.in_form.ensures));
+          (nothing_is_inserted g.K.MaybeBounded.order g.met.K.PartialEnum.lawful g.V.PartialEq.eq
+          g.met.V.Eq.laws _ _ _ _ none (λ empty. absurd (full empty))
+          (rw c.self.view_is c.in_form.ensures));
       most = error_has_no_value _ c.from_residual.result c.from_residual.ensures.0;
       least = λ _. rw (← c.self.view_is) c.bind.ensures.least;
       empty_uncounted = λ empty. absurd (full (rw (← c.into_range-range.ensures) at empty));
