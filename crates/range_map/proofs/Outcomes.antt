@@ -5,13 +5,11 @@ use Rattle.std.proofs.lemmas.Result.{on_ok_weaker}
 use Rattle.std.specs.Cmp.{IsEquivalence}
 use Rattle.range_keys.specs.Order.{KeyOrder, IsLawful}
 use Rattle.range_algebra.specs.declared.any.AnyRange.{AnyRange}
-use Rattle.range_algebra.specs.Intervals.{Every}
 use Rattle.range_algebra.specs.Range.{IsEmptyRange}
 use Rattle.range_algebra.proofs.Holding.{empty_is_keyless}
 use Rattle.range_store.specs.declared.storage.Item.{Item}
 use Rattle.range_map.specs.Changes.{IsInserted, IsRemoved}
 use Rattle.range_map.specs.Frames.{RunGaveWay}
-use Rattle.range_map.specs.Lookups.{Overlap}
 use Rattle.range_map.specs.Outcomes.{InsertedOrRefused, RemovedOrRefused}
 use Rattle.range_map.specs.Stored.{IsStored}
 use Rattle.range_map.proofs.Lengths.{le_sum}
@@ -73,9 +71,8 @@ module _ {K V : Type 0} (order : KeyOrder K) (lawful : IsLawful order) (same : V
 
     pub range_is_removed : (items next : Items K V) (a : A) → ¬ IsEmptyRange order r
         → IsRemoved order same items next r
-        → (Every (λ i. ¬ Overlap order i.key r) items → next ≡ items)
         → RemovedOrRefused order same items next r {A = A} {E = E} (Ok a)
-    range_is_removed items next a full done unmet_unchanged =
+    range_is_removed items next a full done =
         record {
           unbound = done.unbound;
           form = done.stored;
@@ -87,15 +84,12 @@ module _ {K V : Type 0} (order : KeyOrder K) (lawful : IsLawful order) (same : V
           refused = tt;
           empty = λ _. refl;
           empty_unchanged = λ empty. absurd (full empty);
-          unmet = λ _. refl;
-          unmet_unchanged = unmet_unchanged;
         }
 
     pub nothing_is_removed : (items : Items K V) (result : Result A E)
         → OnOk result (IsEmptyRange order r) → (IsEmptyRange order r → IsOk result)
-        → (Every (λ i. ¬ Overlap order i.key r) items → IsOk result)
         → IsStored order same items → RemovedOrRefused order same items items r result
-    nothing_is_removed items result empty ok unmet stored =
+    nothing_is_removed items result empty ok stored =
         record {
           unbound = on_ok_weaker result (λ none. record {
             held = λ k key held b. absurd (empty_is_keyless order lawful r none k key held);
@@ -110,6 +104,4 @@ module _ {K V : Type 0} (order : KeyOrder K) (lawful : IsLawful order) (same : V
           refused = on_error _ result refl;
           empty = ok;
           empty_unchanged = λ _. refl;
-          unmet = unmet;
-          unmet_unchanged = λ _. refl;
         }

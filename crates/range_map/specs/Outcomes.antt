@@ -58,7 +58,3 @@ module _ {K V : Type 0} (order : KeyOrder K) (same : V → V → Bool) where
       pub empty : IsEmptyRange order r → IsOk result
       -- and changes nothing
       pub empty_unchanged : IsEmptyRange order r → next ≡ items
-      -- where no stored range meets the range the call is not refused
-      pub unmet : Every (λ i. ¬ Overlap order i.key r) items → IsOk result
-      -- and changes nothing
-      pub unmet_unchanged : Every (λ i. ¬ Overlap order i.key r) items → next ≡ items

@@ -39,6 +39,4 @@ module _ {K A E : Type 0} (order : KeyOrder K) (lawful : IsLawful order) (r : An
           refused = h.refused;
           empty = h.empty;
           empty_unchanged = h.empty_unchanged;
-          unmet = h.unmet;
-          unmet_unchanged = h.unmet_unchanged;
         }

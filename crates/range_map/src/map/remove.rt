@@ -1,7 +1,9 @@
 //! Unbinding the keys of a range.
-ghost use Rattle.std.specs.Prelude.{◌≡◌, length, OnOk};
+ghost use Rattle.std.specs.Prelude.{◌≡◌, length, IsOk, OnOk};
 ghost use Rattle.range_algebra.specs.Range.{ClonesAreEqual, IsEmptyRange};
+ghost use Rattle.range_algebra.specs.Intervals.{Every};
 ghost use Rattle.range_map.specs.Costs.{TakesAtLeast, TakesAsChange};
+ghost use Rattle.range_map.specs.Lookups.{Overlap};
 ghost use Rattle.range_map.specs.Outcomes.{RemovedOrRefused};
 
 use crate::change::unbind::unbind;
@@ -28,8 +30,12 @@ impl<K: Measure + Clone, V: Eq + Clone, C: Storage<Item<AnyRange<K>, V>>> RangeM
     pub fn remove<R: AsRange<Item = K>>(&mut self, range: R) -> Result<(), MapError>
         requires keys { ClonesAreEqual K.is_clone K.eq }
         requires values { ClonesAreEqual V.is_clone V.eq }
-        ensures { RemovedOrRefused K.order V.eq (C.items self.old) (C.items self.new)
+        ensures outcome { RemovedOrRefused K.order V.eq (C.items self.old) (C.items self.new)
             (R.range range) result }
+        ensures unmet { Every (λ i. ¬ Overlap K.order i.key (R.range range)) (C.items self.old)
+            → IsOk result }
+        ensures unmet_unchanged { Every (λ i. ¬ Overlap K.order i.key (R.range range))
+            (C.items self.old) → C.items self.new ≡ C.items self.old }
     {
         let mut steps = Steps::new();
         self.remove_counted(range, &mut steps)
@@ -54,6 +60,10 @@ impl<K: Measure + Clone, V: Eq + Clone, C: Storage<Item<AnyRange<K>, V>>> RangeM
         requires values { ClonesAreEqual V.is_clone V.eq }
         ensures outcome { RemovedOrRefused K.order V.eq (C.items self.old) (C.items self.new)
             (R.range range) result }
+        ensures unmet { Every (λ i. ¬ Overlap K.order i.key (R.range range)) (C.items self.old)
+            → IsOk result }
+        ensures unmet_unchanged { Every (λ i. ¬ Overlap K.order i.key (R.range range))
+            (C.items self.old) → C.items self.new ≡ C.items self.old }
         ensures most { OnOk result
             (TakesAsChange steps.old steps.new (C.most_asks self.old) (length (C.items self.old))
             (length (C.items self.new))) }

@@ -1,7 +1,9 @@
 //! Taking the keys of a range away.
-ghost use Rattle.std.specs.Prelude.{◌≡◌, length, OnOk};
+ghost use Rattle.std.specs.Prelude.{◌≡◌, length, IsOk, OnOk};
 ghost use Rattle.range_algebra.specs.Range.{ClonesAreEqual, IsEmptyRange};
+ghost use Rattle.range_algebra.specs.Intervals.{Every};
 ghost use Rattle.range_map.specs.Costs.{TakesAtLeast, TakesAsChange};
+ghost use Rattle.range_map.specs.Lookups.{Overlap};
 ghost use Rattle.range_sets.specs.KeyOutcomes.{KeysRemovedOrRefused};
 
 use super::RangeSet;
@@ -26,8 +28,12 @@ impl<T: Measure + Clone, C: Storage<Item<AnyRange<T>, ()>>> RangeSet<T, C> {
     /// ```
     pub fn remove<R: AsRange<Item = T>>(&mut self, range: R) -> Result<(), MapError>
         requires { ClonesAreEqual T.is_clone T.eq }
-        ensures { KeysRemovedOrRefused T.order (C.items self.old) (C.items self.new)
+        ensures outcome { KeysRemovedOrRefused T.order (C.items self.old) (C.items self.new)
             (R.range range) result }
+        ensures unmet { Every (λ i. ¬ Overlap T.order i.key (R.range range)) (C.items self.old)
+            → IsOk result }
+        ensures unmet_unchanged { Every (λ i. ¬ Overlap T.order i.key (R.range range))
+            (C.items self.old) → C.items self.new ≡ C.items self.old }
     {
         let mut steps = Steps::new();
         self.remove_counted(range, &mut steps)
@@ -51,6 +57,10 @@ impl<T: Measure + Clone, C: Storage<Item<AnyRange<T>, ()>>> RangeSet<T, C> {
         requires { ClonesAreEqual T.is_clone T.eq }
         ensures outcome { KeysRemovedOrRefused T.order (C.items self.old) (C.items self.new)
             (R.range range) result }
+        ensures unmet { Every (λ i. ¬ Overlap T.order i.key (R.range range)) (C.items self.old)
+            → IsOk result }
+        ensures unmet_unchanged { Every (λ i. ¬ Overlap T.order i.key (R.range range))
+            (C.items self.old) → C.items self.new ≡ C.items self.old }
         ensures most { OnOk result
             (TakesAsChange steps.old steps.new (C.most_asks self.old) (length (C.items self.old))
             (length (C.items self.new))) }

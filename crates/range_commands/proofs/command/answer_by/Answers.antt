@@ -63,12 +63,12 @@ returns-in-InsertDisconnected-clause-takes g c = rw c.in-InsertDisconnected.is r
 pub returns-in-Ok-remove_counted-clause-step : goal.returns-in-Ok-remove_counted-clause-step
 returns-in-Ok-remove_counted-clause-step g c =
     let items = g.C.Storage.items c.args.map.now in
-    let done = c.in-Ok-remove_counted.ensures.outcome in
+    let done = c.in-Ok-remove_counted.ensures in
     rw c.in-Remove.is record {
-      unbound = done.unbound;
-      form = done.form;
-      few = done.few;
-      empty = done.empty_unchanged;
+      unbound = done.outcome.unbound;
+      form = done.outcome.form;
+      few = done.outcome.few;
+      empty = done.outcome.empty_unchanged;
       unmet = λ unmet. done.unmet_unchanged (meets_none g.K.MaybeBounded.order items c.in-Remove.range unmet);
     }
 
@@ -84,11 +84,11 @@ returns-in-Ok-remove_counted-clause-takes g c =
 pub returns-in-Remove-clause-step : goal.returns-in-Remove-clause-step
 returns-in-Remove-clause-step g c =
     let items = g.C.Storage.items c.args.map.now in
-    let refused = c.in-Err-Memory-remove_counted.ensures.outcome in
+    let refused = c.in-Err-Memory-remove_counted.ensures in
     rw c.in-Remove.is (
-      λ empty. false≢true (refused.empty empty),
+      λ empty. false≢true (refused.outcome.empty empty),
       meets_some g.K.MaybeBounded.order items c.in-Remove.range (λ apart. false≢true (refused.unmet apart)),
-      refused.refused,
+      refused.outcome.refused,
     )
 
 pub returns-in-Remove-clause-takes : goal.returns-in-Remove-clause-takes

@@ -16,3 +16,9 @@ returns-clause-least g c = search rules
 
 pub returns-clause-empty_uncounted : goal.returns-clause-empty_uncounted
 returns-clause-empty_uncounted g c = search rules
+
+pub returns-clause-unmet : goal.returns-clause-unmet
+returns-clause-unmet g c = rw (← c.self.view_is) (search rules)
+
+pub returns-clause-unmet_unchanged : goal.returns-clause-unmet_unchanged
+returns-clause-unmet_unchanged g c = rw (← c.self.view_is) (search rules)
