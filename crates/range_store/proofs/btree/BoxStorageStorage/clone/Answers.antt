@@ -19,7 +19,7 @@ loop-at-preserved g c =
     let here = rw c.in-Some.is at c.loop-at.invariant.position in
     let longer : after ≡ before ++ c.in_ok-item.item ∷ [] = c.insert_at.ensures.list ∙ insert_end before c.in_ok-item.item in
     let count : length after ≡ length before + 1 = rw longer (length_push before c.in_ok-item.item) in
-    let within : length before < length items = rw here.1 at (good_in_range c.args.self.now c.in-Some.p.found here.0) in
+    let within : length before < length items = rw here.1 at (good_in_range c.args.self.now c.in-Some.p here.0) in
     let read = rw here.1 at c.get.ensures in
     record {
       position = rw count (rw here.1 at c.next-at.ensures);
@@ -33,7 +33,7 @@ some_room n m room within space = omega arith
 pub insert_at-requires-clause-has_room : goal.insert_at-requires-clause-has_room
 insert_at-requires-clause-has_room g c =
     let here = rw c.in-Some.is at c.loop-at.invariant.position in
-    some_room (length (box_items c.args.self.now)) (length (box_items c.loop-at.copy)) (box_room c.loop-at.copy) (rw here.1 at (good_in_range c.args.self.now c.in-Some.p.found here.0)) c.loop-at.invariant.space
+    some_room (length (box_items c.args.self.now)) (length (box_items c.loop-at.copy)) (box_room c.loop-at.copy) (rw here.1 at (good_in_range c.args.self.now c.in-Some.p here.0)) c.loop-at.invariant.space
 
 fewer_left : (n m k : ℕ) → k ≡ m + 1 → m < n → n - k < n - m
 fewer_left n m k count within = omega arith
@@ -45,7 +45,7 @@ loop-at-smaller g c =
     let here = rw c.in-Some.is at c.loop-at.invariant.position in
     let longer : after ≡ before ++ c.in_ok-item.item ∷ [] = c.insert_at.ensures.list ∙ insert_end before c.in_ok-item.item in
     let count : length after ≡ length before + 1 = rw longer (length_push before c.in_ok-item.item) in
-    fewer_left (length (box_items c.args.self.now)) (length before) (length after) count (rw here.1 at (good_in_range c.args.self.now c.in-Some.p.found here.0))
+    fewer_left (length (box_items c.args.self.now)) (length before) (length after) count (rw here.1 at (good_in_range c.args.self.now c.in-Some.p here.0))
 
 pub returns : goal.returns
 returns g c =

@@ -3,7 +3,7 @@ use Rattle.std.specs.List.{insert}
 use Rattle.std.proofs.lemmas.List.Edits.{length-insert}
 use Rattle.slab.specs.Slab.{get}
 use Rattle.range_store.specs.declared.btree.node.TheConstants.{CAPACITY}
-use Rattle.range_store.specs.Nodes.{items_of, children_of}
+use Rattle.range_store.specs.Heap.{items_of, children_of}
 use Rattle.range_store.specs.Edges.{turn, inside, place}
 use Rattle.range_store.proofs.Edges.{way_small, leaf_index, leaf_place}
 use Rattle.range_store.proofs.Below.{children_length}

@@ -3,8 +3,8 @@ use Rattle.std.specs.List.{insert}
 use Rattle.std.proofs.lemmas.List.Edits.{length-insert}
 use Rattle.slab.specs.Slab.{get}
 use Rattle.range_store.specs.declared.btree.node.TheConstants.{CAPACITY, HALF}
-use Rattle.range_store.specs.Nodes.{items_of, children_of, with_child}
-use Rattle.range_store.proofs.Contents.{written_settles, written_holds, written_agree, cut_settles, left_holds, right_holds, cut_agree, part_agree, left_numbers}
+use Rattle.range_store.specs.Heap.{items_of, children_of, with_child}
+use Rattle.range_store.proofs.Contents.{written_settles, written_holds, written_agree, cut_settles, left_holds, right_holds, cut_agree, part_agree}
 use Rattle.range_store.proofs.Seats.{seat_written, seat_left, seat_right, seat_small, seat_way, seat_alone, seat_beside}
 use Rattle.range_store.proofs.btree.insertion.put_or_cut.Goals as goal
 

@@ -2,7 +2,8 @@ use Rattle.std.proofs.Common.{◌≡◌, ◌+◌, ◌-◌, length, get_or, map, 
 use Rattle.std.proofs.lemmas.List.Edits.{length-remove}
 use Rattle.slab.specs.Slab.{get}
 use Rattle.range_store.specs.declared.btree.node.TheConstants.{CAPACITY, MIN_LEN}
-use Rattle.range_store.specs.Nodes.{items_of, children_of, numbers, before}
+use Rattle.range_store.specs.Heap.{items_of, children_of}
+use Rattle.range_store.specs.Nodes.{before}
 use Rattle.range_store.specs.Edges.{turn, inside, place}
 use Rattle.range_store.proofs.Edges.{leaf_edge, leaf_index, leaf_place}
 use Rattle.range_store.proofs.Growing.{kid_owned}

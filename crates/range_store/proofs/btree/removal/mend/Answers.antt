@@ -1,10 +1,10 @@
 use Rattle.std.proofs.Common.{◌<◌, ◌≤◌, length, sym, ◌∙◌, inl, inr, arith}
 use Rattle.slab.specs.Slab.{get}
 use Rattle.range_store.specs.declared.btree.node.TheConstants.{MIN_LEN}
-use Rattle.range_store.specs.Nodes.{items_of}
+use Rattle.range_store.specs.Heap.{items_of}
 use Rattle.range_store.proofs.Edges.{way_small, edge_above, place_above}
 use Rattle.range_store.proofs.Seats.{seat_place_inner}
-use Rattle.range_store.proofs.Mending.{all_present, stays_mended, pair_levelled, enough_to_share}
+use Rattle.range_store.proofs.Mending.{all_present, stays_mended, pair_levelled}
 use Rattle.range_store.proofs.btree.removal.mend.Goals as goal
 
 pub seen_above-requires-clause-index : goal.seen_above-requires-clause-index

@@ -1,6 +1,7 @@
 use Rattle.std.proofs.Common.{◌≡◌, ◌+◌, ◌-◌, ◌<◌, length, map, refl, ◌∙◌, arith}
 use Rattle.slab.specs.Slab.{get}
-use Rattle.range_store.specs.Nodes.{items_of, children_of, numbers, before}
+use Rattle.range_store.specs.Heap.{items_of, children_of}
+use Rattle.range_store.specs.Nodes.{before}
 use Rattle.range_store.specs.Edges.{turn}
 use Rattle.range_store.proofs.Edges.{leaf_edge, leaf_place, leaf_index, way_small}
 use Rattle.range_store.proofs.Ways.{level_of_children, child_within, below_kid, below_turn, below_inside, below_edge, below_place, below_here, before_next}

@@ -1,5 +1,4 @@
 use Rattle.std.proofs.Common.{◌-◌, length, refl, sym, ap, ◌∙◌, arith}
-use Rattle.range_store.proofs.Below.{numbers_leaf}
 use Rattle.range_store.proofs.Edges.{leaf_edge, leaf_place, way_small}
 use Rattle.range_store.proofs.Ways.{level_of_children, below_kid, below_edge, below_place, past_last}
 use Rattle.range_store.proofs.btree.way.+end_edge.Goals as goal

@@ -1,9 +1,9 @@
 use Rattle.std.proofs.Common.{◌+◌, ◌-◌, ◌<◌, length, refl, ◌∙◌, arith}
 use Rattle.slab.specs.Slab.{get}
-use Rattle.range_store.specs.Nodes.{items_of}
+use Rattle.range_store.specs.Heap.{items_of}
 use Rattle.range_store.specs.Edges.{turn}
 use Rattle.range_store.proofs.Edges.{way_small}
-use Rattle.range_store.proofs.Ways.{level_of_children, child_within, below_kid, below_turn, below_inside, below_here, found_above, found_between, past_last}
+use Rattle.range_store.proofs.Ways.{level_of_children, child_within, below_kid, below_turn, below_inside, below_here, past_last}
 use Rattle.range_store.proofs.btree.way.+following.Goals as goal
 
 -- the child through which the way goes, and the edge below it
