@@ -28,6 +28,14 @@ way_small s d n g deep is =
     let width : ◌≡◌ {A = ℕ} (WIDTH ^ 31) (2 ^ 124) = refl in
     omega (arith, way_fits s d n g is, most, width)
 
+pub way_low : {T : Type 0} (s : Heap T) (d n : ℕ) (g : Edge) → d + 1 < DEEPEST → IsEdge s d n g → g.way < 2 ^ 120
+way_low s d n g deep is =
+    let low : d ≤ 30 = omega arith in
+    let some : 0 < WIDTH = omega arith in
+    let most : WIDTH ^ d ≤ WIDTH ^ 30 = pow-le-pow_right some low in
+    let width : ◌≡◌ {A = ℕ} (WIDTH ^ 30) (2 ^ 120) = refl in
+    omega (arith, way_fits s d n g is, most, width)
+
 pub leaf_edge : {T : Type 0} (s : Heap T) (n : ℕ) (g : Edge) → g.leaf ≡ n → g.way ≡ 0 → g.index ≤ length (items_of (node_of s n)) → IsEdge s zero n g
 unfolding IsEdge
 leaf_edge s n g leaf way index = (leaf, way, index)

@@ -157,7 +157,7 @@ module _ {T : Type 0} (t : BoxStorage T) (new : Heap T) (g : Edge) (is : IsBoxEd
   -- the tree then, and the edge there that has so many items of the leaf before it
   pub record IsLeafChange (list : List T) (h : Edge) (before : ℕ) : Type 0 where
     pub tree : IsTree new t.levels t.root
-    pub items_below_are : items_below new t.levels t.root ≡ list
+    pub items_are : items_below new t.levels t.root ≡ list
     pub capacity : new.capacity ≡ t.nodes.capacity
     pub edge : IsEdge new (t.levels - 1) t.root h
     pub place_is : place new (t.levels - 1) t.root h + g.index ≡ box_place t g + before
@@ -168,7 +168,7 @@ module _ {T : Type 0} (t : BoxStorage T) (new : Heap T) (g : Edge) (is : IsBoxEd
       let edge = edit.edges h at way within in
       record {
         tree = whole.0;
-        items_below_are = whole.1 ∙ same;
+        items_are = whole.1 ∙ same;
         capacity = edit.rewritten.moved.capacity;
         edge = edge.0;
         place_is = omega (arith, edge.1, edit.place_is);

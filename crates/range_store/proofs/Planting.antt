@@ -58,13 +58,13 @@ module _ {T : Type 0} where
   -- a tree with this list
   pub record IsPlanted (s : Heap T) (levels root : ℕ) (list : List T) : Type 0 where
     pub tree : IsTree s levels root
-    pub items_below_are : items_below s levels root ≡ list
+    pub items_are : items_below s levels root ≡ list
 
 pub planted_roomy : {T : Type 0} (s : Heap T) (levels root : ℕ) (list : List T) → IsPlanted s levels root list → length list ≤ MIN_LEN * s.capacity → length list < 2 ^ 64 → IsRoomy s levels root
 planted_roomy s levels root list planted fits counted = record {
   tree = planted.tree;
-  fits = omega (arith, ap length planted.items_below_are, fits);
-  counted = omega (arith, ap length planted.items_below_are, counted);
+  fits = omega (arith, ap length planted.items_are, fits);
+  counted = omega (arith, ap length planted.items_are, counted);
 }
 
 module _ {T : Type 0} (s t : Heap T) (d root : ℕ) (list : List T) (tree : IsTree s (suc d) root) (step : Replaces s t d root None list) where
@@ -83,7 +83,7 @@ kept_root s t zero root list some tree step = absurd (omega arith)
 kept_root s t (suc d) root list some tree step' =
     let level : suc d - 1 ≡ d = omega arith in
     let step = rw level at step' in
-    record { tree = kept_tree s t d root list tree step; items_below_are = sym (append-nil (items_below t (suc d) root)) ∙ step.listed }
+    record { tree = kept_tree s t d root list tree step; items_are = sym (append-nil (items_below t (suc d) root)) ∙ step.listed }
 
 pub kept_edge : {T : Type 0} (t : Heap T) (d root side : ℕ) (g : Edge) → IsSeat t (suc d) [] (root ∷ []) side g → IsEdge t d root g × (place t d root g ≡ seat_place t (suc d) [] (root ∷ []) side g)
 unfolding IsSeat seat_place
@@ -128,7 +128,7 @@ taller_root s t u (suc d) root n split list some tree step' stored =
     let level : suc d - 1 ≡ d = omega arith in
     let more : suc d + 1 ≡ suc (suc d) = omega arith in
     let step = rw level at step' in
-    rw more (record { tree = taller_tree s t u d root n split list tree step stored; items_below_are = taller_items_below s t u d root n split list tree step stored })
+    rw more (record { tree = taller_tree s t u d root n split list tree step stored; items_are = taller_items_below s t u d root n split list tree step stored })
 
 pub taller_edge : {T : Type 0} (s t u : Heap T) (levels root n side : ℕ) (split : Split T) (list : List T) (g h : Edge) → 0 < levels → IsTree s levels root → Replaces s t (levels - 1) root (Some split) list → Stores t u n (split.middle ∷ []) (root ∷ split.right ∷ []) → turn h ≡ side → inside h ≡ g → IsSeat t (suc (levels - 1)) (split.middle ∷ []) (root ∷ split.right ∷ []) side g → IsEdge u (levels + 1 - 1) n h × (place u (levels + 1 - 1) n h ≡ seat_place t (suc (levels - 1)) (split.middle ∷ []) (root ∷ split.right ∷ []) side g)
 taller_edge s t u zero root n side split list g h some tree step stored at within seat = absurd (omega arith)

@@ -1,5 +1,5 @@
 -- A node of whose children one was short, after an item was lent to that or two children were joined.
-use Rattle.std.proofs.Common.{◌≡◌, ◌≢◌, ◌⊎◌, ℕ, zero, suc, ◌+◌, ◌-◌, ◌<◌, ◌≤◌, List, [], ◌∷◌, ◌++◌, length, get_or, take, drop, take_all, map, refl, sym, ap, ◌∙◌, inl, inr, arith, Some, None}
+use Rattle.std.proofs.Common.{◌≡◌, ◌≢◌, ◌⊎◌, ℕ, zero, suc, ◌+◌, ◌-◌, ◌^◌, ◌<◌, ◌≤◌, List, [], ◌∷◌, ◌++◌, length, get_or, take, drop, take_all, map, refl, sym, ap, ◌∙◌, inl, inr, arith, Some, None}
 use Rattle.std.proofs.Math.ListN.{set, length-set}
 use Rattle.std.specs.List.{remove, flat_map}
 use Rattle.std.proofs.lemmas.List.{length-append, length-take-le, append-nil, get_or_default, get_or-append-add, get_or_append_left, drop_all, take-append-le, drop-append-le}
@@ -44,6 +44,13 @@ drop_fewer : (d a b : ℕ) (ks ls : List ℕ) → length ks ≡ child_count d a 
 drop_fewer zero a b ks [] many many' = ap (drop a) (append-nil ks) ∙ sym (append-nil (drop a ks))
 drop_fewer zero a b ks (l ∷ ls) many many' = absurd (omega arith)
 drop_fewer (suc d) a b ks ls many many' = drop-append-le a ks ls (omega arith)
+
+-- an edge that lies at another index of its leaf, or goes through another child first
+pub moved_way : (low leaf index : ℕ) (g e : Edge) → (low ≡ 0 → g ≡ record { leaf = leaf; way = 0; index = index }) → (0 < low → inside g ≡ inside e) → e.way < 2 ^ 120 → g.way < 2 ^ 124
+moved_way zero leaf index g e at into small = rw (at refl) (omega arith)
+moved_way (suc low) leaf index g e at into small =
+    let same = ap (λ (x : Edge). x.way) (into (omega arith)) in
+    omega (arith, same, small)
 
 module _ {T : Type 0} (s : Heap T) (low n j : ℕ) (levelled : IsLevelled s low n j) where
   abbrev l : ℕ

@@ -1,5 +1,5 @@
 -- What is known of a whole tree.
-use Rattle.std.proofs.Common.{◌≡◌, ℕ, zero, suc, ◌+◌, ◌-◌, ◌^◌, ◌<◌, ◌≤◌, length, get_or, inl, inr, arith}
+use Rattle.std.proofs.Common.{◌≡◌, ℕ, zero, suc, ◌+◌, ◌-◌, ◌^◌, ◌<◌, ◌≤◌, length, get_or, ap, ◌∙◌, inl, inr, arith}
 use Rattle.std.proofs.Math.Nat.{pow-le-pow_right}
 use Rattle.std.proofs.lemmas.Bool.{cases_lt}
 use Rattle.range_store.specs.Heap.{Heap, node_of, items_of}
@@ -7,10 +7,10 @@ use Rattle.range_store.specs.declared.btree.nodes.TheConstants.{CAPACITY, MIN_LE
 use Rattle.range_store.specs.declared.btree.way.TheConstants.{DEEPEST}
 use Rattle.range_store.specs.declared.btree.BoxStorage.{BoxStorage}
 use Rattle.range_store.specs.declared.btree.way.Edge.{Edge}
-use Rattle.range_store.specs.Holding.{box_items, IsBoxEdge, box_place}
+use Rattle.range_store.specs.Holding.{box_items, IsBoxEdge, box_place, IsGood, good_item}
 use Rattle.range_store.specs.Nodes.{IsRoomy, ShapedBut}
 use Rattle.range_store.proofs.Edges.{place_within}
-use Rattle.range_store.proofs.InLeaf.{IsLeafOf, leaf_of_edge, leaf_beside}
+use Rattle.range_store.proofs.InLeaf.{IsLeafOf, leaf_of_edge, leaf_beside, leaf_home, place_index}
 use Rattle.range_store.proofs.Levels.{tree_lower}
 use Rattle.range_store.specs.Written.{root_shaped}
 
@@ -48,3 +48,9 @@ module _ {T : Type 0} (t : BoxStorage T) (g : Edge) (is : IsBoxEdge t g) where
   tree_beside h leaf way index =
       let other = leaf_beside t.nodes (t.levels - 1) t.root g h leaf way index is.edge in
       (record { some = is.some; edge = other.0 }, other.1)
+
+  -- the item before an edge that has one in its leaf
+  pub leaf_item : (e : T) → 0 < g.index → get_or (box_items t) (box_place t g - 1) e ≡ get_or (items_of (node_of t.nodes g.leaf)) (g.index - 1) e
+  leaf_item e some =
+      let good : IsGood t g = record { is = is; some = omega (arith, place_index t.nodes (t.levels - 1) t.root g, some) } in
+      good_item t g good e ∙ ap (λ h. get_or (items_of (node_of t.nodes h.node)) h.index e) (leaf_home t.nodes (t.levels - 1) t.root g is.edge some)

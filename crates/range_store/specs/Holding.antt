@@ -123,7 +123,7 @@ module _ {T : Type 0} (s : BoxStorage T) (edge : Edge) (good : IsGood s edge) wh
   abbrev now : T → Heap T
   now x = with_item s.nodes (box_home s edge).node (box_home s edge).index x
 
-  written_nodes : (x : T) → SameShape s.nodes (now x)
+  pub written_nodes : (x : T) → SameShape s.nodes (now x)
   written_nodes x =
       let home = good_home s edge good in
       written_shape s.nodes (now x) (box_home s edge).node _ (length-set _ (box_home s edge).index x) (item_written s.nodes (box_home s edge).node (box_home s edge).index x home.present)
@@ -137,7 +137,7 @@ module _ {T : Type 0} (s : BoxStorage T) (edge : Edge) (good : IsGood s edge) wh
   pub good_item : (e : T) → get_or (box_items s) (box_place s edge - 1) e ≡ get_or (items_of (node_of s.nodes (box_home s edge).node)) (box_home s edge).index e
   good_item e = rw level at (home_item s.nodes (s.levels - 1) s.root _ _ _ (good_home s edge good) e)
 
-  written_roomy : (x : T) → IsRoomy (now x) s.levels s.root
+  pub written_roomy : (x : T) → IsRoomy (now x) s.levels s.root
   written_roomy x =
       let many = length_same s.nodes (now x) (written_nodes x) s.levels s.root in
       record {

@@ -116,28 +116,25 @@ pub fn insert_below<T: Drop>(
     }
     let index = first_turn(edge);
     let child = nodes.child_at(number, index);
-    let Parts { split, side, edge } = insert_below(
-        nodes,
-        below - 1,
-        child,
-        seen_inside(edge),
-        item,
-    );
-    match split {
+    let inserted = insert_below(nodes, below - 1, child, seen_inside(edge), item);
+    match inserted.split {
         None => Parts {
             split: None,
             side: 0,
-            edge: seen_above(edge, index),
+            edge: seen_above(inserted.edge, index),
         },
-        Some(cut) => put_or_cut(
-            nodes,
-            below,
-            number,
-            index,
-            cut.middle,
-            Some(cut.right),
-            index + side,
-            edge,
-        ),
+        Some(cut) => {
+            let seat = index + inserted.side;
+            put_or_cut(
+                nodes,
+                below,
+                number,
+                index,
+                cut.middle,
+                Some(cut.right),
+                seat,
+                inserted.edge,
+            )
+        }
     }
 }

@@ -206,7 +206,7 @@ impl<T: Drop> Nodes<T> {
     {
         let node = &mut self.nodes[number];
         let (middle, cells) = divide_cells(&mut node.cells, index, item);
-        let list = divide_children(&mut self.lists, node.list, index, child);
+        let list = divide_children(&mut self.lists, node.list, index + 1, child);
         let right = self.nodes.insert_reserved(Node { cells, list });
         Split { middle, right }
     }

@@ -2,7 +2,7 @@
 ghost use Rattle.std.specs.Prelude.{◌≡◌, ◌⊎◌, ℕ, suc, ◌+◌, ◌-◌, ◌*◌, ◌<◌, ◌≤◌, ◌^◌, length, slice_index, slice_index_or, remove};
 ghost use Rattle.range_store.specs.Heap.{node_of, items_of, children_of};
 ghost use Rattle.range_store.specs.Nodes.{items_below, ShapedBut, Owned, Shrinks, IsMendable, IsLevelled, IsTree, IsLooseTree, IsLender, child_size};
-ghost use Rattle.range_store.specs.Edges.{IsEdge, place, seat_place};
+ghost use Rattle.range_store.specs.Edges.{IsEdge, place, seat_of, seat_place};
 
 use crate::btree::nodes::{CAPACITY, MIN_LEN, Nodes};
 use crate::btree::way::{DEEPEST, Edge, edge_at, first_turn, seat, seen_above, seen_inside};
@@ -70,6 +70,20 @@ pub fn lend_to_previous<T: Drop>(
     seen_above(edge, index)
 }
 
+// The seat of an edge in a node that was made of two with an item between them, from that in the
+// first, of which this is the number of items (`side` is 0), or in the second.
+fn joined_seat(low: usize, many: usize, side: usize, edge: Edge) -> usize
+    requires many { many ≤ CAPACITY }
+    requires small { seat_of low edge ≤ CAPACITY }
+    ensures first { side ≡ 0 → result ≡ seat_of low edge }
+    ensures second { 0 < side → result ≡ many + 1 + seat_of low edge }
+{
+    if side == 0 {
+        return seat(low, edge);
+    }
+    many + 1 + seat(low, edge)
+}
+
 // Makes one node of the child at `index` and the one after it. Tells where an edge below one of
 // them, the child at `turn`, comes to lie.
 pub fn join<T: Drop>(
@@ -97,8 +111,8 @@ pub fn join<T: Drop>(
     let left = nodes.child_at(number, index);
     let many = nodes.item_count(left);
     nodes.merge(number, index);
-    let moved = if turn == index { 0 } else { many + 1 };
-    let inner = edge_at(low, left, moved + seat(low, edge), seen_inside(edge));
+    let seat = joined_seat(low, many, turn - index, edge);
+    let inner = edge_at(low, left, seat, seen_inside(edge));
     seen_above(inner, index)
 }
 
@@ -125,16 +139,19 @@ pub fn mend<T: Drop>(
         ≡ seat_place nodes.old (suc low) (items_of (node_of nodes.old number))
         (children_of (node_of nodes.old number)) index edge }
 {
-    if nodes.item_count(nodes.child_at(number, index)) >= MIN_LEN {
+    let child = nodes.child_at(number, index);
+    if nodes.item_count(child) >= MIN_LEN {
         return seen_above(edge, index);
     }
     if index > 0 {
-        if nodes.item_count(nodes.child_at(number, index - 1)) > MIN_LEN {
+        let before = nodes.child_at(number, index - 1);
+        if nodes.item_count(before) > MIN_LEN {
             return lend_to_next(nodes, low, number, index - 1, edge);
         }
     }
     if index < nodes.item_count(number) {
-        if nodes.item_count(nodes.child_at(number, index + 1)) > MIN_LEN {
+        let behind = nodes.child_at(number, index + 1);
+        if nodes.item_count(behind) > MIN_LEN {
             return lend_to_previous(nodes, low, number, index, edge);
         }
     }
@@ -176,9 +193,12 @@ pub fn remove_below<T: Drop>(
     }
     let index = first_turn(edge);
     let child = nodes.child_at(number, index);
-    let Taken { item, edge } = remove_below(nodes, below - 1, child, seen_inside(edge));
-    let edge = mend(nodes, below - 1, number, index, edge);
-    Taken { item, edge }
+    let taken = remove_below(nodes, below - 1, child, seen_inside(edge));
+    let edge = mend(nodes, below - 1, number, index, taken.edge);
+    Taken {
+        item: taken.item,
+        edge,
+    }
 }
 
 // The topmost node of a tree, and how many levels it has.

@@ -1,17 +1,17 @@
 //! The calls of a `BoxStorage` by the edges of its tree.
-ghost use Rattle.std.specs.Prelude.{◌≡◌, ℕ, ◌+◌, ◌-◌, ◌*◌, ◌<◌, ◌≤◌, ◌^◌, [], length, slice_index_or, insert, remove, MatchOption, count_by};
+ghost use Rattle.std.specs.Prelude.{◌≡◌, ℕ, ◌+◌, ◌-◌, ◌*◌, ◌<◌, ◌≤◌, ◌^◌, [], ◌∷◌, length, slice_index_or, insert, remove, MatchOption, count_by};
 ghost use Rattle.range_store.specs.Counting.{AddsSteps};
 ghost use Rattle.range_store.specs.Edges.{home_of};
 ghost use Rattle.range_store.specs.Falling.{Falls};
 ghost use Rattle.range_store.specs.Holding.{box_items, box_room, IsBoxEdge, box_place, box_home, edge_or_end, IsNextEdge};
 
 use crate::btree::BoxStorage;
-use crate::btree::insertion::{Parts, insert_below};
-use crate::btree::nodes::{CAPACITY, MIN_LEN, Split};
-use crate::btree::removal::{Settled, Taken, remove_below, settle};
+use crate::btree::insertion::insert_below;
+use crate::btree::nodes::{CAPACITY, MIN_LEN};
+use crate::btree::removal::{Settled, remove_below, settle};
 use crate::btree::searching::{HALVINGS, search_below};
 use crate::btree::way::{
-    Edge, Home, edge_before, end_edge, first_edge, following, home, seen_above, stands_first,
+    Edge, Home, edge_before, end_edge, find_home, first_edge, following, seen_above, stands_first,
 };
 use crate::storage::Probe;
 
@@ -81,7 +81,7 @@ impl<T: Drop> BoxStorage<T> {
                 index: edge.index - 1,
             };
         }
-        home(&self.nodes, self.levels - 1, self.root, edge)
+        find_home(&self.nodes, self.levels - 1, self.root, edge)
     }
 
     // The edge after the last item that passes the probe's test, which holds on a front of them
@@ -115,16 +115,41 @@ impl<T: Drop> BoxStorage<T> {
         ensures edge { IsBoxEdge self.new result }
         ensures place { box_place self.new result ≡ edge_or_end self.old edge + 1 }
     {
-        let Some(edge) = edge else {
-            self.root = self.nodes.store_leaf(item);
-            self.levels = 1;
-            self.len += 1;
-            return Edge {
-                leaf: self.root,
-                way: 0,
-                index: 1,
-            };
-        };
+        match edge {
+            Some(edge) => self.insert_between(edge, item),
+            None => self.plant(item),
+        }
+    }
+
+    // Puts an item into an empty tree, and tells the edge after it.
+    fn plant(&mut self, item: T) -> Edge
+        requires empty { box_items self.old ≡ [] }
+        requires room { 1 ≤ box_room self.old }
+        ensures list { box_items self.new ≡ item ∷ [] }
+        ensures room { box_room self.new + 1 ≡ box_room self.old }
+        ensures edge { IsBoxEdge self.new result }
+        ensures place { box_place self.new result ≡ 1 }
+    {
+        self.root = self.nodes.store_leaf(item);
+        self.levels = 1;
+        self.len = 1;
+        Edge {
+            leaf: self.root,
+            way: 0,
+            index: 1,
+        }
+    }
+
+    // Puts an item at an edge, and tells the edge after it.
+    fn insert_between(&mut self, edge: Edge, item: T) -> Edge
+        requires edge { IsBoxEdge self.old edge }
+        requires room { 1 ≤ box_room self.old }
+        ensures list { box_items self.new
+            ≡ insert (box_items self.old) (box_place self.old edge) item }
+        ensures room { box_room self.new + 1 ≡ box_room self.old }
+        ensures edge { IsBoxEdge self.new result }
+        ensures place { box_place self.new result ≡ box_place self.old edge + 1 }
+    {
         self.len += 1;
         if self.nodes.item_count(edge.leaf) < CAPACITY {
             self.nodes.put(edge.leaf, edge.index, item, None);
@@ -134,19 +159,13 @@ impl<T: Drop> BoxStorage<T> {
                 index: edge.index + 1,
             };
         }
-        let Parts { split, side, edge } = insert_below(
-            &mut self.nodes,
-            self.levels - 1,
-            self.root,
-            edge,
-            item,
-        );
-        match split {
-            None => edge,
-            Some(Split { middle, right }) => {
-                self.root = self.nodes.store_branch(self.root, middle, right);
+        let inserted = insert_below(&mut self.nodes, self.levels - 1, self.root, edge, item);
+        match inserted.split {
+            None => inserted.edge,
+            Some(split) => {
+                self.root = self.nodes.store_branch(self.root, split.middle, split.right);
                 self.levels += 1;
-                seen_above(edge, side)
+                seen_above(inserted.edge, inserted.side)
             }
         }
     }
@@ -174,14 +193,14 @@ impl<T: Drop> BoxStorage<T> {
             };
             return (item, Some(before));
         }
-        let Taken { item, edge } = remove_below(&mut self.nodes, self.levels - 1, self.root, edge);
-        let Settled { root, edge } = settle(&mut self.nodes, self.levels, self.root, edge);
+        let taken = remove_below(&mut self.nodes, self.levels - 1, self.root, edge);
+        let Settled { root, edge } = settle(&mut self.nodes, self.levels, self.root, taken.edge);
         self.root = root.number;
         self.levels = root.levels;
         if self.levels == 0 {
-            return (item, None);
+            return (taken.item, None);
         }
-        (item, Some(edge))
+        (taken.item, Some(edge))
     }
 
     // Takes the item before an edge out, and tells the edge after the one that followed it.

@@ -203,7 +203,7 @@ pub fn edge_before<T: Drop>(
 }
 
 // Where the item before an edge stands, of which there is one below the node.
-pub fn home<T: Drop>(nodes: &Nodes<T>, below: usize, number: usize, edge: Edge) -> Home
+pub fn find_home<T: Drop>(nodes: &Nodes<T>, below: usize, number: usize, edge: Edge) -> Home
     requires shaped { ShapedBut 1 CAPACITY nodes.now below number }
     requires edge { IsEdge nodes.now below number edge }
     requires some { 0 < place nodes.now below number edge }
@@ -223,5 +223,5 @@ pub fn home<T: Drop>(nodes: &Nodes<T>, below: usize, number: usize, edge: Edge) 
             index: index - 1,
         };
     }
-    home(nodes, below - 1, nodes.child_at(number, index), inner)
+    find_home(nodes, below - 1, nodes.child_at(number, index), inner)
 }
