@@ -9,7 +9,7 @@ use Rattle.range_store.specs.declared.btree.way.Edge.{Edge}
 use Rattle.range_store.specs.declared.btree.way.TheConstants.{WIDTH, DEEPEST}
 use Rattle.range_store.specs.Nodes.{items_below, used, before, after, ShapedBut}
 use Rattle.range_store.specs.Edges.{turn, inside, IsEdge, place}
-use Rattle.range_store.specs.Frame.{AgreeAt, AgreeAt-right, same_children}
+use Rattle.range_store.specs.Frame.{AgreeAt, AgreeAt-right, agree_kid, same_children}
 use Rattle.range_store.proofs.Below.{items_below_at, items_below_leaf}
 use Rattle.range_store.proofs.Rank.{kid_shaped}
 use Rattle.range_store.specs.Occurrences.{occurrences, occurrences-append, occurrences_here}

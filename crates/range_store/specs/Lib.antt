@@ -1,3 +1,4 @@
+pub mod Cells
 pub mod Contents
 pub mod Counting
 pub mod Depth

@@ -305,7 +305,8 @@ module _ {T : Type 0} (s : Heap T) where
     many = length-take-le (g.index - 1) (items_of (node_of s n)) (omega (arith, is.2));
     parts = λ u y aside. let none = aside.children_are ∙ nil_from_length (children_of (node_of s n)) shaped.node.branches in rw none aside.items_are;
   }
-  home_is least most (suc d) n g shaped once is some = pick (is_start (inside g)) refl
+  home_is least most (suc d) n g shaped once is some =
+      pick (λ more. home_is MIN_LEN CAPACITY d (get_or (children_of (node_of s n)) (turn g) 0) (inside g) kid_shaped kid_once is.1 more) (is_start (inside g)) refl (home_of s (suc d) n g) refl
     where
       kid_shaped : ShapedBut MIN_LEN CAPACITY s d (get_or (children_of (node_of s n)) (turn g) 0)
       kid_shaped = shaped_kid least most d n (turn g) shaped is.0
@@ -313,17 +314,17 @@ module _ {T : Type 0} (s : Heap T) where
       kid_once : (k : ℕ) → occurrences k (used s (suc d) (get_or (children_of (node_of s n)) (turn g) 0)) ≤ 1
       kid_once k = omega (arith, once k, occurrences-cons k n (flat_map (used s (suc d)) (children_of (node_of s n))), used_kid_le s (suc d) (turn g) (children_of (node_of s n)) k is.0)
 
-      pick : (b : Bool) → is_start (inside g) ≡ b → (h : Home) → h ≡ cond b (record { node = n; index = turn g - 1 }) (home_of s d (get_or (children_of (node_of s n)) (turn g) 0) (inside g)) → IsHome s (suc d) n h.node h.index (place s (suc d) n g - 1)
-      pick true start h at =
+      pick : (0 < place s d (get_or (children_of (node_of s n)) (turn g) 0) (inside g) → IsHome s d (get_or (children_of (node_of s n)) (turn g) 0) (home_of s d (get_or (children_of (node_of s n)) (turn g) 0) (inside g)).node (home_of s d (get_or (children_of (node_of s n)) (turn g) 0) (inside g)).index (place s d (get_or (children_of (node_of s n)) (turn g) 0) (inside g) - 1)) → (b : Bool) → is_start (inside g) ≡ b → (h : Home) → h ≡ cond b (record { node = n; index = turn g - 1 }) (home_of s d (get_or (children_of (node_of s n)) (turn g) 0) (inside g)) → IsHome s (suc d) n h.node h.index (place s (suc d) n g - 1)
+      pick further true start h at =
           let none = and_parts ((inside g).way == 0) ((inside g).index == 0) start in
           let first = place_of_start d (get_or (children_of (node_of s n)) (turn g) 0) (inside g) (eqb-true _ _ none.0) (eqb-true _ _ none.1) in
           rw at (home_here d n g once shaped.node.branches is.0 some shaped.node.present first)
-      pick false later h at =
+      pick further false later h at =
           let below = get_or (children_of (node_of s n)) (turn g) 0 in
           let more : 0 < place s d below (inside g) = not_start (place s d below (inside g)) (λ none.
           let start = start_of_place MIN_LEN CAPACITY d below (inside g) kid_shaped is.1 none in
-          both_ways _ (and_from _ _ (eq-eqb _ _ start.0) (eq-eqb _ _ start.1)) later) in
-          rw at (home_below d n g once shaped.node.branches is.0 some _ _ more (home_is MIN_LEN CAPACITY d below (inside g) kid_shaped kid_once is.1 more))
+          both_ways _ later (and_from _ _ (eq-eqb _ _ start.0) (eq-eqb _ _ start.1))) in
+          rw at (home_below d n g once shaped.node.branches is.0 some _ _ more (further more))
 
   module _ (d n m i rank : ℕ) (home : IsHome s d n m i rank) where
     itself : (e : T) → Aside s s m i (get_or (items_of (node_of s m)) i e)
@@ -358,7 +359,7 @@ module _ {T : Type 0} (s : Heap T) where
     stored =
         elim (cases_lt m (length s.slots)) [
           | inl less ↦ less
-          | inr past ↦ let none : node_of s m ≡ None = get_or_past s.slots m None past in absurd (both_ways _ present (rw none refl))
+          | inr past ↦ let none : node_of s m ≡ None = get_or_past s.slots m None past in absurd (both_ways _ (rw none refl) present)
         ]
 
     pub item_written : Writes s (with_item s m i x) m (set (items_of (node_of s m)) i x) (children_of (node_of s m))

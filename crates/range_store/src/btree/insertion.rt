@@ -117,14 +117,15 @@ pub fn insert_below<T: Drop>(
     let index = first_turn(edge);
     let child = nodes.child_at(number, index);
     let inserted = insert_below(nodes, below - 1, child, seen_inside(edge), item);
-    match inserted.split {
+    let Parts { split, side, edge } = inserted;
+    match split {
         None => Parts {
             split: None,
             side: 0,
-            edge: seen_above(inserted.edge, index),
+            edge: seen_above(edge, index),
         },
         Some(cut) => {
-            let seat = index + inserted.side;
+            let seat = index + side;
             put_or_cut(
                 nodes,
                 below,
@@ -133,7 +134,7 @@ pub fn insert_below<T: Drop>(
                 cut.middle,
                 Some(cut.right),
                 seat,
-                inserted.edge,
+                edge,
             )
         }
     }

@@ -6,7 +6,7 @@ ghost use Rattle.range_store.specs.Falling.{Falls};
 ghost use Rattle.range_store.specs.Holding.{box_items, box_room, IsBoxEdge, box_place, box_home, edge_or_end, IsNextEdge};
 
 use crate::btree::BoxStorage;
-use crate::btree::insertion::insert_below;
+use crate::btree::insertion::{Parts, insert_below};
 use crate::btree::nodes::{CAPACITY, MIN_LEN};
 use crate::btree::removal::{Settled, remove_below, settle};
 use crate::btree::searching::{HALVINGS, search_below};
@@ -160,12 +160,13 @@ impl<T: Drop> BoxStorage<T> {
             };
         }
         let inserted = insert_below(&mut self.nodes, self.levels - 1, self.root, edge, item);
-        match inserted.split {
-            None => inserted.edge,
+        let Parts { split, side, edge } = inserted;
+        match split {
+            None => edge,
             Some(split) => {
                 self.root = self.nodes.store_branch(self.root, split.middle, split.right);
                 self.levels += 1;
-                seen_above(inserted.edge, inserted.side)
+                seen_above(edge, side)
             }
         }
     }

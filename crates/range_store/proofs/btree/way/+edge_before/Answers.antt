@@ -1,21 +1,21 @@
-use Rattle.std.proofs.Common.{◌≡◌, ◌+◌, ◌-◌, ◌<◌, length, map, refl, ◌∙◌, arith}
+use Rattle.std.proofs.Common.{◌≡◌, ◌+◌, ◌-◌, ◌<◌, length, map, refl, rules, ◌∙◌, arith}
 use Rattle.range_store.specs.Heap.{node_of, items_of, children_of}
-use Rattle.range_store.specs.Nodes.{before}
+use Rattle.range_store.specs.Nodes.{before, items_below}
 use Rattle.range_store.specs.Edges.{turn}
 use Rattle.range_store.proofs.Edges.{leaf_edge, leaf_place, leaf_index, way_small}
 use Rattle.range_store.proofs.Ways.{level_of_children, child_within, below_kid, below_turn, below_inside, below_edge, below_place, below_here, before_next}
 use Rattle.range_store.proofs.btree.way.+edge_before.Goals as goal
 
-pub child_at-child-requires-clause-within : goal.child_at-child-requires-clause-within
-child_at-child-requires-clause-within g t c =
-    rw c.first_turn-index.ensures (child_within c.args.nodes.now c.args.below c.args.number c.if-below-eq0.false c.requires.shaped _ (below_turn c.args.nodes.now c.args.below c.args.number c.if-below-eq0.false c.requires.shaped c.args.edge c.requires.edge))
+pub child_at-child-requires : goal.child_at-child-requires
+child_at-child-requires g t c =
+    (search rules, (c.requires.shaped.node.present, rw c.first_turn-index.ensures (child_within c.args.nodes.now c.args.below c.args.number c.if-below-eq0.false c.requires.shaped _ (below_turn c.args.nodes.now c.args.below c.args.number c.if-below-eq0.false c.requires.shaped c.args.edge c.requires.edge))))
 
 pub edge_before-requires : goal.edge_before-requires
-edge_before-requires g t c =
+edge_before-requires g t c κs within =
     let low = below_turn c.args.nodes.now c.args.below c.args.number c.if-below-eq0.false c.requires.shaped c.args.edge c.requires.edge in
     let kid = below_kid c.args.nodes.now c.args.below c.args.number c.if-below-eq0.false c.requires.shaped (turn c.args.edge) low in
     let is = below_inside c.args.nodes.now c.args.below c.args.number c.if-below-eq0.false c.requires.shaped c.args.edge c.requires.edge in
-    (omega (arith, c.if-below-eq0.false), rw (c.child_at-child.ensures, c.first_turn-index.ensures, c.seen_inside.ensures) (kid, (omega (arith, c.requires.deep), is)))
+    (omega (arith, c.if-below-eq0.false), (within, (search rules, rw (c.child_at-child.ensures, c.first_turn-index.ensures, c.seen_inside.ensures) (kid, (omega (arith, c.requires.deep), is)))))
 
 pub seen_above-requires-clause-index : goal.seen_above-requires-clause-index
 seen_above-requires-clause-index g t c =
@@ -50,13 +50,13 @@ returns-then-index-eq0 g t c =
     let start : length (before (items_of (node_of c.args.nodes.now c.args.number)) (map (items_below c.args.nodes.now c.args.below) (children_of (node_of c.args.nodes.now c.args.number))) (turn c.args.edge)) ≡ 0 = rw first refl in
     omega (arith, below_here c.args.nodes.now c.args.below c.args.number c.if-below-eq0.false c.requires.shaped c.args.edge, none, start)
 
-pub child_at-last-requires-clause-within : goal.child_at-last-requires-clause-within
-child_at-last-requires-clause-within g t c =
-    child_within c.args.nodes.now c.args.below c.args.number c.if-below-eq0.false c.requires.shaped _ (omega (arith, c.first_turn-index.ensures, below_turn c.args.nodes.now c.args.below c.args.number c.if-below-eq0.false c.requires.shaped c.args.edge c.requires.edge))
+pub child_at-last-requires : goal.child_at-last-requires
+child_at-last-requires g t c =
+    (search rules, (c.requires.shaped.node.present, child_within c.args.nodes.now c.args.below c.args.number c.if-below-eq0.false c.requires.shaped _ (omega (arith, c.first_turn-index.ensures, below_turn c.args.nodes.now c.args.below c.args.number c.if-below-eq0.false c.requires.shaped c.args.edge c.requires.edge))))
 
-pub end_edge-requires-clause-shaped : goal.end_edge-requires-clause-shaped
-end_edge-requires-clause-shaped g t c =
-    rw c.child_at-last.ensures (below_kid c.args.nodes.now c.args.below c.args.number c.if-below-eq0.false c.requires.shaped (c.first_turn-index.result - 1) (omega (arith, c.first_turn-index.ensures, below_turn c.args.nodes.now c.args.below c.args.number c.if-below-eq0.false c.requires.shaped c.args.edge c.requires.edge)))
+pub end_edge-requires : goal.end_edge-requires
+end_edge-requires g t c =
+    (search rules, (rw c.child_at-last.ensures (below_kid c.args.nodes.now c.args.below c.args.number c.if-below-eq0.false c.requires.shaped (c.first_turn-index.result - 1) (omega (arith, c.first_turn-index.ensures, below_turn c.args.nodes.now c.args.below c.args.number c.if-below-eq0.false c.requires.shaped c.args.edge c.requires.edge))), omega (arith, c.requires.deep)))
 
 pub seen_above-requires-2-clause-index : goal.seen_above-requires-2-clause-index
 seen_above-requires-2-clause-index g t c =

@@ -1,4 +1,5 @@
-use Rattle.std.proofs.Common.{◌-◌, length, refl, sym, ap, ◌∙◌, arith}
+use Rattle.std.proofs.Common.{◌-◌, length, refl, rules, sym, ap, ◌∙◌, arith}
+use Rattle.range_store.proofs.Below.{items_below_leaf}
 use Rattle.range_store.proofs.Edges.{leaf_edge, leaf_place, way_small}
 use Rattle.range_store.proofs.Ways.{level_of_children, below_kid, below_edge, below_place, past_last}
 use Rattle.range_store.proofs.btree.way.+end_edge.Goals as goal
@@ -13,8 +14,8 @@ returns-then-below-eq0-clause-place g t c =
     rw c.if-below-eq0.true (leaf_place c.args.nodes.now c.args.number _ ∙ c.item_count-many.ensures ∙ ap length (sym (items_below_leaf c.args.nodes.now c.args.number shaped.node.branches)))
 
 pub end_edge-requires : goal.end_edge-requires
-end_edge-requires g t c =
-    (omega (arith, c.if-below-eq0.false), (rw c.child_at-child.ensures (below_kid c.args.nodes.now c.args.below c.args.number c.if-below-eq0.false c.requires.shaped c.item_count-many.result (omega (arith, c.item_count-many.ensures))), omega (arith, c.requires.deep)))
+end_edge-requires g t c κs within =
+    (omega (arith, c.if-below-eq0.false), (within, (search rules, (rw c.child_at-child.ensures (below_kid c.args.nodes.now c.args.below c.args.number c.if-below-eq0.false c.requires.shaped c.item_count-many.result (omega (arith, c.item_count-many.ensures))), omega (arith, c.requires.deep)))))
 
 pub seen_above-requires-clause-way : goal.seen_above-requires-clause-way
 seen_above-requires-clause-way g t c = way_small c.args.nodes.now (c.args.below - 1) _ _ (omega (arith, c.requires.deep)) c.end_edge.ensures.edge

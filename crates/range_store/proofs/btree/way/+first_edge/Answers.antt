@@ -1,4 +1,4 @@
-use Rattle.std.proofs.Common.{◌-◌, refl, arith}
+use Rattle.std.proofs.Common.{◌-◌, refl, rules, arith}
 use Rattle.range_store.proofs.Edges.{leaf_edge, leaf_place, way_small}
 use Rattle.range_store.proofs.Ways.{below_kid, below_edge, below_place}
 use Rattle.range_store.proofs.btree.way.+first_edge.Goals as goal
@@ -10,8 +10,8 @@ pub returns-then-below-eq0-clause-place : goal.returns-then-below-eq0-clause-pla
 returns-then-below-eq0-clause-place g t c = rw c.if-below-eq0.true (leaf_place c.args.nodes.now c.args.number _)
 
 pub first_edge-requires : goal.first_edge-requires
-first_edge-requires g t c =
-    (omega (arith, c.if-below-eq0.false), (rw c.child_at-child.ensures (below_kid c.args.nodes.now c.args.below c.args.number c.if-below-eq0.false c.requires.shaped 0 (omega arith)), omega (arith, c.requires.deep)))
+first_edge-requires g t c κs within =
+    (omega (arith, c.if-below-eq0.false), (within, (search rules, (rw c.child_at-child.ensures (below_kid c.args.nodes.now c.args.below c.args.number c.if-below-eq0.false c.requires.shaped 0 (omega arith)), omega (arith, c.requires.deep)))))
 
 pub seen_above-requires-clause-way : goal.seen_above-requires-clause-way
 seen_above-requires-clause-way g t c = way_small c.args.nodes.now (c.args.below - 1) _ _ (omega (arith, c.requires.deep)) c.first_edge.ensures.edge
