@@ -1,6 +1,7 @@
 -- A test that falls once along a list.
-use Rattle.std.proofs.Common.{◌≡◌, ◌⊎◌, ℕ, zero, suc, ◌+◌, ◌-◌, ◌/◌, ◌^◌, ◌<◌, ◌≤◌, Bool, true, false, cond, List, [], ◌∷◌, ◌++◌, length, get_or, refl, ◌∙◌, inl, inr, arith, count_by, Some, min}
+use Rattle.std.proofs.Common.{◌≡◌, ◌⊎◌, ℕ, zero, suc, ◌+◌, ◌-◌, ◌/◌, ◌^◌, ◌<◌, ◌≤◌, Bool, true, false, cond, List, [], ◌∷◌, ◌++◌, length, get_or, refl, ◌∙◌, inl, inr, arith, count_by, Some, IsSome, min}
 use Rattle.std.proofs.Math.Nat.{pow-suc}
+use Rattle.std.specs.List.{All}
 use Rattle.std.specs.List.Sorted.{IsPartitionedBy}
 use Rattle.std.proofs.lemmas.Bool.{false_from_ne_true, both_ways}
 use Rattle.std.proofs.lemmas.List.Sums.{sum_by-cons, sum_by-append, count_by-le-length}
@@ -88,9 +89,8 @@ module _ {X : Type 0} (p : X → Bool) where
   -- the items that pass are the first ones
   pub falling_front : (xs : List X) → Falls p xs → IsFrontOf p xs (count_by p xs)
   falling_front xs falls = (
-    count_by-le-length p xs,
-    (λ k d low less. elim (true_or_false (p (get_or xs k d))) [ | inl holds ↦ holds | inr fails ↦ absurd (omega (arith, less, falls_false xs k d falls (omega (arith, less, count_by-le-length p xs)) fails)) ]),
-    (λ k d low within. elim (true_or_false (p (get_or xs k d))) [ | inl holds ↦ absurd (omega (arith, low, falls_true xs k d falls within holds)) | inr fails ↦ fails ]),
+    count_by-le-length p xs, ((λ k d low less. elim (true_or_false (p (get_or xs k d))) [ | inl holds ↦ holds | inr fails ↦ absurd (omega (arith, less, falls_false xs k d falls (omega (arith, less, count_by-le-length p xs)) fails)) ]),
+    (λ k d low within. elim (true_or_false (p (get_or xs k d))) [ | inl holds ↦ absurd (omega (arith, low, falls_true xs k d falls within holds)) | inr fails ↦ fails ])),
   )
 
 module _ {X : Type 0} (p : X → Bool) where
@@ -103,6 +103,11 @@ module _ {X : Type 0} (p : X → Bool) where
   unfolding Falls
   falls_cells [] falls = tt
   falls_cells (x ∷ xs) falls = ((λ fails. count_cells xs ∙ falls.0 fails), falls_cells xs falls.1)
+
+pub cells_full : {X : Type 0} (xs : List X) → All IsSome (full_cells xs)
+cells_full [] k d within = absurd (omega arith)
+cells_full (x ∷ xs) zero d within = refl
+cells_full (x ∷ xs) (suc k) d within = cells_full xs k d (omega arith)
 
 -- a list that is halved this many times at most
 pub half_is_below_power : (r x : ℕ) → 0 < x → x < 2 ^ r → (s : ℕ) × (r ≡ s + 1) × ((y : ℕ) → y ≤ x / 2 → y < 2 ^ s)

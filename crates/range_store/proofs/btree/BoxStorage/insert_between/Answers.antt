@@ -13,7 +13,8 @@ use Rattle.range_store.proofs.Seats.{seat_inside, seat_side}
 use Rattle.range_store.proofs.Settling.{tree_owned}
 use Rattle.range_store.proofs.Whole.{edge_within, tree_is_not_too_deep, tree_leaf}
 use Rattle.range_store.proofs.btree.BoxStorage.insert_between.Goals as goal
-use Rattle.range_store.proofs.btree.BoxStorage.insert_between.Goals.{Over, After-put, After-insert_below-inserted, After-store_branch-self, After-seen_above, In-None}
+use Rattle.range_store.proofs.btree.BoxStorage.insert_between.Given.{Over}
+use Rattle.range_store.proofs.btree.BoxStorage.insert_between.Goals.{After-put, After-insert_below-inserted, After-store_branch-self, After-seen_above, In-None}
 
 pub overflow_add-self : goal.overflow_add-self
 overflow_add-self g c = omega (arith, c.args.self.now.counted, c.requires.room)

@@ -5,7 +5,8 @@ use Rattle.range_store.proofs.Levels.{empty_levels, has_levels}
 use Rattle.range_store.proofs.Planting.{first_tree}
 use Rattle.range_store.proofs.Rank.{first_room}
 use Rattle.range_store.proofs.btree.BoxStorage.plant.Goals as goal
-use Rattle.range_store.proofs.btree.BoxStorage.plant.Goals.{Over, After-store_leaf-self}
+use Rattle.range_store.proofs.btree.BoxStorage.plant.Given.{Over}
+use Rattle.range_store.proofs.btree.BoxStorage.plant.Goals.{After-store_leaf-self}
 
 pub store_leaf-self-requires : goal.store_leaf-self-requires
 store_leaf-self-requires g c =

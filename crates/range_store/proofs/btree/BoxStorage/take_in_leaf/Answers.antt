@@ -11,7 +11,8 @@ use Rattle.range_store.proofs.Rank.{items_below_none}
 use Rattle.range_store.proofs.Settling.{loosened_items, loosened_tree, tree_owned}
 use Rattle.range_store.proofs.Whole.{edge_within, leaf_item, tree_is_not_too_deep, tree_leaf}
 use Rattle.range_store.proofs.btree.BoxStorage.take_in_leaf.Goals as goal
-use Rattle.range_store.proofs.btree.BoxStorage.take_in_leaf.Goals.{Over, After-take_item-item, After-settle}
+use Rattle.range_store.proofs.btree.BoxStorage.take_in_leaf.Given.{Over}
+use Rattle.range_store.proofs.btree.BoxStorage.take_in_leaf.Goals.{After-take_item-item, After-settle}
 
 pub overflow_sub-self : goal.overflow_sub-self
 overflow_sub-self g c =
