@@ -93,7 +93,7 @@ module _ {T : Type 0} (s t : Heap T) (b n : ℕ) (us ms vs ts : List ℕ) (run :
 
 -- a written node in the place of what became of the old one
 pub settled_replaces : {T : Type 0} (s t u : Heap T) (b n : ℕ) (xs : List T) (ks : List ℕ) (list : List T) (split : Option (Split T)) → Moves s t (used s (suc b) n) (n ∷ flat_map (used t b) ks) → weave xs (map (items_below t b) ks) ≡ list → length (items_of (node_of s n)) ≤ length xs → Settles t u b n xs ks split → Replaces s u b n split list
-settled_replaces s t u b n xs ks list split moved listed more settles = record {
+settled_replaces {T} s t u b n xs ks list split moved listed more settles = record {
   listed = settles.listed ∙ listed;
   moved = Moves-then s t u (used s (suc b) n) (n ∷ flat_map (used t b) ks) (flat_map (used u (suc b)) (tops n split)) moved settles.moved;
   shape = λ least small enough. settles.shape least small (still least split enough);
@@ -262,10 +262,10 @@ module _ {T : Type 0} (s t : Heap T) (b n i rest : ℕ) (item : T) (inner : b �
       settled_replaces s t t b n xs' ks' _ None (grown_moved s t b n i rest item None inner shaped owned low within child) (grown_listed s t b n i rest item None inner shaped owned low within child) (omega (arith, same_length))
       (written_settles t t b n xs' ks' content written (omega (arith, same_length, shaped.node.fits)))
 
-  pub none_edge : (side : ℕ) (g h : Edge) → turn h ≡ i → inside h ≡ g → IsSeat t (suc (b - 1)) (separators None) (tops (get_or (children_of (node_of s n)) i 0) None) side g → IsEdge t b n h × (place t b n h ≡ length (before (items_of (node_of s n)) (map (items_below s b) (children_of (node_of s n))) i) + seat_place t (suc (b - 1)) (separators None) (tops (get_or (children_of (node_of s n)) i 0) None) side g)
+  pub none_edge : (side : ℕ) (g h : Edge) → turn h ≡ i → inside h ≡ g → IsSeat t (suc (b - 1)) (separators {T = T} None) (tops {T = T} (get_or (children_of (node_of s n)) i 0) None) side g → IsEdge t b n h × (place t b n h ≡ length (before (items_of (node_of s n)) (map (items_below s b) (children_of (node_of s n))) i) + seat_place t (suc (b - 1)) (separators {T = T} None) (tops {T = T} (get_or (children_of (node_of s n)) i 0) None) side g)
   none_edge side g h at into seat =
       let up = grown_seat s t b n i rest item None inner shaped owned low within child side g seat in
-      let one = seat_side t (b - 1) (separators None) (tops (get_or (children_of (node_of s n)) i 0) None) side g seat in
+      let one = seat_side t (b - 1) (separators {T = T} None) (tops {T = T} (get_or (children_of (node_of s n)) i 0) None) side g seat in
       let holds = written_holds t t b n xs' ks' content written in
       let agree = written_agree t t b n xs' ks' content written in
       let edge = seat_written t t n xs' ks' (i + side) g h b holds agree (λ none. absurd (inner none)) (λ some. omega (arith, at, one)) (λ some. into) up.0 in

@@ -13,7 +13,7 @@ use Rattle.range_store.proofs.Edges.{same_edge, way_small}
 use Rattle.range_store.proofs.Edits.{take-append-add}
 use Rattle.range_store.specs.Frame.{agree_kid, AgreeAt}
 use Rattle.range_store.proofs.Contents.{Holds}
-use Rattle.range_store.specs.Weave.{length-weave}
+use Rattle.range_store.specs.Weave.{length-before, length-weave}
 
 -- an edge at a seat of a node that was written
 module _ {T : Type 0} (s t : Heap T) (n : ℕ) (xs : List T) (ks : List ℕ) (i : ℕ) (g h : Edge) where
