@@ -20,7 +20,7 @@ module _ {X : Type 0} (P : X → Type 0) where
   All-right (x ∷ xs) ys all = All-right xs ys (All-tail P x (xs ++ ys) all)
 
 module _ {T : Type 0} (s : Heap T) (low n i : ℕ) (m : IsMendable s low n i) where
-  abbrev xs : List ℕ
+  abbrev xs : List T
   xs = items_of (node_of s n)
 
   abbrev ks : List ℕ

@@ -163,7 +163,7 @@ module _ {T : Type 0} (s : Heap T) (low n j : ℕ) (levelled : IsLevelled s low 
   -- the edges below the two
   edge_itself : (d k : ℕ) (e : Edge) → IsEdge s d k e → (d ≡ 0 → e ≡ record { leaf = k; way = 0; index = seat_of d e }) × (0 < d → turn e ≡ seat_of d e)
   unfolding IsEdge
-  edge_itself zero k e is = ((λ _. rw (sym is.0, sym is.1) refl), (λ some. absurd (omega arith)))
+  edge_itself zero k e is = ((λ _. let at : e ≡ record { leaf = k; way = e.way; index = e.index } = rw (← is.0) refl in at ∙ ap (λ w. record { leaf = k; way = w; index = e.index }) is.1), (λ some. absurd (omega arith)))
   edge_itself (suc d) k e is = ((λ none. absurd (omega arith)), (λ _. refl))
 
   -- the child at j lent an item to the one after it

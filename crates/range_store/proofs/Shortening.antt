@@ -26,7 +26,7 @@ remove_middle f k r rest within =
 
 -- the subtree of the child at i has another list
 module _ {T : Type 0} (s t : Heap T) (b n i : ℕ) (list : List T) (inner : b ≢ 0) (shaped : ShapedBut 1 CAPACITY s b n) (owned : Owned s (suc b) n) (low : i ≤ length (items_of (node_of s n))) (listed : items_below t b (get_or (children_of (node_of s n)) i 0) ≡ list) (moved : Moves s t (used s b (get_or (children_of (node_of s n)) i 0)) (used t b (get_or (children_of (node_of s n)) i 0))) where
-  abbrev xs : List ℕ
+  abbrev xs : List T
   xs = items_of (node_of s n)
 
   abbrev ks : List ℕ

@@ -1,5 +1,5 @@
 -- A node written, a node stored and a node taken away, each with its list.
-use Rattle.std.proofs.Common.{◌≡◌, ◌≢◌, ℕ, ◌+◌, false, List, min, Option, Some, None, is_some, IsSome, refl, sym, ap, ◌∙◌, inl, inr, arith}
+use Rattle.std.proofs.Common.{◌≡◌, ◌≢◌, ℕ, ◌+◌, ◌≤◌, false, List, min, Option, Some, None, is_some, IsSome, refl, sym, ap, ◌∙◌, inl, inr, arith}
 use Rattle.std.proofs.lemmas.Bool.{cases_eq}
 use Rattle.slab.specs.Slab.{Slab, get, slab_len, with_value, Updates}
 use Rattle.arrayvec.specs.ArrayVec.{ArrayVec}
@@ -9,7 +9,7 @@ use Rattle.range_store.specs.Heap.{full_cells, items_of, children_of, Writes, St
 use Rattle.range_store.specs.Cells.{list_in, list_of, list_count, heap_of, IsWhole, WritesList, StoresList, DropsList}
 use Rattle.range_store.proofs.FullCells.{IsFull-from, items_are}
 use Rattle.range_store.proofs.Lists.{value_here, value_other, value_len}
-use Rattle.range_store.proofs.Wholes.{IsChange, lists_of, no_lists, lists_counted, found_read, node_read, nodes_count, whole_after, frame_after}
+use Rattle.range_store.proofs.Wholes.{IsChange, lists_of, without_list, lists_counted, found_read, node_read, nodes_count, whole_after, frame_after}
 
 none_from : {X : Type 0} (slot : Option X) → is_some slot ≡ false → slot ≡ None
 none_from None none = refl
@@ -45,6 +45,7 @@ module _ {T : Type 0} (nodes : Slab (Node T)) (lists : Slab (ArrayVec ℕ)) (n :
             own = λ some. ap list_of here ∙ same;
             none = no_list_after;
             counted = omega (arith, writes.len, ap lists_of found, ap lists_of here, lists_counted node, lists_counted new, ap list_count same);
+            fits = omega (arith, whole.fits, value_len nodes n node new found, writes.capacity);
           }
 
       pub written_whole : IsWhole (with_value nodes n new) new_lists
@@ -82,11 +83,9 @@ module _ {T : Type 0} (nodes : Slab (Node T)) (lists : Slab (ArrayVec ℕ)) (n :
             kept = λ some. absurd (some none);
             own = λ some. absurd (some none);
             none = no_list_left;
-            counted = omega (arith, drops.len, ap lists_of found, ap lists_of updates.changed, lists_counted node, no_lists_here);
+            counted = omega (arith, drops.len, ap lists_of found, lists_counted node, without_list (get new_nodes n) updates.changed);
+            fits = omega (arith, whole.fits, len, drops.capacity);
           }
-        where
-          no_lists_here : lists_of (None {T = Node T}) ≡ 0
-          no_lists_here = rw no_lists refl
 
       pub removed_whole : IsWhole new_nodes new_lists
       removed_whole = whole_after nodes new_nodes lists new_lists n node.list whole removal
@@ -101,7 +100,7 @@ module _ {T : Type 0} (nodes : Slab (Node T)) (lists : Slab (ArrayVec ℕ)) (n :
             capacity = rw (capacity, drops.capacity) refl;
           }
 
-  module _ (new_nodes : Slab (Node T)) (new_lists : Slab (ArrayVec ℕ)) (new : Node T) (xs : List T) (ks : List ℕ) (fresh : get nodes n ≡ None) (updates : Updates nodes new_nodes n (Some new)) (len : slab_len new_nodes ≡ slab_len nodes + 1) (capacity : new_nodes.capacity ≡ nodes.capacity) (full : new.cells.items ≡ full_cells xs) (stores : StoresList lists new_lists new.list ks) where
+  module _ (new_nodes : Slab (Node T)) (new_lists : Slab (ArrayVec ℕ)) (new : Node T) (xs : List T) (ks : List ℕ) (fresh : get nodes n ≡ None) (updates : Updates nodes new_nodes n (Some new)) (len : slab_len new_nodes ≡ slab_len nodes + 1) (capacity : new_nodes.capacity ≡ nodes.capacity) (full : new.cells.items ≡ full_cells xs) (room : slab_len nodes + 1 ≤ lists.capacity) (stores : StoresList lists new_lists new.list ks) where
     no_list_more : get new_lists NO_LIST ≡ None
     no_list_more =
         elim (cases_eq NO_LIST new.list) [
@@ -116,17 +115,15 @@ module _ {T : Type 0} (nodes : Slab (Node T)) (lists : Slab (ArrayVec ℕ)) (n :
           other_lists = stores.others;
           foreign = λ m other some both.
           let there : IsSome (get lists new.list) = rw both at (whole.kept m some) in
-          let none : IsSome (None {T = ArrayVec ℕ}) = rw stores.fresh at there in
+          let none = rw stores.fresh at there in
           absurd (cc);
           full = rw updates.changed (IsFull-from new.cells.items xs full);
           kept = λ some. rw updates.changed (stores.present (rw updates.changed at some));
           own = λ some. ap list_of updates.changed;
           none = no_list_more;
-          counted = omega (arith, stores.len, ap lists_of fresh, ap lists_of updates.changed, lists_counted new, no_lists_before);
+          counted = omega (arith, stores.len, ap lists_of updates.changed, lists_counted new, without_list (get nodes n) fresh);
+          fits = omega (arith, room, len, stores.capacity);
         }
-      where
-        no_lists_before : lists_of (None {T = Node T}) ≡ 0
-        no_lists_before = rw no_lists refl
 
     pub stored_whole : IsWhole new_nodes new_lists
     stored_whole = whole_after nodes new_nodes lists new_lists n new.list whole addition

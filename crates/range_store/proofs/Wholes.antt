@@ -1,17 +1,18 @@
 -- What a change of one node, and of its list, leaves of the nodes.
 use Rattle.std.proofs.Common.{◌≡◌, ◌≢◌, ℕ, ◌+◌, ◌<◌, ◌≤◌, Bool, true, false, not, eqb, cond, List, [], ◌∷◌, length, get_or, map, Option, Some, None, is_some, IsSome, count_by, refl, sym, ap, ◌∙◌, inl, inr, arith}
+use Rattle.std.proofs.Math.ListN.{set}
 use Rattle.std.proofs.lemmas.Bool.{cases_eq, cases_lt, eq-eqb, ne_eqb}
-use Rattle.std.proofs.lemmas.List.{get_or-map, get_or_past, length-map}
+use Rattle.std.proofs.lemmas.List.{get_or-map, get_or_past, length-map, map-set}
 use Rattle.std.proofs.lemmas.List.Sums.{sum_by-cons, sum_by-le-sum_by}
-use Rattle.std.proofs.lemmas.Option.{none-some}
+use Rattle.std.proofs.lemmas.Option.{none-some, same_Some}
 use Rattle.slab.specs.Slab.{Slab, get, slab_len, with_value}
 use Rattle.arrayvec.specs.ArrayVec.{ArrayVec}
 use Rattle.range_store.specs.declared.btree.nodes.Node.{Node}
 use Rattle.range_store.specs.declared.btree.nodes.TheConstants.{NO_LIST}
-use Rattle.range_store.specs.Heap.{Content, full_cells, node_of, items_of, children_of, node_count, Writes, Stores, Removes}
-use Rattle.range_store.specs.Cells.{items_in, IsFull, numbers_of, list_in, cells_of, list_of, has_list, content_of, heap_of, IsWhole, WritesList, StoresList, DropsList, list_count}
+use Rattle.range_store.specs.Heap.{Content, full_cells, node_of, items_of, children_of, node_count, with_item}
+use Rattle.range_store.specs.Cells.{items_in, IsFull, numbers_of, list_in, cells_of, list_of, has_list, content_of, heap_of, IsWhole, list_count}
 use Rattle.range_store.proofs.Counts.{count_moved}
-use Rattle.range_store.proofs.FullCells.{IsFull-from, items_are}
+use Rattle.range_store.proofs.FullCells.{IsFull-from, items_are, length-full, full_set, standing}
 use Rattle.range_store.proofs.Lists.{value_here, value_other, value_len}
 
 module _ {T : Type 0} where
@@ -28,7 +29,7 @@ module _ {T : Type 0} where
   slots_count : (lists : Slab (ArrayVec ℕ)) (slots : List (Option (Node T))) → count_by is_some (map (content_of lists) slots) ≡ count_by is_some slots
   slots_count lists [] = refl
   slots_count lists (None ∷ slots) =
-      omega (arith, slots_count lists slots, sum_by-cons (λ o. cond (is_some o) 1 0) (content_of lists None) (map (content_of lists) slots), sum_by-cons (λ o. cond (is_some o) 1 0) (None {T = Node T}) slots)
+      omega (arith, slots_count lists slots, sum_by-cons (λ o. cond (is_some o) 1 0) (content_of lists None) (map (content_of lists) slots), sum_by-cons (λ o. cond (is_some o) 1 0) None slots)
   slots_count lists (Some node ∷ slots) =
       omega (arith, slots_count lists slots, sum_by-cons (λ o. cond (is_some o) 1 0) (content_of lists (Some node)) (map (content_of lists) slots), sum_by-cons (λ o. cond (is_some o) 1 0) (Some node) slots)
 
@@ -47,8 +48,12 @@ module _ {T : Type 0} where
   abbrev pub lists_of : Option (Node T) → ℕ
   lists_of slot = cond (has_list slot) 1 0
 
-  pub no_lists : has_list (None {T = Node T}) ≡ false
-  no_lists = ap not (eq-eqb NO_LIST NO_LIST refl)
+  pub no_lists : (slot : Option (Node T)) → slot ≡ None → has_list slot ≡ false
+  no_lists None none = ap not (eq-eqb NO_LIST NO_LIST refl)
+  no_lists (Some node) none = absurd (cc)
+
+  pub without_list : (slot : Option (Node T)) → slot ≡ None → lists_of slot ≡ 0
+  without_list slot none = rw (no_lists slot none) refl
 
   pub lists_counted : (node : Node T) → lists_of (Some node) ≡ list_count node.list
   lists_counted node =
@@ -62,7 +67,7 @@ module _ {T : Type 0} where
   fewer_lists nodes lists whole = omega (arith, whole.counted, sum_by-le-sum_by lists_of (λ slot. cond (is_some slot) 1 0) nodes.slots at_most)
     where
       at_most : (slot : Option (Node T)) → lists_of slot ≤ cond (is_some slot) 1 0
-      at_most None = rw no_lists (omega arith)
+      at_most None = omega (arith, without_list None refl)
       at_most (Some node) = elim (has_list (Some node)) as (λ b. cond b 1 0 ≤ 1) [ true ↦ omega arith | false ↦ omega arith ]
 
   -- the node n changed, and at most the list under a key that no other node has
@@ -75,6 +80,7 @@ module _ {T : Type 0} where
     pub own : list_of (get new n) ≢ NO_LIST → list_of (get new n) ≡ key
     pub none : get new_lists NO_LIST ≡ None
     pub counted : slab_len new_lists + lists_of (get nodes n) ≡ slab_len lists + lists_of (get new n)
+    pub fits : slab_len new ≤ new_lists.capacity
 
   module _ (nodes new : Slab (Node T)) (lists new_lists : Slab (ArrayVec ℕ)) (n key : ℕ) (whole : IsWhole nodes lists) (change : IsChange nodes new lists new_lists n key) where
     full_after : (m : ℕ) → IsFull (cells_of (get new m))
@@ -124,7 +130,8 @@ module _ {T : Type 0} where
           kept = kept_after;
           apart = apart_after;
           none = change.none;
-          counted = omega (arith, change.counted, whole.counted, count_moved has_list no_lists nodes.slots new.slots n change.others);
+          counted = omega (arith, change.counted, whole.counted, count_moved has_list (no_lists None refl) nodes.slots new.slots n change.others);
+          fits = change.fits;
         }
 
     content_after : (slot : Option (Node T)) → list_in new_lists (list_of slot) ≡ list_in lists (list_of slot) → content_of new_lists slot ≡ content_of lists slot
@@ -140,3 +147,45 @@ module _ {T : Type 0} where
           | inr some ↦ ap numbers_of (other_list m other some)
         ] in
         node_read new new_lists m ∙ ap (content_of new_lists) (change.others m other) ∙ content_after (get nodes m) list_same ∙ sym (node_read nodes lists m)
+
+  module _ (nodes : Slab (Node T)) (lists : Slab (ArrayVec ℕ)) (whole : IsWhole nodes lists) (n : ℕ) (node : Node T) (found : get nodes n ≡ Some node) where
+    -- the cells of a node as its items
+    pub node_cells : node.cells.items ≡ full_cells (items_of (node_of (heap_of nodes lists) n))
+    node_cells =
+        let full : IsFull node.cells.items = rw found at (whole.full n) in
+        full ∙ ap full_cells (sym (ap items_of (found_read nodes lists n node found)))
+
+    pub node_length : length node.cells.items ≡ length (items_of (node_of (heap_of nodes lists) n))
+    node_length = ap length node_cells ∙ length-full (items_of (node_of (heap_of nodes lists) n))
+
+    pub filled_cell : (i : ℕ) (cell d : Option T) → i < length (items_of (node_of (heap_of nodes lists) n)) → cell ≡ get_or node.cells.items i d → IsSome cell
+    filled_cell i cell d within read =
+        let there = standing (items_of (node_of (heap_of nodes lists) n)) i within in
+        let is : cell ≡ Some there.item = read ∙ ap (λ cs. get_or cs i d) node_cells ∙ there.cell_is d in
+        rw is refl
+
+    pub cells_set : (i : ℕ) (x : T) → set node.cells.items i (Some x) ≡ full_cells (set (items_of (node_of (heap_of nodes lists) n)) i x)
+    cells_set i x = ap (λ cs. set cs i (Some x)) node_cells ∙ full_set (items_of (node_of (heap_of nodes lists) n)) i x
+
+    -- a write to a cell is one to the item in it
+    pub cell_written : (i : ℕ) (x : T) → heap_of (with_value nodes n (record { cells = record { items = set node.cells.items i (Some x) }; list = node.list })) lists ≡ with_item (heap_of nodes lists) n i x
+    cell_written i x =
+        let heap = heap_of nodes lists in
+        let slots = map (content_of lists) nodes.slots in
+        let items = set (items_of (node_of heap n)) i x in
+        let here = items_are (set node.cells.items i (Some x)) items (cells_set i x) in
+        let children = sym (ap children_of (found_read nodes lists n node found)) in
+        ap (λ ss. record { slots = ss; capacity = heap.capacity })
+        (map-set (content_of lists) nodes.slots n (Some (record { cells = record { items = set node.cells.items i (Some x) }; list = node.list }))
+        ∙ ap (λ ys. set slots n (Some (record { items = ys; children = list_in lists node.list }))) here
+        ∙ ap (λ ks. set slots n (Some (record { items = items; children = ks }))) children)
+
+    pub node_cell : (i : ℕ) (x : T) (d : Option T) → i < length (items_of (node_of (heap_of nodes lists) n)) → Some x ≡ get_or node.cells.items i d → x ≡ get_or (items_of (node_of (heap_of nodes lists) n)) i x
+    node_cell i x d within read =
+        let there = standing (items_of (node_of (heap_of nodes lists) n)) i within in
+        same_Some x there.item (read ∙ ap (λ cs. get_or cs i d) node_cells ∙ there.cell_is d) ∙ sym (there.item_is x)
+
+    pub no_empty_cell : (i : ℕ) (d : Option T) → i < length (items_of (node_of (heap_of nodes lists) n)) → None ≡ get_or node.cells.items i d → ⊥
+    no_empty_cell i d within read =
+        let there = standing (items_of (node_of (heap_of nodes lists) n)) i within in
+        none-some there.item (read ∙ ap (λ cs. get_or cs i d) node_cells ∙ there.cell_is d)

@@ -1,5 +1,5 @@
 -- How `Nodes` keeps its nodes: each with its items in full cells, and with its children, if it has some, in a list beside. No public clause cites this file.
-use Rattle.std.specs.Prelude.{◌≡◌, ◌≢◌, ℕ, ◌+◌, ◌==◌, Bool, not, if◌then◌else◌, List, [], ◌++◌, length, map, take, drop, min, Option, Some, None, is_some, IsSome, count_by, filter_map}
+use Rattle.std.specs.Prelude.{◌≡◌, ◌≢◌, ℕ, ◌+◌, ◌≤◌, ◌==◌, Bool, not, if◌then◌else◌, List, [], ◌++◌, length, map, take, drop, min, Option, Some, None, is_some, IsSome, count_by, filter_map}
 use Rattle.slab.specs.Slab.{Slab, get, slab_len}
 use Rattle.arrayvec.specs.ArrayVec.{ArrayVec}
 use Rattle.range_store.specs.declared.btree.nodes.Node.{Node}
@@ -96,10 +96,11 @@ module _ {T : Type 0} where
   abbrev pub IsFull : List (Option T) → Type 0
   IsFull cells = cells ≡ full_cells (items_in cells)
 
-  -- each cell is full, each list is that of one node, and there are no others
+  -- each cell is full, each list is that of one node, and there are no others; there is capacity for one of each node
   pub record IsWhole (nodes : Slab (Node T)) (lists : Slab (ArrayVec ℕ)) : Type 0 where
     pub full : (n : ℕ) → IsFull (cells_of (get nodes n))
     pub kept : (n : ℕ) → list_of (get nodes n) ≢ NO_LIST → IsSome (get lists (list_of (get nodes n)))
     pub apart : (n m : ℕ) → list_of (get nodes n) ≢ NO_LIST → list_of (get nodes n) ≡ list_of (get nodes m) → n ≡ m
     pub none : get lists NO_LIST ≡ None
     pub counted : slab_len lists ≡ count_by has_list nodes.slots
+    pub fits : slab_len nodes ≤ lists.capacity

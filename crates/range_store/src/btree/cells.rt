@@ -1,6 +1,8 @@
 //! The steps of a change of nodes in one array of cells, or in one list of children.
 ghost use Rattle.std.specs.Prelude.{◌≡◌, ◌≢◌, ◌⊎◌, ℕ, ◌+◌, ◌-◌, ◌<◌, ◌≤◌, List, [], ◌∷◌, ◌++◌, length, take, drop, slice_get, slice_index_or, insert, remove, IsSome, None, Some};
+ghost use Rattle.std.specs.Borrow.{sem};
 ghost use Rattle.std.specs.Option.{ForSome};
+ghost use Rattle.std.specs.Option.Follows.{option_follows_value};
 ghost use Rattle.slab.specs.Slab.{get, HasRoomFor};
 ghost use Rattle.range_store.specs.Heap.{full_cells, with_child};
 ghost use Rattle.range_store.specs.Cells.{items_in, IsFull, list_in, IsListKey, FitsPlaces, WritesList, DropsList, DividesList, AppendsList};
@@ -8,6 +10,18 @@ ghost use Rattle.range_store.specs.Cells.{items_in, IsFull, list_in, IsListKey, 
 use crate::btree::nodes::{CAPACITY, CHILD_PLACES, HALF, NO_LIST};
 use arrayvec::ArrayVec;
 use slab::Slab;
+
+// The item in a full cell.
+pub fn filled<T>(cell: &mut Option<T>) -> &mut T
+    requires { IsSome cell.old }
+    ensures* lends { sem 𝓛 (option_follows_value T.row cell.entry result) }
+    ensures value { cell.old ≡ Some result.now }
+{
+    match cell {
+        Some(item) => item,
+        None => unreachable!(),
+    }
+}
 
 // Takes the item at an index out.
 pub fn take_filled<T: Drop>(cells: &mut ArrayVec<Option<T>, CAPACITY>, index: usize) -> T
@@ -119,6 +133,24 @@ pub fn take_child(
     lists[list].pop_at(index)
 }
 
+// The children from `start` on, moved out.
+fn list_from(
+    list: &mut ArrayVec<usize, CHILD_PLACES>,
+    start: usize,
+) -> ArrayVec<usize, CHILD_PLACES>
+    requires { start ≤ length list.old.items }
+    ensures left { list.new.items ≡ take start list.old.items }
+    ensures right { result.items ≡ drop start list.old.items }
+{
+    let _many = list.len();
+    let mut upper = ArrayVec::new();
+    upper
+        .try_extend_from_slice(&list.as_slice()[start..])
+        .unwrap();
+    list.truncate(start);
+    upper
+}
+
 // Puts a child into a full list, of which the first half stays; the rest is moved out.
 fn divide_list(
     list: &mut ArrayVec<usize, CHILD_PLACES>,
@@ -130,19 +162,12 @@ fn divide_list(
     ensures left { list.new.items ≡ take (HALF + 1) (insert list.old.items index child) }
     ensures right { result.items ≡ drop (HALF + 1) (insert list.old.items index child) }
 {
-    let mut upper = ArrayVec::new();
     if index <= HALF {
-        upper
-            .try_extend_from_slice(&list.as_slice()[HALF..])
-            .unwrap();
-        list.truncate(HALF);
+        let upper = list_from(list, HALF);
         list.insert(index, child);
         return upper;
     }
-    upper
-        .try_extend_from_slice(&list.as_slice()[HALF + 1..])
-        .unwrap();
-    list.truncate(HALF + 1);
+    let mut upper = list_from(list, HALF + 1);
     upper.insert(index - HALF - 1, child);
     upper
 }

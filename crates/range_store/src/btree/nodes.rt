@@ -1,11 +1,11 @@
 //! The nodes of a tree under numbers, each with its items in it.
-ghost use Rattle.std.specs.Prelude.{◌≡◌, ◌⊎◌, ℕ, ◌+◌, ◌-◌, ◌<◌, ◌≤◌, List, [], ◌∷◌, ◌++◌, length, take, drop, slice_get, slice_index, slice_index_or, slice_set, insert, remove, IsOk, IsSome, OnOk, IfSome, All, None, Some};
+ghost use Rattle.std.specs.Prelude.{◌≡◌, ◌≢◌, ◌⊎◌, ℕ, ◌+◌, ◌-◌, ◌<◌, ◌≤◌, List, [], ◌∷◌, ◌++◌, length, take, drop, slice_get, slice_index, slice_index_or, slice_set, insert, remove, IsOk, IsSome, OnOk, IfSome, All, None, Some};
 ghost use Rattle.std.specs.Borrow.{Lends, sem};
 ghost use Rattle.slab.specs.Slab.{get, ContainsKey};
 ghost use Rattle.range_store.specs.Heap.{node_of, HasNode, items_of, children_of, full_cells, node_count, HasRoomFor, with_child, with_item, FitsChild, Writes, Stores, Removes, Divides, left_items, right_items, HasPair, RotatesLeft, RotatesRight, Merges, Absorbs};
 
 use crate::btree::cells::{
-    append_cells, append_list, divide_cells, divide_children, drop_list, put_child, take_child,
+    append_cells, append_list, divide_cells, divide_children, drop_list, filled, put_child, take_child,
     take_filled,
 };
 use arrayvec::ArrayVec;
@@ -155,8 +155,8 @@ impl<T: Drop> Nodes<T> {
             ≡ slice_index_or (items_of (node_of self.old number)) index result.now }
     {
         match self.nodes[number].cells.get_mut(index) {
-            Some(Some(item)) => item,
-            _ => unreachable!(),
+            Some(cell) => filled(cell),
+            None => unreachable!(),
         }
     }
 

@@ -1,17 +1,17 @@
-use Rattle.std.proofs.Common.{◌≡◌, ◌⊎◌, ◌+◌, ◌-◌, ◌<◌, ◌≤◌, arith}
+use Rattle.std.proofs.Common.{◌≡◌, ◌⊎◌, ◌+◌, ◌-◌, ◌<◌, ◌≤◌, rules, arith}
 use Rattle.range_store.proofs.Edges.{way_low}
 use Rattle.range_store.proofs.Pairs.{near_seat}
 use Rattle.range_store.proofs.Rotating.{has_pair, joined_edge, joined_shrinks, moved_way}
 use Rattle.range_store.proofs.btree.removal.join.Goals as goal
 
-pub child_at-left-requires-clause-within : goal.child_at-left-requires-clause-within
-child_at-left-requires-clause-within g c = omega (arith, c.requires.levelled.within, c.requires.levelled.node.branches)
+pub child_at-left-requires : goal.child_at-left-requires
+child_at-left-requires g c = (search rules, (c.requires.levelled.node.present, omega (arith, c.requires.levelled.within, c.requires.levelled.node.branches)))
 
 pub item_count-many-requires : goal.item_count-many-requires
-item_count-many-requires g c = rw c.child_at-left.ensures c.requires.levelled.left.node.present
+item_count-many-requires g c = (search rules, rw c.child_at-left.ensures c.requires.levelled.left.node.present)
 
-pub merge-requires-clause-pair : goal.merge-requires-clause-pair
-merge-requires-clause-pair g c = has_pair c.args.nodes.now c.args.low c.args.number c.args.index c.requires.levelled
+pub merge-requires : goal.merge-requires
+merge-requires g c = (search rules, (has_pair c.args.nodes.now c.args.low c.args.number c.args.index c.requires.levelled, c.requires.few))
 
 pub joined_seat-seat-requires-clause-many : goal.joined_seat-seat-requires-clause-many
 joined_seat-seat-requires-clause-many g c = rw (c.item_count-many.ensures, c.child_at-left.ensures) c.requires.levelled.left.node.fits

@@ -1,4 +1,4 @@
-use Rattle.std.proofs.Common.{◌+◌, arith}
+use Rattle.std.proofs.Common.{◌+◌, ◌-◌, rules, arith}
 use Rattle.range_store.proofs.Edges.{way_low}
 use Rattle.range_store.proofs.Pairs.{seat_low}
 use Rattle.range_store.specs.declared.btree.nodes.TheConstants.{MIN_LEN}
@@ -6,17 +6,18 @@ use Rattle.range_store.specs.Edges.{IsEdge, place, seat_place}
 use Rattle.range_store.proofs.Rotating.{has_pair, moved_way, next_edge, next_kept, next_shrinks}
 use Rattle.range_store.proofs.btree.removal.lend_to_next.Goals as goal
 
-pub child_at-right-requires-clause-within : goal.child_at-right-requires-clause-within
-child_at-right-requires-clause-within g c = omega (arith, c.requires.levelled.within, c.requires.levelled.node.branches)
+pub child_at-right-requires : goal.child_at-right-requires
+child_at-right-requires g c = (search rules, (c.requires.levelled.node.present, omega (arith, c.requires.levelled.within, c.requires.levelled.node.branches)))
 
-pub rotate_right-requires-clause-pair : goal.rotate_right-requires-clause-pair
-rotate_right-requires-clause-pair g c = has_pair c.args.nodes.now c.args.low c.args.number c.args.index c.requires.levelled
+pub rotate_right-requires : goal.rotate_right-requires
+rotate_right-requires g c =
+    (search rules, (has_pair c.args.nodes.now c.args.low c.args.number c.args.index c.requires.levelled, (omega (arith, c.requires.spare), omega (arith, c.requires.levelled.fits, c.requires.spare))))
 
-pub rotate_right-requires-clause-room : goal.rotate_right-requires-clause-room
-rotate_right-requires-clause-room g c = omega (arith, c.requires.levelled.fits, c.requires.spare)
+pub overflow_add-index-2 : goal.overflow_add-index-2
+overflow_add-index-2 g c = omega (arith, c.requires.levelled.within, c.requires.levelled.node.fits)
 
-pub overflow_add-inner : goal.overflow_add-inner
-overflow_add-inner g c =
+pub overflow_add-seat : goal.overflow_add-seat
+overflow_add-seat g c =
     omega (arith, c.seat.ensures, seat_low c.args.nodes.now c.args.low _ c.args.edge (MIN_LEN - 1) c.requires.levelled.right c.requires.edge, c.requires.levelled.right.node.fits)
 
 pub edge_at-inner-requires-clause-seat : goal.edge_at-inner-requires-clause-seat

@@ -1,13 +1,11 @@
-use Rattle.std.proofs.Common.{◌+◌, arith}
+use Rattle.std.proofs.Common.{◌+◌, rules, arith}
 use Rattle.range_store.proofs.Edges.{way_small}
 use Rattle.range_store.proofs.Rotating.{has_pair, previous_edge, previous_kept, previous_shrinks}
 use Rattle.range_store.proofs.btree.removal.lend_to_previous.Goals as goal
 
-pub rotate_left-requires-clause-pair : goal.rotate_left-requires-clause-pair
-rotate_left-requires-clause-pair g c = has_pair c.args.nodes.now c.args.low c.args.number c.args.index c.requires.levelled
-
-pub rotate_left-requires-clause-room : goal.rotate_left-requires-clause-room
-rotate_left-requires-clause-room g c = omega (arith, c.requires.levelled.fits, c.requires.spare)
+pub rotate_left-requires : goal.rotate_left-requires
+rotate_left-requires g c =
+    (search rules, (has_pair c.args.nodes.now c.args.low c.args.number c.args.index c.requires.levelled, (omega (arith, c.requires.spare), omega (arith, c.requires.levelled.fits, c.requires.spare))))
 
 pub seen_above-requires-clause-index : goal.seen_above-requires-clause-index
 seen_above-requires-clause-index g c = omega (arith, c.requires.levelled.within, c.requires.levelled.node.fits)

@@ -1,0 +1,22 @@
+use Rattle.std.proofs.Common.{rules, ◌≡◌, ◌≢◌, ◌⊎◌, ℕ, ◌+◌, ◌-◌, ◌<◌, ◌≤◌, List, [], ◌∷◌, ◌++◌, length, take, drop, slice_get, slice_index, slice_index_or, slice_set, insert, remove, IsOk, IsSome, OnOk, IfSome, All, None, Some, ◌*◌, ◌/◌, ◌%◌, Bool, true, false, nat_eq, nat_lt, bit_and, bit_or, Fits, w8, w32, w64, Bor, MutBor}
+use Rattle.std.specs.Borrow.{Lends, sem}
+use Rattle.slab.specs.Slab.{get, ContainsKey}
+use Rattle.range_store.specs.Heap.{node_of, HasNode, items_of, children_of, full_cells, node_count, HasRoomFor, with_child, with_item, FitsChild, Writes, Stores, Removes, Divides, left_items, right_items, HasPair, RotatesLeft, RotatesRight, Merges, Absorbs}
+use Rattle.range_store.specs.contracts.btree.nodes.Nodes.{the_row}
+use Rattle.range_store.proofs.btree.nodes.Nodes.merge.Goals as goal
+
+-- src/btree/nodes.rt:300:43
+pub overflow_add-index : goal.overflow_add-index
+overflow_add-index g c = ?
+
+-- src/btree/nodes.rt:301:57
+pub overflow_add-index-2 : goal.overflow_add-index-2
+overflow_add-index-2 g c = ?
+
+-- src/btree/nodes.rt:302:9
+pub append-requires : goal.append-requires
+append-requires g c = ?
+
+-- src/btree/nodes.rt:293:5
+pub returns : goal.returns
+returns g c = ?

@@ -1,0 +1,26 @@
+use Rattle.std.proofs.Common.{rules, ◌≡◌, ◌≢◌, ◌⊎◌, ℕ, ◌+◌, ◌-◌, ◌<◌, ◌≤◌, List, [], ◌∷◌, ◌++◌, length, take, drop, slice_get, slice_index, slice_index_or, slice_set, insert, remove, IsOk, IsSome, OnOk, IfSome, All, None, Some, ◌*◌, ◌/◌, ◌%◌, Bool, true, false, nat_eq, nat_lt, bit_and, bit_or, Fits, w8, w32, w64, Bor, MutBor}
+use Rattle.std.specs.Borrow.{Lends, sem}
+use Rattle.slab.specs.Slab.{get, ContainsKey}
+use Rattle.range_store.specs.Heap.{node_of, HasNode, items_of, children_of, full_cells, node_count, HasRoomFor, with_child, with_item, FitsChild, Writes, Stores, Removes, Divides, left_items, right_items, HasPair, RotatesLeft, RotatesRight, Merges, Absorbs}
+use Rattle.range_store.specs.contracts.btree.nodes.Nodes.{the_row}
+use Rattle.range_store.proofs.btree.nodes.Nodes.take_beside.Goals as goal
+
+-- src/btree/nodes.rt:342:13
+pub take_child-child-requires : goal.take_child-child-requires
+take_child-child-requires g c = ?
+
+-- src/btree/nodes.rt:330:5
+pub invariant_of-self : goal.invariant_of-self
+invariant_of-self g c = ?
+
+-- src/btree/nodes.rt:330:5
+pub returns-clause-item : goal.returns-clause-item
+returns-clause-item g c = ?
+
+-- src/btree/nodes.rt:330:5
+pub returns-clause-child : goal.returns-clause-child
+returns-clause-child g c = ?
+
+-- src/btree/nodes.rt:330:5
+pub returns-clause-rest : goal.returns-clause-rest
+returns-clause-rest g c = ?
