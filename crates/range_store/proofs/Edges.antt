@@ -40,6 +40,10 @@ pub leaf_edge : {T : Type 0} (s : Heap T) (n : ℕ) (g : Edge) → g.leaf ≡ n 
 unfolding IsEdge
 leaf_edge s n g leaf way index = (leaf, way, index)
 
+pub leaf_is : {T : Type 0} (s : Heap T) (n : ℕ) (g : Edge) → IsEdge s zero n g → g.leaf ≡ n
+unfolding IsEdge
+leaf_is s n g is = is.0
+
 pub leaf_index : {T : Type 0} (s : Heap T) (n : ℕ) (g : Edge) → IsEdge s zero n g → g.index ≤ length (items_of (node_of s n))
 unfolding IsEdge
 leaf_index s n g is = is.2

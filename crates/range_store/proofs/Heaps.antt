@@ -1,10 +1,9 @@
 -- Changes of several nodes, in another order.
-use Rattle.std.proofs.Common.{◌≡◌, ◌≢◌, ℕ, ◌+◌, ◌<◌, List, length, get_or, cond, Option, Some, None, is_some, IsSome, refl, sym, ap, ◌∙◌, inl, inr, arith}
+use Rattle.std.proofs.Common.{◌≡◌, ◌≢◌, ℕ, ◌+◌, ◌<◌, List, length, cond, Option, Some, None, is_some, IsSome, refl, sym, ap, ◌∙◌, inl, inr, arith}
 use Rattle.std.proofs.Math.ListN.{set}
-use Rattle.std.proofs.lemmas.Bool.{cases_eq, cases_lt}
+use Rattle.std.proofs.lemmas.Bool.{cases_eq, cases_lt, false≢true}
 use Rattle.std.proofs.lemmas.List.{get_or-set_same, get_or-set_other, get_or_past}
 use Rattle.std.proofs.lemmas.List.Sums.{sum_by-set}
-use Rattle.std.proofs.lemmas.Option.{none-some}
 use Rattle.range_store.specs.Heap.{Heap, Content, node_of, HasNode, items_of, children_of, node_count, with_item, Writes, Removes}
 
 module _ {T : Type 0} where
@@ -15,7 +14,7 @@ module _ {T : Type 0} where
   node_within s n present =
       elim (cases_lt n (length s.slots)) [
         | inl less ↦ less
-        | inr past ↦ let none : node_of s n ≡ None = get_or_past s.slots n None past in absurd (rw none at present)
+        | inr past ↦ let none : node_of s n ≡ None = get_or_past s.slots n None past in absurd (false≢true (rw none at present))
       ]
 
   slot_read : (s : Heap T) (n : ℕ) (slot : Option (Content T)) → HasNode s n → node_of (with_slot s n slot) n ≡ slot
@@ -52,6 +51,9 @@ module _ {T : Type 0} where
         capacity = refl;
       }
 
+  pub item_other : (s : Heap T) (n i k : ℕ) (x : T) → k ≢ n → node_of (with_item s n i x) k ≡ node_of s k
+  item_other s n i k x other = slot_other s n k (Some (record { items = set (items_of (node_of s n)) i x; children = children_of (node_of s n) })) other
+
   -- a write to an item is one of its node
   pub writes_item : (s : Heap T) (n i : ℕ) (x : T) → HasNode s n → Writes s (with_item s n i x) n (set (items_of (node_of s n)) i x) (children_of (node_of s n))
   writes_item s n i x present = writes_slot s n (record { items = set (items_of (node_of s n)) i x; children = children_of (node_of s n) }) present
@@ -64,9 +66,6 @@ module _ {T : Type 0} where
   written_is : (s t : Heap T) (n : ℕ) (xs : List T) (ks : List ℕ) → Writes s t n xs ks → node_of t n ≡ Some (record { items = xs; children = ks })
   written_is s t n xs ks writes = content_is (node_of t n) xs ks writes.present writes.items_are writes.children_are
 
-  other_way : (n m : ℕ) → n ≢ m → m ≢ n
-  other_way n m other same = other (sym same)
-
   -- a write between two heaps that differ from two others at another node alone
   writes_along : (s t u v : Heap T) (n m : ℕ) (xs : List T) (ks : List ℕ) → n ≢ m → Writes s t n xs ks → ((k : ℕ) → k ≢ m → node_of u k ≡ node_of s k) → ((k : ℕ) → k ≢ m → node_of v k ≡ node_of t k) → node_of v m ≡ node_of u m → node_count v ≡ node_count u → v.capacity ≡ u.capacity → Writes u v n xs ks
   writes_along s t u v n m xs ks apart writes before after here len capacity =
@@ -76,10 +75,10 @@ module _ {T : Type 0} where
         items_are = ap items_of (after n apart) ∙ writes.items_are;
         children_are = ap children_of (after n apart) ∙ writes.children_are;
         others = λ k other.
-        elim (cases_eq k m) [
-          | inl same ↦ rw same here
-          | inr differs ↦ after k differs ∙ writes.others k other ∙ sym (before k differs)
-        ];
+            elim (cases_eq k m) [
+              | inl same ↦ rw same here
+              | inr differs ↦ after k differs ∙ writes.others k other ∙ sym (before k differs)
+            ];
         len = len;
         capacity = capacity;
       }
@@ -99,7 +98,7 @@ module _ {T : Type 0} where
         record {
           between = between;
           first = first;
-          second = writes_along s t between u n m xs ks (other_way m n apart) one first.others two.others (written_is t u m ys ls two ∙ sym (written_is s between m ys ls first)) (two.len ∙ one.len ∙ sym first.len) (two.capacity ∙ one.capacity ∙ sym first.capacity);
+          second = writes_along s t between u n m xs ks (λ e. apart (sym e)) one first.others two.others (written_is t u m ys ls two ∙ sym (written_is s between m ys ls first)) (two.len ∙ one.len ∙ sym first.len) (two.capacity ∙ one.capacity ∙ sym first.capacity);
         }
 
     pub record RemovesFirst : Type 0 where
@@ -115,7 +114,7 @@ module _ {T : Type 0} where
         record {
           between = between;
           first = first;
-          second = writes_along s t between u n m xs ks (other_way m n apart) one first.others two.others (two.gone ∙ sym first.gone) (omega (arith, two.len, one.len, first.len)) (two.capacity ∙ one.capacity ∙ sym first.capacity);
+          second = writes_along s t between u n m xs ks (λ e. apart (sym e)) one first.others two.others (two.gone ∙ sym first.gone) (omega (arith, two.len, one.len, first.len)) (two.capacity ∙ one.capacity ∙ sym first.capacity);
         }
 
     pub record RemovesLast : Type 0 where
@@ -125,7 +124,7 @@ module _ {T : Type 0} where
 
     pub remove_last : Removes s t m → Writes t u n xs ks → RemovesLast
     remove_last one two =
-        let apart' = other_way m n apart in
+        let apart' = λ (e : n ≡ m). apart (sym e) in
         let present : HasNode s n = rw (one.others n apart') at two.was in
         let between = with_slot s n (Some (record { items = xs; children = ks })) in
         let first : Writes s between n xs ks = writes_slot s n (record { items = xs; children = ks }) present in
@@ -136,10 +135,10 @@ module _ {T : Type 0} where
             was = rw (first.others m apart) one.was;
             gone = two.others m apart ∙ one.gone;
             others = λ k other.
-            elim (cases_eq k n) [
-              | inl same ↦ rw same (written_is t u n xs ks two ∙ sym (written_is s between n xs ks first))
-              | inr differs ↦ two.others k differs ∙ one.others k other ∙ sym (first.others k differs)
-            ];
+                elim (cases_eq k n) [
+                  | inl same ↦ rw same (written_is t u n xs ks two ∙ sym (written_is s between n xs ks first))
+                  | inr differs ↦ two.others k differs ∙ one.others k other ∙ sym (first.others k differs)
+                ];
             len = omega (arith, one.len, two.len, first.len);
             capacity = two.capacity ∙ one.capacity ∙ sym first.capacity;
           };

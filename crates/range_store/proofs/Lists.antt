@@ -1,5 +1,5 @@
 -- A slab with another value under a key, and lists of children under keys.
-use Rattle.std.proofs.Common.{◌≡◌, ◌≢◌, ℕ, ◌+◌, ◌<◌, List, ◌++◌, length, take, drop, cond, Option, Some, None, is_some, IsSome, refl, sym, ap, ◌∙◌, inl, inr, arith}
+use Rattle.std.proofs.Common.{◌≡◌, ◌≢◌, ℕ, ◌+◌, ◌<◌, List, [], ◌++◌, length, take, drop, cond, Option, Some, None, is_some, IsSome, refl, sym, ap, subst, ◌∙◌, inl, inr, arith}
 use Rattle.std.proofs.lemmas.Bool.{cases_lt, ne_eqb}
 use Rattle.std.proofs.lemmas.List.{get_or-set_same, get_or-set_other, get_or_past}
 use Rattle.std.proofs.lemmas.List.Sums.{sum_by-set}
@@ -70,12 +70,25 @@ list_dropped : (lists new : Slab (ArrayVec ℕ)) (key : ℕ) → key ≢ NO_LIST
 list_dropped lists new key some updates len capacity =
     record { gone = updates.changed; others = updates.others; len = omega (arith, len, list_counted key some); capacity = capacity }
 
-pub list_divided : (lists new : Slab (ArrayVec ℕ)) (key right half : ℕ) (old left list : ArrayVec ℕ) (whole : List ℕ) → get lists key ≡ Some old → left.items ≡ take half whole → list.items ≡ drop half whole → right ≢ NO_LIST → get (with_value lists key left) right ≡ None → Updates (with_value lists key left) new right (Some list) → slab_len new ≡ slab_len (with_value lists key left) + 1 → new.capacity ≡ lists.capacity → DividesList lists new key half whole right
-list_divided lists new key right half old left list whole found left_is list_is some fresh updates len capacity =
+pub list_divided : (lists new : Slab (ArrayVec ℕ)) (key right half : ℕ) (old left : ArrayVec ℕ) (rest whole : List ℕ) → get lists key ≡ Some old → left.items ≡ take half whole → rest ≡ drop half whole → StoresList (with_value lists key left) new right rest → DividesList lists new key half whole right
+list_divided lists new key right half old left rest whole found left_is rest_is stores =
     record {
       between = with_value lists key left;
       first = list_written lists key old left (take half whole) found left_is;
-      second = list_stored (with_value lists key left) new right list (drop half whole) list_is some fresh updates len capacity;
+      second = subst (λ list. StoresList (with_value lists key left) new right list) rest_is stores;
+    }
+
+-- no list more
+pub list_absent : (lists : Slab (ArrayVec ℕ)) → get lists NO_LIST ≡ None → StoresList lists lists NO_LIST []
+list_absent lists none =
+    record {
+      fresh = none;
+      list_is = ap numbers_of none;
+      present = λ some. absurd (some refl);
+      absent = λ same. none;
+      others = λ other differs. refl;
+      len = omega arith;
+      capacity = refl;
     }
 
 pub list_appended : (lists between : Slab (ArrayVec ℕ)) (left right : ℕ) (kept gone new : ArrayVec ℕ) → left ≢ right → right ≢ NO_LIST → get lists right ≡ Some gone → Updates lists between right None → slab_len between + 1 ≡ slab_len lists → between.capacity ≡ lists.capacity → get between left ≡ Some kept → new.items ≡ kept.items ++ gone.items → AppendsList lists (with_value between left new) left right

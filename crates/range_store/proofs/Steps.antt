@@ -40,8 +40,8 @@ module _ {T : Type 0} (nodes : Slab (Node T)) (lists : Slab (ArrayVec ℕ)) (n :
             foreign = foreign;
             full = rw here (IsFull-from new.cells.items xs full);
             kept = λ some.
-            let was : IsSome (get lists node.list) = rw found at (whole.kept n (λ none. some (ap list_of here ∙ same ∙ sym (ap list_of found) ∙ none))) in
-            rw (here, same) (writes.still ∙ was);
+                let was : IsSome (get lists node.list) = rw found at (whole.kept n (λ none. some (ap list_of here ∙ same ∙ sym (ap list_of found) ∙ none))) in
+                rw (here, same) (writes.still ∙ was);
             own = λ some. ap list_of here ∙ same;
             none = no_list_after;
             counted = omega (arith, writes.len, ap lists_of found, ap lists_of here, lists_counted node, lists_counted new, ap list_count same);
@@ -114,9 +114,9 @@ module _ {T : Type 0} (nodes : Slab (Node T)) (lists : Slab (ArrayVec ℕ)) (n :
           others = updates.others;
           other_lists = stores.others;
           foreign = λ m other some both.
-          let there : IsSome (get lists new.list) = rw both at (whole.kept m some) in
-          let none = rw stores.fresh at there in
-          absurd (cc);
+              let there : IsSome (get lists new.list) = rw both at (whole.kept m some) in
+              let none = rw stores.fresh at there in
+              absurd (cc);
           full = rw updates.changed (IsFull-from new.cells.items xs full);
           kept = λ some. rw updates.changed (stores.present (rw updates.changed at some));
           own = λ some. ap list_of updates.changed;

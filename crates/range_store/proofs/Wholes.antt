@@ -1,5 +1,5 @@
 -- What a change of one node, and of its list, leaves of the nodes.
-use Rattle.std.proofs.Common.{◌≡◌, ◌≢◌, ℕ, ◌+◌, ◌<◌, ◌≤◌, Bool, true, false, not, eqb, cond, List, [], ◌∷◌, length, get_or, map, Option, Some, None, is_some, IsSome, count_by, refl, sym, ap, ◌∙◌, inl, inr, arith}
+use Rattle.std.proofs.Common.{◌≡◌, ◌≢◌, ℕ, ◌+◌, ◌<◌, ◌≤◌, true, false, not, cond, List, [], ◌∷◌, length, get_or, map, min, Option, Some, None, is_some, IsSome, count_by, refl, sym, ap, subst, ◌∙◌, inl, inr, arith}
 use Rattle.std.proofs.Math.ListN.{set}
 use Rattle.std.proofs.lemmas.Bool.{cases_eq, cases_lt, eq-eqb, ne_eqb}
 use Rattle.std.proofs.lemmas.List.{get_or-map, get_or_past, length-map, map-set}
@@ -9,11 +9,11 @@ use Rattle.slab.specs.Slab.{Slab, get, slab_len, with_value}
 use Rattle.arrayvec.specs.ArrayVec.{ArrayVec}
 use Rattle.range_store.specs.declared.btree.nodes.Node.{Node}
 use Rattle.range_store.specs.declared.btree.nodes.TheConstants.{NO_LIST}
-use Rattle.range_store.specs.Heap.{Content, full_cells, node_of, items_of, children_of, node_count, with_item}
-use Rattle.range_store.specs.Cells.{items_in, IsFull, numbers_of, list_in, cells_of, list_of, has_list, content_of, heap_of, IsWhole, list_count}
+use Rattle.range_store.specs.Heap.{full_cells, node_of, items_of, children_of, node_count, HasRoomFor, with_item}
+use Rattle.range_store.specs.Cells.{items_in, IsFull, numbers_of, list_in, cells_of, list_of, has_list, content_of, heap_of, IsWhole, list_count, WritesList, IsListKey}
 use Rattle.range_store.proofs.Counts.{count_moved}
-use Rattle.range_store.proofs.FullCells.{IsFull-from, items_are, length-full, full_set, standing}
-use Rattle.range_store.proofs.Lists.{value_here, value_other, value_len}
+use Rattle.range_store.proofs.FullCells.{items_are, length-full, full_set, standing}
+use Rattle.range_store.proofs.Lists.{list_kept}
 
 module _ {T : Type 0} where
   -- what is read of a node
@@ -40,6 +40,11 @@ module _ {T : Type 0} where
   pub content_node : (lists : Slab (ArrayVec ℕ)) (slot : Option (Node T)) → IsSome (content_of lists slot) → (node : Node T) × (slot ≡ Some node)
   content_node lists None present = absurd (cc)
   content_node lists (Some node) present = (node, refl)
+
+  pub node_there : (nodes : Slab (Node T)) (lists : Slab (ArrayVec ℕ)) (n : ℕ) → IsSome (node_of (heap_of nodes lists) n) → IsSome (get nodes n)
+  node_there nodes lists n present =
+      let there = content_node lists (get nodes n) (rw (node_read nodes lists n) at present) in
+      rw there.1 refl
 
   pub found_read : (nodes : Slab (Node T)) (lists : Slab (ArrayVec ℕ)) (n : ℕ) (node : Node T) → get nodes n ≡ Some node → node_of (heap_of nodes lists) n ≡ Some (record { items = items_in node.cells.items; children = list_in lists node.list })
   found_read nodes lists n node found = node_read nodes lists n ∙ ap (content_of lists) found
@@ -149,11 +154,29 @@ module _ {T : Type 0} where
         node_read new new_lists m ∙ ap (content_of new_lists) (change.others m other) ∙ content_after (get nodes m) list_same ∙ sym (node_read nodes lists m)
 
   module _ (nodes : Slab (Node T)) (lists : Slab (ArrayVec ℕ)) (whole : IsWhole nodes lists) (n : ℕ) (node : Node T) (found : get nodes n ≡ Some node) where
+    pub node_full : IsFull node.cells.items
+    node_full = rw found at (whole.full n)
+
     -- the cells of a node as its items
     pub node_cells : node.cells.items ≡ full_cells (items_of (node_of (heap_of nodes lists) n))
     node_cells =
-        let full : IsFull node.cells.items = rw found at (whole.full n) in
-        full ∙ ap full_cells (sym (ap items_of (found_read nodes lists n node found)))
+        node_full ∙ ap full_cells (sym (ap items_of (found_read nodes lists n node found)))
+
+    pub node_items : items_in node.cells.items ≡ items_of (node_of (heap_of nodes lists) n)
+    node_items = sym (ap items_of (found_read nodes lists n node found))
+
+    pub node_children : children_of (node_of (heap_of nodes lists) n) ≡ list_in lists node.list
+    node_children = ap children_of (found_read nodes lists n node found)
+
+    pub children_kept : WritesList lists lists node.list (children_of (node_of (heap_of nodes lists) n))
+    children_kept = subst (λ ks. WritesList lists lists node.list ks) (sym node_children) (list_kept lists node.list)
+
+    pub list_key : IsListKey lists node.list
+    list_key =
+        record {
+          none = whole.none;
+          kept = λ some. let there = whole.kept n (λ none. some (sym (ap list_of found) ∙ none)) in rw found at there;
+        }
 
     pub node_length : length node.cells.items ≡ length (items_of (node_of (heap_of nodes lists) n))
     node_length = ap length node_cells ∙ length-full (items_of (node_of (heap_of nodes lists) n))
@@ -189,3 +212,20 @@ module _ {T : Type 0} where
     no_empty_cell i d within read =
         let there = standing (items_of (node_of (heap_of nodes lists) n)) i within in
         none-some there.item (read ∙ ap (λ cs. get_or cs i d) node_cells ∙ there.cell_is d)
+
+  module _ (nodes : Slab (Node T)) (lists : Slab (ArrayVec ℕ)) (more : ℕ) (room : HasRoomFor (heap_of nodes lists) more) where
+    pub node_room : slab_len nodes + more ≤ nodes.capacity
+    node_room = omega (arith, room, nodes_count nodes lists)
+
+    pub list_room : slab_len nodes + more ≤ lists.capacity
+    list_room = omega (arith, room, nodes_count nodes lists)
+
+  pub reserved_whole : (nodes new : Slab (Node T)) (lists new_lists : Slab (ArrayVec ℕ)) → IsWhole nodes lists → new ≡ record nodes { capacity = new.capacity } → new_lists ≡ record lists { capacity = new_lists.capacity } → lists.capacity ≤ new_lists.capacity → IsWhole new new_lists
+  reserved_whole nodes new lists new_lists whole same same_lists more =
+      let base : IsWhole (record nodes { capacity = new.capacity }) (record lists { capacity = new_lists.capacity }) =
+      record { full = whole.full; kept = whole.kept; apart = whole.apart; none = whole.none; counted = whole.counted; fits = omega (arith, whole.fits, more) } in
+      subst (λ x. IsWhole x new_lists) (sym same) (subst (λ y. IsWhole (record nodes { capacity = new.capacity }) y) (sym same_lists) base)
+
+  pub reserved_heap : (nodes new : Slab (Node T)) (lists new_lists : Slab (ArrayVec ℕ)) → new ≡ record nodes { capacity = new.capacity } → new_lists ≡ record lists { capacity = new_lists.capacity } → heap_of new new_lists ≡ record (heap_of nodes lists) { capacity = min new.capacity new_lists.capacity }
+  reserved_heap nodes new lists new_lists same same_lists =
+      ap (λ x. heap_of x new_lists) same ∙ ap (λ y. heap_of (record nodes { capacity = new.capacity }) y) same_lists

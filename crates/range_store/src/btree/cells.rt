@@ -5,7 +5,7 @@ ghost use Rattle.std.specs.Option.{ForSome};
 ghost use Rattle.std.specs.Option.Follows.{option_follows_value};
 ghost use Rattle.slab.specs.Slab.{get, HasRoomFor};
 ghost use Rattle.range_store.specs.Heap.{full_cells, with_child};
-ghost use Rattle.range_store.specs.Cells.{items_in, IsFull, list_in, IsListKey, FitsPlaces, WritesList, DropsList, DividesList, AppendsList};
+ghost use Rattle.range_store.specs.Cells.{items_in, IsFull, list_in, IsListKey, FitsPlaces, WritesList, StoresList, DropsList, DividesList, AppendsList};
 
 use crate::btree::nodes::{CAPACITY, CHILD_PLACES, HALF, NO_LIST};
 use arrayvec::ArrayVec;
@@ -172,6 +172,18 @@ fn divide_list(
     upper
 }
 
+// Stores a list, and tells where it lies.
+pub fn store_list(
+    lists: &mut Slab<ArrayVec<usize, CHILD_PLACES>>,
+    list: ArrayVec<usize, CHILD_PLACES>,
+) -> usize
+    requires { HasRoomFor lists.old 1 }
+    ensures { StoresList lists.old lists.new result list.items }
+{
+    let _places = lists.capacity();
+    lists.insert_reserved(list)
+}
+
 // Puts a child, if there is one, into a full list, and divides that; tells where the second half
 // lies.
 pub fn divide_children(
@@ -190,9 +202,8 @@ pub fn divide_children(
     let Some(child) = child else {
         return NO_LIST;
     };
-    let _places = lists.capacity();
     let upper = divide_list(&mut lists[list], index, child);
-    lists.insert_reserved(upper)
+    store_list(lists, upper)
 }
 
 // Takes a list away, if there is one.

@@ -5,8 +5,8 @@ ghost use Rattle.slab.specs.Slab.{get, ContainsKey};
 ghost use Rattle.range_store.specs.Heap.{node_of, HasNode, items_of, children_of, full_cells, node_count, HasRoomFor, with_child, with_item, FitsChild, Writes, Stores, Removes, Divides, left_items, right_items, HasPair, RotatesLeft, RotatesRight, Merges, Absorbs};
 
 use crate::btree::cells::{
-    append_cells, append_list, divide_cells, divide_children, drop_list, filled, put_child, take_child,
-    take_filled,
+    append_cells, append_list, divide_cells, divide_children, drop_list, filled, put_child,
+    store_list, take_child, take_filled,
 };
 use arrayvec::ArrayVec;
 use slab::Slab;
@@ -103,6 +103,8 @@ impl<T: Drop> Nodes<T> {
         ensures rest_kept { self.new ≡ record self.old { capacity = self.new.capacity } }
     {
         self.nodes.reserve(additional)?;
+        // Tells the proof that a `usize` counts the nodes and `additional` more.
+        let _capacity = self.nodes.capacity();
         let wanted = self.nodes.len() + additional;
         self.lists.reserve(wanted - self.lists.len())
     }
@@ -186,13 +188,7 @@ impl<T: Drop> Nodes<T> {
     }
 
     /// Puts an item into a full node, and a child with it, as `put` does, and cuts the node in two.
-    pub fn split(
-        &mut self,
-        number: usize,
-        index: usize,
-        item: T,
-        child: Option<usize>,
-    ) -> Split<T>
+    pub fn split(&mut self, number: usize, index: usize, item: T, child: Option<usize>) -> Split<T>
         requires present { HasNode self.old number }
         requires within { index ≤ length (items_of (node_of self.old number)) }
         requires full { length (items_of (node_of self.old number)) ≡ CAPACITY }
@@ -246,7 +242,7 @@ impl<T: Drop> Nodes<T> {
         let mut children = ArrayVec::new();
         children.push(left);
         children.push(right);
-        let list = self.lists.insert_reserved(children);
+        let list = store_list(&mut self.lists, children);
         self.nodes.insert_reserved(Node { cells, list })
     }
 
@@ -266,6 +262,7 @@ impl<T: Drop> Nodes<T> {
         requires room { length (left_items self.old number index) < CAPACITY }
         ensures { RotatesLeft self.old self.new number index }
     {
+        let _many = self.item_count(number);
         let left = self.child_at(number, index);
         let right = self.child_at(number, index + 1);
         let (up, child) = self.take_beside(right, 0, 0);
@@ -281,6 +278,7 @@ impl<T: Drop> Nodes<T> {
         requires room { length (right_items self.old number index) < CAPACITY }
         ensures { RotatesRight self.old self.new number index }
     {
+        let _many = self.item_count(number);
         let left = self.child_at(number, index);
         let right = self.child_at(number, index + 1);
         let end = self.item_count(left);
@@ -296,6 +294,7 @@ impl<T: Drop> Nodes<T> {
             + length (right_items self.old number index) ≤ CAPACITY }
         ensures { Merges self.old self.new number index }
     {
+        let _many = self.item_count(number);
         let left = self.child_at(number, index);
         let right = self.child_at(number, index + 1);
         let (down, _) = self.take_beside(number, index, index + 1);

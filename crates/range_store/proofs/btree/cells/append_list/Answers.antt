@@ -1,4 +1,4 @@
-use Rattle.std.proofs.Common.{◌≡◌, ◌++◌, Ok, ap, ◌∙◌}
+use Rattle.std.proofs.Common.{◌++◌, ap, ◌∙◌}
 use Rattle.range_store.proofs.Lists.{list_appended}
 use Rattle.range_store.proofs.btree.cells.append_list.Goals as goal
 

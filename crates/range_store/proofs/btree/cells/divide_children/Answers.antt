@@ -1,7 +1,5 @@
-use Rattle.std.proofs.Common.{◌≡◌, ◌≢◌, take, drop, sym, ap, ◌∙◌, arith}
+use Rattle.std.proofs.Common.{take, drop, sym, ap, ◌∙◌}
 use Rattle.std.specs.List.{insert}
-use Rattle.range_store.specs.declared.btree.nodes.TheConstants.{NO_LIST}
-use Rattle.range_store.specs.Heap.{with_child}
 use Rattle.range_store.specs.Cells.{numbers_of, list_in}
 use Rattle.range_store.proofs.Lists.{list_divided}
 use Rattle.range_store.proofs.btree.cells.divide_children.Goals as goal
@@ -11,8 +9,7 @@ returns c =
     let lists = c.args.lists.now in
     let key = c.args.list in
     let same = sym (ap numbers_of c.index_mut.ensures.value) in
-    let some : c.insert_reserved.result ≢ NO_LIST = λ none. omega arith in
-    rw c.in-Some.is (list_divided lists c.insert_reserved.new.self key c.insert_reserved.result 7 c.index_mut.result.now c.divide_list-upper.new.list c.divide_list-upper.result (insert (list_in lists key) c.args.index c.in-Some.child) c.index_mut.ensures.value
+    rw c.in-Some.is (list_divided lists c.store_list.new.lists key c.store_list.result 7 c.index_mut.result.now c.divide_list-upper.new.list c.divide_list-upper.result.items (insert (list_in lists key) c.args.index c.in-Some.child) c.index_mut.ensures.value
     (c.divide_list-upper.ensures.left ∙ ap (λ zs. take 7 (insert zs c.args.index c.in-Some.child)) same)
     (c.divide_list-upper.ensures.right ∙ ap (λ zs. drop 7 (insert zs c.args.index c.in-Some.child)) same)
-    some c.insert_reserved.ensures.was_vacant c.insert_reserved.ensures.updates c.insert_reserved.ensures.len c.insert_reserved.ensures.capacity)
+    c.store_list.ensures)

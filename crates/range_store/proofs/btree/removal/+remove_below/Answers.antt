@@ -4,7 +4,7 @@ use Rattle.range_store.specs.Heap.{node_of, items_of, children_of}
 use Rattle.range_store.specs.declared.btree.nodes.TheConstants.{CAPACITY, MIN_LEN}
 use Rattle.range_store.specs.Nodes.{before, items_below}
 use Rattle.range_store.specs.Edges.{turn, inside, place}
-use Rattle.range_store.proofs.Edges.{leaf_edge, leaf_index, leaf_place}
+use Rattle.range_store.proofs.Edges.{leaf_is, leaf_edge, leaf_index, leaf_place}
 use Rattle.range_store.proofs.Growing.{kid_owned}
 use Rattle.range_store.proofs.Rank.{kid_shaped}
 use Rattle.range_store.proofs.Seats.{seat_place_inner}
@@ -15,6 +15,11 @@ use Rattle.range_store.proofs.btree.removal.+remove_below.Goals as goal
 pub take_item-item-requires : goal.take_item-item-requires
 take_item-item-requires g t c =
     (search rules, (c.requires.shaped.node.present, omega (arith, leaf_index c.args.nodes.now c.args.number c.args.edge (rw c.if-below-eq0.true at c.requires.edge), c.requires.in_leaf)))
+
+pub returns-then-below-eq0-clause-item : goal.returns-then-below-eq0-clause-item
+returns-then-below-eq0-clause-item g t c =
+    let leaf = leaf_is c.args.nodes.now c.args.number c.args.edge (rw c.if-below-eq0.true at c.requires.edge) in
+    rw leaf c.take_item-item.ensures.value
 
 pub returns-then-below-eq0-clause-shrinks : goal.returns-then-below-eq0-clause-shrinks
 returns-then-below-eq0-clause-shrinks g t c =

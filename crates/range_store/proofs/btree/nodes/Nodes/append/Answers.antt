@@ -1,50 +1,62 @@
-use Rattle.std.proofs.Common.{rules, ◌≡◌, ◌≢◌, ◌⊎◌, ℕ, ◌+◌, ◌-◌, ◌<◌, ◌≤◌, List, [], ◌∷◌, ◌++◌, length, take, drop, slice_get, slice_index, slice_index_or, slice_set, insert, remove, IsOk, IsSome, OnOk, IfSome, All, None, Some, ◌*◌, ◌/◌, ◌%◌, Bool, true, false, nat_eq, nat_lt, bit_and, bit_or, Fits, w8, w32, w64, Bor, MutBor}
-use Rattle.std.specs.Borrow.{Lends, sem}
-use Rattle.slab.specs.Slab.{get, ContainsKey}
-use Rattle.range_store.specs.Heap.{node_of, HasNode, items_of, children_of, full_cells, node_count, HasRoomFor, with_child, with_item, FitsChild, Writes, Stores, Removes, Divides, left_items, right_items, HasPair, RotatesLeft, RotatesRight, Merges, Absorbs}
-use Rattle.range_store.specs.contracts.btree.nodes.Nodes.{the_row}
+use Rattle.std.proofs.Common.{◌+◌, ◌<◌, ◌≤◌, length, IsSome, sym, ap, ◌∙◌, arith, rules}
+use Rattle.range_store.specs.Heap.{node_of, children_of}
+use Rattle.range_store.specs.Cells.{heap_of}
+use Rattle.range_store.proofs.Absorbing.{children_alike, lists_apart, absorbed, absorbed_whole}
+use Rattle.range_store.proofs.Wholes.{node_there, node_children, node_length, list_key}
 use Rattle.range_store.proofs.btree.nodes.Nodes.append.Goals as goal
 
--- src/btree/nodes.rt:359:36
 pub remove-cells-requires : goal.remove-cells-requires
-remove-cells-requires g c = ?
+remove-cells-requires g c = node_there c.self.inside.nodes c.self.inside.lists c.args.right (rw (← c.self.view_is) at c.requires.right)
 
--- src/btree/nodes.rt:360:25
 pub index_mut-node-requires : goal.index_mut-node-requires
-index_mut-node-requires g c = ?
+index_mut-node-requires g c =
+    let there : IsSome _ = node_there c.self.inside.nodes c.self.inside.lists c.args.left (rw (← c.self.view_is) at c.requires.left) in
+    rw (c.remove-cells.ensures.updates.others c.args.left c.requires.apart) there
 
--- src/btree/nodes.rt:361:9
 pub push-requires : goal.push-requires
-push-requires g c = ?
+push-requires g c =
+    let found = sym (c.remove-cells.ensures.updates.others c.args.left c.requires.apart) ∙ c.index_mut-node.ensures.value in
+    let few = rw (← c.self.view_is) at c.requires.room in
+    let room : length c.index_mut-node.result.now.cells.items < 11 = omega (arith, few, node_length c.self.inside.nodes c.self.inside.lists c.self.invariant c.args.left c.index_mut-node.result.now found) in
+    (search rules, room)
 
--- src/btree/nodes.rt:362:9
 pub append_cells-requires : goal.append_cells-requires
-append_cells-requires g c = ?
+append_cells-requires g c =
+    let found = sym (c.remove-cells.ensures.updates.others c.args.left c.requires.apart) ∙ c.index_mut-node.ensures.value in
+    let few = rw (← c.self.view_is) at c.requires.room in
+    let room : length c.push.new.self.items + length c.remove-cells.result.cells.items ≤ 11 = omega (arith, few, node_length c.self.inside.nodes c.self.inside.lists c.self.invariant c.args.left c.index_mut-node.result.now found, node_length c.self.inside.nodes c.self.inside.lists c.self.invariant c.args.right c.remove-cells.result c.remove-cells.ensures.value, c.push.ensures.len) in
+    (search rules, room)
 
--- src/btree/nodes.rt:363:9
 pub append_list-requires-clause-left : goal.append_list-requires-clause-left
-append_list-requires-clause-left g c = ?
+append_list-requires-clause-left g c =
+    let found = sym (c.remove-cells.ensures.updates.others c.args.left c.requires.apart) ∙ c.index_mut-node.ensures.value in
+    list_key c.self.inside.nodes c.self.inside.lists c.self.invariant c.args.left c.index_mut-node.result.now found
 
--- src/btree/nodes.rt:363:9
 pub append_list-requires-clause-right : goal.append_list-requires-clause-right
-append_list-requires-clause-right g c = ?
+append_list-requires-clause-right g c = list_key c.self.inside.nodes c.self.inside.lists c.self.invariant c.args.right c.remove-cells.result c.remove-cells.ensures.value
 
--- src/btree/nodes.rt:363:9
 pub append_list-requires-clause-apart : goal.append_list-requires-clause-apart
-append_list-requires-clause-apart g c = ?
+append_list-requires-clause-apart g c =
+    let found = sym (c.remove-cells.ensures.updates.others c.args.left c.requires.apart) ∙ c.index_mut-node.ensures.value in
+    lists_apart c.self.inside.nodes c.self.inside.lists c.self.invariant c.args.left c.args.right c.index_mut-node.result.now c.remove-cells.result found c.remove-cells.ensures.value c.requires.apart
 
--- src/btree/nodes.rt:363:9
 pub append_list-requires-clause-children : goal.append_list-requires-clause-children
-append_list-requires-clause-children g c = ?
+append_list-requires-clause-children g c =
+    let found = sym (c.remove-cells.ensures.updates.others c.args.left c.requires.apart) ∙ c.index_mut-node.ensures.value in
+    let heap = heap_of c.self.inside.nodes c.self.inside.lists in
+    children_alike (children_of (node_of heap c.args.right)) (children_of (node_of heap c.args.left)) _ _ (node_children c.self.inside.nodes c.self.inside.lists c.self.invariant c.args.right c.remove-cells.result c.remove-cells.ensures.value) (node_children c.self.inside.nodes c.self.inside.lists c.self.invariant c.args.left c.index_mut-node.result.now found) (rw (← c.self.view_is) at c.requires.children)
 
--- src/btree/nodes.rt:363:9
 pub append_list-requires-clause-places : goal.append_list-requires-clause-places
-append_list-requires-clause-places g c = ?
+append_list-requires-clause-places g c =
+    let found = sym (c.remove-cells.ensures.updates.others c.args.left c.requires.apart) ∙ c.index_mut-node.ensures.value in
+    omega (arith, rw (← c.self.view_is) at c.requires.places, ap length (node_children c.self.inside.nodes c.self.inside.lists c.self.invariant c.args.left c.index_mut-node.result.now found), ap length (node_children c.self.inside.nodes c.self.inside.lists c.self.invariant c.args.right c.remove-cells.result c.remove-cells.ensures.value))
 
--- src/btree/nodes.rt:347:5
 pub invariant_of-self : goal.invariant_of-self
-invariant_of-self g c = ?
+invariant_of-self g c =
+    let found = sym (c.remove-cells.ensures.updates.others c.args.left c.requires.apart) ∙ c.index_mut-node.ensures.value in
+    absorbed_whole c.self.inside.nodes c.self.inside.lists c.self.invariant c.args.left c.args.right c.index_mut-node.result.now c.remove-cells.result found c.remove-cells.ensures.value c.requires.apart c.args.middle c.remove-cells.new.self c.append_list.new.lists c.push.new.self.items c.append_cells.new.cells c.remove-cells.ensures.updates c.remove-cells.ensures.len c.remove-cells.ensures.capacity c.append_list.ensures c.push.ensures.items c.append_cells.ensures
 
--- src/btree/nodes.rt:347:5
 pub returns : goal.returns
-returns g c = ?
+returns g c =
+    let found = sym (c.remove-cells.ensures.updates.others c.args.left c.requires.apart) ∙ c.index_mut-node.ensures.value in
+    rw (← c.self.view_is) (absorbed c.self.inside.nodes c.self.inside.lists c.self.invariant c.args.left c.args.right c.index_mut-node.result.now c.remove-cells.result found c.remove-cells.ensures.value c.requires.apart c.args.middle c.remove-cells.new.self c.append_list.new.lists c.push.new.self.items c.append_cells.new.cells c.remove-cells.ensures.updates c.remove-cells.ensures.len c.remove-cells.ensures.capacity c.append_list.ensures c.push.ensures.items c.append_cells.ensures)

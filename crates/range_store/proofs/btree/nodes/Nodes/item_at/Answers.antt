@@ -1,5 +1,4 @@
-use Rattle.std.proofs.Common.{◌<◌, length, get_or, sym, ap, ◌∙◌}
-use Rattle.range_store.specs.Heap.{node_of, items_of}
+use Rattle.std.proofs.Common.{get_or, sym, ap, ◌∙◌}
 use Rattle.range_store.proofs.Wholes.{node_cell, no_empty_cell}
 use Rattle.range_store.proofs.btree.nodes.Nodes.item_at.Goals as goal
 

@@ -1,4 +1,4 @@
-use Rattle.std.proofs.Common.{◌<◌, length, refl, sym, ap, ◌∙◌, arith}
+use Rattle.std.proofs.Common.{refl, sym, ◌∙◌, arith}
 use Rattle.std.proofs.Math.ListN.{set}
 use Rattle.std.proofs.lemmas.Bool.{false≢true}
 use Rattle.range_store.specs.Heap.{node_of, items_of}
@@ -32,8 +32,7 @@ returns g c =
     let lists = c.self.inside.lists in
     let node = c.index_mut.result.now in
     let found = c.index_mut.ensures.value in
-    let within = rw (← c.self.view_is) at c.requires.within in
-    (
+    let within = rw (← c.self.view_is) at c.requires.within in (
       (refl, λ w. rw (← c.self.view_is) (cell_written nodes lists c.self.invariant c.args.number node found c.args.index w)),
       record {
         writes_back = tt;

@@ -1,22 +1,25 @@
-use Rattle.std.proofs.Common.{rules, ◌≡◌, ◌≢◌, ◌⊎◌, ℕ, ◌+◌, ◌-◌, ◌<◌, ◌≤◌, List, [], ◌∷◌, ◌++◌, length, take, drop, slice_get, slice_index, slice_index_or, slice_set, insert, remove, IsOk, IsSome, OnOk, IfSome, All, None, Some, ◌*◌, ◌/◌, ◌%◌, Bool, true, false, nat_eq, nat_lt, bit_and, bit_or, Fits, w8, w32, w64, Bor, MutBor}
-use Rattle.std.specs.Borrow.{Lends, sem}
-use Rattle.slab.specs.Slab.{get, ContainsKey}
-use Rattle.range_store.specs.Heap.{node_of, HasNode, items_of, children_of, full_cells, node_count, HasRoomFor, with_child, with_item, FitsChild, Writes, Stores, Removes, Divides, left_items, right_items, HasPair, RotatesLeft, RotatesRight, Merges, Absorbs}
-use Rattle.range_store.specs.contracts.btree.nodes.Nodes.{the_row}
+use Rattle.std.proofs.Common.{arith, rules}
+use Rattle.range_store.proofs.Siblings.{merged, merged_children, merged_places}
 use Rattle.range_store.proofs.btree.nodes.Nodes.merge.Goals as goal
 
--- src/btree/nodes.rt:300:43
 pub overflow_add-index : goal.overflow_add-index
-overflow_add-index g c = ?
+overflow_add-index g c = omega (arith, c.requires.pair.item, c.item_count-many.ensures)
 
--- src/btree/nodes.rt:301:57
 pub overflow_add-index-2 : goal.overflow_add-index-2
-overflow_add-index-2 g c = ?
+overflow_add-index-2 g c = omega (arith, c.requires.pair.item, c.item_count-many.ensures)
 
--- src/btree/nodes.rt:302:9
 pub append-requires : goal.append-requires
-append-requires g c = ?
+append-requires g c =
+    let s = c.args.self.now in
+    let t = c.take_beside-down.new.self in
+    let n = c.args.number in
+    let i = c.args.index in
+    let pair = c.requires.pair in
+    let left = c.take_beside-down.ensures.rest.others _ pair.left_apart in
+    let right = c.take_beside-down.ensures.rest.others _ pair.right_apart in
+    rw (c.child_at-left.ensures, c.child_at-right.ensures, left, right) (search rules, (pair.left, (pair.right, (pair.apart, (c.requires.room, (merged_children s n i pair, merged_places s n i pair c.requires.room))))))
 
--- src/btree/nodes.rt:293:5
 pub returns : goal.returns
-returns g c = ?
+returns g c =
+    let two = rw (c.child_at-left.ensures, c.child_at-right.ensures) at c.append.ensures in
+    merged c.args.self.now c.take_beside-down.new.self c.append.new.self c.args.number c.args.index c.requires.pair c.take_beside-down.result.0 c.take_beside-down.ensures.item c.take_beside-down.ensures.rest two

@@ -1,22 +1,52 @@
-use Rattle.std.proofs.Common.{rules, ◌≡◌, ◌≢◌, ◌⊎◌, ℕ, ◌+◌, ◌-◌, ◌<◌, ◌≤◌, List, [], ◌∷◌, ◌++◌, length, take, drop, slice_get, slice_index, slice_index_or, slice_set, insert, remove, IsOk, IsSome, OnOk, IfSome, All, None, Some, ◌*◌, ◌/◌, ◌%◌, Bool, true, false, nat_eq, nat_lt, bit_and, bit_or, Fits, w8, w32, w64, Bor, MutBor}
-use Rattle.std.specs.Borrow.{Lends, sem}
-use Rattle.slab.specs.Slab.{get, ContainsKey}
-use Rattle.range_store.specs.Heap.{node_of, HasNode, items_of, children_of, full_cells, node_count, HasRoomFor, with_child, with_item, FitsChild, Writes, Stores, Removes, Divides, left_items, right_items, HasPair, RotatesLeft, RotatesRight, Merges, Absorbs}
-use Rattle.range_store.specs.contracts.btree.nodes.Nodes.{the_row}
+use Rattle.std.proofs.Common.{◌≡◌, ℕ, ◌+◌, ◌<◌, ◌≤◌, List, length, Option, Some, refl, sym, ap, subst, ◌∙◌, arith, rules}
+use Rattle.std.specs.List.{insert}
+use Rattle.range_store.specs.Heap.{node_of, items_of, children_of, with_child, FitsChild}
+use Rattle.range_store.specs.Cells.{heap_of, WritesList}
+use Rattle.range_store.proofs.FullCells.{full_insert}
+use Rattle.range_store.proofs.Steps.{written, written_whole}
+use Rattle.range_store.proofs.Wholes.{node_cells, node_children, node_length}
 use Rattle.range_store.proofs.btree.nodes.Nodes.put_beside.Goals as goal
 
--- src/btree/nodes.rt:325:9
+child_places : {X : Type 0} (child : Option ℕ) (xs : List X) (ks list : List ℕ) (place : ℕ) → ks ≡ list → FitsChild child xs ks → place ≤ length xs + 1 → length xs < 11 → (k : ℕ) → child ≡ Some k → (0 < length list) × (place ≤ length list) × (length list < 12)
+child_places child xs ks list place same fits near room k is =
+    let many : length ks ≡ length xs + 1 = rw is at fits in
+    let all = ap length same in
+    (omega arith, omega arith, omega arith)
+
 pub insert-requires : goal.insert-requires
-insert-requires g c = ?
+insert-requires g c =
+    let within = rw (← c.self.view_is) at c.requires.within in
+    let free = rw (← c.self.view_is) at c.requires.room in
+    let many = node_length c.self.inside.nodes c.self.inside.lists c.self.invariant c.args.number c.index_mut-node.result.now c.index_mut-node.ensures.value in
+    let bounds : c.args.index ≤ length c.index_mut-node.result.now.cells.items = omega (arith, within, many) in
+    let room : length c.index_mut-node.result.now.cells.items < 11 = omega (arith, free, many) in
+    search rules
 
--- src/btree/nodes.rt:326:9
 pub put_child-requires : goal.put_child-requires
-put_child-requires g c = ?
+put_child-requires g c =
+    let heap = heap_of c.self.inside.nodes c.self.inside.lists in
+    child_places c.args.child (items_of (node_of heap c.args.number)) (children_of (node_of heap c.args.number)) _ c.args.place (node_children c.self.inside.nodes c.self.inside.lists c.self.invariant c.args.number c.index_mut-node.result.now c.index_mut-node.ensures.value) (rw (← c.self.view_is) at c.requires.child) (rw (← c.self.view_is) at c.requires.near) (rw (← c.self.view_is) at c.requires.room)
 
--- src/btree/nodes.rt:306:5
 pub invariant_of-self : goal.invariant_of-self
-invariant_of-self g c = ?
+invariant_of-self g c =
+    let nodes = c.self.inside.nodes in
+    let lists = c.self.inside.lists in
+    let n = c.args.number in
+    let node = c.index_mut-node.result.now in
+    let found = c.index_mut-node.ensures.value in
+    let items = items_of (node_of (heap_of nodes lists) n) in
+    let more = c.insert.ensures.items ∙ ap (λ cs. insert cs c.args.index (Some c.args.item)) (node_cells nodes lists c.self.invariant n node found) ∙ full_insert items c.args.index c.args.item in
+    let writes = subst (λ ks. WritesList lists c.put_child.new.lists node.list (with_child ks c.args.place c.args.child)) (sym (node_children nodes lists c.self.invariant n node found)) c.put_child.ensures in
+    written_whole nodes lists n c.self.invariant node found c.put_child.new.lists _ (insert items c.args.index c.args.item) (with_child (children_of (node_of (heap_of nodes lists) n)) c.args.place c.args.child) refl more writes
 
--- src/btree/nodes.rt:306:5
 pub returns : goal.returns
-returns g c = ?
+returns g c =
+    let nodes = c.self.inside.nodes in
+    let lists = c.self.inside.lists in
+    let n = c.args.number in
+    let node = c.index_mut-node.result.now in
+    let found = c.index_mut-node.ensures.value in
+    let items = items_of (node_of (heap_of nodes lists) n) in
+    let more = c.insert.ensures.items ∙ ap (λ cs. insert cs c.args.index (Some c.args.item)) (node_cells nodes lists c.self.invariant n node found) ∙ full_insert items c.args.index c.args.item in
+    let writes = subst (λ ks. WritesList lists c.put_child.new.lists node.list (with_child ks c.args.place c.args.child)) (sym (node_children nodes lists c.self.invariant n node found)) c.put_child.ensures in
+    rw (← c.self.view_is) (written nodes lists n c.self.invariant node found c.put_child.new.lists _ (insert items c.args.index c.args.item) (with_child (children_of (node_of (heap_of nodes lists) n)) c.args.place c.args.child) refl more writes)

@@ -1,18 +1,17 @@
-use Rattle.std.proofs.Common.{rules, ◌≡◌, ◌≢◌, ◌⊎◌, ℕ, ◌+◌, ◌-◌, ◌<◌, ◌≤◌, List, [], ◌∷◌, ◌++◌, length, take, drop, slice_get, slice_index, slice_index_or, slice_set, insert, remove, IsOk, IsSome, OnOk, IfSome, All, None, Some, ◌*◌, ◌/◌, ◌%◌, Bool, true, false, nat_eq, nat_lt, bit_and, bit_or, Fits, w8, w32, w64, Bor, MutBor}
-use Rattle.std.specs.Borrow.{Lends, sem}
-use Rattle.slab.specs.Slab.{get, ContainsKey}
-use Rattle.range_store.specs.Heap.{node_of, HasNode, items_of, children_of, full_cells, node_count, HasRoomFor, with_child, with_item, FitsChild, Writes, Stores, Removes, Divides, left_items, right_items, HasPair, RotatesLeft, RotatesRight, Merges, Absorbs}
-use Rattle.range_store.specs.contracts.btree.nodes.Nodes.{the_row}
+use Rattle.range_store.proofs.Steps.{removed, removed_whole}
+use Rattle.range_store.proofs.Wholes.{list_key}
 use Rattle.range_store.proofs.btree.nodes.Nodes.remove_node.Goals as goal
 
--- src/btree/nodes.rt:259:9
 pub drop_list-requires : goal.drop_list-requires
-drop_list-requires g c = ?
+drop_list-requires g c =
+    list_key c.self.inside.nodes c.self.inside.lists c.self.invariant c.args.number c.remove-node.result c.remove-node.ensures.value
 
--- src/btree/nodes.rt:254:5
 pub invariant_of-self : goal.invariant_of-self
-invariant_of-self g c = ?
+invariant_of-self g c =
+    let removal = c.remove-node.ensures in
+    removed_whole c.self.inside.nodes c.self.inside.lists c.args.number c.self.invariant c.remove-node.result removal.value c.remove-node.new.self c.drop_list.new.lists removal.updates removal.len removal.capacity c.drop_list.ensures
 
--- src/btree/nodes.rt:254:5
 pub returns : goal.returns
-returns g c = ?
+returns g c =
+    let removal = c.remove-node.ensures in
+    rw (← c.self.view_is) (removed c.self.inside.nodes c.self.inside.lists c.args.number c.self.invariant c.remove-node.result removal.value c.remove-node.new.self c.drop_list.new.lists removal.updates removal.len removal.capacity c.drop_list.ensures)

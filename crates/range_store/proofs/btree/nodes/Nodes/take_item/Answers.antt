@@ -1,18 +1,31 @@
-use Rattle.std.proofs.Common.{rules, ◌≡◌, ◌≢◌, ◌⊎◌, ℕ, ◌+◌, ◌-◌, ◌<◌, ◌≤◌, List, [], ◌∷◌, ◌++◌, length, take, drop, slice_get, slice_index, slice_index_or, slice_set, insert, remove, IsOk, IsSome, OnOk, IfSome, All, None, Some, ◌*◌, ◌/◌, ◌%◌, Bool, true, false, nat_eq, nat_lt, bit_and, bit_or, Fits, w8, w32, w64, Bor, MutBor}
-use Rattle.std.specs.Borrow.{Lends, sem}
-use Rattle.slab.specs.Slab.{get, ContainsKey}
-use Rattle.range_store.specs.Heap.{node_of, HasNode, items_of, children_of, full_cells, node_count, HasRoomFor, with_child, with_item, FitsChild, Writes, Stores, Removes, Divides, left_items, right_items, HasPair, RotatesLeft, RotatesRight, Merges, Absorbs}
-use Rattle.range_store.specs.contracts.btree.nodes.Nodes.{the_row}
+use Rattle.std.proofs.Common.{get_or, refl, ap, ◌∙◌}
+use Rattle.std.specs.List.{remove}
+use Rattle.range_store.specs.Heap.{full_cells, node_of, items_of, children_of}
+use Rattle.range_store.specs.Cells.{heap_of}
+use Rattle.range_store.proofs.Steps.{written, written_whole}
+use Rattle.range_store.proofs.Wholes.{node_items, children_kept}
 use Rattle.range_store.proofs.btree.nodes.Nodes.take_item.Goals as goal
 
--- src/btree/nodes.rt:215:5
 pub invariant_of-self : goal.invariant_of-self
-invariant_of-self g c = ?
+invariant_of-self g c =
+    let nodes = c.self.inside.nodes in
+    let lists = c.self.inside.lists in
+    let n = c.args.number in
+    let node = c.index_mut.result.now in
+    let found = c.index_mut.ensures.value in
+    let fewer = c.take_filled.ensures.rest ∙ ap (λ xs. full_cells (remove xs c.args.index)) (node_items nodes lists c.self.invariant n node found) in
+    written_whole nodes lists n c.self.invariant node found lists _ (remove (items_of (node_of (heap_of nodes lists) n)) c.args.index) (children_of (node_of (heap_of nodes lists) n)) refl fewer (children_kept nodes lists c.self.invariant n node found)
 
--- src/btree/nodes.rt:215:5
 pub returns-clause-value : goal.returns-clause-value
-returns-clause-value g c = ?
+returns-clause-value g c =
+    rw (← c.self.view_is) (c.take_filled.ensures.value ∙ ap (λ xs. get_or xs c.args.index c.take_filled.result) (node_items c.self.inside.nodes c.self.inside.lists c.self.invariant c.args.number c.index_mut.result.now c.index_mut.ensures.value))
 
--- src/btree/nodes.rt:215:5
 pub returns-clause-rest : goal.returns-clause-rest
-returns-clause-rest g c = ?
+returns-clause-rest g c =
+    let nodes = c.self.inside.nodes in
+    let lists = c.self.inside.lists in
+    let n = c.args.number in
+    let node = c.index_mut.result.now in
+    let found = c.index_mut.ensures.value in
+    let fewer = c.take_filled.ensures.rest ∙ ap (λ xs. full_cells (remove xs c.args.index)) (node_items nodes lists c.self.invariant n node found) in
+    rw (← c.self.view_is) (written nodes lists n c.self.invariant node found lists _ (remove (items_of (node_of (heap_of nodes lists) n)) c.args.index) (children_of (node_of (heap_of nodes lists) n)) refl fewer (children_kept nodes lists c.self.invariant n node found))
