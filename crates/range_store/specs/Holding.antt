@@ -31,9 +31,9 @@ module _ {T : Type 0} where
   box_room s = min (MIN_LEN * s.nodes.capacity) 18446744073709551615 - length (box_items s)
 
   -- an empty tree has no edge
-  pub record IsBoxEdge (s : BoxStorage T) (edge : Edge) : Type 0 where
+  pub record IsBoxEdge (s : BoxStorage T) (point : Edge) : Type 0 where
     pub some : 0 < s.levels
-    pub edge : IsEdge s.nodes (s.levels - 1) s.root edge
+    pub edge : IsEdge s.nodes (s.levels - 1) s.root point
 
   -- how many items stand before an edge, and where the last of them does
   abbrev pub box_place : BoxStorage T → Edge → ℕ

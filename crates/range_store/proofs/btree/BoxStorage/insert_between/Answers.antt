@@ -1,4 +1,4 @@
-use Rattle.std.proofs.Common.{◌≡◌, suc, ◌+◌, ◌-◌, [], ◌∷◌, length, refl, sym, ap, ◌∙◌, arith, None, Some}
+use Rattle.std.proofs.Common.{◌≡◌, suc, ◌+◌, ◌-◌, [], ◌∷◌, length, refl, sym, ap, ◌∙◌, rules, arith, None, Some}
 use Rattle.std.specs.List.{insert}
 use Rattle.std.proofs.lemmas.List.Edits.{length-insert}
 use Rattle.range_store.specs.Edges.{IsEdge, place, seat_place}
@@ -21,13 +21,12 @@ overflow_add-self g c = omega (arith, c.args.self.now.counted, c.requires.room)
 
 -- of a leaf with capacity to spare
 pub item_count-requires : goal.item_count-requires
-item_count-requires g c = (tree_leaf c.args.self.now c.args.edge c.requires.edge).present
+item_count-requires g c = (search rules, (tree_leaf c.args.self.now c.args.edge c.requires.edge).present)
 
-pub put-requires-clause-within : goal.put-requires-clause-within
-put-requires-clause-within g c = (tree_leaf c.args.self.now c.args.edge c.requires.edge).within
-
-pub put-requires-clause-child : goal.put-requires-clause-child
-put-requires-clause-child g c = (tree_leaf c.args.self.now c.args.edge c.requires.edge).childless
+pub put-requires : goal.put-requires
+put-requires g c =
+    let leaf = tree_leaf c.args.self.now c.args.edge c.requires.edge in
+    (search rules, (leaf.present, (leaf.within, (omega (arith, c.if-item_count-lt-CAPACITY.true, c.item_count.ensures), leaf.childless))))
 
 put_here : (g : Over) (c : After-put g) → IsLeafChange c.args.self.now c.put.new.self c.args.edge c.requires.edge (insert (box_items c.args.self.now) (box_place c.args.self.now c.args.edge) c.args.item) (record { leaf = c.args.edge.leaf; way = c.args.edge.way; index = c.args.edge.index + 1 }) (c.args.edge.index + 1)
 put_here g c =
@@ -37,10 +36,10 @@ pub overflow_add-result : goal.overflow_add-result
 overflow_add-result g c =
     omega (arith, (tree_leaf c.args.self.now c.args.edge c.requires.edge).within, c.if-item_count-lt-CAPACITY.true, c.item_count.ensures)
 
-pub invariant_of-self-then-item_count-lt-CAPACITY : goal.invariant_of-self-then-item_count-lt-CAPACITY
-invariant_of-self-then-item_count-lt-CAPACITY g c =
+pub invariant_of-self : goal.invariant_of-self
+invariant_of-self g c =
     let s = c.args.self.now in
-    let put = put_here g (goal.at.invariant_of-self-then-item_count-lt-CAPACITY g c).After-put in
+    let put = put_here g (goal.at.invariant_of-self g c).After-put in
     let more = ap length put.items_are ∙ length-insert (box_items s) (box_place s c.args.edge) c.args.item (edge_within s c.args.edge c.requires.edge) in
     record {
       whole = record { tree = put.tree; fits = omega (arith, more, c.requires.room, put.capacity); counted = omega (arith, more, c.requires.room) };
@@ -77,20 +76,12 @@ longer g c = ap length (listed g c) ∙ length-insert (box_items c.args.self.now
 pub overflow_sub-self : goal.overflow_sub-self
 overflow_sub-self g c = omega (arith, c.requires.edge.some)
 
-pub insert_below-inserted-requires-clause-shaped : goal.insert_below-inserted-requires-clause-shaped
-insert_below-inserted-requires-clause-shaped g c = root_shaped c.args.self.now.nodes c.args.self.now.levels c.args.self.now.root c.requires.edge.some c.args.self.now.whole.tree
-
-pub insert_below-inserted-requires-clause-owned : goal.insert_below-inserted-requires-clause-owned
-insert_below-inserted-requires-clause-owned g c =
-    let level : suc (c.args.self.now.levels - 1) ≡ c.args.self.now.levels = omega (arith, c.requires.edge.some) in
-    rw level (tree_owned c.args.self.now.nodes c.args.self.now.levels c.args.self.now.root c.args.self.now.whole.tree)
-
-pub insert_below-inserted-requires-clause-deep : goal.insert_below-inserted-requires-clause-deep
-insert_below-inserted-requires-clause-deep g c = tree_is_not_too_deep c.args.self.now.nodes c.args.self.now.levels c.args.self.now.root c.args.self.now.whole
-
-pub insert_below-inserted-requires-clause-room : goal.insert_below-inserted-requires-clause-room
-insert_below-inserted-requires-clause-room g c =
-    one_more c.args.self.now.nodes c.args.self.now.levels c.args.self.now.root c.requires.edge.some c.args.self.now.whole.tree (omega (arith, c.requires.room))
+pub insert_below-inserted-requires : goal.insert_below-inserted-requires
+insert_below-inserted-requires g c =
+    let s = c.args.self.now in
+    let some = c.requires.edge.some in
+    let level : suc (s.levels - 1) ≡ s.levels = omega (arith, some) in
+    (search rules, (root_shaped s.nodes s.levels s.root some s.whole.tree, (rw level (tree_owned s.nodes s.levels s.root s.whole.tree), (c.requires.edge.edge, (tree_is_not_too_deep s.nodes s.levels s.root s.whole, one_more s.nodes s.levels s.root some s.whole.tree (omega (arith, c.requires.room)))))))
 
 -- with no cut of the root
 kept : (g : Over) (c : In-None g) → IsPlanted c.insert_below-inserted.new.nodes c.args.self.now.levels c.args.self.now.root (insert (items_below c.args.self.now.nodes (suc (c.args.self.now.levels - 1)) c.args.self.now.root) (box_place c.args.self.now c.args.edge) c.args.item)
@@ -133,20 +124,20 @@ returns-in-None-clause-place g c =
 pub store_branch-self-requires : goal.store_branch-self-requires
 store_branch-self-requires g c =
     let a = goal.at.store_branch-self-requires g c in
-    taller_room c.args.self.now.nodes c.insert_below-inserted.new.nodes c.args.self.now.levels c.args.self.now.root c.in-Some-split.split _ c.requires.edge.some (omega (arith, longer g a.After-insert_below-inserted, c.requires.room)) c.args.self.now.whole.tree (rw c.in-Some-split.is at c.insert_below-inserted.ensures.replaces)
+    (search rules, taller_room c.args.self.now.nodes c.insert_below-inserted.new.nodes c.args.self.now.levels c.args.self.now.root c.in-Some.split _ c.requires.edge.some (omega (arith, longer g a.After-insert_below-inserted, c.requires.room)) c.args.self.now.whole.tree (rw c.in-Some.is at c.insert_below-inserted.ensures.replaces))
 
-pub overflow_add-self-2 : goal.overflow_add-self-2
-overflow_add-self-2 g c =
+pub overflow_add-self-in-Some : goal.overflow_add-self-in-Some
+overflow_add-self-in-Some g c =
     omega (arith, levels_le c.args.self.now.nodes c.args.self.now.levels c.args.self.now.root c.args.self.now.whole.tree, c.requires.room)
 
 taller : (g : Over) (c : After-store_branch-self g) → IsPlanted c.store_branch-self.new.self (c.args.self.now.levels + 1) c.store_branch-self.result (insert (items_below c.args.self.now.nodes (suc (c.args.self.now.levels - 1)) c.args.self.now.root) (box_place c.args.self.now c.args.edge) c.args.item)
 taller g c =
-    taller_root c.args.self.now.nodes c.insert_below-inserted.new.nodes c.store_branch-self.new.self c.args.self.now.levels c.args.self.now.root c.store_branch-self.result c.in-Some-split.split _ c.requires.edge.some c.args.self.now.whole.tree (rw c.in-Some-split.is at c.insert_below-inserted.ensures.replaces) c.store_branch-self.ensures
+    taller_root c.args.self.now.nodes c.insert_below-inserted.new.nodes c.store_branch-self.new.self c.args.self.now.levels c.args.self.now.root c.store_branch-self.result c.in-Some.split _ c.requires.edge.some c.args.self.now.whole.tree (rw c.in-Some.is at c.insert_below-inserted.ensures.replaces) c.store_branch-self.ensures
 
-pub invariant_of-self-in-Some-split : goal.invariant_of-self-in-Some-split
-invariant_of-self-in-Some-split g c =
+pub invariant_of-self-in-Some : goal.invariant_of-self-in-Some
+invariant_of-self-in-Some g c =
     let s = c.args.self.now in
-    let at = goal.at.invariant_of-self-in-Some-split g c in
+    let at = goal.at.invariant_of-self-in-Some g c in
     let more = longer g at.After-insert_below-inserted in
     let capacity = c.store_branch-self.ensures.capacity ∙ c.insert_below-inserted.ensures.replaces.moved.capacity in
     let tree = taller g at.After-store_branch-self in
@@ -158,29 +149,29 @@ invariant_of-self-in-Some-split g c =
 
 pub seen_above-requires-clause-index : goal.seen_above-requires-clause-index
 seen_above-requires-clause-index g c =
-    omega (arith, seat_side c.insert_below-inserted.new.nodes (c.args.self.now.levels - 1) _ _ c.insert_below-inserted.result.side c.insert_below-inserted.result.edge (rw c.in-Some-split.is at c.insert_below-inserted.ensures.edge))
+    omega (arith, seat_side c.insert_below-inserted.new.nodes (c.args.self.now.levels - 1) _ _ c.insert_below-inserted.result.side c.insert_below-inserted.result.edge (rw c.in-Some.is at c.insert_below-inserted.ensures.edge))
 
 pub seen_above-requires-clause-way : goal.seen_above-requires-clause-way
 seen_above-requires-clause-way g c =
-    let below = seat_inside c.insert_below-inserted.new.nodes (c.args.self.now.levels - 1) _ _ c.insert_below-inserted.result.side c.insert_below-inserted.result.edge (rw c.in-Some-split.is at c.insert_below-inserted.ensures.edge) in
+    let below = seat_inside c.insert_below-inserted.new.nodes (c.args.self.now.levels - 1) _ _ c.insert_below-inserted.result.side c.insert_below-inserted.result.edge (rw c.in-Some.is at c.insert_below-inserted.ensures.edge) in
     way_small c.insert_below-inserted.new.nodes (c.args.self.now.levels - 1) _ c.insert_below-inserted.result.edge (tree_is_not_too_deep c.args.self.now.nodes c.args.self.now.levels c.args.self.now.root c.args.self.now.whole) below
 
-pub returns-in-Some-split-clause-list : goal.returns-in-Some-split-clause-list
-returns-in-Some-split-clause-list g c =
-    let a = goal.at.returns-in-Some-split-clause-list g c in
+pub returns-in-Some-clause-list : goal.returns-in-Some-clause-list
+returns-in-Some-clause-list g c =
+    let a = goal.at.returns-in-Some-clause-list g c in
     (taller g a.After-store_branch-self).items_are ∙ listed g a.After-insert_below-inserted
 
-pub returns-in-Some-split-clause-room : goal.returns-in-Some-split-clause-room
-returns-in-Some-split-clause-room g c =
-    let a = goal.at.returns-in-Some-split-clause-room g c in
+pub returns-in-Some-clause-room : goal.returns-in-Some-clause-room
+returns-in-Some-clause-room g c =
+    let a = goal.at.returns-in-Some-clause-room g c in
     omega (arith, ap length (taller g a.After-store_branch-self).items_are, longer g a.After-insert_below-inserted, c.requires.room, c.store_branch-self.ensures.capacity, c.insert_below-inserted.ensures.replaces.moved.capacity)
 
-higher : (g : Over) (c : After-seen_above g) → IsEdge c.store_branch-self.new.self (c.args.self.now.levels + 1 - 1) c.store_branch-self.result c.seen_above.result × (place c.store_branch-self.new.self (c.args.self.now.levels + 1 - 1) c.store_branch-self.result c.seen_above.result ≡ seat_place c.insert_below-inserted.new.nodes (suc (c.args.self.now.levels - 1)) (c.in-Some-split.split.middle ∷ []) (c.args.self.now.root ∷ c.in-Some-split.split.right ∷ []) c.insert_below-inserted.result.side c.insert_below-inserted.result.edge)
+higher : (g : Over) (c : After-seen_above g) → IsEdge c.store_branch-self.new.self (c.args.self.now.levels + 1 - 1) c.store_branch-self.result c.seen_above.result × (place c.store_branch-self.new.self (c.args.self.now.levels + 1 - 1) c.store_branch-self.result c.seen_above.result ≡ seat_place c.insert_below-inserted.new.nodes (suc (c.args.self.now.levels - 1)) (c.in-Some.split.middle ∷ []) (c.args.self.now.root ∷ c.in-Some.split.right ∷ []) c.insert_below-inserted.result.side c.insert_below-inserted.result.edge)
 higher g c =
-    taller_edge c.args.self.now.nodes c.insert_below-inserted.new.nodes c.store_branch-self.new.self c.args.self.now.levels c.args.self.now.root c.store_branch-self.result c.insert_below-inserted.result.side c.in-Some-split.split _ c.insert_below-inserted.result.edge c.seen_above.result c.requires.edge.some c.args.self.now.whole.tree (rw c.in-Some-split.is at c.insert_below-inserted.ensures.replaces) c.store_branch-self.ensures c.seen_above.ensures.turn c.seen_above.ensures.inside (rw c.in-Some-split.is at c.insert_below-inserted.ensures.edge)
+    taller_edge c.args.self.now.nodes c.insert_below-inserted.new.nodes c.store_branch-self.new.self c.args.self.now.levels c.args.self.now.root c.store_branch-self.result c.insert_below-inserted.result.side c.in-Some.split _ c.insert_below-inserted.result.edge c.seen_above.result c.requires.edge.some c.args.self.now.whole.tree (rw c.in-Some.is at c.insert_below-inserted.ensures.replaces) c.store_branch-self.ensures c.seen_above.ensures.turn c.seen_above.ensures.inside (rw c.in-Some.is at c.insert_below-inserted.ensures.edge)
 
-pub returns-in-Some-split-clause-edge : goal.returns-in-Some-split-clause-edge
-returns-in-Some-split-clause-edge g c = record { some = omega arith; edge = (higher g c).0 }
+pub returns-in-Some-clause-edge : goal.returns-in-Some-clause-edge
+returns-in-Some-clause-edge g c = record { some = omega arith; edge = (higher g c).0 }
 
-pub returns-in-Some-split-clause-place : goal.returns-in-Some-split-clause-place
-returns-in-Some-split-clause-place g c = (higher g c).1 ∙ (rw c.in-Some-split.is at c.insert_below-inserted.ensures.place)
+pub returns-in-Some-clause-place : goal.returns-in-Some-clause-place
+returns-in-Some-clause-place g c = (higher g c).1 ∙ (rw c.in-Some.is at c.insert_below-inserted.ensures.place)
