@@ -49,3 +49,12 @@ module _ {T : Type 0} (s : BoxStorage T) where
   pub end_place : (edge : Option Edge) → MatchOption edge (box_items s ≡ []) (λ g. IsBoxEdge s g × (box_place s g ≡ length (box_items s))) → edge_or_end s edge ≡ length (box_items s)
   end_place None h = refl
   end_place (Some g) h = h.1
+
+  pub end_known : (edge : Option Edge) → MatchOption edge (box_items s ≡ []) (λ g. IsBoxEdge s g × (box_place s g ≡ length (box_items s))) → MatchOption edge (box_items s ≡ []) (IsBoxEdge s)
+  end_known None h = h
+  end_known (Some g) h = h.0
+
+  -- the edge before the item that a good edge stands for
+  pub before_good : (p : Edge) → IsGood s p → (edge : Option Edge) → MatchOption edge (box_place s p ≡ 0) (λ h. IsBoxEdge s h × (box_place s h + 1 ≡ box_place s p)) → MatchOption edge (box_items s ≡ []) (IsBoxEdge s) × (edge_or_end s edge ≡ box_rank s p)
+  before_good p good None none = absurd (omega (arith, none, good.some))
+  before_good p good (Some h) here = (here.0, omega (arith, here.1, rank_is s p good))

@@ -1,5 +1,7 @@
-use Rattle.std.proofs.Common.{ap, count_by}
+use Rattle.std.proofs.Common.{◌≡◌, suc, ◌-◌, sym, ap, ◌∙◌, rules, arith, count_by}
+use Rattle.range_store.specs.Written.{root_shaped}
 use Rattle.range_store.proofs.Rank.{items_below_none}
+use Rattle.range_store.proofs.Ways.{not_start, stands_first}
 use Rattle.range_store.proofs.Whole.{tree_is_not_too_deep}
 use Rattle.range_store.proofs.btree.BoxStorage.edge_after_passing.Goals as goal
 
@@ -7,5 +9,8 @@ pub returns-then-self-eq0-clause-found : goal.returns-then-self-eq0-clause-found
 returns-then-self-eq0-clause-found g c =
     rw c.if-self-eq0.true (ap (count_by (g.P.Probe.test c.args.probe.now)) (items_below_none c.args.self.now.nodes c.args.self.now.root))
 
-pub search_below-edge-requires-clause-deep : goal.search_below-edge-requires-clause-deep
-search_below-edge-requires-clause-deep g c = tree_is_not_too_deep c.args.self.now.nodes c.args.self.now.levels c.args.self.now.root c.args.self.now.whole
+pub search_below-edge-requires : goal.search_below-edge-requires
+search_below-edge-requires g c =
+    let s = c.args.self.now in
+    let level : suc (s.levels - 1) ≡ s.levels = omega (arith, c.if-self-eq0.false) in
+    (search rules, (root_shaped s.nodes s.levels s.root (omega (arith, c.if-self-eq0.false)) s.whole.tree, (tree_is_not_too_deep s.nodes s.levels s.root s.whole, rw level c.requires)))

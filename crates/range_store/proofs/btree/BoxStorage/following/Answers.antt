@@ -1,10 +1,11 @@
-use Rattle.std.proofs.Common.{◌+◌, ◌<◌, length, refl, arith}
+use Rattle.std.proofs.Common.{◌+◌, ◌<◌, length, refl, rules, arith}
 use Rattle.range_store.specs.Heap.{items_of, node_of}
+use Rattle.range_store.specs.Written.{root_shaped}
 use Rattle.range_store.proofs.Whole.{tree_is_not_too_deep, tree_leaf, tree_beside}
 use Rattle.range_store.proofs.btree.BoxStorage.following.Goals as goal
 
 pub item_count-requires : goal.item_count-requires
-item_count-requires g c = (tree_leaf c.args.self.now c.args.edge c.requires).present
+item_count-requires g c = (search rules, (tree_leaf c.args.self.now c.args.edge c.requires).present)
 
 pub returns-then-edge-item_count : goal.returns-then-edge-item_count
 returns-then-edge-item_count g c =
@@ -12,5 +13,7 @@ returns-then-edge-item_count g c =
     let next = tree_beside c.args.self.now c.args.edge c.requires (record { leaf = c.args.edge.leaf; way = c.args.edge.way; index = c.args.edge.index + 1 }) refl refl (omega (arith, low)) in
     (next.0, omega (arith, next.1))
 
-pub following-requires-clause-deep : goal.following-requires-clause-deep
-following-requires-clause-deep g c = tree_is_not_too_deep c.args.self.now.nodes c.args.self.now.levels c.args.self.now.root c.args.self.now.whole
+pub following-requires : goal.following-requires
+following-requires g c =
+    let s = c.args.self.now in
+    (search rules, (root_shaped s.nodes s.levels s.root c.requires.some s.whole.tree, (tree_is_not_too_deep s.nodes s.levels s.root s.whole, c.requires.edge)))
