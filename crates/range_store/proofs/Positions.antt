@@ -3,6 +3,8 @@ use Rattle.std.proofs.Common.{◌≡◌, ℕ, ◌+◌, ◌-◌, ◌<◌, ◌≤�
 use Rattle.std.specs.Prelude.{MatchOption}
 use Rattle.std.specs.List.{remove}
 use Rattle.std.specs.Option.{ForSome}
+use Rattle.range_store.specs.Edges.{IsEdge, place}
+use Rattle.range_store.specs.Nodes.{items_below}
 use Rattle.range_store.specs.Holding.{box_items, box_place, box_place_before, box_rank, edge_or_end, IsBoxEdge, IsGood, IsNextEdge, rank_is}
 use Rattle.range_store.specs.Places.{IsAt}
 use Rattle.range_store.specs.declared.btree.BoxStorage.{BoxStorage}
@@ -38,6 +40,15 @@ module _ {T : Type 0} (s : BoxStorage T) where
   next_at rank (Some edge) at =
       let good = good_from edge at.0 (omega (arith, at.1)) in
       (good.0, omega (arith, good.1, at.1))
+
+  -- the edge after an item, or none, from what is known below the root
+  pub next_from : (rank : ℕ) → 0 < s.levels → (edge : Option Edge) → MatchOption edge (rank ≡ length (items_below s.nodes (suc (s.levels - 1)) s.root)) (λ h. IsEdge s.nodes (s.levels - 1) s.root h × (place s.nodes (s.levels - 1) s.root h ≡ rank + 1)) → IsNextEdge s edge rank
+  next_from rank some None none = let level : suc (s.levels - 1) ≡ s.levels = omega (arith, some) in rw level at none
+  next_from rank some (Some h) is = (record { some = some; edge = is.0 }, is.1)
+
+  -- none is next just where nothing is left
+  pub none_next : (rank : ℕ) → box_items s ≡ [] → rank ≡ 0 → IsNextEdge s None rank
+  none_next rank none first = first ∙ sym (ap length none)
 
   -- the edge at the end of a list that has items
   pub good_end : (edge : Edge) → IsBoxEdge s edge → box_place s edge ≡ length (box_items s) → IsGood s edge × (box_rank s edge + 1 ≡ length (box_items s))

@@ -20,6 +20,19 @@ use Rattle.range_store.specs.Contents.{IsRewritten}
 pub loosened_items : {T : Type 0} (s t : Heap T) (levels root : ℕ) (list : List T) → 0 < levels → Shrinks s t (levels - 1) root list → items_below t levels root ≡ list
 loosened_items s t levels root list some step = let level : suc (levels - 1) ≡ levels = omega arith in rw level at step.listed
 
+-- the tree after one went below the root, which may be short
+pub loosened_tree : {T : Type 0} (s t : Heap T) (levels root : ℕ) (list : List T) → 0 < levels → IsTree s levels root → Shrinks s t (levels - 1) root list → IsLooseTree t levels root
+loosened_tree s t zero root list some tree step = absurd (omega arith)
+loosened_tree s t (suc d) root list some tree step' =
+    let level : suc d - 1 ≡ d = omega arith in
+    let step = rw level at step' in
+    record {
+      some = some;
+      shaped = rw level (step.shape 0 (omega (arith, tree.shaped.node.enough)));
+      once = λ k. omega (arith, step.moved.owned k, tree.once k);
+      len = omega (arith, step.moved.len, tree.len);
+    }
+
 -- a root with an item stays
 pub stays_root : {T : Type 0} (s : Heap T) (levels root : ℕ) → IsLooseTree s levels root → 0 < length (items_of (node_of s root)) → IsTree s levels root
 stays_root s zero root loose full = absurd (omega (arith, loose.some))

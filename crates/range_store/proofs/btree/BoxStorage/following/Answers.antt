@@ -1,6 +1,8 @@
 use Rattle.std.proofs.Common.{◌+◌, ◌<◌, length, refl, rules, arith}
 use Rattle.range_store.specs.Heap.{items_of, node_of}
+use Rattle.range_store.specs.Holding.{box_place}
 use Rattle.range_store.specs.Written.{root_shaped}
+use Rattle.range_store.proofs.Positions.{next_from}
 use Rattle.range_store.proofs.Whole.{tree_is_not_too_deep, tree_leaf, tree_beside}
 use Rattle.range_store.proofs.btree.BoxStorage.following.Goals as goal
 
@@ -17,3 +19,6 @@ pub following-requires : goal.following-requires
 following-requires g c =
     let s = c.args.self.now in
     (search rules, (root_shaped s.nodes s.levels s.root c.requires.some s.whole.tree, (tree_is_not_too_deep s.nodes s.levels s.root s.whole, c.requires.edge)))
+
+pub returns : goal.returns
+returns g c = next_from c.args.self.now (box_place c.args.self.now c.args.edge) c.requires.some c.following.result c.following.ensures
