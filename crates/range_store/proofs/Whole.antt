@@ -1,5 +1,5 @@
 -- What is known of a whole tree.
-use Rattle.std.proofs.Common.{◌≡◌, ℕ, zero, suc, ◌+◌, ◌-◌, ◌^◌, ◌<◌, ◌≤◌, length, get_or, ap, ◌∙◌, inl, inr, arith}
+use Rattle.std.proofs.Common.{◌≡◌, ℕ, zero, suc, ◌+◌, ◌-◌, ◌^◌, ◌<◌, ◌≤◌, length, get_or, refl, ap, ◌∙◌, inl, inr, arith}
 use Rattle.std.proofs.Math.Nat.{pow-le-pow_right}
 use Rattle.std.proofs.lemmas.Bool.{cases_lt}
 use Rattle.range_store.specs.Heap.{Heap, node_of, items_of}
@@ -48,6 +48,12 @@ module _ {T : Type 0} (t : BoxStorage T) (g : Edge) (is : IsBoxEdge t g) where
   tree_beside h leaf way index =
       let other = leaf_beside t.nodes (t.levels - 1) t.root g h leaf way index is.edge in
       (record { some = is.some; edge = other.0 }, other.1)
+
+  -- the edge after the first item of the leaf
+  pub tree_behind : g.index ≡ 0 → IsBoxEdge t (record { leaf = g.leaf; way = g.way; index = 1 }) × (box_place t (record { leaf = g.leaf; way = g.way; index = 1 }) ≡ box_place t g + 1)
+  tree_behind first =
+      let beside = tree_beside (record { leaf = g.leaf; way = g.way; index = 1 }) refl refl tree_leaf.some in
+      (beside.0, omega (arith, beside.1, first))
 
   -- the item before an edge that has one in its leaf
   pub leaf_item : (e : T) → 0 < g.index → get_or (box_items t) (box_place t g - 1) e ≡ get_or (items_of (node_of t.nodes g.leaf)) (g.index - 1) e
