@@ -1,11 +1,13 @@
 -- A `BoxStorage` with another item in the home of one.
-use Rattle.std.proofs.Common.{◌≡◌, ℕ, ◌-◌, length, sym, ap, ◌∙◌, subst, inl, inr}
+use Rattle.std.proofs.Common.{◌≡◌, ℕ, ◌-◌, ◌<◌, length, get_or, arith, sym, ap, ◌∙◌, subst, inl, inr}
 use Rattle.std.proofs.Math.Bridge.{le_prop}
 use Rattle.std.proofs.Math.Nat.{ℕ_set}
 use Rattle.range_store.specs.Depth.{HasLevels}
-use Rattle.range_store.specs.Heap.{with_item}
-use Rattle.range_store.specs.Holding.{box_home, Decided, IsGood, good_or_not, with_box_item, with_item_as}
+use Rattle.range_store.specs.Edges.{IsEdge}
+use Rattle.range_store.specs.Heap.{Heap, node_of, items_of, with_item}
+use Rattle.range_store.specs.Holding.{box_home, box_items, box_place, box_rank, Decided, IsGood, good_item, good_or_not, rank_is, with_box_item, with_item_as}
 use Rattle.range_store.specs.Nodes.{items_below, IsRoomy, IsRoomy-prop}
+use Rattle.range_store.specs.Written.{SameShape, edge_same, place_same}
 use Rattle.range_store.specs.declared.btree.BoxStorage.{BoxStorage}
 use Rattle.range_store.specs.declared.btree.way.Edge.{Edge}
 use Rattle.range_store.specs.declared.btree.way.Home.{Home}
@@ -26,3 +28,22 @@ module _ {T : Type 0} (s : BoxStorage T) (edge : Edge) (good : IsGood s edge) wh
           ap (λ w. record s { nodes = with_item s.nodes (box_home s edge).node (box_home s edge).index x; whole = w; counted = counted; levelled = levelled }) (IsRoomy-prop (with_item s.nodes (box_home s edge).node (box_home s edge).index x) s.levels s.root whole (with_item_as s edge (inl is) x).whole)
           ∙ ap (λ c. record s { nodes = with_item s.nodes (box_home s edge).node (box_home s edge).index x; whole = (with_item_as s edge (inl is) x).whole; counted = c; levelled = levelled }) (ℕ_set _ _ counted (with_item_as s edge (inl is) x).counted)
           ∙ ap (λ l. record s { nodes = with_item s.nodes (box_home s edge).node (box_home s edge).index x; whole = (with_item_as s edge (inl is) x).whole; counted = (with_item_as s edge (inl is) x).counted; levelled = l }) (has_levels_prop s.len s.levels levelled s.levelled)
+
+  -- the nodes of such a write, and the item in the home
+  pub written_at : (home : Home) (x : T) (n : Heap T) → home ≡ box_home s edge → n ≡ with_item s.nodes home.node home.index x → n ≡ with_item s.nodes (box_home s edge).node (box_home s edge).index x
+  written_at home x n at written = written ∙ ap (λ h. with_item s.nodes h.node h.index x) at
+
+  pub item_home : (home : Home) → home ≡ box_home s edge → (x : T) → x ≡ get_or (items_of (node_of s.nodes home.node)) home.index x → x ≡ get_or (box_items s) (box_rank s edge) x
+  item_home home at x here =
+      here
+      ∙ ap (λ h. get_or (items_of (node_of s.nodes h.node)) h.index x) at
+      ∙ sym (good_item s edge good x)
+      ∙ ap (λ i. get_or (box_items s) i x) (sym (rank_is s edge good))
+
+-- nodes of the same shape keep the positions
+pub good_same : {T : Type 0} (s t : BoxStorage T) → SameShape s.nodes t.nodes → t.levels ≡ s.levels → t.root ≡ s.root → (q : Edge) → IsGood s q → IsGood t q × (box_rank t q ≡ box_rank s q)
+good_same s t shape levels root q good =
+    let place : box_place t q ≡ box_place s q = rw (levels, root) (place_same s.nodes t.nodes shape (s.levels - 1) s.root q) in
+    let edge : IsEdge t.nodes (t.levels - 1) t.root q = rw (levels, root) (edge_same s.nodes t.nodes shape (s.levels - 1) s.root q good.is.edge) in
+    let new : IsGood t q = record { is = record { some = omega (arith, levels, good.is.some); edge = edge }; some = omega (arith, place, good.some) } in
+    (new, rank_is t q new ∙ ap (λ m. m - 1) place ∙ sym (rank_is s q good))

@@ -1,14 +1,16 @@
 -- Positions that a call may or may not return, and the ends of a list.
-use Rattle.std.proofs.Common.{◌≡◌, ℕ, ◌+◌, ◌-◌, ◌<◌, ◌≤◌, Bool, true, false, List, [], ◌∷◌, ◌++◌, length, zero, suc, get_or, refl, sym, ap, ◌∙◌, arith, Option, Some, None}
+use Rattle.std.proofs.Common.{◌≡◌, ℕ, ◌+◌, ◌-◌, ◌<◌, ◌≤◌, Bool, true, false, List, [], ◌∷◌, ◌++◌, length, zero, suc, get_or, refl, sym, ap, ◌∙◌, arith, count_by, Option, Some, None}
 use Rattle.std.specs.Prelude.{MatchOption}
 use Rattle.std.specs.List.{remove}
 use Rattle.std.specs.Option.{ForSome}
 use Rattle.range_store.specs.Edges.{IsEdge, place}
 use Rattle.range_store.specs.Nodes.{items_below}
 use Rattle.range_store.specs.Holding.{box_items, box_place, box_place_before, box_rank, edge_or_end, IsBoxEdge, IsGood, IsNextEdge, rank_is}
-use Rattle.range_store.specs.Places.{IsAt}
+use Rattle.range_store.specs.Falling.{Falls}
+use Rattle.range_store.specs.Places.{IsAt, IsFrontOf}
 use Rattle.range_store.specs.declared.btree.BoxStorage.{BoxStorage}
 use Rattle.range_store.specs.declared.btree.way.Edge.{Edge}
+use Rattle.range_store.proofs.Front.{falling_front}
 use Rattle.range_store.proofs.Levels.{levels_le}
 
 module _ {X : Type 0} where
@@ -69,3 +71,10 @@ module _ {T : Type 0} (s : BoxStorage T) where
   pub before_good : (p : Edge) → IsGood s p → (edge : Option Edge) → MatchOption edge (box_place s p ≡ 0) (λ h. IsBoxEdge s h × (box_place s h + 1 ≡ box_place s p)) → MatchOption edge (box_items s ≡ []) (IsBoxEdge s) × (edge_or_end s edge ≡ box_rank s p)
   before_good p good None none = absurd (omega (arith, none, good.some))
   before_good p good (Some h) here = (here.0, omega (arith, here.1, rank_is s p good))
+
+  -- the edge after the items that pass, as a position of the last of them
+  pub front_found : (test : T → Bool) → Falls test (box_items s) → (edge : Option Edge) → MatchOption edge (count_by test (box_items s) ≡ 0) (λ g. IsBoxEdge s g × (0 < box_place s g) × (box_place s g ≡ count_by test (box_items s))) → MatchOption edge (IsFrontOf test (box_items s) 0) (λ p. IsGood s p × IsFrontOf test (box_items s) (box_rank s p + 1))
+  front_found test falls None none = rw none at (falling_front test (box_items s) falls)
+  front_found test falls (Some g) found =
+      let good = good_from g found.0 found.1 in
+      (good.0, rw (good.1, found.2) (falling_front test (box_items s) falls))

@@ -1,0 +1,12 @@
+use Rattle.std.proofs.Common.{◌∙◌, ap, get_or, sym, rules}
+use Rattle.range_store.specs.Holding.{box_items, good_home}
+use Rattle.range_store.proofs.Lent.{item_home}
+use Rattle.range_store.proofs.btree.BoxStorageStorage.get.Goals as goal
+
+pub item_at-requires : goal.item_at-requires
+item_at-requires g c =
+    let home = good_home c.args.self.now c.args.p c.requires in
+    (search rules, rw c.home-home.ensures (home.present, home.within))
+
+pub returns : goal.returns
+returns g c = item_home c.args.self.now c.args.p c.requires c.home-home.result c.home-home.ensures c.item_at.result.now c.item_at.ensures

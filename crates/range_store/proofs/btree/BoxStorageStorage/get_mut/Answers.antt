@@ -1,0 +1,20 @@
+use Rattle.std.proofs.Common.{refl, rules}
+use Rattle.range_store.specs.Holding.{good_home, with_good_item}
+use Rattle.range_store.proofs.Lent.{item_home, same_storage}
+use Rattle.range_store.proofs.btree.BoxStorageStorage.get_mut.Goals as goal
+
+pub item_mut-requires : goal.item_mut-requires
+item_mut-requires g c =
+    let home = good_home c.args.self.now c.args.p c.requires in
+    (search rules, rw c.home-home.ensures (home.present, home.within))
+
+pub invariant_of-self-lent : goal.invariant_of-self-lent
+invariant_of-self-lent g c w =
+    let s = c.args.self.now in
+    rw c.home-home.ensures ((with_good_item s c.args.p c.requires w).whole, ((with_good_item s c.args.p c.requires w).counted, (s.levelled, tt)))
+
+pub returns : goal.returns
+returns g c = (
+  (refl, λ w. same_storage c.args.self.now c.args.p c.requires c.home-home.result w c.home-home.ensures _ _ _),
+  record { writes_back = tt; value = item_home c.args.self.now c.args.p c.requires c.home-home.result c.home-home.ensures c.item_mut.result.now c.item_mut.ensures.value },
+)

@@ -1,0 +1,33 @@
+use Rattle.std.proofs.Common.{◌∙◌, ap, refl, rules}
+use Rattle.std.proofs.Math.ListN.{set}
+use Rattle.range_store.specs.Heap.{with_item}
+use Rattle.range_store.specs.Holding.{box_items, box_home, good_home, rank_is, with_good_item, written_items, written_nodes}
+use Rattle.range_store.proofs.Lent.{good_same, item_home, written_at}
+use Rattle.range_store.proofs.btree.BoxStorageStorage.replace.Goals as goal
+
+pub replace_item-requires : goal.replace_item-requires
+replace_item-requires g c =
+    let home = good_home c.args.self.now c.args.p c.requires in
+    (search rules, rw c.home-home.ensures (home.present, home.within))
+
+pub invariant_of-self : goal.invariant_of-self
+invariant_of-self g c =
+    let s = c.args.self.now in
+    let whole = with_good_item s c.args.p c.requires c.args.item in
+    let same = written_at s c.args.p c.home-home.result c.args.item _ c.home-home.ensures c.replace_item.ensures.after in
+    rw same (record { whole = whole.whole; counted = whole.counted; levelled = s.levelled })
+
+pub returns-clause-before : goal.returns-clause-before
+returns-clause-before g c = item_home c.args.self.now c.args.p c.requires c.home-home.result c.home-home.ensures c.replace_item.result c.replace_item.ensures.before
+
+pub returns-clause-list : goal.returns-clause-list
+returns-clause-list g c =
+    let s = c.args.self.now in
+    let same = written_at s c.args.p c.home-home.result c.args.item _ c.home-home.ensures c.replace_item.ensures.after in
+    rw (same, rank_is s c.args.p c.requires) (written_items s c.args.p c.requires c.args.item)
+
+pub returns-clause-positions : goal.returns-clause-positions
+returns-clause-positions g c q good =
+    let s = c.args.self.now in
+    let same = written_at s c.args.p c.home-home.result c.args.item _ c.home-home.ensures c.replace_item.ensures.after in
+    good_same s _ (rw same (written_nodes s c.args.p c.requires c.args.item)) refl refl q good
