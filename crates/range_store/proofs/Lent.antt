@@ -5,7 +5,7 @@ use Rattle.std.proofs.Math.Nat.{ℕ_set}
 use Rattle.range_store.specs.Depth.{HasLevels}
 use Rattle.range_store.specs.Edges.{IsEdge}
 use Rattle.range_store.specs.Heap.{Heap, node_of, items_of, with_item}
-use Rattle.range_store.specs.Holding.{box_home, box_items, box_place, box_rank, Decided, IsGood, good_item, good_or_not, rank_is, with_box_item, with_item_as}
+use Rattle.range_store.specs.Holding.{box_home, box_items, box_place, box_rank, Decided, IsGood, good_item, good_or_not, rank_is, with_box_item, with_good_item, with_item_as, written_roomy}
 use Rattle.range_store.specs.Nodes.{items_below, IsRoomy, IsRoomy-prop}
 use Rattle.range_store.specs.Written.{SameShape, edge_same, place_same}
 use Rattle.range_store.specs.declared.btree.BoxStorage.{BoxStorage}
@@ -20,11 +20,11 @@ module _ {T : Type 0} (s : BoxStorage T) (edge : Edge) (good : IsGood s edge) wh
   pub same_storage : (home : Home) (x : T) → home ≡ box_home s edge → (whole : IsRoomy (with_item s.nodes home.node home.index x) s.levels s.root) (counted : s.len ≡ length (items_below (with_item s.nodes home.node home.index x) s.levels s.root)) (levelled : HasLevels s.len s.levels) → ◌≡◌ {A = BoxStorage T} (record s { nodes = with_item s.nodes home.node home.index x; whole = whole; counted = counted; levelled = levelled }) (with_box_item s edge x)
   same_storage home x at =
       subst (λ h. (whole : IsRoomy (with_item s.nodes h.node h.index x) s.levels s.root) (counted : s.len ≡ length (items_below (with_item s.nodes h.node h.index x) s.levels s.root)) (levelled : HasLevels s.len s.levels) → ◌≡◌ {A = BoxStorage T} (record s { nodes = with_item s.nodes h.node h.index x; whole = whole; counted = counted; levelled = levelled }) (with_box_item s edge x)) (sym at)
-      (λ whole counted levelled. as (good_or_not s edge) whole counted levelled)
+      (λ whole counted levelled. by_good (good_or_not s edge) whole counted levelled)
     where
-      as : (decided : Decided s edge) (whole : IsRoomy (with_item s.nodes (box_home s edge).node (box_home s edge).index x) s.levels s.root) (counted : s.len ≡ length (items_below (with_item s.nodes (box_home s edge).node (box_home s edge).index x) s.levels s.root)) (levelled : HasLevels s.len s.levels) → ◌≡◌ {A = BoxStorage T} (record s { nodes = with_item s.nodes (box_home s edge).node (box_home s edge).index x; whole = whole; counted = counted; levelled = levelled }) (with_item_as s edge decided x)
-      as (inr bad) whole counted levelled = absurd (bad good)
-      as (inl is) whole counted levelled =
+      by_good : (decided : Decided s edge) (whole : IsRoomy (with_item s.nodes (box_home s edge).node (box_home s edge).index x) s.levels s.root) (counted : s.len ≡ length (items_below (with_item s.nodes (box_home s edge).node (box_home s edge).index x) s.levels s.root)) (levelled : HasLevels s.len s.levels) → ◌≡◌ {A = BoxStorage T} (record s { nodes = with_item s.nodes (box_home s edge).node (box_home s edge).index x; whole = whole; counted = counted; levelled = levelled }) (with_item_as s edge decided x)
+      by_good (inr bad) whole counted levelled = absurd (bad good)
+      by_good (inl is) whole counted levelled =
           ap (λ w. record s { nodes = with_item s.nodes (box_home s edge).node (box_home s edge).index x; whole = w; counted = counted; levelled = levelled }) (IsRoomy-prop (with_item s.nodes (box_home s edge).node (box_home s edge).index x) s.levels s.root whole (with_item_as s edge (inl is) x).whole)
           ∙ ap (λ c. record s { nodes = with_item s.nodes (box_home s edge).node (box_home s edge).index x; whole = (with_item_as s edge (inl is) x).whole; counted = c; levelled = levelled }) (ℕ_set _ _ counted (with_item_as s edge (inl is) x).counted)
           ∙ ap (λ l. record s { nodes = with_item s.nodes (box_home s edge).node (box_home s edge).index x; whole = (with_item_as s edge (inl is) x).whole; counted = (with_item_as s edge (inl is) x).counted; levelled = l }) (has_levels_prop s.len s.levels levelled s.levelled)
@@ -32,6 +32,12 @@ module _ {T : Type 0} (s : BoxStorage T) (edge : Edge) (good : IsGood s edge) wh
   -- the nodes of such a write, and the item in the home
   pub written_at : (home : Home) (x : T) (n : Heap T) → home ≡ box_home s edge → n ≡ with_item s.nodes home.node home.index x → n ≡ with_item s.nodes (box_home s edge).node (box_home s edge).index x
   written_at home x n at written = written ∙ ap (λ h. with_item s.nodes h.node h.index x) at
+
+  pub roomy_at : (x : T) (n : Heap T) → n ≡ with_item s.nodes (box_home s edge).node (box_home s edge).index x → IsRoomy n s.levels s.root
+  roomy_at x n same = rw same (written_roomy s edge good x)
+
+  pub counted_at : (x : T) (n : Heap T) → n ≡ with_item s.nodes (box_home s edge).node (box_home s edge).index x → s.len ≡ length (items_below n s.levels s.root)
+  counted_at x n same = rw same (with_good_item s edge good x).counted
 
   pub item_home : (home : Home) → home ≡ box_home s edge → (x : T) → x ≡ get_or (items_of (node_of s.nodes home.node)) home.index x → x ≡ get_or (box_items s) (box_rank s edge) x
   item_home home at x here =

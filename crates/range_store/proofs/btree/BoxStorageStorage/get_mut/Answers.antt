@@ -1,6 +1,6 @@
 use Rattle.std.proofs.Common.{refl, rules}
-use Rattle.range_store.specs.Holding.{good_home, with_good_item}
-use Rattle.range_store.proofs.Lent.{item_home, same_storage}
+use Rattle.range_store.specs.Holding.{good_home}
+use Rattle.range_store.proofs.Lent.{counted_at, item_home, roomy_at, same_storage, written_at}
 use Rattle.range_store.proofs.btree.BoxStorageStorage.get_mut.Goals as goal
 
 pub item_mut-requires : goal.item_mut-requires
@@ -11,7 +11,8 @@ item_mut-requires g c =
 pub invariant_of-self-lent : goal.invariant_of-self-lent
 invariant_of-self-lent g c w =
     let s = c.args.self.now in
-    rw c.home-home.ensures ((with_good_item s c.args.p c.requires w).whole, ((with_good_item s c.args.p c.requires w).counted, (s.levelled, tt)))
+    let same = written_at s c.args.p c.requires c.home-home.result w _ c.home-home.ensures refl in
+    (roomy_at s c.args.p c.requires w _ same, (counted_at s c.args.p c.requires w _ same, (s.levelled, tt)))
 
 pub returns : goal.returns
 returns g c = (

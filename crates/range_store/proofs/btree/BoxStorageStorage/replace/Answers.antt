@@ -1,8 +1,9 @@
 use Rattle.std.proofs.Common.{◌∙◌, ap, refl, rules}
 use Rattle.std.proofs.Math.ListN.{set}
 use Rattle.range_store.specs.Heap.{with_item}
-use Rattle.range_store.specs.Holding.{box_items, box_home, good_home, rank_is, with_good_item, written_items, written_nodes}
-use Rattle.range_store.proofs.Lent.{good_same, item_home, written_at}
+use Rattle.range_store.specs.Holding.{box_items, box_home, good_home, rank_is, written_items, written_nodes}
+use Rattle.range_store.specs.Written.{SameShape}
+use Rattle.range_store.proofs.Lent.{counted_at, good_same, item_home, roomy_at, written_at}
 use Rattle.range_store.proofs.btree.BoxStorageStorage.replace.Goals as goal
 
 pub replace_item-requires : goal.replace_item-requires
@@ -13,9 +14,12 @@ replace_item-requires g c =
 pub invariant_of-self : goal.invariant_of-self
 invariant_of-self g c =
     let s = c.args.self.now in
-    let whole = with_good_item s c.args.p c.requires c.args.item in
-    let same = written_at s c.args.p c.home-home.result c.args.item _ c.home-home.ensures c.replace_item.ensures.after in
-    rw same (record { whole = whole.whole; counted = whole.counted; levelled = s.levelled })
+    let same = written_at s c.args.p c.requires c.home-home.result c.args.item _ c.home-home.ensures c.replace_item.ensures.after in
+    record {
+      whole = roomy_at s c.args.p c.requires c.args.item c.replace_item.new.self same;
+      counted = counted_at s c.args.p c.requires c.args.item c.replace_item.new.self same;
+      levelled = s.levelled;
+    }
 
 pub returns-clause-before : goal.returns-clause-before
 returns-clause-before g c = item_home c.args.self.now c.args.p c.requires c.home-home.result c.home-home.ensures c.replace_item.result c.replace_item.ensures.before
@@ -23,11 +27,12 @@ returns-clause-before g c = item_home c.args.self.now c.args.p c.requires c.home
 pub returns-clause-list : goal.returns-clause-list
 returns-clause-list g c =
     let s = c.args.self.now in
-    let same = written_at s c.args.p c.home-home.result c.args.item _ c.home-home.ensures c.replace_item.ensures.after in
+    let same = written_at s c.args.p c.requires c.home-home.result c.args.item _ c.home-home.ensures c.replace_item.ensures.after in
     rw (same, rank_is s c.args.p c.requires) (written_items s c.args.p c.requires c.args.item)
 
 pub returns-clause-positions : goal.returns-clause-positions
 returns-clause-positions g c q good =
     let s = c.args.self.now in
-    let same = written_at s c.args.p c.home-home.result c.args.item _ c.home-home.ensures c.replace_item.ensures.after in
-    good_same s _ (rw same (written_nodes s c.args.p c.requires c.args.item)) refl refl q good
+    let same = written_at s c.args.p c.requires c.home-home.result c.args.item _ c.home-home.ensures c.replace_item.ensures.after in
+    let shape : SameShape s.nodes c.replace_item.new.self = rw same (written_nodes s c.args.p c.requires c.args.item) in
+    good_same s (record s { nodes = c.replace_item.new.self; whole = c.self-1.given.0; counted = c.self-1.given.1.0; levelled = c.self-1.given.1.1.0 }) shape refl refl q good
