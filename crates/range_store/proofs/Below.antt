@@ -1,6 +1,6 @@
 -- What is known of a node's children.
 use Rattle.std.proofs.Common.{◌≡◌, ◌⊎◌, inl, inr, ℕ, zero, suc, ◌+◌, ◌<◌, ◌≤◌, [], ◌∷◌, ◌++◌, length, get_or, drop, map, refl, ap, ◌∙◌, arith}
-use Rattle.std.proofs.lemmas.List.{length-append, length-map, get_or-map, drop_all, nil_from_length}
+use Rattle.std.proofs.lemmas.List.{length-map, get_or-map, drop_all, nil_from_length}
 use Rattle.range_store.specs.Heap.{Heap, node_of, items_of, children_of, child_count}
 use Rattle.range_store.specs.declared.btree.nodes.TheConstants.{CAPACITY, MIN_LEN}
 use Rattle.range_store.specs.Nodes.{weave, rest_of, before, after, items_below, used, Shaped, ShapedBut}

@@ -15,7 +15,8 @@ module _ {X : Type 0} (p : Option X → Bool) (absent : p None ≡ false) where
   bit_none : bit None ≡ 0
   bit_none = rw absent refl
 
-  count_split : (xs : List (Option X)) → count_by p xs ≡ bit (get_or xs 0 None) + count_by p (drop 1 xs)
+  count_split : (xs : List (Option X)) → count_by p xs ≡ bit (get_or xs 0 None) + count_by p
+      (drop 1 xs)
   count_split [] = omega (arith, bit_none)
   count_split (x ∷ xs) = sum_by-cons bit x xs
 
@@ -26,7 +27,8 @@ module _ {X : Type 0} (p : Option X → Bool) (absent : p None ≡ false) where
       omega (arith, sum_by-cons bit x xs, ap bit (none zero), bit_none, later)
 
   -- slots that read the same
-  pub count_same : (xs ys : List (Option X)) → ((k : ℕ) → get_or ys k None ≡ get_or xs k None) → count_by p ys ≡ count_by p xs
+  pub count_same : (xs ys : List (Option X)) → ((k : ℕ) → get_or ys k None ≡ get_or xs k None)
+      → count_by p ys ≡ count_by p xs
   count_same [] ys same = count_none ys same
   count_same (x ∷ xs) [] same = sym (count_none (x ∷ xs) (λ k. sym (same k)))
   count_same (x ∷ xs) (y ∷ ys) same =
@@ -34,11 +36,24 @@ module _ {X : Type 0} (p : Option X → Bool) (absent : p None ≡ false) where
       omega (arith, sum_by-cons bit x xs, sum_by-cons bit y ys, ap bit (same zero), later)
 
   -- slots that read the same but at k
-  pub count_moved : (xs ys : List (Option X)) (k : ℕ) → ((j : ℕ) → j ≢ k → get_or ys j None ≡ get_or xs j None) → count_by p ys + bit (get_or xs k None) ≡ count_by p xs + bit (get_or ys k None)
+  pub count_moved : (xs ys : List (Option X)) (k : ℕ)
+      → ((j : ℕ) → j ≢ k → get_or ys j None ≡ get_or xs j None)
+      → count_by p ys + bit (get_or xs k None) ≡ count_by p xs + bit (get_or ys k None)
   count_moved xs ys zero same =
-      let tails = count_same (drop 1 xs) (drop 1 ys) (λ j. tail_reads ys j ∙ same (suc j) (λ e. omega arith) ∙ sym (tail_reads xs j)) in
+      let tails = count_same (drop 1 xs) (drop 1 ys)
+      (λ j. tail_reads ys j ∙ same (suc j) (λ e. omega arith) ∙ sym (tail_reads xs j)) in
       omega (arith, count_split xs, count_split ys, tails)
   count_moved xs ys (suc k) same =
       let head : get_or ys 0 None ≡ get_or xs 0 None = same zero (λ e. omega arith) in
-      let rest = count_moved (drop 1 xs) (drop 1 ys) k (λ j other. tail_reads ys j ∙ same (suc j) (λ e. other (omega arith)) ∙ sym (tail_reads xs j)) in
-      omega (arith, count_split xs, count_split ys, ap bit head, rest, ap bit (tail_reads xs k), ap bit (tail_reads ys k))
+      let rest = count_moved (drop 1 xs) (drop 1 ys) k
+      (λ j other. tail_reads ys j ∙ same (suc j) (λ e. other (omega arith))
+      ∙ sym (tail_reads xs j)) in
+      omega (
+        arith,
+        count_split xs,
+        count_split ys,
+        ap bit head,
+        rest,
+        ap bit (tail_reads xs k),
+        ap bit (tail_reads ys k),
+      )

@@ -1,5 +1,5 @@
 -- How a search goes down: what it finds below a node is what it finds below the one where it began, by the way between the two.
-use Rattle.std.proofs.Common.{◌≡◌, ◌≢◌, ℕ, zero, suc, ◌+◌, ◌-◌, ◌*◌, ◌/◌, ◌%◌, ◌^◌, ◌<◌, ◌≤◌, Bool, length, get_or, map, refl, sym, ap, ◌∙◌, arith, count_by}
+use Rattle.std.proofs.Common.{◌≡◌, ◌≢◌, ℕ, suc, ◌+◌, ◌-◌, ◌*◌, ◌/◌, ◌^◌, ◌<◌, ◌≤◌, Bool, length, get_or, refl, sym, ap, ◌∙◌, arith, count_by}
 use Rattle.std.proofs.Math.Nat.{pow-suc, pow-le-pow_right, mul_assoc, mul_comm, mul-add, mul-le-mul_left}
 use Rattle.std.proofs.lemmas.List.Sums.{count_by-le-length}
 use Rattle.range_store.specs.Heap.{Heap, node_of, items_of, children_of}

@@ -1,5 +1,5 @@
 -- The ways to edges, and what stands at one.
-use Rattle.std.proofs.Common.{◌≡◌, ℕ, zero, suc, ◌+◌, ◌^◌, ◌<◌, ◌≤◌, List, [], ◌∷◌, ◌++◌, length, get_or, map, refl, ap, arith}
+use Rattle.std.proofs.Common.{◌≡◌, ℕ, zero, suc, ◌+◌, ◌^◌, ◌<◌, ◌≤◌, [], ◌∷◌, ◌++◌, length, get_or, map, refl, ap, arith}
 use Rattle.std.proofs.Math.Nat.{pow-suc, pow-le-pow_right}
 use Rattle.std.proofs.lemmas.List.{length-append}
 use Rattle.std.specs.List.{flat_map}
@@ -12,7 +12,7 @@ use Rattle.range_store.specs.Edges.{turn, inside, IsEdge, place}
 use Rattle.range_store.specs.Frame.{AgreeAt, AgreeAt-right, agree_kid, same_children}
 use Rattle.range_store.proofs.Below.{items_below_at, items_below_leaf}
 use Rattle.range_store.proofs.Rank.{kid_shaped}
-use Rattle.range_store.specs.Occurrences.{occurrences, occurrences-append, occurrences_here}
+use Rattle.range_store.specs.Occurrences.{occurrences_here}
 
 -- the digits of a way are no more than the levels
 way_fits : {T : Type 0} (s : Heap T) (d n : ℕ) (g : Edge) → IsEdge s d n g → g.way < WIDTH ^ d

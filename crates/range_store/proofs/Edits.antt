@@ -1,7 +1,7 @@
 -- Edits just after a front.
-use Rattle.std.proofs.Common.{◌≡◌, ℕ, zero, suc, ◌+◌, ◌-◌, ◌<◌, ◌≤◌, List, [], ◌∷◌, ◌++◌, length, take, drop, get_or, refl, ap, sym, ◌∙◌, add-one, arith, length-append, append_assoc, take-append-drop}
+use Rattle.std.proofs.Common.{◌≡◌, ℕ, zero, suc, ◌+◌, ◌-◌, ◌<◌, ◌≤◌, List, [], ◌∷◌, ◌++◌, length, take, drop, get_or, refl, ap, sym, ◌∙◌, add-one, arith, length-append, append_assoc}
 use Rattle.std.specs.List.{remove}
-use Rattle.std.proofs.lemmas.List.{take_at, drop_at, drop_more, length-take-le, drop-drop, take-set, drop-set}
+use Rattle.std.proofs.lemmas.List.{take_at, drop_at, drop_more, length-take-le, drop-drop}
 use Rattle.std.proofs.Math.ListN.{set}
 use Rattle.std.proofs.lemmas.List.Edits.{remove-append_right}
 use Rattle.range_store.specs.Written.{set_parts}

@@ -14,16 +14,19 @@ module _ {T : Type 0} where
   pub IsFull-from : (cells : List (Option T)) (xs : List T) → cells ≡ full_cells xs → IsFull cells
   IsFull-from cells xs full = full ∙ ap full_cells (sym (items_in_full xs) ∙ ap items_in (sym full))
 
-  pub items_are : (cells : List (Option T)) (xs : List T) → cells ≡ full_cells xs → items_in cells ≡ xs
+  pub items_are : (cells : List (Option T)) (xs : List T) → cells ≡ full_cells xs
+      → items_in cells ≡ xs
   items_are cells xs full = ap items_in full ∙ items_in_full xs
 
   pub length-full : (xs : List T) → length (full_cells xs) ≡ length xs
   length-full xs = length-map xs (λ x. Some x)
 
-  pub full_length : (cells : List (Option T)) → IsFull cells → length cells ≡ length (items_in cells)
+  pub full_length : (cells : List (Option T)) → IsFull cells
+      → length cells ≡ length (items_in cells)
   full_length cells full = ap length full ∙ length-full (items_in cells)
 
-  pub full_insert : (xs : List T) (i : ℕ) (x : T) → insert (full_cells xs) i (Some x) ≡ full_cells (insert xs i x)
+  pub full_insert : (xs : List T) (i : ℕ) (x : T)
+      → insert (full_cells xs) i (Some x) ≡ full_cells (insert xs i x)
   full_insert xs i x =
       ap (λ a. a ++ Some x ∷ drop i (full_cells xs)) (take-map (λ x. Some x) i xs)
       ∙ ap (λ b. full_cells (take i xs) ++ Some x ∷ b) (drop-map (λ x. Some x) i xs)
@@ -41,7 +44,8 @@ module _ {T : Type 0} where
   pub full_drop : (n : ℕ) (xs : List T) → drop n (full_cells xs) ≡ full_cells (drop n xs)
   full_drop n xs = drop-map (λ x. Some x) n xs
 
-  pub full_set : (xs : List T) (i : ℕ) (x : T) → set (full_cells xs) i (Some x) ≡ full_cells (set xs i x)
+  pub full_set : (xs : List T) (i : ℕ) (x : T) → set (full_cells xs) i (Some x) ≡ full_cells
+      (set xs i x)
   full_set xs i x = sym (map-set (λ x. Some x) xs i x)
 
   pub full_append : (xs ys : List T) → full_cells xs ++ full_cells ys ≡ full_cells (xs ++ ys)
@@ -55,7 +59,12 @@ module _ {T : Type 0} where
 
   pub standing : (xs : List T) (i : ℕ) → i < length xs → Standing xs i
   standing [] i within = absurd (omega arith)
-  standing (x ∷ xs) zero within = record { item = x; cell_is = λ other. refl; item_is = λ other. refl }
+  standing (x ∷ xs) zero within = record {
+    item = x;
+    cell_is = λ other. refl;
+    item_is = λ other.
+        refl;
+  }
   standing (x ∷ xs) (suc i) within =
       let later = standing xs i (omega arith) in
       record { item = later.item; cell_is = later.cell_is; item_is = later.item_is }

@@ -1,5 +1,5 @@
 -- An edge within its leaf.
-use Rattle.std.proofs.Common.{◌≡◌, ℕ, zero, suc, ◌+◌, ◌-◌, ◌/◌, ◌%◌, ◌<◌, ◌≤◌, List, [], ◌∷◌, ◌++◌, length, take, drop, get_or, map, refl, sym, ap, ◌∙◌, arith, IsSome, false}
+use Rattle.std.proofs.Common.{◌≡◌, ℕ, zero, suc, ◌+◌, ◌-◌, ◌/◌, ◌%◌, ◌<◌, ◌≤◌, List, [], ◌∷◌, length, get_or, refl, ap, ◌∙◌, arith, IsSome, false}
 use Rattle.std.specs.List.{remove}
 use Rattle.std.proofs.Math.ListN.{set}
 use Rattle.std.proofs.lemmas.Bool.{and_right, ne_eqb}
@@ -7,11 +7,9 @@ use Rattle.range_store.specs.Heap.{Heap, node_of, items_of, children_of}
 use Rattle.range_store.specs.declared.btree.nodes.TheConstants.{CAPACITY, MIN_LEN}
 use Rattle.range_store.specs.declared.btree.way.TheConstants.{WIDTH}
 use Rattle.range_store.specs.declared.btree.way.Edge.{Edge}
-use Rattle.range_store.specs.Nodes.{items_below, before, after, ShapedBut}
+use Rattle.range_store.specs.Nodes.{ShapedBut}
 use Rattle.range_store.specs.Edges.{turn, inside, is_start, IsEdge, place, home_of}
-use Rattle.range_store.proofs.Below.{shaped_within_wider, items_below_leaf, items_below_at}
-use Rattle.range_store.specs.Written.{set_parts}
-use Rattle.range_store.proofs.Edits.{remove_parts, remove_behind}
+use Rattle.range_store.proofs.Below.{shaped_within_wider}
 use Rattle.range_store.proofs.Rank.{kid_shaped}
 
 -- what stands before it there stands before it below the node

@@ -1,5 +1,5 @@
 -- A `BoxStorage` with another item in the home of one.
-use Rattle.std.proofs.Common.{◌≡◌, ℕ, ◌-◌, ◌<◌, length, get_or, arith, sym, ap, ◌∙◌, subst, inl, inr}
+use Rattle.std.proofs.Common.{◌≡◌, ℕ, ◌-◌, length, get_or, arith, sym, ap, ◌∙◌, subst, inl, inr}
 use Rattle.std.proofs.Math.Bridge.{le_prop}
 use Rattle.std.proofs.Math.Nat.{ℕ_set}
 use Rattle.range_store.specs.Depth.{HasLevels}

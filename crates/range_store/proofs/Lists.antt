@@ -19,7 +19,8 @@ module _ {X : Type 0} where
     within =
         elim (cases_lt n (length s.slots)) [
           | inl less ↦ less
-          | inr past ↦ let none : get s n ≡ None = get_or_past s.slots n None past in absurd (none-some old (sym none ∙ found))
+          | inr past ↦ let none : get s n ≡ None = get_or_past s.slots n None past in absurd
+              (none-some old (sym none ∙ found))
         ]
 
     pub value_here : get (with_value s n new) n ≡ Some new
@@ -31,16 +32,32 @@ module _ {X : Type 0} where
     pub value_len : slab_len (with_value s n new) ≡ slab_len s
     value_len =
         let one : ◌≡◌ {A = ℕ} (cond (is_some (get s n)) 1 0) 1 = rw found refl in
-        omega (arith, one, sum_by-set (λ slot. cond (is_some slot) 1 0) s.slots n (Some new) None within)
+        omega (
+          arith,
+          one,
+          sum_by-set (λ slot. cond (is_some slot) 1 0) s.slots n (Some new) None
+              within,
+        )
 
-pub found_list : (slot : Option (ArrayVec ℕ)) → 0 < length (numbers_of slot) → (list : ArrayVec ℕ) × (slot ≡ Some list)
+pub found_list : (slot : Option (ArrayVec ℕ)) → 0 < length (numbers_of slot)
+    → (list : ArrayVec ℕ) × (slot ≡ Some list)
 found_list None some = absurd (omega arith)
 found_list (Some list) some = (list, refl)
 
-pub list_kept : (lists : Slab (ArrayVec ℕ)) (key : ℕ) → WritesList lists lists key (list_in lists key)
-list_kept lists key = record { list_is = refl; still = refl; others = λ other differs. refl; len = refl; capacity = refl }
+pub list_kept : (lists : Slab (ArrayVec ℕ)) (key : ℕ)
+    → WritesList lists lists key (list_in lists key)
+list_kept lists key = record {
+  list_is = refl;
+  still = refl;
+  others = λ other differs. refl;
+  len
+      = refl;
+  capacity = refl;
+}
 
-pub list_written : (lists : Slab (ArrayVec ℕ)) (key : ℕ) (old new : ArrayVec ℕ) (whole : List ℕ) → get lists key ≡ Some old → new.items ≡ whole → WritesList lists (with_value lists key new) key whole
+pub list_written : (lists : Slab (ArrayVec ℕ)) (key : ℕ) (old new : ArrayVec ℕ) (whole : List ℕ)
+    → get lists key ≡ Some old → new.items ≡ whole
+    → WritesList lists (with_value lists key new) key whole
 list_written lists key old new whole found is =
     let here = value_here lists key old new found in
     record {
@@ -54,7 +71,10 @@ list_written lists key old new whole found is =
 list_counted : (key : ℕ) → key ≢ NO_LIST → list_count key ≡ 1
 list_counted key some = rw (ne_eqb key NO_LIST some) refl
 
-pub list_stored : (lists new : Slab (ArrayVec ℕ)) (key : ℕ) (list : ArrayVec ℕ) (whole : List ℕ) → list.items ≡ whole → key ≢ NO_LIST → get lists key ≡ None → Updates lists new key (Some list) → slab_len new ≡ slab_len lists + 1 → new.capacity ≡ lists.capacity → StoresList lists new key whole
+pub list_stored : (lists new : Slab (ArrayVec ℕ)) (key : ℕ) (list : ArrayVec ℕ) (whole : List ℕ)
+    → list.items ≡ whole → key ≢ NO_LIST → get lists key ≡ None → Updates lists new key (Some list)
+    → slab_len new ≡ slab_len lists + 1 → new.capacity ≡ lists.capacity
+    → StoresList lists new key whole
 list_stored lists new key list whole is some fresh updates len capacity =
     record {
       fresh = fresh;
@@ -66,11 +86,22 @@ list_stored lists new key list whole is some fresh updates len capacity =
       capacity = capacity;
     }
 
-list_dropped : (lists new : Slab (ArrayVec ℕ)) (key : ℕ) → key ≢ NO_LIST → Updates lists new key None → slab_len new + 1 ≡ slab_len lists → new.capacity ≡ lists.capacity → DropsList lists new key
+list_dropped : (lists new : Slab (ArrayVec ℕ)) (key : ℕ) → key ≢ NO_LIST
+    → Updates lists new key None → slab_len new + 1 ≡ slab_len lists → new.capacity ≡ lists.capacity
+    → DropsList lists new key
 list_dropped lists new key some updates len capacity =
-    record { gone = updates.changed; others = updates.others; len = omega (arith, len, list_counted key some); capacity = capacity }
+    record {
+      gone = updates.changed;
+      others = updates.others;
+      len = omega
+          (arith, len, list_counted key some);
+      capacity = capacity;
+    }
 
-pub list_divided : (lists new : Slab (ArrayVec ℕ)) (key right half : ℕ) (old left : ArrayVec ℕ) (rest whole : List ℕ) → get lists key ≡ Some old → left.items ≡ take half whole → rest ≡ drop half whole → StoresList (with_value lists key left) new right rest → DividesList lists new key half whole right
+pub list_divided : (lists new : Slab (ArrayVec ℕ)) (key right half : ℕ) (old left : ArrayVec ℕ)
+    (rest whole : List ℕ) → get lists key ≡ Some old → left.items ≡ take half whole
+    → rest ≡ drop half whole → StoresList (with_value lists key left) new right rest
+    → DividesList lists new key half whole right
 list_divided lists new key right half old left rest whole found left_is rest_is stores =
     record {
       between = with_value lists key left;
@@ -79,7 +110,8 @@ list_divided lists new key right half old left rest whole found left_is rest_is 
     }
 
 -- no list more
-pub list_absent : (lists : Slab (ArrayVec ℕ)) → get lists NO_LIST ≡ None → StoresList lists lists NO_LIST []
+pub list_absent : (lists : Slab (ArrayVec ℕ)) → get lists NO_LIST ≡ None
+    → StoresList lists lists NO_LIST []
 list_absent lists none =
     record {
       fresh = none;
@@ -91,13 +123,21 @@ list_absent lists none =
       capacity = refl;
     }
 
-pub list_appended : (lists between : Slab (ArrayVec ℕ)) (left right : ℕ) (kept gone new : ArrayVec ℕ) → left ≢ right → right ≢ NO_LIST → get lists right ≡ Some gone → Updates lists between right None → slab_len between + 1 ≡ slab_len lists → between.capacity ≡ lists.capacity → get between left ≡ Some kept → new.items ≡ kept.items ++ gone.items → AppendsList lists (with_value between left new) left right
-list_appended lists between left right kept gone new apart some found updates len capacity there whole =
-    let lefts : list_in lists left ≡ kept.items = ap numbers_of (sym (updates.others left apart) ∙ there) in
+pub list_appended : (lists between : Slab (ArrayVec ℕ)) (left right : ℕ)
+    (kept gone new : ArrayVec ℕ) → left ≢ right → right ≢ NO_LIST → get lists right ≡ Some gone
+    → Updates lists between right None → slab_len between + 1 ≡ slab_len lists
+    → between.capacity ≡ lists.capacity → get between left ≡ Some kept
+    → new.items ≡ kept.items ++ gone.items → AppendsList lists (with_value between left new) left
+    right
+list_appended lists between left right kept gone new apart some found updates len capacity there
+    whole =
+    let lefts : list_in lists left ≡ kept.items = ap numbers_of
+    (sym (updates.others left apart) ∙ there) in
     let rights : list_in lists right ≡ gone.items = ap numbers_of found in
     let all : new.items ≡ list_in lists left ++ list_in lists right = rw (lefts, rights) whole in
     record {
       between = between;
       dropped = list_dropped lists between right some updates len capacity;
-      written = list_written between left kept new (list_in lists left ++ list_in lists right) there all;
+      written = list_written between left kept new (list_in lists left ++ list_in lists right) there
+          all;
     }

@@ -5,7 +5,7 @@ use Rattle.std.proofs.lemmas.List.{drop_more, take_more, length-append, get_or_a
 use Rattle.std.proofs.lemmas.List.Elements.{All-cons, All-head, All-tail, All-append, All-weaker}
 use Rattle.range_store.specs.Heap.{Heap, node_of, items_of, children_of}
 use Rattle.range_store.specs.declared.btree.nodes.TheConstants.{CAPACITY, MIN_LEN}
-use Rattle.range_store.specs.Nodes.{items_below, used, Shaped, ShapedBut, Shrinks, IsMendable, IsLevelled, child_size}
+use Rattle.range_store.specs.Nodes.{items_below, used, Shaped, ShapedBut, Shrinks, IsMendable, IsLevelled}
 use Rattle.range_store.proofs.Below.{Shaped-from_but, Shaped-but, shaped_within_wider}
 use Rattle.range_store.proofs.Moves.{Moves-none}
 use Rattle.range_store.specs.Weave.{list_splits_at}

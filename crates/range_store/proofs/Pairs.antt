@@ -1,13 +1,10 @@
 -- An edge below one of two children that are levelled.
-use Rattle.std.proofs.Common.{◌≡◌, ◌⊎◌, ℕ, zero, suc, ◌+◌, ◌-◌, ◌<◌, ◌≤◌, List, [], ◌∷◌, ◌++◌, length, get_or, take, map, refl, ap, ◌∙◌, inl, inr, arith, Option, Some, None, IsSome}
-use Rattle.std.specs.List.{sum_by}
-use Rattle.std.proofs.lemmas.List.{length-map, get_or-map, take_more}
-use Rattle.std.proofs.lemmas.List.Sums.{sum_by-cons, sum_by-append}
+use Rattle.std.proofs.Common.{◌≡◌, ◌⊎◌, ℕ, zero, suc, ◌+◌, ◌-◌, ◌<◌, ◌≤◌, List, [], ◌∷◌, ◌++◌, length, get_or, map, ap, inl, inr, arith}
+use Rattle.std.proofs.lemmas.List.{length-map, get_or-map}
 use Rattle.range_store.specs.Heap.{Heap, node_of, items_of, children_of}
-use Rattle.range_store.specs.declared.btree.nodes.Split.{Split}
 use Rattle.range_store.specs.declared.btree.nodes.TheConstants.{CAPACITY, MIN_LEN}
 use Rattle.range_store.specs.declared.btree.way.Edge.{Edge}
-use Rattle.range_store.specs.Nodes.{items_below, before, tops, separators, ShapedBut, IsLevelled, child_size}
+use Rattle.range_store.specs.Nodes.{items_below, before, ShapedBut, IsLevelled, child_size}
 use Rattle.range_store.specs.Edges.{inside, seat_of, IsEdge, IsSeat, seat_place}
 use Rattle.range_store.proofs.Edges.{leaf_index, turn_within}
 use Rattle.range_store.specs.Weave.{length-before_next}

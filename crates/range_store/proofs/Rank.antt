@@ -1,12 +1,9 @@
 -- What stands at a rank, and what is known of a whole tree.
-use Rattle.std.proofs.Common.{◌≡◌, ℕ, zero, suc, ◌+◌, ◌-◌, ◌*◌, ◌<◌, ◌≤◌, List, [], ◌∷◌, ◌++◌, length, get_or, drop, map, refl, sym, ap, ◌∙◌, inl, inr, arith}
-use Rattle.std.proofs.lemmas.List.{length-append, length-drop, drop_more, drop_all, get_or-append-add, get_or_append_left, get_or-append_right}
-use Rattle.std.proofs.lemmas.Bool.{cases_lt}
+use Rattle.std.proofs.Common.{◌≡◌, ℕ, zero, suc, ◌+◌, ◌*◌, ◌≤◌, [], length, get_or, refl, ap, arith}
 use Rattle.range_store.specs.Heap.{Heap, node_of, node_count, items_of, children_of}
 use Rattle.range_store.specs.declared.btree.nodes.TheConstants.{CAPACITY, MIN_LEN}
-use Rattle.range_store.specs.Nodes.{rest_of, before, after, items_below, used, ShapedBut, IsRoot, IsTree, here}
-use Rattle.range_store.proofs.Below.{lists_length, items_below_at, Shaped-but}
-use Rattle.range_store.specs.Frame.{same_below, same_children, IsNode-same}
+use Rattle.range_store.specs.Nodes.{items_below, used, ShapedBut, IsTree, here}
+use Rattle.range_store.proofs.Below.{Shaped-but}
 use Rattle.range_store.specs.Occurrences.{occurrences, occurrences-nil}
 
 pub items_below_none : {T : Type 0} (s : Heap T) (n : ℕ) → items_below s zero n ≡ []

@@ -18,7 +18,7 @@ use Rattle.range_store.proofs.Moves.{here_le}
 use Rattle.range_store.proofs.Pairs.{pair_seat, seat_low}
 use Rattle.range_store.proofs.Contents.{left_items_below, part_agree}
 use Rattle.range_store.proofs.Edits.{remove_parts, take-append-add, drop-append-add}
-use Rattle.range_store.proofs.Joining.{pair_apart, pair_content, pair_length, united_agree, united_holds, united_rejoins, shared_agree, shared_left, shared_right, shared_rejoins}
+use Rattle.range_store.proofs.Joining.{pair_apart, pair_content, united_agree, united_holds, united_rejoins, shared_agree, shared_left, shared_right, shared_rejoins}
 use Rattle.range_store.proofs.Levelling.{levelled_edge, levelled_shrinks, pair_children, pair_of, pair_parts}
 use Rattle.range_store.proofs.Seats.{seat_alone, seat_beside, seat_left, seat_right, seat_written}
 

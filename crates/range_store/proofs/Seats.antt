@@ -2,12 +2,12 @@
 use Rattle.std.proofs.Common.{◌≡◌, ◌≢◌, ℕ, zero, suc, ◌+◌, ◌-◌, ◌^◌, ◌<◌, ◌≤◌, List, [], ◌∷◌, ◌++◌, length, get_or, take, drop, map, refl, sym, ap, ◌∙◌, inr, arith, Option, Some, None, take-add, take-take, take_all, get_or-take, get_or-drop}
 use Rattle.std.specs.List.{flat_map, sum_by}
 use Rattle.std.proofs.lemmas.List.{length-append, length-map, length-take-le, length-drop, take-map, drop-map, map-append, nil_from_length, get_or-append-add, get_or_append_left, take-append-le}
-use Rattle.std.proofs.lemmas.List.Sums.{sum_by-cons, sum_by-append}
+use Rattle.std.proofs.lemmas.List.Sums.{sum_by-append}
 use Rattle.range_store.specs.Heap.{Heap, child_count}
 use Rattle.range_store.specs.declared.btree.nodes.Split.{Split}
 use Rattle.range_store.specs.declared.btree.way.Edge.{Edge}
 use Rattle.range_store.specs.declared.btree.way.TheConstants.{DEEPEST}
-use Rattle.range_store.specs.Nodes.{weave, front_of, before, items_below, used, tops, separators}
+use Rattle.range_store.specs.Nodes.{weave, before, items_below, used, tops, separators}
 use Rattle.range_store.specs.Edges.{turn, inside, IsEdge, place, IsSeat, seat_place}
 use Rattle.range_store.proofs.Edges.{same_edge, way_small}
 use Rattle.range_store.proofs.Edits.{take-append-add}

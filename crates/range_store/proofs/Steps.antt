@@ -15,20 +15,25 @@ none_from : {X : Type 0} (slot : Option X) → is_some slot ≡ false → slot �
 none_from None none = refl
 none_from (Some x) none = absurd (cc)
 
-module _ {T : Type 0} (nodes : Slab (Node T)) (lists : Slab (ArrayVec ℕ)) (n : ℕ) (whole : IsWhole nodes lists) where
+module _ {T : Type 0} (nodes : Slab (Node T)) (lists : Slab (ArrayVec ℕ)) (n : ℕ)
+    (whole : IsWhole nodes lists) where
   module _ (node : Node T) (found : get nodes n ≡ Some node) where
     -- the list of one node is that of no other
     foreign : (m : ℕ) → m ≢ n → list_of (get nodes m) ≢ NO_LIST → list_of (get nodes m) ≢ node.list
     foreign m other some both = other (whole.apart m n some (both ∙ sym (ap list_of found)))
 
-    module _ (new_lists : Slab (ArrayVec ℕ)) (new : Node T) (xs : List T) (ks : List ℕ) (same : new.list ≡ node.list) (full : new.cells.items ≡ full_cells xs) (writes : WritesList lists new_lists node.list ks) where
+    module _ (new_lists : Slab (ArrayVec ℕ)) (new : Node T) (xs : List T) (ks : List ℕ)
+        (same : new.list ≡ node.list) (full : new.cells.items ≡ full_cells xs)
+        (writes : WritesList lists new_lists node.list ks) where
       here : get (with_value nodes n new) n ≡ Some new
       here = value_here nodes n node new found
 
       no_list_after : get new_lists NO_LIST ≡ None
       no_list_after =
           elim (cases_eq NO_LIST node.list) [
-            | inl key ↦ none_from (get new_lists NO_LIST) (ap (λ k. is_some (get new_lists k)) key ∙ writes.still ∙ ap (λ k. is_some (get lists k)) (sym key) ∙ ap is_some whole.none)
+            | inl key ↦ none_from (get new_lists NO_LIST)
+                (ap (λ k. is_some (get new_lists k)) key ∙ writes.still
+                ∙ ap (λ k. is_some (get lists k)) (sym key) ∙ ap is_some whole.none)
             | inr differs ↦ writes.others NO_LIST differs ∙ whole.none
           ]
 
@@ -40,18 +45,31 @@ module _ {T : Type 0} (nodes : Slab (Node T)) (lists : Slab (ArrayVec ℕ)) (n :
             foreign = foreign;
             full = rw here (IsFull-from new.cells.items xs full);
             kept = λ some.
-                let was : IsSome (get lists node.list) = rw found at (whole.kept n (λ none. some (ap list_of here ∙ same ∙ sym (ap list_of found) ∙ none))) in
+                let was : IsSome (get lists node.list) = rw found at
+                (whole.kept n (λ none. some (ap list_of here ∙ same ∙ sym (ap list_of found)
+                ∙ none))) in
                 rw (here, same) (writes.still ∙ was);
             own = λ some. ap list_of here ∙ same;
             none = no_list_after;
-            counted = omega (arith, writes.len, ap lists_of found, ap lists_of here, lists_counted node, lists_counted new, ap list_count same);
+            counted = omega (
+              arith,
+              writes.len,
+              ap lists_of found,
+              ap lists_of here,
+              lists_counted
+                  node,
+              lists_counted new,
+              ap list_count same,
+            );
             fits = omega (arith, whole.fits, value_len nodes n node new found, writes.capacity);
           }
 
       pub written_whole : IsWhole (with_value nodes n new) new_lists
-      written_whole = whole_after nodes (with_value nodes n new) lists new_lists n node.list whole change
+      written_whole = whole_after nodes (with_value nodes n new) lists new_lists n node.list whole
+          change
 
-      pub written : Writes (heap_of nodes lists) (heap_of (with_value nodes n new) new_lists) n xs ks
+      pub written : Writes (heap_of nodes lists) (heap_of (with_value nodes n new) new_lists) n xs
+          ks
       written =
           let after = found_read (with_value nodes n new) new_lists n new here in
           record {
@@ -59,12 +77,17 @@ module _ {T : Type 0} (nodes : Slab (Node T)) (lists : Slab (ArrayVec ℕ)) (n :
             present = rw after refl;
             items_are = ap items_of after ∙ items_are new.cells.items xs full;
             children_are = ap children_of after ∙ ap (list_in new_lists) same ∙ writes.list_is;
-            others = frame_after nodes (with_value nodes n new) lists new_lists n node.list whole change;
-            len = nodes_count (with_value nodes n new) new_lists ∙ value_len nodes n node new found ∙ sym (nodes_count nodes lists);
+            others = frame_after nodes (with_value nodes n new) lists new_lists n node.list whole
+                change;
+            len = nodes_count (with_value nodes n new) new_lists ∙ value_len nodes n node new found
+                ∙ sym (nodes_count nodes lists);
             capacity = ap (min nodes.capacity) writes.capacity;
           }
 
-    module _ (new_nodes : Slab (Node T)) (new_lists : Slab (ArrayVec ℕ)) (updates : Updates nodes new_nodes n None) (len : slab_len new_nodes + 1 ≡ slab_len nodes) (capacity : new_nodes.capacity ≡ nodes.capacity) (drops : DropsList lists new_lists node.list) where
+    module _ (new_nodes : Slab (Node T)) (new_lists : Slab (ArrayVec ℕ))
+        (updates : Updates nodes new_nodes n None) (len : slab_len new_nodes + 1 ≡ slab_len nodes)
+        (capacity : new_nodes.capacity ≡ nodes.capacity)
+        (drops : DropsList lists new_lists node.list) where
       no_list_left : get new_lists NO_LIST ≡ None
       no_list_left =
           elim (cases_eq NO_LIST node.list) [
@@ -83,7 +106,14 @@ module _ {T : Type 0} (nodes : Slab (Node T)) (lists : Slab (ArrayVec ℕ)) (n :
             kept = λ some. absurd (some none);
             own = λ some. absurd (some none);
             none = no_list_left;
-            counted = omega (arith, drops.len, ap lists_of found, lists_counted node, without_list (get new_nodes n) updates.changed);
+            counted = omega (
+              arith,
+              drops.len,
+              ap lists_of found,
+              lists_counted node,
+              without_list
+                  (get new_nodes n) updates.changed,
+            );
             fits = omega (arith, whole.fits, len, drops.capacity);
           }
 
@@ -100,7 +130,12 @@ module _ {T : Type 0} (nodes : Slab (Node T)) (lists : Slab (ArrayVec ℕ)) (n :
             capacity = rw (capacity, drops.capacity) refl;
           }
 
-  module _ (new_nodes : Slab (Node T)) (new_lists : Slab (ArrayVec ℕ)) (new : Node T) (xs : List T) (ks : List ℕ) (fresh : get nodes n ≡ None) (updates : Updates nodes new_nodes n (Some new)) (len : slab_len new_nodes ≡ slab_len nodes + 1) (capacity : new_nodes.capacity ≡ nodes.capacity) (full : new.cells.items ≡ full_cells xs) (room : slab_len nodes + 1 ≤ lists.capacity) (stores : StoresList lists new_lists new.list ks) where
+  module _ (new_nodes : Slab (Node T)) (new_lists : Slab (ArrayVec ℕ)) (new : Node T) (xs : List T)
+      (ks : List ℕ) (fresh : get nodes n ≡ None) (updates : Updates nodes new_nodes n (Some new))
+      (len : slab_len new_nodes ≡ slab_len nodes + 1)
+      (capacity : new_nodes.capacity ≡ nodes.capacity) (full : new.cells.items ≡ full_cells xs)
+      (room : slab_len nodes + 1 ≤ lists.capacity)
+      (stores : StoresList lists new_lists new.list ks) where
     no_list_more : get new_lists NO_LIST ≡ None
     no_list_more =
         elim (cases_eq NO_LIST new.list) [
@@ -121,7 +156,13 @@ module _ {T : Type 0} (nodes : Slab (Node T)) (lists : Slab (ArrayVec ℕ)) (n :
           kept = λ some. rw updates.changed (stores.present (rw updates.changed at some));
           own = λ some. ap list_of updates.changed;
           none = no_list_more;
-          counted = omega (arith, stores.len, ap lists_of updates.changed, lists_counted new, without_list (get nodes n) fresh);
+          counted = omega (
+            arith,
+            stores.len,
+            ap lists_of updates.changed,
+            lists_counted new,
+            without_list (get nodes n) fresh,
+          );
           fits = omega (arith, room, len, stores.capacity);
         }
 

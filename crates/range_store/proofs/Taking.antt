@@ -1,12 +1,12 @@
 -- A whole list after an item was taken out of it.
-use Rattle.std.proofs.Common.{◌≡◌, ℕ, suc, ◌+◌, ◌-◌, ◌*◌, ◌<◌, ◌≤◌, length, get_or, refl, sym, ap, ◌∙◌, arith}
+use Rattle.std.proofs.Common.{◌≡◌, ℕ, suc, ◌+◌, ◌-◌, ◌*◌, ◌<◌, ◌≤◌, length, get_or, sym, ap, ◌∙◌, arith}
 use Rattle.std.specs.List.{remove}
 use Rattle.std.specs.Prelude.{min}
 use Rattle.std.proofs.Math.ListN.{set}
 use Rattle.std.proofs.lemmas.List.Edits.{length-remove, get_or-remove_below}
 use Rattle.range_store.specs.Heap.{Heap, node_of, items_of, with_item}
 use Rattle.range_store.specs.Edges.{IsEdge, place}
-use Rattle.range_store.specs.Holding.{box_items, box_room, IsBoxEdge, box_place, box_home, IsGood, good_within, good_item, good_then, good_home, written_items, with_good_item}
+use Rattle.range_store.specs.Holding.{box_items, box_room, IsBoxEdge, box_place, box_home, IsGood, good_item, good_then, written_items, with_good_item}
 use Rattle.range_store.specs.Nodes.{items_below, IsRoomy}
 use Rattle.range_store.specs.declared.btree.BoxStorage.{BoxStorage}
 use Rattle.range_store.specs.declared.btree.nodes.TheConstants.{MIN_LEN}

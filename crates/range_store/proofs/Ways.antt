@@ -1,5 +1,5 @@
 -- A node above the leaves, and the edges and items below its children.
-use Rattle.std.proofs.Common.{◌≡◌, ◌≢◌, List, ℕ, zero, suc, ◌+◌, ◌-◌, ◌<◌, ◌≤◌, ◌++◌, length, get_or, map, refl, sym, ap, ◌∙◌, arith, cond, Bool, true, false, ◌==◌, inl, inr}
+use Rattle.std.proofs.Common.{◌≡◌, ◌≢◌, ℕ, zero, suc, ◌+◌, ◌-◌, ◌<◌, ◌≤◌, ◌++◌, length, get_or, map, refl, ap, ◌∙◌, arith, cond, true, false, ◌==◌, inl, inr}
 use Rattle.range_store.specs.Heap.{Heap, node_of, items_of, children_of}
 use Rattle.range_store.specs.declared.btree.nodes.TheConstants.{CAPACITY, MIN_LEN}
 use Rattle.range_store.specs.declared.btree.way.Edge.{Edge}
@@ -7,8 +7,8 @@ use Rattle.range_store.specs.declared.btree.way.Home.{Home}
 use Rattle.range_store.specs.Nodes.{items_below, before, after, ShapedBut}
 use Rattle.range_store.specs.Edges.{turn, inside, is_start, IsEdge, place, home_of}
 use Rattle.range_store.specs.Written.{place_of_start, start_of_place}
-use Rattle.range_store.proofs.Below.{children_length, items_below_at, length-before_more, none_after_last, shaped_within_wider, items_below_leaf}
-use Rattle.range_store.proofs.Edges.{edge_above, place_above, place_inside, edge_inside, turn_within, place_within, leaf_edge, leaf_place}
+use Rattle.range_store.proofs.Below.{children_length, items_below_at, length-before_more, none_after_last, shaped_within_wider}
+use Rattle.range_store.proofs.Edges.{edge_above, place_above, place_inside, edge_inside, turn_within, place_within}
 use Rattle.range_store.proofs.Rank.{kid_shaped}
 use Rattle.std.proofs.lemmas.List.{length-append}
 use Rattle.std.proofs.lemmas.Bool.{and_from, and_parts, both_ways, cases_eq, eq-eqb, eqb-true}

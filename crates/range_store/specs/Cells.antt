@@ -1,4 +1,5 @@
--- How `Nodes` keeps its nodes: each with its items in full cells, and with its children, if it has some, in a list beside. No public clause cites this file.
+-- How `Nodes` keeps its nodes: each with its items in full cells, and with its children, if it has
+-- some, in a list beside. No public clause cites this file.
 use Rattle.std.specs.Prelude.{◌≡◌, ◌≢◌, ℕ, ◌+◌, ◌≤◌, ◌==◌, Bool, not, if◌then◌else◌, List, [], ◌++◌, length, map, take, drop, min, Option, Some, None, is_some, IsSome, count_by, filter_map}
 use Rattle.slab.specs.Slab.{Slab, get, slab_len}
 use Rattle.arrayvec.specs.ArrayVec.{ArrayVec}
@@ -45,7 +46,8 @@ pub record DropsList (old new : Slab (ArrayVec ℕ)) (key : ℕ) : Type 0 where
   pub capacity : new.capacity ≡ old.capacity
 
 -- the first `half` numbers of a list stayed, and the others went to a new one
-pub record DividesList (old new : Slab (ArrayVec ℕ)) (key half : ℕ) (list : List ℕ) (right : ℕ) : Type 0 where
+pub record DividesList (old new : Slab (ArrayVec ℕ)) (key half : ℕ) (list : List ℕ) (right : ℕ)
+    : Type 0 where
   pub between : Slab (ArrayVec ℕ)
   pub first : WritesList old between key (take half list)
   pub second : StoresList between new right (drop half list)
@@ -86,21 +88,32 @@ module _ {T : Type 0} where
   -- what a node has
   abbrev pub content_of : Slab (ArrayVec ℕ) → Option (Node T) → Option (Content T)
   content_of lists None = None
-  content_of lists (Some node) = Some (record { items = items_in node.cells.items; children = list_in lists node.list })
+  content_of lists (Some node) = Some (record {
+    items = items_in node.cells.items;
+    children
+        = list_in lists node.list;
+  })
 
   -- what all of them have
   abbrev pub heap_of : Slab (Node T) → Slab (ArrayVec ℕ) → Heap T
-  heap_of nodes lists = record { slots = map (content_of lists) nodes.slots; capacity = min nodes.capacity lists.capacity }
+  heap_of nodes lists = record {
+    slots = map (content_of lists) nodes.slots;
+    capacity = min
+        nodes.capacity lists.capacity;
+  }
 
   -- each cell has an item
   abbrev pub IsFull : List (Option T) → Type 0
   IsFull cells = cells ≡ full_cells (items_in cells)
 
-  -- each cell is full, each list is that of one node, and there are no others; there is capacity for one of each node
+  -- each cell is full, each list is that of one node, and there are no others; there is capacity
+  -- for one of each node
   pub record IsWhole (nodes : Slab (Node T)) (lists : Slab (ArrayVec ℕ)) : Type 0 where
     pub full : (n : ℕ) → IsFull (cells_of (get nodes n))
-    pub kept : (n : ℕ) → list_of (get nodes n) ≢ NO_LIST → IsSome (get lists (list_of (get nodes n)))
-    pub apart : (n m : ℕ) → list_of (get nodes n) ≢ NO_LIST → list_of (get nodes n) ≡ list_of (get nodes m) → n ≡ m
+    pub kept : (n : ℕ) → list_of (get nodes n) ≢ NO_LIST
+        → IsSome (get lists (list_of (get nodes n)))
+    pub apart : (n m : ℕ) → list_of (get nodes n) ≢ NO_LIST
+        → list_of (get nodes n) ≡ list_of (get nodes m) → n ≡ m
     pub none : get lists NO_LIST ≡ None
     pub counted : slab_len lists ≡ count_by has_list nodes.slots
     pub fits : slab_len nodes ≤ lists.capacity

@@ -1,7 +1,7 @@
 -- What a node is to hold, before it is written, and what the heap is once it was.
-use Rattle.std.specs.Prelude.{◌≡◌, ℕ, suc, ◌+◌, ◌-◌, ◌≤◌, List, ◌∷◌, ◌++◌, length, map, take, drop, Option, IsSome, slice_index}
+use Rattle.std.specs.Prelude.{◌≡◌, ℕ, suc, ◌+◌, ◌-◌, ◌≤◌, List, ◌∷◌, ◌++◌, length, map, Option, IsSome}
 use Rattle.std.specs.List.{All, flat_map}
-use Rattle.range_store.specs.Heap.{Heap, node_of, items_of, child_count, Writes, Stores}
+use Rattle.range_store.specs.Heap.{Heap, node_of, items_of, child_count}
 use Rattle.range_store.specs.Occurrences.{occurrences}
 use Rattle.range_store.specs.declared.btree.nodes.Split.{Split}
 use Rattle.range_store.specs.declared.btree.nodes.TheConstants.{CAPACITY, MIN_LEN}

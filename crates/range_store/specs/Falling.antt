@@ -1,5 +1,5 @@
 -- A test that is true on a front of a list and false after it.
-use Rattle.std.specs.Prelude.{◌≡◌, ℕ, Bool, false, List, [], ◌∷◌, Option, Some, None, count_by}
+use Rattle.std.specs.Prelude.{◌≡◌, Bool, false, List, [], ◌∷◌, Option, Some, None, count_by}
 
 module _ {X : Type 0} where
   -- once the test is false it stays so

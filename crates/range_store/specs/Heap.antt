@@ -73,7 +73,14 @@ module _ {T : Type 0} where
   -- the nodes with another item at an index of one
   abbrev pub with_item : Heap T → ℕ → ℕ → T → Heap T
   with_item s n i x =
-      record s { slots = slice_set s.slots n (Some (record { items = slice_set (items_of (node_of s n)) i x; children = children_of (node_of s n) })) }
+      record s {
+        slots = slice_set s.slots n (Some
+            (record {
+              items = slice_set (items_of (node_of s n)) i x;
+              children = children_of
+                  (node_of s n);
+            }));
+      }
 
   -- an item with no child may come to a leaf, and one with a child to a node over others
   abbrev pub FitsChild : Option ℕ → List T → List ℕ → Type 0
@@ -109,7 +116,8 @@ module _ {T : Type 0} where
     pub capacity : new.capacity ≡ old.capacity
 
   -- the first `half` items went to n, the next is `middle`, and those after it went to a new node
-  pub record Divides (old new : Heap T) (n half : ℕ) (items : List T) (children : List ℕ) (middle : T) (right : ℕ) : Type 0 where
+  pub record Divides (old new : Heap T) (n half : ℕ) (items : List T) (children : List ℕ)
+      (middle : T) (right : ℕ) : Type 0 where
     pub middle_is : middle ≡ slice_index_or items half middle
     pub between : Heap T
     pub first : Writes old between n (take half items) (take (half + 1) children)
@@ -135,7 +143,8 @@ module _ {T : Type 0} where
   abbrev pub right_children : Heap T → ℕ → ℕ → List ℕ
   right_children s n i = children_of (node_of s (right_child s n i))
 
-  -- n has an item at i, and a child on either side of it: three nodes, and the children over as many levels
+  -- n has an item at i, and a child on either side of it: three nodes, and the children over as
+  -- many levels
   pub record HasPair (s : Heap T) (n i : ℕ) : Type 0 where
     pub parent : HasNode s n
     pub item : i < length (items_of (node_of s n))
@@ -147,44 +156,59 @@ module _ {T : Type 0} where
     pub apart : left_child s n i ≢ right_child s n i
     pub below : ℕ
     pub left_branches : length (left_children s n i) ≡ child_count below (length (left_items s n i))
-    pub right_branches : length (right_children s n i) ≡ child_count below (length (right_items s n i))
+    pub right_branches : length (right_children s n i) ≡ child_count below
+        (length (right_items s n i))
 
   -- the left child, the right one and n were written with these items and children, in turn
-  pub record Rotates (old new : Heap T) (n i : ℕ) (lefts rights items : List T) (left_kids right_kids : List ℕ) : Type 0 where
+  pub record Rotates (old new : Heap T) (n i : ℕ) (lefts rights items : List T)
+      (left_kids right_kids : List ℕ) : Type 0 where
     pub first : Heap T
     pub second : Heap T
     pub left : Writes old first (left_child old n i) lefts left_kids
     pub right : Writes first second (right_child old n i) rights right_kids
     pub parent : Writes second new n items (children_of (node_of old n))
 
-  -- the first item of the right child went up to n, and that of n at i to the end of the left child, with the right child's first child
+  -- the first item of the right child went up to n, and that of n at i to the end of the left
+  -- child, with the right child's first child
   pub record RotatesLeft (old new : Heap T) (n i : ℕ) : Type 0 where
     pub down : T
     pub down_is : down ≡ slice_index_or (items_of (node_of old n)) i down
     pub up : T
     pub up_is : right_items old n i ≡ up ∷ drop 1 (right_items old n i)
-    pub rotates : Rotates old new n i (left_items old n i ++ down ∷ []) (drop 1 (right_items old n i)) (slice_set (items_of (node_of old n)) i up) (left_children old n i ++ take 1 (right_children old n i)) (drop 1 (right_children old n i))
+    pub rotates : Rotates old new n i (left_items old n i ++ down ∷ [])
+        (drop 1 (right_items old n i)) (slice_set (items_of (node_of old n)) i up)
+        (left_children old n i ++ take 1 (right_children old n i)) (drop 1 (right_children old n i))
 
-  -- the last item of the left child went up to n, and that of n at i to the front of the right child, with the left child's last child
+  -- the last item of the left child went up to n, and that of n at i to the front of the right
+  -- child, with the left child's last child
   pub record RotatesRight (old new : Heap T) (n i : ℕ) : Type 0 where
     pub down : T
     pub down_is : down ≡ slice_index_or (items_of (node_of old n)) i down
     pub up : T
-    pub up_is : left_items old n i ≡ take (length (left_items old n i) - 1) (left_items old n i) ++ up ∷ []
-    pub rotates : Rotates old new n i (take (length (left_items old n i) - 1) (left_items old n i)) (down ∷ right_items old n i) (slice_set (items_of (node_of old n)) i up) (take (length (left_items old n i)) (left_children old n i)) (drop (length (left_items old n i)) (left_children old n i) ++ right_children old n i)
+    pub up_is : left_items old n i ≡ take (length (left_items old n i) - 1) (left_items old n i)
+        ++ up ∷ []
+    pub rotates : Rotates old new n i (take (length (left_items old n i) - 1) (left_items old n i))
+        (down ∷ right_items old n i) (slice_set (items_of (node_of old n)) i up)
+        (take (length (left_items old n i)) (left_children old n i))
+        (drop (length (left_items old n i)) (left_children old n i) ++ right_children old n i)
 
-  -- the left child has all that both had, with the item of n at i between; the right child went, and n has that item and the right child no more
+  -- the left child has all that both had, with the item of n at i between; the right child went,
+  -- and n has that item and the right child no more
   pub record Merges (old new : Heap T) (n i : ℕ) : Type 0 where
     pub down : T
     pub down_is : down ≡ slice_index_or (items_of (node_of old n)) i down
     pub first : Heap T
     pub second : Heap T
-    pub left : Writes old first (left_child old n i) (left_items old n i ++ down ∷ right_items old n i) (left_children old n i ++ right_children old n i)
+    pub left : Writes old first (left_child old n i)
+        (left_items old n i ++ down ∷ right_items old n i)
+        (left_children old n i ++ right_children old n i)
     pub right : Removes first second (right_child old n i)
-    pub parent : Writes second new n (remove (items_of (node_of old n)) i) (remove (children_of (node_of old n)) (i + 1))
+    pub parent : Writes second new n (remove (items_of (node_of old n)) i)
+        (remove (children_of (node_of old n)) (i + 1))
 
   -- the node r went, and l has what r had too, with an item between
   pub record Absorbs (old new : Heap T) (l : ℕ) (middle : T) (r : ℕ) : Type 0 where
     pub between : Heap T
     pub right : Removes old between r
-    pub left : Writes between new l (items_of (node_of old l) ++ middle ∷ items_of (node_of old r)) (children_of (node_of old l) ++ children_of (node_of old r))
+    pub left : Writes between new l (items_of (node_of old l) ++ middle ∷ items_of (node_of old r))
+        (children_of (node_of old l) ++ children_of (node_of old r))

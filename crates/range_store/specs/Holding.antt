@@ -1,15 +1,13 @@
 -- What a `BoxStorage` holds, and what it is once an item was written.
-use Rattle.std.specs.Prelude.{◌≡◌, ◌⊎◌, ℕ, zero, suc, ◌+◌, ◌-◌, ◌*◌, ◌<◌, ◌≤◌, ◌^◌, List, length, Option, Some, None, slice_set, min, refl}
+use Rattle.std.specs.Prelude.{◌≡◌, ◌⊎◌, ℕ, zero, suc, ◌+◌, ◌-◌, ◌*◌, ◌<◌, ◌^◌, List, length, Option, Some, None, slice_set, min, refl}
 use Rattle.std.proofs.Common.{get_or, sym, ap, ◌∙◌, inl, inr, arith}
 use Rattle.std.proofs.Math.ListN.{set, length-set}
 use Rattle.std.proofs.lemmas.Bool.{cases_lt, cases_eq}
 use Rattle.std.proofs.lemmas.List.{set_past}
-use Rattle.range_store.specs.Depth.{HasLevels}
 use Rattle.range_store.specs.Heap.{Heap, node_of, items_of, children_of, with_item}
-use Rattle.range_store.specs.Nodes.{items_below, used, here, ShapedBut, IsTree, IsRoomy}
-use Rattle.range_store.specs.Occurrences.{occurrences}
+use Rattle.range_store.specs.Nodes.{items_below, IsRoomy}
 use Rattle.range_store.specs.Edges.{turn, inside, IsEdge, place, home_of}
-use Rattle.range_store.specs.Places.{place_before, IsAt}
+use Rattle.range_store.specs.Places.{place_before}
 use Rattle.range_store.specs.Written.{SameShape, turned, length_same, tree_same, edge_same, place_same, IsHome, home_is, home_item, home_set, home_within, written_shape, item_written, tree_once, root_shaped}
 use Rattle.range_store.specs.declared.btree.BoxStorage.{BoxStorage}
 use Rattle.range_store.specs.declared.btree.nodes.TheConstants.{CAPACITY, MIN_LEN}

@@ -110,7 +110,8 @@ pub fn put_child(
         (λ _. (0 < length (list_in lists.old list))
         × (index ≤ length (list_in lists.old list))
         × (length (list_in lists.old list) < CHILD_PLACES)) }
-    ensures { WritesList lists.old lists.new list (with_child (list_in lists.old list) index child) }
+    ensures { WritesList lists.old lists.new list
+        (with_child (list_in lists.old list) index child) }
 {
     if let Some(child) = child {
         lists[list].insert(index, child);

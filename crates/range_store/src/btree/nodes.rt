@@ -301,7 +301,8 @@ impl<T: Drop> Nodes<T> {
         self.append(left, down, right);
     }
 
-    // Puts an item before the one at an index, and a child, if there is one, before that at `place`.
+    // Puts an item before the one at an index, and a child, if there is one, before the one at
+    // `place`.
     fn put_beside(
         &mut self,
         number: usize,

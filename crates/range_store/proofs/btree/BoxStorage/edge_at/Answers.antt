@@ -1,4 +1,4 @@
-use Rattle.std.proofs.Common.{◌∙◌, rules}
+use Rattle.std.proofs.Common.{rules}
 use Rattle.range_store.proofs.Positions.{before_good, end_known, end_place}
 use Rattle.range_store.proofs.btree.BoxStorage.edge_at.Goals as goal
 

@@ -1,4 +1,4 @@
-use Rattle.std.proofs.Common.{◌-◌, sym, rules, arith}
+use Rattle.std.proofs.Common.{◌-◌, sym, rules}
 use Rattle.range_store.specs.Written.{root_shaped}
 use Rattle.range_store.proofs.InLeaf.{leaf_home}
 use Rattle.range_store.proofs.btree.BoxStorage.home.Goals as goal

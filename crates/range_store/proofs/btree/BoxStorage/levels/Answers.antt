@@ -1,4 +1,3 @@
-use Rattle.std.proofs.Common.{sym}
 use Rattle.range_store.proofs.btree.BoxStorage.levels.Goals as goal
 
 pub returns-clause-empty : goal.returns-clause-empty

@@ -1,13 +1,5 @@
-use Rattle.std.proofs.Common.{◌≡◌, [], suc, ◌-◌, ◌<◌, ◌≤◌, ◌+◌, ◌∙◌, length, refl, ap, sym, rules, arith, Option, Some, None}
-use Rattle.std.specs.List.{remove}
-use Rattle.std.specs.Prelude.{MatchOption}
-use Rattle.range_store.specs.Edges.{IsEdge, place}
-use Rattle.range_store.specs.Heap.{with_item}
-use Rattle.range_store.specs.Nodes.{items_below}
-use Rattle.range_store.specs.Holding.{box_items, box_place, box_home, IsBoxEdge, IsGood, good_home, with_good_item}
-use Rattle.range_store.specs.declared.btree.way.Edge.{Edge}
-use Rattle.range_store.proofs.InLeaf.{place_index}
-use Rattle.range_store.proofs.Positions.{none_next}
+use Rattle.std.proofs.Common.{◌≡◌, [], ◌-◌, ◌≤◌, ◌+◌, length, ap, rules, arith}
+use Rattle.range_store.specs.Holding.{box_items, box_place, IsBoxEdge, IsGood, good_home}
 use Rattle.range_store.proofs.Taking.{one_fewer, room_grows, space_grows, IsReplaced, replaced, replaced_item}
 use Rattle.range_store.proofs.Whole.{edge_within, tree_behind}
 use Rattle.range_store.proofs.btree.BoxStorage.take.Goals as goal

@@ -1,5 +1,5 @@
-use Rattle.std.proofs.Common.{◌∙◌, ap, get_or, sym, rules}
-use Rattle.range_store.specs.Holding.{box_items, good_home}
+use Rattle.std.proofs.Common.{rules}
+use Rattle.range_store.specs.Holding.{good_home}
 use Rattle.range_store.proofs.Lent.{item_home}
 use Rattle.range_store.proofs.btree.BoxStorageStorage.get.Goals as goal
 

@@ -1,4 +1,4 @@
-use Rattle.std.proofs.Common.{◌≡◌, ◌∙◌, ap, arith}
+use Rattle.std.proofs.Common.{◌∙◌, ap, arith}
 use Rattle.std.specs.List.{insert}
 use Rattle.range_store.specs.Holding.{box_items}
 use Rattle.range_store.proofs.Positions.{good_from}

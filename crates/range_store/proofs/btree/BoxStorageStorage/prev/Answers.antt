@@ -1,5 +1,5 @@
-use Rattle.std.proofs.Common.{◌≡◌, ◌-◌, ◌∙◌, sym, arith}
-use Rattle.range_store.specs.Holding.{box_place, rank_is}
+use Rattle.std.proofs.Common.{◌-◌, ◌∙◌, sym, arith}
+use Rattle.range_store.specs.Holding.{rank_is}
 use Rattle.range_store.proofs.Positions.{good_from}
 use Rattle.range_store.proofs.Ways.{not_start, stands_first}
 use Rattle.range_store.specs.Written.{root_shaped}

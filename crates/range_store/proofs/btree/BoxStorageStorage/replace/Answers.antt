@@ -1,7 +1,5 @@
-use Rattle.std.proofs.Common.{◌∙◌, ap, refl, rules}
-use Rattle.std.proofs.Math.ListN.{set}
-use Rattle.range_store.specs.Heap.{with_item}
-use Rattle.range_store.specs.Holding.{box_items, box_home, good_home, rank_is, written_items, written_nodes}
+use Rattle.std.proofs.Common.{refl, rules}
+use Rattle.range_store.specs.Holding.{good_home, rank_is, written_items, written_nodes}
 use Rattle.range_store.specs.Written.{SameShape}
 use Rattle.range_store.proofs.Lent.{counted_at, good_same, item_home, roomy_at, written_at}
 use Rattle.range_store.proofs.btree.BoxStorageStorage.replace.Goals as goal

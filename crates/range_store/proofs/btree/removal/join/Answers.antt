@@ -1,4 +1,4 @@
-use Rattle.std.proofs.Common.{◌≡◌, ◌⊎◌, ◌+◌, ◌-◌, ◌<◌, ◌≤◌, rules, arith}
+use Rattle.std.proofs.Common.{rules, arith}
 use Rattle.range_store.proofs.Edges.{way_low}
 use Rattle.range_store.proofs.Pairs.{near_seat}
 use Rattle.range_store.proofs.Rotating.{has_pair, joined_edge, joined_shrinks, moved_way}

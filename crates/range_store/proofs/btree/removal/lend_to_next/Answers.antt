@@ -1,8 +1,7 @@
-use Rattle.std.proofs.Common.{◌+◌, ◌-◌, rules, arith}
+use Rattle.std.proofs.Common.{◌-◌, rules, arith}
 use Rattle.range_store.proofs.Edges.{way_low}
 use Rattle.range_store.proofs.Pairs.{seat_low}
 use Rattle.range_store.specs.declared.btree.nodes.TheConstants.{MIN_LEN}
-use Rattle.range_store.specs.Edges.{IsEdge, place, seat_place}
 use Rattle.range_store.proofs.Rotating.{has_pair, moved_way, next_edge, next_kept, next_shrinks}
 use Rattle.range_store.proofs.btree.removal.lend_to_next.Goals as goal
 

@@ -1,4 +1,4 @@
-use Rattle.std.proofs.Common.{◌+◌, rules, arith}
+use Rattle.std.proofs.Common.{rules, arith}
 use Rattle.range_store.proofs.Edges.{way_small}
 use Rattle.range_store.proofs.Rotating.{has_pair, previous_edge, previous_kept, previous_shrinks}
 use Rattle.range_store.proofs.btree.removal.lend_to_previous.Goals as goal

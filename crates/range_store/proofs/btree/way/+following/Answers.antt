@@ -1,4 +1,4 @@
-use Rattle.std.proofs.Common.{◌≡◌, ◌+◌, ◌-◌, ◌<◌, length, refl, rules, ap, ◌∙◌, arith}
+use Rattle.std.proofs.Common.{◌+◌, ◌-◌, ◌<◌, length, refl, rules, ap, ◌∙◌, arith}
 use Rattle.range_store.specs.Heap.{items_of, node_of}
 use Rattle.range_store.specs.Edges.{turn}
 use Rattle.range_store.proofs.Below.{items_below_leaf}

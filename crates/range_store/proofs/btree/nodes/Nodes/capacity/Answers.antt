@@ -5,4 +5,9 @@ use Rattle.range_store.proofs.btree.nodes.Nodes.capacity.Goals as goal
 
 pub returns-clause-holds_all : goal.returns-clause-holds_all
 returns-clause-holds_all g c =
-    omega (arith, ap node_count c.self.view_is, nodes_count c.self.inside.nodes c.self.inside.lists, c.self.invariant.fits)
+    omega (
+      arith,
+      ap node_count c.self.view_is,
+      nodes_count c.self.inside.nodes c.self.inside.lists,
+      c.self.invariant.fits,
+    )

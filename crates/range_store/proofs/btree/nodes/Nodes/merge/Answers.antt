@@ -17,9 +17,30 @@ append-requires g c =
     let pair = c.requires.pair in
     let left = c.take_beside-down.ensures.rest.others _ pair.left_apart in
     let right = c.take_beside-down.ensures.rest.others _ pair.right_apart in
-    rw (c.child_at-left.ensures, c.child_at-right.ensures, left, right) (search rules, (pair.left, (pair.right, (pair.apart, (c.requires.room, (merged_children s n i pair, merged_places s n i pair c.requires.room))))))
+    rw (c.child_at-left.ensures, c.child_at-right.ensures, left, right) (
+      search rules,
+      (
+        pair.left,
+        (
+          pair.right,
+          (
+            pair.apart,
+            (
+              c.requires.room,
+              (
+                merged_children s n i pair,
+                merged_places s n i pair
+                    c.requires.room,
+              ),
+            ),
+          ),
+        ),
+      ),
+    )
 
 pub returns : goal.returns
 returns g c =
     let two = rw (c.child_at-left.ensures, c.child_at-right.ensures) at c.append.ensures in
-    merged c.args.self.now c.take_beside-down.new.self c.append.new.self c.args.number c.args.index c.requires.pair c.take_beside-down.result.0 c.take_beside-down.ensures.item c.take_beside-down.ensures.rest two
+    merged c.args.self.now c.take_beside-down.new.self c.append.new.self c.args.number c.args.index
+    c.requires.pair c.take_beside-down.result.0 c.take_beside-down.ensures.item
+    c.take_beside-down.ensures.rest two
