@@ -26,10 +26,6 @@ pub child_count_cases : (d k m : ℕ) → m ≡ child_count d k → (m ≡ 0) �
 child_count_cases zero k m h = inl h
 child_count_cases (suc d) k m h = inr h
 
-pub child_count_most : (d k m : ℕ) → m ≡ child_count d k → m ≤ k + 1
-child_count_most zero k m h = omega (arith, h)
-child_count_most (suc d) k m h = omega (arith, h)
-
 pub used_is : {T : Type 0} (s : Heap T) (d n : ℕ) → used s (suc d) n ≡ n ∷ flat_map (used s d) (children_of (node_of s n))
 unfolding used
 used_is s d n = refl

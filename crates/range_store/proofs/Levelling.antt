@@ -13,7 +13,7 @@ use Rattle.range_store.specs.Weave.{list_splits_at, weave_splice, length-before}
 use Rattle.range_store.proofs.Below.{weave_items_below}
 use Rattle.range_store.proofs.Moves.{Moves-then, Writes-moves}
 use Rattle.range_store.proofs.Contents.{held_items_below, held_used, held_shape, written_holds, written_agree}
-use Rattle.range_store.proofs.Growing.{Runs, run_kept, run_moved, run_content, run_lists, same_before, used_old}
+use Rattle.range_store.proofs.Growing.{Runs, run_moved, run_content, run_lists, same_before, used_old}
 use Rattle.range_store.proofs.Seats.{seat_run, seat_written}
 
 -- the parts round the two children at j and after it
@@ -76,9 +76,6 @@ module _ {T : Type 0} (s : Heap T) (low n j : ℕ) (x : T) (levelled : IsLevelle
       children = ks_parts;
       moved = subst (λ zs. Moves s t (used s (suc low) l ++ zs) (flat_map (used t (suc low)) (tops l split))) (sym (append-nil (used s (suc low) r))) rejoins.moved;
     }
-
-    pub pair_kept : node_of t n ≡ node_of s n
-    pair_kept = run_kept s t (suc low) n us (l ∷ r ∷ []) vs (tops l split) pair_run
 
     abbrev new_xs : List T
     new_xs = take j (items_of (node_of s n)) ++ (separators split ++ drop (j + 1) (items_of (node_of s n)))

@@ -10,7 +10,6 @@ use Rattle.range_store.specs.Places.{IsAt, IsFrontOf}
 use Rattle.range_store.specs.declared.btree.BoxStorage.{BoxStorage}
 use Rattle.range_store.specs.declared.btree.way.Edge.{Edge}
 use Rattle.range_store.proofs.Front.{falling_front}
-use Rattle.range_store.proofs.Levels.{levels_le}
 
 module _ {X : Type 0} where
   remove_last : (xs : List X) (j : ℕ) (d : X) → j + 1 ≡ length xs → remove xs j ++ (get_or xs j d ∷ []) ≡ xs
@@ -46,16 +45,6 @@ module _ {T : Type 0} (s : BoxStorage T) where
   pub next_from : (rank : ℕ) → 0 < s.levels → (edge : Option Edge) → MatchOption edge (rank ≡ length (items_below s.nodes (suc (s.levels - 1)) s.root)) (λ h. IsEdge s.nodes (s.levels - 1) s.root h × (place s.nodes (s.levels - 1) s.root h ≡ rank + 1)) → IsNextEdge s edge rank
   next_from rank some None none = let level : suc (s.levels - 1) ≡ s.levels = omega (arith, some) in rw level at none
   next_from rank some (Some h) is = (record { some = some; edge = is.0 }, is.1)
-
-  -- none is next just where nothing is left
-  pub none_next : (rank : ℕ) → box_items s ≡ [] → rank ≡ 0 → IsNextEdge s None rank
-  none_next rank none first = first ∙ sym (ap length none)
-
-  -- the edge at the end of a list that has items
-  pub good_end : (edge : Edge) → IsBoxEdge s edge → box_place s edge ≡ length (box_items s) → IsGood s edge × (box_rank s edge + 1 ≡ length (box_items s))
-  good_end edge is last =
-      let good = good_from edge is (omega (arith, last, is.some, levels_le s.nodes s.levels s.root s.whole.tree)) in
-      (good.0, good.1 ∙ last)
 
   -- the edge after all items, if there are any
   pub end_place : (edge : Option Edge) → MatchOption edge (box_items s ≡ []) (λ g. IsBoxEdge s g × (box_place s g ≡ length (box_items s))) → edge_or_end s edge ≡ length (box_items s)

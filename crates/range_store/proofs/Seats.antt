@@ -1,5 +1,5 @@
 -- Edges in a node that is to be written, by their seats.
-use Rattle.std.proofs.Common.{◌≡◌, ◌≢◌, ℕ, zero, suc, ◌+◌, ◌-◌, ◌^◌, ◌<◌, ◌≤◌, List, [], ◌∷◌, ◌++◌, length, get_or, take, drop, map, refl, sym, ap, ◌∙◌, inr, arith, Option, Some, None, take-add, take-take, take_all, get_or-take, get_or-drop}
+use Rattle.std.proofs.Common.{◌≡◌, ℕ, zero, suc, ◌+◌, ◌-◌, ◌^◌, ◌<◌, ◌≤◌, List, [], ◌∷◌, ◌++◌, length, get_or, take, drop, map, refl, sym, ap, ◌∙◌, inr, arith, Option, Some, None, take-add, take-take, take_all, get_or-take, get_or-drop}
 use Rattle.std.specs.List.{flat_map, sum_by}
 use Rattle.std.proofs.lemmas.List.{length-append, length-map, length-take-le, length-drop, take-map, drop-map, map-append, nil_from_length, get_or-append-add, get_or_append_left, take-append-le}
 use Rattle.std.proofs.lemmas.List.Sums.{sum_by-append}
@@ -86,16 +86,6 @@ module _ {T : Type 0} (s : Heap T) (d n : ℕ) (g : Edge) where
   unfolding IsSeat seat_place
   seat_beside split is =
       ((omega arith, is), omega (arith, length-append (items_below s (suc d) n ++ (split.middle ∷ [])) [], length-append (items_below s (suc d) n) (split.middle ∷ [])))
-
-pub seat_below : {T : Type 0} (s : Heap T) (b : ℕ) (xs : List T) (ks : List ℕ) (i : ℕ) (g : Edge) → b ≢ 0 → i < length ks → IsEdge s (b - 1) (get_or ks i 0) g → IsSeat s b xs ks i g
-unfolding IsSeat
-seat_below s zero xs ks i g inner within is = absurd (inner refl)
-seat_below s (suc d) xs ks i g inner within is = let level : suc d - 1 ≡ d = omega arith in (within, rw level at is)
-
-pub seat_place_below : {T : Type 0} (s : Heap T) (b : ℕ) (xs : List T) (ks : List ℕ) (i : ℕ) (g : Edge) → b ≢ 0 → seat_place s b xs ks i g ≡ length (before xs (map (items_below s b) ks) i) + place s (b - 1) (get_or ks i 0) g
-unfolding seat_place
-seat_place_below s zero xs ks i g inner = absurd (inner refl)
-seat_place_below s (suc d) xs ks i g inner = let level : suc d - 1 ≡ d = omega arith in rw level refl
 
 -- an edge in a run of children, among all of them
 module _ {T : Type 0} (s : Heap T) (d : ℕ) (us ts vs : List ℕ) (xs seps ys : List T) (i j : ℕ) (g : Edge) (many : length us ≡ i) (items : length xs ≡ i) (more : length ts ≡ length seps + 1) where

@@ -1,7 +1,7 @@
 -- Lists with items between them.
 use Rattle.std.proofs.Common.{◌≡◌, ◌⊎◌, ℕ, suc, ◌+◌, ◌-◌, ◌<◌, ◌≤◌, List, [], ◌∷◌, ◌++◌, length, get_or, take, drop, refl, sym, ap, ◌∙◌, inl, inr, add-zero, add-one, arith}
 use Rattle.std.specs.List.{insert, sum_by}
-use Rattle.std.proofs.lemmas.List.{append_assoc, append-nil, length-append, length-take-le, take-append-drop, drop_more, take_more}
+use Rattle.std.proofs.lemmas.List.{append_assoc, length-append, length-take-le, take-append-drop, drop_more, take_more}
 use Rattle.std.proofs.lemmas.List.Edits.{insert-append_left, insert-append_right}
 use Rattle.std.proofs.lemmas.List.Sums.{sum_by-cons, sum_by-append}
 use Rattle.range_store.specs.Nodes.{rest_of, weave, front_of, before, after}
@@ -47,14 +47,6 @@ module _ {X : Type 0} where
       let lengths : length (take i xs) ≡ length (take i ks) = length-take-le i xs within ∙ sym (length-take-le i ks (omega arith)) in
       let split = weave_split (take i xs) (drop i xs) (take i ks) (get_or ks i []) (drop (i + 1) ks) lengths in
       sym (ap (λ zs. weave zs (take i ks ++ get_or ks i [] ∷ drop (i + 1) ks)) (take-append-drop i xs) ∙ ap (weave xs) cut) ∙ split
-
-  pub before_more : (xs : List X) (ks : List (List X)) (i : ℕ) (d : X) → i < length xs → length ks ≡ length xs + 1 → before xs ks (i + 1) ≡ before xs ks i ++ (get_or ks i [] ++ get_or xs i d ∷ [])
-  before_more xs ks i d within same =
-      let lengths : length (take i xs) ≡ length (take i ks) = length-take-le i xs (omega arith) ∙ sym (length-take-le i ks (omega arith)) in
-      ap (λ zs. front_of zs (take (i + 1) ks)) (take_more xs i d within)
-      ∙ ap (front_of (take i xs ++ get_or xs i d ∷ [])) (take_more ks i [] (omega arith))
-      ∙ front_of-append (take i xs) (get_or xs i d ∷ []) (take i ks) (get_or ks i [] ∷ []) lengths
-      ∙ ap (λ zs. before xs ks i ++ zs) (append-nil (get_or ks i [] ++ get_or xs i d ∷ []))
 
   -- some lists in the place of one
   pub weave_splice : (xs seps ys : List X) (ks : List (List X)) (t : List X) (ts ls : List (List X)) → length xs ≡ length ks → length seps ≡ length ts → weave (xs ++ (seps ++ ys)) (ks ++ ((t ∷ ts) ++ ls)) ≡ front_of xs ks ++ (weave seps (t ∷ ts) ++ rest_of ys ls)
