@@ -16,7 +16,7 @@ use Rattle.range_map.specs.declared.change.edges.Edge.{Edge}
 use Rattle.range_map.specs.declared.change.window.Window.{Window}
 use Rattle.range_map.proofs.Edging.{edges_insert}
 use Rattle.range_map.proofs.Framing.{gave_way}
-use Rattle.range_map.proofs.Lengths.{one_item, changed_length, left_length, right_length, run_ends, few_rest, begins_within, le_of, bound_size}
+use Rattle.range_map.proofs.Lengths.{one_item, changed_length, left_length, right_length}
 use Rattle.range_map.proofs.Openings.{left_kept, right_kept, left_good, right_good, upto_end}
 
 -- the edges and the run are such that a container can be changed so
@@ -43,7 +43,7 @@ module _ {K V P : Type 0} {is_good is_good' : P → Type 0} {rank rank' : P → 
         left_good = left_good is_good is_good' rank rank' items items' kept same_list left at begin before start on_left;
         right_good = right_good is_good is_good' rank rank' items items' kept same_list right upto end after finish on_right;
         good = good_at is_good' rank' (length items) from begin moved;
-        in_range = rw (here, size, sum) (le_of upto end (length items) least within);
+        in_range = rw (here, size, sum) (omega (arith, least, within));
         on_left = subst (λ n. IsLeftShape is_good' rank' items' left at n before start) (sym here) (left_kept is_good is_good' rank rank' items items' kept same_list left at begin before start on_left);
         on_right = subst (λ n. IsRightShape is_good' rank' items' right n end after finish) (sym (ap (λ n. n + count) here ∙ sum)) (right_kept is_good is_good' rank rank' items items' kept same_list right upto end after finish on_right);
       }
@@ -55,19 +55,16 @@ module _ {K : Type 0} {order : KeyOrder K} {lawful : IsLawful order} {V : Type 0
 
   pub planned_insert : (new : List (Item (AnyRange K) V)) → new ≡ take left.at items ++ option_items left.rest ++ option_items (Some made_item) ++ option_items right.rest ++ drop right.end items → IsInserted order same items new r v
   planned_insert new made =
-      let few = few_rest (length (option_items left.rest)) (length (option_items right.rest)) (length (option_items first)) (length (option_items last)) w.count left.few right.few apart in
+      let few : length (option_items left.rest) + length (option_items right.rest) ≤ w.count + 1 = omega (arith, left.few, right.few, apart) in
       let frame = gave_way lawful equal window new v made_item left.at right.end left.rest right.rest left.start right.finish left.frame right.frame few refl refl (equal.refl v) (λ e. refl) made in
       edges_insert lawful equal window new v made_item left.at right.end left.rest right.rest left.start right.finish left.side right.side refl refl (equal.refl v) frame made
 
   pub planned_size : (new : List (Item (AnyRange K) V)) → new ≡ take left.at items ++ option_items left.rest ++ option_items (Some made_item) ++ option_items right.rest ++ drop right.end items → 2 * length new + w.count ≤ 2 * length items + 4
   planned_size new made =
-      let firsts = length (option_items first) in
-      let lasts = length (option_items last) in
       let left_is = left_length is_good rank items edge left.at left.begin left.rest left.start left.shape in
       let right_is = right_length is_good rank items behind right.upto right.end right.rest right.finish right.shape in
-      let begins = begins_within left.at (length (option_items left.rest)) left.begin (joined_count edge) place firsts lasts w.count (length items) left_is left.begins apart window.in_range in
-      let size = changed_length items new (option_items left.rest) (option_items (Some made_item)) (option_items right.rest) left.at right.end begins right.side.in_range made in
-      bound_size (length new) right.end left.at (length (option_items left.rest)) (length (option_items right.rest)) (length items) left.begin place firsts (joined_count edge) right.upto lasts w.count (joined_count behind) size left_is right_is left.begins right.ends apart (one_item first) (one_item last)
+      let size = changed_length items new (option_items left.rest) (option_items (Some made_item)) (option_items right.rest) left.at right.end (omega (arith, left_is, left.begins, apart, window.in_range)) right.side.in_range made in
+      omega (arith, size, left_is, right_is, left.begins, right.ends, apart, one_item first, one_item last)
 
   -- such a run is within the list
   pub planned_count : joined_count edge + (w.count - (length (option_items first) + length (option_items last))) + joined_count behind ≤ length items
@@ -77,4 +74,4 @@ module _ {K : Type 0} {order : KeyOrder K} {lawful : IsLawful order} {V : Type 0
 
   -- where the run takes in the items that join, it ends where the plan after it begins
   pub planned_run : (n : ℕ) → n ≡ joined_count edge + (w.count - (length (option_items first) + length (option_items last))) + joined_count behind → left.begin + n ≡ right.upto
-  planned_run n is = run_ends left.begin (joined_count edge) place (length (option_items first)) (length (option_items last)) w.count right.upto (joined_count behind) n left.begins right.ends apart is
+  planned_run n is = omega (arith, left.begins, right.ends, apart, is)

@@ -4,28 +4,28 @@ use Rattle.std.specs.List.{All, flat_map}
 use Rattle.std.proofs.lemmas.List.{append-nil, length-append, length-map, length-take-le, length-drop, take-append-drop, take-map, drop-map}
 use Rattle.std.proofs.lemmas.List.Concat.{flat_map-append}
 use Rattle.std.proofs.lemmas.List.Elements.{All-nil, All-cons, All-take, All-drop}
-use Rattle.slab.specs.Slab.{Slab, get}
-use Rattle.range_store.specs.declared.btree.node.Node.{Node}
-use Rattle.range_store.specs.declared.btree.node.Split.{Split}
-use Rattle.range_store.specs.declared.btree.node.TheConstants.{CAPACITY, MIN_LEN}
-use Rattle.range_store.specs.Nodes.{weave, items_of, children_of, child_count, numbers, used, Shaped, ShapedBut, here, Moves, Writes}
-use Rattle.range_store.specs.Contents.{IsContent, Settles, Divides}
+use Rattle.range_store.specs.Heap.{Heap, node_of, items_of, children_of, child_count, Writes, Divides}
+use Rattle.range_store.specs.declared.btree.nodes.Split.{Split}
+use Rattle.range_store.specs.declared.btree.nodes.TheConstants.{CAPACITY, MIN_LEN}
+use Rattle.range_store.specs.Nodes.{weave, items_below, used, Shaped, ShapedBut, here, Moves}
+use Rattle.range_store.specs.Contents.{IsContent, Settles}
 use Rattle.range_store.specs.Occurrences.{occurrences, occurrences-append, occurrences-cons}
-use Rattle.range_store.proofs.Frame.{AgreeAt, AgreeAt-left, AgreeAt-right, SameChildren, same_children}
-use Rattle.range_store.proofs.Below.{weave_numbers, used_is, child_count_cases}
+use Rattle.range_store.specs.Frame.{AgreeAt, AgreeAt-left, AgreeAt-right, SameChildren, same_children}
+use Rattle.range_store.proofs.Below.{weave_items_below, used_is, child_count_cases}
 use Rattle.range_store.proofs.Moves.{here_some, here_le, occurrences_self, SameNodes, Moves-like, Moves-then, Writes-moves, Stores-moves}
-use Rattle.range_store.proofs.Weave.{weave_halves}
+use Rattle.range_store.specs.Weave.{weave_halves}
 
--- a node of t has items and children of which s has the subtrees
-pub record Holds (s t : Slab Node) (d n : ℕ) (xs ks : List ℕ) : Type 0 where
-  pub present : IsSome (get t n)
-  pub items_are : items_of (get t n) ≡ xs
-  pub children_are : children_of (get t n) ≡ ks
-  pub same : SameChildren s t d ks
+module _ {T : Type 0} where
+  -- a node of t has items and children of which s has the subtrees
+  pub record Holds (s t : Heap T) (d n : ℕ) (xs : List T) (ks : List ℕ) : Type 0 where
+    pub present : IsSome (node_of t n)
+    pub items_are : items_of (node_of t n) ≡ xs
+    pub children_are : children_of (node_of t n) ≡ ks
+    pub same : SameChildren s t d ks
 
-module _ (s t : Slab Node) (d n : ℕ) (xs ks : List ℕ) (holds : Holds s t d n xs ks) where
-  pub held_numbers : numbers t (suc d) n ≡ weave xs (map (numbers s d) ks)
-  held_numbers = weave_numbers t d n ∙ rw (holds.items_are, holds.children_are, holds.same.numbers_same) refl
+module _ {T : Type 0} (s t : Heap T) (d n : ℕ) (xs : List T) (ks : List ℕ) (holds : Holds s t d n xs ks) where
+  pub held_items_below : items_below t (suc d) n ≡ weave xs (map (items_below s d) ks)
+  held_items_below = weave_items_below t d n ∙ rw (holds.items_are, holds.children_are, holds.same.items_below_same) refl
 
   pub held_used : used t (suc d) n ≡ n ∷ flat_map (used s d) ks
   held_used = used_is t d n ∙ rw (holds.children_are, holds.same.used_same) refl
@@ -46,7 +46,7 @@ pub child_count_part : (d k m k' m' : ℕ) → m ≡ child_count d k → (m ≡ 
 child_count_part zero k m k' m' h none some = none h
 child_count_part (suc d) k m k' m' h none some = some h
 
-module _ (s t : Slab Node) (d n : ℕ) (xs ks : List ℕ) (content : IsContent s d n xs ks) where
+module _ {T : Type 0} (s t : Heap T) (d n : ℕ) (xs : List T) (ks : List ℕ) (content : IsContent s d n xs ks) where
   -- the subtrees of the children do not have the node
   pub content_apart : (k : ℕ) → 0 < occurrences k (flat_map (used s d) ks) → k ≢ n
   content_apart k among same =
@@ -69,34 +69,34 @@ module _ (s t : Slab Node) (d n : ℕ) (xs ks : List ℕ) (content : IsContent s
 
     pub written_settles : length xs ≤ CAPACITY → Settles s t d n xs ks None
     written_settles fits = record {
-      listed = append-nil (numbers t (suc d) n) ∙ held_numbers s t d n xs ks written_holds;
+      listed = append-nil (items_below t (suc d) n) ∙ held_items_below s t d n xs ks written_holds;
       moved = subst (λ zs. Moves s t (n ∷ flat_map (used s d) ks) zs) (sym (append-nil (used t (suc d) n) ∙ held_used s t d n xs ks written_holds)) (Writes-moves s t n xs ks (flat_map (used s d) ks) written);
       shape = λ least small enough. All-cons (ShapedBut least CAPACITY t d) n [] (held_shape s t d n xs ks written_holds least enough fits content.branches content.shaped) (All-nil _);
     }
 
 -- the items before and after the one at `half`, in two nodes
-module _ (s t : Slab Node) (d n r half : ℕ) (xs ks : List ℕ) (content : IsContent s d n xs ks) (low : half < length xs) (left : Holds s t d n (take half xs) (take (half + 1) ks)) (right : Holds s t d r (drop (half + 1) xs) (drop (half + 1) ks)) where
+module _ {T : Type 0} (s t : Heap T) (d n r half : ℕ) (xs : List T) (ks : List ℕ) (content : IsContent s d n xs ks) (low : half < length xs) (left : Holds s t d n (take half xs) (take (half + 1) ks)) (right : Holds s t d r (drop (half + 1) xs) (drop (half + 1) ks)) where
   abbrev us : List ℕ
   us = take (half + 1) ks
 
   abbrev vs : List ℕ
   vs = drop (half + 1) ks
 
-  lists_fit : (length (map (numbers s d) ks) ≡ 0) ⊎ (length (map (numbers s d) ks) ≡ length xs + 1)
-  lists_fit = child_count_cases d (length xs) (length (map (numbers s d) ks)) (length-map ks (numbers s d) ∙ content.branches)
+  lists_fit : (length (map (items_below s d) ks) ≡ 0) ⊎ (length (map (items_below s d) ks) ≡ length xs + 1)
+  lists_fit = child_count_cases d (length xs) (length (map (items_below s d) ks)) (length-map ks (items_below s d) ∙ content.branches)
 
-  pub left_numbers : numbers t (suc d) n ≡ weave (take half xs) (map (numbers s d) us)
-  left_numbers = held_numbers s t d n (take half xs) us left
+  pub left_items_below : items_below t (suc d) n ≡ weave (take half xs) (map (items_below s d) us)
+  left_items_below = held_items_below s t d n (take half xs) us left
 
-  right_numbers : numbers t (suc d) r ≡ weave (drop (half + 1) xs) (map (numbers s d) vs)
-  right_numbers = held_numbers s t d r (drop (half + 1) xs) vs right
+  right_items_below : items_below t (suc d) r ≡ weave (drop (half + 1) xs) (map (items_below s d) vs)
+  right_items_below = held_items_below s t d r (drop (half + 1) xs) vs right
 
-  pub halves_listed : (middle : ℕ) → middle ≡ get_or xs half 0 → numbers t (suc d) n ++ (middle ∷ (numbers t (suc d) r ++ [])) ≡ weave xs (map (numbers s d) ks)
+  pub halves_listed : (middle : T) → middle ≡ get_or xs half middle → items_below t (suc d) n ++ (middle ∷ (items_below t (suc d) r ++ [])) ≡ weave xs (map (items_below s d) ks)
   halves_listed middle is =
       let next : suc half ≡ half + 1 = omega arith in
-      let halves = rw next at (weave_halves xs (map (numbers s d) ks) half 0 low lists_fit) in
-      ap (λ zs. numbers t (suc d) n ++ (middle ∷ zs)) (append-nil (numbers t (suc d) r))
-      ∙ sym (halves ∙ rw (take-map (numbers s d) (half + 1) ks, drop-map (numbers s d) (half + 1) ks, ← is, ← left_numbers, ← right_numbers) refl)
+      let halves = rw next at (weave_halves xs (map (items_below s d) ks) half middle low lists_fit) in
+      ap (λ zs. items_below t (suc d) n ++ (middle ∷ zs)) (append-nil (items_below t (suc d) r))
+      ∙ sym (halves ∙ rw (take-map (items_below s d) (half + 1) ks, drop-map (items_below s d) (half + 1) ks, ← is, ← left_items_below, ← right_items_below) refl)
 
   left_used : used t (suc d) n ≡ n ∷ flat_map (used s d) us
   left_used = held_used s t d n (take half xs) us left
@@ -137,21 +137,21 @@ module _ (s t : Slab Node) (d n r half : ℕ) (xs ks : List ℕ) (content : IsCo
       (All-nil _))
 
 -- they are parts of the children
-pub part_agree : (s t : Slab Node) (d half : ℕ) (ks : List ℕ) → AgreeAt s t (flat_map (used s d) ks) → AgreeAt s t (flat_map (used s d) (take half ks)) × AgreeAt s t (flat_map (used s d) (drop half ks))
+pub part_agree : {T : Type 0} (s t : Heap T) (d half : ℕ) (ks : List ℕ) → AgreeAt s t (flat_map (used s d) ks) → AgreeAt s t (flat_map (used s d) (take half ks)) × AgreeAt s t (flat_map (used s d) (drop half ks))
 part_agree s t d half ks agree =
     let both : flat_map (used s d) ks ≡ flat_map (used s d) (take half ks) ++ flat_map (used s d) (drop half ks) = ap (flat_map (used s d)) (sym (take-append-drop half ks)) ∙ flat_map-append (used s d) (take half ks) (drop half ks) in
     let parts = subst (AgreeAt s t) both agree in
     (AgreeAt-left s t (flat_map (used s d) (take half ks)) (flat_map (used s d) (drop half ks)) parts, AgreeAt-right s t (flat_map (used s d) (take half ks)) (flat_map (used s d) (drop half ks)) parts)
 
-module _ (s t : Slab Node) (d n half : ℕ) (xs ks : List ℕ) (split : Split) (content : IsContent s d n xs ks) (cut : Divides s t n half xs ks split) (low : half < length xs) where
+module _ {T : Type 0} (s t : Heap T) (d n half : ℕ) (xs : List T) (ks : List ℕ) (split : Split T) (content : IsContent s d n xs ks) (cut : Divides s t n half xs ks split.middle split.right) (low : half < length xs) where
   pub cut_agree : AgreeAt s t (flat_map (used s d) ks)
   cut_agree k among =
-      let kept : get cut.between k ≡ get s k = cut.first.others k (content_apart s t d n xs ks content k among) in
+      let kept : node_of cut.between k ≡ node_of s k = cut.first.others k (content_apart s t d n xs ks content k among) in
       let was : here s k ≡ 1 = content_there s t d n xs ks content k among in
       cut.second.others k (λ same. let none : here cut.between k ≡ 0 = rw (same, cut.second.fresh) refl in let now : here cut.between k ≡ here s k = rw kept refl in omega (arith, none, now, was))
       ∙ kept
 
-  n_kept : get t n ≡ get cut.between n
+  n_kept : node_of t n ≡ node_of cut.between n
   n_kept = cut.second.others n (λ same. let none : here cut.between n ≡ 0 = rw (same, cut.second.fresh) refl in omega (arith, none, here_some cut.between n cut.first.present))
 
   pub left_holds : Holds s t d n (take half xs) (take (half + 1) ks)
@@ -171,7 +171,7 @@ module _ (s t : Slab Node) (d n half : ℕ) (xs ks : List ℕ) (split : Split) (
 
   pub cut_settles : MIN_LEN ≤ half → half ≤ CAPACITY → half + 1 + MIN_LEN ≤ length xs → length xs ≤ half + 1 + CAPACITY → Settles s t d n xs ks (Some split)
   cut_settles least_left most_left least_right most_right = record {
-    listed = halves_listed s t d n split.right half xs ks content low left_holds right_holds split.middle cut.middle;
+    listed = halves_listed s t d n split.right half xs ks content low left_holds right_holds split.middle cut.middle_is;
     moved = moved;
     shape = λ least small enough. halves_shape s t d n split.right half xs ks content low left_holds right_holds least_left most_left least_right most_right least small;
   }

@@ -1,9 +1,10 @@
 -- Edits just after a front.
-use Rattle.std.proofs.Common.{◌≡◌, ℕ, ◌+◌, ◌-◌, ◌<◌, ◌≤◌, List, [], ◌∷◌, ◌++◌, length, take, drop, get_or, refl, ap, sym, ◌∙◌, add-one, arith, length-append, append_assoc, take-append-drop}
+use Rattle.std.proofs.Common.{◌≡◌, ℕ, zero, suc, ◌+◌, ◌-◌, ◌<◌, ◌≤◌, List, [], ◌∷◌, ◌++◌, length, take, drop, get_or, refl, ap, sym, ◌∙◌, add-one, arith, length-append, append_assoc}
 use Rattle.std.specs.List.{remove}
-use Rattle.std.proofs.lemmas.List.{take_at, drop_at, drop_more, length-take-le, drop-drop, take-set, drop-set}
+use Rattle.std.proofs.lemmas.List.{take_at, drop_at, drop_more, length-take-le, drop-drop}
 use Rattle.std.proofs.Math.ListN.{set}
 use Rattle.std.proofs.lemmas.List.Edits.{remove-append_right}
+use Rattle.range_store.specs.Written.{set_parts}
 
 pub remove_behind : {T : Type 0} (front back : List T) (x : T) (place : ℕ) → length front ≡ place → remove (front ++ x ∷ back) place ≡ front ++ back
 remove_behind front back x place e =
@@ -19,9 +20,6 @@ removed_one before now new place i r d was done same within =
     let after = remove_behind (take place before) (drop (place + i + 1) before) (get_or before (place + i) d) place front in
     let next : place + (i + 1) ≡ place + i + 1 = omega arith in
     rw (done, same, was, more, after, next) refl
-
-pub set_parts : {T : Type 0} (xs : List T) (i : ℕ) (y : T) → i < length xs → set xs i y ≡ take i xs ++ y ∷ drop (i + 1) xs
-set_parts xs i y within = sym (take-append-drop i (set xs i y)) ∙ (ap (λ ys. ys ++ drop i (set xs i y)) (take-set xs i y) ∙ ap (λ ys. take i xs ++ ys) (drop-set xs i y within))
 
 pub remove_parts : {T : Type 0} (xs : List T) (i : ℕ) → remove xs i ≡ take i xs ++ drop (i + 1) xs
 remove_parts xs i = ap (λ m. take i xs ++ drop m xs) (sym (add-one i))
@@ -41,3 +39,15 @@ replaced_run before now new place left less x was fewer within done =
     let tail : drop (place + 1 + less) now ≡ drop (place + left) before =
     sym (drop-drop less (place + 1) now) ∙ (ap (drop less) rest ∙ (drop-drop less (place + (left - less)) before ∙ ap (λ n. drop n before) (omega (arith, fewer)))) in
     done ∙ (ap (λ ys. ys ++ drop (place + 1 + less) now) kept ∙ (ap (λ ys. (take place before ++ x ∷ []) ++ ys) tail ∙ append_assoc (take place before) (x ∷ []) (drop (place + left) before)))
+
+module _ {X : Type 0} where
+  -- the front of two lists, and the rest of them
+  pub take-append-add : (xs ys : List X) (n k : ℕ) → n ≡ length xs + k → take n (xs ++ ys) ≡ xs ++ take k ys
+  take-append-add [] ys n k e = let same : n ≡ k = omega (arith, e) in ap (λ m. take m ys) same
+  take-append-add (x ∷ xs) ys zero k e = absurd (omega arith)
+  take-append-add (x ∷ xs) ys (suc n) k e = ap (λ zs. x ∷ zs) (take-append-add xs ys n k (omega arith))
+
+  pub drop-append-add : (xs ys : List X) (n k : ℕ) → n ≡ length xs + k → drop n (xs ++ ys) ≡ drop k ys
+  drop-append-add [] ys n k e = let same : n ≡ k = omega (arith, e) in ap (λ m. drop m ys) same
+  drop-append-add (x ∷ xs) ys zero k e = absurd (omega arith)
+  drop-append-add (x ∷ xs) ys (suc n) k e = drop-append-add xs ys n k (omega arith)

@@ -79,7 +79,7 @@ pub(crate) fn reaching_after<
     }
 }
 
-/// The items that a range meets, with those that reach out of it. A step for each side that has one.
+/// The items that a range meets, with those that reach out of it. A step for each side of it.
 pub(crate) fn reaching<
     K: Measure,
     V: Eq + Drop,

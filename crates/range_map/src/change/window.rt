@@ -103,8 +103,8 @@ pub(crate) fn walk<K: PartialEnum, V: Eq + Drop, C: Storage<Item<AnyRange<K>, V>
     (count, last, None)
 }
 
-/// The items that a nonempty range meets. Costs one search, and a step for each of them and for the one
-/// after them.
+/// The items that a nonempty range meets. Costs one search, and a step for each of them and for the
+/// one after them.
 pub(crate) fn find_window<
     K: Measure,
     V: Eq + Drop,

@@ -2,7 +2,6 @@ use Rattle.std.proofs.lemmas.Grind.{common_steps}
 use Rattle.std.proofs.Common.{◌≡◌, ◌+◌, ap, ◌∙◌, arith, refl}
 use Rattle.range_map.specs.Edges.{joined_count}
 use Rattle.range_map.specs.Reach.{inner_count}
-use Rattle.range_map.proofs.Lengths.{joins_fit}
 use Rattle.range_map.proofs.Planned.{plan_fits, planned_count, planned_insert, planned_size, planned_run}
 use Rattle.range_map.proofs.Results.{error_has_no_value, on_error}
 use Rattle.range_map.proofs.Seaming.{seam_count}
@@ -63,8 +62,7 @@ returns g c =
     let length_is : c.run_length.result ≡ joined_count c.in_ok-left.left + inner_count c.args.reach.now + joined_count c.in_ok-right.right = omega (arith, left_joins, right_joins, c.run_length.ensures) in
     let sum = planned_run window left right c.requires.apart c.run_length.result length_is in
     let fit = plan_fits c.reserve.ensures.positions c.reserve.ensures.list c.in_ok-left.left c.in_ok-right.right c.run_start.result c.run_length.result left.at left.begin right.upto right.end left.rest right.rest left.start right.finish left.shape right.shape left.run sum right.side.in_range in
-    let fits = joins_fit (joined_count c.in_ok-left.left) (joined_count c.in_ok-right.right) (inner_count c.args.reach.now) c.run_length.result length_is in
-    let made = rw c.reserve.ensures.list at (c.change.ensures left.at right.end left.rest right.rest left.start right.finish fit.on_left fit.on_right fits) in
+    let made = rw c.reserve.ensures.list at (c.change.ensures left.at right.end left.rest right.rest left.start right.finish fit.on_left fit.on_right (omega (arith, length_is))) in
     let new = g.C.Storage.items c.change.new.stored in
     record { ok = planned_insert window left right c.requires.apart new made; few = planned_size window left right c.requires.apart new made; refused = tt }
 

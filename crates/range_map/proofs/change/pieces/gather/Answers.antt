@@ -1,5 +1,5 @@
 use Rattle.std.proofs.lemmas.Grind.{common_steps}
-use Rattle.std.proofs.Common.{rules, ◌≡◌, ◌+◌, length, get_or, take, arith, sym, ap, ◌∙◌, refl, Some}
+use Rattle.std.proofs.Common.{rules, ◌≡◌, ◌+◌, ◌<◌, length, get_or, take, arith, sym, ap, ◌∙◌, refl, Some}
 use Rattle.std.specs.Cmp.{Equal-is}
 use Rattle.std.specs.Option.{option_copied}
 use Rattle.range_algebra.specs.Clones.{bound_clone}
@@ -44,7 +44,7 @@ ask_item-requires g c =
     let window = c.requires.window in
     let was = c.loop-met.invariant in
     let met = c.loop-met._met in
-    let more = c.loop-met-test.true in
+    let more : c.loop-met._met < c.args.window.now.count = omega (arith, c.loop-met-test.true) in
     let here = rw c.in-Some.is at was.position in
     let x = c.get.result.now in
     let read = c.get.ensures ∙ ap (λ n. get_or (g.C.Storage.items c.args.stored.now) n x) here.1 in
@@ -63,10 +63,11 @@ returns-in_err-ask_item g c =
     let x = c.get.result.now in
     let read = c.get.ensures ∙ ap (λ n. get_or (g.C.Storage.items c.args.stored.now) n x) here.1 in
     let before = option_copied c.key_at-before.result in
+    let more : c.loop-met._met < c.args.window.now.count = omega (arith, c.loop-met-test.true) in
     let was = c.loop-met.invariant.underway lawful equal before c.key_at-before.ensures in
     record {
       ok = error_has_no_value _ c.from_residual.result c.from_residual.ensures.0;
-      closure = λ e failed. met_fails lawful equal c.requires.window c.loop-met._met x c.loop-met-test.true read before was e (c.ask_item.ensures.closure e (search rules));
+      closure = λ e failed. met_fails lawful equal c.requires.window c.loop-met._met x more read before was e (c.ask_item.ensures.closure e (search rules));
     }
 
 pub next-at-requires : goal.next-at-requires
@@ -86,6 +87,7 @@ loop-met-preserved g c =
     let equal_keys = λ (a : g.row.K.Denot) (b : g.row.K.Denot) (h : g.K.Clone.is_clone a b).
     sym (g.met.K.MaybeBounded.order_is_cmp a b) ∙ (Equal-is (g.K.Ord.cmp a b)).0 (sym (g.met.K.Ord.matches_eq a b) ∙ c.requires.keys a b h) in
     let before = option_copied c.key_at-before.result in
+    let more : c.loop-met._met < c.args.window.now.count = omega (arith, c.loop-met-test.true) in
     let next : storage.rank stored c.in-Some.p + 1 ≡ place + (met + 1) = omega (arith, here.1) in
     record {
       position = rw next at c.next-at.ensures;
@@ -93,7 +95,7 @@ loop-met-preserved g c =
       underway = λ lawful equal key h.
           let was = c.loop-met.invariant.underway lawful equal before c.key_at-before.ensures in
           let is = h x ∙ ap (λ y. Some y) (ap (λ (i : Item (AnyRange g.row.K.Denot) g.row.V.Denot). i.key) (sym c.get.ensures)) in
-          rw is (met_is_underway lawful equal c.requires.window met x c.loop-met-test.true read before was g.K.Clone.is_clone (bound_clone order lawful g.K.Clone.is_clone equal_keys) c.ask_item.new.items.items c.in_ok-ask_item.ensures.ok);
+          rw is (met_is_underway lawful equal c.requires.window met x more read before was g.K.Clone.is_clone (bound_clone order lawful g.K.Clone.is_clone equal_keys) c.ask_item.new.items.items c.in_ok-ask_item.ensures.ok);
     }
 
 pub key_at-requires : goal.key_at-requires
