@@ -16,4 +16,6 @@ abbrev pub port_order : KeyOrder Port
 port_order = indexed_order port_number port_at 65536
 
 pub ports_counted : IsCounted port_order port_number 65536
-ports_counted = indexed_counted {key_at = port_at} (record { key_at_index = λ port. refl; index_key_at = λ n h. refl; some_key = lit< tt })
+ports_counted =
+    indexed_counted {key_at = port_at}
+    (record { key_at_index = λ port. refl; index_key_at = λ n h. refl; some_key = lit< tt })

@@ -33,8 +33,11 @@ IsLabel (Some text) label = IsSomeOf port_order string_eq text label
 -- the label of the latest rule on the port, and none where no rule is on it; the latest comes first
 abbrev pub IsOfLatest : List Rule → Port → Option Label → Type 0
 IsOfLatest [] port label = label ≡ None
-IsOfLatest (rule ∷ earlier) port label = (Holds port_order rule.range port → IsLabel rule.label label) × (¬ Holds port_order rule.range port → IsOfLatest earlier port label)
+IsOfLatest (rule ∷ earlier) port label =
+    (Holds port_order rule.range port → IsLabel rule.label label)
+    × (¬ Holds port_order rule.range port → IsOfLatest earlier port label)
 
 -- on each port the latest of these rules decides
 abbrev pub IsDecidedBy : Table → List Rule → Type 0
-IsDecidedBy table rules = (port : Port) → port_order.is_key port → (label : Option Label) → Says table port label → IsOfLatest rules port label
+IsDecidedBy table rules = (port : Port) → port_order.is_key port → (label : Option Label)
+    → Says table port label → IsOfLatest rules port label

@@ -1,4 +1,5 @@
--- Automata over characters: which rules they have, which states a step reaches, which texts they accept.
+-- Automata over characters: which rules they have, which states a step reaches, which texts they
+-- accept.
 use Rattle.std.specs.Prelude.{◌≡◌, ◌↔◌, ℕ, ◌⊎◌, List, [], ◌∷◌, IsTrue, Option, Some, None}
 use Rattle.std.specs.Ordering.{nat_cmp}
 use Rattle.std.specs.BTreeMap as map
@@ -45,9 +46,11 @@ module _ (before after : Rules) where
   abbrev pub KeepsAccepting : Type 0
   KeepsAccepting = (p : ℕ) → IsAccepting after p ↔ IsAccepting before p
 
-  -- the rules are those of before, and one that leads from a state by each character of the range to a state
+  -- the rules are those of before, and one that leads from a state by each character of the range
+  -- to a state
   abbrev pub HasRuleAlso : ℕ → AnyRange ℕ → ℕ → Type 0
-  HasRuleAlso from range to = (p c q : ℕ) → IsCharacter c → HasRule after p c q ↔ (HasRule before p c q ⊎ ((p ≡ from) × Holds character_order range c × (q ≡ to)))
+  HasRuleAlso from range to = (p c q : ℕ) → IsCharacter c → HasRule after p c q
+      ↔ (HasRule before p c q ⊎ ((p ≡ from) × Holds character_order range c × (q ≡ to)))
 
   -- the start states are those of before, and this one
   abbrev pub StartsAlsoAt : ℕ → Type 0
@@ -64,7 +67,8 @@ module _ (rules : Rules) where
 
   -- the states that some rule leads to from one of the given by the character
   abbrev pub AreReached : BTreeSet ℕ → ℕ → BTreeSet ℕ → Type 0
-  AreReached states c reached = (q : ℕ) → IsTrue (contains nat_cmp reached q) ↔ (p : ℕ) × IsTrue (contains nat_cmp states p) × HasRule rules p c q
+  AreReached states c reached = (q : ℕ) → IsTrue (contains nat_cmp reached q)
+      ↔ (p : ℕ) × IsTrue (contains nat_cmp states p) × HasRule rules p c q
 
   -- a path of rules leads along the characters from state p to state q
   abbrev pub LeadsTo : ℕ → List ℕ → ℕ → Type 0

@@ -42,7 +42,8 @@ module _ {K : Type 0} (place : K → ℕ) (key_at : ℕ → K) (size : ℕ) wher
       → indexed_pred place key_at size b ≡ Some (key_at (place b - 1))
   pred_at b g h = grind (arith, nat_tests)
 
-module _ {K : Type 0} (place : K → ℕ) {key_at : ℕ → K} {size : ℕ} (has : HasPlaces place key_at size) where
+module _ {K : Type 0} (place : K → ℕ) {key_at : ℕ → K} {size : ℕ}
+    (has : HasPlaces place key_at size) where
   abbrev order : KeyOrder K
   order = indexed_order place key_at size
 
@@ -135,7 +136,8 @@ module _ {K : Type 0} (place : K → ℕ) {key_at : ℕ → K} {size : ℕ} (has
 
   next_of : (a b : K) → place a < size → place b < size → place a < place b → (r : Ordering)
       → MatchOrdering r (place a + 1 < place b) (place a + 1 ≡ place b) (place b < place a + 1)
-      → Tells order (order.succ a) b ⊎ ((c : K) × order.is_key c × Below order a c × Below order c b)
+      → Tells order (order.succ a) b ⊎
+      ((c : K) × order.is_key c × Below order a c × Below order c b)
   next_of a b p q l Less h =
       let c = key_at (place a + 1) in
       let at : place c ≡ place a + 1 = has.place_key_at (place a + 1) (omega arith) in

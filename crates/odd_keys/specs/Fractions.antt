@@ -24,7 +24,8 @@ scaled_by x y k p Equal h = ap (λ w. w * k) h
 scaled_by x y k p Greater h = mul-lt-mul_of_pos_right h p
 
 scaled : (x y k : ℕ) → 0 < k → nat_cmp x y ≡ nat_cmp (x * k) (y * k)
-scaled x y k p = nat_cmp_is (x * k) (y * k) (nat_cmp x y) (scaled_by x y k p (nat_cmp x y) (ranks x y))
+scaled x y k p =
+    nat_cmp_is (x * k) (y * k) (nat_cmp x y) (scaled_by x y k p (nat_cmp x y) (ranks x y))
 
 -- a/b < c/d and c/d < e/f, over plain numbers
 chain : (a b c d e f : ℕ) → 0 < b → 0 < d → 0 < f
@@ -38,20 +39,24 @@ chain a b c d e f p q r g h =
 same : (a b c d e f : ℕ) → 0 < b → 0 < d → 0 < f
     → a * d ≡ c * b → nat_cmp (a * f) (e * b) ≡ nat_cmp (c * f) (e * d)
 same a b c d e f p q r g =
-    let u : (a * f) * d ≡ (c * f) * b = let g' : (a * d) * f ≡ (c * b) * f = ap (λ w. w * f) g in omega arith in
+    let u : (a * f) * d ≡ (c * f) * b = let g' : (a * d) * f ≡ (c * b) * f =
+    ap (λ w. w * f) g in omega arith in
     let v : (e * b) * d ≡ (e * d) * b = omega arith in
     scaled (a * f) (e * b) d q ∙ (λ i. nat_cmp (u i) (v i)) ∙ sym (scaled (c * f) (e * d) b p)
 
 pub fraction_total : IsTotalOrder fraction_cmp
 fraction_total = record {
-  antisymm = λ x y. nat_cmp_total.antisymm (x.numerator * y.denominator) (y.numerator * x.denominator);
+  antisymm =
+      λ x y. nat_cmp_total.antisymm (x.numerator * y.denominator) (y.numerator * x.denominator);
   trans = λ x y z g h.
       sym (nat_cmp_is (x.numerator * z.denominator) (z.numerator * x.denominator) Less
-      (chain x.numerator x.denominator y.numerator y.denominator z.numerator z.denominator x.positive y.positive z.positive
+      (chain x.numerator x.denominator y.numerator y.denominator z.numerator z.denominator
+      x.positive y.positive z.positive
       (ranked (x.numerator * y.denominator) (y.numerator * x.denominator) Less (sym g))
       (ranked (y.numerator * z.denominator) (z.numerator * y.denominator) Less (sym h))));
   congr = λ x y z g.
-      same x.numerator x.denominator y.numerator y.denominator z.numerator z.denominator x.positive y.positive z.positive
+      same x.numerator x.denominator y.numerator y.denominator z.numerator z.denominator x.positive
+      y.positive z.positive
       (ranked (x.numerator * y.denominator) (y.numerator * x.denominator) Equal (sym g));
 }
 

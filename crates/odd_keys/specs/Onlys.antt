@@ -16,4 +16,6 @@ abbrev pub only_order : KeyOrder Only
 only_order = indexed_order only_number only_at 1
 
 pub only_counted : IsCounted only_order only_number 1
-only_counted = indexed_counted {key_at = only_at} (record { key_at_index = λ k. refl; index_key_at = λ n h. omega arith; some_key = lit< tt })
+only_counted =
+    indexed_counted {key_at = only_at}
+    (record { key_at_index = λ k. refl; index_key_at = λ n h. omega arith; some_key = lit< tt })

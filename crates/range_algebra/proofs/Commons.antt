@@ -29,23 +29,59 @@ module _ {K : Type 0} (order : KeyOrder K) (lawful : IsLawful order) where
 
   module _ (a b : Bound K) where
     later_by : (o : Ordering) → places (start_position order a) (start_position order b) ≡ o
-        → Le places (start_position order a) (start_position order (if is_lt o then b else a)) × Le places (start_position order b) (start_position order (if is_lt o then b else a))
-    later_by Less e = let t = position_total order.cmp lawful.total in (lt_le places t (start_position order a) (start_position order b) e, le_refl places t (start_position order b))
-    later_by Equal e = let t = position_total order.cmp lawful.total in (le_refl places t (start_position order a), eq_ge places t (start_position order a) (start_position order b) e)
-    later_by Greater e = let t = position_total order.cmp lawful.total in (le_refl places t (start_position order a), gt_le places t (start_position order a) (start_position order b) e)
+        → Le places (start_position order a) (start_position order (if is_lt o then b else a))
+        × Le places (start_position order b) (start_position order (if is_lt o then b else a))
+    later_by Less e = let t =
+        position_total order.cmp
+        lawful.total in (
+          lt_le places t (start_position order a) (start_position order b) e,
+          le_refl places t (start_position order b),
+        )
+    later_by Equal e = let t =
+        position_total order.cmp
+        lawful.total in (
+          le_refl places t (start_position order a),
+          eq_ge places t (start_position order a) (start_position order b) e,
+        )
+    later_by Greater e = let t =
+        position_total order.cmp
+        lawful.total in (
+          le_refl places t (start_position order a),
+          gt_le places t (start_position order a) (start_position order b) e,
+        )
 
     -- both starts are at most the later
-    pub later_over : Le places (start_position order a) (start_position order (later_start order a b)) × Le places (start_position order b) (start_position order (later_start order a b))
+    pub later_over : Le places (start_position order a)
+        (start_position order (later_start order a b))
+        × Le places (start_position order b) (start_position order (later_start order a b))
     later_over = later_by (places (start_position order a) (start_position order b)) refl
 
     earlier_by : (o : Ordering) → places (end_position order a) (end_position order b) ≡ o
-        → Le places (end_position order (if is_gt o then b else a)) (end_position order a) × Le places (end_position order (if is_gt o then b else a)) (end_position order b)
-    earlier_by Less e = let t = position_total order.cmp lawful.total in (le_refl places t (end_position order a), lt_le places t (end_position order a) (end_position order b) e)
-    earlier_by Equal e = let t = position_total order.cmp lawful.total in (le_refl places t (end_position order a), eq_le places t (end_position order a) (end_position order b) e)
-    earlier_by Greater e = let t = position_total order.cmp lawful.total in (gt_le places t (end_position order a) (end_position order b) e, le_refl places t (end_position order b))
+        → Le places (end_position order (if is_gt o then b else a)) (end_position order a)
+        × Le places (end_position order (if is_gt o then b else a)) (end_position order b)
+    earlier_by Less e = let t =
+        position_total order.cmp
+        lawful.total in (
+          le_refl places t (end_position order a),
+          lt_le places t (end_position order a) (end_position order b) e,
+        )
+    earlier_by Equal e = let t =
+        position_total order.cmp
+        lawful.total in (
+          le_refl places t (end_position order a),
+          eq_le places t (end_position order a) (end_position order b) e,
+        )
+    earlier_by Greater e = let t =
+        position_total order.cmp
+        lawful.total in (
+          gt_le places t (end_position order a) (end_position order b) e,
+          le_refl places t (end_position order b),
+        )
 
     -- the earlier is at most both ends
-    pub earlier_under : Le places (end_position order (earlier_end order a b)) (end_position order a) × Le places (end_position order (earlier_end order a b)) (end_position order b)
+    pub earlier_under : Le places (end_position order (earlier_end order a b))
+        (end_position order a)
+        × Le places (end_position order (earlier_end order a b)) (end_position order b)
     earlier_under = earlier_by (places (end_position order a) (end_position order b)) refl
 
     -- the later start, and the earlier end, are one of the two
@@ -67,22 +103,57 @@ module _ {K : Type 0} (order : KeyOrder K) (lawful : IsLawful order) where
 
     -- the earlier start is at most both starts
     first_by : (o : Ordering) → places (start_position order a) (start_position order b) ≡ o
-        → Le places (start_position order (if is_lt o then a else b)) (start_position order a) × Le places (start_position order (if is_lt o then a else b)) (start_position order b)
-    first_by Less e = let t = position_total order.cmp lawful.total in (le_refl places t (start_position order a), lt_le places t (start_position order a) (start_position order b) e)
-    first_by Equal e = let t = position_total order.cmp lawful.total in (eq_ge places t (start_position order a) (start_position order b) e, le_refl places t (start_position order b))
-    first_by Greater e = let t = position_total order.cmp lawful.total in (gt_le places t (start_position order a) (start_position order b) e, le_refl places t (start_position order b))
+        → Le places (start_position order (if is_lt o then a else b)) (start_position order a)
+        × Le places (start_position order (if is_lt o then a else b)) (start_position order b)
+    first_by Less e = let t =
+        position_total order.cmp
+        lawful.total in (
+          le_refl places t (start_position order a),
+          lt_le places t (start_position order a) (start_position order b) e,
+        )
+    first_by Equal e = let t =
+        position_total order.cmp
+        lawful.total in (
+          eq_ge places t (start_position order a) (start_position order b) e,
+          le_refl places t (start_position order b),
+        )
+    first_by Greater e = let t =
+        position_total order.cmp
+        lawful.total in (
+          gt_le places t (start_position order a) (start_position order b) e,
+          le_refl places t (start_position order b),
+        )
 
-    pub first_under : Le places (start_position order (earlier_start order a b)) (start_position order a) × Le places (start_position order (earlier_start order a b)) (start_position order b)
+    pub first_under : Le places (start_position order (earlier_start order a b))
+        (start_position order a)
+        × Le places (start_position order (earlier_start order a b)) (start_position order b)
     first_under = first_by (places (start_position order a) (start_position order b)) refl
 
     -- both ends are at most the later
     last_by : (o : Ordering) → places (end_position order a) (end_position order b) ≡ o
-        → Le places (end_position order a) (end_position order (if is_gt o then a else b)) × Le places (end_position order b) (end_position order (if is_gt o then a else b))
-    last_by Less e = let t = position_total order.cmp lawful.total in (lt_le places t (end_position order a) (end_position order b) e, le_refl places t (end_position order b))
-    last_by Equal e = let t = position_total order.cmp lawful.total in (eq_le places t (end_position order a) (end_position order b) e, le_refl places t (end_position order b))
-    last_by Greater e = let t = position_total order.cmp lawful.total in (le_refl places t (end_position order a), gt_le places t (end_position order a) (end_position order b) e)
+        → Le places (end_position order a) (end_position order (if is_gt o then a else b))
+        × Le places (end_position order b) (end_position order (if is_gt o then a else b))
+    last_by Less e = let t =
+        position_total order.cmp
+        lawful.total in (
+          lt_le places t (end_position order a) (end_position order b) e,
+          le_refl places t (end_position order b),
+        )
+    last_by Equal e = let t =
+        position_total order.cmp
+        lawful.total in (
+          eq_le places t (end_position order a) (end_position order b) e,
+          le_refl places t (end_position order b),
+        )
+    last_by Greater e = let t =
+        position_total order.cmp
+        lawful.total in (
+          le_refl places t (end_position order a),
+          gt_le places t (end_position order a) (end_position order b) e,
+        )
 
-    pub last_over : Le places (end_position order a) (end_position order (later_end order a b)) × Le places (end_position order b) (end_position order (later_end order a b))
+    pub last_over : Le places (end_position order a) (end_position order (later_end order a b))
+        × Le places (end_position order b) (end_position order (later_end order a b))
     last_over = last_by (places (end_position order a) (end_position order b)) refl
 
     first_is_by : (P : Bound K → Type 0) (o : Ordering) → P (if is_lt o then a else b) → P a ⊎ P b
@@ -96,40 +167,73 @@ module _ {K : Type 0} (order : KeyOrder K) (lawful : IsLawful order) where
     last_is_by P Greater h = inl h
 
   -- a key that a start holds is held by an earlier one
-  pub start_below : (a b : Bound K) (k : K) → order.is_key k → Le places (start_position order a) (start_position order b) → StartHolds order b k → StartHolds order a k
+  pub start_below : (a b : Bound K) (k : K) → order.is_key k
+      → Le places (start_position order a) (start_position order b) → StartHolds order b k
+      → StartHolds order a k
   start_below a b k key le h =
-      (start_holds order lawful a k key).1 (le_trans places (position_total order.cmp lawful.total) (start_position order a) (start_position order b) (Beside k At) le ((start_holds order lawful b k key).0 h))
+      (start_holds order lawful a k key).1
+      (le_trans places (position_total order.cmp lawful.total) (start_position order a)
+      (start_position order b) (Beside k At) le ((start_holds order lawful b k key).0 h))
 
-  pub end_above : (a b : Bound K) (k : K) → order.is_key k → Le places (end_position order b) (end_position order a) → EndHolds order b k → EndHolds order a k
+  pub end_above : (a b : Bound K) (k : K) → order.is_key k
+      → Le places (end_position order b) (end_position order a) → EndHolds order b k
+      → EndHolds order a k
   end_above a b k key le h =
-      (end_holds order lawful a k key).1 (le_trans places (position_total order.cmp lawful.total) (Beside k At) (end_position order b) (end_position order a) ((end_holds order lawful b k key).0 h) le)
+      (end_holds order lawful a k key).1
+      (le_trans places (position_total order.cmp lawful.total) (Beside k At)
+      (end_position order b) (end_position order a) ((end_holds order lawful b k key).0 h) le)
 
-  pub start_both : (a b : Bound K) (k : K) → order.is_key k → StartHolds order (later_start order a b) k ↔ (StartHolds order a k × StartHolds order b k)
+  pub start_both : (a b : Bound K) (k : K) → order.is_key k
+      → StartHolds order (later_start order a b) k ↔ (StartHolds order a k × StartHolds order b k)
   start_both a b k key =
-      let over = later_over a b in
-      (λ h. (start_below a (later_start order a b) k key over.0 h, start_below b (later_start order a b) k key over.1 h), λ h. later_is a b (λ x. StartHolds order x k) h.0 h.1)
-
-  pub end_both : (a b : Bound K) (k : K) → order.is_key k → EndHolds order (earlier_end order a b) k ↔ (EndHolds order a k × EndHolds order b k)
-  end_both a b k key =
-      let under = earlier_under a b in
-      (λ h. (end_above a (earlier_end order a b) k key under.0 h, end_above b (earlier_end order a b) k key under.1 h), λ h. earlier_is a b (λ x. EndHolds order x k) h.0 h.1)
-
-  pub start_either : (a b : Bound K) (k : K) → order.is_key k → StartHolds order (earlier_start order a b) k ↔ (StartHolds order a k ⊎ StartHolds order b k)
-  start_either a b k key =
-      let under = first_under a b in (
-        λ h. first_is_by a b (λ x. StartHolds order x k) (places (start_position order a) (start_position order b)) h,
-        λ h. elim h [ inl g ↦ start_below (earlier_start order a b) a k key under.0 g | inr g ↦ start_below (earlier_start order a b) b k key under.1 g ],
+      let over = later_over a b in (
+        λ h. (
+          start_below a (later_start order a b) k key over.0 h,
+          start_below b (later_start order a b) k key over.1 h,
+        ),
+        λ h. later_is a b (λ x. StartHolds order x k) h.0 h.1,
       )
 
-  pub end_either : (a b : Bound K) (k : K) → order.is_key k → EndHolds order (later_end order a b) k ↔ (EndHolds order a k ⊎ EndHolds order b k)
+  pub end_both : (a b : Bound K) (k : K) → order.is_key k → EndHolds order (earlier_end order a b) k
+      ↔ (EndHolds order a k × EndHolds order b k)
+  end_both a b k key =
+      let under = earlier_under a b in (
+        λ h. (
+          end_above a (earlier_end order a b) k key under.0 h,
+          end_above b (earlier_end order a b) k key under.1 h,
+        ),
+        λ h. earlier_is a b (λ x. EndHolds order x k) h.0 h.1,
+      )
+
+  pub start_either : (a b : Bound K) (k : K) → order.is_key k
+      → StartHolds order (earlier_start order a b) k ↔ (StartHolds order a k ⊎ StartHolds order b k)
+  start_either a b k key =
+      let under = first_under a b in (
+        λ h. first_is_by a b (λ x. StartHolds order x k)
+            (places (start_position order a) (start_position order b)) h,
+        λ h.
+            elim h [
+              | inl g ↦ start_below (earlier_start order a b) a k key under.0 g
+              | inr g ↦ start_below (earlier_start order a b) b k key under.1 g
+            ],
+      )
+
+  pub end_either : (a b : Bound K) (k : K) → order.is_key k → EndHolds order (later_end order a b) k
+      ↔ (EndHolds order a k ⊎ EndHolds order b k)
   end_either a b k key =
       let over = last_over a b in (
-        λ h. last_is_by a b (λ x. EndHolds order x k) (places (end_position order a) (end_position order b)) h,
-        λ h. elim h [ inl g ↦ end_above (later_end order a b) a k key over.0 g | inr g ↦ end_above (later_end order a b) b k key over.1 g ],
+        λ h. last_is_by a b (λ x. EndHolds order x k)
+            (places (end_position order a) (end_position order b)) h,
+        λ h.
+            elim h [
+              | inl g ↦ end_above (later_end order a b) a k key over.0 g
+              | inr g ↦ end_above (later_end order a b) b k key over.1 g
+            ],
       )
 
   -- the common part holds the keys of both
-  pub common_holds : (r s : AnyRange K) (k : K) → order.is_key k → Holds order (common order r s) k ↔ (Holds order r k × Holds order s k)
+  pub common_holds : (r s : AnyRange K) (k : K) → order.is_key k → Holds order (common order r s) k
+      ↔ (Holds order r k × Holds order s k)
   common_holds r s k key =
       let starts = start_both r.start s.start k key in
       let ends = end_both r.end s.end k key in (
@@ -137,5 +241,9 @@ module _ {K : Type 0} (order : KeyOrder K) (lawful : IsLawful order) where
         λ h. (starts.1 (h.0.0, h.1.0), ends.1 (h.0.1, h.1.1)),
       )
 
-  pub common_known : (r s : AnyRange K) → IsKnownRange order r → IsKnownRange order s → IsKnownRange order (common order r s)
-  common_known r s h k = (later_is r.start s.start (IsKnownBound order) h.0 k.0, earlier_is r.end s.end (IsKnownBound order) h.1 k.1)
+  pub common_known : (r s : AnyRange K) → IsKnownRange order r → IsKnownRange order s
+      → IsKnownRange order (common order r s)
+  common_known r s h k = (
+    later_is r.start s.start (IsKnownBound order) h.0 k.0,
+    earlier_is r.end s.end (IsKnownBound order) h.1 k.1,
+  )

@@ -20,10 +20,13 @@ pub none_is_not_some : {K : Type 0} (o : Option K) → o ≡ None → IsSome o �
 none_is_not_some None e h = cc
 none_is_not_some (Some x) e h = cc
 
-module _ {K : Type 0} (order : KeyOrder K) (lawful : IsLawful order) (complete : IsComplete order) where
+module _ {K : Type 0} (order : KeyOrder K) (lawful : IsLawful order)
+    (complete : IsComplete order) where
   -- a key from the one place to the other
   HasKey : Position K → Position K → Type 0
-  HasKey s e = (k : K) × order.is_key k × (is_gt (position_cmp order.cmp s (Beside k At)) ≡ false) × (is_gt (position_cmp order.cmp (Beside k At) e) ≡ false)
+  HasKey s e =
+      (k : K) × order.is_key k × (is_gt (position_cmp order.cmp s (Beside k At)) ≡ false)
+      × (is_gt (position_cmp order.cmp (Beside k At) e) ≡ false)
 
   at_itself : (p : Position K) → is_gt (position_cmp order.cmp p p) ≡ false
   at_itself p = ap is_gt (tied_itself (position_total order.cmp lawful.total) p)
@@ -31,44 +34,68 @@ module _ {K : Type 0} (order : KeyOrder K) (lawful : IsLawful order) (complete :
   pub told_none : (a b : K) → order.succ a ≡ None → Tells order (order.succ a) b → ⊥
   told_none a b e h = let h' : Tells order None b = rw e at h in h'
 
-  key_lies_between : (a b : K) → Tells order (order.succ a) b ⊎ ((c : K) × order.is_key c × Below order a c × Below order c b) → order.succ a ≡ None → HasKey (Beside a After) (Beside b Before)
+  key_lies_between : (a b : K)
+      → Tells order (order.succ a) b ⊎
+      ((c : K) × order.is_key c × Below order a c × Below order c b) → order.succ a ≡ None
+      → HasKey (Beside a After) (Beside b Before)
   unfolding HasKey
   key_lies_between a b (inl t) e = absurd (told_none a b e t)
-  key_lies_between a b (inr (c, key, l, u)) e = (c, key, less_then_greater (order.cmp a c) l, less_then_greater (order.cmp c b) u)
+  key_lies_between a b (inr (c, key, l, u)) e =
+      (c, key, less_then_greater (order.cmp a c) l, less_then_greater (order.cmp c b) u)
 
-  key_lies_past : (a : K) → IsSome order.greatest ⊎ ((c : K) × order.is_key c × Below order a c) → order.greatest ≡ None → HasKey (Beside a After) PlusInfinity
+  key_lies_past : (a : K) → IsSome order.greatest ⊎ ((c : K) × order.is_key c × Below order a c)
+      → order.greatest ≡ None → HasKey (Beside a After) PlusInfinity
   unfolding HasKey
   key_lies_past a (inl t) e = absurd (none_is_not_some order.greatest e t)
   key_lies_past a (inr (c, key, l)) e = (c, key, less_then_greater (order.cmp a c) l, refl)
 
-  key_lies_under : (b : K) → IsSome order.least ⊎ ((c : K) × order.is_key c × Below order c b) → order.least ≡ None → HasKey MinusInfinity (Beside b Before)
+  key_lies_under : (b : K) → IsSome order.least ⊎ ((c : K) × order.is_key c × Below order c b)
+      → order.least ≡ None → HasKey MinusInfinity (Beside b Before)
   unfolding HasKey
   key_lies_under b (inl t) e = absurd (none_is_not_some order.least e t)
   key_lies_under b (inr (c, key, l)) e = (c, key, refl, less_then_greater (order.cmp c b) l)
 
-  places_have_key_between : (s e : Position K) → IsStart order s → IsEnd order e → is_gt (position_cmp order.cmp s e) ≡ false → HasKey s e
+  places_have_key_between : (s e : Position K) → IsStart order s → IsEnd order e
+      → is_gt (position_cmp order.cmp s e) ≡ false → HasKey s e
   unfolding IsStart IsEnd HasKey
   places_have_key_between (Beside a At) e p q h = (a, p, at_itself (Beside a At), h)
   places_have_key_between s (Beside b At) p q h = (b, q, h, at_itself (Beside b At))
-  places_have_key_between (Beside a After) (Beside b Before) p q h = key_lies_between a b (complete.next a b p.0 q.0 ((not_greater_unless_greater (order.cmp a b)).0 h)) p.1
-  places_have_key_between (Beside a After) PlusInfinity p q h = key_lies_past a (complete.above a p.0) q
-  places_have_key_between MinusInfinity (Beside b Before) p q h = key_lies_under b (complete.below b q.0) p
-  places_have_key_between MinusInfinity PlusInfinity p q h = (complete.some_key.0, complete.some_key.1, refl, refl)
+  places_have_key_between (Beside a After) (Beside b Before) p q h =
+      key_lies_between a b (complete.next a b p.0 q.0
+      ((not_greater_unless_greater (order.cmp a b)).0 h)) p.1
+  places_have_key_between (Beside a After) PlusInfinity p q h =
+      key_lies_past a (complete.above a p.0) q
+  places_have_key_between MinusInfinity (Beside b Before) p q h =
+      key_lies_under b (complete.below b q.0) p
+  places_have_key_between MinusInfinity PlusInfinity p q h =
+      (complete.some_key.0, complete.some_key.1, refl, refl)
   places_have_key_between (Beside a Before) e p q h = absurd p
   places_have_key_between PlusInfinity e p q h = absurd p
   places_have_key_between s MinusInfinity p q h = absurd q
   places_have_key_between s (Beside b After) p q h = absurd q
 
-  pub nonempty_holds : (r : AnyRange K) → IsKnownRange order r → is_gt (position_cmp order.cmp (start_position order r.start) (end_position order r.end)) ≡ false → (k : K) × order.is_key k × Holds order r k
+  pub nonempty_holds : (r : AnyRange K) → IsKnownRange order r
+      → is_gt (position_cmp order.cmp (start_position order r.start) (end_position order r.end))
+      ≡ false → (k : K) × order.is_key k × Holds order r k
   unfolding HasKey
   nonempty_holds r known h =
-      let found = places_have_key_between (start_position order r.start) (end_position order r.end) (starts_lie_at_starts order lawful r.start known.0) (ends_lie_at_ends order lawful r.end known.1) h in
+      let found =
+      places_have_key_between (start_position order r.start) (end_position order r.end)
+      (starts_lie_at_starts order lawful r.start known.0)
+      (ends_lie_at_ends order lawful r.end known.1) h in
       (found.0, found.1, (holds_by_position order lawful r found.0 found.1).1 (found.2, found.3))
 
-  keyless_by : (r : AnyRange K) → IsKnownRange order r → IsKeyless order r → (o : Ordering) → position_cmp order.cmp (start_position order r.start) (end_position order r.end) ≡ o → o ≡ Greater
-  keyless_by r known none Less e = let found = nonempty_holds r known (ap is_gt e) in absurd (none found.0 found.1 found.2)
-  keyless_by r known none Equal e = let found = nonempty_holds r known (ap is_gt e) in absurd (none found.0 found.1 found.2)
+  keyless_by : (r : AnyRange K) → IsKnownRange order r → IsKeyless order r → (o : Ordering)
+      → position_cmp order.cmp (start_position order r.start) (end_position order r.end) ≡ o
+      → o ≡ Greater
+  keyless_by r known none Less e = let found =
+      nonempty_holds r known (ap is_gt e) in absurd (none found.0 found.1 found.2)
+  keyless_by r known none Equal e = let found =
+      nonempty_holds r known (ap is_gt e) in absurd (none found.0 found.1 found.2)
   keyless_by r known none Greater e = refl
 
-  pub keyless_is_empty : (r : AnyRange K) → IsKnownRange order r → IsKeyless order r → IsEmptyRange order r
-  keyless_is_empty r known none = keyless_by r known none (position_cmp order.cmp (start_position order r.start) (end_position order r.end)) refl
+  pub keyless_is_empty : (r : AnyRange K) → IsKnownRange order r → IsKeyless order r
+      → IsEmptyRange order r
+  keyless_is_empty r known none =
+      keyless_by r known none (position_cmp order.cmp (start_position order r.start)
+      (end_position order r.end)) refl

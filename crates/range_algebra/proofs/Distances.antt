@@ -17,7 +17,8 @@ not_greater_less Less h = refl
 not_greater_less Equal h = refl
 not_greater_less Greater h = h
 
-module _ {K : Type 0} (order : KeyOrder K) (lawful : IsLawful order) (len : K → ℕ) (distance : K → K → ℕ) (measured : IsMeasure order len distance) where
+module _ {K : Type 0} (order : KeyOrder K) (lawful : IsLawful order) (len : K → ℕ)
+    (distance : K → K → ℕ) (measured : IsMeasure order len distance) where
   -- at a key or just after it
   unfoldable pub IsPlace : Position K → Type 0
   IsPlace MinusInfinity = ⊥
@@ -41,12 +42,15 @@ module _ {K : Type 0} (order : KeyOrder K) (lawful : IsLawful order) (len : K �
   gap MinusInfinity q = 0
   gap PlusInfinity q = 0
 
-  apart_by : (a b : K) → order.is_key a → order.is_key b → (order.cmp a b ≡ Less) ⊎ (order.cmp a b ≡ Equal) → len a ≤ distance a b + len b
+  apart_by : (a b : K) → order.is_key a → order.is_key b
+      → (order.cmp a b ≡ Less) ⊎ (order.cmp a b ≡ Equal) → len a ≤ distance a b + len b
   apart_by a b p q (inl l) = let h = measured.at_least a b p q l in omega arith
   apart_by a b p q (inr e) = let h = measured.len_congr a b p q e in omega arith
 
   -- what is taken off was there
-  distance_covers_places : (a b : K) (s t : Side) → IsPlace (Beside a s) → IsPlace (Beside b t) → Le (position_cmp order.cmp) (Beside a s) (Beside b t) → NotAbove order a b × (passed a s ≤ distance a b + passed b t)
+  distance_covers_places : (a b : K) (s t : Side) → IsPlace (Beside a s) → IsPlace (Beside b t)
+      → Le (position_cmp order.cmp) (Beside a s) (Beside b t)
+      → NotAbove order a b × (passed a s ≤ distance a b + passed b t)
   unfolding IsPlace passed
   distance_covers_places a b Before t p q h = absurd p
   distance_covers_places a b At Before p q h = absurd q
@@ -72,7 +76,9 @@ module _ {K : Type 0} (order : KeyOrder K) (lawful : IsLawful order) (len : K �
   passed_is_within_key b At = omega arith
   passed_is_within_key b After = omega arith
 
-  pub gap_adds : (p q r : Position K) → IsPlace p → IsPlace q → IsPlace r → Le (position_cmp order.cmp) p q → Le (position_cmp order.cmp) q r → gap p q + gap q r ≡ gap p r
+  pub gap_adds : (p q r : Position K) → IsPlace p → IsPlace q → IsPlace r
+      → Le (position_cmp order.cmp) p q → Le (position_cmp order.cmp) q r
+      → gap p q + gap q r ≡ gap p r
   unfolding gap IsPlace
   gap_adds MinusInfinity q r i j k h l = absurd i
   gap_adds PlusInfinity q r i j k h l = absurd i
@@ -83,18 +89,22 @@ module _ {K : Type 0} (order : KeyOrder K) (lawful : IsLawful order) (len : K �
   gap_adds (Beside a s) (Beside b t) (Beside c u) i j k h l =
       let first = distance_covers_places a b s t i j h in
       let second = distance_covers_places b c t u j k l in
-      let whole = measured.adds a b c (key_of a s i) (key_of b t j) (key_of c u k) first.0 second.0 in
+      let whole =
+      measured.adds a b c (key_of a s i) (key_of b t j) (key_of c u k) first.0 second.0 in
       let x = first.1 in
       let y = second.1 in
       omega arith
 
-  pub gap_fits : (p q : Position K) → IsPlace p → IsPlace q → Le (position_cmp order.cmp) p q → gap p q < 2 ^ 128
+  pub gap_fits : (p q : Position K) → IsPlace p → IsPlace q → Le (position_cmp order.cmp) p q
+      → gap p q < 2 ^ 128
   unfolding gap IsPlace
   gap_fits MinusInfinity q i j h = absurd i
   gap_fits PlusInfinity q i j h = absurd i
   gap_fits (Beside a s) MinusInfinity i j h = absurd j
   gap_fits (Beside a s) PlusInfinity i j h = absurd j
   gap_fits (Beside a s) (Beside b t) i j h =
-      let x = measured.fits a b (key_of a s i) (key_of b t j) (distance_covers_places a b s t i j h).0 in
+      let x =
+      measured.fits a b (key_of a s i) (key_of b t j)
+      (distance_covers_places a b s t i j h).0 in
       let y = passed_is_within_key b t in
       omega arith

@@ -1,4 +1,5 @@
--- Over complete keys two nonempty ranges, the one before the other, touch exactly where no key lies between.
+-- Over complete keys two nonempty ranges, the one before the other, touch exactly where no key lies
+-- between.
 use Rattle.std.proofs.Common.{◌≡◌, refl, sym, ap, subst, ◌∙◌, Bool, true, false, not, ◌||◌, if◌then◌else◌, IsTrue, ◌↔◌}
 use Rattle.std.specs.declared.ops.Bound.{Bound}
 use Rattle.std.specs.declared.ops.Bound.TheVariants.{Included, Excluded, Unbounded}
@@ -30,7 +31,10 @@ read_flag true true e f g = cc
 read_flag true false e f g = cc
 read_flag false s e f g = cc
 
-read_before : (A B C T U x y z w s : Bool) → is_before (if A then (if B then Before T else Intersecting x y) else (if C then After U else Intersecting z w)) s ≡ true → (B ≡ true) × (s ≡ true → T ≡ true → ⊥)
+read_before : (A B C T U x y z w s : Bool)
+    → is_before (if A then (if B then Before T else Intersecting x y)
+    else (if C then After U else Intersecting z w)) s ≡ true
+    → (B ≡ true) × (s ≡ true → T ≡ true → ⊥)
 read_before true true C T U x y z w s e = (refl, read_flag T s e)
 read_before true false C T U x y z w s e = cc
 read_before false B true T U x y z w s e = cc
@@ -50,30 +54,43 @@ stable_not false h = refl
 
 module _ {K : Type 0} (order : KeyOrder K) (lawful : IsLawful order) where
   abbrev pub EndsBefore : AnyRange K → AnyRange K → Type 0
-  EndsBefore r s = position_cmp order.cmp (end_position order r.end) (start_position order s.start) ≡ Less
+  EndsBefore r s =
+      position_cmp order.cmp (end_position order r.end) (start_position order s.start) ≡ Less
 
   abbrev pub AreTouching : AnyRange K → AnyRange K → Type 0
   AreTouching r s = IsTrue (starts_at_end order r.end (start_position order s.start))
 
-  pub before_is : (r s : AnyRange K) (same : Bool) → IsTrue (is_before (range_ordering order r s) same) → EndsBefore r s × (IsTrue same → AreTouching r s → ⊥)
+  pub before_is : (r s : AnyRange K) (same : Bool)
+      → IsTrue (is_before (range_ordering order r s) same)
+      → EndsBefore r s × (IsTrue same → AreTouching r s → ⊥)
   before_is r s same e =
-      let read = read_before _ _ _ _ _ _ _ _ _ same e in
-      (lt_of (position_cmp order.cmp (end_position order r.end) (start_position order s.start)) read.0, read.1)
+      let read = read_before _ _ _ _ _ _ _ _ _ same e in (
+        lt_of (position_cmp order.cmp (end_position order r.end) (start_position order s.start))
+            read.0,
+        read.1,
+      )
 
   -- p <= q < r <= s
-  no_cycle_of_positions : (p q r s : Position K) → is_gt (position_cmp order.cmp p q) ≡ false → position_cmp order.cmp q r ≡ Less → is_gt (position_cmp order.cmp r s) ≡ false → is_gt (position_cmp order.cmp s p) ≡ false → ⊥
+  no_cycle_of_positions : (p q r s : Position K) → is_gt (position_cmp order.cmp p q) ≡ false
+      → position_cmp order.cmp q r ≡ Less → is_gt (position_cmp order.cmp r s) ≡ false
+      → is_gt (position_cmp order.cmp s p) ≡ false → ⊥
   no_cycle_of_positions p q r s e f g h =
       let total = position_total order.cmp lawful.total in
-      let back : is_gt (position_cmp order.cmp r q) ≡ false = upto total r s q g (upto total s p q h e) in
-      let over : is_gt (position_cmp order.cmp r q) ≡ true = turned_less_is_greater (position_cmp order.cmp q r) (position_cmp order.cmp r q) (total.antisymm r q) f in
+      let back : is_gt (position_cmp order.cmp r q) ≡ false =
+      upto total r s q g (upto total s p q h e) in
+      let over : is_gt (position_cmp order.cmp r q) ≡ true =
+      turned_less_is_greater (position_cmp order.cmp q r) (position_cmp order.cmp r q)
+      (total.antisymm r q) f in
       let clash : true ≡ false = sym over ∙ back in
       cc
 
   -- what is not reached by the other lies below it
-  below_by : (a b : K) (o : Ordering) → order.cmp a b ≡ o → (NotAbove order b a → ⊥) → Below order a b
+  below_by : (a b : K) (o : Ordering) → order.cmp a b ≡ o → (NotAbove order b a → ⊥)
+      → Below order a b
   below_by a b Less e h = e
   below_by a b Equal e h = absurd (h (ap is_gt (tied_back lawful.total a b e)))
-  below_by a b Greater e h = absurd (h (ap is_gt (lawful.total.antisymm b a ∙ ap ordering_reverse e)))
+  below_by a b Greater e h =
+      absurd (h (ap is_gt (lawful.total.antisymm b a ∙ ap ordering_reverse e)))
 
   pub not_above_below : (a b : K) → (NotAbove order b a → ⊥) → Below order a b
   not_above_below a b h = below_by a b (order.cmp a b) refl h
@@ -86,35 +103,53 @@ module _ {K : Type 0} (order : KeyOrder K) (lawful : IsLawful order) where
   -- a range that ends before another starts lies below it
   pub ends_below : (r s : AnyRange K) → EndsBefore r s → AreBelow order r s
   ends_below r s e a b key key' h g =
-      not_above_below a b (λ over. no_cycle_of_positions (Beside a At) (end_position order r.end) (start_position order s.start) (Beside b At) ((holds_by_position order lawful r a key).0 h).1 e ((holds_by_position order lawful s b key').0 g).0 (at_places (order.cmp b a) over))
+      not_above_below a b (λ over.
+      no_cycle_of_positions (Beside a At) (end_position order r.end)
+      (start_position order s.start) (Beside b At)
+      ((holds_by_position order lawful r a key).0 h).1 e
+      ((holds_by_position order lawful s b key').0 g).0 (at_places (order.cmp b a) over))
 
   stable_start : (b : Bound K) (k : K) → ((StartHolds order b k → ⊥) → ⊥) → StartHolds order b k
   stable_start (Included a) k h = stable_not (is_gt (order.cmp a k)) h
   stable_start (Excluded a) k h = not_not_less (order.cmp a k) h
   stable_start Unbounded k h = tt
 
-  module _ (complete : IsComplete order) (r s : AnyRange K) (known : IsKnownRange order r) (others : IsKnownRange order s) (full : ¬ IsEmptyRange order r) (full' : ¬ IsEmptyRange order s) (joined : AreJoined order r s) where
+  module _ (complete : IsComplete order) (r s : AnyRange K) (known : IsKnownRange order r)
+      (others : IsKnownRange order s) (full : ¬ IsEmptyRange order r)
+      (full' : ¬ IsEmptyRange order s) (joined : AreJoined order r s) where
     Member : AnyRange K → Type 0
     Member t = (k : K) × order.is_key k × Holds order t k
 
     first_member : Member r
     unfolding Member
-    first_member = nonempty_holds order lawful complete r known (not_greater (position_cmp order.cmp (start_position order r.start) (end_position order r.end)) full)
+    first_member =
+        nonempty_holds order lawful complete r known
+        (not_greater (position_cmp order.cmp (start_position order r.start)
+        (end_position order r.end)) full)
 
     second_member : Member s
     unfolding Member
-    second_member = nonempty_holds order lawful complete s others (not_greater (position_cmp order.cmp (start_position order s.start) (end_position order s.end)) full')
+    second_member =
+        nonempty_holds order lawful complete s others
+        (not_greater (position_cmp order.cmp (start_position order s.start)
+        (end_position order s.end)) full')
 
     -- the end of the first holds no key of the second
     past_end : (k : K) → order.is_key k → Holds order s k → EndHolds order r.end k → ⊥
     unfolding Member
     past_end k key h g =
-        let low : Below order first_member.0 k = joined.0 first_member.0 k first_member.1 key first_member.2 h in
-        let held : Holds order r k = (start_up order lawful r.start first_member.0 k (ap is_gt low) first_member.2.0, g) in
-        lt_not_le order.cmp lawful.total k k (joined.0 k k key key held h) (le_refl order.cmp lawful.total k)
+        let low : Below order first_member.0 k =
+        joined.0 first_member.0 k first_member.1 key first_member.2 h in
+        let held : Holds order r k =
+        (start_up order lawful r.start first_member.0 k (ap is_gt low) first_member.2.0, g)
+        in
+        lt_not_le order.cmp lawful.total k k (joined.0 k k key key held h)
+        (le_refl order.cmp lawful.total k)
 
     -- a bound that starts just past the end of the first starts where the second does
-    starts_there : (f : Bound K) → IsKnownBound order f → ((k : K) → (EndHolds order r.end k → ⊥) → StartHolds order f k) → ((k : K) → StartHolds order f k → EndHolds order r.end k → ⊥)
+    starts_there : (f : Bound K) → IsKnownBound order f
+        → ((k : K) → (EndHolds order r.end k → ⊥) → StartHolds order f k)
+        → ((k : K) → StartHolds order f k → EndHolds order r.end k → ⊥)
         → position_cmp order.cmp (start_position order f) (start_position order s.start) ≡ Equal
     unfolding Member
     starts_there f key past never =
@@ -122,17 +157,27 @@ module _ {K : Type 0} (order : KeyOrder K) (lawful : IsLawful order) where
         let into : (k : K) → order.is_key k → Holds order t k → Holds order s k = λ k in_type h. (
           stable_start s.start k
               (λ no. joined.1 k in_type (
-                λ a key' g. not_above_below a k (λ over. never k h.0 (end_down order lawful r.end k a over g.1)),
-                λ b key' g. not_above_below k b (λ over. no (start_up order lawful s.start b k over g.0)),
+                λ a key' g. not_above_below a k
+                    (λ over. never k h.0 (end_down order lawful r.end k a over g.1)),
+                λ b key' g. not_above_below k b
+                    (λ over. no (start_up order lawful s.start b k over g.0)),
               )),
           h.1,
         ) in
-        let back : (k : K) → order.is_key k → Holds order s k → Holds order t k = λ k in_type h. (past k (past_end k in_type h), h.1) in
-        let nonempty : ¬ IsEmptyRange order t = λ empty. empty_is_keyless order lawful t empty second_member.0 second_member.1 (back second_member.0 second_member.1 second_member.2) in
-        let level = same_is_equal order lawful complete t s (key, others.1) others nonempty full' (λ k in_type. (into k in_type, back k in_type)) in
-        (both_equal (position_cmp order.cmp (start_position order t.start) (start_position order s.start)) (position_cmp order.cmp (end_position order t.end) (end_position order s.end)) level).0
+        let back : (k : K) → order.is_key k → Holds order s k → Holds order t k =
+        λ k in_type h. (past k (past_end k in_type h), h.1) in
+        let nonempty : ¬ IsEmptyRange order t =
+        λ empty. empty_is_keyless order lawful t empty second_member.0 second_member.1
+        (back second_member.0 second_member.1 second_member.2) in
+        let level =
+        same_is_equal order lawful complete t s (key, others.1) others nonempty full'
+        (λ k in_type. (into k in_type, back k in_type)) in
+        (both_equal (position_cmp order.cmp (start_position order t.start)
+        (start_position order s.start))
+        (position_cmp order.cmp (end_position order t.end) (end_position order s.end)) level).0
 
-    touching_by : (e : Bound K) → r.end ≡ e → IsTrue (start_is_at order (inverted e) (start_position order s.start))
+    touching_by : (e : Bound K) → r.end ≡ e
+        → IsTrue (start_is_at order (inverted e) (start_position order s.start))
     unfolding Member
     touching_by (Included a) at =
         ap is_eq (starts_there (Excluded a) (subst (IsKnownBound order) at known.1)
@@ -140,73 +185,121 @@ module _ {K : Type 0} (order : KeyOrder K) (lawful : IsLawful order) where
         (λ k h g. lt_not_le order.cmp lawful.total a k h (subst (λ x. EndHolds order x k) at g)))
     touching_by (Excluded a) at =
         ap is_eq (starts_there (Included a) (subst (IsKnownBound order) at known.1)
-        (λ k h. stable_not (is_gt (order.cmp a k)) (λ no. h (subst (λ x. EndHolds order x k) (sym at) (not_above_below k a no))))
+        (λ k h. stable_not (is_gt (order.cmp a k))
+        (λ no. h (subst (λ x. EndHolds order x k) (sym at) (not_above_below k a no))))
         (λ k h g. lt_not_le order.cmp lawful.total k a (subst (λ x. EndHolds order x k) at g) h))
     touching_by Unbounded at =
-        absurd (past_end second_member.0 second_member.1 second_member.2 (subst (λ x. EndHolds order x second_member.0) (sym at) tt))
+        absurd (past_end second_member.0 second_member.1 second_member.2
+        (subst (λ x. EndHolds order x second_member.0) (sym at) tt))
 
     pub joined_touch : AreTouching r s
     joined_touch = touching_by r.end refl
 
-module _ {K : Type 0} (order : KeyOrder K) (lawful : IsLawful order) (r s : AnyRange K) (y z : K) (key : order.is_key y) (key' : order.is_key z) (here : Holds order r y) (there : Holds order s z) (before : EndsBefore order lawful r s) where
+module _ {K : Type 0} (order : KeyOrder K) (lawful : IsLawful order) (r s : AnyRange K) (y z : K)
+    (key : order.is_key y) (key' : order.is_key z) (here : Holds order r y)
+    (there : Holds order s z) (before : EndsBefore order lawful r s) where
   -- a start at the place of the second's holds what the second's holds
-  carried_start : (f : Bound K) → position_cmp order.cmp (start_position order f) (start_position order s.start) ≡ Equal → (k : K) → order.is_key k → StartHolds order f k → StartHolds order s.start k
+  carried_start : (f : Bound K)
+      → position_cmp order.cmp (start_position order f) (start_position order s.start) ≡ Equal
+      → (k : K) → order.is_key k → StartHolds order f k → StartHolds order s.start k
   carried_start f e k known h =
       (start_holds order lawful s.start k known).1
-      (sym (ap is_gt ((position_total order.cmp lawful.total).congr (start_position order f) (start_position order s.start) (Beside k At) e)) ∙ (start_holds order lawful f k known).0 h)
+      (sym
+      (ap is_gt ((position_total order.cmp lawful.total).congr (start_position order f)
+      (start_position order s.start) (Beside k At) e))
+      ∙ (start_holds order lawful f k known).0 h)
 
-  none_between : (f : Bound K) → position_cmp order.cmp (start_position order f) (start_position order s.start) ≡ Equal → ((k : K) → (EndHolds order r.end k → ⊥) → StartHolds order f k) → (k : K) → order.is_key k → ¬ LiesBetween order r s k
+  none_between : (f : Bound K)
+      → position_cmp order.cmp (start_position order f) (start_position order s.start) ≡ Equal
+      → ((k : K) → (EndHolds order r.end k → ⊥) → StartHolds order f k) → (k : K) → order.is_key k
+      → ¬ LiesBetween order r s k
   none_between f e past k known between =
       let over : Below order y k = between.0 y key here in
       let under : Below order k z = between.1 z key' there in
-      let outside : EndHolds order r.end k → ⊥ = λ g. lt_not_le order.cmp lawful.total k k (between.0 k known (start_up order lawful r.start y k (ap is_gt over) here.0, g)) (le_refl order.cmp lawful.total k) in
-      let held : Holds order s k = (carried_start f e k known (past k outside), end_down order lawful s.end k z (ap is_gt under) there.1) in
-      lt_not_le order.cmp lawful.total k k (between.1 k known held) (le_refl order.cmp lawful.total k)
+      let outside : EndHolds order r.end k → ⊥ =
+      λ g. lt_not_le order.cmp lawful.total k k
+      (between.0 k known (start_up order lawful r.start y k (ap is_gt over) here.0, g))
+      (le_refl order.cmp lawful.total k) in
+      let held : Holds order s k = (
+        carried_start f e k known (past k outside),
+        end_down order lawful s.end k z (ap is_gt under) there.1,
+      ) in
+      lt_not_le order.cmp lawful.total k k (between.1 k known held)
+      (le_refl order.cmp lawful.total k)
 
-  gap_by : (e : Bound K) → r.end ≡ e → IsTrue (start_is_at order (inverted e) (start_position order s.start)) → (k : K) → order.is_key k → ¬ LiesBetween order r s k
+  gap_by : (e : Bound K) → r.end ≡ e
+      → IsTrue (start_is_at order (inverted e) (start_position order s.start)) → (k : K)
+      → order.is_key k → ¬ LiesBetween order r s k
   gap_by (Included a) at t =
-      none_between (Excluded a) ((Equal-is (position_cmp order.cmp (start_position order (Excluded a)) (start_position order s.start))).0 t)
-      (λ k h. not_above_below order lawful a k (λ over. h (subst (λ x. EndHolds order x k) (sym at) over)))
+      none_between (Excluded a)
+      ((Equal-is (position_cmp order.cmp (start_position order (Excluded a))
+      (start_position order s.start))).0 t)
+      (λ k h. not_above_below order lawful a k
+      (λ over. h (subst (λ x. EndHolds order x k) (sym at) over)))
   gap_by (Excluded a) at t =
-      none_between (Included a) ((Equal-is (position_cmp order.cmp (start_position order (Included a)) (start_position order s.start))).0 t)
-      (λ k h. stable_not (is_gt (order.cmp a k)) (λ no. h (subst (λ x. EndHolds order x k) (sym at) (not_above_below order lawful k a no))))
+      none_between (Included a)
+      ((Equal-is (position_cmp order.cmp (start_position order (Included a))
+      (start_position order s.start))).0 t)
+      (λ k h. stable_not (is_gt (order.cmp a k))
+      (λ no.
+      h (subst (λ x. EndHolds order x k) (sym at) (not_above_below order lawful k a no))))
   gap_by Unbounded at t = cc
 
   -- ranges that hold keys and touch are joined, over lawful keys
   pub touch_joined : AreTouching order lawful r s → AreJoined order r s
   touch_joined t = (ends_below order lawful r s before, gap_by r.end refl t)
 
-module _ {K : Type 0} (order : KeyOrder K) (lawful : IsLawful order) (complete : IsComplete order) (r s : AnyRange K) (known : IsKnownRange order r) (others : IsKnownRange order s) (y z : K) (key : order.is_key y) (key' : order.is_key z) (here : Holds order r y) (there : Holds order s z) (below : AreBelow order r s) where
+module _ {K : Type 0} (order : KeyOrder K) (lawful : IsLawful order) (complete : IsComplete order)
+    (r s : AnyRange K) (known : IsKnownRange order r) (others : IsKnownRange order s) (y z : K)
+    (key : order.is_key y) (key' : order.is_key z) (here : Holds order r y)
+    (there : Holds order s z) (below : AreBelow order r s) where
   -- a key of both, from a key that the start of the second and the end of the first hold
-  no_key_is_in_both : (k : K) → order.is_key k → StartHolds order s.start k → EndHolds order r.end k → (o : Ordering) → order.cmp y k ≡ o → ⊥
+  no_key_is_in_both : (k : K) → order.is_key k → StartHolds order s.start k → EndHolds order r.end k
+      → (o : Ordering) → order.cmp y k ≡ o → ⊥
   no_key_is_in_both k known' start end Greater e =
       let under : Below order k y = lawful.total.antisymm k y ∙ ap ordering_reverse e in
       let reach : Below order y z = below y z key key' here there in
-      let held : Holds order s y = (start_up order lawful s.start k y (ap is_gt under) start, end_down order lawful s.end y z (ap is_gt reach) there.1) in
-      lt_not_le order.cmp lawful.total y y (below y y key key here held) (le_refl order.cmp lawful.total y)
+      let held : Holds order s y = (
+        start_up order lawful s.start k y (ap is_gt under) start,
+        end_down order lawful s.end y z (ap is_gt reach) there.1,
+      ) in
+      lt_not_le order.cmp lawful.total y y (below y y key key here held)
+      (le_refl order.cmp lawful.total y)
   no_key_is_in_both k known' start end Less e = met k known' start end (ap is_gt e)
     where
-      met : (k : K) → order.is_key k → StartHolds order s.start k → EndHolds order r.end k → NotAbove order y k → ⊥
+      met : (k : K) → order.is_key k → StartHolds order s.start k → EndHolds order r.end k
+          → NotAbove order y k → ⊥
       met k known' start end over =
           let held : Holds order r k = (start_up order lawful r.start y k over here.0, end) in
           let under : Below order k z = below k z known' key' held there in
-          lt_not_le order.cmp lawful.total k k (below k k known' known' held (start, end_down order lawful s.end k z (ap is_gt under) there.1)) (le_refl order.cmp lawful.total k)
+          lt_not_le order.cmp lawful.total k k
+          (below k k known' known' held
+          (start, end_down order lawful s.end k z (ap is_gt under) there.1))
+          (le_refl order.cmp lawful.total k)
   no_key_is_in_both k known' start end Equal e = met k known' start end (ap is_gt e)
     where
-      met : (k : K) → order.is_key k → StartHolds order s.start k → EndHolds order r.end k → NotAbove order y k → ⊥
+      met : (k : K) → order.is_key k → StartHolds order s.start k → EndHolds order r.end k
+          → NotAbove order y k → ⊥
       met k known' start end over =
           let held : Holds order r k = (start_up order lawful r.start y k over here.0, end) in
           let under : Below order k z = below k z known' key' held there in
-          lt_not_le order.cmp lawful.total k k (below k k known' known' held (start, end_down order lawful s.end k z (ap is_gt under) there.1)) (le_refl order.cmp lawful.total k)
+          lt_not_le order.cmp lawful.total k k
+          (below k k known' known' held
+          (start, end_down order lawful s.end k z (ap is_gt under) there.1))
+          (le_refl order.cmp lawful.total k)
 
-  start_is_after_end : is_gt (position_cmp order.cmp (start_position order s.start) (end_position order r.end)) ≡ false → ⊥
+  start_is_after_end : is_gt
+      (position_cmp order.cmp (start_position order s.start) (end_position order r.end)) ≡ false → ⊥
   start_is_after_end e =
       let t : AnyRange K = record { start = s.start; end = r.end } in
       let found = nonempty_holds order lawful complete t (others.0, known.1) e in
       no_key_is_in_both found.0 found.1 found.2.0 found.2.1 (order.cmp y found.0) refl
 
-  is_less : (p q : Position K) → (is_gt (position_cmp order.cmp q p) ≡ false → ⊥) → position_cmp order.cmp p q ≡ Less
-  is_less p q h = flip (position_cmp order.cmp q p) (position_cmp order.cmp p q) ((position_total order.cmp lawful.total).antisymm p q) h
+  is_less : (p q : Position K) → (is_gt (position_cmp order.cmp q p) ≡ false → ⊥)
+      → position_cmp order.cmp p q ≡ Less
+  is_less p q h =
+      flip (position_cmp order.cmp q p) (position_cmp order.cmp p q)
+      ((position_total order.cmp lawful.total).antisymm p q) h
     where
       flip : (o u : Ordering) → u ≡ ordering_reverse o → (is_gt o ≡ false → ⊥) → u ≡ Less
       flip Less u e h = absurd (h refl)
@@ -217,36 +310,49 @@ module _ {K : Type 0} (order : KeyOrder K) (lawful : IsLawful order) (complete :
   pub below_ends : EndsBefore order lawful r s
   below_ends = is_less (end_position order r.end) (start_position order s.start) start_is_after_end
 
-  starts_less : position_cmp order.cmp (start_position order r.start) (start_position order s.start) ≡ Less
+  starts_less : position_cmp order.cmp (start_position order r.start) (start_position order s.start)
+      ≡ Less
   starts_less =
       is_less (start_position order r.start) (start_position order s.start)
       (λ back.
-      start_is_after_end (upto (position_total order.cmp lawful.total) (start_position order s.start) (start_position order r.start) (end_position order r.end) back
-      (upto (position_total order.cmp lawful.total) (start_position order r.start) (Beside y At) (end_position order r.end) ((holds_by_position order lawful r y key).0 here).0 ((holds_by_position order lawful r y key).0 here).1)))
+      start_is_after_end (upto (position_total order.cmp lawful.total)
+      (start_position order s.start) (start_position order r.start)
+      (end_position order r.end) back
+      (upto (position_total order.cmp lawful.total) (start_position order r.start) (Beside y At)
+      (end_position order r.end) ((holds_by_position order lawful r y key).0 here).0
+      ((holds_by_position order lawful r y key).0 here).1)))
 
   write_flag : (t u : Bool) → (u ≡ true → t ≡ true → ⊥) → (not t || not u) ≡ true
   write_flag true true h = absurd (h refl refl)
   write_flag true false h = refl
   write_flag false u h = refl
 
-  write_before : (A B C T U x y z w u : Bool) → A ≡ true → B ≡ true → (u ≡ true → T ≡ true → ⊥) → is_before (if A then (if B then Before T else Intersecting x y) else (if C then After U else Intersecting z w)) u ≡ true
+  write_before : (A B C T U x y z w u : Bool) → A ≡ true → B ≡ true → (u ≡ true → T ≡ true → ⊥)
+      → is_before (if A then (if B then Before T else Intersecting x y)
+      else (if C then After U else Intersecting z w)) u ≡ true
   write_before true true C T U x y z w u e f h = write_flag T u h
   write_before true false C T U x y z w u e f h = cc
   write_before false B C T U x y z w u e f h = cc
 
   -- and stands before it, apart where their values are equal and the ranges are not joined
-  pub is_before_of : (same : Bool) → (AreJoined order r s → IsTrue same → ⊥) → IsTrue (is_before (range_ordering order r s) same)
+  pub is_before_of : (same : Bool) → (AreJoined order r s → IsTrue same → ⊥)
+      → IsTrue (is_before (range_ordering order r s) same)
   is_before_of same parted =
       write_before _ _ _ _ _ _ _ _ _ same (ap is_lt starts_less) (ap is_lt below_ends)
-      (λ e touching. parted (touch_joined order lawful r s y z key key' here there below_ends touching) e)
+      (λ e touching.
+      parted (touch_joined order lawful r s y z key key' here there below_ends touching) e)
 
-told_before : (A B C T U x y z w t : Bool) → (if A then (if B then Before T else Intersecting x y) else (if C then After U else Intersecting z w)) ≡ Before t → (B ≡ true) × (T ≡ t)
+told_before : (A B C T U x y z w t : Bool)
+    → (if A then (if B then Before T else Intersecting x y)
+    else (if C then After U else Intersecting z w)) ≡ Before t → (B ≡ true) × (T ≡ t)
 told_before true true C T U x y z w t e = (refl, cc)
 told_before true false C T U x y z w t e = absurd (cc)
 told_before false B true T U x y z w t e = absurd (cc)
 told_before false B false T U x y z w t e = absurd (cc)
 
-told_after : (A B C T U x y z w t : Bool) → (if A then (if B then Before T else Intersecting x y) else (if C then After U else Intersecting z w)) ≡ After t → (C ≡ true) × (U ≡ t)
+told_after : (A B C T U x y z w t : Bool)
+    → (if A then (if B then Before T else Intersecting x y)
+    else (if C then After U else Intersecting z w)) ≡ After t → (C ≡ true) × (U ≡ t)
 told_after true true C T U x y z w t e = absurd (cc)
 told_after true false C T U x y z w t e = absurd (cc)
 told_after false B true T U x y z w t e = (refl, cc)
@@ -256,7 +362,9 @@ either_flag : (u : Bool) → (not u || not false) ≡ true
 either_flag true = refl
 either_flag false = refl
 
-write_after : (A B C T U x y z w : Bool) → A ≡ false → C ≡ true → is_after (if A then (if B then Before T else Intersecting x y) else (if C then After U else Intersecting z w)) false ≡ true
+write_after : (A B C T U x y z w : Bool) → A ≡ false → C ≡ true
+    → is_after (if A then (if B then Before T else Intersecting x y)
+    else (if C then After U else Intersecting z w)) false ≡ true
 write_after false B true T U x y z w e f = either_flag U
 write_after false B false T U x y z w e f = absurd (cc)
 write_after true B C T U x y z w e f = absurd (cc)
@@ -265,29 +373,46 @@ not_less : (o p : Ordering) → p ≡ ordering_reverse o → o ≡ Less → is_l
 not_less o p e f = rw (e, f) refl
 
 module _ {K : Type 0} (order : KeyOrder K) (lawful : IsLawful order) where
-  -- a comparison that says before, or after, says that the keys of the one are below those of the other
-  pub before_below : (r s : AnyRange K) (t : Bool) → range_ordering order r s ≡ Before t → AreBelow order r s
+  -- a comparison that says before, or after, says that the keys of the one are below those of the
+  -- other
+  pub before_below : (r s : AnyRange K) (t : Bool) → range_ordering order r s ≡ Before t
+      → AreBelow order r s
   before_below r s t e =
       let told = told_before _ _ _ _ _ _ _ _ _ t e in
-      ends_below order lawful r s (lt_of (position_cmp order.cmp (end_position order r.end) (start_position order s.start)) told.0)
+      ends_below order lawful r s
+      (lt_of (position_cmp order.cmp (end_position order r.end) (start_position order s.start))
+      told.0)
 
-  ends_after : (r s : AnyRange K) → is_gt (position_cmp order.cmp (start_position order r.start) (end_position order s.end)) ≡ true → EndsBefore order lawful s r
+  ends_after : (r s : AnyRange K)
+      → is_gt (position_cmp order.cmp (start_position order r.start) (end_position order s.end))
+      ≡ true → EndsBefore order lawful s r
   ends_after r s h =
-      (position_total order.cmp lawful.total).antisymm (end_position order s.end) (start_position order r.start) ∙ reversed_greater_is_less (position_cmp order.cmp (start_position order r.start) (end_position order s.end)) h
+      (position_total order.cmp lawful.total).antisymm (end_position order s.end)
+      (start_position order r.start)
+      ∙ reversed_greater_is_less
+      (position_cmp order.cmp (start_position order r.start) (end_position order s.end)) h
 
-  pub after_below : (r s : AnyRange K) (t : Bool) → range_ordering order r s ≡ After t → AreBelow order s r
-  after_below r s t e = ends_below order lawful s r (ends_after r s (told_after _ _ _ _ _ _ _ _ _ t e).0)
+  pub after_below : (r s : AnyRange K) (t : Bool) → range_ordering order r s ≡ After t
+      → AreBelow order s r
+  after_below r s t e =
+      ends_below order lawful s r (ends_after r s (told_after _ _ _ _ _ _ _ _ _ t e).0)
 
   module _ (complete : IsComplete order) where
     -- a nonempty range of keys
     abbrev IsFilled : AnyRange K → Type 0
     IsFilled r = IsKnownRange order r × (¬ IsEmptyRange order r)
 
-    filled_range_has_key : (r : AnyRange K) → IsFilled r → (k : K) × order.is_key k × Holds order r k
-    filled_range_has_key r h = nonempty_holds order lawful complete r h.0 (not_greater (position_cmp order.cmp (start_position order r.start) (end_position order r.end)) h.1)
+    filled_range_has_key : (r : AnyRange K) → IsFilled r
+        → (k : K) × order.is_key k × Holds order r k
+    filled_range_has_key r h =
+        nonempty_holds order lawful complete r h.0
+        (not_greater (position_cmp order.cmp (start_position order r.start)
+        (end_position order r.end)) h.1)
 
     -- the flag of one that ends before the other says whether they are joined
-    flag_joined : (r s : AnyRange K) → IsFilled r → IsFilled s → EndsBefore order lawful r s → (t : Bool) → starts_at_end order r.end (start_position order s.start) ≡ t → IsTrue t ↔ AreJoined order r s
+    flag_joined : (r s : AnyRange K) → IsFilled r → IsFilled s → EndsBefore order lawful r s
+        → (t : Bool) → starts_at_end order r.end (start_position order s.start) ≡ t → IsTrue t
+        ↔ AreJoined order r s
     flag_joined r s h k before t e =
         let y = filled_range_has_key r h in
         let z = filled_range_has_key s k in (
@@ -295,30 +420,45 @@ module _ {K : Type 0} (order : KeyOrder K) (lawful : IsLawful order) where
           λ joined. sym e ∙ joined_touch order lawful complete r s h.0 k.0 h.1 k.1 joined,
         )
 
-    pub before_joined : (r s : AnyRange K) → IsKnownRange order r → IsKnownRange order s → (¬ IsEmptyRange order r) → (¬ IsEmptyRange order s) → (t : Bool) → range_ordering order r s ≡ Before t → IsTrue t ↔ AreJoined order r s
+    pub before_joined : (r s : AnyRange K) → IsKnownRange order r → IsKnownRange order s
+        → (¬ IsEmptyRange order r) → (¬ IsEmptyRange order s) → (t : Bool)
+        → range_ordering order r s ≡ Before t → IsTrue t ↔ AreJoined order r s
     before_joined r s known others full full' t e =
         let told = told_before _ _ _ _ _ _ _ _ _ t e in
-        flag_joined r s (known, full) (others, full') (lt_of (position_cmp order.cmp (end_position order r.end) (start_position order s.start)) told.0) t told.1
+        flag_joined r s (known, full) (others, full')
+        (lt_of (position_cmp order.cmp (end_position order r.end)
+        (start_position order s.start)) told.0) t told.1
 
-    pub after_joined : (r s : AnyRange K) → IsKnownRange order r → IsKnownRange order s → (¬ IsEmptyRange order r) → (¬ IsEmptyRange order s) → (t : Bool) → range_ordering order r s ≡ After t → IsTrue t ↔ AreJoined order s r
+    pub after_joined : (r s : AnyRange K) → IsKnownRange order r → IsKnownRange order s
+        → (¬ IsEmptyRange order r) → (¬ IsEmptyRange order s) → (t : Bool)
+        → range_ordering order r s ≡ After t → IsTrue t ↔ AreJoined order s r
     after_joined r s known others full full' t e =
         let told = told_after _ _ _ _ _ _ _ _ _ t e in
         flag_joined s r (others, full') (known, full) (ends_after r s told.0) t told.1
 
     -- and nonempty ranges of which the one is below the other are compared so
-    pub below_before : (r s : AnyRange K) → IsKnownRange order r → IsKnownRange order s → (¬ IsEmptyRange order r) → (¬ IsEmptyRange order s) → AreBelow order r s → IsTrue (is_before (range_ordering order r s) false)
+    pub below_before : (r s : AnyRange K) → IsKnownRange order r → IsKnownRange order s
+        → (¬ IsEmptyRange order r) → (¬ IsEmptyRange order s) → AreBelow order r s
+        → IsTrue (is_before (range_ordering order r s) false)
     below_before r s known others full full' below =
         let y = filled_range_has_key r (known, full) in
         let z = filled_range_has_key s (others, full') in
-        is_before_of order lawful complete r s known others y.0 z.0 y.1 z.1 y.2 z.2 below false (λ joined e. cc)
+        is_before_of order lawful complete r s known others y.0 z.0 y.1 z.1 y.2 z.2 below false
+        (λ joined e. cc)
 
-    pub below_after : (r s : AnyRange K) → IsKnownRange order r → IsKnownRange order s → (¬ IsEmptyRange order r) → (¬ IsEmptyRange order s) → AreBelow order s r → IsTrue (is_after (range_ordering order r s) false)
+    pub below_after : (r s : AnyRange K) → IsKnownRange order r → IsKnownRange order s
+        → (¬ IsEmptyRange order r) → (¬ IsEmptyRange order s) → AreBelow order s r
+        → IsTrue (is_after (range_ordering order r s) false)
     below_after r s known others full full' below =
         let total = position_total order.cmp lawful.total in
         let y = filled_range_has_key r (known, full) in
         let z = filled_range_has_key s (others, full') in
-        let starts = starts_less order lawful complete s r others known z.0 y.0 z.1 y.1 z.2 y.2 below in
-        let ends = below_ends order lawful complete s r others known z.0 y.0 z.1 y.1 z.2 y.2 below in
+        let starts =
+        starts_less order lawful complete s r others known z.0 y.0 z.1 y.1 z.2 y.2 below in
+        let ends =
+        below_ends order lawful complete s r others known z.0 y.0 z.1 y.1 z.2 y.2 below in
         write_after _ _ _ _ _ _ _ _ _
-        (not_less _ _ (total.antisymm (start_position order r.start) (start_position order s.start)) starts)
-        (turned_less_is_greater _ _ (total.antisymm (start_position order r.start) (end_position order s.end)) ends)
+        (not_less _ _ (total.antisymm (start_position order r.start) (start_position order s.start))
+        starts)
+        (turned_less_is_greater _ _
+        (total.antisymm (start_position order r.start) (end_position order s.end)) ends)

@@ -13,21 +13,25 @@ pub any_right : {X : Type 0} (P : X → Type 0) (xs ys : List X) → Any P ys �
 any_right P [] ys h = h
 any_right P (x ∷ xs) ys h = inr (any_right P xs ys h)
 
-pub any_split : {X : Type 0} (P : X → Type 0) (xs ys : List X) → Any P (xs ++ ys) → Any P xs ⊎ Any P ys
+pub any_split : {X : Type 0} (P : X → Type 0) (xs ys : List X) → Any P (xs ++ ys)
+    → Any P xs ⊎ Any P ys
 any_split P [] ys h = inr h
 any_split P (x ∷ xs) ys (inl h) = inl (inl h)
 any_split P (x ∷ xs) ys (inr h) = elim (any_split P xs ys h) [ inl k ↦ inl (inr k) | inr k ↦ inr k ]
 
-pub any_none : {X : Type 0} (P Q : X → Type 0) (xs : List X) → Every Q xs → ((x : X) → Q x → P x → ⊥) → Any P xs → ⊥
+pub any_none : {X : Type 0} (P Q : X → Type 0) (xs : List X) → Every Q xs
+    → ((x : X) → Q x → P x → ⊥) → Any P xs → ⊥
 any_none P Q [] all f h = h
 any_none P Q (x ∷ xs) all f (inl h) = f x all.0 h
 any_none P Q (x ∷ xs) all f (inr h) = any_none P Q xs all.1 f h
 
-pub every_weaker : {X : Type 0} (P Q : X → Type 0) (xs : List X) → ((x : X) → P x → Q x) → Every P xs → Every Q xs
+pub every_weaker : {X : Type 0} (P Q : X → Type 0) (xs : List X) → ((x : X) → P x → Q x)
+    → Every P xs → Every Q xs
 every_weaker P Q [] f h = tt
 every_weaker P Q (x ∷ xs) f h = (f x h.0, every_weaker P Q xs f h.1)
 
-pub every_append : {X : Type 0} (P : X → Type 0) (xs ys : List X) → Every P xs → Every P ys → Every P (xs ++ ys)
+pub every_append : {X : Type 0} (P : X → Type 0) (xs ys : List X) → Every P xs → Every P ys
+    → Every P (xs ++ ys)
 every_append P [] ys h k = k
 every_append P (x ∷ xs) ys h k = (h.0, every_append P xs ys h.1 k)
 
@@ -40,33 +44,44 @@ every_right P [] ys h = h
 every_right P (x ∷ xs) ys h = every_right P xs ys h.1
 
 -- what holds of all and of one more
-pub all_more : {X : Type 0} (P : X → Type 0) (xs : List X) (x : X) → AllByRecursion P xs → P x → AllByRecursion P (xs ++ x ∷ [])
+pub all_more : {X : Type 0} (P : X → Type 0) (xs : List X) (x : X) → AllByRecursion P xs → P x
+    → AllByRecursion P (xs ++ x ∷ [])
 all_more P [] x h p = (p, tt)
 all_more P (y ∷ xs) x h p = (h.0, all_more P xs x h.1 p)
 
-pub every_all : {X : Type 0} (P : X → Type 0) (xs : List X) → ((k : ℕ) (d : X) → k < length xs → P (get_or xs k d)) → Every P xs
+pub every_all : {X : Type 0} (P : X → Type 0) (xs : List X)
+    → ((k : ℕ) (d : X) → k < length xs → P (get_or xs k d)) → Every P xs
 every_all P [] h = tt
-every_all P (x ∷ xs) h = (h 0 x (omega arith), every_all P xs (λ k d within. h (suc k) d (omega arith)))
+every_all P (x ∷ xs) h =
+    (h 0 x (omega arith), every_all P xs (λ k d within. h (suc k) d (omega arith)))
 
-pub every_at : {X : Type 0} (P : X → Type 0) (xs : List X) (k : ℕ) (d : X) → Every P xs → k < length xs → P (get_or xs k d)
+pub every_at : {X : Type 0} (P : X → Type 0) (xs : List X) (k : ℕ) (d : X) → Every P xs
+    → k < length xs → P (get_or xs k d)
 every_at P [] k d h within = absurd (omega arith)
 every_at P (x ∷ xs) zero d h within = h.0
 every_at P (x ∷ xs) (suc k) d h within = every_at P xs k d h.1 (omega arith)
 
-pub every_take : {X : Type 0} (P : X → Type 0) (xs : List X) (n : ℕ) → n ≤ length xs → AllWithin P xs 0 n → Every P (take n xs)
+pub every_take : {X : Type 0} (P : X → Type 0) (xs : List X) (n : ℕ) → n ≤ length xs
+    → AllWithin P xs 0 n → Every P (take n xs)
 every_take P xs n le h =
     let size = length-take-le n xs le in
-    every_all P (take n xs) (λ k d within. let below : k < n = omega (arith, size) in rw (get_or-take n xs k d below) (h k d (omega arith) below))
+    every_all P (take n xs) (λ k d within.
+    let below : k < n =
+    omega (arith, size) in rw (get_or-take n xs k d below) (h k d (omega arith) below))
 
-pub every_drop : {X : Type 0} (P : X → Type 0) (xs : List X) (n : ℕ) → n ≤ length xs → AllWithin P xs n (length xs) → Every P (drop n xs)
+pub every_drop : {X : Type 0} (P : X → Type 0) (xs : List X) (n : ℕ) → n ≤ length xs
+    → AllWithin P xs n (length xs) → Every P (drop n xs)
 every_drop P xs n le h =
-    every_all P (drop n xs) (λ k d within. rw (get_or-drop n xs k d) (h (n + k) d (omega arith) (omega (arith, length-drop n xs))))
+    every_all P (drop n xs) (λ k d within.
+    rw (get_or-drop n xs k d) (h (n + k) d (omega arith) (omega (arith, length-drop n xs))))
 
 pub list_is_take_and_drop : {X : Type 0} (xs : List X) (n : ℕ) → xs ≡ take n xs ++ drop n xs
 list_is_take_and_drop xs n = sym (take-append-drop n xs)
 
-pub parts_at : {X : Type 0} (xs : List X) (n : ℕ) (d : X) → n < length xs → xs ≡ take n xs ++ get_or xs n d ∷ drop (n + 1) xs
-parts_at xs n d within = list_is_take_and_drop xs n ∙ ap (λ ys. take n xs ++ ys) (drop_more xs n d within)
+pub parts_at : {X : Type 0} (xs : List X) (n : ℕ) (d : X) → n < length xs
+    → xs ≡ take n xs ++ get_or xs n d ∷ drop (n + 1) xs
+parts_at xs n d within =
+    list_is_take_and_drop xs n ∙ ap (λ ys. take n xs ++ ys) (drop_more xs n d within)
 
 drop_none : {X : Type 0} (n : ℕ) → drop {A = X} n [] ≡ []
 drop_none zero = refl

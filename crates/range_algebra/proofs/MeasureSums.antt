@@ -1,4 +1,5 @@
--- The measures of ranges in order add up to less than 2 ^ 128, and over counted keys to the number of their keys.
+-- The measures of ranges in order add up to less than 2 ^ 128, and over counted keys to the number
+-- of their keys.
 use Rattle.std.proofs.Common.{◌≡◌, ℕ, ◌+◌, ◌-◌, ◌<◌, ◌≤◌, ◌^◌, inl, inr, refl, sym, ap, subst, ◌∙◌, arith, Option, Some, None, List, [], ◌∷◌, lit<}
 use Rattle.std.specs.Option.{IsSomeAnd}
 use Rattle.std.specs.declared.ops.Bound.{Bound}
@@ -29,54 +30,79 @@ use Rattle.range_algebra.proofs.Numbers.{number_none, number_both}
 use Rattle.range_algebra.proofs.Places.{reaching_is_before_past}
 
 -- a sum that is there has both parts
-sum_parts : (o p : Option ℕ) (n : ℕ) → measure_sum o p ≡ Some n → (m : ℕ) × (k : ℕ) × (o ≡ Some m) × (p ≡ Some k) × (m + k ≡ n)
+sum_parts : (o p : Option ℕ) (n : ℕ) → measure_sum o p ≡ Some n
+    → (m : ℕ) × (k : ℕ) × (o ≡ Some m) × (p ≡ Some k) × (m + k ≡ n)
 sum_parts (Some m) (Some k) n e = (m, k, refl, refl, cc)
 sum_parts (Some m) None n e = cc
 sum_parts None p n e = cc
 
 module _ {K : Type 0} (order : KeyOrder K) (lawful : IsLawful order) where
-  ends_after : (s e : Bound K) → IsKnownBound order s → IsKnownBound order e → Le (position_cmp order.cmp) (start_position order s) (end_position order e) → Le (position_cmp order.cmp) (start_position order s) (past order (end_position order e))
-  ends_after s e known known' h = lt_le (position_cmp order.cmp) (position_total order.cmp lawful.total) (start_position order s) (past order (end_position order e)) ((reaching_is_before_past order lawful s e known known').0 h)
+  ends_after : (s e : Bound K) → IsKnownBound order s → IsKnownBound order e
+      → Le (position_cmp order.cmp) (start_position order s) (end_position order e)
+      → Le (position_cmp order.cmp) (start_position order s) (past order (end_position order e))
+  ends_after s e known known' h =
+      lt_le (position_cmp order.cmp) (position_total order.cmp lawful.total)
+      (start_position order s) (past order (end_position order e))
+      ((reaching_is_before_past order lawful s e known known').0 h)
 
   -- where the one lies before the other, its upper place is at most the other's lower one
-  before_is_below : (r s : AnyRange K) → IsKnownRange order r → IsKnownRange order s → LiesBefore order r s → Le (position_cmp order.cmp) (upper order r) (lower order s)
+  before_is_below : (r s : AnyRange K) → IsKnownRange order r → IsKnownRange order s
+      → LiesBefore order r s → Le (position_cmp order.cmp) (upper order r) (lower order s)
   before_is_below r s known others h =
       let total = position_total order.cmp lawful.total in
       not_lt (position_cmp order.cmp) total (upper order r) (lower order s)
-      (λ l. lt_not_le (position_cmp order.cmp) total (end_position order r.end) (start_position order s.start) h ((reaching_is_before_past order lawful s.start r.end others.0 known.1).1 l))
+      (λ l. lt_not_le (position_cmp order.cmp) total (end_position order r.end)
+      (start_position order s.start) h
+      ((reaching_is_before_past order lawful s.start r.end others.0 known.1).1 l))
 
-  before_trans : (r s t : AnyRange K) → ¬ IsEmptyRange order s → LiesBefore order r s → LiesBefore order s t → LiesBefore order r t
+  before_trans : (r s t : AnyRange K) → ¬ IsEmptyRange order s → LiesBefore order r s
+      → LiesBefore order s t → LiesBefore order r t
   before_trans r s t full h k =
       let total = position_total order.cmp lawful.total in
-      let through = lt_le_trans (position_cmp order.cmp) total (end_position order r.end) (start_position order s.start) (end_position order s.end) h (reach_full order lawful s full) in
-      lt_trans (position_cmp order.cmp) total (end_position order r.end) (end_position order s.end) (start_position order t.start) through k
+      let through =
+      lt_le_trans (position_cmp order.cmp) total (end_position order r.end)
+      (start_position order s.start) (end_position order s.end) h
+      (reach_full order lawful s full) in
+      lt_trans (position_cmp order.cmp) total (end_position order r.end) (end_position order s.end)
+      (start_position order t.start) through k
 
   -- in order without the second
-  order_without_second : (r s : AnyRange K) (ranges : List (AnyRange K)) → AreInOrder order (r ∷ s ∷ ranges) → AreInOrder order (r ∷ ranges)
+  order_without_second : (r s : AnyRange K) (ranges : List (AnyRange K))
+      → AreInOrder order (r ∷ s ∷ ranges) → AreInOrder order (r ∷ ranges)
   order_without_second r s [] h = (h.0, h.1)
   order_without_second r s (t ∷ ranges) h = (h.0, h.1, before_trans r s t h.3.1 h.2 h.3.2, h.3.3)
 
-  pub rest_in_order : (r : AnyRange K) (ranges : List (AnyRange K)) → AreInOrder order (r ∷ ranges) → AreInOrder order ranges
+  pub rest_in_order : (r : AnyRange K) (ranges : List (AnyRange K)) → AreInOrder order (r ∷ ranges)
+      → AreInOrder order ranges
   rest_in_order r [] h = tt
   rest_in_order r (s ∷ ranges) h = h.3
 
-  pub first_known : (r : AnyRange K) (ranges : List (AnyRange K)) → AreInOrder order (r ∷ ranges) → IsKnownRange order r × ¬ IsEmptyRange order r
+  pub first_known : (r : AnyRange K) (ranges : List (AnyRange K)) → AreInOrder order (r ∷ ranges)
+      → IsKnownRange order r × ¬ IsEmptyRange order r
   first_known r [] h = (h.0, h.1)
   first_known r (s ∷ ranges) h = (h.0, h.1)
 
-  below_next : (r s : AnyRange K) (a b : K) → LiesBefore order r s → order.is_key a → order.is_key b → Holds order r a → Holds order s b → Below order a b
+  below_next : (r s : AnyRange K) (a b : K) → LiesBefore order r s → order.is_key a → order.is_key b
+      → Holds order r a → Holds order s b → Below order a b
   below_next r s a b h key key' f g =
       let total = position_total order.cmp lawful.total in
       let up = ((holds_by_position order lawful r a key).0 f).1 in
       let down = ((holds_by_position order lawful s b key').0 g).0 in
-      let near = le_lt_trans (position_cmp order.cmp) total (Beside a At) (end_position order r.end) (start_position order s.start) up h in
-      sym (any_then_equal (order.cmp a b)) ∙ lt_le_trans (position_cmp order.cmp) total (Beside a At) (start_position order s.start) (Beside b At) near down
+      let near =
+      le_lt_trans (position_cmp order.cmp) total (Beside a At) (end_position order r.end)
+      (start_position order s.start) up h in
+      sym (any_then_equal (order.cmp a b))
+      ∙ lt_le_trans (position_cmp order.cmp) total (Beside a At) (start_position order s.start)
+      (Beside b At) near down
 
   -- the keys of the first range are below those of all others
-  below_all : (r : AnyRange K) (ranges : List (AnyRange K)) (a b : K) → AreInOrder order (r ∷ ranges) → order.is_key a → order.is_key b → Holds order r a → Any (λ s. Holds order s b) ranges → Below order a b
+  below_all : (r : AnyRange K) (ranges : List (AnyRange K)) (a b : K)
+      → AreInOrder order (r ∷ ranges) → order.is_key a → order.is_key b → Holds order r a
+      → Any (λ s. Holds order s b) ranges → Below order a b
   below_all r [] a b h key key' f g = absurd g
   below_all r (s ∷ ranges) a b h key key' f (inl g) = below_next r s a b h.2 key key' f g
-  below_all r (s ∷ ranges) a b h key key' f (inr g) = below_all r ranges a b (order_without_second r s ranges h) key key' f g
+  below_all r (s ∷ ranges) a b h key key' f (inr g) =
+      below_all r ranges a b (order_without_second r s ranges h) key key' f g
 
   module _ (len : K → ℕ) (distance : K → K → ℕ) (measured : IsMeasure order len distance) where
     -- the place lies so much above the key
@@ -89,15 +115,19 @@ module _ {K : Type 0} (order : KeyOrder K) (lawful : IsLawful order) where
     unfolding IsPlace
     key_place a key = key
 
-    past_place : (a : K) → order.is_key a → IsPlace order lawful len distance measured (Beside a After)
+    past_place : (a : K) → order.is_key a
+        → IsPlace order lawful len distance measured (Beside a After)
     unfolding IsPlace
     past_place a key = key
 
-    between_keys : (a b : K) → gap order lawful len distance measured (Beside a At) (Beside b At) ≡ distance a b
+    between_keys : (a b : K)
+        → gap order lawful len distance measured (Beside a At) (Beside b At) ≡ distance a b
     unfolding gap
     between_keys a b = omega arith
 
-    behind_key : (a : K) → gap order lawful len distance measured (Beside a At) (Beside a After) ≡ distance a a + len a
+    behind_key : (a : K)
+        → gap order lawful len distance measured (Beside a At) (Beside a After)
+        ≡ distance a a + len a
     unfolding gap
     behind_key a = omega arith
 
@@ -112,7 +142,8 @@ module _ {K : Type 0} (order : KeyOrder K) (lawful : IsLawful order) where
     }
 
     -- the place after a key
-    measure_after_key : (a : K) (o : Option K) → order.succ a ≡ o → order.is_key a → LiesAbove a (at_told o (Beside a After)) (len a)
+    measure_after_key : (a : K) (o : Option K) → order.succ a ≡ o → order.is_key a
+        → LiesAbove a (at_told o (Beside a After)) (len a)
     measure_after_key a None e key = record {
       is_place = past_place a key;
       from = ap is_gt (equal_then_any (order.cmp a a) Less (tied_itself lawful.total a));
@@ -125,7 +156,8 @@ module _ {K : Type 0} (order : KeyOrder K) (lawful : IsLawful order) where
     }
 
     -- the place before a key, after the neighbour that is told
-    before_by : (a b : K) (o : Option K) → order.succ a ≡ o → Tells order o b → order.is_key b → LiesAbove b (at_told o (Beside a After)) 0
+    before_by : (a b : K) (o : Option K) → order.succ a ≡ o → Tells order o b → order.is_key b
+        → LiesAbove b (at_told o (Beside a After)) 0
     before_by a b None e t key = absurd t
     before_by a b (Some c) e t key =
         let in_type = (lawful.succ_key a c e).1 in
@@ -136,16 +168,24 @@ module _ {K : Type 0} (order : KeyOrder K) (lawful : IsLawful order) where
           much = between_keys b c ∙ measured.itself b c key in_type same;
         }
 
-    before_key : (b : K) (o : Option K) → order.pred b ≡ o → order.is_key b → LiesAbove b (past order (at_told o (Beside b Before))) 0
+    before_key : (b : K) (o : Option K) → order.pred b ≡ o → order.is_key b
+        → LiesAbove b (past order (at_told o (Beside b Before))) 0
     before_key b None e key = at_key b key
     before_key b (Some a) e key = before_by a b (order.succ a) refl (lawful.pred_succ a b e) key
 
-    measures_join : (a b : K) (p q : Position K) (off put : ℕ) → order.is_key a → order.is_key b → NotAbove order a b → LiesAbove a p off → LiesAbove b q put → Le (position_cmp order.cmp) p q
+    measures_join : (a b : K) (p q : Position K) (off put : ℕ) → order.is_key a → order.is_key b
+        → NotAbove order a b → LiesAbove a p off → LiesAbove b q put
+        → Le (position_cmp order.cmp) p q
         → off + gap order lawful len distance measured p q ≡ distance a b + put
     measures_join a b p q off put key key' l start end h =
-        let through = gap_adds order lawful len distance measured (Beside a At) p q (key_place a key) start.is_place end.is_place start.from h in
-        let up : Le (position_cmp order.cmp) (Beside a At) (Beside b At) = ap is_gt (any_then_equal (order.cmp a b)) ∙ l in
-        let past_end = gap_adds order lawful len distance measured (Beside a At) (Beside b At) q (key_place a key) (key_place b key') end.is_place up end.from in
+        let through =
+        gap_adds order lawful len distance measured (Beside a At) p q
+        (key_place a key) start.is_place end.is_place start.from h in
+        let up : Le (position_cmp order.cmp) (Beside a At) (Beside b At) =
+        ap is_gt (any_then_equal (order.cmp a b)) ∙ l in
+        let past_end =
+        gap_adds order lawful len distance measured (Beside a At) (Beside b At) q
+        (key_place a key) (key_place b key') end.is_place up end.from in
         let keys = between_keys a b in
         let i = start.much in
         let j = end.much in
@@ -157,7 +197,9 @@ module _ {K : Type 0} (order : KeyOrder K) (lawful : IsLawful order) where
       high : IsPlace order lawful len distance measured q
       much : gap order lawful len distance measured p q ≡ n
 
-    bounds_gap : (s e : Bound K) (n : ℕ) → IsKnownBound order s → IsKnownBound order e → Le (position_cmp order.cmp) (start_position order s) (end_position order e) → measure_between len distance s e ≡ Some n
+    bounds_gap : (s e : Bound K) (n : ℕ) → IsKnownBound order s → IsKnownBound order e
+        → Le (position_cmp order.cmp) (start_position order s) (end_position order e)
+        → measure_between len distance s e ≡ Some n
         → IsGap (start_position order s) (past order (end_position order e)) n
     bounds_gap Unbounded e n known known' h m = cc
     bounds_gap (Included a) Unbounded n known known' h m = cc
@@ -183,7 +225,9 @@ module _ {K : Type 0} (order : KeyOrder K) (lawful : IsLawful order) where
         let end = measure_after_key b (order.succ b) refl known' in
         let l = excluded_included order lawful (Excluded a) (Included b) a b refl refl h in
         let order_of = ends_after (Excluded a) (Included b) known known' h in
-        let whole = measures_join a b _ _ (len a) (len b) known known' (ap is_gt l) start end order_of in
+        let whole =
+        measures_join a b _ _ (len a) (len b) known known'
+        (ap is_gt l) start end order_of in
         let fits = measured.at_least a b known known' l in
         let is : distance a b - len a + len b ≡ n = cc in
         record { low = start.is_place; high = end.is_place; much = omega arith }
@@ -196,23 +240,37 @@ module _ {K : Type 0} (order : KeyOrder K) (lawful : IsLawful order) where
         let is : distance a b - len a ≡ n = cc in
         record { low = start.is_place; high = end.is_place; much = omega arith }
 
-    range_gap : (r : AnyRange K) (n : ℕ) → IsKnownRange order r → ¬ IsEmptyRange order r → range_measure order len distance r ≡ Some n → IsGap (lower order r) (upper order r) n
+    range_gap : (r : AnyRange K) (n : ℕ) → IsKnownRange order r → ¬ IsEmptyRange order r
+        → range_measure order len distance r ≡ Some n → IsGap (lower order r) (upper order r) n
     range_gap r n known full e =
-        let told = bounds_gap (told_bound order.least r.start) (told_bound order.greatest r.end) n (known_start order lawful r.start known.0) (known_end order lawful r.end known.1) (told_reach order lawful r full) (sym (full_measure order lawful len distance r full) ∙ e) in
+        let told =
+        bounds_gap (told_bound order.least r.start) (told_bound order.greatest r.end) n
+        (known_start order lawful r.start known.0) (known_end order lawful r.end known.1)
+        (told_reach order lawful r full)
+        (sym (full_measure order lawful len distance r full) ∙ e) in
         subst (λ p. IsGap p (upper order r) n) (told_start order lawful r.start)
-        (subst (λ q. IsGap (start_position order (told_bound order.least r.start)) q n) (ap (past order) (told_end order lawful r.end)) told)
+        (subst (λ q. IsGap (start_position order (told_bound order.least r.start)) q n)
+        (ap (past order) (told_end order lawful r.end)) told)
 
-    first_place : (s : AnyRange K) (ranges : List (AnyRange K)) (n : ℕ) → AreInOrder order (s ∷ ranges) → list_measure order len distance (s ∷ ranges) ≡ Some n → IsPlace order lawful len distance measured (lower order s)
+    first_place : (s : AnyRange K) (ranges : List (AnyRange K)) (n : ℕ)
+        → AreInOrder order (s ∷ ranges) → list_measure order len distance (s ∷ ranges) ≡ Some n
+        → IsPlace order lawful len distance measured (lower order s)
     first_place s ranges n h e =
-        let parts = sum_parts (range_measure order len distance s) (list_measure order len distance ranges) n e in
+        let parts =
+        sum_parts (range_measure order len distance s)
+        (list_measure order len distance ranges) n e in
         let known = first_known s ranges h in
         (range_gap s parts.0 known.0 known.1 parts.2).low
 
     -- a place up to which the ranges reach
     Reaches : AnyRange K → ℕ → Type 0
-    Reaches r n = (q : Position K) × IsPlace order lawful len distance measured q × Le (position_cmp order.cmp) (lower order r) q × (n ≤ gap order lawful len distance measured (lower order r) q)
+    Reaches r n =
+        (q : Position K) × IsPlace order lawful len distance measured q
+        × Le (position_cmp order.cmp) (lower order r) q
+        × (n ≤ gap order lawful len distance measured (lower order r) q)
 
-    reach_of : (r : AnyRange K) (ranges : List (AnyRange K)) (n : ℕ) → AreInOrder order (r ∷ ranges) → list_measure order len distance (r ∷ ranges) ≡ Some n → Reaches r n
+    reach_of : (r : AnyRange K) (ranges : List (AnyRange K)) (n : ℕ) → AreInOrder order (r ∷ ranges)
+        → list_measure order len distance (r ∷ ranges) ≡ Some n → Reaches r n
     unfolding Reaches
     reach_of r [] n h e =
         let parts = sum_parts (range_measure order len distance r) (Some 0) n e in
@@ -224,43 +282,66 @@ module _ {K : Type 0} (order : KeyOrder K) (lawful : IsLawful order) where
         (upper order r, own.high, up, omega arith)
     reach_of r (s ∷ ranges) n h e =
         let total = position_total order.cmp lawful.total in
-        let parts = sum_parts (range_measure order len distance r) (list_measure order len distance (s ∷ ranges)) n e in
+        let parts =
+        sum_parts (range_measure order len distance r)
+        (list_measure order len distance (s ∷ ranges)) n e in
         let own = range_gap r parts.0 h.0 h.1 parts.2 in
         let next = first_known s ranges h.3 in
         let others = reach_of s ranges parts.1 h.3 parts.3 in
-        let start : IsPlace order lawful len distance measured (lower order s) = first_place s ranges parts.1 h.3 parts.3 in
+        let start : IsPlace order lawful len distance measured (lower order s) =
+        first_place s ranges parts.1 h.3 parts.3 in
         let up = ends_after r.start r.end h.0.0 h.0.1 (reach_full order lawful r h.1) in
         let beside = before_is_below r s h.0 next.0 h.2 in
-        let over = le_trans (position_cmp order.cmp) total (lower order r) (upper order r) (lower order s) up beside in
-        let first = gap_adds order lawful len distance measured (lower order r) (upper order r) (lower order s) own.low own.high start up beside in
-        let whole = gap_adds order lawful len distance measured (lower order r) (lower order s) others.0 own.low start others.1 over others.2 in
+        let over =
+        le_trans (position_cmp order.cmp) total (lower order r) (upper order r)
+        (lower order s) up beside in
+        let first =
+        gap_adds order lawful len distance measured (lower order r) (upper order r)
+        (lower order s) own.low own.high start up beside in
+        let whole =
+        gap_adds order lawful len distance measured (lower order r)
+        (lower order s) others.0 own.low start others.1 over others.2 in
         let sum = parts.4 in
         let much = own.much in
-        let more = others.3 in
-        (others.0, others.1, le_trans (position_cmp order.cmp) total (lower order r) (lower order s) others.0 over others.2, omega arith)
+        let more = others.3 in (
+          others.0,
+          others.1,
+          le_trans (position_cmp order.cmp) total (lower order r)
+              (lower order s) others.0 over others.2,
+          omega arith,
+        )
 
     -- the measures of ranges in order add up to less than 2 ^ 128
-    pub list_measure_fits : (ranges : List (AnyRange K)) (n : ℕ) → AreInOrder order ranges → list_measure order len distance ranges ≡ Some n → n < 2 ^ 128
+    pub list_measure_fits : (ranges : List (AnyRange K)) (n : ℕ) → AreInOrder order ranges
+        → list_measure order len distance ranges ≡ Some n → n < 2 ^ 128
     unfolding Reaches
     list_measure_fits [] n h e = let none : 0 ≡ n = cc in subst (λ k. k < 2 ^ 128) none (lit< tt)
     list_measure_fits (r ∷ ranges) n h e =
         let reached = reach_of r ranges n h e in
-        let fits = gap_fits order lawful len distance measured (lower order r) reached.0 (first_place r ranges n h e) reached.1 reached.2 in
+        let fits =
+        gap_fits order lawful len distance measured (lower order r) reached.0
+        (first_place r ranges n h e) reached.1 reached.2 in
         let more = reached.3 in
         omega arith
 
-both_there : (P Q R : ℕ → Type 0) (o p : Option ℕ) → IsSomeAnd o P → IsSomeAnd p Q → ((m n : ℕ) → P m → Q n → R (m + n)) → IsSomeAnd (measure_sum o p) R
+both_there : (P Q R : ℕ → Type 0) (o p : Option ℕ) → IsSomeAnd o P → IsSomeAnd p Q
+    → ((m n : ℕ) → P m → Q n → R (m + n)) → IsSomeAnd (measure_sum o p) R
 both_there P Q R None p h k f = absurd h
 both_there P Q R (Some m) None h k f = absurd k
 both_there P Q R (Some m) (Some n) h k f = f m n h k
 
-module _ {K : Type 0} (order : KeyOrder K) (len : K → ℕ) (distance : K → K → ℕ) (counts : IsCountedMeasure order len distance) where
+module _ {K : Type 0} (order : KeyOrder K) (len : K → ℕ) (distance : K → K → ℕ)
+    (counts : IsCountedMeasure order len distance) where
   -- over counted keys the measures of ranges in order add up to the number of their keys
-  pub list_measure_is_number : (ranges : List (AnyRange K)) → AreInOrder order ranges → IsSomeAnd (list_measure order len distance ranges) (IsNumberOfKeys order (λ k. Any (λ r. Holds order r k) ranges))
+  pub list_measure_is_number : (ranges : List (AnyRange K)) → AreInOrder order ranges
+      → IsSomeAnd (list_measure order len distance ranges)
+      (IsNumberOfKeys order (λ k. Any (λ r. Holds order r k) ranges))
   list_measure_is_number [] h = number_none order counts.counted.total (λ k. ⊥) (λ k key e. e)
   list_measure_is_number (r ∷ ranges) h =
       let lawful = counted_lawful counts.counted in
       both_there _ _ _ (range_measure order len distance r) (list_measure order len distance ranges)
       (measure_is_number order len distance counts r (first_known order lawful r ranges h).0)
       (list_measure_is_number ranges (rest_in_order order lawful r ranges h))
-      (λ m n f g. number_both order counts.counted.total (Holds order r) (λ k. Any (λ s. Holds order s k) ranges) m n (λ a b key key' p q. below_all order lawful r ranges a b h key key' p q) f g)
+      (λ m n f g. number_both order counts.counted.total (Holds order r)
+      (λ k. Any (λ s. Holds order s k) ranges) m n
+      (λ a b key key' p q. below_all order lawful r ranges a b h key key' p q) f g)

@@ -45,110 +45,281 @@ module _ {K : Type 0} (order : KeyOrder K) (lawful : IsLawful order) where
   Full r = PLe (start_position order r.start) (end_position order r.end)
 
   -- an end lies before a start where the place past it is at most that start
-  pub before_is : (e s : Bound K) → IsKnownBound order e → IsKnownBound order s → PLt (end_position order e) (start_position order s) ↔ PLe (past order (end_position order e)) (start_position order s)
+  pub before_is : (e s : Bound K) → IsKnownBound order e → IsKnownBound order s
+      → PLt (end_position order e) (start_position order s)
+      ↔ PLe (past order (end_position order e)) (start_position order s)
   before_is e s known others =
       let total = position_total order.cmp lawful.total in
       let reach = reaching_is_before_past order lawful s e others known in (
-        λ h. not_lt (position_cmp order.cmp) total (past order (end_position order e)) (start_position order s) (λ k. lt_not_le (position_cmp order.cmp) total (end_position order e) (start_position order s) h (reach.1 k)),
-        λ h. not_le (position_cmp order.cmp) total (end_position order e) (start_position order s) (λ k. lt_not_le (position_cmp order.cmp) total (start_position order s) (past order (end_position order e)) (reach.0 k) h),
+        λ h. not_lt (position_cmp order.cmp) total (past order (end_position order e))
+            (start_position order s)
+            (λ k. lt_not_le (position_cmp order.cmp) total (end_position order e)
+            (start_position order s) h (reach.1 k)),
+        λ h. not_le (position_cmp order.cmp) total (end_position order e) (start_position order s)
+            (λ k. lt_not_le (position_cmp order.cmp) total (start_position order s)
+            (past order (end_position order e)) (reach.0 k) h),
       )
 
-  touches_by : (e i : Bound K) (s : AnyRange K) → inverted e ≡ Some i → PLe (past order (end_position order e)) (lower order s) → IsTrue (start_is_at order (Some i) (lower order s)) ↔ PLe (lower order s) (past order (end_position order e))
+  touches_by : (e i : Bound K) (s : AnyRange K) → inverted e ≡ Some i
+      → PLe (past order (end_position order e)) (lower order s)
+      → IsTrue (start_is_at order (Some i) (lower order s))
+      ↔ PLe (lower order s) (past order (end_position order e))
   touches_by e i s turns le =
       let cmp = position_cmp order.cmp in
       let total = position_total order.cmp lawful.total in
       let at = inverted_bound_is_past order lawful e i turns in
       let other = eq_is_equal (cmp (start_position order i) (lower order s)) in (
-        λ h. le_trans cmp total (lower order s) (start_position order i) (past order (end_position order e)) (eq_ge cmp total (start_position order i) (lower order s) (other.0 h)) (eq_ge cmp total (past order (end_position order e)) (start_position order i) at),
-        λ h. other.1 (sym (total.congr (past order (end_position order e)) (start_position order i) (lower order s) at) ∙ both cmp total (past order (end_position order e)) (lower order s) le h),
+        λ h. le_trans cmp total (lower order s) (start_position order i)
+            (past order (end_position order e))
+            (eq_ge cmp total (start_position order i) (lower order s) (other.0 h))
+            (eq_ge cmp total (past order (end_position order e)) (start_position order i) at),
+        λ h.
+            other.1
+            (sym (total.congr (past order (end_position order e)) (start_position order i)
+            (lower order s) at)
+            ∙ both cmp total (past order (end_position order e)) (lower order s) le h),
       )
 
-  -- a nonempty range starts where an end ends that lies before it, where the place past that end is at least its start
-  pub touches_is : (e : Bound K) (s : AnyRange K) → IsKnownRange order s → Full s → PLe (past order (end_position order e)) (lower order s) → IsTrue (starts_at_end order e (lower order s)) ↔ PLe (lower order s) (past order (end_position order e))
+  -- a nonempty range starts where an end ends that lies before it, where the place past that end is
+  -- at least its start
+  pub touches_is : (e : Bound K) (s : AnyRange K) → IsKnownRange order s → Full s
+      → PLe (past order (end_position order e)) (lower order s)
+      → IsTrue (starts_at_end order e (lower order s))
+      ↔ PLe (lower order s) (past order (end_position order e))
   touches_is (Included a) s known full le = touches_by (Included a) (Excluded a) s refl le
   touches_is (Excluded a) s known full le = touches_by (Excluded a) (Included a) s refl le
   touches_is Unbounded s known full le =
       let cmp = position_cmp order.cmp in
       let total = position_total order.cmp lawful.total in
-      let good = (reaching_is_before_past order lawful s.start s.end known.0 known.1).0 full in
-      (λ h. absurd (cc), λ h. absurd (lt_not_le cmp total (lower order s) (upper order s) good (le_trans cmp total (upper order s) (past order (end_position order Unbounded)) (lower order s) (unbounded_end order lawful s.end known.1) le)))
+      let good = (reaching_is_before_past order lawful s.start s.end known.0 known.1).0 full in (
+        λ h. absurd (cc),
+        λ h.
+            absurd (lt_not_le cmp total (lower order s) (upper order s) good
+            (le_trans cmp total (upper order s) (past order (end_position order Unbounded))
+            (lower order s) (unbounded_end order lawful s.end known.1) le)),
+      )
 
   -- how two ranges lie, and what their comparison then answers
   abbrev pub Lying : AnyRange K → AnyRange K → Type 0
   Lying r s =
-      (PLt (end_position order r.end) (start_position order s.start) × ((c : Bool) → matches (range_ordering order r s) c ≡ (starts_at_end order r.end (start_position order s.start) && c)))
-      ⊎ (((PLe (start_position order r.start) (end_position order s.end) × PLe (start_position order s.start) (end_position order r.end)) × ((c : Bool) → matches (range_ordering order r s) c ≡ true))
-      ⊎ (PLt (end_position order s.end) (start_position order r.start) × ((c : Bool) → matches (range_ordering order r s) c ≡ (starts_at_end order s.end (start_position order r.start) && c))))
+      (PLt (end_position order r.end) (start_position order s.start)
+      × ((c : Bool)
+      → matches (range_ordering order r s) c
+      ≡ (starts_at_end order r.end (start_position order s.start) && c)))
+      ⊎ (((PLe (start_position order r.start) (end_position order s.end)
+      × PLe (start_position order s.start) (end_position order r.end))
+      × ((c : Bool) → matches (range_ordering order r s) c ≡ true))
+      ⊎ (PLt (end_position order s.end) (start_position order r.start)
+      × ((c : Bool)
+      → matches (range_ordering order r s) c
+      ≡ (starts_at_end order s.end (start_position order r.start) && c))))
 
   module _ (r s : AnyRange K) (full : Full r) (full' : Full s) where
     abbrev AnswerBy : Ordering → Ordering → Ordering → Bool → Bool
     AnswerBy a b d c =
         matches (if is_lt a
-        then (if is_lt b then lying.Before (starts_at_end order r.end (start_position order s.start)) else lying.Intersecting false (is_eq (position_cmp order.cmp (end_position order r.end) (end_position order s.end))))
-        else (if is_gt d then lying.After (starts_at_end order s.end (start_position order r.start)) else lying.Intersecting (is_eq (position_cmp order.cmp (start_position order r.start) (start_position order s.start))) (is_eq (position_cmp order.cmp (end_position order r.end) (end_position order s.end))))) c
+        then (if is_lt b then lying.Before
+        (starts_at_end order r.end (start_position order s.start)) else lying.Intersecting false
+        (is_eq (position_cmp order.cmp (end_position order r.end) (end_position order s.end))))
+        else (if is_gt d then lying.After
+        (starts_at_end order s.end (start_position order r.start)) else lying.Intersecting
+        (is_eq (position_cmp order.cmp (start_position order r.start)
+        (start_position order s.start)))
+        (is_eq (position_cmp order.cmp (end_position order r.end) (end_position order s.end)))))
+        c
 
     abbrev LyingBy : Ordering → Ordering → Ordering → Type 0
     LyingBy a b d =
-        (PLt (end_position order r.end) (start_position order s.start) × ((c : Bool) → AnswerBy a b d c ≡ (starts_at_end order r.end (start_position order s.start) && c)))
-        ⊎ (((PLe (start_position order r.start) (end_position order s.end) × PLe (start_position order s.start) (end_position order r.end)) × ((c : Bool) → AnswerBy a b d c ≡ true))
-        ⊎ (PLt (end_position order s.end) (start_position order r.start) × ((c : Bool) → AnswerBy a b d c ≡ (starts_at_end order s.end (start_position order r.start) && c))))
+        (PLt (end_position order r.end) (start_position order s.start)
+        × ((c : Bool)
+        → AnswerBy a b d c ≡ (starts_at_end order r.end (start_position order s.start) && c)))
+        ⊎ (((PLe (start_position order r.start) (end_position order s.end)
+        × PLe (start_position order s.start) (end_position order r.end))
+        × ((c : Bool) → AnswerBy a b d c ≡ true))
+        ⊎ (PLt (end_position order s.end) (start_position order r.start)
+        × ((c : Bool)
+        → AnswerBy a b d c ≡ (starts_at_end order s.end (start_position order r.start) && c))))
 
-    lower_start_reaches_other_end : PLe (start_position order r.start) (start_position order s.start) → PLe (start_position order r.start) (end_position order s.end)
-    lower_start_reaches_other_end h = le_trans (position_cmp order.cmp) (position_total order.cmp lawful.total) (start_position order r.start) (start_position order s.start) (end_position order s.end) h full'
+    lower_start_reaches_other_end : PLe (start_position order r.start)
+        (start_position order s.start)
+        → PLe (start_position order r.start) (end_position order s.end)
+    lower_start_reaches_other_end h =
+        le_trans (position_cmp order.cmp) (position_total order.cmp lawful.total)
+        (start_position order r.start) (start_position order s.start)
+        (end_position order s.end) h full'
 
-    upper_start_reaches_end : PLe (start_position order s.start) (start_position order r.start) → PLe (start_position order s.start) (end_position order r.end)
-    upper_start_reaches_end h = le_trans (position_cmp order.cmp) (position_total order.cmp lawful.total) (start_position order s.start) (start_position order r.start) (end_position order r.end) h full
+    upper_start_reaches_end : PLe (start_position order s.start) (start_position order r.start)
+        → PLe (start_position order s.start) (end_position order r.end)
+    upper_start_reaches_end h =
+        le_trans (position_cmp order.cmp) (position_total order.cmp lawful.total)
+        (start_position order s.start) (start_position order r.start)
+        (end_position order r.end) h full
 
     turned_greater_is_less : (p q : Position K) → position_cmp order.cmp p q ≡ Greater → PLt q p
-    turned_greater_is_less p q e = (position_total order.cmp lawful.total).antisymm q p ∙ ap ordering_reverse e
+    turned_greater_is_less p q e =
+        (position_total order.cmp lawful.total).antisymm q p ∙ ap ordering_reverse e
 
-    lying_by : (a b d : Ordering) → position_cmp order.cmp (start_position order r.start) (start_position order s.start) ≡ a → position_cmp order.cmp (end_position order r.end) (start_position order s.start) ≡ b → position_cmp order.cmp (start_position order r.start) (end_position order s.end) ≡ d → LyingBy a b d
+    lying_by : (a b d : Ordering)
+        → position_cmp order.cmp (start_position order r.start) (start_position order s.start) ≡ a
+        → position_cmp order.cmp (end_position order r.end) (start_position order s.start) ≡ b
+        → position_cmp order.cmp (start_position order r.start) (end_position order s.end) ≡ d
+        → LyingBy a b d
     lying_by Less Less d e f g = inl (f, λ c. refl)
-    lying_by Less Equal d e f g = let total = position_total order.cmp lawful.total in inr (inl ((lower_start_reaches_other_end (lt_le (position_cmp order.cmp) total (start_position order r.start) (start_position order s.start) e), eq_ge (position_cmp order.cmp) total (end_position order r.end) (start_position order s.start) f), λ c. refl))
-    lying_by Less Greater d e f g = let total = position_total order.cmp lawful.total in inr (inl ((lower_start_reaches_other_end (lt_le (position_cmp order.cmp) total (start_position order r.start) (start_position order s.start) e), lt_le (position_cmp order.cmp) total (start_position order s.start) (end_position order r.end) (turned_greater_is_less (end_position order r.end) (start_position order s.start) f)), λ c. refl))
-    lying_by Equal b Less e f g = let total = position_total order.cmp lawful.total in inr (inl ((ap is_gt g, upper_start_reaches_end (eq_ge (position_cmp order.cmp) total (start_position order r.start) (start_position order s.start) e)), λ c. refl))
-    lying_by Equal b Equal e f g = let total = position_total order.cmp lawful.total in inr (inl ((ap is_gt g, upper_start_reaches_end (eq_ge (position_cmp order.cmp) total (start_position order r.start) (start_position order s.start) e)), λ c. refl))
-    lying_by Equal b Greater e f g = inr (inr (turned_greater_is_less (start_position order r.start) (end_position order s.end) g, λ c. refl))
-    lying_by Greater b Less e f g = let total = position_total order.cmp lawful.total in inr (inl ((ap is_gt g, upper_start_reaches_end (lt_le (position_cmp order.cmp) total (start_position order s.start) (start_position order r.start) (turned_greater_is_less (start_position order r.start) (start_position order s.start) e))), λ c. refl))
-    lying_by Greater b Equal e f g = let total = position_total order.cmp lawful.total in inr (inl ((ap is_gt g, upper_start_reaches_end (lt_le (position_cmp order.cmp) total (start_position order s.start) (start_position order r.start) (turned_greater_is_less (start_position order r.start) (start_position order s.start) e))), λ c. refl))
-    lying_by Greater b Greater e f g = inr (inr (turned_greater_is_less (start_position order r.start) (end_position order s.end) g, λ c. refl))
+    lying_by Less Equal d e f g = let total =
+        position_total order.cmp lawful.total in inr
+        (inl (
+          (
+            lower_start_reaches_other_end
+                (lt_le (position_cmp order.cmp) total (start_position order r.start)
+                (start_position order s.start) e),
+            eq_ge (position_cmp order.cmp) total (end_position order r.end)
+                (start_position order s.start) f,
+          ),
+          λ c. refl,
+        ))
+    lying_by Less Greater d e f g = let total =
+        position_total order.cmp lawful.total in inr
+        (inl (
+          (
+            lower_start_reaches_other_end
+                (lt_le (position_cmp order.cmp) total (start_position order r.start)
+                (start_position order s.start) e),
+            lt_le (position_cmp order.cmp) total (start_position order s.start)
+                (end_position order r.end)
+                (turned_greater_is_less (end_position order r.end) (start_position order s.start) f),
+          ),
+          λ c. refl,
+        ))
+    lying_by Equal b Less e f g = let total =
+        position_total order.cmp lawful.total in inr
+        (inl (
+          (
+            ap is_gt g,
+            upper_start_reaches_end (eq_ge (position_cmp order.cmp) total (start_position order r.start)
+                (start_position order s.start) e),
+          ),
+          λ c. refl,
+        ))
+    lying_by Equal b Equal e f g = let total =
+        position_total order.cmp lawful.total in inr
+        (inl (
+          (
+            ap is_gt g,
+            upper_start_reaches_end (eq_ge (position_cmp order.cmp) total (start_position order r.start)
+                (start_position order s.start) e),
+          ),
+          λ c. refl,
+        ))
+    lying_by Equal b Greater e f g =
+        inr
+        (inr (
+          turned_greater_is_less (start_position order r.start) (end_position order s.end) g,
+          λ c. refl,
+        ))
+    lying_by Greater b Less e f g = let total =
+        position_total order.cmp lawful.total in inr
+        (inl (
+          (
+            ap is_gt g,
+            upper_start_reaches_end (lt_le (position_cmp order.cmp) total (start_position order s.start)
+                (start_position order r.start)
+                (turned_greater_is_less (start_position order r.start) (start_position order s.start) e)),
+          ),
+          λ c. refl,
+        ))
+    lying_by Greater b Equal e f g = let total =
+        position_total order.cmp lawful.total in inr
+        (inl (
+          (
+            ap is_gt g,
+            upper_start_reaches_end (lt_le (position_cmp order.cmp) total (start_position order s.start)
+                (start_position order r.start)
+                (turned_greater_is_less (start_position order r.start) (start_position order s.start) e)),
+          ),
+          λ c. refl,
+        ))
+    lying_by Greater b Greater e f g =
+        inr
+        (inr (
+          turned_greater_is_less (start_position order r.start) (end_position order s.end) g,
+          λ c. refl,
+        ))
 
     pub lying_of : Lying r s
-    lying_of = lying_by (position_cmp order.cmp (start_position order r.start) (start_position order s.start)) (position_cmp order.cmp (end_position order r.end) (start_position order s.start)) (position_cmp order.cmp (start_position order r.start) (end_position order s.end)) refl refl refl
+    lying_of =
+        lying_by (position_cmp order.cmp (start_position order r.start)
+        (start_position order s.start))
+        (position_cmp order.cmp (end_position order r.end) (start_position order s.start))
+        (position_cmp order.cmp (start_position order r.start) (end_position order s.end)) refl refl
+        refl
 
     -- two nonempty ranges intersect where neither lies before the other
-    pub meets_is : IsTrue (matches (range_ordering order r s) false) ↔ (PLe (start_position order r.start) (end_position order s.end) × PLe (start_position order s.start) (end_position order r.end))
+    pub meets_is : IsTrue (matches (range_ordering order r s) false)
+        ↔ (PLe (start_position order r.start) (end_position order s.end)
+        × PLe (start_position order s.start) (end_position order r.end))
     meets_is =
         let total = position_total order.cmp lawful.total in
         let cmp = position_cmp order.cmp in
         elim lying_of [
-          | inl (l, f) ↦ (λ h. let e : false ≡ true = sym (and_false (starts_at_end order r.end (start_position order s.start))) ∙ (sym (f false) ∙ h) in absurd (cc), λ h. absurd (lt_not_le cmp total (end_position order r.end) (start_position order s.start) l h.1))
+          | inl (l, f) ↦ (
+            λ h. let e : false ≡ true = sym
+                (and_false (starts_at_end order r.end (start_position order s.start)))
+                ∙ (sym (f false) ∙ h) in absurd (cc),
+            λ h.
+                absurd (lt_not_le cmp total (end_position order r.end)
+                (start_position order s.start) l h.1),
+          )
           | inr k ↦ elim k [
             | inl (l, f) ↦ (λ h. l, λ h. f false)
-            | inr (l, f) ↦ (λ h. let e : false ≡ true = sym (and_false (starts_at_end order s.end (start_position order r.start))) ∙ (sym (f false) ∙ h) in absurd (cc), λ h. absurd (lt_not_le cmp total (end_position order s.end) (start_position order r.start) l h.0))
+            | inr (l, f) ↦ (
+              λ h. let e : false ≡ true = sym
+                  (and_false (starts_at_end order s.end (start_position order r.start)))
+                  ∙ (sym (f false) ∙ h) in absurd (cc),
+              λ h.
+                  absurd (lt_not_le cmp total (end_position order s.end)
+                  (start_position order r.start) l h.0),
+            )
           ]
         ]
 
     -- where an answer says that neither lies before the other, it says that they intersect
-    pub meets_by : (t : Bool) → IsTrue t ↔ (PLe (start_position order r.start) (end_position order s.end) × PLe (start_position order s.start) (end_position order r.end)) → IsTrue t ↔ Meets order r s
+    pub meets_by : (t : Bool) → IsTrue t
+        ↔ (PLe (start_position order r.start) (end_position order s.end)
+        × PLe (start_position order s.start) (end_position order r.end)) → IsTrue t
+        ↔ Meets order r s
     meets_by t h = (λ e. meets_is.1 (h.0 e), λ m. h.1 (meets_is.0 m))
 
     -- a key in both shows that they intersect
-    share_meets : ShareKey order r s → PLe (start_position order r.start) (end_position order s.end) × PLe (start_position order s.start) (end_position order r.end)
+    share_meets : ShareKey order r s
+        → PLe (start_position order r.start) (end_position order s.end)
+        × PLe (start_position order s.start) (end_position order r.end)
     share_meets (k, key, h, g) =
         let total = position_total order.cmp lawful.total in
         let cmp = position_cmp order.cmp in
         let own = (holds_by_position order lawful r k key).0 h in
-        let other = (holds_by_position order lawful s k key).0 g in
-        (le_trans cmp total (start_position order r.start) (Beside k At) (end_position order s.end) own.0 other.1, le_trans cmp total (start_position order s.start) (Beside k At) (end_position order r.end) other.0 own.1)
+        let other = (holds_by_position order lawful s k key).0 g in (
+          le_trans cmp total (start_position order r.start) (Beside k At)
+              (end_position order s.end) own.0 other.1,
+          le_trans cmp total (start_position order s.start) (Beside k At)
+              (end_position order r.end) other.0 own.1,
+        )
 
-    module _ (complete : IsComplete order) (known : IsKnownRange order r) (others : IsKnownRange order s) where
-      meets_share : PLe (start_position order r.start) (end_position order s.end) × PLe (start_position order s.start) (end_position order r.end) → ShareKey order r s
+    module _ (complete : IsComplete order) (known : IsKnownRange order r)
+        (others : IsKnownRange order s) where
+      meets_share : PLe (start_position order r.start) (end_position order s.end)
+          × PLe (start_position order s.start) (end_position order r.end) → ShareKey order r s
       meets_share h =
-          let room = later_is order lawful r.start s.start (λ x. PLe (start_position order x) (end_position order (earlier_end order r.end s.end)))
-          (earlier_is order lawful r.end s.end (λ y. PLe (start_position order r.start) (end_position order y)) full h.0)
-          (earlier_is order lawful r.end s.end (λ y. PLe (start_position order s.start) (end_position order y)) h.1 full') in
-          let found = nonempty_holds order lawful complete (common order r s) (common_known order lawful r s known others) room in
+          let room =
+          later_is order lawful r.start s.start
+          (λ x. PLe (start_position order x)
+          (end_position order (earlier_end order r.end s.end)))
+          (earlier_is order lawful r.end s.end
+          (λ y. PLe (start_position order r.start) (end_position order y)) full h.0)
+          (earlier_is order lawful r.end s.end
+          (λ y. PLe (start_position order s.start) (end_position order y)) h.1 full') in
+          let found =
+          nonempty_holds order lawful complete (common order r s)
+          (common_known order lawful r s known others) room in
           let held = (common_holds order lawful r s found.0 found.1).0 found.2 in
           (found.0, found.1, held.0, held.1)
 
@@ -157,13 +328,20 @@ module _ {K : Type 0} (order : KeyOrder K) (lawful : IsLawful order) where
       intersects_is = (λ h. meets_share (meets_is.0 h), λ h. meets_is.1 (share_meets h))
 
       -- and so says each such answer
-      pub shares_by : (t : Bool) → IsTrue t ↔ (PLe (start_position order r.start) (end_position order s.end) × PLe (start_position order s.start) (end_position order r.end)) → IsTrue t ↔ ShareKey order r s
+      pub shares_by : (t : Bool) → IsTrue t
+          ↔ (PLe (start_position order r.start) (end_position order s.end)
+          × PLe (start_position order s.start) (end_position order r.end)) → IsTrue t
+          ↔ ShareKey order r s
       shares_by t h = (λ e. meets_share (h.0 e), λ k. h.1 (share_meets k))
 
   pub held_or_not : (r : AnyRange K) (k : K) → Holds order r k ⊎ (¬ Holds order r k)
   held_or_not r k = elim (start_decided order lawful r.start k) [
     | inr out ↦ inr (λ h. out h.0)
-    | inl starts ↦ elim (end_decided order lawful r.end k) [ inr out ↦ inr (λ h. out h.1) | inl ends ↦ inl (starts, ends) ]
+    | inl starts ↦
+        elim (end_decided order lawful r.end k) [
+          | inr out ↦ inr (λ h. out h.1)
+          | inl ends ↦ inl (starts, ends)
+        ]
   ]
 
   at_less : (a b : K) → PLt (Beside a At) (Beside b At) → Below order a b
@@ -173,55 +351,86 @@ module _ {K : Type 0} (order : KeyOrder K) (lawful : IsLawful order) where
   abbrev Gap : AnyRange K → AnyRange K → K → Type 0
   Gap r s k = (¬ EndHolds order r.end k) × (¬ StartHolds order s.start k)
 
-  gap_places : (r s : AnyRange K) (k : K) → IsKnownRange order r → order.is_key k → Gap r s k → PLe (upper order r) (Beside k At) × PLt (Beside k At) (lower order s)
+  gap_places : (r s : AnyRange K) (k : K) → IsKnownRange order r → order.is_key k → Gap r s k
+      → PLe (upper order r) (Beside k At) × PLt (Beside k At) (lower order s)
   gap_places r s k known key h =
       let total = position_total order.cmp lawful.total in
       let cmp = position_cmp order.cmp in (
-        not_lt cmp total (upper order r) (Beside k At) (λ l. h.0 ((end_holds order lawful r.end k key).1 ((key_reaches order lawful k r.end key known.1).1 l))),
-        not_le cmp total (Beside k At) (lower order s) (λ l. h.1 ((start_holds order lawful s.start k key).1 l)),
+        not_lt cmp total (upper order r) (Beside k At)
+            (λ l.
+            h.0 ((end_holds order lawful r.end k key).1
+            ((key_reaches order lawful k r.end key known.1).1 l))),
+        not_le cmp total (Beside k At) (lower order s)
+            (λ l. h.1 ((start_holds order lawful s.start k key).1 l)),
       )
 
   -- where there is such a key the one lies before the other, and they do not touch
-  gap_apart : (r s : AnyRange K) (k : K) → IsKnownRange order r → IsKnownRange order s → Full s → order.is_key k → Gap r s k → PLt (end_position order r.end) (start_position order s.start) × (IsTrue (starts_at_end order r.end (start_position order s.start)) → ⊥)
+  gap_apart : (r s : AnyRange K) (k : K) → IsKnownRange order r → IsKnownRange order s → Full s
+      → order.is_key k → Gap r s k
+      → PLt (end_position order r.end) (start_position order s.start)
+      × (IsTrue (starts_at_end order r.end (start_position order s.start)) → ⊥)
   gap_apart r s k known others full key h =
       let total = position_total order.cmp lawful.total in
       let cmp = position_cmp order.cmp in
       let at = gap_places r s k known key h in
       let less = le_lt_trans cmp total (upper order r) (Beside k At) (lower order s) at.0 at.1 in
-      let le = lt_le cmp total (upper order r) (lower order s) less in
-      ((before_is r.end s.start known.1 others.0).1 le, λ t. lt_not_le cmp total (upper order r) (lower order s) less ((touches_is r.end s others full le).0 t))
+      let le = lt_le cmp total (upper order r) (lower order s) less in (
+        (before_is r.end s.start known.1 others.0).1 le,
+        λ t. lt_not_le cmp total (upper order r) (lower order s) less
+            ((touches_is r.end s others full le).0 t),
+      )
 
   -- with no such key they touch
-  pub past_is_start : (e q : Position K) (complete : IsComplete order) → IsEnd order e → PLt (past order e) q → IsStart order (past order e)
+  pub past_is_start : (e q : Position K) (complete : IsComplete order) → IsEnd order e
+      → PLt (past order e) q → IsStart order (past order e)
   unfolding IsStart IsEnd
   past_is_start (Beside b Before) q complete h l = h.0
-  past_is_start (Beside b At) q complete h l = excluded_start_is_one order lawful b (order.succ b) refl h
+  past_is_start (Beside b At) q complete h l =
+      excluded_start_is_one order lawful b (order.succ b) refl h
   past_is_start (Beside b After) q complete h l = absurd h
   past_is_start MinusInfinity q complete h l = absurd h
   past_is_start PlusInfinity MinusInfinity complete h l = absurd (cc)
   past_is_start PlusInfinity (Beside b x) complete h l = absurd (cc)
   past_is_start PlusInfinity PlusInfinity complete h l = absurd (cc)
 
-  module _ (complete : IsComplete order) (r s : AnyRange K) (known : IsKnownRange order r) (others : IsKnownRange order s) (full : Full r) (full' : Full s) where
-    -- where the one lies before the other with places between, some key lies between keys of the two
+  module _ (complete : IsComplete order) (r s : AnyRange K) (known : IsKnownRange order r)
+      (others : IsKnownRange order s) (full : Full r) (full' : Full s) where
+    -- where the one lies before the other with places between, some key lies between keys of the
+    -- two
     room_between : PLt (upper order r) (lower order s) → AreConnected order r s → ⊥
     unfolding NotPast IsBefore KeyFrom
     room_between l connected =
         let total = position_total order.cmp lawful.total in
         let cmp = position_cmp order.cmp in
-        let found = key_from order lawful complete (upper order r) (lower order s) (past_is_start (end_position order r.end) (lower order s) complete (ends_lie_at_ends order lawful r.end known.1) l) (starts_lie_at_starts order lawful s.start others.0) l in
+        let found =
+        key_from order lawful complete (upper order r) (lower order s)
+        (past_is_start (end_position order r.end) (lower order s) complete
+        (ends_lie_at_ends order lawful r.end known.1) l)
+        (starts_lie_at_starts order lawful s.start others.0) l in
         let low = nonempty_holds order lawful complete r known full in
         let high = nonempty_holds order lawful complete s others full' in
-        let under = (key_reaches order lawful low.0 r.end low.1 known.1).0 (((holds_by_position order lawful r low.0 low.1).0 low.2).1) in
+        let under =
+        (key_reaches order lawful low.0 r.end low.1 known.1).0
+        (((holds_by_position order lawful r low.0 low.1).0 low.2).1) in
         let over = ((holds_by_position order lawful s high.0 high.1).0 high.2).0 in
-        let a_k = at_less low.0 found.0 (lt_le_trans cmp total (Beside low.0 At) (upper order r) (Beside found.0 At) under found.2) in
-        let k_b = at_less found.0 high.0 (lt_le_trans cmp total (Beside found.0 At) (lower order s) (Beside high.0 At) found.3 over) in
+        let a_k =
+        at_less low.0 found.0 (lt_le_trans cmp total (Beside low.0 At) (upper order r)
+        (Beside found.0 At) under found.2) in
+        let k_b =
+        at_less found.0 high.0 (lt_le_trans cmp total (Beside found.0 At) (lower order s)
+        (Beside high.0 At) found.3 over) in
         elim (connected low.0 high.0 found.0 low.1 high.1 found.1 (inl low.2) (inr high.2) a_k k_b) [
-          | inl h ↦ lt_not_le cmp total (Beside found.0 At) (upper order r) ((key_reaches order lawful found.0 r.end found.1 known.1).0 (((holds_by_position order lawful r found.0 found.1).0 h).1)) found.2
-          | inr h ↦ lt_not_le cmp total (Beside found.0 At) (lower order s) found.3 (((holds_by_position order lawful s found.0 found.1).0 h).0)
+          | inl h ↦
+              lt_not_le cmp total (Beside found.0 At) (upper order r)
+              ((key_reaches order lawful found.0 r.end found.1 known.1).0
+              (((holds_by_position order lawful r found.0 found.1).0 h).1)) found.2
+          | inr h ↦
+              lt_not_le cmp total (Beside found.0 At) (lower order s) found.3
+              (((holds_by_position order lawful s found.0 found.1).0 h).0)
         ]
 
-    connected_ranges_touch : PLt (end_position order r.end) (start_position order s.start) → AreConnected order r s → IsTrue (starts_at_end order r.end (start_position order s.start))
+    connected_ranges_touch : PLt (end_position order r.end) (start_position order s.start)
+        → AreConnected order r s → IsTrue (starts_at_end order r.end (start_position order s.start))
     connected_ranges_touch l connected =
         let total = position_total order.cmp lawful.total in
         let cmp = position_cmp order.cmp in
@@ -232,49 +441,96 @@ module _ {K : Type 0} (order : KeyOrder K) (lawful : IsLawful order) where
         ]
 
   swap_connected : (r s : AnyRange K) → AreConnected order r s → AreConnected order s r
-  swap_connected r s h a b k key key' key'' held held' l l' = swapped s r k (h a b k key key' key'' (swapped r s a held) (swapped r s b held') l l')
+  swap_connected r s h a b k key key' key'' held held' l l' =
+      swapped s r k (h a b k key key' key'' (swapped r s a held) (swapped r s b held') l l')
     where
       swapped : (x y : AnyRange K) (c : K) → EitherHolds order y x c → EitherHolds order x y c
       swapped x y c (inl h) = inr h
       swapped x y c (inr h) = inl h
 
   -- a key between keys of the two that is outside both lies in a gap
-  gap_of : (r s : AnyRange K) (a b k : K) → (¬ Holds order r k) → (¬ Holds order s k) → EitherHolds order r s a → EitherHolds order r s b → Below order a k → Below order k b → Gap r s k ⊎ Gap s r k
-  gap_of r s a b k out out' (inl h) (inl g) l u = absurd (out (start_up order lawful r.start a k (lt_le order.cmp lawful.total a k l) h.0, end_down order lawful r.end k b (lt_le order.cmp lawful.total k b u) g.1))
-  gap_of r s a b k out out' (inl h) (inr g) l u = inl (λ e. out (start_up order lawful r.start a k (lt_le order.cmp lawful.total a k l) h.0, e), λ e. out' (e, end_down order lawful s.end k b (lt_le order.cmp lawful.total k b u) g.1))
-  gap_of r s a b k out out' (inr h) (inl g) l u = inr (λ e. out' (start_up order lawful s.start a k (lt_le order.cmp lawful.total a k l) h.0, e), λ e. out (e, end_down order lawful r.end k b (lt_le order.cmp lawful.total k b u) g.1))
-  gap_of r s a b k out out' (inr h) (inr g) l u = absurd (out' (start_up order lawful s.start a k (lt_le order.cmp lawful.total a k l) h.0, end_down order lawful s.end k b (lt_le order.cmp lawful.total k b u) g.1))
+  gap_of : (r s : AnyRange K) (a b k : K) → (¬ Holds order r k) → (¬ Holds order s k)
+      → EitherHolds order r s a → EitherHolds order r s b → Below order a k → Below order k b
+      → Gap r s k ⊎ Gap s r k
+  gap_of r s a b k out out' (inl h) (inl g) l u =
+      absurd
+      (out (
+        start_up order lawful r.start a k (lt_le order.cmp lawful.total a k l) h.0,
+        end_down order lawful r.end k b (lt_le order.cmp lawful.total k b u) g.1,
+      ))
+  gap_of r s a b k out out' (inl h) (inr g) l u =
+      inl (
+        λ e. out (start_up order lawful r.start a k (lt_le order.cmp lawful.total a k l) h.0, e),
+        λ e. out' (e, end_down order lawful s.end k b (lt_le order.cmp lawful.total k b u) g.1),
+      )
+  gap_of r s a b k out out' (inr h) (inl g) l u =
+      inr (
+        λ e.
+            out' (start_up order lawful s.start a k (lt_le order.cmp lawful.total a k l) h.0, e),
+        λ e. out (e, end_down order lawful r.end k b (lt_le order.cmp lawful.total k b u) g.1),
+      )
+  gap_of r s a b k out out' (inr h) (inr g) l u =
+      absurd
+      (out' (
+        start_up order lawful s.start a k (lt_le order.cmp lawful.total a k l) h.0,
+        end_down order lawful s.end k b (lt_le order.cmp lawful.total k b u) g.1,
+      ))
 
   and_true : (t : Bool) → (t && true) ≡ t
   and_true true = refl
   and_true false = refl
 
-  module _ (r s : AnyRange K) (known : IsKnownRange order r) (others : IsKnownRange order s) (full : Full r) (full' : Full s) where
-    no_gap : IsTrue (matches (range_ordering order r s) true) → (k : K) → order.is_key k → Gap r s k → ⊥
+  module _ (r s : AnyRange K) (known : IsKnownRange order r) (others : IsKnownRange order s)
+      (full : Full r) (full' : Full s) where
+    no_gap : IsTrue (matches (range_ordering order r s) true) → (k : K) → order.is_key k → Gap r s k
+        → ⊥
     no_gap e k key gap =
         let total = position_total order.cmp lawful.total in
         let cmp = position_cmp order.cmp in
         let apart = gap_apart r s k known others full' key gap in
         elim (lying_of r s full full') [
-          | inl (l, f) ↦ apart.1 (sym (and_true (starts_at_end order r.end (start_position order s.start))) ∙ (sym (f true) ∙ e))
+          | inl (l, f) ↦
+              apart.1 (sym (and_true (starts_at_end order r.end (start_position order s.start)))
+              ∙ (sym (f true) ∙ e))
           | inr h ↦ elim h [
-            | inl (l, f) ↦ lt_not_le cmp total (end_position order r.end) (start_position order s.start) apart.0 l.1
-            | inr (l, f) ↦ lt_not_le cmp total (end_position order r.end) (start_position order s.start) apart.0
-                (le_trans cmp total (start_position order s.start) (end_position order s.end) (end_position order r.end) full' (le_trans cmp total (end_position order s.end) (start_position order r.start) (end_position order r.end) (lt_le cmp total (end_position order s.end) (start_position order r.start) l) full))
+            | inl (l, f) ↦
+                lt_not_le cmp total (end_position order r.end)
+                (start_position order s.start) apart.0 l.1
+            | inr (l, f) ↦
+                lt_not_le cmp total (end_position order r.end)
+                (start_position order s.start) apart.0
+                (le_trans cmp total (start_position order s.start) (end_position order s.end)
+                (end_position order r.end) full'
+                (le_trans cmp total (end_position order s.end) (start_position order r.start)
+                (end_position order r.end)
+                (lt_le cmp total (end_position order s.end) (start_position order r.start) l)
+                full))
           ]
         ]
 
-    no_gap_back : IsTrue (matches (range_ordering order r s) true) → (k : K) → order.is_key k → Gap s r k → ⊥
+    no_gap_back : IsTrue (matches (range_ordering order r s) true) → (k : K) → order.is_key k
+        → Gap s r k → ⊥
     no_gap_back e k key gap =
         let total = position_total order.cmp lawful.total in
         let cmp = position_cmp order.cmp in
         let apart = gap_apart s r k others known full key gap in
         elim (lying_of r s full full') [
-          | inl (l, f) ↦ lt_not_le cmp total (end_position order s.end) (start_position order r.start) apart.0
-              (le_trans cmp total (start_position order r.start) (end_position order r.end) (end_position order s.end) full (le_trans cmp total (end_position order r.end) (start_position order s.start) (end_position order s.end) (lt_le cmp total (end_position order r.end) (start_position order s.start) l) full'))
+          | inl (l, f) ↦
+              lt_not_le cmp total (end_position order s.end)
+              (start_position order r.start) apart.0
+              (le_trans cmp total (start_position order r.start) (end_position order r.end)
+              (end_position order s.end) full
+              (le_trans cmp total (end_position order r.end) (start_position order s.start)
+              (end_position order s.end)
+              (lt_le cmp total (end_position order r.end) (start_position order s.start) l)
+              full'))
           | inr h ↦ elim h [
-            | inl (l, f) ↦ lt_not_le cmp total (end_position order s.end) (start_position order r.start) apart.0 l.0
-            | inr (l, f) ↦ apart.1 (sym (and_true (starts_at_end order s.end (start_position order r.start))) ∙ (sym (f true) ∙ e))
+            | inl (l, f) ↦
+                lt_not_le cmp total (end_position order s.end)
+                (start_position order r.start) apart.0 l.0
+            | inr (l, f) ↦
+                apart.1 (sym (and_true (starts_at_end order s.end (start_position order r.start)))
+                ∙ (sym (f true) ∙ e))
           ]
         ]
 
@@ -284,16 +540,26 @@ module _ {K : Type 0} (order : KeyOrder K) (lawful : IsLawful order) where
       | inl h ↦ inl h
       | inr out ↦ elim (held_or_not s k) [
         | inl h ↦ inr h
-        | inr out' ↦ elim (gap_of r s a b k out out' held held' l u) [ inl gap ↦ absurd (no_gap e k key'' gap) | inr gap ↦ absurd (no_gap_back e k key'' gap) ]
+        | inr out' ↦
+            elim (gap_of r s a b k out out' held held' l u) [
+              | inl gap ↦ absurd (no_gap e k key'' gap)
+              | inr gap ↦ absurd (no_gap_back e k key'' gap)
+            ]
       ]
     ]
 
     -- over complete keys that says that they are connected
-    pub holds_connected : IsComplete order → AreConnected order r s → IsTrue (matches (range_ordering order r s) true)
+    pub holds_connected : IsComplete order → AreConnected order r s
+        → IsTrue (matches (range_ordering order r s) true)
     holds_connected complete h = elim (lying_of r s full full') [
-      | inl (l, f) ↦ f true ∙ (and_true (starts_at_end order r.end (start_position order s.start)) ∙ connected_ranges_touch complete r s known others full full' l h)
+      | inl (l, f) ↦ f true
+          ∙ (and_true (starts_at_end order r.end (start_position order s.start))
+          ∙ connected_ranges_touch complete r s known others full full' l h)
       | inr g ↦ elim g [
         | inl (l, f) ↦ f true
-        | inr (l, f) ↦ f true ∙ (and_true (starts_at_end order s.end (start_position order r.start)) ∙ connected_ranges_touch complete s r others known full' full l (swap_connected r s h))
+        | inr (l, f) ↦ f true
+            ∙ (and_true (starts_at_end order s.end (start_position order r.start))
+            ∙ connected_ranges_touch complete s r others known full' full l
+            (swap_connected r s h))
       ]
     ]

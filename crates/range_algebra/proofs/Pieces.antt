@@ -16,38 +16,65 @@ use Rattle.range_algebra.proofs.Holding.{empty_is_keyless}
 use Rattle.range_algebra.proofs.Commons.{places, start_both, end_both}
 
 -- whether a range is empty is decided
-pub empty_or_not : {K : Type 0} (order : KeyOrder K) (r : AnyRange K) → IsEmptyRange order r ⊎ (¬ IsEmptyRange order r)
-empty_or_not order r = greater_or_not (position_cmp order.cmp (start_position order r.start) (end_position order r.end))
+pub empty_or_not : {K : Type 0} (order : KeyOrder K) (r : AnyRange K)
+    → IsEmptyRange order r ⊎ (¬ IsEmptyRange order r)
+empty_or_not order r =
+    greater_or_not (position_cmp order.cmp (start_position order r.start)
+    (end_position order r.end))
 
 module _ {K : Type 0} (order : KeyOrder K) (lawful : IsLawful order) where
   -- whether a bound holds a key is decided
   pub start_decided : (b : Bound K) (k : K) → StartHolds order b k ⊎ (¬ StartHolds order b k)
-  start_decided (Included a) k = elim (cases order.cmp lawful.total k a) [ inl l ↦ inr (lt_not_le order.cmp lawful.total k a l) | inr g ↦ inl g ]
-  start_decided (Excluded a) k = elim (cases order.cmp lawful.total a k) [ inl l ↦ inl l | inr g ↦ inr (λ l. lt_not_le order.cmp lawful.total a k l g) ]
+  start_decided (Included a) k =
+      elim (cases order.cmp lawful.total k a) [
+        | inl l ↦ inr (lt_not_le order.cmp lawful.total k a l)
+        | inr g ↦ inl g
+      ]
+  start_decided (Excluded a) k =
+      elim (cases order.cmp lawful.total a k) [
+        | inl l ↦ inl l
+        | inr g ↦ inr (λ l. lt_not_le order.cmp lawful.total a k l g)
+      ]
   start_decided Unbounded k = inl tt
 
   pub end_decided : (b : Bound K) (k : K) → EndHolds order b k ⊎ (¬ EndHolds order b k)
-  end_decided (Included a) k = elim (cases order.cmp lawful.total a k) [ inl l ↦ inr (lt_not_le order.cmp lawful.total a k l) | inr g ↦ inl g ]
-  end_decided (Excluded a) k = elim (cases order.cmp lawful.total k a) [ inl l ↦ inl l | inr g ↦ inr (λ l. lt_not_le order.cmp lawful.total k a l g) ]
+  end_decided (Included a) k =
+      elim (cases order.cmp lawful.total a k) [
+        | inl l ↦ inr (lt_not_le order.cmp lawful.total a k l)
+        | inr g ↦ inl g
+      ]
+  end_decided (Excluded a) k =
+      elim (cases order.cmp lawful.total k a) [
+        | inl l ↦ inl l
+        | inr g ↦ inr (λ l. lt_not_le order.cmp lawful.total k a l g)
+      ]
   end_decided Unbounded k = inl tt
 
   -- the bound on the other side of the same place holds the other keys
-  pub inverted_end : (b i : Bound K) (k : K) → inverted b ≡ Some i → EndHolds order i k ↔ (¬ StartHolds order b k)
+  pub inverted_end : (b i : Bound K) (k : K) → inverted b ≡ Some i → EndHolds order i k
+      ↔ (¬ StartHolds order b k)
   inverted_end (Included a) i k e =
       let same : Excluded a ≡ i = cc in
       rw (← same) (lt_not_le order.cmp lawful.total k a, not_le order.cmp lawful.total k a)
   inverted_end (Excluded a) i k e =
       let same : Included a ≡ i = cc in
-      rw (← same) (λ h l. lt_not_le order.cmp lawful.total a k l h, not_lt order.cmp lawful.total k a)
+      rw (← same) (
+        λ h l. lt_not_le order.cmp lawful.total a k l h,
+        not_lt order.cmp lawful.total k a,
+      )
   inverted_end Unbounded i k e = absurd (cc)
 
-  pub inverted_start : (b i : Bound K) (k : K) → inverted b ≡ Some i → StartHolds order i k ↔ (¬ EndHolds order b k)
+  pub inverted_start : (b i : Bound K) (k : K) → inverted b ≡ Some i → StartHolds order i k
+      ↔ (¬ EndHolds order b k)
   inverted_start (Included a) i k e =
       let same : Excluded a ≡ i = cc in
       rw (← same) (lt_not_le order.cmp lawful.total a k, not_le order.cmp lawful.total a k)
   inverted_start (Excluded a) i k e =
       let same : Included a ≡ i = cc in
-      rw (← same) (λ h l. lt_not_le order.cmp lawful.total k a l h, not_lt order.cmp lawful.total a k)
+      rw (← same) (
+        λ h l. lt_not_le order.cmp lawful.total k a l h,
+        not_lt order.cmp lawful.total a k,
+      )
   inverted_start Unbounded i k e = absurd (cc)
 
   none_start : (b : Bound K) (k : K) → inverted b ≡ None → StartHolds order b k
@@ -61,31 +88,46 @@ module _ {K : Type 0} (order : KeyOrder K) (lawful : IsLawful order) where
   none_end Unbounded k e = tt
 
   -- a start that holds a key holds what is not below it
-  pub start_up : (b : Bound K) (j k : K) → NotAbove order j k → StartHolds order b j → StartHolds order b k
+  pub start_up : (b : Bound K) (j k : K) → NotAbove order j k → StartHolds order b j
+      → StartHolds order b k
   start_up (Included a) j k l h = le_trans order.cmp lawful.total a j k h l
   start_up (Excluded a) j k l h = lt_le_trans order.cmp lawful.total a j k h l
   start_up Unbounded j k l h = h
 
-  pub end_down : (b : Bound K) (j k : K) → NotAbove order j k → EndHolds order b k → EndHolds order b j
+  pub end_down : (b : Bound K) (j k : K) → NotAbove order j k → EndHolds order b k
+      → EndHolds order b j
   end_down (Included b) j k l h = le_trans order.cmp lawful.total j k b l h
   end_down (Excluded b) j k l h = le_lt_trans order.cmp lawful.total j k b l h
   end_down Unbounded j k l h = h
 
   -- what a start does not hold is below what it holds
-  pub start_splits : (b : Bound K) (j k : K) → (¬ StartHolds order b j) → StartHolds order b k → Below order j k
-  start_splits b j k outside h = not_le order.cmp lawful.total j k (λ le. outside (start_up b k j le h))
+  pub start_splits : (b : Bound K) (j k : K) → (¬ StartHolds order b j) → StartHolds order b k
+      → Below order j k
+  start_splits b j k outside h =
+      not_le order.cmp lawful.total j k (λ le. outside (start_up b k j le h))
 
-  pub end_splits : (b : Bound K) (j k : K) → EndHolds order b j → (¬ EndHolds order b k) → Below order j k
-  end_splits b j k h outside = not_le order.cmp lawful.total j k (λ le. outside (end_down b k j le h))
+  pub end_splits : (b : Bound K) (j k : K) → EndHolds order b j → (¬ EndHolds order b k)
+      → Below order j k
+  end_splits b j k h outside =
+      not_le order.cmp lawful.total j k (λ le. outside (end_down b k j le h))
 
-  unless_by : (r : AnyRange K) (k : K) → order.is_key k → (e : Bool) → is_empty_range order r ≡ e → RangeHolds order (if e then None else Some r) k ↔ Holds order r k
-  unless_by r k key true e = (λ h. absurd h, empty_is_keyless order lawful r (gt_is_greater (places order lawful (start_position order r.start) (end_position order r.end)) e) k key)
+  unless_by : (r : AnyRange K) (k : K) → order.is_key k → (e : Bool) → is_empty_range order r ≡ e
+      → RangeHolds order (if e then None else Some r) k ↔ Holds order r k
+  unless_by r k key true e = (
+    λ h. absurd h,
+    empty_is_keyless order lawful r
+        (gt_is_greater (places order lawful (start_position order r.start) (end_position order r.end))
+        e) k key,
+  )
   unless_by r k key false e = (λ h. h, λ h. h)
 
-  pub unless_holds : (r : AnyRange K) (k : K) → order.is_key k → RangeHolds order (unless_empty order r) k ↔ Holds order r k
+  pub unless_holds : (r : AnyRange K) (k : K) → order.is_key k
+      → RangeHolds order (unless_empty order r) k ↔ Holds order r k
   unless_holds r k key = unless_by r k key (is_empty_range order r) refl
 
-  part_to_holds : (r : AnyRange K) (b : Bound K) (o : Option (Bound K)) (k : K) → order.is_key k → inverted b ≡ o → RangeHolds order (part_to order r o) k ↔ (Holds order r k × (¬ StartHolds order b k))
+  part_to_holds : (r : AnyRange K) (b : Bound K) (o : Option (Bound K)) (k : K) → order.is_key k
+      → inverted b ≡ o → RangeHolds order (part_to order r o) k
+      ↔ (Holds order r k × (¬ StartHolds order b k))
   part_to_holds r b None k key e = (λ h. absurd h, λ h. h.1 (none_start b k e))
   part_to_holds r b (Some i) k key e =
       let cut = unless_holds (record { start = r.start; end = earlier_end order r.end i }) k key in
@@ -96,10 +138,14 @@ module _ {K : Type 0} (order : KeyOrder K) (lawful : IsLawful order) where
       )
 
   -- the part before another range holds the keys that the other's start does not
-  pub before_holds : (r s : AnyRange K) (k : K) → order.is_key k → RangeHolds order (part_before order r s) k ↔ (Holds order r k × (¬ StartHolds order s.start k))
+  pub before_holds : (r s : AnyRange K) (k : K) → order.is_key k
+      → RangeHolds order (part_before order r s) k
+      ↔ (Holds order r k × (¬ StartHolds order s.start k))
   before_holds r s k key = part_to_holds r s.start (inverted s.start) k key refl
 
-  part_from_holds : (r : AnyRange K) (b : Bound K) (o : Option (Bound K)) (k : K) → order.is_key k → inverted b ≡ o → RangeHolds order (part_from order r o) k ↔ (Holds order r k × (¬ EndHolds order b k))
+  part_from_holds : (r : AnyRange K) (b : Bound K) (o : Option (Bound K)) (k : K) → order.is_key k
+      → inverted b ≡ o → RangeHolds order (part_from order r o) k
+      ↔ (Holds order r k × (¬ EndHolds order b k))
   part_from_holds r b None k key e = (λ h. absurd h, λ h. h.1 (none_end b k e))
   part_from_holds r b (Some i) k key e =
       let cut = unless_holds (record { start = later_start order r.start i; end = r.end }) k key in
@@ -109,64 +155,108 @@ module _ {K : Type 0} (order : KeyOrder K) (lawful : IsLawful order) where
         λ h. cut.1 (starts.1 (h.0.0, turned.1 h.1), h.0.1),
       )
 
-  pub after_holds : (r s : AnyRange K) (k : K) → order.is_key k → RangeHolds order (part_after order r s) k ↔ (Holds order r k × (¬ EndHolds order s.end k))
+  pub after_holds : (r s : AnyRange K) (k : K) → order.is_key k
+      → RangeHolds order (part_after order r s) k ↔ (Holds order r k × (¬ EndHolds order s.end k))
   after_holds r s k key = part_from_holds r s.end (inverted s.end) k key refl
 
-  pieces_hold : (left right : Option (AnyRange K)) (met : Bool) (k : K) → DifferenceHolds order (pieces order left right met) k ↔ (RangeHolds order left k ⊎ RangeHolds order right k)
+  pieces_hold : (left right : Option (AnyRange K)) (met : Bool) (k : K)
+      → DifferenceHolds order (pieces order left right met) k
+      ↔ (RangeHolds order left k ⊎ RangeHolds order right k)
   pieces_hold None None met k = (λ h. absurd h, λ h. elim h [ inl g ↦ g | inr g ↦ g ])
   pieces_hold (Some l) None met k = (λ h. inl h, λ h. elim h [ inl g ↦ g | inr g ↦ absurd g ])
   pieces_hold None (Some r) met k = (λ h. inr h, λ h. elim h [ inl g ↦ absurd g | inr g ↦ g ])
   pieces_hold (Some l) (Some r) met k = (λ h. h, λ h. h)
 
   -- what holds no key of a range lies on one of its sides
-  sides_hold : (r s : AnyRange K) (k : K) → order.is_key k → (RangeHolds order (part_before order r s) k ⊎ RangeHolds order (part_after order r s) k) ↔ (Holds order r k × (¬ Holds order s k))
+  sides_hold : (r s : AnyRange K) (k : K) → order.is_key k
+      → (RangeHolds order (part_before order r s) k ⊎ RangeHolds order (part_after order r s) k)
+      ↔ (Holds order r k × (¬ Holds order s k))
   sides_hold r s k key =
       let before = before_holds r s k key in
       let after = after_holds r s k key in (
-        λ h. elim h [ inl g ↦ ((before.0 g).0, λ held. (before.0 g).1 held.0) | inr g ↦ ((after.0 g).0, λ held. (after.0 g).1 held.1) ],
+        λ h.
+            elim h [
+              | inl g ↦ ((before.0 g).0, λ held. (before.0 g).1 held.0)
+              | inr g ↦ ((after.0 g).0, λ held. (after.0 g).1 held.1)
+            ],
         λ h. elim (start_decided s.start k) [
           | inr outside ↦ inl (before.1 (h.0, outside))
           | inl starts ↦ inr (after.1 (h.0, λ ends. h.1 (starts, ends)))
         ],
       )
 
-  difference_by : (r s : AnyRange K) (k : K) → order.is_key k → (d e : Bool) → is_empty_range order r ≡ d → is_empty_range order s ≡ e
-      → DifferenceHolds order (if d then Empty else (if e then Before r false else pieces order (part_before order r s) (part_after order r s) (matches (range_ordering order r s) false))) k ↔ (Holds order r k × (¬ Holds order s k))
-  difference_by r s k key true e f g = (λ h. absurd h, λ h. empty_is_keyless order lawful r (gt_is_greater (places order lawful (start_position order r.start) (end_position order r.end)) f) k key h.0)
-  difference_by r s k key false true f g = (λ h. (h, empty_is_keyless order lawful s (gt_is_greater (places order lawful (start_position order s.start) (end_position order s.end)) g) k key), λ h. h.0)
+  difference_by : (r s : AnyRange K) (k : K) → order.is_key k → (d e : Bool)
+      → is_empty_range order r ≡ d → is_empty_range order s ≡ e
+      → DifferenceHolds order (if d then Empty
+      else (if e then Before r false else pieces order (part_before order r s)
+      (part_after order r s) (matches (range_ordering order r s) false))) k
+      ↔ (Holds order r k × (¬ Holds order s k))
+  difference_by r s k key true e f g = (
+    λ h. absurd h,
+    λ h. empty_is_keyless order lawful r
+        (gt_is_greater (places order lawful (start_position order r.start) (end_position order r.end))
+        f) k key h.0,
+  )
+  difference_by r s k key false true f g = (
+    λ h. (
+      h,
+      empty_is_keyless order lawful s
+          (gt_is_greater (places order lawful (start_position order s.start) (end_position order s.end))
+          g) k key,
+    ),
+    λ h. h.0,
+  )
   difference_by r s k key false false f g =
-      let whole = pieces_hold (part_before order r s) (part_after order r s) (matches (range_ordering order r s) false) k in
+      let whole =
+      pieces_hold (part_before order r s) (part_after order r s)
+      (matches (range_ordering order r s) false) k in
       let sides = sides_hold r s k key in
       (λ h. sides.0 (whole.0 h), λ h. whole.1 (sides.1 h))
 
   -- a range without another holds its keys outside the other
-  pub difference_holds : (r s : AnyRange K) (k : K) → order.is_key k → DifferenceHolds order (difference order r s) k ↔ (Holds order r k × (¬ Holds order s k))
-  difference_holds r s k key = difference_by r s k key (is_empty_range order r) (is_empty_range order s) refl refl
+  pub difference_holds : (r s : AnyRange K) (k : K) → order.is_key k
+      → DifferenceHolds order (difference order r s) k ↔ (Holds order r k × (¬ Holds order s k))
+  difference_holds r s k key =
+      difference_by r s k key (is_empty_range order r) (is_empty_range order s) refl refl
 
-  pub before_below : (r s : AnyRange K) (a b : K) → order.is_key a → order.is_key b → RangeHolds order (part_before order r s) a → StartHolds order s.start b → Below order a b
+  pub before_below : (r s : AnyRange K) (a b : K) → order.is_key a → order.is_key b
+      → RangeHolds order (part_before order r s) a → StartHolds order s.start b → Below order a b
   before_below r s a b key key' h g = start_splits s.start a b ((before_holds r s a key).0 h).1 g
 
-  pub after_above : (r s : AnyRange K) (a b : K) → order.is_key a → order.is_key b → EndHolds order s.end a → RangeHolds order (part_after order r s) b → Below order a b
+  pub after_above : (r s : AnyRange K) (a b : K) → order.is_key a → order.is_key b
+      → EndHolds order s.end a → RangeHolds order (part_after order r s) b → Below order a b
   after_above r s a b key key' g h = end_splits s.end a b g ((after_holds r s b key').0 h).1
 
   pieces_lie : (left right : Option (AnyRange K)) (met : Bool) (s : AnyRange K)
-      → ((a b : K) → order.is_key a → order.is_key b → RangeHolds order left a → Holds order s b → Below order a b)
-      → ((a b : K) → order.is_key a → order.is_key b → Holds order s a → RangeHolds order right b → Below order a b)
+      → ((a b : K) → order.is_key a → order.is_key b → RangeHolds order left a → Holds order s b
+      → Below order a b)
+      → ((a b : K) → order.is_key a → order.is_key b → Holds order s a → RangeHolds order right b
+      → Below order a b)
       → LieRound order (pieces order left right met) s
   pieces_lie None None met s f g = tt
   pieces_lie (Some l) None met s f g = f
   pieces_lie None (Some r) met s f g = g
   pieces_lie (Some l) (Some r) met s f g = (f, g)
 
-  lie_by : (r s : AnyRange K) → (¬ IsEmptyRange order s) → (d e : Bool) → is_empty_range order r ≡ d → is_empty_range order s ≡ e
-      → LieRound order (if d then Empty else (if e then Before r false else pieces order (part_before order r s) (part_after order r s) (matches (range_ordering order r s) false))) s
+  lie_by : (r s : AnyRange K) → (¬ IsEmptyRange order s) → (d e : Bool) → is_empty_range order r ≡ d
+      → is_empty_range order s ≡ e
+      → LieRound order (if d then Empty
+      else (if e then Before r false else pieces order (part_before order r s)
+      (part_after order r s) (matches (range_ordering order r s) false))) s
   lie_by r s full true e f g = tt
-  lie_by r s full false true f g = absurd (full (gt_is_greater (places order lawful (start_position order s.start) (end_position order s.end)) g))
+  lie_by r s full false true f g =
+      absurd
+      (full
+      (gt_is_greater (places order lawful (start_position order s.start) (end_position order s.end))
+      g))
   lie_by r s full false false f g =
-      pieces_lie (part_before order r s) (part_after order r s) (matches (range_ordering order r s) false) s
+      pieces_lie (part_before order r s) (part_after order r s)
+      (matches (range_ordering order r s) false) s
       (λ a b key key' h held. before_below r s a b key key' h held.0)
       (λ a b key key' held h. after_above r s a b key key' held.1 h)
 
   -- the parts lie on the sides of the other range that they say
-  pub difference_lies : (r s : AnyRange K) → (¬ IsEmptyRange order s) → LieRound order (difference order r s) s
-  difference_lies r s full = lie_by r s full (is_empty_range order r) (is_empty_range order s) refl refl
+  pub difference_lies : (r s : AnyRange K) → (¬ IsEmptyRange order s)
+      → LieRound order (difference order r s) s
+  difference_lies r s full =
+      lie_by r s full (is_empty_range order r) (is_empty_range order s) refl refl

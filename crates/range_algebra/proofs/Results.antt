@@ -3,20 +3,24 @@ use Rattle.std.proofs.Common.{Result, Ok, Err, IfOk, OnErr}
 use Rattle.std.specs.Prelude.{MatchResult}
 
 -- a weaker fact of the same answer
-pub if_ok : {A E : Type 0} (P Q : A → Type 0) (r : Result A E) → ((x : A) → P x → Q x) → IfOk r P → IfOk r Q
+pub if_ok : {A E : Type 0} (P Q : A → Type 0) (r : Result A E) → ((x : A) → P x → Q x) → IfOk r P
+    → IfOk r Q
 if_ok P Q (Ok x) f h = f x h
 if_ok P Q (Err e) f h = tt
 
-pub if_ok_of : {A E : Type 0} (P Q : A → Type 0) (F : E → Type 0) (r : Result A E) → ((x : A) → P x → Q x) → MatchResult r P F → IfOk r Q
+pub if_ok_of : {A E : Type 0} (P Q : A → Type 0) (F : E → Type 0) (r : Result A E)
+    → ((x : A) → P x → Q x) → MatchResult r P F → IfOk r Q
 if_ok_of P Q F (Ok x) f h = f x h
 if_ok_of P Q F (Err e) f h = tt
 
 -- two facts of the same answer
-pub if_ok_both : {A E : Type 0} (P Q R : A → Type 0) (r : Result A E) → ((x : A) → P x → Q x → R x) → IfOk r P → IfOk r Q → IfOk r R
+pub if_ok_both : {A E : Type 0} (P Q R : A → Type 0) (r : Result A E) → ((x : A) → P x → Q x → R x)
+    → IfOk r P → IfOk r Q → IfOk r R
 if_ok_both P Q R (Ok x) f h k = f x h k
 if_ok_both P Q R (Err e) f h k = tt
 
 -- what every error of the answer says
-pub on_err_of : {A E : Type 0} (P : A → Type 0) (F : Type 0) (r : Result A E) → MatchResult r P (λ _. F) → OnErr r F
+pub on_err_of : {A E : Type 0} (P : A → Type 0) (F : Type 0) (r : Result A E)
+    → MatchResult r P (λ _. F) → OnErr r F
 on_err_of P F (Ok x) h = tt
 on_err_of P F (Err e) h = h

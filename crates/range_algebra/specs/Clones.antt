@@ -41,10 +41,12 @@ IsIncludedInfallible is_infallible Unbounded = Unit {0}
 
 -- both bounds are cloned
 abbrev pub IsRangeClone : {T : Type 0} → (T → T → Type 0) → AnyRange T → AnyRange T → Type 0
-IsRangeClone is_clone r s = IsBoundClone is_clone r.start s.start × IsBoundClone is_clone r.end s.end
+IsRangeClone is_clone r s =
+    IsBoundClone is_clone r.start s.start × IsBoundClone is_clone r.end s.end
 
 abbrev pub IsRangeInfallible : {T : Type 0} → (T → Type 0) → AnyRange T → Type 0
-IsRangeInfallible is_infallible r = IsBoundInfallible is_infallible r.start × IsBoundInfallible is_infallible r.end
+IsRangeInfallible is_infallible r =
+    IsBoundInfallible is_infallible r.start × IsBoundInfallible is_infallible r.end
 
 -- both bounds are of one kind, with equal values
 abbrev pub SameBound : {K : Type 0} → KeyOrder K → Bound K → Bound K → Type 0
@@ -62,16 +64,22 @@ level : (o p : Ordering) → o ≡ Equal → p ≡ Equal → ordering_then o p �
 level o p e f = rw e f
 
 module _ {K : Type 0} (order : KeyOrder K) (lawful : IsLawful order) where
-  told_same : (o p : Option K) (q r : Position K) → SameAnswer order o p → position_cmp order.cmp q r ≡ Equal → position_cmp order.cmp (at_told o q) (at_told p r) ≡ Equal
+  told_same : (o p : Option K) (q r : Position K) → SameAnswer order o p
+      → position_cmp order.cmp q r ≡ Equal
+      → position_cmp order.cmp (at_told o q) (at_told p r) ≡ Equal
   told_same None None q r h e = e
   told_same None (Some y) q r h e = absurd h
   told_same (Some x) None q r h e = absurd h
   told_same (Some x) (Some y) q r h e = level (order.cmp x y) Equal h refl
 
-  pub same_start : (a b : Bound K) → SameBound order a b → position_cmp order.cmp (start_position order a) (start_position order b) ≡ Equal
+  pub same_start : (a b : Bound K) → SameBound order a b
+      → position_cmp order.cmp (start_position order a) (start_position order b) ≡ Equal
   same_start (Included a) (Included b) h = level (order.cmp a b) Equal h refl
-  same_start (Excluded a) (Excluded b) h = told_same (order.succ a) (order.succ b) (Beside a After) (Beside b After) (lawful.succ_congr a b h) (level (order.cmp a b) Equal h refl)
-  same_start Unbounded Unbounded h = tied_itself (position_total order.cmp lawful.total) (at_told order.least MinusInfinity)
+  same_start (Excluded a) (Excluded b) h =
+      told_same (order.succ a) (order.succ b) (Beside a After) (Beside b After)
+      (lawful.succ_congr a b h) (level (order.cmp a b) Equal h refl)
+  same_start Unbounded Unbounded h =
+      tied_itself (position_total order.cmp lawful.total) (at_told order.least MinusInfinity)
   same_start (Included a) (Excluded b) h = absurd h
   same_start (Included a) Unbounded h = absurd h
   same_start (Excluded a) (Included b) h = absurd h
@@ -79,10 +87,14 @@ module _ {K : Type 0} (order : KeyOrder K) (lawful : IsLawful order) where
   same_start Unbounded (Included b) h = absurd h
   same_start Unbounded (Excluded b) h = absurd h
 
-  pub same_end : (a b : Bound K) → SameBound order a b → position_cmp order.cmp (end_position order a) (end_position order b) ≡ Equal
+  pub same_end : (a b : Bound K) → SameBound order a b
+      → position_cmp order.cmp (end_position order a) (end_position order b) ≡ Equal
   same_end (Included a) (Included b) h = level (order.cmp a b) Equal h refl
-  same_end (Excluded a) (Excluded b) h = told_same (order.pred a) (order.pred b) (Beside a Before) (Beside b Before) (lawful.pred_congr a b h) (level (order.cmp a b) Equal h refl)
-  same_end Unbounded Unbounded h = tied_itself (position_total order.cmp lawful.total) (at_told order.greatest PlusInfinity)
+  same_end (Excluded a) (Excluded b) h =
+      told_same (order.pred a) (order.pred b) (Beside a Before) (Beside b Before)
+      (lawful.pred_congr a b h) (level (order.cmp a b) Equal h refl)
+  same_end Unbounded Unbounded h =
+      tied_itself (position_total order.cmp lawful.total) (at_told order.greatest PlusInfinity)
   same_end (Included a) (Excluded b) h = absurd h
   same_end (Included a) Unbounded h = absurd h
   same_end (Excluded a) (Included b) h = absurd h
@@ -91,16 +103,20 @@ module _ {K : Type 0} (order : KeyOrder K) (lawful : IsLawful order) where
   same_end Unbounded (Excluded b) h = absurd h
 
   -- ranges with the same bounds are equal
-  pub same_bounds : (r s : AnyRange K) → SameBound order r.start s.start → SameBound order r.end s.end → range_cmp order r s ≡ Equal
+  pub same_bounds : (r s : AnyRange K) → SameBound order r.start s.start
+      → SameBound order r.end s.end → range_cmp order r s ≡ Equal
   same_bounds r s h k =
-      level (position_cmp order.cmp (start_position order r.start) (start_position order s.start)) (position_cmp order.cmp (end_position order r.end) (end_position order s.end)) (same_start r.start s.start h) (same_end r.end s.end k)
+      level (position_cmp order.cmp (start_position order r.start) (start_position order s.start))
+      (position_cmp order.cmp (end_position order r.end) (end_position order s.end))
+      (same_start r.start s.start h) (same_end r.end s.end k)
 
   pub same_itself : (a : Bound K) → SameBound order a a
   same_itself (Included a) = tied_itself lawful.total a
   same_itself (Excluded a) = tied_itself lawful.total a
   same_itself Unbounded = tt
 
-  module _ (is_clone : K → K → Type 0) (equal : (x y : K) → is_clone x y → order.cmp x y ≡ Equal) where
+  module _ (is_clone : K → K → Type 0)
+      (equal : (x y : K) → is_clone x y → order.cmp x y ≡ Equal) where
     pub bound_clone : (a b : Bound K) → IsBoundClone is_clone a b → SameBound order a b
     bound_clone (Included a) (Included b) h = equal a b h
     bound_clone (Excluded a) (Excluded b) h = equal a b h
@@ -113,5 +129,8 @@ module _ {K : Type 0} (order : KeyOrder K) (lawful : IsLawful order) where
     bound_clone Unbounded (Excluded b) h = h
 
     -- the clone of a range equals it
-    pub range_clone : (r s : AnyRange K) → IsBoundClone is_clone r.start s.start × IsBoundClone is_clone r.end s.end → range_cmp order r s ≡ Equal
-    range_clone r s h = same_bounds r s (bound_clone r.start s.start h.0) (bound_clone r.end s.end h.1)
+    pub range_clone : (r s : AnyRange K)
+        → IsBoundClone is_clone r.start s.start × IsBoundClone is_clone r.end s.end
+        → range_cmp order r s ≡ Equal
+    range_clone r s h =
+        same_bounds r s (bound_clone r.start s.start h.0) (bound_clone r.end s.end h.1)

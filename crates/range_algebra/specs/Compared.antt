@@ -37,7 +37,8 @@ inverted Unbounded = None
 module _ {K : Type 0} (order : KeyOrder K) where
   -- the start lies past the end
   abbrev pub starts_past_end : Bound K → Bound K → Bool
-  starts_past_end start end = is_gt (position_cmp order.cmp (start_position order start) (end_position order end))
+  starts_past_end start end =
+      is_gt (position_cmp order.cmp (start_position order start) (end_position order end))
 
   abbrev pub start_is_at : Option (Bound K) → Position K → Bool
   start_is_at None p = false
@@ -56,8 +57,10 @@ module _ {K : Type 0} (order : KeyOrder K) where
       let starts = position_cmp order.cmp start other_start in
       let ends = position_cmp order.cmp end other_end in
       if is_lt starts
-      then (if is_lt (position_cmp order.cmp end other_start) then Before (starts_at_end left_end other_start) else Intersecting false (is_eq ends))
-      else (if is_gt (position_cmp order.cmp start other_end) then After (starts_at_end right_end start) else Intersecting (is_eq starts) (is_eq ends))
+      then (if is_lt (position_cmp order.cmp end other_start) then Before
+      (starts_at_end left_end other_start) else Intersecting false (is_eq ends))
+      else (if is_gt (position_cmp order.cmp start other_end) then After
+      (starts_at_end right_end start) else Intersecting (is_eq starts) (is_eq ends))
 
   abbrev pub range_ordering : AnyRange K → AnyRange K → RangeOrdering
   range_ordering r s = bounds_ordering r.start r.end s.start s.end

@@ -6,11 +6,13 @@ use Rattle.range_algebra.specs.Range.{Holds}
 module _ {K : Type 0} (order : KeyOrder K) where
   -- the key is held, and no held key is less
   abbrev pub IsLeastOf : AnyRange K → K → Type 0
-  IsLeastOf r k = Holds order r k × ((j : K) → order.is_key j → Holds order r j → NotAbove order k j)
+  IsLeastOf r k =
+      Holds order r k × ((j : K) → order.is_key j → Holds order r j → NotAbove order k j)
 
   -- the key is held, and no held key is greater
   abbrev pub IsGreatestOf : AnyRange K → K → Type 0
-  IsGreatestOf r k = Holds order r k × ((j : K) → order.is_key j → Holds order r j → NotAbove order j k)
+  IsGreatestOf r k =
+      Holds order r k × ((j : K) → order.is_key j → Holds order r j → NotAbove order j k)
 
   abbrev pub HasNoLeast : AnyRange K → Type 0
   HasNoLeast r = (k : K) → order.is_key k → ¬ IsLeastOf r k

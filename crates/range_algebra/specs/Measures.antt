@@ -16,7 +16,8 @@ told_bound told (Excluded a) = Excluded a
 told_bound (Some a) Unbounded = Included a
 told_bound None Unbounded = Unbounded
 
--- the distance from the start's key to the end's, less the length of an excluded start, plus that of an included end
+-- the distance from the start's key to the end's, less the length of an excluded start, plus that
+-- of an included end
 abbrev pub measure_between : {K : Type 0} → (K → ℕ) → (K → K → ℕ) → Bound K → Bound K → Option ℕ
 measure_between len distance (Included a) (Included b) = Some (distance a b + len b)
 measure_between len distance (Included a) (Excluded b) = Some (distance a b)
@@ -35,21 +36,29 @@ measure_sum None n = None
 module _ {K : Type 0} (order : KeyOrder K) where
   -- the range is unbounded towards an end that the type does not tell
   abbrev pub HasUntoldEnd : AnyRange K → Type 0
-  HasUntoldEnd r = ((r.start ≡ Unbounded) × (order.least ≡ None)) ⊎ ((r.end ≡ Unbounded) × (order.greatest ≡ None))
+  HasUntoldEnd r =
+      ((r.start ≡ Unbounded) × (order.least ≡ None)) ⊎
+      ((r.end ≡ Unbounded) × (order.greatest ≡ None))
 
-  -- 0 where the start lies past the end, and otherwise what lies between the bounds, where both are told
+  -- 0 where the start lies past the end, and otherwise what lies between the bounds, where both are
+  -- told
   abbrev pub range_measure : (K → ℕ) → (K → K → ℕ) → AnyRange K → Option ℕ
   range_measure len distance r =
-      if is_gt (position_cmp order.cmp (start_position order r.start) (end_position order r.end)) then Some 0
-      else measure_between len distance (told_bound order.least r.start) (told_bound order.greatest r.end)
+      if is_gt (position_cmp order.cmp (start_position order r.start) (end_position order r.end))
+      then Some 0
+      else measure_between len distance (told_bound order.least r.start)
+      (told_bound order.greatest r.end)
 
   -- the measures of the ranges together
   abbrev pub list_measure : (K → ℕ) → (K → K → ℕ) → List (AnyRange K) → Option ℕ
   list_measure len distance [] = Some 0
-  list_measure len distance (r ∷ ranges) = measure_sum (range_measure len distance r) (list_measure len distance ranges)
+  list_measure len distance (r ∷ ranges) =
+      measure_sum (range_measure len distance r) (list_measure len distance ranges)
 
   -- the ranges are known and nonempty, and each ends before the next starts
   abbrev pub AreInOrder : List (AnyRange K) → Type 0
   AreInOrder [] = ⊤
   AreInOrder (r ∷ []) = IsKnownRange order r × ¬ IsEmptyRange order r
-  AreInOrder (r ∷ s ∷ ranges) = IsKnownRange order r × (¬ IsEmptyRange order r) × LiesBefore order r s × AreInOrder (s ∷ ranges)
+  AreInOrder (r ∷ s ∷ ranges) =
+      IsKnownRange order r × (¬ IsEmptyRange order r) × LiesBefore order r s
+      × AreInOrder (s ∷ ranges)

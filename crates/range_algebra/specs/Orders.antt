@@ -69,7 +69,9 @@ module _ {L : Type 0} (cmp : L → L → Ordering) (total : IsTotalOrder cmp) wh
   both_by : (p q : L) (o : Ordering) → cmp p q ≡ o → Le cmp p q → Le cmp q p → cmp p q ≡ Equal
   both_by p q Less e h k = absurd (lt_not_le p q e k)
   both_by p q Equal e h k = e
-  both_by p q Greater e h k = absurd (reverse_not_greater (cmp p q) h (sym (total.antisymm q p) ∙ (total.antisymm q p ∙ ap ordering_reverse e)))
+  both_by p q Greater e h k =
+      absurd (reverse_not_greater (cmp p q) h
+      (sym (total.antisymm q p) ∙ (total.antisymm q p ∙ ap ordering_reverse e)))
 
   pub both : (p q : L) → Le cmp p q → Le cmp q p → cmp p q ≡ Equal
   both p q h k = both_by p q (cmp p q) refl h k

@@ -25,7 +25,10 @@ module _ {T : Type 0} (is_clone : T → T → Type 0) where
   IsPartClone (Object r) (Object s) = IsRangeClone is_clone r s
 
   abbrev pub IsProductClone : Product T → Product T → Type 0
-  IsProductClone p q = IsOptionClone IsPartClone p.before q.before × IsOptionClone (IsRangeClone is_clone) p.intersection q.intersection × IsOptionClone IsPartClone p.after q.after
+  IsProductClone p q =
+      IsOptionClone IsPartClone p.before q.before
+      × IsOptionClone (IsRangeClone is_clone) p.intersection q.intersection
+      × IsOptionClone IsPartClone p.after q.after
 
 module _ {T : Type 0} (is_infallible : T → Type 0) where
   abbrev pub IsPartInfallible : ProductArg T → Type 0
@@ -33,4 +36,7 @@ module _ {T : Type 0} (is_infallible : T → Type 0) where
   IsPartInfallible (Object r) = IsRangeInfallible is_infallible r
 
   abbrev pub IsProductInfallible : Product T → Type 0
-  IsProductInfallible p = IsOptionInfallible IsPartInfallible p.before × IsOptionInfallible (IsRangeInfallible is_infallible) p.intersection × IsOptionInfallible IsPartInfallible p.after
+  IsProductInfallible p =
+      IsOptionInfallible IsPartInfallible p.before
+      × IsOptionInfallible (IsRangeInfallible is_infallible) p.intersection
+      × IsOptionInfallible IsPartInfallible p.after

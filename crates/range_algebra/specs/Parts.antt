@@ -26,11 +26,13 @@ module _ {K : Type 0} (order : KeyOrder K) where
   -- the part up to an end, and from a start
   abbrev pub part_to : AnyRange K → Option (Bound K) → Option (AnyRange K)
   part_to r None = None
-  part_to r (Some end) = unless_empty (record { start = r.start; end = earlier_end order r.end end })
+  part_to r (Some end) =
+      unless_empty (record { start = r.start; end = earlier_end order r.end end })
 
   abbrev pub part_from : AnyRange K → Option (Bound K) → Option (AnyRange K)
   part_from r None = None
-  part_from r (Some start) = unless_empty (record { start = later_start order r.start start; end = r.end })
+  part_from r (Some start) =
+      unless_empty (record { start = later_start order r.start start; end = r.end })
 
   -- what of the first lies before the second, and after it, if anything does
   abbrev pub part_before : AnyRange K → AnyRange K → Option (AnyRange K)
@@ -48,7 +50,8 @@ module _ {K : Type 0} (order : KeyOrder K) where
   -- the first without the second; an empty range takes nothing away
   abbrev pub difference : AnyRange K → AnyRange K → Difference K
   difference r s = if is_empty_range r then Empty
-      else (if is_empty_range s then Before r false else pieces (part_before r s) (part_after r s) (matches (range_ordering order r s) false))
+      else (if is_empty_range s then Before r false else pieces (part_before r s) (part_after r s)
+      (matches (range_ordering order r s) false))
 
   abbrev pub full_product : AnyRange K → AnyRange K → Product K
   full_product r s = record {
@@ -59,8 +62,17 @@ module _ {K : Type 0} (order : KeyOrder K) where
 
   -- the parts of both; beside an empty range the other is a part as a whole
   abbrev pub product : AnyRange K → AnyRange K → Product K
-  product r s = if is_empty_range r then record { before = None; intersection = None; after = option_map Object (unless_empty s) }
-      else (if is_empty_range s then record { before = None; intersection = None; after = Some (Subject r) } else full_product r s)
+  product r s =
+      if is_empty_range r then record {
+        before = None;
+        intersection = None;
+        after = option_map Object (unless_empty s);
+      }
+      else (if is_empty_range s then record {
+        before = None;
+        intersection = None;
+        after = Some (Subject r);
+      } else full_product r s)
 
   -- some part holds the key
   abbrev pub DifferenceHolds : Difference K → K → Type 0
@@ -71,7 +83,8 @@ module _ {K : Type 0} (order : KeyOrder K) where
 
   -- the parts hold just the keys of the first range that the second does not hold
   abbrev pub HoldsDifference : AnyRange K → AnyRange K → Difference K → Type 0
-  HoldsDifference r s d = (k : K) → order.is_key k → DifferenceHolds d k ↔ (Holds order r k × ¬ Holds order s k)
+  HoldsDifference r s d = (k : K) → order.is_key k → DifferenceHolds d k
+      ↔ (Holds order r k × ¬ Holds order s k)
 
   -- each part lies on the side of the range that its name says
   abbrev pub LieRound : Difference K → AnyRange K → Type 0
@@ -107,12 +120,17 @@ module _ {K : Type 0} (order : KeyOrder K) where
   -- the parts of two ranges, by the keys that they hold
   pub record IsProduct (r s : AnyRange K) (p : Product K) : Type 0 where
     -- together the keys of the two
-    pub held : (k : K) → order.is_key k → (PartHolds p.before k ⊎ (RangeHolds p.intersection k ⊎ PartHolds p.after k)) ↔ (Holds order r k ⊎ Holds order s k)
+    pub held : (k : K) → order.is_key k
+        → (PartHolds p.before k ⊎ (RangeHolds p.intersection k ⊎ PartHolds p.after k))
+        ↔ (Holds order r k ⊎ Holds order s k)
     -- in the middle the keys that both hold
-    pub shared : (k : K) → order.is_key k → RangeHolds p.intersection k ↔ (Holds order r k × Holds order s k)
+    pub shared : (k : K) → order.is_key k → RangeHolds p.intersection k
+        ↔ (Holds order r k × Holds order s k)
     -- in a labelled part only keys of the range that it names, outside the other
-    pub subjects : (k : K) → order.is_key k → IsOfSubject p.before k ⊎ IsOfSubject p.after k → Holds order r k × ¬ Holds order s k
-    pub objects : (k : K) → order.is_key k → IsOfObject p.before k ⊎ IsOfObject p.after k → Holds order s k × ¬ Holds order r k
+    pub subjects : (k : K) → order.is_key k → IsOfSubject p.before k ⊎ IsOfSubject p.after k
+        → Holds order r k × ¬ Holds order s k
+    pub objects : (k : K) → order.is_key k → IsOfObject p.before k ⊎ IsOfObject p.after k
+        → Holds order s k × ¬ Holds order r k
     -- in order
     pub before_shared : AreRising (PartHolds p.before) (RangeHolds p.intersection)
     pub shared_after : AreRising (RangeHolds p.intersection) (PartHolds p.after)

@@ -40,11 +40,14 @@ module _ {K : Type 0} (order : KeyOrder K) where
 
   -- the start lies past the end
   abbrev pub IsEmptyRange : AnyRange K → Type 0
-  IsEmptyRange r = position_cmp order.cmp (start_position order r.start) (end_position order r.end) ≡ Greater
+  IsEmptyRange r =
+      position_cmp order.cmp (start_position order r.start) (end_position order r.end) ≡ Greater
 
   -- the position of the key lies from the start to the end
   abbrev pub LiesWithin : AnyRange K → K → Type 0
-  LiesWithin r k = (is_gt (position_cmp order.cmp (start_position order r.start) (Beside k At)) ≡ false) × (is_gt (position_cmp order.cmp (Beside k At) (end_position order r.end)) ≡ false)
+  LiesWithin r k =
+      (is_gt (position_cmp order.cmp (start_position order r.start) (Beside k At)) ≡ false)
+      × (is_gt (position_cmp order.cmp (Beside k At) (end_position order r.end)) ≡ false)
 
   -- the bound's value, if it has one, is a key
   abbrev pub IsKnownBound : Bound K → Type 0
@@ -53,7 +56,8 @@ module _ {K : Type 0} (order : KeyOrder K) where
   abbrev pub IsKnownRange : AnyRange K → Type 0
   IsKnownRange r = IsKnownBound r.start × IsKnownBound r.end
 
-  -- the least key that a start bound names, and the greatest that an end bound names, where they are told
+  -- the least key that a start bound names, and the greatest that an end bound names, where they
+  -- are told
   abbrev pub start_key : Bound K → Option K
   start_key (Included a) = Some a
   start_key (Excluded a) = order.succ a

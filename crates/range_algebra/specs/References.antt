@@ -23,7 +23,13 @@ part_map f (Subject r) = Subject (range_map f r)
 part_map f (Object r) = Object (range_map f r)
 
 abbrev pub product_map : {A B : Type 0} → (A → B) → Product A → Product B
-product_map f p = record { before = option_map (part_map f) p.before; intersection = option_map (range_map f) p.intersection; after = option_map (part_map f) p.after }
+product_map f p =
+    record {
+      before = option_map (part_map f) p.before;
+      intersection = option_map (range_map f) p.intersection;
+      after =
+          option_map (part_map f) p.after;
+    }
 
 -- what the references point to
 abbrev pub range_of : {K : Type 0} → AnyRange (Bor K) → AnyRange K

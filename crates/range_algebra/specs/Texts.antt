@@ -1,4 +1,5 @@
--- How a range is shown, given how its keys are; nothing is said where a key's own text is left open.
+-- How a range is shown, given how its keys are; nothing is said where a key's own text is left
+-- open.
 use Rattle.std.specs.Prelude.{ℕ, List, Option, Some, codes}
 use Rattle.std.specs.Fmt.{◌++?◌}
 use Rattle.std.specs.declared.ops.Bound.{Bound}

@@ -19,12 +19,14 @@ use Rattle.range_commands.specs.declared.command.Reply.{Reply}
 use Rattle.range_commands.specs.declared.command.Reply.TheVariants.{Done, Memory, Connected, Closure, Value, Truth, Count as Counted}
 use Rattle.range_commands.proofs.FewRanges.{two_more, few_more}
 
-pub if_ok_then : {A E : Type 0} {P Q : A → Type 0} (r : Result A E) → IfOk r P → ((x : A) → P x → Q x) → IfOk r Q
+pub if_ok_then : {A E : Type 0} {P Q : A → Type 0} (r : Result A E) → IfOk r P
+    → ((x : A) → P x → Q x) → IfOk r Q
 if_ok_then (Ok x) h f = f x h
 if_ok_then (Err e) h f = tt
 
 -- the steps of two parts of a run
-then_least : (first second third more least : ℕ) → TakesAtLeast first second least → TakesAtLeast second third more → TakesAtLeast first third (more + least)
+then_least : (first second third more least : ℕ) → TakesAtLeast first second least
+    → TakesAtLeast second third more → TakesAtLeast first third (more + least)
 then_least first second third more least h k = omega (arith, h, k)
 
 some_or_none : (n : ℕ) → (0 < n) ⊎ (n ≡ 0)
@@ -49,7 +51,9 @@ list_or_not items =
 
 module _ {K : Type 0} (order : KeyOrder K) where
   -- the range is nonempty and the list is not empty, or not
-  range_or_not : {V : Type 0} (items : List (Item (AnyRange K) V)) (r : AnyRange K) → ((¬ IsEmptyRange order r) × (0 < length items)) ⊎ (¬ ((¬ IsEmptyRange order r) × (0 < length items)))
+  range_or_not : {V : Type 0} (items : List (Item (AnyRange K) V)) (r : AnyRange K)
+      → ((¬ IsEmptyRange order r) × (0 < length items)) ⊎
+      (¬ ((¬ IsEmptyRange order r) × (0 < length items)))
   range_or_not items r =
       elim (empty_or_not order r) [
         | inl empty ↦ inr (λ h. h.0 empty)
@@ -59,7 +63,10 @@ module _ {K : Type 0} (order : KeyOrder K) where
         ]
       ]
 
-  change_or_not : {V E : Type 0} (items : List (Item (AnyRange K) V)) (r : AnyRange K) (reply : Reply K V E) → (IsDone reply × (¬ IsEmptyRange order r) × (0 < length items)) ⊎ (¬ (IsDone reply × (¬ IsEmptyRange order r) × (0 < length items)))
+  change_or_not : {V E : Type 0} (items : List (Item (AnyRange K) V)) (r : AnyRange K)
+      (reply : Reply K V E)
+      → (IsDone reply × (¬ IsEmptyRange order r) × (0 < length items)) ⊎
+      (¬ (IsDone reply × (¬ IsEmptyRange order r) × (0 < length items)))
   change_or_not items r reply =
       elim (done_or_not reply) [
         | inl done ↦ elim (range_or_not items r) [
@@ -98,7 +105,11 @@ module _ {K : Type 0} (order : KeyOrder K) {V : Type 0} (is_counted : Bool) (lea
 
 module _ {K : Type 0} (order : KeyOrder K) {V : Type 0} where
   -- a change, or a look-up, that is due takes at least one step
-  change_least : (least most : ℕ) (items next : List (Item (AnyRange K) V)) (r : AnyRange K) (done : Type 0) (before after : ℕ) → (0 < length items → 1 ≤ least) → ChangeTakes order least most items next r done before after → (TakesAtLeast before after 0) × ((¬ IsEmptyRange order r) × (0 < length items) → TakesAtLeast before after 1)
+  change_least : (least most : ℕ) (items next : List (Item (AnyRange K) V)) (r : AnyRange K)
+      (done : Type 0) (before after : ℕ) → (0 < length items → 1 ≤ least)
+      → ChangeTakes order least most items next r done before after
+      → (TakesAtLeast before after 0)
+      × ((¬ IsEmptyRange order r) × (0 < length items) → TakesAtLeast before after 1)
   change_least least most items next r done before after some takes = (
     elim (empty_or_not order r) [
       | inl empty ↦ omega (arith, takes.none empty)
@@ -107,7 +118,11 @@ module _ {K : Type 0} (order : KeyOrder K) {V : Type 0} where
     λ due. omega (arith, takes.at_least due.0, some due.1),
   )
 
-  lookup_least : (least most : ℕ) (items : List (Item (AnyRange K) V)) (empty : Type 0) (before after : ℕ) → (0 < length items → 1 ≤ least) → (empty ⊎ (¬ empty)) → LookupTakes order least most items empty before after → (TakesAtLeast before after 0) × ((¬ empty) × (0 < length items) → TakesAtLeast before after 1)
+  lookup_least : (least most : ℕ) (items : List (Item (AnyRange K) V)) (empty : Type 0)
+      (before after : ℕ) → (0 < length items → 1 ≤ least) → (empty ⊎ (¬ empty))
+      → LookupTakes order least most items empty before after
+      → (TakesAtLeast before after 0)
+      × ((¬ empty) × (0 < length items) → TakesAtLeast before after 1)
   lookup_least least most items empty before after some either takes = (
     elim either [
       | inl none ↦ omega (arith, takes.none none)
@@ -116,7 +131,9 @@ module _ {K : Type 0} (order : KeyOrder K) {V : Type 0} where
     λ due. omega (arith, (takes.counted due.0).at_least, some due.1),
   )
 
-  lookup_most : (least most : ℕ) (items : List (Item (AnyRange K) V)) (empty : Type 0) (before after : ℕ) → (empty ⊎ (¬ empty)) → LookupTakes order least most items empty before after → after ≤ before + (most + 1)
+  lookup_most : (least most : ℕ) (items : List (Item (AnyRange K) V)) (empty : Type 0)
+      (before after : ℕ) → (empty ⊎ (¬ empty))
+      → LookupTakes order least most items empty before after → after ≤ before + (most + 1)
   lookup_most least most items empty before after either takes =
       elim either [
         | inl none ↦ omega (arith, takes.none none)
@@ -125,17 +142,36 @@ module _ {K : Type 0} (order : KeyOrder K) {V : Type 0} where
 
   module _ {T E : Type 0} where
     -- one command: the count never falls, and grows by one at least where a step is due
-    one_least : (least most : ℕ) (items next : List (Item (AnyRange K) V)) (command : Command K V T) (reply : Reply K V E) (before after : ℕ) → (0 < length items → 1 ≤ least) → TakesFor order least most items command reply next before after → (TakesAtLeast before after 0) × (IsDue order items command reply → TakesAtLeast before after 1)
-    one_least least most items next (Insert r v) reply before after some takes = let h = change_least least most items next r (IsDone reply) before after some takes in (h.0, λ due. h.1 (due.1, due.2))
-    one_least least most items next (InsertDisconnected r v) reply before after some takes = (omega (arith, takes), λ due. absurd due)
-    one_least least most items next (Remove r) reply before after some takes = let h = change_least least most items next r (IsDone reply) before after some takes in (h.0, λ due. h.1 (due.1, due.2))
-    one_least least most items next (Update r t) reply before after some takes = (omega (arith, takes), λ due. absurd due)
-    one_least least most items next (Get k) reply before after some takes = let h = lookup_least least most items ⊥ before after some (inr (λ no. no)) takes in (h.0, λ due. h.1 (λ no. no, due))
-    one_least least most items next (Contains k) reply before after some takes = let h = lookup_least least most items ⊥ before after some (inr (λ no. no)) takes in (h.0, λ due. h.1 (λ no. no, due))
-    one_least least most items next (Intersects r) reply before after some takes = lookup_least least most items (IsEmptyRange order r) before after some (empty_or_not order r) takes
-    one_least least most items next Count reply before after some takes = (omega (arith, takes), λ due. absurd due)
+    one_least : (least most : ℕ) (items next : List (Item (AnyRange K) V)) (command : Command K V T)
+        (reply : Reply K V E) (before after : ℕ) → (0 < length items → 1 ≤ least)
+        → TakesFor order least most items command reply next before after
+        → (TakesAtLeast before after 0)
+        × (IsDue order items command reply → TakesAtLeast before after 1)
+    one_least least most items next (Insert r v) reply before after some takes = let h =
+        change_least least most items next r
+        (IsDone reply) before after some takes in (h.0, λ due. h.1 (due.1, due.2))
+    one_least least most items next (InsertDisconnected r v) reply before after some takes =
+        (omega (arith, takes), λ due. absurd due)
+    one_least least most items next (Remove r) reply before after some takes = let h =
+        change_least least most items next r
+        (IsDone reply) before after some takes in (h.0, λ due. h.1 (due.1, due.2))
+    one_least least most items next (Update r t) reply before after some takes =
+        (omega (arith, takes), λ due. absurd due)
+    one_least least most items next (Get k) reply before after some takes = let h =
+        lookup_least least most items ⊥ before after some
+        (inr (λ no. no)) takes in (h.0, λ due. h.1 (λ no. no, due))
+    one_least least most items next (Contains k) reply before after some takes = let h =
+        lookup_least least most items ⊥ before after some
+        (inr (λ no. no)) takes in (h.0, λ due. h.1 (λ no. no, due))
+    one_least least most items next (Intersects r) reply before after some takes =
+        lookup_least least most items (IsEmptyRange order r) before after some
+        (empty_or_not order r) takes
+    one_least least most items next Count reply before after some takes =
+        (omega (arith, takes), λ due. absurd due)
 
-    due_or_not : (items : List (Item (AnyRange K) V)) (command : Command K V T) (reply : Reply K V E) → IsDue order items command reply ⊎ (¬ IsDue order items command reply)
+    due_or_not : (items : List (Item (AnyRange K) V)) (command : Command K V T)
+        (reply : Reply K V E)
+        → IsDue order items command reply ⊎ (¬ IsDue order items command reply)
     due_or_not items (Insert r v) reply = change_or_not order items r reply
     due_or_not items (InsertDisconnected r v) reply = inr (λ no. no)
     due_or_not items (Remove r) reply = change_or_not order items r reply
@@ -145,74 +181,185 @@ module _ {K : Type 0} (order : KeyOrder K) {V : Type 0} where
     due_or_not items (Intersects r) reply = range_or_not order items r
     due_or_not items Count reply = inr (λ no. no)
 
-  module _ (same : V → V → Bool) {T E : Type 0} (may : T → Option V → Result (Option V) E → Type 0) where
+  module _ (same : V → V → Bool) {T E : Type 0}
+      (may : T → Option V → Result (Option V) E → Type 0) where
     -- what one command takes at most, where it is no update and finds memory
-    one_most : (least most : ℕ) (items next : List (Item (AnyRange K) V)) (command : Command K V T) (commands : List (Command K V T)) (reply : Reply K V E) (replies : List (Reply K V E)) (before after : ℕ) → IsStep order same may items command reply next → TakesFor order least most items command reply next before after → HasNoUpdate (command ∷ commands) → HasNoMemory (reply ∷ replies) → TakesAsChange before after most (length items) (length next) × HasNoMemory replies
-    one_most least most items next (Insert r v) commands Done replies before after step takes none memory = (takes.at_most tt, memory)
-    one_most least most items next (InsertDisconnected r v) commands Done replies before after step takes none memory = (omega (arith, takes, step.1.few), memory)
-    one_most least most items next (InsertDisconnected r v) commands (Connected s w) replies before after step takes none memory = (omega (arith, takes, ap length step.3), memory)
-    one_most least most items next (Remove r) commands Done replies before after step takes none memory = (takes.at_most tt, memory)
-    one_most least most items next (Update r t) commands reply replies before after step takes none memory = absurd none
-    one_most least most items next (Get k) commands (Value b) replies before after step takes none memory = (omega (arith, ap length step.1, lookup_most least most items ⊥ before after (inr (λ no. no)) takes), memory)
-    one_most least most items next (Contains k) commands (Truth b) replies before after step takes none memory = (omega (arith, ap length step.1, lookup_most least most items ⊥ before after (inr (λ no. no)) takes), memory)
-    one_most least most items next (Intersects r) commands (Truth b) replies before after step takes none memory = (omega (arith, ap length step.1, lookup_most least most items (IsEmptyRange order r) before after (empty_or_not order r) takes), memory)
-    one_most least most items next Count commands (Counted n) replies before after step takes none memory = (omega (arith, takes, ap length step.1), memory)
-    one_most least most items next command commands Memory replies before after step takes none memory = absurd memory
-    one_most least most items next command commands reply replies before after step takes none memory = absurd step
+    one_most : (least most : ℕ) (items next : List (Item (AnyRange K) V)) (command : Command K V T)
+        (commands : List (Command K V T)) (reply : Reply K V E) (replies : List (Reply K V E))
+        (before after : ℕ) → IsStep order same may items command reply next
+        → TakesFor order least most items command reply next before after
+        → HasNoUpdate (command ∷ commands) → HasNoMemory (reply ∷ replies)
+        → TakesAsChange before after most (length items) (length next) × HasNoMemory replies
+    one_most least most items next
+        (Insert r v) commands Done replies before after step takes none memory =
+        (takes.at_most tt, memory)
+    one_most least most items next
+        (InsertDisconnected r v) commands Done replies before after step takes none memory =
+        (omega (arith, takes, step.1.few), memory)
+    one_most least most items next (InsertDisconnected r v) commands
+        (Connected s w) replies before after step takes none memory =
+        (omega (arith, takes, ap length step.3), memory)
+    one_most least most items next
+        (Remove r) commands Done replies before after step takes none memory =
+        (takes.at_most tt, memory)
+    one_most least most items next
+        (Update r t) commands reply replies before after step takes none memory = absurd none
+    one_most least most items next (Get k) commands
+        (Value b) replies before after step takes none memory = (
+          omega (
+            arith,
+            ap length step.1,
+            lookup_most least most items ⊥ before after (inr (λ no. no)) takes,
+          ),
+          memory,
+        )
+    one_most least most items next (Contains k) commands
+        (Truth b) replies before after step takes none memory = (
+          omega (
+            arith,
+            ap length step.1,
+            lookup_most least most items ⊥ before after (inr (λ no. no)) takes,
+          ),
+          memory,
+        )
+    one_most least most items next (Intersects r) commands
+        (Truth b) replies before after step takes none memory = (
+          omega (
+            arith,
+            ap length step.1,
+            lookup_most least most items (IsEmptyRange order r) before after
+                (empty_or_not order r) takes,
+          ),
+          memory,
+        )
+    one_most least most items next Count commands
+        (Counted n) replies before after step takes none memory =
+        (omega (arith, takes, ap length step.1), memory)
+    one_most least most items next command commands Memory replies before after step takes none
+        memory = absurd memory
+    one_most least most items next command commands reply replies before after step takes none
+        memory = absurd step
 
     module _ {S : Type 0} (items : S → List (Item (AnyRange K) V)) (least most : S → ℕ) where
       -- a run that goes one step on
-      pub one_more_counted : (s middle last : S) (commands : List (Command K V T)) (replies : List (Reply K V E)) (command : Command K V T) (reply : Reply K V E) (before between after : ℕ) → IsCountedRun order same may items least most s commands replies middle before between → IsStep order same may (items middle) command reply (items last) → TakesFor order (least middle) (most middle) (items middle) command reply (items last) between after → IsCountedRun order same may items least most s (commands ++ command ∷ []) (replies ++ reply ∷ []) last before after
-      one_more_counted s middle last [] [] command reply before between after run step takes = (last, after, rw run.0 at step, rw (run.0, run.1) at takes, (refl, refl))
-      one_more_counted s middle last [] (r ∷ replies) command reply before between after run step takes = absurd run
-      one_more_counted s middle last (c ∷ commands) [] command reply before between after run step takes = absurd run
-      one_more_counted s middle last (c ∷ commands) (r ∷ replies) command reply before between after run step takes = (run.0, run.1, run.2, run.3, one_more_counted run.0 middle last commands replies command reply run.1 between after run.4 step takes)
+      pub one_more_counted : (s middle last : S) (commands : List (Command K V T))
+          (replies : List (Reply K V E)) (command : Command K V T) (reply : Reply K V E)
+          (before between after : ℕ)
+          → IsCountedRun order same may items least most s commands replies middle before between
+          → IsStep order same may (items middle) command reply (items last)
+          → TakesFor order (least middle) (most middle) (items middle) command reply
+          (items last) between after
+          → IsCountedRun order same may items least most s (commands ++ command ∷ [])
+          (replies ++ reply ∷ []) last before after
+      one_more_counted s middle last [] [] command reply before between after run step takes =
+          (last, after, rw run.0 at step, rw (run.0, run.1) at takes, (refl, refl))
+      one_more_counted s middle last []
+          (r ∷ replies) command reply before between after run step takes = absurd run
+      one_more_counted s middle last
+          (c ∷ commands) [] command reply before between after run step takes = absurd run
+      one_more_counted s middle last (c ∷ commands)
+          (r ∷ replies) command reply before between after run step takes = (
+            run.0,
+            run.1,
+            run.2,
+            run.3,
+            one_more_counted run.0 middle last commands replies command reply run.1 between after
+                run.4 step takes,
+          )
 
       -- the same run without its counts
-      pub uncounted : (s last : S) (commands : List (Command K V T)) (replies : List (Reply K V E)) (before after : ℕ) → IsCountedRun order same may items least most s commands replies last before after → IsRun order same may (items s) commands replies (items last)
+      pub uncounted : (s last : S) (commands : List (Command K V T)) (replies : List (Reply K V E))
+          (before after : ℕ)
+          → IsCountedRun order same may items least most s commands replies last before after
+          → IsRun order same may (items s) commands replies (items last)
       uncounted s last [] [] before after run = ap items run.0
       uncounted s last [] (r ∷ replies) before after run = absurd run
       uncounted s last (c ∷ commands) [] before after run = absurd run
-      uncounted s last (c ∷ commands) (r ∷ replies) before after run = (items run.0, run.2, uncounted run.0 last commands replies run.1 after run.4)
+      uncounted s last (c ∷ commands) (r ∷ replies) before after run =
+          (items run.0, run.2, uncounted run.0 last commands replies run.1 after run.4)
 
       -- at most so many steps: what each adds, beside what it leaves fewer, is bounded by the
       -- greatest search
-      pub run_most : (level many : ℕ) → ((s : S) → length (items s) ≤ many → most s ≤ HALVINGS * level) → (s last : S) (commands : List (Command K V T)) (replies : List (Reply K V E)) (before after : ℕ) → length (items s) + 2 * length commands ≤ many → HasNoUpdate commands → HasNoMemory replies → IsCountedRun order same may items least most s commands replies last before after → after + 2 * length (items last) ≤ before + length commands * (2 * HALVINGS * level + 10) + 2 * length (items s)
-      run_most level many few s last [] [] before after within none memory run = omega (arith, ap (λ t. length (items t)) run.0, run.1)
-      run_most level many few s last [] (r ∷ replies) before after within none memory run = absurd run
-      run_most level many few s last (c ∷ commands) [] before after within none memory run = absurd run
-      run_most level many few s last (c ∷ commands) (r ∷ replies) before after within none memory run =
-          let first = one_most (least s) (most s) (items s) (items run.0) c commands r replies before run.1 run.2 run.3 none memory in
+      pub run_most : (level many : ℕ)
+          → ((s : S) → length (items s) ≤ many → most s ≤ HALVINGS * level)
+          → (s last : S) (commands : List (Command K V T)) (replies : List (Reply K V E))
+          (before after : ℕ) → length (items s) + 2 * length commands ≤ many → HasNoUpdate commands
+          → HasNoMemory replies
+          → IsCountedRun order same may items least most s commands replies last before after
+          → after + 2 * length (items last)
+          ≤ before + length commands * (2 * HALVINGS * level + 10) + 2 * length (items s)
+      run_most level many few s last [] [] before after within none memory run =
+          omega (arith, ap (λ t. length (items t)) run.0, run.1)
+      run_most level many few s last [] (r ∷ replies) before after within none memory run =
+          absurd run
+      run_most level many few s last (c ∷ commands) [] before after within none memory run =
+          absurd run
+      run_most level many few s last (c ∷ commands)
+          (r ∷ replies) before after within none memory run =
+          let first =
+          one_most (least s) (most s) (items s)
+          (items run.0) c commands r replies before run.1 run.2 run.3 none memory in
           let grown = two_more order same may (items s) (items run.0) c commands r run.2 none in
-          let rest = run_most level many few run.0 last commands replies run.1 after (omega (arith, within, grown.0)) grown.1 first.1 run.4 in
+          let rest =
+          run_most level many few run.0 last commands replies run.1 after
+          (omega (arith, within, grown.0)) grown.1 first.1 run.4 in
           let here = few s (omega (arith, within)) in
           omega (arith, first.0, rest, here)
 
       -- at least one step for each command that is due one
-      pub run_least : ((s : S) → 0 < length (items s) → 1 ≤ least s) → (s last : S) (commands : List (Command K V T)) (replies : List (Reply K V E)) (before after : ℕ) → IsCountedRun order same may items least most s commands replies last before after → (due : ℕ) × IsRunOfDue order same may (items s) commands replies (items last) due × TakesAtLeast before after due
-      run_least some s last [] [] before after run = (0, (ap items run.0, refl), omega (arith, run.1))
+      pub run_least : ((s : S) → 0 < length (items s) → 1 ≤ least s)
+          → (s last : S) (commands : List (Command K V T)) (replies : List (Reply K V E))
+          (before after : ℕ)
+          → IsCountedRun order same may items least most s commands replies last before after
+          → (due : ℕ) × IsRunOfDue order same may (items s) commands replies (items last) due
+          × TakesAtLeast before after due
+      run_least some s last [] [] before after run =
+          (0, (ap items run.0, refl), omega (arith, run.1))
       run_least some s last [] (r ∷ replies) before after run = absurd run
       run_least some s last (c ∷ commands) [] before after run = absurd run
       run_least some s last (c ∷ commands) (r ∷ replies) before after run =
           let rest = run_least some run.0 last commands replies run.1 after run.4 in
-          let one = one_least (least s) (most s) (items s) (items run.0) c r before run.1 (some s) run.3 in
+          let one =
+          one_least (least s) (most s) (items s) (items run.0) c r before run.1
+          (some s) run.3 in
           elim (due_or_not (items s) c r) [
-            | inl due ↦ (rest.0 + 1, (items run.0, rest.0, run.2, inl (due, refl), rest.1), then_least before run.1 after rest.0 1 (one.1 due) rest.2)
-            | inr not_due ↦ (rest.0, (items run.0, rest.0, run.2, inr (not_due, refl), rest.1), omega (arith, one.0, rest.2))
+            | inl due ↦ (
+              rest.0 + 1,
+              (items run.0, rest.0, run.2, inl (due, refl), rest.1),
+              then_least before run.1 after rest.0 1 (one.1 due) rest.2,
+            )
+            | inr not_due ↦ (
+              rest.0,
+              (items run.0, rest.0, run.2, inr (not_due, refl), rest.1),
+              omega (arith, one.0, rest.2),
+            )
           ]
 
     -- so commands without an update leave few ranges more
-    pub few_after : {A F : Type 0} (replies : A → List (Reply K V E)) (items last : List (Item (AnyRange K) V)) (commands : List (Command K V T)) (result : Result A F) → IfOk result (λ x. IsRun order same may items commands (replies x) last) → OnErr result (last ≡ items) → HasNoUpdate commands → length last ≤ length items + 2 * length commands
-    few_after replies items last commands (Ok x) run same_list none = few_more order same may items last commands (replies x) run none
-    few_after replies items last commands (Err e) run same_list none = omega (arith, ap length same_list)
+    pub few_after : {A F : Type 0} (replies : A → List (Reply K V E))
+        (items last : List (Item (AnyRange K) V)) (commands : List (Command K V T))
+        (result : Result A F)
+        → IfOk result (λ x. IsRun order same may items commands (replies x) last)
+        → OnErr result (last ≡ items) → HasNoUpdate commands
+        → length last ≤ length items + 2 * length commands
+    few_after replies items last commands (Ok x) run same_list none =
+        few_more order same may items last commands (replies x) run none
+    few_after replies items last commands (Err e) run same_list none =
+        omega (arith, ap length same_list)
 
 module _ {X : Type 0} where
   -- how often a search of a tree asks that has at most so many items
-  pub few_asks : (many level : ℕ) → IsGreatestLevel (many + 1) level → (s : BoxStorage X) → length (box_items s) ≤ many → HALVINGS * s.tree.levels ≤ HALVINGS * level
+  pub few_asks : (many level : ℕ) → IsGreatestLevel (many + 1) level → (s : BoxStorage X)
+      → length (box_items s) ≤ many → HALVINGS * s.tree.levels ≤ HALVINGS * level
   few_asks many level greatest s within =
       elim (some_or_none (length (box_items s))) [
         | inl some ↦ elim (some_or_none s.tree.levels) [
-          | inl high ↦ omega (arith, greatest.greatest s.tree.levels (omega (arith, high)) (omega (arith, (box_levels s).least some, within)))
+          | inl high ↦
+              omega (
+                arith,
+                greatest.greatest s.tree.levels (omega (arith, high))
+                    (omega (arith, (box_levels s).least some, within)),
+              )
           | inr none ↦ omega (arith, none)
         ]
         | inr none ↦ omega (arith, (box_levels s).empty none)
@@ -222,5 +369,7 @@ module _ {X : Type 0} where
   some_asks s some =
       elim (some_or_none s.tree.levels) [
         | inl high ↦ omega (arith, high)
-        | inr none ↦ let one : (CAPACITY + 1) ^ s.tree.levels ≡ 1 = ap (λ m. (CAPACITY + 1) ^ m) none in absurd (omega (arith, (box_levels s).most some, one, some))
+        | inr none ↦ let one : (CAPACITY + 1) ^ s.tree.levels ≡ 1 =
+            ap (λ m. (CAPACITY + 1) ^ m) none in absurd
+            (omega (arith, (box_levels s).most some, one, some))
       ]

@@ -32,25 +32,33 @@ CountsOne fact rest all = (fact × (all ≡ rest + 1)) ⊎ ((¬ fact) × (all �
 
 module _ {K : Type 0} (order : KeyOrder K) {V : Type 0} where
   -- the steps of a change by a range, where a search asks from `least` to `most` times
-  pub record ChangeTakes (least most : ℕ) (items next : List (Item (AnyRange K) V)) (r : AnyRange K) (done : Type 0) (before after : ℕ) : Type 0 where
+  pub record ChangeTakes (least most : ℕ) (items next : List (Item (AnyRange K) V)) (r : AnyRange K)
+      (done : Type 0) (before after : ℕ) : Type 0 where
     pub at_most : done → TakesAsChange before after most (length items) (length next)
     pub at_least : ¬ IsEmptyRange order r → TakesAtLeast before after least
     pub none : IsEmptyRange order r → after ≡ before
 
   -- the steps of a look-up by a range, which may be empty
-  pub record LookupTakes (least most : ℕ) (items : List (Item (AnyRange K) V)) (empty : Type 0) (before after : ℕ) : Type 0 where
+  pub record LookupTakes (least most : ℕ) (items : List (Item (AnyRange K) V)) (empty : Type 0)
+      (before after : ℕ) : Type 0 where
     pub counted : ¬ empty → AddsSteps before after least (most + 1)
     pub idle : items ≡ [] → AddsSteps before after 0 0
     pub none : empty → after ≡ before
 
   module _ {T E : Type 0} where
     -- the steps of one command
-    abbrev pub TakesFor : ℕ → ℕ → List (Item (AnyRange K) V) → Command K V T → Reply K V E → List (Item (AnyRange K) V) → ℕ → ℕ → Type 0
-    TakesFor least most items (Insert r v) reply next before after = ChangeTakes least most items next r (IsDone reply) before after
-    TakesFor least most items (Remove r) reply next before after = ChangeTakes least most items next r (IsDone reply) before after
-    TakesFor least most items (Get k) reply next before after = LookupTakes least most items ⊥ before after
-    TakesFor least most items (Contains k) reply next before after = LookupTakes least most items ⊥ before after
-    TakesFor least most items (Intersects r) reply next before after = LookupTakes least most items (IsEmptyRange order r) before after
+    abbrev pub TakesFor : ℕ → ℕ → List (Item (AnyRange K) V) → Command K V T → Reply K V E
+        → List (Item (AnyRange K) V) → ℕ → ℕ → Type 0
+    TakesFor least most items (Insert r v) reply next before after =
+        ChangeTakes least most items next r (IsDone reply) before after
+    TakesFor least most items (Remove r) reply next before after =
+        ChangeTakes least most items next r (IsDone reply) before after
+    TakesFor least most items (Get k) reply next before after =
+        LookupTakes least most items ⊥ before after
+    TakesFor least most items (Contains k) reply next before after =
+        LookupTakes least most items ⊥ before after
+    TakesFor least most items (Intersects r) reply next before after =
+        LookupTakes least most items (IsEmptyRange order r) before after
     TakesFor least most items command reply next before after = after ≡ before
 
     -- a step is due: for a change that was not refused and for a look-up, where the range is
@@ -63,16 +71,25 @@ module _ {K : Type 0} (order : KeyOrder K) {V : Type 0} where
     IsDue items (Intersects r) reply = (¬ IsEmptyRange order r) × (0 < length items)
     IsDue items command reply = ⊥
 
-  module _ (same : V → V → Bool) {T E : Type 0} (may : T → Option V → Result (Option V) E → Type 0) where
+  module _ (same : V → V → Bool) {T E : Type 0}
+      (may : T → Option V → Result (Option V) E → Type 0) where
     -- a run of commands, of which so many are due a step
-    abbrev pub IsRunOfDue : List (Item (AnyRange K) V) → List (Command K V T) → List (Reply K V E) → List (Item (AnyRange K) V) → ℕ → Type 0
+    abbrev pub IsRunOfDue : List (Item (AnyRange K) V) → List (Command K V T) → List (Reply K V E)
+        → List (Item (AnyRange K) V) → ℕ → Type 0
     IsRunOfDue items [] [] last due = (last ≡ items) × (due ≡ 0)
-    IsRunOfDue items (command ∷ commands) (reply ∷ replies) last due = (next : List (Item (AnyRange K) V)) × (rest : ℕ) × IsStep order same may items command reply next × CountsOne (IsDue items command reply) rest due × IsRunOfDue next commands replies last rest
+    IsRunOfDue items (command ∷ commands) (reply ∷ replies) last due =
+        (next : List (Item (AnyRange K) V)) × (rest : ℕ)
+        × IsStep order same may items command reply next
+        × CountsOne (IsDue items command reply) rest due
+        × IsRunOfDue next commands replies last rest
     IsRunOfDue items commands replies last due = ⊥
 
     -- a run of commands on a container, with the count after each
     module _ {S : Type 0} (items : S → List (Item (AnyRange K) V)) (least most : S → ℕ) where
       abbrev pub IsCountedRun : S → List (Command K V T) → List (Reply K V E) → S → ℕ → ℕ → Type 0
       IsCountedRun s [] [] last before after = (last ≡ s) × (after ≡ before)
-      IsCountedRun s (command ∷ commands) (reply ∷ replies) last before after = (next : S) × (between : ℕ) × IsStep order same may (items s) command reply (items next) × TakesFor (least s) (most s) (items s) command reply (items next) before between × IsCountedRun next commands replies last between after
+      IsCountedRun s (command ∷ commands) (reply ∷ replies) last before after =
+          (next : S) × (between : ℕ) × IsStep order same may (items s) command reply (items next)
+          × TakesFor (least s) (most s) (items s) command reply (items next) before between
+          × IsCountedRun next commands replies last between after
       IsCountedRun s commands replies last before after = ⊥

@@ -25,7 +25,8 @@ module _ {K : Type 0} (order : KeyOrder K) (k : K) {V T : Type 0} where
   IsOn (Update r t) = Holds order r k
   IsOn command = ⊥
 
-module _ {K : Type 0} (order : KeyOrder K) {V : Type 0} (same : V → V → Bool) {T E : Type 0} (may : T → Option V → Result (Option V) E → Type 0) (k : K) where
+module _ {K : Type 0} (order : KeyOrder K) {V : Type 0} (same : V → V → Bool) {T E : Type 0}
+    (may : T → Option V → Result (Option V) E → Type 0) (k : K) where
   -- the closure may answer so to a binding, with the tag
   abbrev pub IsAnsweredTo : T → Option V → Option V → Type 0
   IsAnsweredTo t c b = (answer : Option V) × may t c (Ok answer) × IsAsAnswered same answer b
@@ -39,11 +40,14 @@ module _ {K : Type 0} (order : KeyOrder K) {V : Type 0} (same : V → V → Bool
   IsBoundBy before command b = before b
 
   -- what a key may be bound to after one more call
-  pub record BindAfter (before : Option V → Type 0) (command : Command K V T) (reply : Reply K V E) (b : Option V) : Type 0 where
+  pub record BindAfter (before : Option V → Type 0) (command : Command K V T) (reply : Reply K V E)
+      (b : Option V) : Type 0 where
     pub on : IsOn order k command → ¬ IsRefusal reply → IsBoundBy before command b
     pub other : ¬ IsOn order k command → before b
     pub refused : IsRefusal reply → before b
 
-  abbrev pub BindOver : (Option V → Type 0) → List (Command K V T) → List (Reply K V E) → Option V → Type 0
-  BindOver before (command ∷ commands) (reply ∷ replies) b = BindOver (BindAfter before command reply) commands replies b
+  abbrev pub BindOver : (Option V → Type 0) → List (Command K V T) → List (Reply K V E) → Option V
+      → Type 0
+  BindOver before (command ∷ commands) (reply ∷ replies) b =
+      BindOver (BindAfter before command reply) commands replies b
   BindOver before commands replies b = before b

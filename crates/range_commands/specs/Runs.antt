@@ -22,7 +22,8 @@ HasNoUpdate (command ∷ commands) = HasNoUpdate commands
 
 module _ {K : Type 0} (order : KeyOrder K) {V : Type 0} (same : V → V → Bool) where
   -- what an insertion that was not refused makes of a list, with at most so many ranges more
-  pub record IsInsertion (most : ℕ) (items next : List (Item (AnyRange K) V)) (r : AnyRange K) (v : V) : Type 0 where
+  pub record IsInsertion (most : ℕ) (items next : List (Item (AnyRange K) V)) (r : AnyRange K)
+      (v : V) : Type 0 where
     pub bound : IsBoundAfter order same items next r v
     pub form : IsStored order same next
     pub few : length next ≤ length items + most
@@ -52,26 +53,36 @@ module _ {K : Type 0} (order : KeyOrder K) {V : Type 0} (same : V → V → Bool
   -- over what the closure may answer with each tag
   module _ {T E : Type 0} (may : T → Option V → Result (Option V) E → Type 0) where
     -- the command, the reply and the next list that fit a list: these and no others
-    abbrev pub IsStep : List (Item (AnyRange K) V) → Command K V T → Reply K V E → List (Item (AnyRange K) V) → Type 0
+    abbrev pub IsStep : List (Item (AnyRange K) V) → Command K V T → Reply K V E
+        → List (Item (AnyRange K) V) → Type 0
     IsStep items (Insert r v) Done next = IsInsertion 2 items next r v
     IsStep items (Insert r v) Memory next = (¬ IsEmptyRange order r) × (next ≡ items)
-    IsStep items (InsertDisconnected r v) Done next = (¬ IsHindered items r) × IsInsertion 1 items next r v
-    IsStep items (InsertDisconnected r v) Memory next = (¬ IsEmptyRange order r) × (¬ IsConnectedToSome order items r) × (next ≡ items)
-    IsStep items (InsertDisconnected r v) (Connected s w) next = IsHindered items r × (s ≡ r) × (w ≡ v) × (next ≡ items)
+    IsStep items (InsertDisconnected r v) Done next =
+        (¬ IsHindered items r) × IsInsertion 1 items next r v
+    IsStep items (InsertDisconnected r v) Memory next =
+        (¬ IsEmptyRange order r) × (¬ IsConnectedToSome order items r) × (next ≡ items)
+    IsStep items (InsertDisconnected r v) (Connected s w) next =
+        IsHindered items r × (s ≡ r) × (w ≡ v) × (next ≡ items)
     IsStep items (Remove r) Done next = IsRemoval items next r
-    IsStep items (Remove r) Memory next = (¬ IsEmptyRange order r) × MeetsSome order items r × (next ≡ items)
+    IsStep items (Remove r) Memory next =
+        (¬ IsEmptyRange order r) × MeetsSome order items r × (next ≡ items)
     IsStep items (Update r t) Done next = IsUpdate (may t) items next r
     IsStep items (Update r t) Memory next = (¬ IsEmptyRange order r) × (next ≡ items)
-    IsStep items (Update r t) (Closure e) next = MayFail order same (may t) items r e × (¬ IsEmptyRange order r) × (next ≡ items)
+    IsStep items (Update r t) (Closure e) next =
+        MayFail order same (may t) items r e × (¬ IsEmptyRange order r) × (next ≡ items)
     IsStep items (Get k) Memory next = IsBound order items k × (next ≡ items)
     IsStep items (Get k) (Value b) next = Binds order same items k b × (next ≡ items)
     IsStep items (Contains k) (Truth b) next = (IsTrue b ↔ IsBound order items k) × (next ≡ items)
-    IsStep items (Intersects r) (Truth b) next = (IsTrue b ↔ (¬ IsEmptyRange order r) × MeetsSome order items r) × (next ≡ items)
+    IsStep items (Intersects r) (Truth b) next =
+        (IsTrue b ↔ (¬ IsEmptyRange order r) × MeetsSome order items r) × (next ≡ items)
     IsStep items Count (Counted n) next = (n ≡ length items) × (next ≡ items)
     IsStep items command reply next = ⊥
 
     -- one reply for each command, with a list between any two
-    abbrev pub IsRun : List (Item (AnyRange K) V) → List (Command K V T) → List (Reply K V E) → List (Item (AnyRange K) V) → Type 0
+    abbrev pub IsRun : List (Item (AnyRange K) V) → List (Command K V T) → List (Reply K V E)
+        → List (Item (AnyRange K) V) → Type 0
     IsRun items [] [] last = last ≡ items
-    IsRun items (command ∷ commands) (reply ∷ replies) last = (next : List (Item (AnyRange K) V)) × IsStep items command reply next × IsRun next commands replies last
+    IsRun items (command ∷ commands) (reply ∷ replies) last =
+        (next : List (Item (AnyRange K) V)) × IsStep items command reply next
+        × IsRun next commands replies last
     IsRun items commands replies last = ⊥

@@ -5,7 +5,8 @@ use Rattle.std.specs.Option.{option_copied}
 use denote.Ref.{Bor}
 
 -- f may answer a where it is shown the tag, and the value or none
-pub record MayAnswerTo {F T V A : Type 0} (calls : Shared F (Bor T × (Option (Bor V) × Unit {0})) A) (f : F) (tag : T) (value : Option V) (a : A) : Type 0 where
+pub record MayAnswerTo {F T V A : Type 0} (calls : Shared F (Bor T × (Option (Bor V) × Unit {0})) A)
+    (f : F) (tag : T) (value : Option V) (a : A) : Type 0 where
   pub tagged : Bor T
   pub tags : tagged.now ≡ tag
   pub shown : Option (Bor V)
@@ -13,5 +14,7 @@ pub record MayAnswerTo {F T V A : Type 0} (calls : Shared F (Bor T × (Option (B
   pub says : calls.post f (tagged, (shown, tt)) a
 
 -- f may be called with each tag, and each value or none
-abbrev pub MayBeAskedAll : {F T V A : Type 0} → Shared F (Bor T × (Option (Bor V) × Unit {0})) A → F → Type 0
-MayBeAskedAll {F} {T} {V} calls f = (tag : Bor T) (shown : Option (Bor V)) → calls.pre f (tag, (shown, tt))
+abbrev pub MayBeAskedAll : {F T V A : Type 0} → Shared F (Bor T × (Option (Bor V) × Unit {0})) A → F
+    → Type 0
+MayBeAskedAll {F} {T} {V} calls f = (tag : Bor T) (shown : Option (Bor V))
+    → calls.pre f (tag, (shown, tt))

@@ -25,10 +25,12 @@ use Rattle.range_json.proofs.Reading.{fault_first}
 
 -- keys that are read of one JSON value are equal
 abbrev pub HasOneReading : {K : Type 0} → KeyOrder K → (Data → K → Type 0) → Type 0
-HasOneReading {K} order key_is_read = (d : Data) (x y : K) → key_is_read d x → key_is_read d y → order.cmp x y ≡ Equal
+HasOneReading {K} order key_is_read = (d : Data) (x y : K) → key_is_read d x → key_is_read d y
+    → order.cmp x y ≡ Equal
 
 -- the place of an element among those that are read
-record IsReadAt {X : Type 0} (R : Data → X → Type 0) (front : List Data) (d : Data) (elements : List X) : Type 0 where
+record IsReadAt {X : Type 0} (R : Data → X → Type 0) (front : List Data) (d : Data)
+    (elements : List X) : Type 0 where
   xs : List X
   x : X
   ys : List X
@@ -36,34 +38,65 @@ record IsReadAt {X : Type 0} (R : Data → X → Type 0) (front : List Data) (d 
   before : AllZip R front xs
   at : R d x
 
-read_at : {X : Type 0} (R : Data → X → Type 0) (front : List Data) (d : Data) (rest : List Data) (elements : List X) → AllZip R (front ++ d ∷ rest) elements → IsReadAt R front d elements
+read_at : {X : Type 0} (R : Data → X → Type 0) (front : List Data) (d : Data) (rest : List Data)
+    (elements : List X) → AllZip R (front ++ d ∷ rest) elements → IsReadAt R front d elements
 read_at R [] d rest [] h = absurd h
-read_at R [] d rest (y ∷ ys) h = record { xs = []; x = y; ys = ys; split = refl; before = tt; at = h.0 }
+read_at R [] d rest (y ∷ ys) h =
+    record { xs = []; x = y; ys = ys; split = refl; before = tt; at = h.0 }
 read_at R (c ∷ front) d rest [] h = absurd h
 read_at R (c ∷ front) d rest (y ∷ ys) h =
     let later = read_at R front d rest ys h.1 in
-    record { xs = y ∷ later.xs; x = later.x; ys = later.ys; split = ap (λ zs. y ∷ zs) later.split; before = (h.0, later.before); at = later.at }
+    record {
+      xs = y ∷ later.xs;
+      x = later.x;
+      ys = later.ys;
+      split = ap (λ zs. y ∷ zs) later.split;
+      before = (h.0, later.before);
+      at = later.at;
+    }
 
 module _ {K : Type 0} (order : KeyOrder K) (lawful : IsLawful order) where
-  equal_positions_compare_alike : (p q r s : Position K) → position_cmp order.cmp p q ≡ Equal → position_cmp order.cmp r s ≡ Equal → position_cmp order.cmp p r ≡ position_cmp order.cmp q s
+  equal_positions_compare_alike : (p q r s : Position K) → position_cmp order.cmp p q ≡ Equal
+      → position_cmp order.cmp r s ≡ Equal → position_cmp order.cmp p r ≡ position_cmp order.cmp q s
   equal_positions_compare_alike p q r s e f =
       let total = position_total order.cmp lawful.total in
       total.congr p q r e ∙ alike_right total r s q f
 
-  starts_same : (r s : AnyRange K) → range_cmp order r s ≡ Equal → position_cmp order.cmp (start_position order r.start) (start_position order s.start) ≡ Equal
-  starts_same r s e = (both_equal (position_cmp order.cmp (start_position order r.start) (start_position order s.start)) (position_cmp order.cmp (end_position order r.end) (end_position order s.end)) e).0
+  starts_same : (r s : AnyRange K) → range_cmp order r s ≡ Equal
+      → position_cmp order.cmp (start_position order r.start) (start_position order s.start) ≡ Equal
+  starts_same r s e =
+      (both_equal (position_cmp order.cmp (start_position order r.start)
+      (start_position order s.start))
+      (position_cmp order.cmp (end_position order r.end) (end_position order s.end)) e).0
 
-  ends_same : (r s : AnyRange K) → range_cmp order r s ≡ Equal → position_cmp order.cmp (end_position order r.end) (end_position order s.end) ≡ Equal
-  ends_same r s e = (both_equal (position_cmp order.cmp (start_position order r.start) (start_position order s.start)) (position_cmp order.cmp (end_position order r.end) (end_position order s.end)) e).1
+  ends_same : (r s : AnyRange K) → range_cmp order r s ≡ Equal
+      → position_cmp order.cmp (end_position order r.end) (end_position order s.end) ≡ Equal
+  ends_same r s e =
+      (both_equal (position_cmp order.cmp (start_position order r.start)
+      (start_position order s.start))
+      (position_cmp order.cmp (end_position order r.end) (end_position order s.end)) e).1
 
   -- equal ranges meet equal ranges
-  meet_too : (r s q t : AnyRange K) → range_cmp order r q ≡ Equal → range_cmp order s t ≡ Equal → MeetNonempty order r s → MeetNonempty order q t
+  meet_too : (r s q t : AnyRange K) → range_cmp order r q ≡ Equal → range_cmp order s t ≡ Equal
+      → MeetNonempty order r s → MeetNonempty order q t
   meet_too r s q t e f h = (
-    λ empty. h.0 (equal_positions_compare_alike (start_position order r.start) (start_position order q.start) (end_position order r.end) (end_position order q.end) (starts_same r q e) (ends_same r q e) ∙ empty),
-    λ empty. h.1 (equal_positions_compare_alike (start_position order s.start) (start_position order t.start) (end_position order s.end) (end_position order t.end) (starts_same s t f) (ends_same s t f) ∙ empty),
+    λ empty.
+        h.0 (equal_positions_compare_alike (start_position order r.start)
+        (start_position order q.start) (end_position order r.end) (end_position order q.end)
+        (starts_same r q e) (ends_same r q e) ∙ empty),
+    λ empty.
+        h.1 (equal_positions_compare_alike (start_position order s.start)
+        (start_position order t.start) (end_position order s.end) (end_position order t.end)
+        (starts_same s t f) (ends_same s t f) ∙ empty),
     (
-      λ before. h.2.0 (equal_positions_compare_alike (end_position order r.end) (end_position order q.end) (start_position order s.start) (start_position order t.start) (ends_same r q e) (starts_same s t f) ∙ before),
-      λ before. h.2.1 (equal_positions_compare_alike (end_position order s.end) (end_position order t.end) (start_position order r.start) (start_position order q.start) (ends_same s t f) (starts_same r q e) ∙ before),
+      λ before.
+          h.2.0 (equal_positions_compare_alike (end_position order r.end) (end_position order q.end)
+          (start_position order s.start) (start_position order t.start) (ends_same r q e)
+          (starts_same s t f) ∙ before),
+      λ before.
+          h.2.1 (equal_positions_compare_alike (end_position order s.end) (end_position order t.end)
+          (start_position order r.start) (start_position order q.start) (ends_same s t f)
+          (starts_same r q e) ∙ before),
     ),
   )
 
@@ -71,7 +104,8 @@ module _ {K : Type 0} (order : KeyOrder K) (lawful : IsLawful order) where
     abbrev Alike : K → K → Type 0
     Alike x y = order.cmp x y ≡ Equal
 
-    parts_one : (p : Option (Bound Data)) (b c : Bound K) → ArePartsRead is_read p b → ArePartsRead is_read p c → IsBoundClone Alike b c
+    parts_one : (p : Option (Bound Data)) (b c : Bound K) → ArePartsRead is_read p b
+        → ArePartsRead is_read p c → IsBoundClone Alike b c
     parts_one None b c h g = absurd h
     parts_one (Some (Included d)) (Included k) (Included l) h g = one d k l h g
     parts_one (Some (Included d)) (Included k) (Excluded l) h g = absurd g
@@ -89,21 +123,28 @@ module _ {K : Type 0} (order : KeyOrder K) (lawful : IsLawful order) where
     parts_one (Some Unbounded) Unbounded (Excluded l) h g = absurd g
     parts_one (Some Unbounded) Unbounded Unbounded h g = tt
 
-    range_one : (d : Data) (r s : AnyRange K) → IsRangeRead is_read d r → IsRangeRead is_read d s → range_cmp order r s ≡ Equal
+    range_one : (d : Data) (r s : AnyRange K) → IsRangeRead is_read d r → IsRangeRead is_read d s
+        → range_cmp order r s ≡ Equal
     range_one d r s (ds, e, starts, ends) (es, f, other_starts, other_ends) =
         let same : es ≡ ds = same_Some es ds (sym f ∙ e) in
         range_clone order lawful Alike (λ a b h. h) r s (
-          parts_one (bound_of ds.0) r.start s.start starts (subst (λ p. ArePartsRead is_read (bound_of p.0) s.start) same other_starts),
-          parts_one (bound_of ds.1) r.end s.end ends (subst (λ p. ArePartsRead is_read (bound_of p.1) s.end) same other_ends),
+          parts_one (bound_of ds.0) r.start s.start starts
+              (subst (λ p. ArePartsRead is_read (bound_of p.0) s.start) same other_starts),
+          parts_one (bound_of ds.1) r.end s.end ends
+              (subst (λ p. ArePartsRead is_read (bound_of p.1) s.end) same other_ends),
         )
 
     module _ {V : Type 0} (value_is_read : Data → V → Type 0) where
-      element_one : (d : Data) (x y : Item (AnyRange K) V) → IsElementRead is_read value_is_read d x → IsElementRead is_read value_is_read d y → range_cmp order x.key y.key ≡ Equal
+      element_one : (d : Data) (x y : Item (AnyRange K) V) → IsElementRead is_read value_is_read d x
+          → IsElementRead is_read value_is_read d y → range_cmp order x.key y.key ≡ Equal
       element_one d x y (ds, e, range, value) (es, f, other, other_value) =
           let same : es ≡ ds = same_Some es ds (sym f ∙ e) in
           range_one ds.0 x.key y.key range (subst (λ p. IsRangeRead is_read p.0 y.key) same other)
 
-      one_too : (front : List Data) (xs ys : List (Item (AnyRange K) V)) (r s : AnyRange K) → AllZip (IsElementRead is_read value_is_read) front xs → AllZip (IsElementRead is_read value_is_read) front ys → range_cmp order r s ≡ Equal → MeetsOne order r xs → MeetsOne order s ys
+      one_too : (front : List Data) (xs ys : List (Item (AnyRange K) V)) (r s : AnyRange K)
+          → AllZip (IsElementRead is_read value_is_read) front xs
+          → AllZip (IsElementRead is_read value_is_read) front ys → range_cmp order r s ≡ Equal
+          → MeetsOne order r xs → MeetsOne order s ys
       one_too [] [] ys r s h g e meets = absurd meets
       one_too [] (x ∷ xs) ys r s h g e meets = absurd h
       one_too (d ∷ front) [] ys r s h g e meets = absurd h
@@ -113,27 +154,45 @@ module _ {K : Type 0} (order : KeyOrder K) (lawful : IsLawful order) where
         | inr later ↦ inr (one_too front xs ys r s h.1 g.1 e later)
       ]
 
-      apart_at : (xs ys : List (Item (AnyRange K) V)) (y : Item (AnyRange K) V) → AreApart order (xs ++ y ∷ ys) → ¬ MeetsOne order y.key xs
+      apart_at : (xs ys : List (Item (AnyRange K) V)) (y : Item (AnyRange K) V)
+          → AreApart order (xs ++ y ∷ ys) → ¬ MeetsOne order y.key xs
       apart_at [] ys y h meets = absurd meets
       apart_at (x ∷ xs) ys y h meets = elim meets [
-        | inl here ↦ h.0 (any_right (λ i. MeetNonempty order i.key x.key) xs (y ∷ ys) (inl (here.1, here.0, (here.2.1, here.2.0))))
+        | inl here ↦
+            h.0 (any_right (λ i. MeetNonempty order i.key x.key) xs (y ∷ ys)
+            (inl (here.1, here.0, (here.2.1, here.2.0))))
         | inr later ↦ apart_at xs ys y h.1 later
       ]
 
       module _ (key_reads value_reads : Data → Bool) where
         -- elements that are read have no first fault
-        no_first : (ds : List Data) (elements : List (Item (AnyRange K) V)) (f : JsonError) → AreRead order key_reads value_reads is_read value_is_read ds elements → IsFirstFault order key_reads value_reads is_read value_is_read ds f → ⊥
+        no_first : (ds : List Data) (elements : List (Item (AnyRange K) V)) (f : JsonError)
+            → AreRead order key_reads value_reads is_read value_is_read ds elements
+            → IsFirstFault order key_reads value_reads is_read value_is_read ds f → ⊥
         no_first ds elements f read first =
             let fault = element_fault key_reads value_reads in
-            let sound : first_fault fault 0 (first.front ++ first.d ∷ first.rest) ≡ None = subst (λ es. first_fault fault 0 es ≡ None) first.split read.sound in
-            let place = read_at (IsElementRead is_read value_is_read) first.front first.d first.rest elements (subst (λ es. AllZip (IsElementRead is_read value_is_read) es elements) first.split read.read) in
+            let sound : first_fault fault 0 (first.front ++ first.d ∷ first.rest) ≡ None =
+            subst (λ es. first_fault fault 0 es ≡ None) first.split read.sound in
+            let place =
+            read_at (IsElementRead is_read value_is_read) first.front first.d first.rest
+            elements (subst (λ es. AllZip (IsElementRead is_read value_is_read) es elements)
+            first.split read.read) in
             elim first.fault [
-              | inl own ↦ none-some f (sym sound ∙ fault_first fault first.front first.d first.rest f first.fine.sound own)
+              | inl own ↦
+                  none-some f (sym sound
+                  ∙ fault_first fault first.front first.d first.rest f first.fine.sound own)
               | inr met ↦
                   let x = met.0.1.0 in
-                  apart_at place.xs place.ys place.x (subst (AreApart order) place.split read.apart) (one_too first.front first.earlier place.xs x.key place.x.key first.fine.read place.before (element_one first.d x place.x met.0.1.1 place.at) met.0.1.3)
+                  apart_at place.xs place.ys place.x (subst (AreApart order) place.split read.apart)
+                  (one_too first.front first.earlier place.xs x.key place.x.key first.fine.read
+                  place.before (element_one first.d x place.x met.0.1.1 place.at) met.0.1.3)
             ]
 
-        pub no_fault : (same : V → V → Bool) (d : Data) (items : List (Item (AnyRange K) V)) (f : JsonError) → IsMapRead order key_reads value_reads is_read value_is_read same d items → IsMapFault order key_reads value_reads is_read value_is_read d f → ⊥
+        pub no_fault : (same : V → V → Bool) (d : Data) (items : List (Item (AnyRange K) V))
+            (f : JsonError)
+            → IsMapRead order key_reads value_reads is_read value_is_read same d items
+            → IsMapFault order key_reads value_reads is_read value_is_read d f → ⊥
         no_fault same d items f read fault =
-            no_first read.ds read.elements f read.read (subst (λ w. IsFaultOf order key_reads value_reads is_read value_is_read w f) read.whole fault)
+            no_first read.ds read.elements f read.read
+            (subst (λ w. IsFaultOf order key_reads value_reads is_read value_is_read w f)
+            read.whole fault)

@@ -29,7 +29,8 @@ module _ {K : Type 0} (order : KeyOrder K) where
 
 module _ {K V : Type 0} (order : KeyOrder K) where
   -- an element's range met no stored one, and its keys were bound
-  pub record IsPut (same : V → V → Bool) (before after : List (Item (AnyRange K) V)) (x : Item (AnyRange K) V) : Type 0 where
+  pub record IsPut (same : V → V → Bool) (before after : List (Item (AnyRange K) V))
+      (x : Item (AnyRange K) V) : Type 0 where
     pub known : IsKnownRange order x.key
     pub apart : ¬ ((¬ IsEmptyRange order x.key) × MeetsSome order before x.key)
     pub bound : IsBoundAfter order same before after x.key x.value
@@ -38,8 +39,12 @@ module _ {K V : Type 0} (order : KeyOrder K) where
     pub unchanged : IsEmptyRange order x.key → after ≡ before
 
 module _ {K V : Type 0} (order : KeyOrder K) where
-  one_of : (s : AnyRange K) (xs : List (Item (AnyRange K) V)) (x : Item (AnyRange K) V) → MeetsOne order s (xs ++ x ∷ []) ↔ (MeetsOne order s xs ⊎ MeetNonempty order x.key s)
-  one_of s [] x = (λ h. elim h [ inl here ↦ inr here | inr none ↦ absurd none ], λ h. elim h [ inl none ↦ absurd none | inr here ↦ inl here ])
+  one_of : (s : AnyRange K) (xs : List (Item (AnyRange K) V)) (x : Item (AnyRange K) V)
+      → MeetsOne order s (xs ++ x ∷ []) ↔ (MeetsOne order s xs ⊎ MeetNonempty order x.key s)
+  one_of s [] x = (
+    λ h. elim h [ inl here ↦ inr here | inr none ↦ absurd none ],
+    λ h. elim h [ inl none ↦ absurd none | inr here ↦ inl here ],
+  )
   one_of s (y ∷ xs) x = (
     λ h. elim h [
       | inl here ↦ inl (inl here)
@@ -52,7 +57,8 @@ module _ {K V : Type 0} (order : KeyOrder K) where
   )
 
   -- one more that meets none of those before
-  apart_more : (xs : List (Item (AnyRange K) V)) (x : Item (AnyRange K) V) → AreApart order xs → ¬ MeetsOne order x.key xs → AreApart order (xs ++ x ∷ [])
+  apart_more : (xs : List (Item (AnyRange K) V)) (x : Item (AnyRange K) V) → AreApart order xs
+      → ¬ MeetsOne order x.key xs → AreApart order (xs ++ x ∷ [])
   apart_more [] x h none = (λ k. k, tt)
   apart_more (y ∷ xs) x h none = (
     λ one. elim ((one_of y.key xs x).0 one) [
@@ -62,65 +68,96 @@ module _ {K V : Type 0} (order : KeyOrder K) where
     apart_more xs x h.1 (λ later. none (inr later)),
   )
 
-  is_bound_more : (xs : List (Item (AnyRange K) V)) (x : Item (AnyRange K) V) (k : K) → IsBound order (xs ++ x ∷ []) k ↔ (IsBound order xs k ⊎ Holds order x.key k)
-  is_bound_more [] x k = (λ h. elim h [ inl here ↦ inr here | inr none ↦ absurd none ], λ h. elim h [ inl none ↦ absurd none | inr here ↦ inl here ])
+  is_bound_more : (xs : List (Item (AnyRange K) V)) (x : Item (AnyRange K) V) (k : K)
+      → IsBound order (xs ++ x ∷ []) k ↔ (IsBound order xs k ⊎ Holds order x.key k)
+  is_bound_more [] x k = (
+    λ h. elim h [ inl here ↦ inr here | inr none ↦ absurd none ],
+    λ h. elim h [ inl none ↦ absurd none | inr here ↦ inl here ],
+  )
   is_bound_more (y ∷ xs) x k = (
     λ h. elim h [
       | inl here ↦ inl (inl here)
-      | inr later ↦ elim ((is_bound_more xs x k).0 later) [ inl one ↦ inl (inr one) | inr last ↦ inr last ]
+      | inr later ↦
+          elim ((is_bound_more xs x k).0 later) [ inl one ↦ inl (inr one) | inr last ↦ inr last ]
     ],
     λ h. elim h [
-      | inl one ↦ elim one [ inl here ↦ inl here | inr later ↦ inr ((is_bound_more xs x k).1 (inl later)) ]
+      | inl one ↦
+          elim one [
+            | inl here ↦ inl here
+            | inr later ↦ inr ((is_bound_more xs x k).1 (inl later))
+          ]
       | inr last ↦ inr ((is_bound_more xs x k).1 (inr last))
     ],
   )
 
   module _ (same : V → V → Bool) where
-    binds_more : (xs : List (Item (AnyRange K) V)) (x : Item (AnyRange K) V) (k : K) (v : V) → BindsTo order same (xs ++ x ∷ []) k v ↔ (BindsTo order same xs k v ⊎ (Holds order x.key k × IsTrue (same x.value v)))
-    binds_more [] x k v = (λ h. elim h [ inl here ↦ inr here | inr none ↦ absurd none ], λ h. elim h [ inl none ↦ absurd none | inr here ↦ inl here ])
+    binds_more : (xs : List (Item (AnyRange K) V)) (x : Item (AnyRange K) V) (k : K) (v : V)
+        → BindsTo order same (xs ++ x ∷ []) k v
+        ↔ (BindsTo order same xs k v ⊎ (Holds order x.key k × IsTrue (same x.value v)))
+    binds_more [] x k v = (
+      λ h. elim h [ inl here ↦ inr here | inr none ↦ absurd none ],
+      λ h. elim h [ inl none ↦ absurd none | inr here ↦ inl here ],
+    )
     binds_more (y ∷ xs) x k v = (
       λ h. elim h [
         | inl here ↦ inl (inl here)
-        | inr later ↦ elim ((binds_more xs x k v).0 later) [ inl one ↦ inl (inr one) | inr last ↦ inr last ]
+        | inr later ↦
+            elim ((binds_more xs x k v).0 later) [ inl one ↦ inl (inr one) | inr last ↦ inr last ]
       ],
       λ h. elim h [
-        | inl one ↦ elim one [ inl here ↦ inl here | inr later ↦ inr ((binds_more xs x k v).1 (inl later)) ]
+        | inl one ↦
+            elim one [
+              | inl here ↦ inl here
+              | inr later ↦ inr ((binds_more xs x k v).1 (inl later))
+            ]
         | inr last ↦ inr ((binds_more xs x k v).1 (inr last))
       ],
     )
 
     module _ (lawful : IsLawful order) where
-      module _ (old new earlier : List (Item (AnyRange K) V)) (x : Item (AnyRange K) V) (alike : BindAlike order same old earlier) (put : IsPut order same old new x) (k : K) (key : order.is_key k) where
+      module _ (old new earlier : List (Item (AnyRange K) V)) (x : Item (AnyRange K) V)
+          (alike : BindAlike order same old earlier) (put : IsPut order same old new x) (k : K)
+          (key : order.is_key k) where
         free : Holds order x.key k → ¬ IsBound order old k
         free held bound = put.apart (binding_meets order lawful old x.key (k, key, held, bound))
 
-        held_alike : Holds order x.key k → (b : Option V) → Binds order same new k b ↔ Binds order same (earlier ++ x ∷ []) k b
-        held_alike held None = (λ h. absurd ((put.bound.held k key held None).0 h), λ h. absurd (h ((is_bound_more earlier x k).1 (inr held))))
+        held_alike : Holds order x.key k → (b : Option V) → Binds order same new k b
+            ↔ Binds order same (earlier ++ x ∷ []) k b
+        held_alike held None = (
+          λ h. absurd ((put.bound.held k key held None).0 h),
+          λ h. absurd (h ((is_bound_more earlier x k).1 (inr held))),
+        )
         held_alike held (Some v) = (
           λ h. (binds_more earlier x k v).1 (inr (held, (put.bound.held k key held (Some v)).0 h)),
           λ h. elim ((binds_more earlier x k v).0 h) [
-            | inl one ↦ absurd (free held (binds_bound order same old k v ((alike k key (Some v)).1 one)))
+            | inl one ↦
+                absurd (free held (binds_bound order same old k v ((alike k key (Some v)).1 one)))
             | inr last ↦ (put.bound.held k key held (Some v)).1 last.1
           ],
         )
 
-        other_alike : (¬ Holds order x.key k) → (b : Option V) → Binds order same new k b ↔ Binds order same (earlier ++ x ∷ []) k b
+        other_alike : (¬ Holds order x.key k) → (b : Option V) → Binds order same new k b
+            ↔ Binds order same (earlier ++ x ∷ []) k b
         other_alike out None = (
           λ h bound. elim ((is_bound_more earlier x k).0 bound) [
             | inl one ↦ ((alike k key None).0 ((put.bound.others k key out None).0 h)) one
             | inr held ↦ out held
           ],
-          λ h. (put.bound.others k key out None).1 ((alike k key None).1 (λ one. h ((is_bound_more earlier x k).1 (inl one)))),
+          λ h. (put.bound.others k key out None).1
+              ((alike k key None).1 (λ one. h ((is_bound_more earlier x k).1 (inl one)))),
         )
         other_alike out (Some v) = (
-          λ h. (binds_more earlier x k v).1 (inl ((alike k key (Some v)).0 ((put.bound.others k key out (Some v)).0 h))),
+          λ h. (binds_more earlier x k v).1
+              (inl ((alike k key (Some v)).0 ((put.bound.others k key out (Some v)).0 h))),
           λ h. elim ((binds_more earlier x k v).0 h) [
             | inl one ↦ (put.bound.others k key out (Some v)).1 ((alike k key (Some v)).1 one)
             | inr last ↦ absurd (out last.0)
           ],
         )
 
-      alike_more : (old new earlier : List (Item (AnyRange K) V)) (x : Item (AnyRange K) V) → BindAlike order same old earlier → IsPut order same old new x → BindAlike order same new (earlier ++ x ∷ [])
+      alike_more : (old new earlier : List (Item (AnyRange K) V)) (x : Item (AnyRange K) V)
+          → BindAlike order same old earlier → IsPut order same old new x
+          → BindAlike order same new (earlier ++ x ∷ [])
       alike_more old new earlier x alike put k key b = elim (held_or_not order lawful x.key k) [
         | inl held ↦ held_alike old new earlier x alike put k key held b
         | inr out ↦ other_alike old new earlier x alike put k key out b
@@ -128,14 +165,21 @@ module _ {K V : Type 0} (order : KeyOrder K) where
 
   -- what is stored meets a nonempty range exactly where an earlier one does
   abbrev MeetAlike : List (Item (AnyRange K) V) → List (Item (AnyRange K) V) → Type 0
-  MeetAlike items earlier = (s : AnyRange K) → IsKnownRange order s → (¬ IsEmptyRange order s) → MeetsSome order items s ↔ MeetsOne order s earlier
+  MeetAlike items earlier = (s : AnyRange K) → IsKnownRange order s → (¬ IsEmptyRange order s)
+      → MeetsSome order items s ↔ MeetsOne order s earlier
 
-  meet_more : (same : V → V → Bool) (old new earlier : List (Item (AnyRange K) V)) (x : Item (AnyRange K) V) → MeetAlike old earlier → IsPut order same old new x → MeetAlike new (earlier ++ x ∷ [])
+  meet_more : (same : V → V → Bool) (old new earlier : List (Item (AnyRange K) V))
+      (x : Item (AnyRange K) V) → MeetAlike old earlier → IsPut order same old new x
+      → MeetAlike new (earlier ++ x ∷ [])
   meet_more same old new earlier x alike put s known full = elim (empty_or_not order x.key) [
     | inl empty ↦ (
-      λ h. (one_of s earlier x).1 (inl ((alike s known full).0 (subst (λ is. MeetsSome order is s) (put.unchanged empty) h))),
+      λ h. (one_of s earlier x).1
+          (inl ((alike s known full).0
+          (subst (λ is. MeetsSome order is s) (put.unchanged empty) h))),
       λ h. elim ((one_of s earlier x).0 h) [
-        | inl one ↦ subst (λ is. MeetsSome order is s) (sym (put.unchanged empty)) ((alike s known full).1 one)
+        | inl one ↦
+            subst (λ is. MeetsSome order is s) (sym (put.unchanged empty))
+            ((alike s known full).1 one)
         | inr last ↦ absurd (last.0 empty)
       ],
     )
@@ -152,11 +196,13 @@ module _ {K V : Type 0} (order : KeyOrder K) where
   ]
 
   -- a range that meets one is nonempty
-  one_full : (s : AnyRange K) (xs : List (Item (AnyRange K) V)) → MeetsOne order s xs → ¬ IsEmptyRange order s
+  one_full : (s : AnyRange K) (xs : List (Item (AnyRange K) V)) → MeetsOne order s xs
+      → ¬ IsEmptyRange order s
   one_full s [] h = absurd h
   one_full s (y ∷ xs) h = elim h [ inl here ↦ here.1 | inr later ↦ one_full s xs later ]
 
-  module _ (key_reads value_reads : Data → Bool) (key_is_read : Data → K → Type 0) (value_is_read : Data → V → Type 0) (same : V → V → Bool) where
+  module _ (key_reads value_reads : Data → Bool) (key_is_read : Data → K → Type 0)
+      (value_is_read : Data → V → Type 0) (same : V → V → Bool) where
     -- the values have no fault, and the list binds what they bind and meets what they meet
     pub record IsMapSoFar (vs : List Value) (items : List (Item (AnyRange K) V)) : Type 0 where
       pub earlier : List (Item (AnyRange K) V)
@@ -166,19 +212,27 @@ module _ {K V : Type 0} (order : KeyOrder K) where
       pub form : IsStored order same items
       pub kept : IsStored order same earlier → items ≡ earlier
 
-    pub map_begun : (items : List (Item (AnyRange K) V)) → items ≡ [] → IsStored order same items → IsMapSoFar [] items
+    pub map_begun : (items : List (Item (AnyRange K) V)) → items ≡ [] → IsStored order same items
+        → IsMapSoFar [] items
     map_begun items e form =
         record {
           earlier = [];
           read = record { sound = refl; read = tt; known = tt; apart = tt };
-          bound = λ k key b. (λ h. subst (λ is. Binds order same is k b) e h, λ h. subst (λ is. Binds order same is k b) (sym e) h);
+          bound =
+              λ k key b. (
+                λ h. subst (λ is. Binds order same is k b) e h,
+                λ h. subst (λ is. Binds order same is k b) (sym e) h,
+              );
           meets = λ s known full. (λ h. subst (λ is. MeetsSome order is s) e h, λ h. absurd h);
           form = form;
           kept = λ _. e;
         }
 
-    pub map_more : (lawful : IsLawful order) (equal : IsEquivalence same) (vs : List Value) (v : Value) (old new : List (Item (AnyRange K) V)) (x : Item (AnyRange K) V)
-        → IsMapSoFar vs old → element_fault key_reads value_reads (length vs) (view v) ≡ None → IsElementRead key_is_read value_is_read (view v) x → IsPut order same old new x → IsStored order same new → IsMapSoFar (vs ++ v ∷ []) new
+    pub map_more : (lawful : IsLawful order) (equal : IsEquivalence same) (vs : List Value)
+        (v : Value) (old new : List (Item (AnyRange K) V)) (x : Item (AnyRange K) V)
+        → IsMapSoFar vs old → element_fault key_reads value_reads (length vs) (view v) ≡ None
+        → IsElementRead key_is_read value_is_read (view v) x → IsPut order same old new x
+        → IsStored order same new → IsMapSoFar (vs ++ v ∷ []) new
     map_more lawful equal vs v old new x so_far fine is_read put form =
         let fault = element_fault key_reads value_reads in
         let alone : ¬ MeetsOne order x.key so_far.earlier = λ one.
@@ -186,25 +240,39 @@ module _ {K V : Type 0} (order : KeyOrder K) where
         put.apart (full, (so_far.meets x.key put.known full).1 one) in record {
           earlier = so_far.earlier ++ x ∷ [];
           read = record {
-            sound = rw (map-append view vs (v ∷ [])) (no_fault_more fault (map view vs) (view v) so_far.read.sound (rw (same_length vs) fine));
-            read = rw (map-append view vs (v ∷ [])) (read_more (IsElementRead key_is_read value_is_read) (map view vs) so_far.earlier (view v) x so_far.read.read is_read);
-            known = all_more (λ i. IsKnownRange order i.key) so_far.earlier x so_far.read.known put.known;
+            sound =
+                rw (map-append view vs (v ∷ []))
+                (no_fault_more fault (map view vs) (view v) so_far.read.sound
+                (rw (same_length vs) fine));
+            read =
+                rw (map-append view vs (v ∷ []))
+                (read_more (IsElementRead key_is_read value_is_read) (map view vs) so_far.earlier
+                (view v) x so_far.read.read is_read);
+            known =
+                all_more (λ i. IsKnownRange order i.key) so_far.earlier x so_far.read.known
+                put.known;
             apart = apart_more so_far.earlier x so_far.read.apart alone;
           };
           bound = alike_more same lawful old new so_far.earlier x so_far.bound put;
           meets = meet_more same old new so_far.earlier x so_far.meets put;
           form = form;
           kept = λ whole.
-              let was : old ≡ so_far.earlier = so_far.kept (stored_before order lawful same equal so_far.earlier x whole) in
-              let full = of_last (λ i. ¬ IsEmptyRange order i.key) so_far.earlier x whole.nonempty in
-              stands_last order lawful same equal so_far.earlier new x whole form (subst (λ is. GaveWayTo order same is new x.key x.value) was (put.frame full));
+              let was : old ≡ so_far.earlier =
+              so_far.kept (stored_before order lawful same equal so_far.earlier x whole) in
+              let full =
+              of_last (λ i. ¬ IsEmptyRange order i.key) so_far.earlier x whole.nonempty in
+              stands_last order lawful same equal so_far.earlier new x whole form
+              (subst (λ is. GaveWayTo order same is new x.key x.value) was (put.frame full));
         }
 
     abbrev FirstFault : List Data → JsonError → Type 0
     FirstFault = IsFirstFault order key_reads value_reads key_is_read value_is_read
 
     -- an element with a fault of its own
-    pub map_fails : (vs more : List Value) (v : Value) (e : JsonError) (items : List (Item (AnyRange K) V)) → IsMapSoFar vs items → element_fault key_reads value_reads (length vs) (view v) ≡ Some e → FirstFault (map view (vs ++ v ∷ more)) e
+    pub map_fails : (vs more : List Value) (v : Value) (e : JsonError)
+        (items : List (Item (AnyRange K) V)) → IsMapSoFar vs items
+        → element_fault key_reads value_reads (length vs) (view v) ≡ Some e
+        → FirstFault (map view (vs ++ v ∷ more)) e
     map_fails vs more v e items so_far at = record {
       front = map view vs;
       d = view v;
@@ -216,7 +284,12 @@ module _ {K V : Type 0} (order : KeyOrder K) where
     }
 
     -- an element that meets an earlier one
-    pub map_meets : (vs more : List Value) (v : Value) (items : List (Item (AnyRange K) V)) (x : Item (AnyRange K) V) → IsMapSoFar vs items → element_fault key_reads value_reads (length vs) (view v) ≡ None → IsElementRead key_is_read value_is_read (view v) x → IsKnownRange order x.key → (¬ IsEmptyRange order x.key) × MeetsSome order items x.key → FirstFault (map view (vs ++ v ∷ more)) (Meets (length vs))
+    pub map_meets : (vs more : List Value) (v : Value) (items : List (Item (AnyRange K) V))
+        (x : Item (AnyRange K) V) → IsMapSoFar vs items
+        → element_fault key_reads value_reads (length vs) (view v) ≡ None
+        → IsElementRead key_is_read value_is_read (view v) x → IsKnownRange order x.key
+        → (¬ IsEmptyRange order x.key) × MeetsSome order items x.key
+        → FirstFault (map view (vs ++ v ∷ more)) (Meets (length vs))
     map_meets vs more v items x so_far fine is_read known met = record {
       front = map view vs;
       d = view v;
@@ -224,10 +297,18 @@ module _ {K V : Type 0} (order : KeyOrder K) where
       earlier = so_far.earlier;
       split = map-append view vs (v ∷ more);
       fine = so_far.read;
-      fault = inr ((rw (same_length vs) fine, (x, is_read, known, (so_far.meets x.key known met.0).0 met.1)), ap Meets (sym (same_length vs)));
+      fault =
+          inr (
+            (
+              rw (same_length vs) fine,
+              (x, is_read, known, (so_far.meets x.key known met.0).0 met.1),
+            ),
+            ap Meets (sym (same_length vs)),
+          );
     }
 
 module _ {K V : Type 0} (order : KeyOrder K) (same : V → V → Bool) where
   -- the empty list has the form of a map
   pub none_stored : (items : List (Item (AnyRange K) V)) → items ≡ [] → IsStored order same items
-  none_stored items e = subst (IsStored order same) (sym e) (record { known = tt; nonempty = tt; rising = tt })
+  none_stored items e =
+      subst (IsStored order same) (sym e) (record { known = tt; nonempty = tt; rising = tt })

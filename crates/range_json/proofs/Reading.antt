@@ -26,7 +26,8 @@ abbrev Fault : Type 0
 Fault = Option JsonError
 
 module _ (fault : ℕ → Data → Fault) where
-  behind_at : (f : Fault) (rest tail : Fault) → before f rest ≡ None → (rest ≡ None → tail ≡ tail) → f ≡ None
+  behind_at : (f : Fault) (rest tail : Fault) → before f rest ≡ None → (rest ≡ None → tail ≡ tail)
+      → f ≡ None
   behind_at None rest tail e h = refl
   behind_at (Some x) rest tail e h = e
 
@@ -35,26 +36,36 @@ module _ (fault : ℕ → Data → Fault) where
   rest_none (Some x) rest e = search (rules, e)
 
   -- where the elements before have no fault, the first is one of those after
-  pub fault_behind : (i : ℕ) (ds more : List Data) → first_fault fault i ds ≡ None → first_fault fault i (ds ++ more) ≡ first_fault fault (i + length ds) more
+  pub fault_behind : (i : ℕ) (ds more : List Data) → first_fault fault i ds ≡ None
+      → first_fault fault i (ds ++ more) ≡ first_fault fault (i + length ds) more
   fault_behind i [] more h = ap (λ n. first_fault fault n more) (omega arith)
   fault_behind i (d ∷ ds) more h =
-      let here : fault i d ≡ None = behind_at (fault i d) (first_fault fault (suc i) ds) None h (λ _. refl) in
-      let later : first_fault fault (suc i) ds ≡ None = rest_none (fault i d) (first_fault fault (suc i) ds) h in
-      ap (λ f. before f (first_fault fault (suc i) (ds ++ more))) here ∙ fault_behind (suc i) ds more later ∙ ap (λ n. first_fault fault n more) (omega arith)
+      let here : fault i d ≡ None =
+      behind_at (fault i d) (first_fault fault (suc i) ds) None h (λ _. refl) in
+      let later : first_fault fault (suc i) ds ≡ None =
+      rest_none (fault i d) (first_fault fault (suc i) ds) h in
+      ap (λ f. before f (first_fault fault (suc i) (ds ++ more))) here
+      ∙ fault_behind (suc i) ds more later ∙ ap (λ n. first_fault fault n more) (omega arith)
 
-  from_start : (ds more : List Data) → first_fault fault 0 ds ≡ None → first_fault fault 0 (ds ++ more) ≡ first_fault fault (length ds) more
+  from_start : (ds more : List Data) → first_fault fault 0 ds ≡ None
+      → first_fault fault 0 (ds ++ more) ≡ first_fault fault (length ds) more
   from_start ds more h = fault_behind 0 ds more h ∙ ap (λ n. first_fault fault n more) (omega arith)
 
   -- a fault of an element after elements without one is the first
-  pub fault_first : (ds : List Data) (d : Data) (more : List Data) (e : JsonError) → first_fault fault 0 ds ≡ None → fault (length ds) d ≡ Some e → first_fault fault 0 (ds ++ d ∷ more) ≡ Some e
-  fault_first ds d more e h at = from_start ds (d ∷ more) h ∙ ap (λ f. before f (first_fault fault (suc (length ds)) more)) at
+  pub fault_first : (ds : List Data) (d : Data) (more : List Data) (e : JsonError)
+      → first_fault fault 0 ds ≡ None → fault (length ds) d ≡ Some e
+      → first_fault fault 0 (ds ++ d ∷ more) ≡ Some e
+  fault_first ds d more e h at =
+      from_start ds (d ∷ more) h ∙ ap (λ f. before f (first_fault fault (suc (length ds)) more)) at
 
   -- an element without fault after such elements
-  pub no_fault_more : (ds : List Data) (d : Data) → first_fault fault 0 ds ≡ None → fault (length ds) d ≡ None → first_fault fault 0 (ds ++ d ∷ []) ≡ None
+  pub no_fault_more : (ds : List Data) (d : Data) → first_fault fault 0 ds ≡ None
+      → fault (length ds) d ≡ None → first_fault fault 0 (ds ++ d ∷ []) ≡ None
   no_fault_more ds d h at = from_start ds (d ∷ []) h ∙ ap (λ f. before f None) at
 
 -- one more is read after those that are
-pub read_more : {X : Type 0} (R : Data → X → Type 0) (ds : List Data) (xs : List X) (d : Data) (x : X) → AllZip R ds xs → R d x → AllZip R (ds ++ d ∷ []) (xs ++ x ∷ [])
+pub read_more : {X : Type 0} (R : Data → X → Type 0) (ds : List Data) (xs : List X) (d : Data)
+    (x : X) → AllZip R ds xs → R d x → AllZip R (ds ++ d ∷ []) (xs ++ x ∷ [])
 read_more R [] [] d x h k = (k, tt)
 read_more R [] (y ∷ xs) d x h k = absurd h
 read_more R (e ∷ ds) [] d x h k = absurd h
@@ -67,9 +78,11 @@ same_length (v ∷ vs) = ap suc (same_length vs)
 abbrev item_of : {K : Type 0} → AnyRange K → Item (AnyRange K) (Unit {0})
 item_of r = record { key = r; value = tt }
 
-module _ {K : Type 0} (key_reads : Data → Bool) (key_is_read : Data → K → Type 0) (order : KeyOrder K) where
+module _ {K : Type 0} (key_reads : Data → Bool) (key_is_read : Data → K → Type 0)
+    (order : KeyOrder K) where
   -- the values have no fault, and the list holds just the keys of what they are read as
-  pub record IsSetSoFar (vs : List Value) (items : List (Item (AnyRange K) (Unit {0}))) : Type 0 where
+  pub record IsSetSoFar (vs : List Value)
+      (items : List (Item (AnyRange K) (Unit {0}))) : Type 0 where
     pub sound : first_fault (range_fault key_reads) 0 (map view vs) ≡ None
     pub ranges : List (AnyRange K)
     pub read : AllZip (IsRangeRead key_is_read) (map view vs) ranges
@@ -78,34 +91,69 @@ module _ {K : Type 0} (key_reads : Data → Bool) (key_is_read : Data → K → 
     pub form : IsStoredSet order items
     pub kept : IsStoredSet order (range_items ranges) → items ≡ range_items ranges
 
-  pub set_more : (lawful : IsLawful order) (vs : List Value) (v : Value) (before_it after_it : List (Item (AnyRange K) (Unit {0}))) (r : AnyRange K)
-      → IsSetSoFar vs before_it → range_fault key_reads (length vs) (view v) ≡ None → IsRangeRead key_is_read (view v) r → IsKnownRange order r → HoldsAlso order before_it after_it r → IsStoredSet order after_it → ((¬ IsEmptyRange order r) → GaveWayTo order (λ _ _. true) before_it after_it r tt) → IsSetSoFar (vs ++ v ∷ []) after_it
+  pub set_more : (lawful : IsLawful order) (vs : List Value) (v : Value)
+      (before_it after_it : List (Item (AnyRange K) (Unit {0}))) (r : AnyRange K)
+      → IsSetSoFar vs before_it → range_fault key_reads (length vs) (view v) ≡ None
+      → IsRangeRead key_is_read (view v) r → IsKnownRange order r
+      → HoldsAlso order before_it after_it r → IsStoredSet order after_it
+      → ((¬ IsEmptyRange order r) → GaveWayTo order (λ _ _. true) before_it after_it r tt)
+      → IsSetSoFar (vs ++ v ∷ []) after_it
   set_more lawful vs v old new r h fine is_read known added form frame =
-      let more : range_items (h.ranges ++ r ∷ []) ≡ range_items h.ranges ++ item_of r ∷ [] = map-append item_of h.ranges (r ∷ []) in record {
-        sound = rw (map-append view vs (v ∷ [])) (no_fault_more (range_fault key_reads) (map view vs) (view v) h.sound (rw (same_length vs) fine));
+      let more : range_items (h.ranges ++ r ∷ []) ≡ range_items h.ranges ++ item_of r ∷ [] =
+      map-append item_of h.ranges (r ∷ []) in record {
+        sound =
+            rw (map-append view vs (v ∷ []))
+            (no_fault_more (range_fault key_reads) (map view vs) (view v) h.sound
+            (rw (same_length vs) fine));
         ranges = h.ranges ++ r ∷ [];
-        read = rw (map-append view vs (v ∷ [])) (read_more (IsRangeRead key_is_read) (map view vs) h.ranges (view v) r h.read is_read);
+        read =
+            rw (map-append view vs (v ∷ []))
+            (read_more (IsRangeRead key_is_read) (map view vs) h.ranges (view v) r h.read is_read);
         known = all_more (λ s. IsKnownRange order s) h.ranges r h.known known;
         held = one_more order [] old new h.ranges r h.held added;
         form = form;
         kept = λ whole.
-            let last : IsStoredSet order (range_items h.ranges ++ item_of r ∷ []) = subst (IsStoredSet order) more whole in
-            let was : old ≡ range_items h.ranges = h.kept (stored_before order lawful (λ _ _. true) all_equal (range_items h.ranges) (item_of r) last) in
-            let full = of_last (λ i. ¬ IsEmptyRange order i.key) (range_items h.ranges) (item_of r) last.nonempty in
-            stands_last order lawful (λ _ _. true) all_equal (range_items h.ranges) new (item_of r) last form (subst (λ is. GaveWayTo order (λ _ _. true) is new r tt) was (frame full)) ∙ sym more;
+            let last : IsStoredSet order (range_items h.ranges ++ item_of r ∷ []) =
+            subst (IsStoredSet order) more whole in
+            let was : old ≡ range_items h.ranges =
+            h.kept (stored_before order lawful (λ _ _. true) all_equal
+            (range_items h.ranges) (item_of r) last) in
+            let full =
+            of_last (λ i. ¬ IsEmptyRange order i.key) (range_items h.ranges)
+            (item_of r) last.nonempty in
+            stands_last order lawful (λ _ _. true) all_equal (range_items h.ranges) new
+            (item_of r) last form (subst (λ is. GaveWayTo order (λ _ _. true) is new r tt) was
+            (frame full)) ∙ sym more;
       }
 
-  pub set_fails : (vs more : List Value) (v : Value) (e : JsonError) (items : List (Item (AnyRange K) (Unit {0}))) → IsSetSoFar vs items → range_fault key_reads (length vs) (view v) ≡ Some e → first_fault (range_fault key_reads) 0 (map view (vs ++ v ∷ more)) ≡ Some e
-  set_fails vs more v e items h at = rw (map-append view vs (v ∷ more)) (fault_first (range_fault key_reads) (map view vs) (view v) (map view more) e h.sound (rw (same_length vs) at))
+  pub set_fails : (vs more : List Value) (v : Value) (e : JsonError)
+      (items : List (Item (AnyRange K) (Unit {0}))) → IsSetSoFar vs items
+      → range_fault key_reads (length vs) (view v) ≡ Some e
+      → first_fault (range_fault key_reads) 0 (map view (vs ++ v ∷ more)) ≡ Some e
+  set_fails vs more v e items h at =
+      rw (map-append view vs (v ∷ more))
+      (fault_first (range_fault key_reads) (map view vs) (view v) (map view more) e h.sound
+      (rw (same_length vs) at))
 
-  pub set_begun : (items : List (Item (AnyRange K) (Unit {0}))) → items ≡ [] → IsStoredSet order items → IsSetSoFar [] items
-  set_begun items e form = record { sound = refl; ranges = []; read = tt; known = tt; held = subst (λ is. HoldsAllAlso order [] is []) (sym e) (none_added order []); form = form; kept = λ _. e }
+  pub set_begun : (items : List (Item (AnyRange K) (Unit {0}))) → items ≡ []
+      → IsStoredSet order items → IsSetSoFar [] items
+  set_begun items e form =
+      record {
+        sound = refl;
+        ranges = [];
+        read = tt;
+        known = tt;
+        held = subst (λ is. HoldsAllAlso order [] is []) (sym e) (none_added order []);
+        form = form;
+        kept = λ _. e;
+      }
 
 no_such : {A : Type 0} (x : A) → None ≡ Some x → ⊥
 no_such x e = search (rules, e)
 
 -- an array's elements are its list
-pub array_has_elements : (d : Data) (vs : List Value) → as_array d ≡ Some (items_view vs) → elements_of d ≡ Some (map view vs)
+pub array_has_elements : (d : Data) (vs : List Value) → as_array d ≡ Some (items_view vs)
+    → elements_of d ≡ Some (map view vs)
 array_has_elements null vs e = absurd (no_such _ e)
 array_has_elements (boolean b) vs e = absurd (no_such _ e)
 array_has_elements (number n) vs e = absurd (no_such _ e)
@@ -115,6 +163,7 @@ array_has_elements (array ds) vs e =
     ap (λ is. Some (list_of is)) same ∙ ap (λ l. Some l) (list_back (map view vs))
 array_has_elements (object ms) vs e = absurd (no_such _ e)
 
-pub append_one_more : (xs : List Value) (v : Value) (more : List Value) → (xs ++ v ∷ []) ++ more ≡ xs ++ v ∷ more
+pub append_one_more : (xs : List Value) (v : Value) (more : List Value)
+    → (xs ++ v ∷ []) ++ more ≡ xs ++ v ∷ more
 append_one_more [] v more = refl
 append_one_more (x ∷ xs) v more = ap (λ l. x ∷ l) (append_one_more xs v more)

@@ -19,7 +19,8 @@ either_is true false = refl
 either_is false true = refl
 either_is false false = refl
 
-module _ {V : Type 0} (cmp : V → V → Ordering) (reads : Data → Bool) (is_read : Data → V → Type 0) where
+module _ {V : Type 0} (cmp : V → V → Ordering) (reads : Data → Bool)
+    (is_read : Data → V → Type 0) where
   -- the elements are values, and the set has just these
   pub record AreValuesSoRead (vs : List Value) (s : BTreeSet V) : Type 0 where
     pub sound : list_all reads (map view vs) ≡ true
@@ -28,19 +29,35 @@ module _ {V : Type 0} (cmp : V → V → Ordering) (reads : Data → Bool) (is_r
     pub set : IsFromIterResult cmp values s
 
   module _ (total : IsTotalOrder cmp) where
-    pub values_more : (vs : List Value) (v : Value) (old new : BTreeSet V) (x : V) → AreValuesSoRead vs old → is_read (view v) x → IsTrue (reads (view v)) → Updates cmp old new x true → IsOrdered cmp new → AreValuesSoRead (vs ++ v ∷ []) new
+    pub values_more : (vs : List Value) (v : Value) (old new : BTreeSet V) (x : V)
+        → AreValuesSoRead vs old → is_read (view v) x → IsTrue (reads (view v))
+        → Updates cmp old new x true → IsOrdered cmp new → AreValuesSoRead (vs ++ v ∷ []) new
     values_more vs v old new x h read fine updates ordered =
         let more = map-append view vs (v ∷ []) in
         let member = λ (q : V). eq_by_cmp cmp q in
         let laws = eq_by_cmp_equiv total in record {
-          sound = rw more (list_all-append reads (map view vs) (view v ∷ []) ∙ and_from (list_all reads (map view vs)) (reads (view v) && true) h.sound (and_from (reads (view v)) true fine refl));
+          sound =
+              rw more (list_all-append reads (map view vs) (view v ∷ [])
+              ∙ and_from (list_all reads (map view vs)) (reads (view v) && true) h.sound
+              (and_from (reads (view v)) true fine refl));
           values = h.values ++ x ∷ [];
           read = rw more (read_more is_read (map view vs) h.values (view v) x h.read read);
-          set = (λ q. updates.0 q ∙ ap (λ b. cond b true (contains cmp old q)) (laws.symm x q) ∙ ap (λ b. cond (member q x) true b) (h.set.0 q) ∙ either_is (member q x) (list_any (member q) h.values) ∙ sym (list_any-append (member q) h.values (x ∷ [])), ordered);
+          set = (
+            λ q. updates.0 q ∙ ap (λ b. cond b true (contains cmp old q)) (laws.symm x q)
+                ∙ ap (λ b. cond (member q x) true b) (h.set.0 q)
+                ∙ either_is (member q x) (list_any (member q) h.values)
+                ∙ sym (list_any-append (member q) h.values (x ∷ [])),
+            ordered,
+          );
         }
 
-  pub values_fail : (vs more : List Value) (v : Value) → reads (view v) ≡ false → list_all reads (map view (vs ++ v ∷ more)) ≡ false
-  values_fail vs more v e = rw (map-append view vs (v ∷ more)) (list_all-append reads (map view vs) (view v ∷ map view more) ∙ ap (λ b. list_all reads (map view vs) && (b && list_all reads (map view more))) e ∙ ends_false (list_all reads (map view vs)))
+  pub values_fail : (vs more : List Value) (v : Value) → reads (view v) ≡ false
+      → list_all reads (map view (vs ++ v ∷ more)) ≡ false
+  values_fail vs more v e =
+      rw (map-append view vs (v ∷ more))
+      (list_all-append reads (map view vs) (view v ∷ map view more)
+      ∙ ap (λ b. list_all reads (map view vs) && (b && list_all reads (map view more))) e
+      ∙ ends_false (list_all reads (map view vs)))
     where
       ends_false : (b : Bool) → (b && false) ≡ false
       ends_false true = refl

@@ -16,32 +16,45 @@ module _ {X : Type 0} (shape : X → Data) where
   HasWritten all left written = map view written ++ map shape left ≡ map shape all
 
   -- one more was written
-  pub written_more : (all left rest : List X) (x : X) (written : List Value) (v : Value) → left ≡ x ∷ rest → view v ≡ shape x → HasWritten all left written → HasWritten all rest (written ++ v ∷ [])
+  pub written_more : (all left rest : List X) (x : X) (written : List Value) (v : Value)
+      → left ≡ x ∷ rest → view v ≡ shape x → HasWritten all left written
+      → HasWritten all rest (written ++ v ∷ [])
   written_more all left rest x written v step is h =
-      ap (λ ds. ds ++ map shape rest) (map-append view written (v ∷ [])) ∙ (append_assoc (map view written) (view v ∷ []) (map shape rest) ∙ (ap (λ d. map view written ++ d ∷ map shape rest) is ∙ (ap (λ xs. map view written ++ map shape xs) (sym step) ∙ h)))
+      ap (λ ds. ds ++ map shape rest) (map-append view written (v ∷ []))
+      ∙ (append_assoc (map view written) (view v ∷ []) (map shape rest)
+      ∙ (ap (λ d. map view written ++ d ∷ map shape rest) is
+      ∙ (ap (λ xs. map view written ++ map shape xs) (sym step) ∙ h)))
 
   -- at the end all was written
-  pub all_written : (all left : List X) (written : List Value) → left ≡ [] → HasWritten all left written → map view written ≡ map shape all
-  all_written all left written none h = sym (append-nil (map view written)) ∙ ap (λ xs. map view written ++ map shape xs) (sym none) ∙ h
+  pub all_written : (all left : List X) (written : List Value) → left ≡ []
+      → HasWritten all left written → map view written ≡ map shape all
+  all_written all left written none h =
+      sym (append-nil (map view written)) ∙ ap (λ xs. map view written ++ map shape xs) (sym none)
+      ∙ h
 
 -- all that a loop has written are values, where what is left are
 abbrev pub AreValuesSoFar : {X : Type 0} → (X → Type 0) → List X → List X → Type 0
 AreValuesSoFar P all left = AllByRecursion P left → AllByRecursion P all
 
-pub values_more : {X : Type 0} (P : X → Type 0) (all left rest : List X) (x : X) → left ≡ x ∷ rest → P x → AreValuesSoFar P all left → AreValuesSoFar P all rest
-values_more P all left rest x step here h = λ later. h (subst (AllByRecursion P) (sym step) (here, later))
+pub values_more : {X : Type 0} (P : X → Type 0) (all left rest : List X) (x : X) → left ≡ x ∷ rest
+    → P x → AreValuesSoFar P all left → AreValuesSoFar P all rest
+values_more P all left rest x step here h =
+    λ later. h (subst (AllByRecursion P) (sym step) (here, later))
 
-pub all_values : {X : Type 0} (P : X → Type 0) (all left : List X) → left ≡ [] → AreValuesSoFar P all left → AllByRecursion P all
+pub all_values : {X : Type 0} (P : X → Type 0) (all left : List X) → left ≡ []
+    → AreValuesSoFar P all left → AllByRecursion P all
 all_values P all left none h = h (subst (AllByRecursion P) (sym none) tt)
 
 -- a list without its first is shorter
-pub shorter : {X : Type 0} (left rest : List X) (x : X) → left ≡ x ∷ rest → length rest < length left
+pub shorter : {X : Type 0} (left rest : List X) (x : X) → left ≡ x ∷ rest
+    → length rest < length left
 shorter left rest x step = omega (arith, ap length step)
 
 pub on_ok : {A E : Type 0} (r : Result A E) (P : Type 0) → P → OnOk r P
 on_ok (Ok x) P p = p
 on_ok (Err e) P p = tt
 
-pub by_ranges : {K V : Type 0} (P : AnyRange K → Type 0) (items : List (Item (AnyRange K) V)) → AllByRecursion P (item_ranges items) → AllByRecursion (λ i. P i.key) items
+pub by_ranges : {K V : Type 0} (P : AnyRange K → Type 0) (items : List (Item (AnyRange K) V))
+    → AllByRecursion P (item_ranges items) → AllByRecursion (λ i. P i.key) items
 by_ranges P [] h = tt
 by_ranges P (i ∷ items) h = (h.0, by_ranges P items h.1)

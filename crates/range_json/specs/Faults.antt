@@ -75,10 +75,13 @@ module _ {K : Type 0} (key_is_read : Data → K → Type 0) where
 
   -- the range has the bounds in the array
   abbrev pub IsRangeRead : Data → AnyRange K → Type 0
-  IsRangeRead d r = (ds : Data × Data) × (pair_of d ≡ Some ds) × IsBoundRead ds.0 r.start × IsBoundRead ds.1 r.end
+  IsRangeRead d r =
+      (ds : Data × Data) × (pair_of d ≡ Some ds) × IsBoundRead ds.0 r.start × IsBoundRead ds.1 r.end
 
-  -- each is read as the range beside it, whose bounds are keys; the list holds just the keys of these ranges, and ranges in the form of a set are kept one by one
-  pub record IsSetRead (order : KeyOrder K) (d : Data) (items : List (Item (AnyRange K) (Unit {0}))) : Type 0 where
+  -- each is read as the range beside it, whose bounds are keys; the list holds just the keys of
+  -- these ranges, and ranges in the form of a set are kept one by one
+  pub record IsSetRead (order : KeyOrder K) (d : Data)
+      (items : List (Item (AnyRange K) (Unit {0}))) : Type 0 where
     pub ds : List Data
     pub ranges : List (AnyRange K)
     pub whole : elements_of d ≡ Some ds

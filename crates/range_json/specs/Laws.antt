@@ -43,7 +43,8 @@ module _ {K : Type 0} (shape : K → Data) (is_value : K → Type 0) where
         → IsSetRead is_read order (set_shape shape items) others
         → IsTrue (same_ranges order others items)
 
-module _ {K V : Type 0} (order : KeyOrder K) (same : V → V → Bool) (key_reads value_reads : Data → Bool)
+module _ {K V : Type 0} (order : KeyOrder K) (same : V → V → Bool)
+    (key_reads value_reads : Data → Bool)
     (key_is_read : Data → K → Type 0) (value_is_read : Data → V → Type 0) where
   abbrev HasMapFault : Data → JsonError → Type 0
   HasMapFault = IsMapFault order key_reads value_reads key_is_read value_is_read
@@ -55,7 +56,8 @@ module _ {K V : Type 0} (order : KeyOrder K) (same : V → V → Bool) (key_read
   ReadMapsHaveNoFault = (d : Data) (items : List (Item (AnyRange K) V)) (e : JsonError)
       → MapIsRead d items → ¬ HasMapFault d e
 
-  module _ (key_shape : K → Data) (value_shape : V → Data) (key_is_value : K → Type 0) (value_is_value : V → Type 0) where
+  module _ (key_shape : K → Data) (value_shape : V → Data) (key_is_value : K → Type 0)
+      (value_is_value : V → Type 0) where
     abbrev pub WrittenMapsHaveNoFault : Type 0
     WrittenMapsHaveNoFault = (items : List (Item (AnyRange K) V))
         → AreItemValues key_is_value value_is_value items → IsStored order same items
@@ -69,7 +71,8 @@ module _ {K V : Type 0} (order : KeyOrder K) (same : V → V → Bool) (key_read
         → IsTrue (same_list order same others items)
 
 module _ {K V : Type 0} (order : KeyOrder K) (cmp : V → V → Ordering) (same : V → V → Bool)
-    (key_reads value_reads : Data → Bool) (key_is_read : Data → K → Type 0) (value_is_read : Data → V → Type 0) where
+    (key_reads value_reads : Data → Bool) (key_is_read : Data → K → Type 0)
+    (value_is_read : Data → V → Type 0) where
   abbrev HasMultimapFault : Data → JsonError → Type 0
   HasMultimapFault = IsMultimapFault order key_reads value_reads key_is_read value_is_read cmp
 
@@ -77,10 +80,12 @@ module _ {K V : Type 0} (order : KeyOrder K) (cmp : V → V → Ordering) (same 
   MultimapIsRead = IsMultimapRead order key_reads value_reads key_is_read value_is_read cmp same
 
   abbrev pub ReadMultimapsHaveNoFault : Type 0
-  ReadMultimapsHaveNoFault = (d : Data) (items : List (Item (AnyRange K) (BTreeSet V))) (e : JsonError)
+  ReadMultimapsHaveNoFault =
+      (d : Data) (items : List (Item (AnyRange K) (BTreeSet V))) (e : JsonError)
       → MultimapIsRead d items → ¬ HasMultimapFault d e
 
-  module _ (key_shape : K → Data) (value_shape : V → Data) (key_is_value : K → Type 0) (value_is_value : V → Type 0) where
+  module _ (key_shape : K → Data) (value_shape : V → Data) (key_is_value : K → Type 0)
+      (value_is_value : V → Type 0) where
     abbrev pub WrittenMultimapsHaveNoFault : Type 0
     WrittenMultimapsHaveNoFault = (items : List (Item (AnyRange K) (BTreeSet V)))
         → AreItemValues key_is_value (IsValueSet cmp value_is_value) items

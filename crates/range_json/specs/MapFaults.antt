@@ -1,4 +1,5 @@
--- The first fault of a JSON value that is read as a map, in either shape, and what it binds where it has none.
+-- The first fault of a JSON value that is read as a map, in either shape, and what it binds where
+-- it has none.
 use Rattle.std.specs.Prelude.{◌≡◌, ℕ, List, [], ◌∷◌, ◌++◌, length, Option, Some, None, Result, Ok, Err, Bool, true, false, ◌==◌, ◌||◌, ◌&&◌, if◌then◌else◌, option_and_then, codes, bytes_eq, ◌⊎◌, ⊤}
 use Rattle.std.specs.List.{AllByRecursion, AllZip}
 use Rattle.serde_json.specs.Data.{Data, null, boolean, number, string, array, object, Members, no_members, member}
@@ -19,7 +20,8 @@ use Rattle.range_json.specs.Shapes.{pair_of, elements_of, list_of}
 -- each member is named `version` or `items`
 abbrev pub are_known : Members → Bool
 are_known no_members = true
-are_known (member k d ms) = (bytes_eq k (codes "version") || bytes_eq k (codes "items")) && are_known ms
+are_known (member k d ms) =
+    (bytes_eq k (codes "version") || bytes_eq k (codes "items")) && are_known ms
 
 abbrev pub is_two : Option ℕ → Bool
 is_two None = false
@@ -27,7 +29,9 @@ is_two (Some n) = n == 2
 
 -- the member `version` is the whole number 2, and no member but it and `items` is there
 abbrev pub is_version_2 : Members → Bool
-is_version_2 ms = is_two (option_and_then as_u64 (option_and_then as_number (get_member (codes "version") ms))) && are_known ms
+is_version_2 ms =
+    is_two (option_and_then as_u64 (option_and_then as_number (get_member (codes "version") ms)))
+    && are_known ms
 
 abbrev pub or_no_array : Option (List Data) → Result (List Data) JsonError
 or_no_array None = Err NotArray
@@ -40,7 +44,9 @@ map_elements (boolean b) = Err NotArray
 map_elements (number n) = Err NotArray
 map_elements (string s) = Err NotArray
 map_elements (array ds) = Ok (list_of ds)
-map_elements (object ms) = if is_version_2 ms then or_no_array (option_and_then elements_of (get_member (codes "items") ms)) else Err Version
+map_elements (object ms) =
+    if is_version_2 ms then or_no_array
+    (option_and_then elements_of (get_member (codes "items") ms)) else Err Version
 
 abbrev pub value_fault : (Data → Bool) → ℕ → Data → Option JsonError
 value_fault value_reads i d = if value_reads d then None else Some (Value i)
@@ -60,8 +66,11 @@ MeetNonempty order r s = (¬ IsEmptyRange order r) × (¬ IsEmptyRange order s) 
 
 module _ {K V : Type 0} where
   -- the pair of the range and the value in the array
-  abbrev pub IsElementRead : (Data → K → Type 0) → (Data → V → Type 0) → Data → Item (AnyRange K) V → Type 0
-  IsElementRead key_is_read value_is_read d x = (ds : Data × Data) × (pair_of d ≡ Some ds) × IsRangeRead key_is_read ds.0 x.key × value_is_read ds.1 x.value
+  abbrev pub IsElementRead : (Data → K → Type 0) → (Data → V → Type 0) → Data → Item (AnyRange K) V
+      → Type 0
+  IsElementRead key_is_read value_is_read d x =
+      (ds : Data × Data) × (pair_of d ≡ Some ds) × IsRangeRead key_is_read ds.0 x.key
+      × value_is_read ds.1 x.value
 
   -- the range meets that of some item
   abbrev pub MeetsOne : KeyOrder K → AnyRange K → List (Item (AnyRange K) V) → Type 0
@@ -72,7 +81,8 @@ module _ {K V : Type 0} where
   AreApart order [] = ⊤
   AreApart order (i ∷ items) = (¬ MeetsOne order i.key items) × AreApart order items
 
-  module _ (order : KeyOrder K) (key_reads value_reads : Data → Bool) (key_is_read : Data → K → Type 0) (value_is_read : Data → V → Type 0) where
+  module _ (order : KeyOrder K) (key_reads value_reads : Data → Bool)
+      (key_is_read : Data → K → Type 0) (value_is_read : Data → V → Type 0) where
     -- no element has a fault, and each is read as the item beside it, whose bounds are keys
     pub record AreRead (ds : List Data) (items : List (Item (AnyRange K) V)) : Type 0 where
       pub sound : first_fault (element_fault key_reads value_reads) 0 ds ≡ None
@@ -82,7 +92,10 @@ module _ {K V : Type 0} where
 
     -- it has no fault of its own, and its range meets that of an earlier item
     abbrev pub MeetsEarlier : ℕ → Data → List (Item (AnyRange K) V) → Type 0
-    MeetsEarlier i d earlier = (element_fault key_reads value_reads i d ≡ None) × ((x : Item (AnyRange K) V) × IsElementRead key_is_read value_is_read d x × IsKnownRange order x.key × MeetsOne order x.key earlier)
+    MeetsEarlier i d earlier =
+        (element_fault key_reads value_reads i d ≡ None)
+        × ((x : Item (AnyRange K) V) × IsElementRead key_is_read value_is_read d x
+        × IsKnownRange order x.key × MeetsOne order x.key earlier)
 
     -- the fault of the first element that has one
     pub record IsFirstFault (ds : List Data) (f : JsonError) : Type 0 where
@@ -92,7 +105,8 @@ module _ {K V : Type 0} where
       pub earlier : List (Item (AnyRange K) V)
       pub split : ds ≡ front ++ d ∷ rest
       pub fine : AreRead front earlier
-      pub fault : (element_fault key_reads value_reads (length front) d ≡ Some f) ⊎ (MeetsEarlier (length front) d earlier × (f ≡ Meets (length front)))
+      pub fault : (element_fault key_reads value_reads (length front) d ≡ Some f) ⊎
+          (MeetsEarlier (length front) d earlier × (f ≡ Meets (length front)))
 
     abbrev pub IsFaultOf : Result (List Data) JsonError → JsonError → Type 0
     IsFaultOf (Err e) f = f ≡ e
@@ -102,8 +116,10 @@ module _ {K V : Type 0} where
     abbrev pub IsMapFault : Data → JsonError → Type 0
     IsMapFault d f = IsFaultOf (map_elements d) f
 
-    -- the value has no fault; the list binds each key as the element does whose range holds it, and no other key; elements in the form of a map are kept one by one
-    pub record IsMapRead (same_value : V → V → Bool) (d : Data) (items : List (Item (AnyRange K) V)) : Type 0 where
+    -- the value has no fault; the list binds each key as the element does whose range holds it, and
+    -- no other key; elements in the form of a map are kept one by one
+    pub record IsMapRead (same_value : V → V → Bool) (d : Data)
+        (items : List (Item (AnyRange K) V)) : Type 0 where
       pub ds : List Data
       pub elements : List (Item (AnyRange K) V)
       pub whole : map_elements d ≡ Ok ds

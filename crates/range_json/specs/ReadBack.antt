@@ -21,7 +21,8 @@ same_integer e h = grind (arith, e, h)
 pub unsigned_back : (top x : ℕ) → x ≤ top → unsigned_of top (unsigned_shape x) ≡ Some x
 unsigned_back top x h = grind (arith, h)
 
-pub signed_back : (top : ℕ) → top < 2 ^ 63 → (z : ℤ) → IsSigned top z → signed_of top (signed_shape z) ≡ Some z
+pub signed_back : (top : ℕ) → top < 2 ^ 63 → (z : ℤ) → IsSigned top z
+    → signed_of top (signed_shape z) ≡ Some z
 signed_back top small (pos n) h = grind (arith, ints, h, small)
 signed_back top small (negsuc n) h = grind (arith, ints, h, small)
 

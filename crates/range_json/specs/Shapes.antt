@@ -1,4 +1,5 @@
--- What a range and a list of stored ranges are written as, and which parts a JSON value of that shape has.
+-- What a range and a list of stored ranges are written as, and which parts a JSON value of that
+-- shape has.
 use Rattle.std.specs.Prelude.{ℕ, List, [], ◌∷◌, map, Option, Some, None, if◌then◌else◌, codes, bytes_eq}
 use Rattle.std.specs.declared.ops.Bound.{Bound}
 use Rattle.std.specs.declared.ops.Bound.TheVariants.{Included, Excluded, Unbounded}
@@ -14,7 +15,9 @@ pair_shape d e = array (item d (item e no_items))
 
 -- an object whose members are the list and the number 2
 abbrev pub versioned_shape : List Data → Data
-versioned_shape ds = object (member (codes "items") (array (items_of ds)) (member (codes "version") (number (unsigned 2)) no_members))
+versioned_shape ds =
+    object (member (codes "items") (array (items_of ds))
+    (member (codes "version") (number (unsigned 2)) no_members))
 
 module _ {K : Type 0} (key_shape : K → Data) where
   abbrev pub bound_shape : Bound K → Data
@@ -30,7 +33,8 @@ module _ {K : Type 0} (key_shape : K → Data) where
 
   -- the pairs of each range and its value
   abbrev pub map_shape : {V : Type 0} → (V → Data) → List (Item (AnyRange K) V) → Data
-  map_shape value_shape items = versioned_shape (map (λ i. pair_shape (range_shape i.key) (value_shape i.value)) items)
+  map_shape value_shape items =
+      versioned_shape (map (λ i. pair_shape (range_shape i.key) (value_shape i.value)) items)
 
 -- the two elements of an array of two
 abbrev pub pair_of_items : Items → Option (Data × Data)
@@ -63,7 +67,9 @@ only_member_of (object ms) = alone ms
 
 abbrev pub named_bound : Option (List ℕ × Data) → Option (Bound Data)
 named_bound None = None
-named_bound (Some m) = if bytes_eq m.0 (codes "Included") then Some (Included m.1) else (if bytes_eq m.0 (codes "Excluded") then Some (Excluded m.1) else None)
+named_bound (Some m) =
+    if bytes_eq m.0 (codes "Included") then Some
+    (Included m.1) else (if bytes_eq m.0 (codes "Excluded") then Some (Excluded m.1) else None)
 
 -- the bound, with the JSON value of its key
 abbrev pub bound_of : Data → Option (Bound Data)

@@ -1,4 +1,5 @@
--- A set of values as a JSON array: what it is written as, which arrays are read, and what is read there.
+-- A set of values as a JSON array: what it is written as, which arrays are read, and what is read
+-- there.
 use Rattle.std.specs.Prelude.{◌≡◌, List, [], ◌∷◌, map, Option, Some, None, Bool, false}
 use Rattle.std.specs.BTreeSet.{BTreeSet, IsOrdered, IsFromIterResult}
 use Rattle.std.specs.Cmp.Lexicographic.{pointwise}
@@ -40,7 +41,8 @@ module _ {V : Type 0} where
   IsValueSet cmp is_value s = IsOrdered cmp s × AllByRecursion is_value s.keys
 
   -- each element is read as the value beside it, and the set has just these values
-  pub record AreValuesRead (cmp : V → V → Ordering) (value_is_read : Data → V → Type 0) (d : Data) (s : BTreeSet V) : Type 0 where
+  pub record AreValuesRead (cmp : V → V → Ordering) (value_is_read : Data → V → Type 0) (d : Data)
+      (s : BTreeSet V) : Type 0 where
     pub ds : List Data
     pub values : List V
     pub whole : elements_of d ≡ Some ds

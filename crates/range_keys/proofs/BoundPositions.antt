@@ -24,7 +24,8 @@ module _ {K : Type 0} (order : KeyOrder K) where
   IsEnd PlusInfinity = order.greatest ≡ None
 
   module _ (lawful : IsLawful order) where
-    pub excluded_start_is_one : (a : K) (o : Option K) → order.succ a ≡ o → order.is_key a → IsStart (at_told o (Beside a After))
+    pub excluded_start_is_one : (a : K) (o : Option K) → order.succ a ≡ o → order.is_key a
+        → IsStart (at_told o (Beside a After))
     unfolding IsStart
     excluded_start_is_one a None e key = (key, e)
     excluded_start_is_one a (Some b) e key = (lawful.succ_key a b e).1
@@ -40,7 +41,8 @@ module _ {K : Type 0} (order : KeyOrder K) where
     starts_lie_at_starts (Excluded a) key = excluded_start_is_one a (order.succ a) refl key
     starts_lie_at_starts Unbounded key = least_start_is_one order.least refl
 
-    excluded_end_is_one : (b : K) (o : Option K) → order.pred b ≡ o → order.is_key b → IsEnd (at_told o (Beside b Before))
+    excluded_end_is_one : (b : K) (o : Option K) → order.pred b ≡ o → order.is_key b
+        → IsEnd (at_told o (Beside b Before))
     unfolding IsEnd
     excluded_end_is_one b None e key = (key, e)
     excluded_end_is_one b (Some a) e key = (lawful.pred_key a b e).0

@@ -1,4 +1,5 @@
--- What a test of an ordering says of it, and what the first unless it is `Equal`, and then the second, says of both.
+-- What a test of an ordering says of it, and what the first unless it is `Equal`, and then the
+-- second, says of both.
 use Rattle.std.proofs.Common.{◌≡◌, ◌↔◌, ◌⊎◌, refl, inl, inr, true, false}
 use Rattle.std.specs.declared.cmp.Ordering.{Ordering}
 use Rattle.std.specs.declared.cmp.Ordering.TheVariants.{Less, Equal, Greater}
@@ -73,7 +74,8 @@ less_unless_equal Less h = refl
 less_unless_equal Equal h = cc
 less_unless_equal Greater h = cc
 
-pub not_greater_unless_equal : (o : Ordering) → is_gt (ordering_then o Equal) ≡ false → is_gt o ≡ false
+pub not_greater_unless_equal : (o : Ordering) → is_gt (ordering_then o Equal) ≡ false
+    → is_gt o ≡ false
 not_greater_unless_equal Less h = h
 not_greater_unless_equal Equal h = h
 not_greater_unless_equal Greater h = h

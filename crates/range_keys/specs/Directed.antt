@@ -54,4 +54,5 @@ module _ {K : Type 0} (order : KeyOrder K) where
 
   abbrev pub bound_ordering : Directed (Bound K) → Directed (Bound K) → BoundOrdering
   bound_ordering self other =
-      ordering_to other (directed_position self) (directed_position other) (position_cmp order.cmp (directed_position self) (directed_position other))
+      ordering_to other (directed_position self) (directed_position other)
+      (position_cmp order.cmp (directed_position self) (directed_position other))

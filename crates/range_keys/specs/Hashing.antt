@@ -18,7 +18,8 @@ position_input input (Beside a At) = fed.u8 2 ++ input a
 position_input input (Beside a After) = fed.u8 3 ++ input a
 position_input input PlusInfinity = fed.u8 4
 
-module _ {K : Type 0} (cmp : K → K → Ordering) (input : K → List (List ℕ)) (respects : (a b : K) → cmp a b ≡ Equal → input a ≡ input b) where
+module _ {K : Type 0} (cmp : K → K → Ordering) (input : K → List (List ℕ))
+    (respects : (a b : K) → cmp a b ≡ Equal → input a ≡ input b) where
   first_equal : (o p : Ordering) → IsTrue (is_eq (ordering_then o p)) → o ≡ Equal
   first_equal Less p h = cc
   first_equal Equal p h = refl
@@ -29,7 +30,8 @@ module _ {K : Type 0} (cmp : K → K → Ordering) (input : K → List (List ℕ
   second_equal Equal p h = h
   second_equal Greater p h = cc
 
-  same_side : (a b : K) (s t : Side) → IsTrue (is_eq (side_cmp s t)) → input a ≡ input b → position_input input (Beside a s) ≡ position_input input (Beside b t)
+  same_side : (a b : K) (s t : Side) → IsTrue (is_eq (side_cmp s t)) → input a ≡ input b
+      → position_input input (Beside a s) ≡ position_input input (Beside b t)
   same_side a b Before Before h e = ap (λ w. fed.u8 1 ++ w) e
   same_side a b Before At h e = cc
   same_side a b Before After h e = cc
@@ -40,13 +42,15 @@ module _ {K : Type 0} (cmp : K → K → Ordering) (input : K → List (List ℕ
   same_side a b After At h e = cc
   same_side a b After After h e = ap (λ w. fed.u8 3 ++ w) e
 
-  pub position_respects : (p q : Position K) → IsTrue (eq_by_cmp (position_cmp cmp) p q) → position_input input p ≡ position_input input q
+  pub position_respects : (p q : Position K) → IsTrue (eq_by_cmp (position_cmp cmp) p q)
+      → position_input input p ≡ position_input input q
   position_respects MinusInfinity MinusInfinity e = refl
   position_respects MinusInfinity (Beside b t) e = cc
   position_respects MinusInfinity PlusInfinity e = cc
   position_respects (Beside a s) MinusInfinity e = cc
   position_respects (Beside a s) (Beside b t) e =
-      same_side a b s t (second_equal (cmp a b) (side_cmp s t) e) (respects a b (first_equal (cmp a b) (side_cmp s t) e))
+      same_side a b s t (second_equal (cmp a b) (side_cmp s t) e)
+      (respects a b (first_equal (cmp a b) (side_cmp s t) e))
   position_respects (Beside a s) PlusInfinity e = cc
   position_respects PlusInfinity MinusInfinity e = cc
   position_respects PlusInfinity (Beside b t) e = cc

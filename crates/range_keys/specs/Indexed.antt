@@ -1,4 +1,5 @@
--- A key type of your own, given by the place of each key: from an index and its inverse follow the order, the neighbours and every law.
+-- A key type of your own, given by the place of each key: from an index and its inverse follow the
+-- order, the neighbours and every law.
 use Rattle.std.specs.Prelude.{◌≡◌, ℕ, ◌+◌, ◌-◌, ◌<◌, Option, Some, None, if◌then◌else◌, nat_lt, refl}
 use Rattle.std.specs.declared.cmp.Ordering.TheVariants.{Equal}
 use Rattle.std.specs.Ordering.{nat_cmp, on}
@@ -19,12 +20,23 @@ module _ {K : Type 0} (index : K → ℕ) (key_at : ℕ → K) (size : ℕ) wher
   indexed_succ k = if nat_lt (index k + 1) size then Some (key_at (index k + 1)) else None
 
   abbrev pub indexed_pred : K → Option K
-  indexed_pred k = if nat_lt 0 (index k) then (if nat_lt (index k) size then Some (key_at (index k - 1)) else None) else None
+  indexed_pred k =
+      if nat_lt 0 (index k) then (if nat_lt (index k) size then Some
+      (key_at (index k - 1)) else None) else None
 
   abbrev pub indexed_order : KeyOrder K
-  indexed_order = record { is_key = λ k. index k < size; cmp = on index nat_cmp; succ = indexed_succ; pred = indexed_pred; least = Some (key_at 0); greatest = Some (key_at (size - 1)) }
+  indexed_order =
+      record {
+        is_key = λ k. index k < size;
+        cmp = on index nat_cmp;
+        succ = indexed_succ;
+        pred = indexed_pred;
+        least = Some (key_at 0);
+        greatest = Some (key_at (size - 1));
+      }
 
-module _ {K : Type 0} {index : K → ℕ} {key_at : ℕ → K} {size : ℕ} (indexed : IsIndexed index key_at size) where
+module _ {K : Type 0} {index : K → ℕ} {key_at : ℕ → K} {size : ℕ}
+    (indexed : IsIndexed index key_at size) where
   same_index : (a b : K) → index a ≡ index b → a ≡ b
   same_index a b e = sym (indexed.key_at_index a) ∙ ap key_at e ∙ indexed.key_at_index b
 
@@ -34,26 +46,32 @@ module _ {K : Type 0} {index : K → ℕ} {key_at : ℕ → K} {size : ℕ} (ind
   index_is : (n : ℕ) (b : K) → n < size → key_at n ≡ b → index b ≡ n
   index_is n b h e = ap index (sym e) ∙ indexed.index_key_at n h
 
-  succ_place : (a b : K) → indexed_succ index key_at size a ≡ Some b → (index a + 1 < size) × (key_at (index a + 1) ≡ b)
+  succ_place : (a b : K) → indexed_succ index key_at size a ≡ Some b
+      → (index a + 1 < size) × (key_at (index a + 1) ≡ b)
   succ_place a b e = grind (arith, nat_tests)
 
-  pred_place : (a b : K) → indexed_pred index key_at size b ≡ Some a → (0 < index b) × (index b < size) × (key_at (index b - 1) ≡ a)
+  pred_place : (a b : K) → indexed_pred index key_at size b ≡ Some a
+      → (0 < index b) × (index b < size) × (key_at (index b - 1) ≡ a)
   pred_place a b e = grind (arith, nat_tests)
 
-  succ_at : (a : K) → index a + 1 < size → indexed_succ index key_at size a ≡ Some (key_at (index a + 1))
+  succ_at : (a : K) → index a + 1 < size
+      → indexed_succ index key_at size a ≡ Some (key_at (index a + 1))
   succ_at a h = grind (arith, nat_tests)
 
-  pred_at : (b : K) → 0 < index b → index b < size → indexed_pred index key_at size b ≡ Some (key_at (index b - 1))
+  pred_at : (b : K) → 0 < index b → index b < size
+      → indexed_pred index key_at size b ≡ Some (key_at (index b - 1))
   pred_at b g h = grind (arith, nat_tests)
 
-  succ_is : (a b : K) → indexed_succ index key_at size a ≡ Some b → (index a < size) × (index b < size) × (index b ≡ index a + 1)
+  succ_is : (a b : K) → indexed_succ index key_at size a ≡ Some b
+      → (index a < size) × (index b < size) × (index b ≡ index a + 1)
   succ_is a b e =
       let h = succ_place a b e in
       let below : index a + 1 < size = h.0 in
       let at : index b ≡ index a + 1 = index_is (index a + 1) b h.0 h.1 in
       (omega arith, omega arith, at)
 
-  pred_is : (a b : K) → indexed_pred index key_at size b ≡ Some a → (index a < size) × (index b < size) × (index b ≡ index a + 1)
+  pred_is : (a b : K) → indexed_pred index key_at size b ≡ Some a
+      → (index a < size) × (index b < size) × (index b ≡ index a + 1)
   pred_is a b e =
       let h = pred_place a b e in
       let above : 0 < index b = h.0 in
@@ -61,11 +79,14 @@ module _ {K : Type 0} {index : K → ℕ} {key_at : ℕ → K} {size : ℕ} (ind
       let at : index a ≡ index b - 1 = index_is (index b - 1) a (omega arith) h.2 in
       (omega arith, below, omega arith)
 
-  is_succ : (a b : K) → index a < size → index b < size → index b ≡ index a + 1 → indexed_succ index key_at size a ≡ Some b
+  is_succ : (a b : K) → index a < size → index b < size → index b ≡ index a + 1
+      → indexed_succ index key_at size a ≡ Some b
   is_succ a b p q e = succ_at a (omega arith) ∙ ap Some (ap key_at (sym e) ∙ indexed.key_at_index b)
 
-  is_pred : (a b : K) → index a < size → index b < size → index b ≡ index a + 1 → indexed_pred index key_at size b ≡ Some a
-  is_pred a b p q e = let at : index b - 1 ≡ index a = omega arith in pred_at b (omega arith) q ∙ ap Some (ap key_at at ∙ indexed.key_at_index a)
+  is_pred : (a b : K) → index a < size → index b < size → index b ≡ index a + 1
+      → indexed_pred index key_at size b ≡ Some a
+  is_pred a b p q e = let at : index b - 1 ≡ index a =
+      omega arith in pred_at b (omega arith) q ∙ ap Some (ap key_at at ∙ indexed.key_at_index a)
 
   pub indexed_counted : IsCounted (indexed_order index key_at size) index size
   indexed_counted = record {
@@ -84,7 +105,9 @@ module _ {K : Type 0} {index : K → ℕ} {key_at : ℕ → K} {size : ℕ} (ind
     first_told = refl;
     first_index = indexed.index_key_at 0 indexed.some_key;
     last = key_at (size - 1);
-    last_key = let some = indexed.some_key in let h : size - 1 < size = omega arith in rw (indexed.index_key_at (size - 1) h) h;
+    last_key = let some = indexed.some_key in let h : size - 1 < size =
+        omega arith in rw (indexed.index_key_at (size - 1) h) h;
     last_told = refl;
-    last_index = let some = indexed.some_key in let h : size - 1 < size = omega arith in let at = indexed.index_key_at (size - 1) h in omega arith;
+    last_index = let some = indexed.some_key in let h : size - 1 < size = omega arith in let at =
+        indexed.index_key_at (size - 1) h in omega arith;
   }

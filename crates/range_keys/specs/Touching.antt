@@ -23,14 +23,20 @@ module _ {K : Type 0} (order : KeyOrder K) where
 
   -- some bound over keys has a position above the first and below the second
   abbrev pub SomeBoundBetween : Position K → Position K → Type 0
-  SomeBoundBetween low high = (d : Directed (Bound K)) × IsOverKeys (directed_value d) × LiesBelow low (directed_position order d) × LiesBelow (directed_position order d) high
+  SomeBoundBetween low high =
+      (d : Directed (Bound K)) × IsOverKeys (directed_value d)
+      × LiesBelow low (directed_position order d) × LiesBelow (directed_position order d) high
 
   -- a bound over keys lies between the two, of which the first lies on the outer side of the second
   abbrev pub SomeBoundApart : Directed (Bound K) → Directed (Bound K) → Type 0
-  SomeBoundApart self (Start b) = SomeBoundBetween (directed_position order self) (start_position order b)
-  SomeBoundApart self (End b) = SomeBoundBetween (end_position order b) (directed_position order self)
+  SomeBoundApart self (Start b) =
+      SomeBoundBetween (directed_position order self) (start_position order b)
+  SomeBoundApart self (End b) =
+      SomeBoundBetween (end_position order b) (directed_position order self)
 
   -- a flag is true where no bound lies between the two, and false where one does
   abbrev pub FlagsTellGaps : Type 0
-  FlagsTellGaps = (self other : Directed (Bound K)) → IsOverKeys (directed_value self) → IsOverKeys (directed_value other)
-      → (flag : Bool) → bound_ordering order self other ≡ Outer flag → MatchBool flag (¬ SomeBoundApart self other) (SomeBoundApart self other)
+  FlagsTellGaps = (self other : Directed (Bound K)) → IsOverKeys (directed_value self)
+      → IsOverKeys (directed_value other)
+      → (flag : Bool) → bound_ordering order self other ≡ Outer flag
+      → MatchBool flag (¬ SomeBoundApart self other) (SomeBoundApart self other)

@@ -7,7 +7,15 @@ use Rattle.range_keys.specs.Order.{KeyOrder, IsLawful, IsMeasure}
 
 -- each value is a key, and none tells anything
 abbrev pub untold_order : {K : Type 0} → (K → K → Ordering) → KeyOrder K
-untold_order cmp = record { is_key = λ _. Unit {0}; cmp = cmp; succ = λ _. None; pred = λ _. None; least = None; greatest = None }
+untold_order cmp =
+    record {
+      is_key = λ _. Unit {0};
+      cmp = cmp;
+      succ = λ _. None;
+      pred = λ _. None;
+      least = None;
+      greatest = None;
+    }
 
 module _ {K : Type 0} (cmp : K → K → Ordering) (total : IsTotalOrder cmp) where
   pub untold_lawful : IsLawful (untold_order cmp)

@@ -30,7 +30,8 @@ module _ {K : Type 0} (order : KeyOrder K) (lawful : IsLawful order) where
   abbrev Same : Position K → Position K → Type 0
   Same p q = position_cmp order.cmp p q ≡ Equal
 
-  told_same : (o p : Option K) (q r : Position K) → SameAnswer order o p → Same q r → Same (at_told o q) (at_told p r)
+  told_same : (o p : Option K) (q r : Position K) → SameAnswer order o p → Same q r
+      → Same (at_told o q) (at_told p r)
   told_same None None q r h e = e
   told_same None (Some y) q r h e = absurd h
   told_same (Some x) None q r h e = absurd h
@@ -46,70 +47,113 @@ module _ {K : Type 0} (order : KeyOrder K) (lawful : IsLawful order) where
   past_same PlusInfinity MinusInfinity h = cc
   past_same PlusInfinity (Beside b t) h = cc
   past_same PlusInfinity PlusInfinity h = refl
-  past_same (Beside a Before) (Beside b Before) h = equal_then_equal (order.cmp a b) Equal (both_equal (order.cmp a b) Equal h).0 refl
+  past_same (Beside a Before) (Beside b Before) h =
+      equal_then_equal (order.cmp a b) Equal (both_equal (order.cmp a b) Equal h).0 refl
   past_same (Beside a At) (Beside b At) h =
       let e = (both_equal (order.cmp a b) Equal h).0 in
-      told_same (order.succ a) (order.succ b) (Beside a After) (Beside b After) (lawful.succ_congr a b e) (equal_then_equal (order.cmp a b) Equal e refl)
-  past_same (Beside a After) (Beside b After) h = equal_then_equal (order.cmp a b) Equal (both_equal (order.cmp a b) Equal h).0 refl
-  past_same (Beside a Before) (Beside b At) h = absurd (let e = (both_equal (order.cmp a b) Less h).1 in cc)
-  past_same (Beside a Before) (Beside b After) h = absurd (let e = (both_equal (order.cmp a b) Less h).1 in cc)
-  past_same (Beside a At) (Beside b Before) h = absurd (let e = (both_equal (order.cmp a b) Greater h).1 in cc)
-  past_same (Beside a At) (Beside b After) h = absurd (let e = (both_equal (order.cmp a b) Less h).1 in cc)
-  past_same (Beside a After) (Beside b Before) h = absurd (let e = (both_equal (order.cmp a b) Greater h).1 in cc)
-  past_same (Beside a After) (Beside b At) h = absurd (let e = (both_equal (order.cmp a b) Greater h).1 in cc)
+      told_same (order.succ a) (order.succ b) (Beside a After) (Beside b After)
+      (lawful.succ_congr a b e) (equal_then_equal (order.cmp a b) Equal e refl)
+  past_same (Beside a After) (Beside b After) h =
+      equal_then_equal (order.cmp a b) Equal (both_equal (order.cmp a b) Equal h).0 refl
+  past_same (Beside a Before) (Beside b At) h =
+      absurd (let e = (both_equal (order.cmp a b) Less h).1 in cc)
+  past_same (Beside a Before) (Beside b After) h =
+      absurd (let e = (both_equal (order.cmp a b) Less h).1 in cc)
+  past_same (Beside a At) (Beside b Before) h =
+      absurd (let e = (both_equal (order.cmp a b) Greater h).1 in cc)
+  past_same (Beside a At) (Beside b After) h =
+      absurd (let e = (both_equal (order.cmp a b) Less h).1 in cc)
+  past_same (Beside a After) (Beside b Before) h =
+      absurd (let e = (both_equal (order.cmp a b) Greater h).1 in cc)
+  past_same (Beside a After) (Beside b At) h =
+      absurd (let e = (both_equal (order.cmp a b) Greater h).1 in cc)
 
-  equal_positions_compare_alike : (p q s t : Position K) → Same p q → Same s t → position_cmp order.cmp p s ≡ position_cmp order.cmp q t
+  equal_positions_compare_alike : (p q s t : Position K) → Same p q → Same s t
+      → position_cmp order.cmp p s ≡ position_cmp order.cmp q t
   equal_positions_compare_alike p q s t e f =
-      let total = position_total order.cmp lawful.total in total.congr p q s e ∙ alike_right total s t q f
+      let total =
+      position_total order.cmp lawful.total in total.congr p q s e
+      ∙ alike_right total s t q f
 
-  starts_same : (r s : AnyRange K) → range_cmp order r s ≡ Equal → Same (start_position order r.start) (start_position order s.start)
+  starts_same : (r s : AnyRange K) → range_cmp order r s ≡ Equal
+      → Same (start_position order r.start) (start_position order s.start)
   starts_same r s e =
-      (both_equal (position_cmp order.cmp (start_position order r.start) (start_position order s.start)) (position_cmp order.cmp (end_position order r.end) (end_position order s.end)) e).0
+      (both_equal (position_cmp order.cmp (start_position order r.start)
+      (start_position order s.start))
+      (position_cmp order.cmp (end_position order r.end) (end_position order s.end)) e).0
 
-  ends_same : (r s : AnyRange K) → range_cmp order r s ≡ Equal → Same (end_position order r.end) (end_position order s.end)
+  ends_same : (r s : AnyRange K) → range_cmp order r s ≡ Equal
+      → Same (end_position order r.end) (end_position order s.end)
   ends_same r s e =
-      (both_equal (position_cmp order.cmp (start_position order r.start) (start_position order s.start)) (position_cmp order.cmp (end_position order r.end) (end_position order s.end)) e).1
+      (both_equal (position_cmp order.cmp (start_position order r.start)
+      (start_position order s.start))
+      (position_cmp order.cmp (end_position order r.end) (end_position order s.end)) e).1
 
-  same_empty : (r s : AnyRange K) → range_cmp order r s ≡ Equal → IsEmptyRange order r → IsEmptyRange order s
+  same_empty : (r s : AnyRange K) → range_cmp order r s ≡ Equal → IsEmptyRange order r
+      → IsEmptyRange order s
   same_empty r s e h =
-      sym (equal_positions_compare_alike (start_position order r.start) (start_position order s.start) (end_position order r.end) (end_position order s.end) (starts_same r s e) (ends_same r s e)) ∙ h
+      sym (equal_positions_compare_alike (start_position order r.start)
+      (start_position order s.start) (end_position order r.end) (end_position order s.end)
+      (starts_same r s e) (ends_same r s e)) ∙ h
 
-  same_before : (r s r' s' : AnyRange K) → range_cmp order r r' ≡ Equal → range_cmp order s s' ≡ Equal → LiesBefore order r' s' → LiesBefore order r s
+  same_before : (r s r' s' : AnyRange K) → range_cmp order r r' ≡ Equal
+      → range_cmp order s s' ≡ Equal → LiesBefore order r' s' → LiesBefore order r s
   same_before r s r' s' e f h =
-      equal_positions_compare_alike (end_position order r.end) (end_position order r'.end) (start_position order s.start) (start_position order s'.start) (ends_same r r' e) (starts_same s s' f) ∙ h
+      equal_positions_compare_alike (end_position order r.end) (end_position order r'.end)
+      (start_position order s.start) (start_position order s'.start) (ends_same r r' e)
+      (starts_same s s' f) ∙ h
 
-  same_touches : (r s r' s' : AnyRange K) → IsKnownRange order r → IsKnownRange order s → IsKnownRange order r' → IsKnownRange order s' → (IsEmptyRange order s → ⊥) → (IsEmptyRange order s' → ⊥) → LiesBefore order r s → LiesBefore order r' s' → range_cmp order r r' ≡ Equal → range_cmp order s s' ≡ Equal → Touches order r s → Touches order r' s'
+  same_touches : (r s r' s' : AnyRange K) → IsKnownRange order r → IsKnownRange order s
+      → IsKnownRange order r' → IsKnownRange order s' → (IsEmptyRange order s → ⊥)
+      → (IsEmptyRange order s' → ⊥) → LiesBefore order r s → LiesBefore order r' s'
+      → range_cmp order r r' ≡ Equal → range_cmp order s s' ≡ Equal → Touches order r s
+      → Touches order r' s'
   same_touches r s r' s' known others known' others' full full' before before' e f h =
       let cmp = position_cmp order.cmp in
       let total = position_total order.cmp lawful.total in
       let le = (before_is order lawful r.end s.start known.1 others.0).0 before in
       let le' = (before_is order lawful r'.end s'.start known'.1 others'.0).0 before' in
-      let back = (touches_is order lawful r.end s others ((nonempty_good order lawful s others).0 full) le).0 h in
+      let back =
+      (touches_is order lawful r.end s others
+      ((nonempty_good order lawful s others).0 full) le).0 h in
       let start = eq_ge cmp total (lower order s) (lower order s') (starts_same s s' f) in
-      let end = eq_le cmp total (upper order r) (upper order r') (past_same (end_position order r.end) (end_position order r'.end) (ends_same r r' e)) in
-      (touches_is order lawful r'.end s' others' ((nonempty_good order lawful s' others').0 full') le').1 (le_trans cmp total (lower order s') (lower order s) (upper order r') start (le_trans cmp total (lower order s) (upper order r) (upper order r') back end))
+      let end =
+      eq_le cmp total (upper order r) (upper order r')
+      (past_same (end_position order r.end) (end_position order r'.end) (ends_same r r' e))
+      in
+      (touches_is order lawful r'.end s' others'
+      ((nonempty_good order lawful s' others').0 full') le').1
+      (le_trans cmp total (lower order s') (lower order s) (upper order r') start
+      (le_trans cmp total (lower order s) (upper order r) (upper order r') back end))
 
   module _ {V : Type 0} (same : V → V → Bool) (equal : IsEquivalence same) where
-    same_values : (v w v' w' : V) → same v v' ≡ true → same w w' ≡ true → same v w ≡ true → same v' w' ≡ true
+    same_values : (v w v' w' : V) → same v v' ≡ true → same w w' ≡ true → same v w ≡ true
+        → same v' w' ≡ true
     same_values v w v' w' e f h =
         let crossed : same v' w ≡ true = sym (equal.congr v v' w e) ∙ h in
         equal.symm v' w' ∙ (sym (equal.congr w w' v' f) ∙ (equal.symm w v' ∙ crossed))
 
-    copy_full : (i j : Item (AnyRange K) V) → range_cmp order i.key j.key ≡ Equal → (IsEmptyRange order j.key → ⊥) → IsEmptyRange order i.key → ⊥
+    copy_full : (i j : Item (AnyRange K) V) → range_cmp order i.key j.key ≡ Equal
+        → (IsEmptyRange order j.key → ⊥) → IsEmptyRange order i.key → ⊥
     copy_full i j e full h = full (same_empty i.key j.key e h)
 
-    listed_full : (j : Item (AnyRange K) V) (rest : List (Item (AnyRange K) V)) → IsListed order lawful same (j ∷ rest) → IsEmptyRange order j.key → ⊥
+    listed_full : (j : Item (AnyRange K) V) (rest : List (Item (AnyRange K) V))
+        → IsListed order lawful same (j ∷ rest) → IsEmptyRange order j.key → ⊥
     listed_full j [] h = h.1
     listed_full j (k ∷ rest) h = h.1
 
-    listed_known : (j : Item (AnyRange K) V) (rest : List (Item (AnyRange K) V)) → IsListed order lawful same (j ∷ rest) → IsKnownRange order j.key
+    listed_known : (j : Item (AnyRange K) V) (rest : List (Item (AnyRange K) V))
+        → IsListed order lawful same (j ∷ rest) → IsKnownRange order j.key
     listed_known j [] h = h.0
     listed_known j (k ∷ rest) h = h.0
 
-    copy_listed : (copy items : List (Item (AnyRange K) V)) → IsCopyOf order same copy items → AllByRecursion (λ i. IsKnownRange order i.key) copy → IsListed order lawful same items → IsListed order lawful same copy
+    copy_listed : (copy items : List (Item (AnyRange K) V)) → IsCopyOf order same copy items
+        → AllByRecursion (λ i. IsKnownRange order i.key) copy → IsListed order lawful same items
+        → IsListed order lawful same copy
     copy_listed [] items zip known h = tt
     copy_listed (i ∷ []) [] zip known h = absurd zip
-    copy_listed (i ∷ []) (j ∷ others) zip known h = (known.0, copy_full i j zip.0.0 (listed_full j others h))
+    copy_listed (i ∷ []) (j ∷ others) zip known h =
+        (known.0, copy_full i j zip.0.0 (listed_full j others h))
     copy_listed (i ∷ i' ∷ rest) [] zip known h = absurd zip
     copy_listed (i ∷ i' ∷ rest) (j ∷ []) zip known h = absurd zip.1
     copy_listed (i ∷ i' ∷ rest) (j ∷ j' ∷ others) zip known h =
@@ -119,23 +163,43 @@ module _ {K : Type 0} (order : KeyOrder K) (lawful : IsLawful order) where
           known.0,
           copy_full i j zip.0.0 h.1,
           before,
-          λ touching s. h.3 (same_touches i.key i'.key j.key j'.key known.0 known.1.0 h.0 (listed_known j' others h.4) full next before h.2 zip.0.0 zip.1.0.0 touching) (same_values i.value i'.value j.value j'.value zip.0.1 zip.1.0.1 s),
+          λ touching s.
+              h.3 (same_touches i.key i'.key j.key j'.key known.0 known.1.0 h.0
+              (listed_known j' others h.4) full next before h.2 zip.0.0 zip.1.0.0 touching)
+              (same_values i.value i'.value j.value j'.value zip.0.1 zip.1.0.1 s),
           copy_listed (i' ∷ rest) (j' ∷ others) zip.1 known.1 h.4,
         )
 
-    pub copy_stored : (copy items : List (Item (AnyRange K) V)) → IsCopyOf order same copy items → All (λ i. IsKnownRange order i.key) copy → IsStored order same items → IsStored order same copy
+    pub copy_stored : (copy items : List (Item (AnyRange K) V)) → IsCopyOf order same copy items
+        → All (λ i. IsKnownRange order i.key) copy → IsStored order same items
+        → IsStored order same copy
     copy_stored copy items zip known h =
-        stored_by order lawful same copy (copy_listed copy items zip (recursion_from_All (λ i. IsKnownRange order i.key) copy known) (stored_list_is_listed order lawful same items h))
+        stored_by order lawful same copy
+        (copy_listed copy items zip
+        (recursion_from_All (λ i. IsKnownRange order i.key) copy known)
+        (stored_list_is_listed order lawful same items h))
 
-    pub equal_items_are_copy : (items copy : List (Item (AnyRange K) V)) → AllZip (λ x y. (is_eq (range_cmp order y.key x.key) && same y.value x.value) ≡ true) items copy → IsCopyOf order same copy items
+    pub equal_items_are_copy : (items copy : List (Item (AnyRange K) V))
+        → AllZip (λ x y. (is_eq (range_cmp order y.key x.key) && same y.value x.value) ≡ true) items
+        copy → IsCopyOf order same copy items
     equal_items_are_copy [] [] zip = tt
     equal_items_are_copy [] (y ∷ ys) zip = absurd zip
     equal_items_are_copy (x ∷ xs) [] zip = absurd zip
     equal_items_are_copy (x ∷ xs) (y ∷ ys) zip =
-        let both = and_parts (is_eq (range_cmp order y.key x.key)) (same y.value x.value) zip.0 in
-        (((eq_is_equal (range_cmp order y.key x.key)).0 both.0, both.1), equal_items_are_copy xs ys zip.1)
+        let both = and_parts (is_eq (range_cmp order y.key x.key)) (same y.value x.value) zip.0 in (
+          ((eq_is_equal (range_cmp order y.key x.key)).0 both.0, both.1),
+          equal_items_are_copy xs ys zip.1,
+        )
 
     -- the clone of an item equals it
-    pub item_clone : (is_clone : K → K → Type 0) (keys : (x y : K) → is_clone x y → order.cmp x y ≡ Equal) (is_value_clone : V → V → Type 0) (values : (x y : V) → is_value_clone x y → same x y ≡ true) (x y : Item (AnyRange K) V) → (IsBoundClone is_clone x.key.start y.key.start × IsBoundClone is_clone x.key.end y.key.end) → is_value_clone x.value y.value → (is_eq (range_cmp order y.key x.key) && same y.value x.value) ≡ true
+    pub item_clone : (is_clone : K → K → Type 0)
+        (keys : (x y : K) → is_clone x y → order.cmp x y ≡ Equal) (is_value_clone : V → V → Type 0)
+        (values : (x y : V) → is_value_clone x y → same x y ≡ true) (x y : Item (AnyRange K) V)
+        → (IsBoundClone is_clone x.key.start y.key.start
+        × IsBoundClone is_clone x.key.end y.key.end) → is_value_clone x.value y.value
+        → (is_eq (range_cmp order y.key x.key) && same y.value x.value) ≡ true
     item_clone is_clone keys is_value_clone values x y key value =
-        and_from (is_eq (range_cmp order y.key x.key)) (same y.value x.value) (ap is_eq (tied_back (range_total order lawful) x.key y.key (range_clone order lawful is_clone keys x.key y.key key))) (equal.symm y.value x.value ∙ values x.value y.value value)
+        and_from (is_eq (range_cmp order y.key x.key)) (same y.value x.value)
+        (ap is_eq (tied_back (range_total order lawful) x.key y.key
+        (range_clone order lawful is_clone keys x.key y.key key)))
+        (equal.symm y.value x.value ∙ values x.value y.value value)

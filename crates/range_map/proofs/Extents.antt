@@ -27,7 +27,9 @@ module _ {K : Type 0} (order : KeyOrder K) (lawful : IsLawful order) where
   PLt p q = Lt (position_cmp order.cmp) p q
 
   -- an end that is at most another lies before it past its place too
-  past_turned : (e f i : Bound K) → inverted f ≡ Some i → IsKnownBound order e → IsKnownBound order f → PLe (end_position order e) (end_position order f) → PLe (past order (end_position order e)) (past order (end_position order f))
+  past_turned : (e f i : Bound K) → inverted f ≡ Some i → IsKnownBound order e
+      → IsKnownBound order f → PLe (end_position order e) (end_position order f)
+      → PLe (past order (end_position order e)) (past order (end_position order f))
   past_turned e f i turns known known' le =
       let cmp = position_cmp order.cmp in
       let total = position_total order.cmp lawful.total in
@@ -39,12 +41,18 @@ module _ {K : Type 0} (order : KeyOrder K) (lawful : IsLawful order) where
       not_lt cmp total pe pf (λ l.
       let under = le_lt_trans cmp total s pf pe (eq_ge cmp total pf s at) l in
       let reached = (reaching_is_before_past order lawful i e start known).1 under in
-      let over = (reaching_is_before_past order lawful i f start known').0 (le_trans cmp total s (end_position order e) (end_position order f) reached le) in
+      let over =
+      (reaching_is_before_past order lawful i f start known').0
+      (le_trans cmp total s (end_position order e) (end_position order f) reached le) in
       lt_not_le cmp total s pf over (eq_le cmp total pf s at))
 
-  pub past_le : (e f : Bound K) → IsKnownBound order e → IsKnownBound order f → PLe (end_position order e) (end_position order f) → PLe (past order (end_position order e)) (past order (end_position order f))
-  past_le e (Included b) known known' le = past_turned e (Included b) (Excluded b) refl known known' le
-  past_le e (Excluded b) known known' le = past_turned e (Excluded b) (Included b) refl known known' le
+  pub past_le : (e f : Bound K) → IsKnownBound order e → IsKnownBound order f
+      → PLe (end_position order e) (end_position order f)
+      → PLe (past order (end_position order e)) (past order (end_position order f))
+  past_le e (Included b) known known' le =
+      past_turned e (Included b) (Excluded b) refl known known' le
+  past_le e (Excluded b) known known' le =
+      past_turned e (Excluded b) (Included b) refl known known' le
   past_le e Unbounded known known' le = unbounded_end order lawful e known
 
   -- the neighbour before a key that has none is nobody's neighbour
@@ -53,24 +61,40 @@ module _ {K : Type 0} (order : KeyOrder K) (lawful : IsLawful order) where
   told_none (Some x) None a t s n = s
   told_none (Some x) (Some y) a t s n = cc
 
-  next_below : (a b d : K) → order.succ a ≡ Some d → order.is_key b → order.pred b ≡ None → order.cmp a b ≡ Less → order.cmp d b ≡ Less
+  next_below : (a b d : K) → order.succ a ≡ Some d → order.is_key b → order.pred b ≡ None
+      → order.cmp a b ≡ Less → order.cmp d b ≡ Less
   next_below a b d next key first l =
       let le = lawful.none_between a d b next key l in
-      not_le order.cmp lawful.total d b (λ over. told_none (order.pred d) (order.pred b) a (lawful.succ_pred a d next) (lawful.pred_congr d b (both order.cmp lawful.total d b le over)) first)
+      not_le order.cmp lawful.total d b
+      (λ over. told_none (order.pred d) (order.pred b) a (lawful.succ_pred a d next)
+      (lawful.pred_congr d b (both order.cmp lawful.total d b le over)) first)
 
-  at_before : (a b : K) (o : Option K) → order.succ a ≡ o → order.is_key b → order.pred b ≡ None → order.cmp a b ≡ Less → PLt (at_told o (Beside a After)) (Beside b At)
+  at_before : (a b : K) (o : Option K) → order.succ a ≡ o → order.is_key b → order.pred b ≡ None
+      → order.cmp a b ≡ Less → PLt (at_told o (Beside a After)) (Beside b At)
   at_before a b None next key first l = less_then_any (order.cmp a b) Greater l
-  at_before a b (Some d) next key first l = less_then_any (order.cmp d b) Equal (next_below a b d next key first l)
+  at_before a b (Some d) next key first l =
+      less_then_any (order.cmp d b) Equal (next_below a b d next key first l)
 
-  at_at : (a b : K) (o p : Option K) → order.succ a ≡ o → order.succ b ≡ p → order.is_key a → order.is_key b → order.cmp a b ≡ Less → PLt (at_told o (Beside a After)) (at_told p (Beside b After))
+  at_at : (a b : K) (o p : Option K) → order.succ a ≡ o → order.succ b ≡ p → order.is_key a
+      → order.is_key b → order.cmp a b ≡ Less
+      → PLt (at_told o (Beside a After)) (at_told p (Beside b After))
   at_at a b None None next next' key key' l = less_then_any (order.cmp a b) Equal l
-  at_at a b None (Some e) next next' key key' l = less_then_any (order.cmp a e) Greater (lt_trans order.cmp lawful.total a b e l (lawful.succ_above b e next'))
-  at_at a b (Some d) None next next' key key' l = (less_unless_less (order.cmp d b)).1 (lawful.none_between a d b next key' l)
-  at_at a b (Some d) (Some e) next next' key key' l = less_then_any (order.cmp d e) Equal (le_lt_trans order.cmp lawful.total d b e (lawful.none_between a d b next key' l) (lawful.succ_above b e next'))
+  at_at a b None (Some e) next next' key key' l =
+      less_then_any (order.cmp a e) Greater
+      (lt_trans order.cmp lawful.total a b e l (lawful.succ_above b e next'))
+  at_at a b (Some d) None next next' key key' l =
+      (less_unless_less (order.cmp d b)).1 (lawful.none_between a d b next key' l)
+  at_at a b (Some d) (Some e) next next' key key' l =
+      less_then_any (order.cmp d e) Equal
+      (le_lt_trans order.cmp lawful.total d b e (lawful.none_between a d b next key' l)
+      (lawful.succ_above b e next'))
 
-  before_at : (a b : K) (p : Option K) → order.succ b ≡ p → is_gt (order.cmp a b) ≡ false → PLt (Beside a At) (at_told p (Beside b After))
+  before_at : (a b : K) (p : Option K) → order.succ b ≡ p → is_gt (order.cmp a b) ≡ false
+      → PLt (Beside a At) (at_told p (Beside b After))
   before_at a b None next le = (less_unless_less (order.cmp a b)).1 le
-  before_at a b (Some e) next le = less_then_any (order.cmp a e) Equal (le_lt_trans order.cmp lawful.total a b e le (lawful.succ_above b e next))
+  before_at a b (Some e) next le =
+      less_then_any (order.cmp a e) Equal
+      (le_lt_trans order.cmp lawful.total a b e le (lawful.succ_above b e next))
 
   at_infinity : (a : K) (o : Option K) → PLt (at_told o (Beside a After)) PlusInfinity
   at_infinity a None = refl
@@ -81,13 +105,18 @@ module _ {K : Type 0} (order : KeyOrder K) (lawful : IsLawful order) where
   infinity_last (Beside a x) l = cc
   infinity_last PlusInfinity l = cc
 
-  past_lt : (e f : Position K) → IsEnd order e → IsEnd order f → PLt e f → PLt (past order e) (past order f)
+  past_lt : (e f : Position K) → IsEnd order e → IsEnd order f → PLt e f
+      → PLt (past order e) (past order f)
   unfolding IsEnd
-  past_lt (Beside a Before) (Beside b Before) h k l = less_then_any (order.cmp a b) Equal (less_unless_equal (order.cmp a b) l)
-  past_lt (Beside a Before) (Beside b At) h k l = before_at a b (order.succ b) refl ((less_unless_less (order.cmp a b)).0 l)
+  past_lt (Beside a Before) (Beside b Before) h k l =
+      less_then_any (order.cmp a b) Equal (less_unless_equal (order.cmp a b) l)
+  past_lt (Beside a Before) (Beside b At) h k l =
+      before_at a b (order.succ b) refl ((less_unless_less (order.cmp a b)).0 l)
   past_lt (Beside a Before) PlusInfinity h k l = refl
-  past_lt (Beside a At) (Beside b Before) h k l = at_before a b (order.succ a) refl k.0 k.1 ((less_unless_greater (order.cmp a b)).0 l)
-  past_lt (Beside a At) (Beside b At) h k l = at_at a b (order.succ a) (order.succ b) refl refl h k (less_unless_equal (order.cmp a b) l)
+  past_lt (Beside a At) (Beside b Before) h k l =
+      at_before a b (order.succ a) refl k.0 k.1 ((less_unless_greater (order.cmp a b)).0 l)
+  past_lt (Beside a At) (Beside b At) h k l =
+      at_at a b (order.succ a) (order.succ b) refl refl h k (less_unless_equal (order.cmp a b) l)
   past_lt (Beside a At) PlusInfinity h k l = at_infinity a (order.succ a)
   past_lt PlusInfinity f h k l = absurd (infinity_last f l)
   past_lt MinusInfinity f h k l = absurd h
@@ -97,8 +126,14 @@ module _ {K : Type 0} (order : KeyOrder K) (lawful : IsLawful order) where
   past_lt (Beside a At) (Beside b After) h k l = absurd k
   past_lt (Beside a At) MinusInfinity h k l = absurd k
 
-  pub end_le : (e f : Bound K) → IsKnownBound order e → IsKnownBound order f → PLe (past order (end_position order e)) (past order (end_position order f)) → PLe (end_position order e) (end_position order f)
+  pub end_le : (e f : Bound K) → IsKnownBound order e → IsKnownBound order f
+      → PLe (past order (end_position order e)) (past order (end_position order f))
+      → PLe (end_position order e) (end_position order f)
   end_le e f known known' le =
       let cmp = position_cmp order.cmp in
       let total = position_total order.cmp lawful.total in
-      not_lt cmp total (end_position order e) (end_position order f) (λ l. lt_not_le cmp total (past order (end_position order f)) (past order (end_position order e)) (past_lt (end_position order f) (end_position order e) (ends_lie_at_ends order lawful f known') (ends_lie_at_ends order lawful e known) l) le)
+      not_lt cmp total (end_position order e) (end_position order f)
+      (λ l. lt_not_le cmp total (past order (end_position order f))
+      (past order (end_position order e))
+      (past_lt (end_position order f) (end_position order e)
+      (ends_lie_at_ends order lawful f known') (ends_lie_at_ends order lawful e known) l) le)

@@ -36,29 +36,49 @@ not_false_is_greater Equal h = absurd (h refl)
 not_false_is_greater Greater h = refl
 
 module _ {K : Type 0} (order : KeyOrder K) (lawful : IsLawful order) where
-  equal_positions_chain : (p q s : Position K) → position_cmp order.cmp p q ≡ Equal → position_cmp order.cmp q s ≡ Equal → position_cmp order.cmp p s ≡ Equal
+  equal_positions_chain : (p q s : Position K) → position_cmp order.cmp p q ≡ Equal
+      → position_cmp order.cmp q s ≡ Equal → position_cmp order.cmp p s ≡ Equal
   equal_positions_chain p q s h k = (position_total order.cmp lawful.total).congr p q s h ∙ k
 
-  equal_positions_turn : (p q : Position K) → position_cmp order.cmp p q ≡ Equal → position_cmp order.cmp q p ≡ Equal
+  equal_positions_turn : (p q : Position K) → position_cmp order.cmp p q ≡ Equal
+      → position_cmp order.cmp q p ≡ Equal
   equal_positions_turn p q h = tied_back (position_total order.cmp lawful.total) p q h
 
-  later_under : (p q u : Position K) → PLe order lawful q p → PLe order lawful (later order q u) (later order p u)
+  later_under : (p q u : Position K) → PLe order lawful q p
+      → PLe order lawful (later order q u) (later order p u)
   later_under p q u le =
       let over = later_over order lawful p u in
-      either_choice_holds order lawful (λ y. PLe order lawful y (later order p u)) (is_gt (position_cmp order.cmp q u)) q u (le_trans (position_cmp order.cmp) (position_total order.cmp lawful.total) q p (later order p u) le over.0) over.1
+      either_choice_holds order lawful (λ y. PLe order lawful y (later order p u))
+      (is_gt (position_cmp order.cmp q u)) q u
+      (le_trans (position_cmp order.cmp) (position_total order.cmp lawful.total) q p
+      (later order p u) le over.0) over.1
 
-  earlier_over : (p q u : Position K) → PLe order lawful p q → PLe order lawful (earlier order p u) (earlier order q u)
+  earlier_over : (p q u : Position K) → PLe order lawful p q
+      → PLe order lawful (earlier order p u) (earlier order q u)
   earlier_over p q u le =
       let under = earlier_under order lawful p u in
-      either_choice_holds order lawful (λ y. PLe order lawful (earlier order p u) y) (is_gt (position_cmp order.cmp q u)) u q under.1 (le_trans (position_cmp order.cmp) (position_total order.cmp lawful.total) (earlier order p u) p q under.0 le)
+      either_choice_holds order lawful (λ y. PLe order lawful (earlier order p u) y)
+      (is_gt (position_cmp order.cmp q u)) u q under.1
+      (le_trans (position_cmp order.cmp) (position_total order.cmp lawful.total)
+      (earlier order p u) p q under.0 le)
 
-  module _ (r s : AnyRange K) (starts : position_cmp order.cmp (start_position order r.start) (start_position order s.start) ≡ Equal) (ends : position_cmp order.cmp (end_position order r.end) (end_position order s.end) ≡ Equal) where
+  module _ (r s : AnyRange K)
+      (starts : position_cmp order.cmp (start_position order r.start) (start_position order s.start)
+      ≡ Equal) (ends : position_cmp order.cmp (end_position order r.end) (end_position order s.end)
+      ≡ Equal) where
     pub holds_too : (k : K) → order.is_key k → Holds order r k → Holds order s k
     holds_too k key h =
         let cmp = position_cmp order.cmp in
         let total = position_total order.cmp lawful.total in
         let at = (holds_by_position order lawful r k key).0 h in
-        (holds_by_position order lawful s k key).1 (le_trans cmp total (start_position order s.start) (start_position order r.start) (Beside k At) (eq_ge cmp total (start_position order r.start) (start_position order s.start) starts) at.0, le_trans cmp total (Beside k At) (end_position order r.end) (end_position order s.end) at.1 (eq_le cmp total (end_position order r.end) (end_position order s.end) ends))
+        (holds_by_position order lawful s k key).1 (
+          le_trans cmp total (start_position order s.start) (start_position order r.start)
+              (Beside k At) (eq_ge cmp total (start_position order r.start)
+              (start_position order s.start) starts) at.0,
+          le_trans cmp total (Beside k At) (end_position order r.end)
+              (end_position order s.end) at.1
+              (eq_le cmp total (end_position order r.end) (end_position order s.end) ends),
+        )
 
     common_too : (i part : AnyRange K) → IsCommonPart order r i part → IsCommonPart order s i part
     common_too i part h =
@@ -71,8 +91,18 @@ module _ {K : Type 0} (order : KeyOrder K) (lawful : IsLawful order) where
         let b = end_position order s.end in
         let v = end_position order i.end in
         record {
-          starts = equal_positions_chain (start_position order part.start) (later order p u) (later order q u) h.starts (both cmp total (later order p u) (later order q u) (later_under q p u (eq_le cmp total p q starts)) (later_under p q u (eq_ge cmp total p q starts)));
-          ends = equal_positions_chain (end_position order part.end) (earlier order a v) (earlier order b v) h.ends (both cmp total (earlier order a v) (earlier order b v) (earlier_over a b v (eq_le cmp total a b ends)) (earlier_over b a v (eq_ge cmp total a b ends)));
+          starts =
+              equal_positions_chain (start_position order part.start) (later order p u)
+              (later order q u) h.starts
+              (both cmp total (later order p u) (later order q u)
+              (later_under q p u (eq_le cmp total p q starts))
+              (later_under p q u (eq_ge cmp total p q starts)));
+          ends =
+              equal_positions_chain (end_position order part.end) (earlier order a v)
+              (earlier order b v) h.ends
+              (both cmp total (earlier order a v) (earlier order b v)
+              (earlier_over a b v (eq_le cmp total a b ends))
+              (earlier_over b a v (eq_ge cmp total a b ends)));
         }
 
     lies_too : (part : AnyRange K) → LiesIn order part r → LiesIn order part s
@@ -80,41 +110,98 @@ module _ {K : Type 0} (order : KeyOrder K) (lawful : IsLawful order) where
         let cmp = position_cmp order.cmp in
         let total = position_total order.cmp lawful.total in
         record {
-          starts = le_trans cmp total (start_position order s.start) (start_position order r.start) (start_position order part.start) (eq_ge cmp total (start_position order r.start) (start_position order s.start) starts) h.starts;
-          ends = le_trans cmp total (end_position order part.end) (end_position order r.end) (end_position order s.end) h.ends (eq_le cmp total (end_position order r.end) (end_position order s.end) ends);
+          starts =
+              le_trans cmp total (start_position order s.start) (start_position order r.start)
+              (start_position order part.start)
+              (eq_ge cmp total (start_position order r.start) (start_position order s.start) starts)
+              h.starts;
+          ends =
+              le_trans cmp total (end_position order part.end) (end_position order r.end)
+              (end_position order s.end) h.ends
+              (eq_le cmp total (end_position order r.end) (end_position order s.end) ends);
         }
 
-    free_too : {V : Type 0} (items : List (Item (AnyRange K) V)) (part : AnyRange K) → IsFreePart order items r part → IsFreePart order items s part
-    free_too items part h = record { known = h.known; nonempty = h.nonempty; within = lies_too part h.within; free = h.free }
+    free_too : {V : Type 0} (items : List (Item (AnyRange K) V)) (part : AnyRange K)
+        → IsFreePart order items r part → IsFreePart order items s part
+    free_too items part h =
+        record {
+          known = h.known;
+          nonempty = h.nonempty;
+          within = lies_too part h.within;
+          free = h.free;
+        }
 
     overlap_too : (i : AnyRange K) → Overlap order i r → Overlap order i s
     overlap_too i h =
         let cmp = position_cmp order.cmp in
         let total = position_total order.cmp lawful.total in (
-          λ l. h.0 (lt_le_trans cmp total (end_position order i.end) (start_position order s.start) (start_position order r.start) l (eq_ge cmp total (start_position order r.start) (start_position order s.start) starts)),
-          λ l. h.1 (le_lt_trans cmp total (end_position order r.end) (end_position order s.end) (start_position order i.start) (eq_le cmp total (end_position order r.end) (end_position order s.end) ends) l),
+          λ l.
+              h.0 (lt_le_trans cmp total (end_position order i.end) (start_position order s.start)
+              (start_position order r.start) l
+              (eq_ge cmp total (start_position order r.start)
+              (start_position order s.start) starts)),
+          λ l.
+              h.1 (le_lt_trans cmp total (end_position order r.end) (end_position order s.end)
+              (start_position order i.start)
+              (eq_le cmp total (end_position order r.end) (end_position order s.end) ends) l),
         )
 
   -- equal ranges have the same pieces
-  pub piece_too : {V : Type 0} (items : List (Item (AnyRange K) V)) (r s : AnyRange K) → position_cmp order.cmp (start_position order r.start) (start_position order s.start) ≡ Equal → position_cmp order.cmp (end_position order r.end) (end_position order s.end) ≡ Equal → (part : AnyRange K) (value : Option V) → IsPiece order items r part value → IsPiece order items s part value
+  pub piece_too : {V : Type 0} (items : List (Item (AnyRange K) V)) (r s : AnyRange K)
+      → position_cmp order.cmp (start_position order r.start) (start_position order s.start) ≡ Equal
+      → position_cmp order.cmp (end_position order r.end) (end_position order s.end) ≡ Equal
+      → (part : AnyRange K) (value : Option V) → IsPiece order items r part value
+      → IsPiece order items s part value
   piece_too items r s starts ends part None h =
-      let start_back = equal_positions_turn (start_position order r.start) (start_position order s.start) starts in
-      let end_back = equal_positions_turn (end_position order r.end) (end_position order s.end) ends in
-      (free_too r s starts ends items part h.0, λ other free wide. h.1 other (free_too s r start_back end_back items other free) wide)
-  piece_too items r s starts ends part (Some v) h = (h.0, any_over (λ i. IsCommonPart order r i.key part × (i.value ≡ v)) (λ i. IsCommonPart order s i.key part × (i.value ≡ v)) items (λ i t. (common_too r s starts ends i.key part t.0, t.1)) h.1)
+      let start_back =
+      equal_positions_turn (start_position order r.start)
+      (start_position order s.start) starts in
+      let end_back =
+      equal_positions_turn (end_position order r.end) (end_position order s.end) ends in (
+        free_too r s starts ends items part h.0,
+        λ other free wide. h.1 other (free_too s r start_back end_back items other free) wide,
+      )
+  piece_too items r s starts ends part (Some v) h = (
+    h.0,
+    any_over (λ i. IsCommonPart order r i.key part × (i.value ≡ v))
+        (λ i. IsCommonPart order s i.key part × (i.value ≡ v)) items
+        (λ i t. (common_too r s starts ends i.key part t.0, t.1)) h.1,
+  )
 
-  touches_start : (e : Bound K) (r s : AnyRange K) → position_cmp order.cmp (start_position order r.start) (start_position order s.start) ≡ Equal → IsTrue (starts_at_end order e (start_position order r.start)) → IsTrue (starts_at_end order e (start_position order s.start))
+  touches_start : (e : Bound K) (r s : AnyRange K)
+      → position_cmp order.cmp (start_position order r.start) (start_position order s.start) ≡ Equal
+      → IsTrue (starts_at_end order e (start_position order r.start))
+      → IsTrue (starts_at_end order e (start_position order s.start))
   touches_start (Included a) r s starts h =
-      (eq_is_equal (position_cmp order.cmp (start_position order (Excluded a)) (start_position order s.start))).1 (equal_positions_chain (start_position order (Excluded a)) (start_position order r.start) (start_position order s.start) ((eq_is_equal (position_cmp order.cmp (start_position order (Excluded a)) (start_position order r.start))).0 h) starts)
+      (eq_is_equal (position_cmp order.cmp (start_position order (Excluded a))
+      (start_position order s.start))).1
+      (equal_positions_chain (start_position order (Excluded a)) (start_position order r.start)
+      (start_position order s.start)
+      ((eq_is_equal (position_cmp order.cmp (start_position order (Excluded a))
+      (start_position order r.start))).0 h) starts)
   touches_start (Excluded a) r s starts h =
-      (eq_is_equal (position_cmp order.cmp (start_position order (Included a)) (start_position order s.start))).1 (equal_positions_chain (start_position order (Included a)) (start_position order r.start) (start_position order s.start) ((eq_is_equal (position_cmp order.cmp (start_position order (Included a)) (start_position order r.start))).0 h) starts)
+      (eq_is_equal (position_cmp order.cmp (start_position order (Included a))
+      (start_position order s.start))).1
+      (equal_positions_chain (start_position order (Included a)) (start_position order r.start)
+      (start_position order s.start)
+      ((eq_is_equal (position_cmp order.cmp (start_position order (Included a))
+      (start_position order r.start))).0 h) starts)
   touches_start Unbounded r s starts h = absurd (cc)
 
-  touches_end : (e f : Bound K) (p : Position K) → SameBound order f e → IsTrue (starts_at_end order e p) → IsTrue (starts_at_end order f p)
+  touches_end : (e f : Bound K) (p : Position K) → SameBound order f e
+      → IsTrue (starts_at_end order e p) → IsTrue (starts_at_end order f p)
   touches_end (Included a) (Included b) p alike h =
-      (eq_is_equal (position_cmp order.cmp (start_position order (Excluded b)) p)).1 (equal_positions_chain (start_position order (Excluded b)) (start_position order (Excluded a)) p (same_start order lawful (Excluded b) (Excluded a) alike) ((eq_is_equal (position_cmp order.cmp (start_position order (Excluded a)) p)).0 h))
+      (eq_is_equal (position_cmp order.cmp (start_position order (Excluded b)) p)).1
+      (equal_positions_chain (start_position order (Excluded b))
+      (start_position order (Excluded a)) p
+      (same_start order lawful (Excluded b) (Excluded a) alike)
+      ((eq_is_equal (position_cmp order.cmp (start_position order (Excluded a)) p)).0 h))
   touches_end (Excluded a) (Excluded b) p alike h =
-      (eq_is_equal (position_cmp order.cmp (start_position order (Included b)) p)).1 (equal_positions_chain (start_position order (Included b)) (start_position order (Included a)) p (same_start order lawful (Included b) (Included a) alike) ((eq_is_equal (position_cmp order.cmp (start_position order (Included a)) p)).0 h))
+      (eq_is_equal (position_cmp order.cmp (start_position order (Included b)) p)).1
+      (equal_positions_chain (start_position order (Included b))
+      (start_position order (Included a)) p
+      (same_start order lawful (Included b) (Included a) alike)
+      ((eq_is_equal (position_cmp order.cmp (start_position order (Included a)) p)).0 h))
   touches_end Unbounded f p alike h = absurd (cc)
   touches_end (Included a) (Excluded b) p alike h = absurd alike
   touches_end (Included a) Unbounded p alike h = absurd alike
@@ -122,12 +209,19 @@ module _ {K : Type 0} (order : KeyOrder K) (lawful : IsLawful order) where
   touches_end (Excluded a) Unbounded p alike h = absurd alike
 
   -- what is true of an update of a clone is true of one of the range
-  module _ (r s : AnyRange K) (start : SameBound order r.start s.start) (end : SameBound order r.end s.end) where
-    starts_alike : position_cmp order.cmp (start_position order s.start) (start_position order r.start) ≡ Equal
-    starts_alike = equal_positions_turn (start_position order r.start) (start_position order s.start) (same_start order lawful r.start s.start start)
+  module _ (r s : AnyRange K) (start : SameBound order r.start s.start)
+      (end : SameBound order r.end s.end) where
+    starts_alike : position_cmp order.cmp (start_position order s.start)
+        (start_position order r.start) ≡ Equal
+    starts_alike =
+        equal_positions_turn (start_position order r.start) (start_position order s.start)
+        (same_start order lawful r.start s.start start)
 
-    ends_alike : position_cmp order.cmp (end_position order s.end) (end_position order r.end) ≡ Equal
-    ends_alike = equal_positions_turn (end_position order r.end) (end_position order s.end) (same_end order lawful r.end s.end end)
+    ends_alike : position_cmp order.cmp (end_position order s.end) (end_position order r.end)
+        ≡ Equal
+    ends_alike =
+        equal_positions_turn (end_position order r.end) (end_position order s.end)
+        (same_end order lawful r.end s.end end)
 
     pub clone_empty : IsEmptyRange order s → IsEmptyRange order r
     clone_empty h =
@@ -137,30 +231,71 @@ module _ {K : Type 0} (order : KeyOrder K) (lawful : IsLawful order) where
         let q = end_position order r.end in
         let p' = start_position order s.start in
         let q' = end_position order s.end in
-        not_false_is_greater (cmp p q) (λ le. not_both_greater_and_not (cmp p' q') (le_trans cmp total p' p q' (eq_le cmp total p' p starts_alike) (le_trans cmp total p q q' le (eq_ge cmp total q' q ends_alike))) h)
+        not_false_is_greater (cmp p q)
+        (λ le. not_both_greater_and_not (cmp p' q')
+        (le_trans cmp total p' p q' (eq_le cmp total p' p starts_alike)
+        (le_trans cmp total p q q' le (eq_ge cmp total q' q ends_alike))) h)
 
     module _ {V : Type 0} (same : V → V → Bool) (others : List (Item (AnyRange K) V)) where
-      concerned_too : (i : Item (AnyRange K) V) → Overlap order i.key s ⊎ IsMergedInto order same others s i → Overlap order i.key r ⊎ IsMergedInto order same others r i
+      concerned_too : (i : Item (AnyRange K) V)
+          → Overlap order i.key s ⊎ IsMergedInto order same others s i
+          → Overlap order i.key r ⊎ IsMergedInto order same others r i
       concerned_too i (inl meets) = inl (overlap_too s r starts_alike ends_alike i.key meets)
-      concerned_too i (inr (inl h)) = inr (inl (touches_start i.key.end s r starts_alike h.0, any_over _ _ others (λ j g. (g.0, overlap_too s r starts_alike ends_alike j.key g.1, g.2)) h.1))
-      concerned_too i (inr (inr h)) = inr (inr (touches_end s.end r.end (start_position order i.key.start) end h.0, any_over _ _ others (λ j g. (g.0, overlap_too s r starts_alike ends_alike j.key g.1, g.2)) h.1))
+      concerned_too i (inr (inl h)) =
+          inr
+          (inl (
+            touches_start i.key.end s r starts_alike h.0,
+            any_over _ _ others (λ j g. (g.0, overlap_too s r starts_alike ends_alike j.key g.1, g.2))
+                h.1,
+          ))
+      concerned_too i (inr (inr h)) =
+          inr
+          (inr (
+            touches_end s.end r.end (start_position order i.key.start) end h.0,
+            any_over _ _ others (λ j g. (g.0, overlap_too s r starts_alike ends_alike j.key g.1, g.2))
+                h.1,
+          ))
 
-    module _ {V : Type 0} (same : V → V → Bool) {F E : Type 0} (calls : Shared F (Option (Bor V) × Unit {0}) (Result (Option V) E)) (f : F) (items : List (Item (AnyRange K) V)) where
-      pub fails_too : (e : E) → FailsAt order same calls f items s e → FailsAt order same calls f items r e
-      fails_too e h = record { piece = h.piece; value = h.value; is_piece = piece_too items s r starts_alike ends_alike h.piece h.value h.is_piece; says = h.says }
+    module _ {V : Type 0} (same : V → V → Bool) {F E : Type 0}
+        (calls : Shared F (Option (Bor V) × Unit {0}) (Result (Option V) E)) (f : F)
+        (items : List (Item (AnyRange K) V)) where
+      pub fails_too : (e : E) → FailsAt order same calls f items s e
+          → FailsAt order same calls f items r e
+      fails_too e h =
+          record {
+            piece = h.piece;
+            value = h.value;
+            is_piece = piece_too items s r starts_alike ends_alike h.piece h.value h.is_piece;
+            says =
+                h.says;
+          }
 
-      pub updated_too : (new : List (Item (AnyRange K) V)) → IsUpdated order same calls f items new s → IsUpdated order same calls f items new r
+      pub updated_too : (new : List (Item (AnyRange K) V))
+          → IsUpdated order same calls f items new s → IsUpdated order same calls f items new r
       updated_too new h = record {
         answered = record {
           answers = h.answered.answers;
           pieces = record {
-            each = every_weaker (λ p. IsPiece order items s p.key p.value) (λ p. IsPiece order items r p.key p.value) (map piece_of h.answered.answers) (λ p t. piece_too items s r starts_alike ends_alike p.key p.value t) h.answered.pieces.each;
+            each =
+                every_weaker (λ p. IsPiece order items s p.key p.value)
+                (λ p. IsPiece order items r p.key p.value) (map piece_of h.answered.answers)
+                (λ p t. piece_too items s r starts_alike ends_alike p.key p.value t)
+                h.answered.pieces.each;
             rising = h.answered.pieces.rising;
-            all = λ part binding known piece. h.answered.pieces.all part binding known (piece_too items r s (same_start order lawful r.start s.start start) (same_end order lawful r.end s.end end) part binding piece);
+            all =
+                λ part binding known piece.
+                h.answered.pieces.all part binding known
+                (piece_too items r s (same_start order lawful r.start s.start start)
+                (same_end order lawful r.end s.end end) part binding piece);
           };
           given = h.answered.given;
-          held = λ k key in_r. h.answered.held k key (holds_too r s (same_start order lawful r.start s.start start) (same_end order lawful r.end s.end end) k key in_r);
-          others = λ k key out. h.answered.others k key (λ in_s. out (holds_too s r starts_alike ends_alike k key in_s));
+          held =
+              λ k key in_r. h.answered.held k key
+              (holds_too r s (same_start order lawful r.start s.start start)
+              (same_end order lawful r.end s.end end) k key in_r);
+          others =
+              λ k key out. h.answered.others k key
+              (λ in_s. out (holds_too s r starts_alike ends_alike k key in_s));
         };
         frame = way_follows (λ run others way. record {
           concerned = every_weaker _ _ run (λ i t. concerned_too same others i t) way.concerned;

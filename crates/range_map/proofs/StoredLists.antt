@@ -1,4 +1,5 @@
--- Lists of the map's form are coarse over complete keys, and equal exactly where they bind every key alike.
+-- Lists of the map's form are coarse over complete keys, and equal exactly where they bind every
+-- key alike.
 use Rattle.std.proofs.Common.{◌≡◌, refl, sym, ap, ◌∙◌, List, [], ◌∷◌, length, inl, inr, ◌↔◌, Bool, ◌&&◌, IsTrue, Option, Some, None}
 use Rattle.std.specs.declared.cmp.Ordering.{Ordering}
 use Rattle.std.specs.declared.cmp.Ordering.TheVariants.{Equal}
@@ -23,100 +24,164 @@ use Rattle.range_map.proofs.Meeting.{binds_bound}
 use Rattle.range_map.proofs.Coarse.{coarse_alike, coarse_shortest, Follows}
 use Rattle.range_algebra.proofs.Joined.{before_is, ends_below, joined_touch, is_before_of}
 
-module _ {K : Type 0} (order : KeyOrder K) (lawful : IsLawful order) {V : Type 0} (same_value : V → V → Bool) (values : IsEquivalence same_value) where
-  tail_is_stored : (i : Item (AnyRange K) V) (rest : List (Item (AnyRange K) V)) → IsStored order same_value (i ∷ rest) → IsStored order same_value rest
-  tail_is_stored i rest stored = record { known = stored.known.1; nonempty = stored.nonempty.1; rising = stored.rising.1 }
+module _ {K : Type 0} (order : KeyOrder K) (lawful : IsLawful order) {V : Type 0}
+    (same_value : V → V → Bool) (values : IsEquivalence same_value) where
+  tail_is_stored : (i : Item (AnyRange K) V) (rest : List (Item (AnyRange K) V))
+      → IsStored order same_value (i ∷ rest) → IsStored order same_value rest
+  tail_is_stored i rest stored =
+      record { known = stored.known.1; nonempty = stored.nonempty.1; rising = stored.rising.1 }
 
   module _ (complete : IsComplete order) where
-    has_key : (i : Item (AnyRange K) V) (rest : List (Item (AnyRange K) V)) → IsStored order same_value (i ∷ rest) → ¬ IsKeyless order i.key
+    has_key : (i : Item (AnyRange K) V) (rest : List (Item (AnyRange K) V))
+        → IsStored order same_value (i ∷ rest) → ¬ IsKeyless order i.key
     has_key i rest stored none =
-        let found = nonempty_holds order lawful complete i.key stored.known.0 (not_greater (position_cmp order.cmp (start_position order i.key.start) (end_position order i.key.end)) stored.nonempty.0) in
+        let found =
+        nonempty_holds order lawful complete i.key stored.known.0
+        (not_greater (position_cmp order.cmp (start_position order i.key.start)
+        (end_position order i.key.end)) stored.nonempty.0) in
         none found.0 found.1 found.2
 
     -- over complete keys the map's form is coarse
-    pub stored_coarse : (items : List (Item (AnyRange K) V)) → IsStored order same_value items → IsCoarse order same_value items
+    pub stored_coarse : (items : List (Item (AnyRange K) V)) → IsStored order same_value items
+        → IsCoarse order same_value items
     stored_coarse [] stored = record { keyed = tt; rising = tt; parted = tt }
-    stored_coarse (i ∷ []) stored = record { keyed = (has_key i [] stored, tt); rising = (tt, tt); parted = (tt, tt) }
+    stored_coarse (i ∷ []) stored =
+        record { keyed = (has_key i [] stored, tt); rising = (tt, tt); parted = (tt, tt) }
     stored_coarse (i ∷ j ∷ rest) stored =
-        let before = before_is order lawful i.key j.key (same_value i.value j.value) stored.rising.0 in
+        let before =
+        before_is order lawful i.key j.key (same_value i.value j.value) stored.rising.0 in
         let behind = stored_coarse (j ∷ rest) (tail_is_stored i (j ∷ rest) stored) in
         record {
           keyed = (has_key i (j ∷ rest) stored, behind.keyed);
           rising = (ends_below order lawful i.key j.key before.0, behind.rising);
-          parted = (λ joined same. before.1 same (joined_touch order lawful complete i.key j.key stored.known.0 stored.known.1.0 stored.nonempty.0 stored.nonempty.1.0 joined), behind.parted);
+          parted = (
+            λ joined same. before.1 same
+                (joined_touch order lawful complete i.key j.key stored.known.0 stored.known.1.0
+                stored.nonempty.0 stored.nonempty.1.0 joined),
+            behind.parted,
+          );
         }
 
-    pub stored_only : (items : List (Item (AnyRange K) V)) → IsStored order same_value items → IsOnlyCoarse order same_value items
-    stored_only items stored others coarse alike = coarse_alike order lawful same_value values items others (stored_coarse items stored) coarse alike
+    pub stored_only : (items : List (Item (AnyRange K) V)) → IsStored order same_value items
+        → IsOnlyCoarse order same_value items
+    stored_only items stored others coarse alike =
+        coarse_alike order lawful same_value values items others
+        (stored_coarse items stored) coarse alike
 
-    pub stored_least : (items : List (Item (AnyRange K) V)) → IsStored order same_value items → IsLeastCount order same_value items (length items)
-    stored_least items stored others alike = coarse_shortest order lawful same_value values items others (stored_coarse items stored) alike
+    pub stored_least : (items : List (Item (AnyRange K) V)) → IsStored order same_value items
+        → IsLeastCount order same_value items (length items)
+    stored_least items stored others alike =
+        coarse_shortest order lawful same_value values items others
+        (stored_coarse items stored) alike
 
-    alike_equal : (items others : List (Item (AnyRange K) V)) → IsStored order same_value items → IsStored order same_value others → AreAlike order same_value items others → IsTrue (same_list order same_value items others)
+    alike_equal : (items others : List (Item (AnyRange K) V)) → IsStored order same_value items
+        → IsStored order same_value others → AreAlike order same_value items others
+        → IsTrue (same_list order same_value items others)
     alike_equal [] [] stored stored' alike = refl
     alike_equal [] (j ∷ others) stored stored' alike = absurd alike
     alike_equal (i ∷ items) [] stored stored' alike = absurd alike
     alike_equal (i ∷ items) (j ∷ others) stored stored' alike =
-        and_from (eq_by_cmp (range_cmp order) i.key j.key && same_value i.value j.value) (same_list order same_value items others)
+        and_from (eq_by_cmp (range_cmp order) i.key j.key && same_value i.value j.value)
+        (same_list order same_value items others)
         (and_from (eq_by_cmp (range_cmp order) i.key j.key) (same_value i.value j.value)
-        (ap is_eq (same_is_equal order lawful complete i.key j.key stored.known.0 stored'.known.0 stored.nonempty.0 stored'.nonempty.0 alike.0.0)) alike.0.1)
-        (alike_equal items others (tail_is_stored i items stored) (tail_is_stored j others stored') alike.1)
+        (ap is_eq (same_is_equal order lawful complete i.key j.key stored.known.0 stored'.known.0
+        stored.nonempty.0 stored'.nonempty.0 alike.0.0)) alike.0.1)
+        (alike_equal items others (tail_is_stored i items stored)
+        (tail_is_stored j others stored') alike.1)
 
-  equal_alike : (items others : List (Item (AnyRange K) V)) → IsTrue (same_list order same_value items others) → AreAlike order same_value items others
+  equal_alike : (items others : List (Item (AnyRange K) V))
+      → IsTrue (same_list order same_value items others) → AreAlike order same_value items others
   equal_alike [] [] e = tt
   equal_alike [] (j ∷ others) e = cc
   equal_alike (i ∷ items) [] e = cc
   equal_alike (i ∷ items) (j ∷ others) e =
-      let here = first_so (eq_by_cmp (range_cmp order) i.key j.key && same_value i.value j.value) (same_list order same_value items others) e in
-      let there = second_so (eq_by_cmp (range_cmp order) i.key j.key && same_value i.value j.value) (same_list order same_value items others) e in
-      let ranges = first_so (eq_by_cmp (range_cmp order) i.key j.key) (same_value i.value j.value) here in (
-        (equal_is_same order lawful i.key j.key ((Equal-is (range_cmp order i.key j.key)).0 ranges), second_so (eq_by_cmp (range_cmp order) i.key j.key) (same_value i.value j.value) here),
+      let here =
+      first_so (eq_by_cmp (range_cmp order) i.key j.key && same_value i.value j.value)
+      (same_list order same_value items others) e in
+      let there =
+      second_so (eq_by_cmp (range_cmp order) i.key j.key && same_value i.value j.value)
+      (same_list order same_value items others) e in
+      let ranges =
+      first_so (eq_by_cmp (range_cmp order) i.key j.key)
+      (same_value i.value j.value) here in (
+        (
+          equal_is_same order lawful i.key j.key ((Equal-is (range_cmp order i.key j.key)).0 ranges),
+          second_so (eq_by_cmp (range_cmp order) i.key j.key) (same_value i.value j.value) here,
+        ),
         equal_alike items others there,
       )
 
-  alike_turned : (items others : List (Item (AnyRange K) V)) → AreAlike order same_value items others → AreAlike order same_value others items
+  alike_turned : (items others : List (Item (AnyRange K) V))
+      → AreAlike order same_value items others → AreAlike order same_value others items
   alike_turned [] [] alike = tt
   alike_turned [] (j ∷ others) alike = alike
   alike_turned (i ∷ items) [] alike = alike
-  alike_turned (i ∷ items) (j ∷ others) alike = ((λ k key. ((alike.0.0 k key).1, (alike.0.0 k key).0), values.symm j.value i.value ∙ alike.0.1), alike_turned items others alike.1)
+  alike_turned (i ∷ items) (j ∷ others) alike = (
+    (
+      λ k key. ((alike.0.0 k key).1, (alike.0.0 k key).0),
+      values.symm j.value i.value
+          ∙ alike.0.1,
+    ),
+    alike_turned items others alike.1,
+  )
 
-  alike_follows : (items others : List (Item (AnyRange K) V)) → AreAlike order same_value items others → Follows order lawful same_value values items others
+  alike_follows : (items others : List (Item (AnyRange K) V))
+      → AreAlike order same_value items others → Follows order lawful same_value values items others
   alike_follows [] others alike k key v h = absurd h
   alike_follows (i ∷ items) [] alike k key v h = absurd alike
-  alike_follows (i ∷ items) (j ∷ others) alike k key v (inl h) = inl ((alike.0.0 k key).0 h.0, sym (values.congr i.value j.value v alike.0.1) ∙ h.1)
-  alike_follows (i ∷ items) (j ∷ others) alike k key v (inr h) = inr (alike_follows items others alike.1 k key v h)
+  alike_follows (i ∷ items) (j ∷ others) alike k key v (inl h) =
+      inl ((alike.0.0 k key).0 h.0, sym (values.congr i.value j.value v alike.0.1) ∙ h.1)
+  alike_follows (i ∷ items) (j ∷ others) alike k key v (inr h) =
+      inr (alike_follows items others alike.1 k key v h)
 
-  alike_bound : (items others : List (Item (AnyRange K) V)) → AreAlike order same_value items others → (k : K) → order.is_key k → IsBound order items k → IsBound order others k
+  alike_bound : (items others : List (Item (AnyRange K) V)) → AreAlike order same_value items others
+      → (k : K) → order.is_key k → IsBound order items k → IsBound order others k
   alike_bound [] others alike k key h = absurd h
   alike_bound (i ∷ items) [] alike k key h = absurd alike
   alike_bound (i ∷ items) (j ∷ others) alike k key (inl h) = inl ((alike.0.0 k key).0 h)
-  alike_bound (i ∷ items) (j ∷ others) alike k key (inr h) = inr (alike_bound items others alike.1 k key h)
+  alike_bound (i ∷ items) (j ∷ others) alike k key (inr h) =
+      inr (alike_bound items others alike.1 k key h)
 
   -- alike lists bind every key alike
-  pub alike_binds : (items others : List (Item (AnyRange K) V)) → AreAlike order same_value items others → BindAlike order same_value items others
+  pub alike_binds : (items others : List (Item (AnyRange K) V))
+      → AreAlike order same_value items others → BindAlike order same_value items others
   alike_binds items others alike k key b = by_answer b
     where
       back : AreAlike order same_value others items
       back = alike_turned items others alike
 
-      by_answer : (b : Option V) → Binds order same_value items k b ↔ Binds order same_value others k b
-      by_answer None = (λ none h. none (alike_bound others items back k key h), λ none h. none (alike_bound items others alike k key h))
-      by_answer (Some v) = (alike_follows items others alike k key v, alike_follows others items back k key v)
+      by_answer : (b : Option V) → Binds order same_value items k b
+          ↔ Binds order same_value others k b
+      by_answer None = (
+        λ none h. none (alike_bound others items back k key h),
+        λ none h. none (alike_bound items others alike k key h),
+      )
+      by_answer (Some v) =
+          (alike_follows items others alike k key v, alike_follows others items back k key v)
 
   -- equal lists bind every key alike
-  pub equal_binds : (items others : List (Item (AnyRange K) V)) → IsTrue (same_list order same_value items others) → BindAlike order same_value items others
+  pub equal_binds : (items others : List (Item (AnyRange K) V))
+      → IsTrue (same_list order same_value items others) → BindAlike order same_value items others
   equal_binds items others e = alike_binds items others (equal_alike items others e)
 
   -- lists of the map's form are equal exactly where they bind every key alike
-  pub stored_equal : IsComplete order → (items others : List (Item (AnyRange K) V)) → IsStored order same_value items → IsStored order same_value others → IsTrue (same_list order same_value items others) ↔ BindAlike order same_value items others
+  pub stored_equal : IsComplete order → (items others : List (Item (AnyRange K) V))
+      → IsStored order same_value items → IsStored order same_value others
+      → IsTrue (same_list order same_value items others) ↔ BindAlike order same_value items others
   stored_equal complete items others stored stored' = (
     λ e. alike_binds items others (equal_alike items others e),
-    λ alike. alike_equal complete items others stored stored' (coarse_alike order lawful same_value values items others (stored_coarse complete items stored) (stored_coarse complete others stored') alike),
+    λ alike. alike_equal complete items others stored stored'
+        (coarse_alike order lawful same_value values items others
+        (stored_coarse complete items stored) (stored_coarse complete others stored') alike),
   )
 
-  module _ (value_cmp : V → V → Ordering) (total : IsTotalOrder value_cmp) (tied : (u v : V) → same_value u v ≡ eq_by_cmp value_cmp u v) (complete : IsComplete order) where
+  module _ (value_cmp : V → V → Ordering) (total : IsTotalOrder value_cmp)
+      (tied : (u v : V) → same_value u v ≡ eq_by_cmp value_cmp u v)
+      (complete : IsComplete order) where
     -- and then alone the order says Equal
-    pub stored_compared : (items others : List (Item (AnyRange K) V)) → IsStored order same_value items → IsStored order same_value others → list_cmp order value_cmp items others ≡ Equal ↔ BindAlike order same_value items others
+    pub stored_compared : (items others : List (Item (AnyRange K) V))
+        → IsStored order same_value items → IsStored order same_value others
+        → list_cmp order value_cmp items others ≡ Equal ↔ BindAlike order same_value items others
     stored_compared items others stored stored' =
         let equal = stored_equal complete items others stored stored' in
         let ties = lists_tied order same_value value_cmp tied items others in
@@ -124,13 +189,21 @@ module _ {K : Type 0} (order : KeyOrder K) (lawful : IsLawful order) {V : Type 0
         (λ e. equal.0 (ties ∙ level.1 e), λ alike. level.0 (sym ties ∙ equal.1 alike))
 
     -- lists compare as those do that bind every key alike
-    pub stored_same_order : (items others items' others' : List (Item (AnyRange K) V)) → IsStored order same_value items → IsStored order same_value others → IsStored order same_value items' → IsStored order same_value others' → BindAlike order same_value items items' → BindAlike order same_value others others' → list_cmp order value_cmp items others ≡ list_cmp order value_cmp items' others'
+    pub stored_same_order : (items others items' others' : List (Item (AnyRange K) V))
+        → IsStored order same_value items → IsStored order same_value others
+        → IsStored order same_value items' → IsStored order same_value others'
+        → BindAlike order same_value items items' → BindAlike order same_value others others'
+        → list_cmp order value_cmp items others ≡ list_cmp order value_cmp items' others'
     stored_same_order items others items' others' left right left' right' alike alike' =
         let lists = lists_order order lawful value_cmp total in
-        lists.congr items items' others ((stored_compared items items' left left').1 alike) ∙ alike_right lists others others' items' ((stored_compared others others' right right').1 alike')
+        lists.congr items items' others ((stored_compared items items' left left').1 alike)
+        ∙ alike_right lists others others' items'
+        ((stored_compared others others' right right').1 alike')
 
-module _ {K : Type 0} (order : KeyOrder K) {V : Type 0} (same_value : V → V → Bool) (one : (u v : V) → IsTrue (same_value u v)) where
-  binds_any : (items : List (Item (AnyRange K) V)) (k : K) (v : V) → IsBound order items k → BindsTo order same_value items k v
+module _ {K : Type 0} (order : KeyOrder K) {V : Type 0} (same_value : V → V → Bool)
+    (one : (u v : V) → IsTrue (same_value u v)) where
+  binds_any : (items : List (Item (AnyRange K) V)) (k : K) (v : V) → IsBound order items k
+      → BindsTo order same_value items k v
   binds_any [] k v h = h
   binds_any (i ∷ rest) k v (inl h) = inl (h, one i.value v)
   binds_any (i ∷ rest) k v (inr h) = inr (binds_any rest k v h)
@@ -140,37 +213,69 @@ module _ {K : Type 0} (order : KeyOrder K) {V : Type 0} (same_value : V → V �
   some_value (i ∷ rest) k h = i.value
 
   -- where all values are equal, as in a set, lists bind alike where they hold the same keys
-  pub same_keys : (items others : List (Item (AnyRange K) V)) → ((k : K) → order.is_key k → IsBound order items k ↔ IsBound order others k) ↔ BindAlike order same_value items others
-  same_keys items others = (λ alike k key b. there alike k key b, λ alike k key. (into alike k key, onto alike k key))
+  pub same_keys : (items others : List (Item (AnyRange K) V))
+      → ((k : K) → order.is_key k → IsBound order items k ↔ IsBound order others k)
+      ↔ BindAlike order same_value items others
+  same_keys items others =
+      (λ alike k key b. there alike k key b, λ alike k key. (into alike k key, onto alike k key))
     where
-      there : ((k : K) → order.is_key k → IsBound order items k ↔ IsBound order others k) → (k : K) → order.is_key k → (b : Option V) → Binds order same_value items k b ↔ Binds order same_value others k b
-      there alike k key None = (λ none h. none ((alike k key).1 h), λ none h. none ((alike k key).0 h))
-      there alike k key (Some v) = (λ h. binds_any others k v ((alike k key).0 (binds_bound order same_value items k v h)), λ h. binds_any items k v ((alike k key).1 (binds_bound order same_value others k v h)))
+      there : ((k : K) → order.is_key k → IsBound order items k ↔ IsBound order others k) → (k : K)
+          → order.is_key k → (b : Option V) → Binds order same_value items k b
+          ↔ Binds order same_value others k b
+      there alike k key None =
+          (λ none h. none ((alike k key).1 h), λ none h. none ((alike k key).0 h))
+      there alike k key (Some v) = (
+        λ h. binds_any others k v ((alike k key).0 (binds_bound order same_value items k v h)),
+        λ h. binds_any items k v ((alike k key).1 (binds_bound order same_value others k v h)),
+      )
 
-      into : BindAlike order same_value items others → (k : K) → order.is_key k → IsBound order items k → IsBound order others k
-      into alike k key h = let v = some_value items k h in binds_bound order same_value others k v ((alike k key (Some v)).0 (binds_any items k v h))
+      into : BindAlike order same_value items others → (k : K) → order.is_key k
+          → IsBound order items k → IsBound order others k
+      into alike k key h = let v =
+          some_value items k h in binds_bound order same_value others k v
+          ((alike k key (Some v)).0 (binds_any items k v h))
 
-      onto : BindAlike order same_value items others → (k : K) → order.is_key k → IsBound order others k → IsBound order items k
-      onto alike k key h = let v = some_value others k h in binds_bound order same_value items k v ((alike k key (Some v)).1 (binds_any others k v h))
+      onto : BindAlike order same_value items others → (k : K) → order.is_key k
+          → IsBound order others k → IsBound order items k
+      onto alike k key h = let v =
+          some_value others k h in binds_bound order same_value items k v
+          ((alike k key (Some v)).1 (binds_any others k v h))
 
-module _ {K : Type 0} (order : KeyOrder K) (lawful : IsLawful order) (complete : IsComplete order) {V : Type 0} (same_value : V → V → Bool) where
+module _ {K : Type 0} (order : KeyOrder K) (lawful : IsLawful order) (complete : IsComplete order)
+    {V : Type 0} (same_value : V → V → Bool) where
   keyed_full : (r : AnyRange K) → ¬ IsKeyless order r → ¬ IsEmptyRange order r
   keyed_full r keyed empty = keyed (empty_is_keyless order lawful r empty)
 
-  keyed_range_has_key : (r : AnyRange K) → IsKnownRange order r → ¬ IsKeyless order r → (k : K) × order.is_key k × Holds order r k
+  keyed_range_has_key : (r : AnyRange K) → IsKnownRange order r → ¬ IsKeyless order r
+      → (k : K) × order.is_key k × Holds order r k
   keyed_range_has_key r known keyed =
-      nonempty_holds order lawful complete r known (not_greater (position_cmp order.cmp (start_position order r.start) (end_position order r.end)) (keyed_full r keyed))
+      nonempty_holds order lawful complete r known
+      (not_greater (position_cmp order.cmp (start_position order r.start)
+      (end_position order r.end)) (keyed_full r keyed))
 
   -- over complete keys a coarse list of ranges of keys has the map's form
-  pub coarse_stored : (items : List (Item (AnyRange K) V)) → AllByRecursion (λ i. IsKnownRange order i.key) items → IsCoarse order same_value items → IsStored order same_value items
+  pub coarse_stored : (items : List (Item (AnyRange K) V))
+      → AllByRecursion (λ i. IsKnownRange order i.key) items → IsCoarse order same_value items
+      → IsStored order same_value items
   coarse_stored [] known coarse = record { known = known; nonempty = tt; rising = tt }
-  coarse_stored (i ∷ []) known coarse = record { known = known; nonempty = (keyed_full i.key coarse.keyed.0, tt); rising = (tt, tt) }
+  coarse_stored (i ∷ []) known coarse =
+      record { known = known; nonempty = (keyed_full i.key coarse.keyed.0, tt); rising = (tt, tt) }
   coarse_stored (i ∷ j ∷ rest) known coarse =
-      let behind = coarse_stored (j ∷ rest) known.1 (record { keyed = coarse.keyed.1; rising = coarse.rising.1; parted = coarse.parted.1 }) in
+      let behind =
+      coarse_stored (j ∷ rest) known.1
+      (record {
+        keyed = coarse.keyed.1;
+        rising = coarse.rising.1;
+        parted = coarse.parted.1;
+      }) in
       let first = keyed_range_has_key i.key known.0 coarse.keyed.0 in
       let next = keyed_range_has_key j.key known.1.0 coarse.keyed.1.0 in
       record {
         known = known;
         nonempty = (keyed_full i.key coarse.keyed.0, behind.nonempty);
-        rising = (is_before_of order lawful complete i.key j.key known.0 known.1.0 first.0 next.0 first.1 next.1 first.2 next.2 coarse.rising.0 (same_value i.value j.value) coarse.parted.0, behind.rising);
+        rising = (
+          is_before_of order lawful complete i.key j.key known.0 known.1.0 first.0 next.0 first.1
+              next.1 first.2 next.2 coarse.rising.0 (same_value i.value j.value) coarse.parted.0,
+          behind.rising,
+        );
       }

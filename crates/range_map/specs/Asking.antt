@@ -39,21 +39,34 @@ module _ {K : Type 0} (order : KeyOrder K) where
   IsGapEnd r (Some after) end = IsKnownRange order after × (end ≡ inverted after.start)
 
   -- the gap, or none where nothing lies between
-  abbrev pub IsGapBetween : AnyRange K → Option (AnyRange K) → Option (AnyRange K) → Option (AnyRange K) → Type 0
-  IsGapBetween r before after None = Le (position_cmp order.cmp) (gap_upper r after) (gap_lower r before)
-  IsGapBetween r before after (Some gap) = IsKnownRange order gap × (position_cmp order.cmp (lower order gap) (gap_lower r before) ≡ Equal) × (position_cmp order.cmp (upper order gap) (gap_upper r after) ≡ Equal) × Lt (position_cmp order.cmp) (lower order gap) (upper order gap)
+  abbrev pub IsGapBetween : AnyRange K → Option (AnyRange K) → Option (AnyRange K)
+      → Option (AnyRange K) → Type 0
+  IsGapBetween r before after None =
+      Le (position_cmp order.cmp) (gap_upper r after) (gap_lower r before)
+  IsGapBetween r before after (Some gap) =
+      IsKnownRange order gap
+      × (position_cmp order.cmp (lower order gap) (gap_lower r before) ≡ Equal)
+      × (position_cmp order.cmp (upper order gap) (gap_upper r after) ≡ Equal)
+      × Lt (position_cmp order.cmp) (lower order gap) (upper order gap)
 
   module _ {V : Type 0} (same : V → V → Bool) where
     -- the last item touches the range with an equal value
     abbrev pub JoinsLast : List (Item (AnyRange K) V) → AnyRange K → V → Type 0
-    JoinsLast items r v = (0 < length items) × ((d : Item (AnyRange K) V) → Touches order (slice_index_or items (length items - 1) d).key r × (same (slice_index_or items (length items - 1) d).value v ≡ true))
+    JoinsLast items r v =
+        (0 < length items)
+        × ((d : Item (AnyRange K) V)
+        → Touches order (slice_index_or items (length items - 1) d).key r
+        × (same (slice_index_or items (length items - 1) d).value v ≡ true))
 
     abbrev pub JoinsNoLast : List (Item (AnyRange K) V) → AnyRange K → V → Type 0
-    JoinsNoLast items r v = (d : Item (AnyRange K) V) → 0 < length items → Touches order (slice_index_or items (length items - 1) d).key r → same (slice_index_or items (length items - 1) d).value v ≡ true → ⊥
+    JoinsNoLast items r v = (d : Item (AnyRange K) V) → 0 < length items
+        → Touches order (slice_index_or items (length items - 1) d).key r
+        → same (slice_index_or items (length items - 1) d).value v ≡ true → ⊥
 
     module _ (is_clone : K → K → Type 0) where
       -- the range stands after the others, with cloned bounds
-      pub record IsAppended (old new : List (Item (AnyRange K) V)) (r : AnyRange K) (v : V) : Type 0 where
+      pub record IsAppended (old new : List (Item (AnyRange K) V)) (r : AnyRange K)
+          (v : V) : Type 0 where
         pub start : Bound K
         pub end : Bound K
         pub start_clone : IsBoundClone is_clone r.start start
@@ -63,31 +76,50 @@ module _ {K : Type 0} (order : KeyOrder K) where
         pub apart : JoinsNoLast old r v
 
       -- the last of the others goes on to its end
-      pub record IsExtended (old new : List (Item (AnyRange K) V)) (r : AnyRange K) (v : V) : Type 0 where
+      pub record IsExtended (old new : List (Item (AnyRange K) V)) (r : AnyRange K)
+          (v : V) : Type 0 where
         pub end : Bound K
         pub end_clone : IsBoundClone is_clone r.end end
         pub known : IsKnownBound order end
-        pub list : (d : Item (AnyRange K) V) → new ≡ slice_set old (length old - 1) (with_end (slice_index_or old (length old - 1) d) end)
+        pub list : (d : Item (AnyRange K) V)
+            → new ≡ slice_set old (length old - 1)
+            (with_end (slice_index_or old (length old - 1) d) end)
         pub joins : JoinsLast old r v
 
-      abbrev pub IsPut : List (Item (AnyRange K) V) → List (Item (AnyRange K) V) → AnyRange K → Option V → Type 0
+      abbrev pub IsPut : List (Item (AnyRange K) V) → List (Item (AnyRange K) V) → AnyRange K
+          → Option V → Type 0
       IsPut old new r None = new ≡ old
       IsPut old new r (Some v) = IsAppended old new r v ⊎ IsExtended old new r v
 
-      module _ {F E : Type 0} (calls : Shared F (Option (Bor V) × Unit {0}) (Result (Option V) E)) (f : F) where
+      module _ {F E : Type 0} (calls : Shared F (Option (Bor V) × Unit {0}) (Result (Option V) E))
+          (f : F) where
         -- where there is a gap it was asked about, and the answer was put after the others
-        abbrev pub IsGapAsked : AnyRange K → Option (AnyRange K) → Option (AnyRange K) → List (Item (AnyRange K) V) → List (Item (AnyRange K) V) → Type 0
-        IsGapAsked r before after old new = (IsGapBetween r before after None × (new ≡ old)) ⊎ ((gap : AnyRange K) × IsGapBetween r before after (Some gap) × IsAnsweredBy calls f None (IsPut old new gap))
+        abbrev pub IsGapAsked : AnyRange K → Option (AnyRange K) → Option (AnyRange K)
+            → List (Item (AnyRange K) V) → List (Item (AnyRange K) V) → Type 0
+        IsGapAsked r before after old new =
+            (IsGapBetween r before after None × (new ≡ old)) ⊎
+            ((gap : AnyRange K) × IsGapBetween r before after (Some gap)
+            × IsAnsweredBy calls f None (IsPut old new gap))
 
-        -- the gap before the item was asked about, if there is one, and then what the range has in common with the item
-        abbrev pub IsItemAsked : AnyRange K → Option (AnyRange K) → Item (AnyRange K) V → List (Item (AnyRange K) V) → List (Item (AnyRange K) V) → Type 0
-        IsItemAsked r before i old new = (middle : List (Item (AnyRange K) V)) × IsGapAsked r before (Some i.key) old middle × IsAnsweredBy calls f (Some i.value) (IsPut middle new (common order r i.key))
+        -- the gap before the item was asked about, if there is one, and then what the range has in
+        -- common with the item
+        abbrev pub IsItemAsked : AnyRange K → Option (AnyRange K) → Item (AnyRange K) V
+            → List (Item (AnyRange K) V) → List (Item (AnyRange K) V) → Type 0
+        IsItemAsked r before i old new =
+            (middle : List (Item (AnyRange K) V)) × IsGapAsked r before (Some i.key) old middle
+            × IsAnsweredBy calls f (Some i.value) (IsPut middle new (common order r i.key))
 
   -- the closure may answer an error where it is asked about the gap
-  abbrev pub FailsAtGap : {F V E : Type 0} → Shared F (Option (Bor V) × Unit {0}) (Result (Option V) E) → F → AnyRange K → Option (AnyRange K) → Option (AnyRange K) → E → Type 0
-  FailsAtGap {F} {V} calls f r before after e = (gap : AnyRange K) × IsGapBetween r before after (Some gap) × MayAnswer {V = V} calls f None (Err e)
+  abbrev pub FailsAtGap : {F V E : Type 0}
+      → Shared F (Option (Bor V) × Unit {0}) (Result (Option V) E) → F → AnyRange K
+      → Option (AnyRange K) → Option (AnyRange K) → E → Type 0
+  FailsAtGap {F} {V} calls f r before after e =
+      (gap : AnyRange K) × IsGapBetween r before after (Some gap)
+      × MayAnswer {V = V} calls f None (Err e)
 
 -- the range of the item that a position names, if there is one
-abbrev pub IsKeyAt : {K V P : Type 0} → (P → ℕ) → List (Item (AnyRange K) V) → Option P → Option (AnyRange K) → Type 0
+abbrev pub IsKeyAt : {K V P : Type 0} → (P → ℕ) → List (Item (AnyRange K) V) → Option P
+    → Option (AnyRange K) → Type 0
 IsKeyAt rank items None key = key ≡ None
-IsKeyAt {K} {V} rank items (Some p) key = (d : Item (AnyRange K) V) → key ≡ Some (slice_index_or items (rank p) d).key
+IsKeyAt {K} {V} rank items (Some p) key = (d : Item (AnyRange K) V)
+    → key ≡ Some (slice_index_or items (rank p) d).key

@@ -1,4 +1,5 @@
--- Items over intervals of places, each before the next, and touching only beside another value: what is cut out of them and put
+-- Items over intervals of places, each before the next, and touching only beside another value:
+-- what is cut out of them and put
 -- between.
 use Rattle.std.specs.Prelude.{◌≡◌, Bool, true, List, [], ◌∷◌, ◌⊎◌, ◌↔◌}
 use Rattle.std.specs.declared.cmp.Ordering.{Ordering}
@@ -12,7 +13,8 @@ use Rattle.range_algebra.specs.declared.any.AnyRange.{AnyRange}
 use Rattle.range_store.specs.declared.storage.Item.{Item}
 use Rattle.range_map.specs.Stored.{item_lower, item_upper}
 
--- a line of places: their order, which values are equal, and of an item where it starts and ends and its value
+-- a line of places: their order, which values are equal, and of an item where it starts and ends
+-- and its value
 pub record Line (L V X : Type 0) : Type 0 where
   pub cmp : L → L → Ordering
   pub total : IsTotalOrder cmp
@@ -28,11 +30,15 @@ module _ {L V X : Type 0} (line : Line L V X) where
 
   -- the item ends at the place at most, and just there only beside another value
   abbrev pub Leads : X → L → V → Type 0
-  Leads x p v = Le line.cmp (line.hi x) p × (Le line.cmp p (line.hi x) → line.same (line.value x) v ≡ true → ⊥)
+  Leads x p v =
+      Le line.cmp (line.hi x) p
+      × (Le line.cmp p (line.hi x) → line.same (line.value x) v ≡ true → ⊥)
 
   -- the item starts at the place at least, and just there only beside another value
   abbrev pub Trails : L → V → X → Type 0
-  Trails p v x = Le line.cmp p (line.lo x) × (Le line.cmp (line.lo x) p → line.same v (line.value x) ≡ true → ⊥)
+  Trails p v x =
+      Le line.cmp p (line.lo x)
+      × (Le line.cmp (line.lo x) p → line.same v (line.value x) ≡ true → ⊥)
 
   abbrev pub Follows : X → List X → Type 0
   Follows x [] = Unit {0}
@@ -78,27 +84,42 @@ module _ {L V X : Type 0} (line : Line L V X) where
     pub chain : IsChain kept
     pub leads : Leading s v kept
     pub below : Le line.cmp s c
-    pub holds : (p : L) (W : V → Bool) → Respects W → Lt line.cmp p c → (Has W p kept ⊎ (Le line.cmp s p × (W v ≡ true))) ↔ Has W p items
+    pub holds : (p : L) (W : V → Bool) → Respects W → Lt line.cmp p c
+        → (Has W p kept ⊎ (Le line.cmp s p × (W v ≡ true))) ↔ Has W p items
 
   -- the items from a place on are the new one, which ends at `e`, and these
   pub record IsRightOf (items kept : List X) (d e : L) (v : V) : Type 0 where
     pub chain : IsChain kept
     pub trails : Trailing e v kept
     pub above : Le line.cmp d e
-    pub holds : (p : L) (W : V → Bool) → Respects W → Le line.cmp d p → (Has W p kept ⊎ (Lt line.cmp p e × (W v ≡ true))) ↔ Has W p items
+    pub holds : (p : L) (W : V → Bool) → Respects W → Le line.cmp d p
+        → (Has W p kept ⊎ (Lt line.cmp p e × (W v ≡ true))) ↔ Has W p items
 
   -- what a chain becomes where a range from `c` up to `d` is bound to `v`
   pub record IsBoundTo (items new : List X) (c d : L) (v : V) : Type 0 where
     pub chain : IsChain new
-    pub inside : (p : L) (W : V → Bool) → Respects W → Le line.cmp c p → Lt line.cmp p d → Has W p new ↔ (W v ≡ true)
-    pub outside : (p : L) (W : V → Bool) → Respects W → Lt line.cmp p c ⊎ Le line.cmp d p → Has W p new ↔ Has W p items
+    pub inside : (p : L) (W : V → Bool) → Respects W → Le line.cmp c p → Lt line.cmp p d
+        → Has W p new ↔ (W v ≡ true)
+    pub outside : (p : L) (W : V → Bool) → Respects W → Lt line.cmp p c ⊎ Le line.cmp d p
+        → Has W p new ↔ Has W p items
 
   -- what a chain becomes where a range from `c` up to `d` is unbound
   pub record IsUnbound (items new : List X) (c d : L) : Type 0 where
     pub chain : IsChain new
     pub inside : (p : L) (W : V → Bool) → Le line.cmp c p → Lt line.cmp p d → Has W p new → ⊥
-    pub outside : (p : L) (W : V → Bool) → Respects W → Lt line.cmp p c ⊎ Le line.cmp d p → Has W p new ↔ Has W p items
+    pub outside : (p : L) (W : V → Bool) → Respects W → Lt line.cmp p c ⊎ Le line.cmp d p
+        → Has W p new ↔ Has W p items
 
 -- the line of positions on which stored items lie
-abbrev pub line_of : {K : Type 0} (order : KeyOrder K) (lawful : IsLawful order) {V : Type 0} (same : V → V → Bool) (equal : IsEquivalence same) → Line (Position K) V (Item (AnyRange K) V)
-line_of order lawful same equal = record { cmp = position_cmp order.cmp; total = position_total order.cmp lawful.total; same = same; equal = equal; lo = item_lower order; hi = item_upper order; value = λ i. i.value }
+abbrev pub line_of : {K : Type 0} (order : KeyOrder K) (lawful : IsLawful order) {V : Type 0}
+    (same : V → V → Bool) (equal : IsEquivalence same) → Line (Position K) V (Item (AnyRange K) V)
+line_of order lawful same equal =
+    record {
+      cmp = position_cmp order.cmp;
+      total = position_total order.cmp lawful.total;
+      same = same;
+      equal = equal;
+      lo = item_lower order;
+      hi = item_upper order;
+      value = λ i. i.value;
+    }

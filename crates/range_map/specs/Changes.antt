@@ -10,7 +10,8 @@ use Rattle.range_map.specs.Frames.{GaveWayTo, WasCutOut}
 use Rattle.range_map.specs.Bindings.{IsBoundAfter, IsUnboundAfter}
 
 module _ {K : Type 0} (order : KeyOrder K) {V : Type 0} (same : V → V → Bool) where
-  pub record IsInserted (items new : List (Item (AnyRange K) V)) (r : AnyRange K) (v : V) : Type 0 where
+  pub record IsInserted (items new : List (Item (AnyRange K) V)) (r : AnyRange K)
+      (v : V) : Type 0 where
     pub stored : IsStored order same new
     pub bound : IsBoundAfter order same items new r v
     pub frame : GaveWayTo order same items new r v

@@ -1,4 +1,5 @@
--- How many steps a counted call adds, and the greatest number of levels that a tree of so many items may have.
+-- How many steps a counted call adds, and the greatest number of levels that a tree of so many
+-- items may have.
 use Rattle.std.specs.Prelude.{ℕ, ◌+◌, ◌*◌, ◌≤◌, min, ◌≡◌, zero, suc, ◌-◌, ◌^◌, ◌⊎◌, if◌then◌else◌, nat_lt}
 use Rattle.range_store.specs.Counting.{greatest_count}
 use Rattle.range_store.specs.declared.btree.nodes.TheConstants.{MIN_LEN}
@@ -22,7 +23,8 @@ pub record IsGreatestLevel (many level : ℕ) : Type 0 where
 -- the greatest such number up to another one
 unfoldable pub greatest_level_to : ℕ → ℕ → ℕ
 greatest_level_to many zero = 0
-greatest_level_to many (suc d) = if nat_lt many (2 * (MIN_LEN + 1) ^ d) then greatest_level_to many d else suc d
+greatest_level_to many (suc d) =
+    if nat_lt many (2 * (MIN_LEN + 1) ^ d) then greatest_level_to many d else suc d
 
 -- the number itself: no tree has more levels than items
 unfoldable pub greatest_level : ℕ → ℕ

@@ -28,25 +28,33 @@ module _ {K : Type 0} (order : KeyOrder K) where
   -- exactly one range of the list holds the key
   abbrev pub IsHeldOnce : List (AnyRange K) → K → Type 0
   IsHeldOnce [] k = ⊥
-  IsHeldOnce (r ∷ rest) k = (Holds order r k × Every (λ s. ¬ Holds order s k) rest) ⊎ ((¬ Holds order r k) × IsHeldOnce rest k)
+  IsHeldOnce (r ∷ rest) k =
+      (Holds order r k × Every (λ s. ¬ Holds order s k) rest) ⊎
+      ((¬ Holds order r k) × IsHeldOnce rest k)
 
   -- all free pieces of the full range, each before the next
-  pub record AreGaps {V : Type 0} (items : List (Item (AnyRange K) V)) (gaps : List (AnyRange K)) : Type 0 where
+  pub record AreGaps {V : Type 0} (items : List (Item (AnyRange K) V))
+      (gaps : List (AnyRange K)) : Type 0 where
     pub each : Every (λ g. IsPiece order items full_range g None) gaps
     pub rising : EachNext (LiesBefore order) gaps
-    pub all : (part : AnyRange K) → IsKnownRange order part → IsPiece order items full_range part None → Any (λ g. range_cmp order g part ≡ Equal) gaps
+    pub all : (part : AnyRange K) → IsKnownRange order part
+        → IsPiece order items full_range part None → Any (λ g. range_cmp order g part ≡ Equal) gaps
 
   -- the range between two bounds, unless it is empty or one of them is missing
   abbrev pub between : Option (Bound K) → Option (Bound K) → List (AnyRange K)
   between None end = []
   between (Some start) None = []
-  between (Some start) (Some end) = if starts_past_end order start end then [] else record { start = start; end = end } ∷ []
+  between (Some start) (Some end) =
+      if starts_past_end order start end then [] else record { start = start; end = end } ∷ []
 
   -- what is free from a start on, where the items stand after it
-  abbrev pub free_from : {V : Type 0} → Option (Bound K) → List (Item (AnyRange K) V) → List (AnyRange K)
+  abbrev pub free_from : {V : Type 0} → Option (Bound K) → List (Item (AnyRange K) V)
+      → List (AnyRange K)
   free_from start [] = between start (Some Unbounded)
-  free_from start (i ∷ rest) = between start (inverted i.key.start) ++ free_from (inverted i.key.end) rest
+  free_from start (i ∷ rest) =
+      between start (inverted i.key.start) ++ free_from (inverted i.key.end) rest
 
   -- the same, where the start refers to a key
-  abbrev pub free_after : {V : Type 0} → Option (Bound (Bor K)) → List (Item (AnyRange K) V) → List (AnyRange K)
+  abbrev pub free_after : {V : Type 0} → Option (Bound (Bor K)) → List (Item (AnyRange K) V)
+      → List (AnyRange K)
   free_after start = free_from (option_map bound_of start)

@@ -19,7 +19,8 @@ IsLastBelow is_good rank None end = ⊥
 IsLastBelow is_good rank (Some p) end = is_good p × (rank p + 1 ≡ end)
 
 -- `left` items from the one at `front` to the one at `back`
-pub record IsWalkOver {P : Type 0} (is_good : P → Type 0) (rank : P → ℕ) (len : ℕ) (front back : Option P) (left : ℕ) : Type 0 where
+pub record IsWalkOver {P : Type 0} (is_good : P → Type 0) (rank : P → ℕ) (len : ℕ)
+    (front back : Option P) (left : ℕ) : Type 0 where
   pub starts : IsAt is_good rank len front (place_before rank len front)
   pub in_range : place_before rank len front + left ≤ len
   pub ends : 0 < left → IsLastBelow is_good rank back (place_before rank len front + left)

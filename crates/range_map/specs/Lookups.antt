@@ -22,9 +22,12 @@ module _ {K : Type 0} (order : KeyOrder K) where
     abbrev pub MeetsSome : List (Item (AnyRange K) V) → AnyRange K → Type 0
     MeetsSome items r = Any (λ i. Overlap order i.key r) items
 
-    -- a nonempty range meets one of the later list where it meets the given range or one of the earlier list, and nowhere else
-    abbrev pub MeetAlso : List (Item (AnyRange K) V) → List (Item (AnyRange K) V) → AnyRange K → Type 0
-    MeetAlso before after r = (s : AnyRange K) → IsKnownRange order s → (¬ IsEmptyRange order s) → MeetsSome after s ↔ (Overlap order r s ⊎ MeetsSome before s)
+    -- a nonempty range meets one of the later list where it meets the given range or one of the
+    -- earlier list, and nowhere else
+    abbrev pub MeetAlso : List (Item (AnyRange K) V) → List (Item (AnyRange K) V) → AnyRange K
+        → Type 0
+    MeetAlso before after r = (s : AnyRange K) → IsKnownRange order s → (¬ IsEmptyRange order s)
+        → MeetsSome after s ↔ (Overlap order r s ⊎ MeetsSome before s)
 
     -- some stored range meets or touches it
     abbrev pub IsConnectedToSome : List (Item (AnyRange K) V) → AnyRange K → Type 0

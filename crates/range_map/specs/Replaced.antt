@@ -17,8 +17,11 @@ module _ {K : Type 0} (order : KeyOrder K) {V : Type 0} where
 
   module _ (same : V → V → Bool) where
     -- the keys of the range are bound as the middle says, and all others as before
-    pub record IsReplaced (items new middle : List (Item (AnyRange K) V)) (r : AnyRange K) : Type 0 where
+    pub record IsReplaced (items new middle : List (Item (AnyRange K) V))
+        (r : AnyRange K) : Type 0 where
       pub stored : IsStored order same new
-      pub held : (k : K) → order.is_key k → Holds order r k → (b : Option V) → Binds order same new k b ↔ Binds order same middle k b
-      pub others : (k : K) → order.is_key k → ¬ Holds order r k → (b : Option V) → Binds order same new k b ↔ Binds order same items k b
+      pub held : (k : K) → order.is_key k → Holds order r k → (b : Option V)
+          → Binds order same new k b ↔ Binds order same middle k b
+      pub others : (k : K) → order.is_key k → ¬ Holds order r k → (b : Option V)
+          → Binds order same new k b ↔ Binds order same items k b
       pub frame : GaveWay order same items new r (HasValue order same middle)

@@ -12,7 +12,8 @@ module _ {K : Type 0} (order : KeyOrder K) (element : AnyRange K) (connected : B
   ElementIsBefore r = IsTrue (is_before (range_ordering order element r) connected)
 
   -- the element is not before the item at the index, and is before each after it
-  pub record IsLastNotAfter {V : Type 0} (items : List (Item (AnyRange K) V)) (at : ℕ) : Type 0 where
+  pub record IsLastNotAfter {V : Type 0} (items : List (Item (AnyRange K) V))
+      (at : ℕ) : Type 0 where
     pub in_range : at < length items
     pub reached : (d : Item (AnyRange K) V) → ¬ ElementIsBefore (slice_index_or items at d).key
     pub behind : AllWithin (λ i. ElementIsBefore i.key) items (at + 1) (length items)

@@ -13,7 +13,8 @@ use Rattle.range_algebra.specs.Cuts.{lower, upper}
 module _ {K : Type 0} (order : KeyOrder K) {V : Type 0} (same_value : V → V → Bool) where
   -- the one lies before the other, and they touch only where their values differ
   abbrev pub IsFollowedBy : Item (AnyRange K) V → Item (AnyRange K) V → Type 0
-  IsFollowedBy i j = IsTrue (is_before (range_ordering order i.key j.key) (same_value i.value j.value))
+  IsFollowedBy i j =
+      IsTrue (is_before (range_ordering order i.key j.key) (same_value i.value j.value))
 
   -- nonempty ranges of keys, each before the next, which touch only where values differ
   pub record IsStored (items : List (Item (AnyRange K) V)) : Type 0 where

@@ -1,4 +1,5 @@
--- How a map is shown, given how its keys and values are; nothing is said where one of them leaves its text open.
+-- How a map is shown, given how its keys and values are; nothing is said where one of them leaves
+-- its text open.
 use Rattle.std.specs.Prelude.{ℕ, List, [], ◌∷◌, Option, Some, codes}
 use Rattle.std.specs.Fmt.{◌++?◌}
 use Rattle.range_algebra.specs.declared.any.AnyRange.{AnyRange}

@@ -30,24 +30,35 @@ option_items (Some x) = x ∷ []
 
 module _ {K : Type 0} (order : KeyOrder K) {V : Type 0} where
   -- the items before `from` end before the position, and no other does
-  pub record IsFound {P : Type 0} (is_good : P → Type 0) (rank : P → ℕ) (items : List (Item (AnyRange K) V)) (p : Position K) (before from : Option P) : Type 0 where
+  pub record IsFound {P : Type 0} (is_good : P → Type 0) (rank : P → ℕ)
+      (items : List (Item (AnyRange K) V)) (p : Position K) (before from : Option P) : Type 0 where
     pub position : IsAt is_good rank (length items) from (place_before rank (length items) from)
     pub in_range : place_before rank (length items) from ≤ length items
     pub previous : IsJustBefore is_good rank before (place_before rank (length items) from)
-    pub below : Every (λ i. Lt (position_cmp order.cmp) (end_position order i.key.end) p) (take (place_before rank (length items) from) items)
-    pub above : Every (λ i. Le (position_cmp order.cmp) p (end_position order i.key.end)) (drop (place_before rank (length items) from) items)
+    pub below : Every (λ i. Lt (position_cmp order.cmp) (end_position order i.key.end) p)
+        (take (place_before rank (length items) from) items)
+    pub above : Every (λ i. Le (position_cmp order.cmp) p (end_position order i.key.end))
+        (drop (place_before rank (length items) from) items)
 
   -- `count` items from a place on start at most at the position, and the next one does not
-  pub record IsWalk {P : Type 0} (is_good : P → Type 0) (rank : P → ℕ) (items : List (Item (AnyRange K) V)) (e : Position K) (place count : ℕ) (last after : Option P) : Type 0 where
+  pub record IsWalk {P : Type 0} (is_good : P → Type 0) (rank : P → ℕ)
+      (items : List (Item (AnyRange K) V)) (e : Position K) (place count : ℕ)
+      (last after : Option P) : Type 0 where
     pub in_range : place + count ≤ length items
     pub last_is : IsLastOf is_good rank last place count
     pub after_is : IsAt is_good rank (length items) after (place + count)
-    pub meets : (d : Item (AnyRange K) V) → 0 < count → Le (position_cmp order.cmp) (start_position order (slice_index_or items (place + count - 1) d).key.start) e
-    pub stops : (d : Item (AnyRange K) V) → place + count < length items → Lt (position_cmp order.cmp) e (start_position order (slice_index_or items (place + count) d).key.start)
+    pub meets : (d : Item (AnyRange K) V) → 0 < count
+        → Le (position_cmp order.cmp)
+        (start_position order (slice_index_or items (place + count - 1) d).key.start) e
+    pub stops : (d : Item (AnyRange K) V) → place + count < length items
+        → Lt (position_cmp order.cmp) e
+        (start_position order (slice_index_or items (place + count) d).key.start)
 
   module _ (same : V → V → Bool) where
     -- the items of a stored list that meet a nonempty range of keys
-    pub record IsWindow {P : Type 0} (is_good : P → Type 0) (rank : P → ℕ) (items : List (Item (AnyRange K) V)) (r : AnyRange K) (w : Window P) (place : ℕ) : Type 0 where
+    pub record IsWindow {P : Type 0} (is_good : P → Type 0) (rank : P → ℕ)
+        (items : List (Item (AnyRange K) V)) (r : AnyRange K) (w : Window P)
+        (place : ℕ) : Type 0 where
       pub stored : IsStored order same items
       pub known : IsKnownRange order r
       pub nonempty : ¬ IsEmptyRange order r
@@ -56,21 +67,38 @@ module _ {K : Type 0} (order : KeyOrder K) {V : Type 0} where
       pub in_range : place + w.count ≤ length items
       pub last_is : IsLastOf is_good rank w.last place w.count
       pub after_is : IsAt is_good rank (length items) w.after (place + w.count)
-      pub below : Every (λ i. Le (position_cmp order.cmp) (item_upper order i) (lower order r)) (take place items)
-      pub above : Every (λ i. Lt (position_cmp order.cmp) (lower order r) (item_upper order i)) (drop place items)
-      pub meets : (d : Item (AnyRange K) V) → 0 < w.count → Lt (position_cmp order.cmp) (item_lower order (slice_index_or items (place + w.count - 1) d)) (upper order r)
-      pub behind : Every (λ i. Le (position_cmp order.cmp) (upper order r) (item_lower order i)) (drop (place + w.count) items)
+      pub below : Every (λ i. Le (position_cmp order.cmp) (item_upper order i) (lower order r))
+          (take place items)
+      pub above : Every (λ i. Lt (position_cmp order.cmp) (lower order r) (item_upper order i))
+          (drop place items)
+      pub meets : (d : Item (AnyRange K) V) → 0 < w.count
+          → Lt (position_cmp order.cmp)
+          (item_lower order (slice_index_or items (place + w.count - 1) d)) (upper order r)
+      pub behind : Every (λ i. Le (position_cmp order.cmp) (upper order r) (item_lower order i))
+          (drop (place + w.count) items)
 
     -- the items of a container that do, as the window says where they are
-    abbrev pub IsWindowOf : {S P : Type 0} → (S → P → Type 0) → (S → P → ℕ) → (S → List (Item (AnyRange K) V)) → S → AnyRange K → Window P → Type 0
-    IsWindowOf is_good rank items stored r w = IsWindow (is_good stored) (rank stored) (items stored) r w (place_before (rank stored) (length (items stored)) w.from)
+    abbrev pub IsWindowOf : {S P : Type 0} → (S → P → Type 0) → (S → P → ℕ)
+        → (S → List (Item (AnyRange K) V)) → S → AnyRange K → Window P → Type 0
+    IsWindowOf is_good rank items stored r w =
+        IsWindow (is_good stored) (rank stored) (items stored) r w
+        (place_before (rank stored) (length (items stored)) w.from)
 
     -- what is left of an item below a range
     abbrev pub IsLeftPart : Item (AnyRange K) V → AnyRange K → Option (Item (AnyRange K) V) → Type 0
     IsLeftPart i r None = Le (position_cmp order.cmp) (lower order r) (item_lower order i)
-    IsLeftPart i r (Some j) = Lt (position_cmp order.cmp) (item_lower order i) (lower order r) × (position_cmp order.cmp (item_lower order j) (item_lower order i) ≡ Equal) × (position_cmp order.cmp (item_upper order j) (lower order r) ≡ Equal) × IsTrue (same j.value i.value) × IsKnownRange order j.key
+    IsLeftPart i r (Some j) =
+        Lt (position_cmp order.cmp) (item_lower order i) (lower order r)
+        × (position_cmp order.cmp (item_lower order j) (item_lower order i) ≡ Equal)
+        × (position_cmp order.cmp (item_upper order j) (lower order r) ≡ Equal)
+        × IsTrue (same j.value i.value) × IsKnownRange order j.key
 
     -- what is left of an item above a range
-    abbrev pub IsRightPart : Item (AnyRange K) V → AnyRange K → Option (Item (AnyRange K) V) → Type 0
+    abbrev pub IsRightPart : Item (AnyRange K) V → AnyRange K → Option (Item (AnyRange K) V)
+        → Type 0
     IsRightPart i r None = Le (position_cmp order.cmp) (item_upper order i) (upper order r)
-    IsRightPart i r (Some j) = Lt (position_cmp order.cmp) (upper order r) (item_upper order i) × (position_cmp order.cmp (item_lower order j) (upper order r) ≡ Equal) × (position_cmp order.cmp (item_upper order j) (item_upper order i) ≡ Equal) × IsTrue (same j.value i.value) × IsKnownRange order j.key
+    IsRightPart i r (Some j) =
+        Lt (position_cmp order.cmp) (upper order r) (item_upper order i)
+        × (position_cmp order.cmp (item_lower order j) (upper order r) ≡ Equal)
+        × (position_cmp order.cmp (item_upper order j) (item_upper order i) ≡ Equal)
+        × IsTrue (same j.value i.value) × IsKnownRange order j.key

@@ -27,20 +27,27 @@ use Rattle.range_sets.proofs.Enclosing.{missing_gaps_is_within_item}
 use Rattle.range_sets.proofs.Matching.{equal_within, overlap_within, row_pairs, InSome, only_one_lies_in_range, mutual_cover_matches}
 
 -- what holds of each member for each value holds of each member for every value
-every_for : {X Y : Type 0} (P : Y → X → Type 0) (xs : List X) → ((y : Y) → Every (P y) xs) → Every (λ x. (y : Y) → P y x) xs
+every_for : {X Y : Type 0} (P : Y → X → Type 0) (xs : List X) → ((y : Y) → Every (P y) xs)
+    → Every (λ x. (y : Y) → P y x) xs
 every_for P [] f = tt
 every_for P (x ∷ xs) f = (λ y. (f y).0, every_for P xs (λ y. (f y).1))
 
-every_swap : {X Y : Type 0} (R : X → Y → Type 0) (xs : List X) (ys : List Y) → Every (λ y. Every (λ x. R x y) xs) ys → Every (λ x. Every (R x) ys) xs
+every_swap : {X Y : Type 0} (R : X → Y → Type 0) (xs : List X) (ys : List Y)
+    → Every (λ y. Every (λ x. R x y) xs) ys → Every (λ x. Every (R x) ys) xs
 every_swap R [] ys h = tt
-every_swap R (x ∷ xs) ys h =
-    (every_weaker (λ y. Every (λ z. R z y) (x ∷ xs)) (R x) ys (λ y g. g.0) h, every_swap R xs ys (every_weaker (λ y. Every (λ z. R z y) (x ∷ xs)) (λ y. Every (λ z. R z y) xs) ys (λ y g. g.1) h))
+every_swap R (x ∷ xs) ys h = (
+  every_weaker (λ y. Every (λ z. R z y) (x ∷ xs)) (R x) ys (λ y g. g.0) h,
+  every_swap R xs ys (every_weaker (λ y. Every (λ z. R z y) (x ∷ xs))
+      (λ y. Every (λ z. R z y) xs) ys (λ y g. g.1) h),
+)
 
-every_three : {X : Type 0} (P Q S R : X → Type 0) (xs : List X) → ((x : X) → P x → Q x → S x → R x) → Every P xs → Every Q xs → Every S xs → Every R xs
+every_three : {X : Type 0} (P Q S R : X → Type 0) (xs : List X) → ((x : X) → P x → Q x → S x → R x)
+    → Every P xs → Every Q xs → Every S xs → Every R xs
 every_three P Q S R [] f h k l = tt
 every_three P Q S R (x ∷ xs) f h k l = (f x h.0 k.0 l.0, every_three P Q S R xs f h.1 k.1 l.1)
 
-any_more : {X : Type 0} (P Q : X → Type 0) (xs : List X) → ((x : X) → P x → Q x) → Any P xs → Any Q xs
+any_more : {X : Type 0} (P Q : X → Type 0) (xs : List X) → ((x : X) → P x → Q x) → Any P xs
+    → Any Q xs
 any_more P Q [] f h = h
 any_more P Q (x ∷ xs) f (inl h) = inl (f x h)
 any_more P Q (x ∷ xs) f (inr h) = inr (any_more P Q xs f h)
@@ -53,26 +60,40 @@ module _ {K : Type 0} (order : KeyOrder K) (lawful : IsLawful order) where
   Equals others gaps = AllZip (λ i g. range_cmp order i.key g ≡ Equal) others gaps
 
   -- what misses all of a list misses what equals one of its ranges
-  missed_equal : (others : List Stored) (gaps : List (AnyRange K)) (f r : AnyRange K) → Equals others gaps → Every (λ j. ¬ Overlap order j.key r) others → Any (λ g. range_cmp order g f ≡ Equal) gaps → Overlap order f r → ⊥
+  missed_equal : (others : List Stored) (gaps : List (AnyRange K)) (f r : AnyRange K)
+      → Equals others gaps → Every (λ j. ¬ Overlap order j.key r) others
+      → Any (λ g. range_cmp order g f ≡ Equal) gaps → Overlap order f r → ⊥
   missed_equal [] [] f r zip missed found meets = found
   missed_equal [] (g ∷ gaps) f r zip missed found meets = zip
   missed_equal (j ∷ others) [] f r zip missed found meets = zip
   missed_equal (j ∷ others) (g ∷ gaps) f r zip missed (inl e) meets =
-      missed.0 (overlap_within order lawful g j.key r (equal_within order lawful j.key g zip.0).1 (overlap_within order lawful f g r (equal_within order lawful g f e).1 meets))
-  missed_equal (j ∷ others) (g ∷ gaps) f r zip missed (inr found) meets = missed_equal others gaps f r zip.1 missed.1 found meets
+      missed.0 (overlap_within order lawful g j.key r (equal_within order lawful j.key g zip.0).1
+      (overlap_within order lawful f g r (equal_within order lawful g f e).1 meets))
+  missed_equal (j ∷ others) (g ∷ gaps) f r zip missed (inr found) meets =
+      missed_equal others gaps f r zip.1 missed.1 found meets
 
   overlap_turned : (r s : AnyRange K) → Overlap order r s → Overlap order s r
   overlap_turned r s meets = (meets.1, meets.0)
 
   -- what all gaps miss, all that equal them miss
-  all_missed : (items others : List Stored) (gaps : List (AnyRange K)) → Equals others gaps → Every (λ g. Every (λ i. ¬ Overlap order i.key g) items) gaps → Every (λ j. Every (λ i. ¬ Overlap order j.key i.key) items) others
+  all_missed : (items others : List Stored) (gaps : List (AnyRange K)) → Equals others gaps
+      → Every (λ g. Every (λ i. ¬ Overlap order i.key g) items) gaps
+      → Every (λ j. Every (λ i. ¬ Overlap order j.key i.key) items) others
   all_missed items [] [] zip missed = tt
   all_missed items [] (g ∷ gaps) zip missed = tt
   all_missed items (j ∷ others) [] zip missed = absurd zip
-  all_missed items (j ∷ others) (g ∷ gaps) zip missed =
-      (every_weaker (λ i. ¬ Overlap order i.key g) (λ i. ¬ Overlap order j.key i.key) items (λ i apart meets. apart (overlap_turned g i.key (overlap_within order lawful j.key g i.key (equal_within order lawful j.key g zip.0).0 meets))) missed.0, all_missed items others gaps zip.1 missed.1)
+  all_missed items (j ∷ others) (g ∷ gaps) zip missed = (
+    every_weaker (λ i. ¬ Overlap order i.key g) (λ i. ¬ Overlap order j.key i.key) items
+        (λ i apart meets.
+        apart (overlap_turned g i.key
+        (overlap_within order lawful j.key g i.key
+        (equal_within order lawful j.key g zip.0).0 meets))) missed.0,
+    all_missed items others gaps zip.1 missed.1,
+  )
 
-  equal_gaps_are_same_list : (thirds : List Stored) (gaps : List (AnyRange K)) (items : List Stored) → Equals thirds gaps → AllZip (λ g i. range_cmp order g i.key ≡ Equal) gaps items → IsTrue (same_list order (λ _ _. true) thirds items)
+  equal_gaps_are_same_list : (thirds : List Stored) (gaps : List (AnyRange K)) (items : List Stored)
+      → Equals thirds gaps → AllZip (λ g i. range_cmp order g i.key ≡ Equal) gaps items
+      → IsTrue (same_list order (λ _ _. true) thirds items)
   equal_gaps_are_same_list [] [] [] h k = refl
   equal_gaps_are_same_list [] [] (i ∷ items) h k = absurd k
   equal_gaps_are_same_list [] (g ∷ gaps) items h k = absurd h
@@ -81,9 +102,13 @@ module _ {K : Type 0} (order : KeyOrder K) (lawful : IsLawful order) where
   equal_gaps_are_same_list (t ∷ thirds) (g ∷ gaps) (i ∷ items) h k =
       let total = range_total order lawful in
       let same = ap is_eq (total.congr t.key g i.key h.0 ∙ k.0) in
-      and_from (eq_by_cmp (range_cmp order) t.key i.key && true) (same_list order (λ _ _. true) thirds items) (and_from (eq_by_cmp (range_cmp order) t.key i.key) true same refl) (equal_gaps_are_same_list thirds gaps items h.1 k.1)
+      and_from (eq_by_cmp (range_cmp order) t.key i.key && true)
+      (same_list order (λ _ _. true) thirds items)
+      (and_from (eq_by_cmp (range_cmp order) t.key i.key) true same refl)
+      (equal_gaps_are_same_list thirds gaps items h.1 k.1)
 
-  module _ (items others : List Stored) (form : IsStoredSet order items) (gaps : List (AnyRange K)) (are : AreGaps order items gaps) (zip : Equals others gaps) where
+  module _ (items others : List Stored) (form : IsStoredSet order items) (gaps : List (AnyRange K))
+      (are : AreGaps order items gaps) (zip : Equals others gaps) where
     abbrev IsFree : AnyRange K → Type 0
     IsFree r = IsFreePart order others full_range r
 
@@ -91,50 +116,97 @@ module _ {K : Type 0} (order : KeyOrder K) (lawful : IsLawful order) where
     row = stored_row order lawful (λ _ _. true) items form
 
     free_full : (r : AnyRange K) → IsFree r → IsFull order lawful r
-    free_full r free = (free.known, not_greater (position_cmp order.cmp (start_position order r.start) (end_position order r.end)) free.nonempty)
+    free_full r free = (
+      free.known,
+      not_greater (position_cmp order.cmp (start_position order r.start)
+          (end_position order r.end)) free.nonempty,
+    )
 
     -- what is free of the complement misses all that is free of the set
-    free_range_misses_gaps : (r : AnyRange K) → IsFree r → Every (λ f. ¬ Overlap order f r) (free_from order (Some Unbounded) items)
+    free_range_misses_gaps : (r : AnyRange K) → IsFree r
+        → Every (λ f. ¬ Overlap order f r) (free_from order (Some Unbounded) items)
     free_range_misses_gaps r free =
         let walk = free_from order (Some Unbounded) items in
-        every_weaker (λ f. IsPiece order items full_range f None) (λ f. ¬ Overlap order f r) walk (λ f piece. missed_equal others gaps f r zip free.free (are.all f piece.0.known piece)) (gaps_are order lawful items row).each
+        every_weaker (λ f. IsPiece order items full_range f None) (λ f. ¬ Overlap order f r) walk
+        (λ f piece. missed_equal others gaps f r zip free.free (are.all f piece.0.known piece))
+        (gaps_are order lawful items row).each
 
     -- and so it lies in a range of the set
-    free_range_is_within_item : (r : AnyRange K) → IsFree r → InSome order lawful (λ i. i.key) r items
+    free_range_is_within_item : (r : AnyRange K) → IsFree r
+        → InSome order lawful (λ i. i.key) r items
     free_range_is_within_item r free =
         let full = free_full r free in
-        missing_gaps_is_within_item order lawful (Some Unbounded) items r (stored_list_is_listed order lawful (λ _ _. true) items form) full (unbounded_start order lawful r.start full.0.0) (free_range_misses_gaps r free)
+        missing_gaps_is_within_item order lawful (Some Unbounded) items r
+        (stored_list_is_listed order lawful (λ _ _. true) items form) full
+        (unbounded_start order lawful r.start full.0.0) (free_range_misses_gaps r free)
 
-    item_free : (i : Stored) → IsFull order lawful i.key → Every (λ j. ¬ Overlap order j.key i.key) others → IsFree i.key
+    item_free : (i : Stored) → IsFull order lawful i.key
+        → Every (λ j. ¬ Overlap order j.key i.key) others → IsFree i.key
     item_free i full missed = record {
       known = full.0;
-      nonempty = not_both_greater_and_not (position_cmp order.cmp (start_position order i.key.start) (end_position order i.key.end)) full.1;
-      within = record { starts = unbounded_start order lawful i.key.start full.0.0; ends = ends_full order lawful i.key.end full.0.1 };
+      nonempty =
+          not_both_greater_and_not
+          (position_cmp order.cmp (start_position order i.key.start) (end_position order i.key.end))
+          full.1;
+      within =
+          record {
+            starts = unbounded_start order lawful i.key.start full.0.0;
+            ends = ends_full order lawful i.key.end full.0.1;
+          };
       free = missed;
     }
 
     abbrev FreeRange : Type 0
     FreeRange = (r : AnyRange K) × IsFree r
 
-    items_wide : Every (λ i. (other : FreeRange) → LiesIn order i.key other.0 → LiesIn order other.0 i.key) items
-    items_wide = every_for (λ (other : FreeRange) i. LiesIn order i.key other.0 → LiesIn order other.0 i.key) items (λ other. only_one_lies_in_range order lawful (λ i. i.key) other.0 items row.full row.pairs (free_range_is_within_item other.0 other.1))
+    items_wide : Every (λ i. (other : FreeRange) → LiesIn order i.key other.0
+        → LiesIn order other.0 i.key) items
+    items_wide =
+        every_for (λ (other : FreeRange) i. LiesIn order i.key other.0 → LiesIn order other.0 i.key)
+        items (λ other. only_one_lies_in_range order lawful
+        (λ i. i.key) other.0 items row.full row.pairs (free_range_is_within_item other.0 other.1))
 
     items_missed : Every (λ i. Every (λ j. ¬ Overlap order j.key i.key) others) items
-    items_missed = every_swap (λ i j. ¬ Overlap order j.key i.key) items others (all_missed items others gaps zip (every_weaker (λ g. IsPiece order items full_range g None) (λ g. Every (λ i. ¬ Overlap order i.key g) items) gaps (λ g piece. piece.0.free) are.each))
+    items_missed =
+        every_swap (λ i j. ¬ Overlap order j.key i.key) items others
+        (all_missed items others gaps zip
+        (every_weaker (λ g. IsPiece order items full_range g None)
+        (λ g. Every (λ i. ¬ Overlap order i.key g) items) gaps (λ g piece. piece.0.free) are.each))
 
     -- each range of the set is a gap of the complement
     items_pieces : Every (λ i. IsPiece order others full_range i.key None) items
-    items_pieces = every_three (λ i. IsFull order lawful i.key) (λ i. Every (λ j. ¬ Overlap order j.key i.key) others) (λ i. (other : FreeRange) → LiesIn order i.key other.0 → LiesIn order other.0 i.key) (λ i. IsPiece order others full_range i.key None) items (λ i full missed wide. (item_free i full missed, λ other free. wide (other, free))) row.full items_missed items_wide
+    items_pieces =
+        every_three (λ i. IsFull order lawful i.key)
+        (λ i. Every (λ j. ¬ Overlap order j.key i.key) others)
+        (λ i. (other : FreeRange) → LiesIn order i.key other.0 → LiesIn order other.0 i.key)
+        (λ i. IsPiece order others full_range i.key None) items
+        (λ i full missed wide. (item_free i full missed, λ other free. wide (other, free))) row.full
+        items_missed items_wide
 
     -- the gaps of the complement are the ranges of the set
-    gaps_of_gaps_are_equal : (again : List (AnyRange K)) → AreGaps order others again → AllZip (λ g i. range_cmp order g i.key ≡ Equal) again items
+    gaps_of_gaps_are_equal : (again : List (AnyRange K)) → AreGaps order others again
+        → AllZip (λ g i. range_cmp order g i.key ≡ Equal) again items
     gaps_of_gaps_are_equal again were =
-        let full = every_weaker (λ g. IsPiece order others full_range g None) (IsFull order lawful) again (λ g piece. free_full g piece.0) were.each in
-        let here = every_weaker (λ g. IsPiece order others full_range g None) (λ g. InSome order lawful (λ i. i.key) g items) again (λ g piece. free_range_is_within_item g piece.0) were.each in
-        let there = every_weaker (λ i. IsPiece order others full_range i.key None) (λ i. InSome order lawful (λ g. g) i.key again) items (λ i piece. any_more (λ g. range_cmp order g i.key ≡ Equal) (λ g. LiesIn order i.key g) again (λ g e. (equal_within order lawful g i.key e).1) (were.all i.key piece.0.known piece)) items_pieces in
-        mutual_cover_matches order lawful (λ g. g) (λ i. i.key) again items full row.full (row_pairs order lawful again full were.rising) row.pairs here there
+        let full =
+        every_weaker (λ g. IsPiece order others full_range g None)
+        (IsFull order lawful) again (λ g piece. free_full g piece.0) were.each in
+        let here =
+        every_weaker (λ g. IsPiece order others full_range g None)
+        (λ g. InSome order lawful (λ i. i.key) g items) again
+        (λ g piece. free_range_is_within_item g piece.0) were.each in
+        let there =
+        every_weaker (λ i. IsPiece order others full_range i.key None)
+        (λ i. InSome order lawful (λ g. g) i.key again) items
+        (λ i piece. any_more (λ g. range_cmp order g i.key ≡ Equal)
+        (λ g. LiesIn order i.key g) again (λ g e. (equal_within order lawful g i.key e).1)
+        (were.all i.key piece.0.known piece)) items_pieces in
+        mutual_cover_matches order lawful (λ g. g) (λ i. i.key) again items full row.full
+        (row_pairs order lawful again full were.rising) row.pairs here there
 
   -- the complement of the complement of a set equals it
-  pub complement_twice : (items others thirds : List Stored) → IsStoredSet order items → EqualGapsOf order items others → EqualGapsOf order others thirds → IsTrue (same_list order (λ _ _. true) thirds items)
+  pub complement_twice : (items others thirds : List Stored) → IsStoredSet order items
+      → EqualGapsOf order items others → EqualGapsOf order others thirds
+      → IsTrue (same_list order (λ _ _. true) thirds items)
   complement_twice items others thirds form first second =
-      equal_gaps_are_same_list thirds second.0 items second.2 (gaps_of_gaps_are_equal items others form first.0 first.1 first.2 second.0 second.1)
+      equal_gaps_are_same_list thirds second.0 items second.2
+      (gaps_of_gaps_are_equal items others form first.0 first.1 first.2 second.0 second.1)

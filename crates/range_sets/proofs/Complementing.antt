@@ -1,4 +1,5 @@
--- The gaps of a stored list are themselves in stored form, and so is each front of a list of clones of them.
+-- The gaps of a stored list are themselves in stored form, and so is each front of a list of clones
+-- of them.
 use Rattle.std.proofs.Common.{◌≡◌, refl, ◌⊎◌, inl, inr, Bool, true, false, List, [], ◌∷◌, ◌++◌, map, None}
 use Rattle.std.specs.List.{AllByRecursion}
 use Rattle.std.specs.declared.cmp.Ordering.{Ordering}
@@ -43,80 +44,137 @@ module _ {K : Type 0} (order : KeyOrder K) (lawful : IsLawful order) where
   abbrev joint : AnyRange K → AnyRange K → AnyRange K
   joint g h = record { start = g.start; end = h.end }
 
-  apart_is_before_or_after : (r s : AnyRange K) → (Overlap order r s → ⊥) → LiesBefore order r s ⊎ LiesBefore order s r
-  apart_is_before_or_after r s apart = elim (less_or_not (position_cmp order.cmp (End r) (Start s))) [
-    | inl l ↦ inl l
-    | inr a ↦ elim (less_or_not (position_cmp order.cmp (End s) (Start r))) [ inl l ↦ inr l | inr b ↦ absurd (apart (a, b)) ]
-  ]
+  apart_is_before_or_after : (r s : AnyRange K) → (Overlap order r s → ⊥)
+      → LiesBefore order r s ⊎ LiesBefore order s r
+  apart_is_before_or_after r s apart =
+      elim (less_or_not (position_cmp order.cmp (End r) (Start s))) [
+        | inl l ↦ inl l
+        | inr a ↦
+            elim (less_or_not (position_cmp order.cmp (End s) (Start r))) [
+              | inl l ↦ inr l
+              | inr b ↦ absurd (apart (a, b))
+            ]
+      ]
 
   -- no nonempty range stands between two that touch
-  none_between : (i g h : AnyRange K) → IsKnownRange order i → (IsEmptyRange order i → ⊥) → IsKnownRange order g → IsKnownRange order h → (IsEmptyRange order h → ⊥) → LiesBefore order g h → Touches order g h → LiesBefore order g i → LiesBefore order i h → ⊥
+  none_between : (i g h : AnyRange K) → IsKnownRange order i → (IsEmptyRange order i → ⊥)
+      → IsKnownRange order g → IsKnownRange order h → (IsEmptyRange order h → ⊥)
+      → LiesBefore order g h → Touches order g h → LiesBefore order g i → LiesBefore order i h → ⊥
   none_between i g h known full known_g known_h full_h before touching l m =
       let cmp = position_cmp order.cmp in
       let total = position_total order.cmp lawful.total in
       let le = (before_is order lawful g.end h.start known_g.1 known_h.0).0 before in
-      let back = (touches_is order lawful g.end h known_h ((nonempty_good order lawful h known_h).0 full_h) le).0 touching in
-      let under : PLe (upper order g) (Start i) = (before_is order lawful g.end i.start known_g.1 known.0).0 l in
+      let back =
+      (touches_is order lawful g.end h known_h
+      ((nonempty_good order lawful h known_h).0 full_h) le).0 touching in
+      let under : PLe (upper order g) (Start i) =
+      (before_is order lawful g.end i.start known_g.1 known.0).0 l in
       let within : PLe (Start i) (End i) = not_greater (cmp (Start i) (End i)) full in
-      let low : PLe (Start h) (End i) = le_trans cmp total (Start h) (upper order g) (End i) back (le_trans cmp total (upper order g) (Start i) (End i) under within) in
+      let low : PLe (Start h) (End i) =
+      le_trans cmp total (Start h) (upper order g) (End i) back
+      (le_trans cmp total (upper order g) (Start i) (End i) under within) in
       lt_not_le cmp total (End i) (Start h) m low
 
   -- where two ranges that touch miss an item, so does the range over both
-  joint_misses : (i g h : AnyRange K) → IsKnownRange order i → (IsEmptyRange order i → ⊥) → IsKnownRange order g → IsKnownRange order h → (IsEmptyRange order h → ⊥) → LiesBefore order g h → Touches order g h → (Overlap order i g → ⊥) → (Overlap order i h → ⊥) → Overlap order i (joint g h) → ⊥
+  joint_misses : (i g h : AnyRange K) → IsKnownRange order i → (IsEmptyRange order i → ⊥)
+      → IsKnownRange order g → IsKnownRange order h → (IsEmptyRange order h → ⊥)
+      → LiesBefore order g h → Touches order g h → (Overlap order i g → ⊥) → (Overlap order i h → ⊥)
+      → Overlap order i (joint g h) → ⊥
   joint_misses i g h known full known_g known_h full_h before touching miss_g miss_h meets =
       elim (apart_is_before_or_after i g miss_g) [
         | inl l ↦ meets.0 l
-        | inr l ↦ elim (apart_is_before_or_after i h miss_h) [ inl m ↦ none_between i g h known full known_g known_h full_h before touching l m | inr m ↦ meets.1 m ]
+        | inr l ↦
+            elim (apart_is_before_or_after i h miss_h) [
+              | inl m ↦ none_between i g h known full known_g known_h full_h before touching l m
+              | inr m ↦ meets.1 m
+            ]
       ]
 
   module _ {V : Type 0} where
     abbrev IsFullItem : Item (AnyRange K) V → Type 0
     IsFullItem i = IsKnownRange order i.key × (IsEmptyRange order i.key → ⊥)
 
-    every_full : (items : List (Item (AnyRange K) V)) → AllByRecursion (λ i. IsKnownRange order i.key) items → AllByRecursion (λ i. IsEmptyRange order i.key → ⊥) items → Every IsFullItem items
+    every_full : (items : List (Item (AnyRange K) V))
+        → AllByRecursion (λ i. IsKnownRange order i.key) items
+        → AllByRecursion (λ i. IsEmptyRange order i.key → ⊥) items → Every IsFullItem items
     every_full [] known full = tt
     every_full (i ∷ rest) known full = ((known.0, full.0), every_full rest known.1 full.1)
 
-    all_missed : (items : List (Item (AnyRange K) V)) (g h : AnyRange K) → Every IsFullItem items → IsKnownRange order g → IsKnownRange order h → (IsEmptyRange order h → ⊥) → LiesBefore order g h → Touches order g h → Every (λ i. ¬ Overlap order i.key g) items → Every (λ i. ¬ Overlap order i.key h) items → Every (λ i. ¬ Overlap order i.key (joint g h)) items
+    all_missed : (items : List (Item (AnyRange K) V)) (g h : AnyRange K) → Every IsFullItem items
+        → IsKnownRange order g → IsKnownRange order h → (IsEmptyRange order h → ⊥)
+        → LiesBefore order g h → Touches order g h → Every (λ i. ¬ Overlap order i.key g) items
+        → Every (λ i. ¬ Overlap order i.key h) items
+        → Every (λ i. ¬ Overlap order i.key (joint g h)) items
     all_missed [] g h full known_g known_h full_h before touching miss_g miss_h = tt
-    all_missed (i ∷ rest) g h full known_g known_h full_h before touching miss_g miss_h =
-        (joint_misses i.key g h full.0.0 full.0.1 known_g known_h full_h before touching miss_g.0 miss_h.0, all_missed rest g h full.1 known_g known_h full_h before touching miss_g.1 miss_h.1)
+    all_missed (i ∷ rest) g h full known_g known_h full_h before touching miss_g miss_h = (
+      joint_misses i.key g h full.0.0 full.0.1 known_g known_h full_h before touching miss_g.0
+          miss_h.0,
+      all_missed rest g h full.1 known_g known_h full_h before touching miss_g.1 miss_h.1,
+    )
 
     -- gaps do not touch, since each is as wide as it goes
-    gaps_apart : (items : List (Item (AnyRange K) V)) (g h : AnyRange K) → Every IsFullItem items → IsPiece order items full_range g None → IsPiece order items full_range h None → LiesBefore order g h → Touches order g h → ⊥
+    gaps_apart : (items : List (Item (AnyRange K) V)) (g h : AnyRange K) → Every IsFullItem items
+        → IsPiece order items full_range g None → IsPiece order items full_range h None
+        → LiesBefore order g h → Touches order g h → ⊥
     gaps_apart items g h full piece other before touching =
         let cmp = position_cmp order.cmp in
         let total = position_total order.cmp lawful.total in
-        let within_g : PLe (Start g) (End g) = not_greater (cmp (Start g) (End g)) piece.0.nonempty in
-        let within_h : PLe (Start h) (End h) = not_greater (cmp (Start h) (End h)) other.0.nonempty in
-        let ends : PLe (End g) (End h) = le_trans cmp total (End g) (Start h) (End h) (lt_le cmp total (End g) (Start h) before) within_h in
+        let within_g : PLe (Start g) (End g) =
+        not_greater (cmp (Start g) (End g)) piece.0.nonempty in
+        let within_h : PLe (Start h) (End h) =
+        not_greater (cmp (Start h) (End h)) other.0.nonempty in
+        let ends : PLe (End g) (End h) =
+        le_trans cmp total (End g) (Start h) (End h)
+        (lt_le cmp total (End g) (Start h) before) within_h in
         let wide : IsFreePart order items full_range (joint g h) = record {
           known = (piece.0.known.0, other.0.known.1);
-          nonempty = not_both_greater_and_not (cmp (Start g) (End h)) (le_trans cmp total (Start g) (End g) (End h) within_g ends);
+          nonempty =
+              not_both_greater_and_not (cmp (Start g) (End h))
+              (le_trans cmp total (Start g) (End g) (End h) within_g ends);
           within = record { starts = piece.0.within.starts; ends = other.0.within.ends };
-          free = all_missed items g h full piece.0.known other.0.known other.0.nonempty before touching piece.0.free other.0.free;
+          free =
+              all_missed items g h full piece.0.known other.0.known other.0.nonempty before touching
+              piece.0.free other.0.free;
         } in
-        let back = piece.1 (joint g h) wide (record { starts = le_refl cmp total (Start g); ends = ends }) in
-        lt_not_le cmp total (End g) (Start h) before (le_trans cmp total (Start h) (End h) (End g) within_h back.ends)
+        let back =
+        piece.1 (joint g h) wide
+        (record { starts = le_refl cmp total (Start g); ends = ends }) in
+        lt_not_le cmp total (End g) (Start h) before
+        (le_trans cmp total (Start h) (End h) (End g) within_h back.ends)
 
-    gaps_listed : (items : List (Item (AnyRange K) V)) (gaps : List (AnyRange K)) → Every IsFullItem items → Every (λ g. IsPiece order items full_range g None) gaps → EachNext (LiesBefore order) gaps → IsListed order lawful (λ _ _. true) (set_items gaps)
+    gaps_listed : (items : List (Item (AnyRange K) V)) (gaps : List (AnyRange K))
+        → Every IsFullItem items → Every (λ g. IsPiece order items full_range g None) gaps
+        → EachNext (LiesBefore order) gaps → IsListed order lawful (λ _ _. true) (set_items gaps)
     gaps_listed items [] full each rising = tt
     gaps_listed items (g ∷ []) full each rising = (each.0.0.known, each.0.0.nonempty)
-    gaps_listed items (g ∷ h ∷ rest) full each rising =
-        (each.0.0.known, each.0.0.nonempty, rising.0, λ touching _. gaps_apart items g h full each.0 each.1.0 rising.0 touching, gaps_listed items (h ∷ rest) full each.1 rising.1)
+    gaps_listed items (g ∷ h ∷ rest) full each rising = (
+      each.0.0.known,
+      each.0.0.nonempty,
+      rising.0,
+      λ touching _. gaps_apart items g h full each.0 each.1.0 rising.0 touching,
+      gaps_listed items (h ∷ rest) full each.1 rising.1,
+    )
 
     -- the gaps are in the form of a set
-    pub gaps_stored : (same : V → V → Bool) (items : List (Item (AnyRange K) V)) (gaps : List (AnyRange K)) → IsStored order same items → AreGaps order items gaps → IsStoredSet order (set_items gaps)
+    pub gaps_stored : (same : V → V → Bool) (items : List (Item (AnyRange K) V))
+        (gaps : List (AnyRange K)) → IsStored order same items → AreGaps order items gaps
+        → IsStoredSet order (set_items gaps)
     gaps_stored same items gaps form are =
-        stored_by order lawful (λ _ _. true) (set_items gaps) (gaps_listed items gaps (every_full items form.known form.nonempty) are.each are.rising)
+        stored_by order lawful (λ _ _. true) (set_items gaps)
+        (gaps_listed items gaps (every_full items form.known form.nonempty) are.each are.rising)
 
-  front_listed : (front behind : List (AnyRange K)) → IsListed order lawful (λ _ _. true) (set_items (front ++ behind)) → IsListed order lawful (λ _ _. true) (set_items front)
+  front_listed : (front behind : List (AnyRange K))
+      → IsListed order lawful (λ _ _. true) (set_items (front ++ behind))
+      → IsListed order lawful (λ _ _. true) (set_items front)
   front_listed [] behind h = tt
   front_listed (g ∷ []) [] h = h
   front_listed (g ∷ []) (k ∷ behind) h = (h.0, h.1)
   front_listed (g ∷ i ∷ front) behind h = (h.0, h.1, h.2, h.3, front_listed (i ∷ front) behind h.4)
 
   -- the front of a list in the form of a set is in that form
-  pub front_stored : (front behind : List (AnyRange K)) → IsStoredSet order (set_items (front ++ behind)) → IsStoredSet order (set_items front)
+  pub front_stored : (front behind : List (AnyRange K))
+      → IsStoredSet order (set_items (front ++ behind)) → IsStoredSet order (set_items front)
   front_stored front behind h =
-      stored_by order lawful (λ _ _. true) (set_items front) (front_listed front behind (stored_list_is_listed order lawful (λ _ _. true) (set_items (front ++ behind)) h))
+      stored_by order lawful (λ _ _. true) (set_items front)
+      (front_listed front behind
+      (stored_list_is_listed order lawful (λ _ _. true) (set_items (front ++ behind)) h))

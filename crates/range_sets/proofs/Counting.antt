@@ -10,7 +10,8 @@ use Rattle.range_store.specs.declared.storage.Item.{Item}
 use Rattle.range_map.specs.Frames.{GaveWayTo}
 use Rattle.range_map.specs.FreeRanges.{item_ranges}
 
-pub ranges_length : {K V : Type 0} (items : List (Item (AnyRange K) V)) → length (item_ranges items) ≡ length items
+pub ranges_length : {K V : Type 0} (items : List (Item (AnyRange K) V))
+    → length (item_ranges items) ≡ length items
 ranges_length [] = refl
 ranges_length (i ∷ rest) = omega (arith, ranges_length rest)
 
@@ -23,12 +24,28 @@ module _ {K : Type 0} (order : KeyOrder K) where
   all_alike (i ∷ rest) = (refl, all_alike rest)
 
   -- one range takes the place of those that the range joins
-  one_for_all : (items new : Items) (r : AnyRange K) → GaveWayTo order (λ _ _. true) items new r tt → length new ≤ length items + 1
-  one_for_all items new r h = omega (arith, h.such.one (all_alike h.run), ap length h.before, ap length h.after, length-append (h.front ++ h.run) h.behind, length-append h.front h.run, length-append (h.front ++ h.others) h.behind, length-append h.front h.others)
+  one_for_all : (items new : Items) (r : AnyRange K) → GaveWayTo order (λ _ _. true) items new r tt
+      → length new ≤ length items + 1
+  one_for_all items new r h =
+      omega (
+        arith,
+        h.such.one (all_alike h.run),
+        ap length h.before,
+        ap length h.after,
+        length-append (h.front ++ h.run) h.behind,
+        length-append h.front h.run,
+        length-append (h.front ++ h.others) h.behind,
+        length-append h.front h.others,
+      )
 
-  pub one_more : {E : Type 0} (result : Result (Unit {0}) E) (items new : Items) (r : AnyRange K) → OnOk result (¬ IsEmptyRange order r → GaveWayTo order (λ _ _. true) items new r tt) → OnErr result (new ≡ items) → (IsEmptyRange order r → new ≡ items) → length new ≤ length items + 1
+  pub one_more : {E : Type 0} (result : Result (Unit {0}) E) (items new : Items) (r : AnyRange K)
+      → OnOk result (¬ IsEmptyRange order r → GaveWayTo order (λ _ _. true) items new r tt)
+      → OnErr result (new ≡ items) → (IsEmptyRange order r → new ≡ items)
+      → length new ≤ length items + 1
   one_more (Err e) items new r frame refused empty = omega (arith, ap length refused)
-  one_more (Ok x) items new r frame refused empty = elim (greater_or_not (position_cmp order.cmp (start_position order r.start) (end_position order r.end))) [
-    | inl h ↦ omega (arith, ap length (empty h))
-    | inr h ↦ one_for_all items new r (frame h)
-  ]
+  one_more (Ok x) items new r frame refused empty =
+      elim (greater_or_not (position_cmp order.cmp (start_position order r.start)
+      (end_position order r.end))) [
+        | inl h ↦ omega (arith, ap length (empty h))
+        | inr h ↦ one_for_all items new r (frame h)
+      ]

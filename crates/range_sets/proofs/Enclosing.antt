@@ -36,74 +36,109 @@ module _ {K : Type 0} (order : KeyOrder K) (lawful : IsLawful order) where
   abbrev End : Bound K → Position K
   End b = end_position order b
 
-  between_at : (P : List (AnyRange K) → Type 0) (s e : Option (Bound K)) (a b : Bound K) → s ≡ Some a → e ≡ Some b → PLe (Start a) (End b) → P (record { start = a; end = b } ∷ []) → P (between order s e)
+  between_at : (P : List (AnyRange K) → Type 0) (s e : Option (Bound K)) (a b : Bound K)
+      → s ≡ Some a → e ≡ Some b → PLe (Start a) (End b) → P (record { start = a; end = b } ∷ [])
+      → P (between order s e)
   between_at P s e a b f g le h = rw (f, g) (between_is order lawful P a b le h)
 
   -- what misses each range that stands between two bounds misses the one that does
-  gap_would_overlap : (r : AnyRange K) (s e : Option (Bound K)) (a b : Bound K) → s ≡ Some a → e ≡ Some b → PLe (Start a) (End b) → Every (λ g. ¬ Overlap order g r) (between order s e) → Overlap order (record { start = a; end = b }) r → ⊥
-  gap_would_overlap r s e a b f g le all = between_at (λ gaps. Every (λ g. ¬ Overlap order g r) gaps → Overlap order (record { start = a; end = b }) r → ⊥) s e a b f g le (λ h. h.0) all
+  gap_would_overlap : (r : AnyRange K) (s e : Option (Bound K)) (a b : Bound K) → s ≡ Some a
+      → e ≡ Some b → PLe (Start a) (End b) → Every (λ g. ¬ Overlap order g r) (between order s e)
+      → Overlap order (record { start = a; end = b }) r → ⊥
+  gap_would_overlap r s e a b f g le all =
+      between_at (λ gaps. Every (λ g. ¬ Overlap order g r) gaps
+      → Overlap order (record { start = a; end = b }) r → ⊥) s e a b f g le (λ h. h.0) all
 
   -- a bound that another start lies before has a bound on its other side
-  turned_start : (x p : Bound K) → IsKnownBound order p → PLt (Start p) (Start x) → (b : Bound K) × (inverted x ≡ Some b)
+  turned_start : (x p : Bound K) → IsKnownBound order p → PLt (Start p) (Start x)
+      → (b : Bound K) × (inverted x ≡ Some b)
   turned_start (Included a) p known l = (Excluded a, refl)
   turned_start (Excluded a) p known l = (Included a, refl)
-  turned_start Unbounded p known l = absurd (lt_not_le (position_cmp order.cmp) (position_total order.cmp lawful.total) (Start p) (Start Unbounded) l (unbounded_start order lawful p known))
+  turned_start Unbounded p known l =
+      absurd (lt_not_le (position_cmp order.cmp) (position_total order.cmp lawful.total) (Start p)
+      (Start Unbounded) l (unbounded_start order lawful p known))
 
-  turned_end : (e q : Bound K) → IsKnownBound order q → PLt (End e) (End q) → (a : Bound K) × (inverted e ≡ Some a)
+  turned_end : (e q : Bound K) → IsKnownBound order q → PLt (End e) (End q)
+      → (a : Bound K) × (inverted e ≡ Some a)
   turned_end (Included a) q known l = (Excluded a, refl)
   turned_end (Excluded a) q known l = (Included a, refl)
-  turned_end Unbounded q known l = absurd (lt_not_le (position_cmp order.cmp) (position_total order.cmp lawful.total) (End Unbounded) (End q) l (ends_full order lawful q known))
+  turned_end Unbounded q known l =
+      absurd (lt_not_le (position_cmp order.cmp) (position_total order.cmp lawful.total)
+      (End Unbounded) (End q) l (ends_full order lawful q known))
 
   -- what starts before a start is at most at the end just before it
-  reach_before : (p x b : Bound K) → IsKnownBound order p → IsKnownBound order x → inverted x ≡ Some b → PLt (Start p) (Start x) → PLe (Start p) (End b)
+  reach_before : (p x b : Bound K) → IsKnownBound order p → IsKnownBound order x
+      → inverted x ≡ Some b → PLt (Start p) (Start x) → PLe (Start p) (End b)
   reach_before p x b known known_x turns l =
       let total = position_total order.cmp lawful.total in
       let cmp = position_cmp order.cmp in
       let at = inverted_bound_is_past order lawful b x (turned_back order lawful x b turns) in
-      (reaching_is_before_past order lawful p b known (turned_known order lawful x b turns known_x)).1 (lt_le_trans cmp total (Start p) (Start x) (past order (End b)) l (eq_ge cmp total (past order (End b)) (Start x) at))
+      (reaching_is_before_past order lawful p b known
+      (turned_known order lawful x b turns known_x)).1
+      (lt_le_trans cmp total (Start p) (Start x) (past order (End b)) l
+      (eq_ge cmp total (past order (End b)) (Start x) at))
 
   -- what starts past the end just before a start is at least there
-  start_after : (p x b : Bound K) → IsKnownBound order p → IsKnownBound order x → inverted x ≡ Some b → PLt (End b) (Start p) → PLe (Start x) (Start p)
+  start_after : (p x b : Bound K) → IsKnownBound order p → IsKnownBound order x
+      → inverted x ≡ Some b → PLt (End b) (Start p) → PLe (Start x) (Start p)
   start_after p x b known known_x turns l =
       let total = position_total order.cmp lawful.total in
       let cmp = position_cmp order.cmp in
       let at = inverted_bound_is_past order lawful b x (turned_back order lawful x b turns) in
-      le_trans cmp total (Start x) (past order (End b)) (Start p) (eq_ge cmp total (past order (End b)) (Start x) at) ((before_is order lawful b p (turned_known order lawful x b turns known_x) known).0 l)
+      le_trans cmp total (Start x) (past order (End b)) (Start p)
+      (eq_ge cmp total (past order (End b)) (Start x) at)
+      ((before_is order lawful b p (turned_known order lawful x b turns known_x) known).0 l)
 
   -- what ends after an end reaches the start just past it
-  end_reaches : (e a q : Bound K) → IsKnownBound order q → inverted e ≡ Some a → PLt (End e) (End q) → PLt (End q) (Start a) → ⊥
+  end_reaches : (e a q : Bound K) → IsKnownBound order q → inverted e ≡ Some a → PLt (End e) (End q)
+      → PLt (End q) (Start a) → ⊥
   end_reaches e a q known turns l under =
-      lt_not_le (position_cmp order.cmp) (position_total order.cmp lawful.total) (End e) (End q) l (ends_before order lawful q a e known (turned_back order lawful e a turns) under)
+      lt_not_le (position_cmp order.cmp) (position_total order.cmp lawful.total) (End e) (End q) l
+      (ends_before order lawful q a e known (turned_back order lawful e a turns) under)
 
   -- a range after a bound that misses the gap up to a start does not start before it
-  start_is_not_before_item : (s : Option (Bound K)) (x : Bound K) (r : AnyRange K) → IsKnownBound order x → IsFull order lawful r → From order lawful s r → Every (λ g. ¬ Overlap order g r) (between order s (inverted x)) → PLt (Start r.start) (Start x) → ⊥
+  start_is_not_before_item : (s : Option (Bound K)) (x : Bound K) (r : AnyRange K)
+      → IsKnownBound order x → IsFull order lawful r → From order lawful s r
+      → Every (λ g. ¬ Overlap order g r) (between order s (inverted x))
+      → PLt (Start r.start) (Start x) → ⊥
   start_is_not_before_item None x r known full from all l = absurd from
   start_is_not_before_item (Some a) x r known full from all l =
       let total = position_total order.cmp lawful.total in
       let cmp = position_cmp order.cmp in
       let turn = turned_start x r.start full.0.0 l in
       let reach = reach_before r.start x turn.0 full.0.0 known turn.1 l in
-      gap_would_overlap r (Some a) (inverted x) a turn.0 refl turn.1 (le_trans cmp total (Start a) (Start r.start) (End turn.0) from reach) all (
+      gap_would_overlap r (Some a) (inverted x) a turn.0 refl turn.1
+      (le_trans cmp total (Start a) (Start r.start) (End turn.0) from reach) all (
         λ before. lt_not_le cmp total (End turn.0) (Start r.start) before reach,
-        λ before. lt_not_le cmp total (End r.end) (Start a) before (le_trans cmp total (Start a) (Start r.start) (End r.end) from full.1),
+        λ before. lt_not_le cmp total (End r.end) (Start a) before
+            (le_trans cmp total (Start a) (Start r.start) (End r.end) from full.1),
       )
 
   -- a range that misses the gap after an end, the last one, does not reach over it
-  over_last : (e : Bound K) (r : AnyRange K) → IsFull order lawful r → Every (λ g. ¬ Overlap order g r) (between order (inverted e) (Some Unbounded)) → PLt (End e) (End r.end) → ⊥
+  over_last : (e : Bound K) (r : AnyRange K) → IsFull order lawful r
+      → Every (λ g. ¬ Overlap order g r) (between order (inverted e) (Some Unbounded))
+      → PLt (End e) (End r.end) → ⊥
   over_last e r full all l =
       let total = position_total order.cmp lawful.total in
       let cmp = position_cmp order.cmp in
       let turn = turned_end e r.end full.0.1 l in
       let under = end_reaches e turn.0 r.end full.0.1 turn.1 l in
       let last = ends_full order lawful r.end full.0.1 in
-      let reach = le_trans cmp total (Start turn.0) (End r.end) (End Unbounded) (not_lt cmp total (Start turn.0) (End r.end) under) last in
+      let reach =
+      le_trans cmp total (Start turn.0) (End r.end) (End Unbounded)
+      (not_lt cmp total (Start turn.0) (End r.end) under) last in
       gap_would_overlap r (inverted e) (Some Unbounded) turn.0 Unbounded turn.1 refl reach all (
-        λ before. lt_not_le cmp total (End Unbounded) (Start r.start) before (le_trans cmp total (Start r.start) (End r.end) (End Unbounded) full.1 last),
+        λ before. lt_not_le cmp total (End Unbounded) (Start r.start) before
+            (le_trans cmp total (Start r.start) (End r.end) (End Unbounded) full.1 last),
         under,
       )
 
   -- nor does one that starts before it where a range stands after the gap
-  over_next : (e : Bound K) (next r : AnyRange K) → IsKnownBound order e → IsFull order lawful r → IsKnownRange order next → (IsEmptyRange order next → ⊥) → PLt (End e) (Start next.start) → (PLe (Start next.start) (past order (End e)) → ⊥) → Every (λ g. ¬ Overlap order g r) (between order (inverted e) (inverted next.start)) → PLe (Start r.start) (End e) → PLt (End e) (End r.end) → ⊥
+  over_next : (e : Bound K) (next r : AnyRange K) → IsKnownBound order e → IsFull order lawful r
+      → IsKnownRange order next → (IsEmptyRange order next → ⊥) → PLt (End e) (Start next.start)
+      → (PLe (Start next.start) (past order (End e)) → ⊥)
+      → Every (λ g. ¬ Overlap order g r) (between order (inverted e) (inverted next.start))
+      → PLe (Start r.start) (End e) → PLt (End e) (End r.end) → ⊥
   over_next e next r known full known_next some before apart all starts l =
       let total = position_total order.cmp lawful.total in
       let cmp = position_cmp order.cmp in
@@ -113,67 +148,103 @@ module _ {K : Type 0} (order : KeyOrder K) (lawful : IsLawful order) where
       let ahead = le_lt_trans cmp total (Start r.start) (End e) (Start next.start) starts before in
       let second = turned_start next.start r.start full.0.0 ahead in
       let b = second.0 in
-      let up = le_lt_trans cmp total (Start a) (past order (End e)) (Start next.start) (eq_ge cmp total (past order (End e)) (Start a) (inverted_bound_is_past order lawful e a first.1)) (not_le cmp total (past order (End e)) (Start next.start) apart) in
-      gap_would_overlap r (inverted e) (inverted next.start) a b first.1 second.1 (reach_before a next.start b known_a known_next.0 second.1 up) all (
-        λ behind. lt_not_le cmp total (Start r.start) (Start next.start) ahead (start_after r.start next.start b full.0.0 known_next.0 second.1 behind),
+      let up =
+      le_lt_trans cmp total (Start a) (past order (End e)) (Start next.start)
+      (eq_ge cmp total (past order (End e)) (Start a)
+      (inverted_bound_is_past order lawful e a first.1))
+      (not_le cmp total (past order (End e)) (Start next.start) apart) in
+      gap_would_overlap r (inverted e) (inverted next.start) a b first.1 second.1
+      (reach_before a next.start b known_a known_next.0 second.1 up) all (
+        λ behind. lt_not_le cmp total (Start r.start) (Start next.start) ahead
+            (start_after r.start next.start b full.0.0 known_next.0 second.1 behind),
         end_reaches e a r.end full.0.1 first.1 l,
       )
 
   -- what starts past an end is after the bound on the other side of it
-  from_next : (e : Bound K) (r : AnyRange K) → IsKnownBound order e → IsFull order lawful r → PLt (End e) (Start r.start) → From order lawful (inverted e) r
-  from_next (Included a) r known full l = start_after r.start (Excluded a) (Included a) full.0.0 known refl l
-  from_next (Excluded a) r known full l = start_after r.start (Included a) (Excluded a) full.0.0 known refl l
+  from_next : (e : Bound K) (r : AnyRange K) → IsKnownBound order e → IsFull order lawful r
+      → PLt (End e) (Start r.start) → From order lawful (inverted e) r
+  from_next (Included a) r known full l =
+      start_after r.start (Excluded a) (Included a) full.0.0 known refl l
+  from_next (Excluded a) r known full l =
+      start_after r.start (Included a) (Excluded a) full.0.0 known refl l
   from_next Unbounded r known full l =
       let total = position_total order.cmp lawful.total in
       let cmp = position_cmp order.cmp in
-      lt_not_le cmp total (End Unbounded) (Start r.start) l (le_trans cmp total (Start r.start) (End r.end) (End Unbounded) full.1 (ends_full order lawful r.end full.0.1))
+      lt_not_le cmp total (End Unbounded) (Start r.start) l
+      (le_trans cmp total (Start r.start) (End r.end) (End Unbounded) full.1
+      (ends_full order lawful r.end full.0.1))
 
   module _ {V : Type 0} where
     abbrev IsSetList : List (Item (AnyRange K) V) → Type 0
     IsSetList items = IsListed order lawful (λ _ _. true) items
 
-    rest_listed : (i : Item (AnyRange K) V) (rest : List (Item (AnyRange K) V)) → IsSetList (i ∷ rest) → IsSetList rest
+    rest_listed : (i : Item (AnyRange K) V) (rest : List (Item (AnyRange K) V))
+        → IsSetList (i ∷ rest) → IsSetList rest
     rest_listed i [] h = tt
     rest_listed i (j ∷ rest) h = h.4
 
-    first_known : (i : Item (AnyRange K) V) (rest : List (Item (AnyRange K) V)) → IsSetList (i ∷ rest) → IsKnownRange order i.key
+    first_known : (i : Item (AnyRange K) V) (rest : List (Item (AnyRange K) V))
+        → IsSetList (i ∷ rest) → IsKnownRange order i.key
     first_known i [] h = h.0
     first_known i (j ∷ rest) h = h.0
 
-    next_known : (j : Item (AnyRange K) V) (rest : List (Item (AnyRange K) V)) → IsSetList (j ∷ rest) → IsEmptyRange order j.key → ⊥
+    next_known : (j : Item (AnyRange K) V) (rest : List (Item (AnyRange K) V))
+        → IsSetList (j ∷ rest) → IsEmptyRange order j.key → ⊥
     next_known j [] h = h.1
     next_known j (k ∷ rest) h = h.1
 
-    end_is_not_past_item : (i : Item (AnyRange K) V) (rest : List (Item (AnyRange K) V)) (r : AnyRange K) → IsSetList (i ∷ rest) → IsFull order lawful r → Every (λ g. ¬ Overlap order g r) (free_from order (inverted i.key.end) rest) → PLe (Start r.start) (End i.key.end) → PLt (End i.key.end) (End r.end) → ⊥
+    end_is_not_past_item : (i : Item (AnyRange K) V) (rest : List (Item (AnyRange K) V))
+        (r : AnyRange K) → IsSetList (i ∷ rest) → IsFull order lawful r
+        → Every (λ g. ¬ Overlap order g r) (free_from order (inverted i.key.end) rest)
+        → PLe (Start r.start) (End i.key.end) → PLt (End i.key.end) (End r.end) → ⊥
     end_is_not_past_item i [] r h full all starts l = over_last i.key.end r full all l
     end_is_not_past_item i (j ∷ rest) r h full all starts l =
         let known = first_known j rest h.4 in
         let some = next_known j rest h.4 in
         let le = (before_is order lawful i.key.end j.key.start h.0.1 known.0).0 h.2 in
-        let touching = touches_is order lawful i.key.end j.key known ((nonempty_good order lawful j.key known).0 some) le in
-        over_next i.key.end j.key r h.0.1 full known some h.2 (λ back. h.3 (touching.1 back) refl) (every_left (λ g. ¬ Overlap order g r) (between order (inverted i.key.end) (inverted j.key.start)) (free_from order (inverted j.key.end) rest) all) starts l
+        let touching =
+        touches_is order lawful i.key.end j.key known
+        ((nonempty_good order lawful j.key known).0 some) le in
+        over_next i.key.end j.key r h.0.1 full known some h.2 (λ back. h.3 (touching.1 back) refl)
+        (every_left (λ g. ¬ Overlap order g r)
+        (between order (inverted i.key.end) (inverted j.key.start))
+        (free_from order (inverted j.key.end) rest) all) starts l
 
     -- a range after a bound that misses all that is free there lies in an item
-    pub missing_gaps_is_within_item : (s : Option (Bound K)) (items : List (Item (AnyRange K) V)) (r : AnyRange K) → IsSetList items → IsFull order lawful r → From order lawful s r → Every (λ g. ¬ Overlap order g r) (free_from order s items) → Any (λ i. LiesIn order r i.key) items
+    pub missing_gaps_is_within_item : (s : Option (Bound K)) (items : List (Item (AnyRange K) V))
+        (r : AnyRange K) → IsSetList items → IsFull order lawful r → From order lawful s r
+        → Every (λ g. ¬ Overlap order g r) (free_from order s items)
+        → Any (λ i. LiesIn order r i.key) items
     missing_gaps_is_within_item None [] r h full from all = absurd from
     missing_gaps_is_within_item (Some a) [] r h full from all =
         let total = position_total order.cmp lawful.total in
         let cmp = position_cmp order.cmp in
-        let reach = le_trans cmp total (Start r.start) (End r.end) (End Unbounded) full.1 (ends_full order lawful r.end full.0.1) in
-        absurd (gap_would_overlap r (Some a) (Some Unbounded) a Unbounded refl refl (le_trans cmp total (Start a) (Start r.start) (End Unbounded) from reach) all (
+        let reach =
+        le_trans cmp total (Start r.start) (End r.end) (End Unbounded) full.1
+        (ends_full order lawful r.end full.0.1) in
+        absurd (gap_would_overlap r (Some a) (Some Unbounded) a Unbounded refl refl
+        (le_trans cmp total (Start a) (Start r.start) (End Unbounded) from reach) all (
           λ before. lt_not_le cmp total (End Unbounded) (Start r.start) before reach,
-          λ before. lt_not_le cmp total (End r.end) (Start a) before (le_trans cmp total (Start a) (Start r.start) (End r.end) from full.1),
+          λ before. lt_not_le cmp total (End r.end) (Start a) before
+              (le_trans cmp total (Start a) (Start r.start) (End r.end) from full.1),
         ))
     missing_gaps_is_within_item s (i ∷ rest) r h full from all =
         let total = position_total order.cmp lawful.total in
         let cmp = position_cmp order.cmp in
         let gaps = free_from order (inverted i.key.end) rest in
         let known = first_known i rest h in
-        let behind = every_right (λ g. ¬ Overlap order g r) (between order s (inverted i.key.start)) gaps all in
+        let behind =
+        every_right (λ g. ¬ Overlap order g r)
+        (between order s (inverted i.key.start)) gaps all in
         elim (cases cmp total (Start r.start) (Start i.key.start)) [
-          | inl l ↦ absurd (start_is_not_before_item s i.key.start r known.0 full from (every_left (λ g. ¬ Overlap order g r) (between order s (inverted i.key.start)) gaps all) l)
+          | inl l ↦
+              absurd (start_is_not_before_item s i.key.start r known.0 full
+              from (every_left (λ g. ¬ Overlap order g r)
+              (between order s (inverted i.key.start)) gaps all) l)
           | inr starts ↦ elim (cases cmp total (End i.key.end) (Start r.start)) [
-            | inl l ↦ inr (missing_gaps_is_within_item (inverted i.key.end) rest r (rest_listed i rest h) full (from_next i.key.end r known.1 full l) behind)
+            | inl l ↦
+                inr (missing_gaps_is_within_item (inverted i.key.end) rest r
+                (rest_listed i rest h) full (from_next i.key.end r known.1 full l) behind)
             | inr within ↦ elim (cases cmp total (End i.key.end) (End r.end)) [
               | inl l ↦ absurd (end_is_not_past_item i rest r h full behind within l)
               | inr ends ↦ inl (record { starts = starts; ends = ends })

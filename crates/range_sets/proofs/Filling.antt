@@ -22,7 +22,8 @@ use Rattle.range_sets.proofs.Complementing.{set_items, front_stored}
 pub all_equal : IsEquivalence {K = Unit {0}} (λ _ _. true)
 all_equal = record { refl = λ x. refl; symm = λ x y. refl; congr = λ x y z e. refl }
 
-zip_more : {A B : Type 0} (R : A → B → Type 0) (xs : List A) (ys : List B) (x : A) (y : B) → AllZip R xs ys → R x y → AllZip R (xs ++ x ∷ []) (ys ++ y ∷ [])
+zip_more : {A B : Type 0} (R : A → B → Type 0) (xs : List A) (ys : List B) (x : A) (y : B)
+    → AllZip R xs ys → R x y → AllZip R (xs ++ x ∷ []) (ys ++ y ∷ [])
 zip_more R [] [] x y zip r = (r, tt)
 zip_more R [] (b ∷ ys) x y zip r = absurd zip
 zip_more R (a ∷ xs) [] x y zip r = absurd zip
@@ -43,10 +44,19 @@ module _ {K : Type 0} (order : KeyOrder K) where
     pub form : IsStoredSet order items
     pub space : length rest ≤ room
 
-  pub filling_begins : (gaps : List (AnyRange K)) (items : Items) (room : ℕ) → items ≡ [] → length gaps ≤ room → IsFilled gaps gaps items room
-  filling_begins gaps items room none space = rw none (record { done = []; split = refl; copied = tt; form = record { known = tt; nonempty = tt; rising = tt }; space = space })
+  pub filling_begins : (gaps : List (AnyRange K)) (items : Items) (room : ℕ) → items ≡ []
+      → length gaps ≤ room → IsFilled gaps gaps items room
+  filling_begins gaps items room none space =
+      rw none (record {
+        done = [];
+        split = refl;
+        copied = tt;
+        form = record { known = tt; nonempty = tt; rising = tt };
+        space = space;
+      })
 
-  as_copy : (items : Items) (ranges : List (AnyRange K)) → AllZip SameRange items ranges → IsCopyOf order (λ _ _. true) items (set_items ranges)
+  as_copy : (items : Items) (ranges : List (AnyRange K)) → AllZip SameRange items ranges
+      → IsCopyOf order (λ _ _. true) items (set_items ranges)
   as_copy [] [] zip = tt
   as_copy [] (g ∷ ranges) zip = absurd zip
   as_copy (i ∷ items) [] zip = absurd zip
@@ -54,33 +64,56 @@ module _ {K : Type 0} (order : KeyOrder K) where
 
   module _ (lawful : IsLawful order) where
     -- a clone of a range equals it
-    pub clone_same : (is_clone : K → K → Type 0) → ((x y : K) → is_clone x y → order.cmp x y ≡ Equal) → (g r : AnyRange K) → IsRangeClone is_clone g r → range_cmp order r g ≡ Equal
-    clone_same is_clone equal g r h = tied_back (range_total order lawful) g r (range_clone order lawful is_clone equal g r h)
+    pub clone_same : (is_clone : K → K → Type 0)
+        → ((x y : K) → is_clone x y → order.cmp x y ≡ Equal) → (g r : AnyRange K)
+        → IsRangeClone is_clone g r → range_cmp order r g ≡ Equal
+    clone_same is_clone equal g r h =
+        tied_back (range_total order lawful) g r (range_clone order lawful is_clone equal g r h)
 
     -- with the clone of the next gap the items are in the form of a set
-    pub next_gap_fits : (gaps rest others : List (AnyRange K)) (items : Items) (room : ℕ) (g r : AnyRange K) → IsStoredSet order (set_items gaps) → IsFilled gaps rest items room → rest ≡ g ∷ others → IsKnownRange order r → range_cmp order r g ≡ Equal → IsStoredSet order (items ++ record { key = r; value = tt } ∷ [])
+    pub next_gap_fits : (gaps rest others : List (AnyRange K)) (items : Items) (room : ℕ)
+        (g r : AnyRange K) → IsStoredSet order (set_items gaps) → IsFilled gaps rest items room
+        → rest ≡ g ∷ others → IsKnownRange order r → range_cmp order r g ≡ Equal
+        → IsStoredSet order (items ++ record { key = r; value = tt } ∷ [])
     next_gap_fits gaps rest others items room g r form filled next known same =
         let more = items ++ record { key = r; value = tt } ∷ [] in
         let front = filled.done ++ g ∷ [] in
-        let all : front ++ others ≡ gaps = append_assoc filled.done (g ∷ []) others ∙ (ap (λ l. filled.done ++ l) (sym next) ∙ filled.split) in
-        let zip = zip_more SameRange items filled.done (record { key = r; value = tt }) g filled.copied same in
-        copy_stored order lawful (λ _ _. true) all_equal more (set_items front) (as_copy more front zip)
-        (All-from_recursion (λ i. IsKnownRange order i.key) more (all_more (λ i. IsKnownRange order i.key) items (record { key = r; value = tt }) filled.form.known known))
-        (front_stored order lawful front others (subst (λ l. IsStoredSet order (set_items l)) (sym all) form))
+        let all : front ++ others ≡ gaps =
+        append_assoc filled.done (g ∷ []) others
+        ∙ (ap (λ l. filled.done ++ l) (sym next) ∙ filled.split) in
+        let zip =
+        zip_more SameRange items filled.done
+        (record { key = r; value = tt }) g filled.copied same in
+        copy_stored order lawful (λ _ _. true) all_equal more (set_items front)
+        (as_copy more front zip)
+        (All-from_recursion (λ i. IsKnownRange order i.key) more
+        (all_more (λ i. IsKnownRange order i.key) items
+        (record { key = r; value = tt }) filled.form.known known))
+        (front_stored order lawful front others
+        (subst (λ l. IsStoredSet order (set_items l)) (sym all) form))
 
-    pub filled_more : (gaps rest others : List (AnyRange K)) (items next : Items) (room left : ℕ) (g r : AnyRange K) → IsStoredSet order (set_items gaps) → IsFilled gaps rest items room → rest ≡ g ∷ others → IsKnownRange order r → range_cmp order r g ≡ Equal → next ≡ items ++ record { key = r; value = tt } ∷ [] → room ≡ left + 1 → IsFilled gaps others next left
+    pub filled_more : (gaps rest others : List (AnyRange K)) (items next : Items) (room left : ℕ)
+        (g r : AnyRange K) → IsStoredSet order (set_items gaps) → IsFilled gaps rest items room
+        → rest ≡ g ∷ others → IsKnownRange order r → range_cmp order r g ≡ Equal
+        → next ≡ items ++ record { key = r; value = tt } ∷ [] → room ≡ left + 1
+        → IsFilled gaps others next left
     filled_more gaps rest others items next room left g r form filled came known same put room_is =
         let more = next_gap_fits gaps rest others items room g r form filled came known same in
         let shorter = ap length came in
         rw put (record {
           done = filled.done ++ g ∷ [];
-          split = append_assoc filled.done (g ∷ []) others ∙ (ap (λ l. filled.done ++ l) (sym came) ∙ filled.split);
-          copied = zip_more SameRange items filled.done (record { key = r; value = tt }) g filled.copied same;
+          split =
+              append_assoc filled.done (g ∷ []) others
+              ∙ (ap (λ l. filled.done ++ l) (sym came) ∙ filled.split);
+          copied =
+              zip_more SameRange items filled.done
+              (record { key = r; value = tt }) g filled.copied same;
           form = more;
           space = omega (arith, shorter, filled.space, room_is);
         })
 
-    same_keys : (others : Items) (gaps : List (AnyRange K)) (k : K) → order.is_key k → AllZip SameRange others gaps → HoldsKey order others k ↔ SomeHolds order gaps k
+    same_keys : (others : Items) (gaps : List (AnyRange K)) (k : K) → order.is_key k
+        → AllZip SameRange others gaps → HoldsKey order others k ↔ SomeHolds order gaps k
     same_keys [] [] k key zip = (λ h. h, λ h. h)
     same_keys [] (g ∷ gaps) k key zip = absurd zip
     same_keys (i ∷ others) [] k key zip = absurd zip
@@ -91,29 +124,54 @@ module _ {K : Type 0} (order : KeyOrder K) where
           λ h. elim h [ inl held ↦ inl (here.1 held) | inr held ↦ inr (later.1 held) ],
         )
 
-  pub all_copied : (gaps rest : List (AnyRange K)) (items : Items) (room : ℕ) → IsFilled gaps rest items room → rest ≡ [] → AllZip SameRange items gaps
+  pub all_copied : (gaps rest : List (AnyRange K)) (items : Items) (room : ℕ)
+      → IsFilled gaps rest items room → rest ≡ [] → AllZip SameRange items gaps
   all_copied gaps rest items room filled ended =
-      let all : filled.done ≡ gaps = sym (append-nil filled.done) ∙ (ap (λ l. filled.done ++ l) (sym ended) ∙ filled.split) in
+      let all : filled.done ≡ gaps =
+      sym (append-nil filled.done)
+      ∙ (ap (λ l. filled.done ++ l) (sym ended) ∙ filled.split) in
       subst (λ l. AllZip SameRange items l) all filled.copied
 
-  some_once : (ranges : List (AnyRange K)) (k : K) → IsHeldOnce order ranges k → SomeHolds order ranges k
+  some_once : (ranges : List (AnyRange K)) (k : K) → IsHeldOnce order ranges k
+      → SomeHolds order ranges k
   some_once [] k h = h
-  some_once (r ∷ ranges) k h = elim h [ inl held ↦ inl held.0 | inr later ↦ inr (some_once ranges k later.1) ]
+  some_once (r ∷ ranges) k h =
+      elim h [ inl held ↦ inl held.0 | inr later ↦ inr (some_once ranges k later.1) ]
 
   -- a key is held by an item or by a gap, and not by both
-  one_of_two : (items : Items) (gaps : List (AnyRange K)) (k : K) → IsHeldOnce order (item_ranges items ++ gaps) k → (HoldsKey order items k × (¬ SomeHolds order gaps k)) ⊎ ((¬ HoldsKey order items k) × SomeHolds order gaps k)
+  one_of_two : (items : Items) (gaps : List (AnyRange K)) (k : K)
+      → IsHeldOnce order (item_ranges items ++ gaps) k
+      → (HoldsKey order items k × (¬ SomeHolds order gaps k)) ⊎
+      ((¬ HoldsKey order items k) × SomeHolds order gaps k)
   one_of_two [] gaps k h = inr (λ b. b, some_once gaps k h)
   one_of_two (i ∷ items) gaps k h = elim h [
-    | inl held ↦ inl (inl held.0, any_none (λ r. Holds order r k) (λ r. ¬ Holds order r k) gaps (every_right (λ r. ¬ Holds order r k) (item_ranges items) gaps held.1) (λ r out held. out held))
+    | inl held ↦
+        inl (
+          inl held.0,
+          any_none (λ r. Holds order r k) (λ r. ¬ Holds order r k) gaps
+              (every_right (λ r. ¬ Holds order r k) (item_ranges items) gaps held.1)
+              (λ r out held. out held),
+        )
     | inr later ↦ elim (one_of_two items gaps k later.1) [
       | inl both ↦ inl (inr both.0, both.1)
       | inr both ↦ inr (λ b. elim b [ inl held ↦ later.0 held | inr held ↦ both.0 held ], both.1)
     ]
   ]
 
-  pub others_held : (lawful : IsLawful order) (items others : Items) (gaps : List (AnyRange K)) → AllZip SameRange others gaps → ((k : K) → order.is_key k → IsHeldOnce order (item_ranges items ++ gaps) k) → HoldsTheOthers order items others
+  pub others_held : (lawful : IsLawful order) (items others : Items) (gaps : List (AnyRange K))
+      → AllZip SameRange others gaps
+      → ((k : K) → order.is_key k → IsHeldOnce order (item_ranges items ++ gaps) k)
+      → HoldsTheOthers order items others
   others_held lawful items others gaps zip once k key =
       let same = same_keys lawful others gaps k key zip in (
-        λ h. elim (one_of_two items gaps k (once k key)) [ inl both ↦ absurd (both.1 (same.0 h)) | inr both ↦ both.0 ],
-        λ out. elim (one_of_two items gaps k (once k key)) [ inl both ↦ absurd (out both.0) | inr both ↦ same.1 both.1 ],
+        λ h.
+            elim (one_of_two items gaps k (once k key)) [
+              | inl both ↦ absurd (both.1 (same.0 h))
+              | inr both ↦ both.0
+            ],
+        λ out.
+            elim (one_of_two items gaps k (once k key)) [
+              | inl both ↦ absurd (out both.0)
+              | inr both ↦ same.1 both.1
+            ],
       )

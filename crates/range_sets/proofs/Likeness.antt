@@ -27,25 +27,35 @@ module _ {K : Type 0} (order : KeyOrder K) where
   Items = List (Item (AnyRange K) (Unit {0}))
 
   -- the lists bind alike exactly where they hold the same keys
-  pub held_bound : (items others : Items) → HoldAlike order items others ↔ BindAlike order (λ _ _. true) items others
+  pub held_bound : (items others : Items) → HoldAlike order items others
+      ↔ BindAlike order (λ _ _. true) items others
   held_bound items others = same_keys order (λ _ _. true) (λ _ _. refl) items others
 
-  pub same_sets : (items others : Items) → same_list order (λ _ _. true) items others ≡ same_ranges order items others
+  pub same_sets : (items others : Items)
+      → same_list order (λ _ _. true) items others ≡ same_ranges order items others
   same_sets [] [] = refl
   same_sets [] (j ∷ others) = refl
   same_sets (i ∷ items) [] = refl
-  same_sets (i ∷ items) (j ∷ others) = λ n. and_true (eq_by_cmp (range_cmp order) i.key j.key) n && same_sets items others n
+  same_sets (i ∷ items) (j ∷ others) =
+      λ n. and_true (eq_by_cmp (range_cmp order) i.key j.key) n && same_sets items others n
 
-  pub compared_sets : (items others : Items) → list_cmp order (λ _ _. Equal) items others ≡ ranges_cmp order items others
+  pub compared_sets : (items others : Items)
+      → list_cmp order (λ _ _. Equal) items others ≡ ranges_cmp order items others
   compared_sets [] [] = refl
   compared_sets [] (j ∷ others) = refl
   compared_sets (i ∷ items) [] = refl
-  compared_sets (i ∷ items) (j ∷ others) = λ n. ordering_then (any_then_equal (range_cmp order i.key j.key) n) (compared_sets items others n)
+  compared_sets (i ∷ items) (j ∷ others) =
+      λ n. ordering_then (any_then_equal (range_cmp order i.key j.key) n)
+      (compared_sets items others n)
 
   module _ (key_input : K → List (List ℕ)) where
-    each_input : (items : Items) → flat_map (item_input order key_input (λ _. [])) items ≡ flat_map (range_input order key_input) (item_ranges items)
+    each_input : (items : Items)
+        → flat_map (item_input order key_input (λ _. [])) items
+        ≡ flat_map (range_input order key_input) (item_ranges items)
     each_input [] = refl
-    each_input (i ∷ items) = λ n. append-nil (range_input order key_input i.key) n ++ each_input items n
+    each_input (i ∷ items) =
+        λ n. append-nil (range_input order key_input i.key) n ++ each_input items n
 
-    pub hashed_sets : (items : Items) → list_input order key_input (λ _. []) items ≡ ranges_input order key_input items
+    pub hashed_sets : (items : Items)
+        → list_input order key_input (λ _. []) items ≡ ranges_input order key_input items
     hashed_sets items = λ n. usize (sym (ranges_length items) n) ++ each_input items n

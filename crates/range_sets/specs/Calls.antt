@@ -1,4 +1,5 @@
--- What a list of calls makes of the pairs of a multimap: the last unrefused call on a pair says whether it is there.
+-- What a list of calls makes of the pairs of a multimap: the last unrefused call on a pair says
+-- whether it is there.
 use Rattle.std.specs.Prelude.{◌≡◌, Bool, IsTrue, List, [], ◌∷◌, ◌⊎◌, ◌↔◌, ⊤}
 use Rattle.range_keys.specs.Order.{KeyOrder}
 use Rattle.range_algebra.specs.Intervals.{Every}
@@ -34,22 +35,32 @@ module _ {K : Type 0} (order : KeyOrder K) {V : Type 0} (eq : V → V → Bool) 
   WasInserted [] = ⊥
   WasInserted (call ∷ calls) = WasInserted calls ⊎ (IsInsertion call × IsOn call × HasNoneOn calls)
 
-module _ {K : Type 0} (order : KeyOrder K) {S V : Type 0} (has : S → V → Bool) (eq : V → V → Bool) where
+module _ {K : Type 0} (order : KeyOrder K) {S V : Type 0} (has : S → V → Bool)
+    (eq : V → V → Bool) where
   -- what the contract of the call says of the lists before and after it
-  abbrev pub IsCallBetween : List (Item (AnyRange K) S) → Call K V → List (Item (AnyRange K) S) → Type 0
+  abbrev pub IsCallBetween : List (Item (AnyRange K) S) → Call K V → List (Item (AnyRange K) S)
+      → Type 0
   IsCallBetween items (Inserted r v) next = HasPairsAlso order has eq items next r v
   IsCallBetween items (Removed r v) next = HasPairsWithout order has eq items next r v
   IsCallBetween items Refused next = next ≡ items
 
   -- the calls, one after the other, with a list between any two
-  abbrev pub AreCallsBetween : List (Item (AnyRange K) S) → List (Call K V) → List (Item (AnyRange K) S) → Type 0
+  abbrev pub AreCallsBetween : List (Item (AnyRange K) S) → List (Call K V)
+      → List (Item (AnyRange K) S) → Type 0
   AreCallsBetween items [] last = last ≡ items
-  AreCallsBetween items (call ∷ calls) last = (next : List (Item (AnyRange K) S)) × IsCallBetween items call next × AreCallsBetween next calls last
+  AreCallsBetween items (call ∷ calls) last =
+      (next : List (Item (AnyRange K) S)) × IsCallBetween items call next
+      × AreCallsBetween next calls last
 
   -- each key has just the values of which the last call on the two is an insertion
   abbrev pub HasJustInserted : List (Call K V) → List (Item (AnyRange K) S) → Type 0
-  HasJustInserted calls last = (k : K) → order.is_key k → (v : V) → HasPair order has last k v ↔ WasInserted order eq k v calls
+  HasJustInserted calls last = (k : K) → order.is_key k → (v : V) → HasPair order has last k v
+      ↔ WasInserted order eq k v calls
 
   -- and, beside those, just the values that it had before, where no call is on the two
-  abbrev pub HasInsertedOrKept : List (Item (AnyRange K) S) → List (Call K V) → List (Item (AnyRange K) S) → Type 0
-  HasInsertedOrKept items calls last = (k : K) → order.is_key k → (v : V) → HasPair order has last k v ↔ (WasInserted order eq k v calls ⊎ (HasPair order has items k v × HasNoneOn order eq k v calls))
+  abbrev pub HasInsertedOrKept : List (Item (AnyRange K) S) → List (Call K V)
+      → List (Item (AnyRange K) S) → Type 0
+  HasInsertedOrKept items calls last = (k : K) → order.is_key k → (v : V)
+      → HasPair order has last k v
+      ↔ (WasInserted order eq k v calls ⊎
+      (HasPair order has items k v × HasNoneOn order eq k v calls))

@@ -11,4 +11,6 @@ use Rattle.range_map.specs.FreeRanges.{AreGaps}
 module _ {K : Type 0} (order : KeyOrder K) {V : Type 0} where
   -- the ranges equal, one by one, the gaps of the items
   abbrev pub EqualGapsOf : List (Item (AnyRange K) V) → List (Item (AnyRange K) V) → Type 0
-  EqualGapsOf items others = (gaps : List (AnyRange K)) × AreGaps order items gaps × AllZip (λ i g. range_cmp order i.key g ≡ Equal) others gaps
+  EqualGapsOf items others =
+      (gaps : List (AnyRange K)) × AreGaps order items gaps
+      × AllZip (λ i g. range_cmp order i.key g ≡ Equal) others gaps

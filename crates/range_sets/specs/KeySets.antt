@@ -9,7 +9,8 @@ use Rattle.range_map.specs.Bindings.{IsBound}
 use Rattle.range_map.specs.Stored.{IsStored}
 
 module _ {K : Type 0} (order : KeyOrder K) where
-  -- the form of a map whose values are all equal: nonempty ranges, each before the next with a place between
+  -- the form of a map whose values are all equal: nonempty ranges, each before the next with a
+  -- place between
   abbrev pub IsStoredSet : List (Item (AnyRange K) (Unit {0})) → Type 0
   IsStoredSet items = IsStored order (λ _ _. true) items
 
@@ -23,16 +24,22 @@ module _ {K : Type 0} (order : KeyOrder K) where
     HoldsKey items k = IsBound order items k
 
     -- the keys of the range were added, and no others
-    abbrev pub HoldsAlso : List (Item (AnyRange K) V) → List (Item (AnyRange K) V) → AnyRange K → Type 0
-    HoldsAlso before after r = (k : K) → order.is_key k → HoldsKey after k ↔ (HoldsKey before k ⊎ Holds order r k)
+    abbrev pub HoldsAlso : List (Item (AnyRange K) V) → List (Item (AnyRange K) V) → AnyRange K
+        → Type 0
+    HoldsAlso before after r = (k : K) → order.is_key k → HoldsKey after k
+        ↔ (HoldsKey before k ⊎ Holds order r k)
 
     -- the keys of the range were taken away, and no others
-    abbrev pub HoldsWithout : List (Item (AnyRange K) V) → List (Item (AnyRange K) V) → AnyRange K → Type 0
-    HoldsWithout before after r = (k : K) → order.is_key k → HoldsKey after k ↔ (HoldsKey before k × ¬ Holds order r k)
+    abbrev pub HoldsWithout : List (Item (AnyRange K) V) → List (Item (AnyRange K) V) → AnyRange K
+        → Type 0
+    HoldsWithout before after r = (k : K) → order.is_key k → HoldsKey after k
+        ↔ (HoldsKey before k × ¬ Holds order r k)
 
     -- the keys of all the ranges were added, and no others
-    abbrev pub HoldsAllAlso : List (Item (AnyRange K) V) → List (Item (AnyRange K) V) → List (AnyRange K) → Type 0
-    HoldsAllAlso before after ranges = (k : K) → order.is_key k → HoldsKey after k ↔ (HoldsKey before k ⊎ SomeHolds ranges k)
+    abbrev pub HoldsAllAlso : List (Item (AnyRange K) V) → List (Item (AnyRange K) V)
+        → List (AnyRange K) → Type 0
+    HoldsAllAlso before after ranges = (k : K) → order.is_key k → HoldsKey after k
+        ↔ (HoldsKey before k ⊎ SomeHolds ranges k)
 
     -- just the keys of all the ranges are held
     abbrev pub HoldsAllOf : List (Item (AnyRange K) V) → List (AnyRange K) → Type 0
@@ -48,4 +55,5 @@ module _ {K : Type 0} (order : KeyOrder K) where
 
     -- no list that holds the same keys, disjoint or not, has fewer ranges
     abbrev pub IsLeastCount : List (Item (AnyRange K) V) → ℕ → Type 0
-    IsLeastCount items n = (others : List (Item (AnyRange K) V)) → HoldAlike items others → n ≤ length others
+    IsLeastCount items n = (others : List (Item (AnyRange K) V)) → HoldAlike items others
+        → n ≤ length others

@@ -14,8 +14,10 @@ HasNoEmptySet is_void items = Every (λ i. ¬ is_void i.value) items
 
 module _ {K : Type 0} (order : KeyOrder K) {S : Type 0} (same : S → S → Bool) where
   -- each key of which P is true is bound as before
-  abbrev pub StayBound : List (Item (AnyRange K) S) → List (Item (AnyRange K) S) → (K → Type 0) → Type 0
-  StayBound before after P = (k : K) → order.is_key k → P k → (b : Option S) → Binds order same after k b ↔ Binds order same before k b
+  abbrev pub StayBound : List (Item (AnyRange K) S) → List (Item (AnyRange K) S) → (K → Type 0)
+      → Type 0
+  StayBound before after P = (k : K) → order.is_key k → P k → (b : Option S)
+      → Binds order same after k b ↔ Binds order same before k b
 
 -- of two relations between keys and values, each of which says which pairs there are
 module _ {K : Type 0} (order : KeyOrder K) {V : Type 0} (eq : V → V → Bool) where
@@ -41,15 +43,18 @@ module _ {K : Type 0} (order : KeyOrder K) {S V : Type 0} (has : S → V → Boo
   abbrev pub IsUnpaired : List (Item (AnyRange K) S) → K → Type 0
   IsUnpaired items k = (v : V) → ¬ HasPair items k v
 
-  -- the answer is the set of the values that are paired with the key, and none where there is no such value
+  -- the answer is the set of the values that are paired with the key, and none where there is no
+  -- such value
   abbrev pub AreValuesAt : List (Item (AnyRange K) S) → K → Option S → Type 0
   AreValuesAt items k answer = (v : V) → HasPair items k v ↔ IsTrue (among has answer v)
 
   module _ (eq : V → V → Bool) where
     -- the pairs of the range's keys with what equals the value were added, and no others
-    abbrev pub HasPairsAlso : List (Item (AnyRange K) S) → List (Item (AnyRange K) S) → AnyRange K → V → Type 0
+    abbrev pub HasPairsAlso : List (Item (AnyRange K) S) → List (Item (AnyRange K) S) → AnyRange K
+        → V → Type 0
     HasPairsAlso before after = AddsPairs order eq (HasPair before) (HasPair after)
 
     -- the pairs of the range's keys with what equals the value were taken away, and no others
-    abbrev pub HasPairsWithout : List (Item (AnyRange K) S) → List (Item (AnyRange K) S) → AnyRange K → V → Type 0
+    abbrev pub HasPairsWithout : List (Item (AnyRange K) S) → List (Item (AnyRange K) S)
+        → AnyRange K → V → Type 0
     HasPairsWithout before after = TakesPairs order eq (HasPair before) (HasPair after)

@@ -15,7 +15,8 @@ use Rattle.range_map.specs.FreeRanges.{item_ranges}
 module _ {K : Type 0} (order : KeyOrder K) {V : Type 0} where
   -- as many ranges, each equal to the other's by position
   abbrev pub same_ranges : List (Item (AnyRange K) V) → List (Item (AnyRange K) V) → Bool
-  same_ranges items others = pointwise (eq_by_cmp (range_cmp order)) (item_ranges items) (item_ranges others)
+  same_ranges items others =
+      pointwise (eq_by_cmp (range_cmp order)) (item_ranges items) (item_ranges others)
 
   -- the ranges in dictionary order
   abbrev pub ranges_cmp : List (Item (AnyRange K) V) → List (Item (AnyRange K) V) → Ordering
@@ -27,16 +28,23 @@ module _ {K : Type 0} (order : KeyOrder K) {V : Type 0} where
 
   module _ (lawful : IsLawful order) where
     pub sets_equivalence : IsEquivalence same_ranges
-    sets_equivalence = on_equiv item_ranges (lists_equiv (eq_by_cmp_equiv (range_total order lawful)))
+    sets_equivalence =
+        on_equiv item_ranges (lists_equiv (eq_by_cmp_equiv (range_total order lawful)))
 
     pub sets_order : IsTotalOrder ranges_cmp
     sets_order = on_total item_ranges (lists_total (range_total order lawful))
 
   -- the order answers Equal of what is equal
-  pub sets_tied : (items others : List (Item (AnyRange K) V)) → same_ranges items others ≡ eq_by_cmp ranges_cmp items others
-  sets_tied items others = lists_ties (range_cmp order) (λ r s. refl) (item_ranges items) (item_ranges others)
+  pub sets_tied : (items others : List (Item (AnyRange K) V))
+      → same_ranges items others ≡ eq_by_cmp ranges_cmp items others
+  sets_tied items others =
+      lists_ties (range_cmp order) (λ r s. refl) (item_ranges items) (item_ranges others)
 
   -- equal sets are fed alike
-  pub sets_fed : (key_input : K → List (List ℕ)) → ((a b : K) → order.cmp a b ≡ Equal → key_input a ≡ key_input b) → (items others : List (Item (AnyRange K) V)) → IsTrue (same_ranges items others) → ranges_input key_input items ≡ ranges_input key_input others
+  pub sets_fed : (key_input : K → List (List ℕ))
+      → ((a b : K) → order.cmp a b ≡ Equal → key_input a ≡ key_input b)
+      → (items others : List (Item (AnyRange K) V)) → IsTrue (same_ranges items others)
+      → ranges_input key_input items ≡ ranges_input key_input others
   sets_fed key_input keys items others =
-      (items_Alike (record { fed = range_respects order key_input keys })).fed (item_ranges items) (item_ranges others)
+      (items_Alike (record { fed = range_respects order key_input keys })).fed (item_ranges items)
+      (item_ranges others)

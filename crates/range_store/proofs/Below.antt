@@ -7,18 +7,27 @@ use Rattle.range_store.specs.Nodes.{weave, rest_of, before, after, items_below, 
 use Rattle.std.specs.List.{flat_map}
 use Rattle.range_store.specs.Weave.{weave_at, length-before_next}
 
-pub Shaped-from_but : {T : Type 0} (s : Heap T) (d n : ℕ) → ShapedBut MIN_LEN CAPACITY s d n → Shaped s (suc d) n
+pub Shaped-from_but : {T : Type 0} (s : Heap T) (d n : ℕ) → ShapedBut MIN_LEN CAPACITY s d n
+    → Shaped s (suc d) n
 unfolding Shaped
 Shaped-from_but s d n but = (but.node, but.children)
 
-pub Shaped-but : {T : Type 0} (s : Heap T) (d n : ℕ) → Shaped s (suc d) n → ShapedBut MIN_LEN CAPACITY s d n
+pub Shaped-but : {T : Type 0} (s : Heap T) (d n : ℕ) → Shaped s (suc d) n
+    → ShapedBut MIN_LEN CAPACITY s d n
 unfolding Shaped
 Shaped-but s d n shaped = record { node = shaped.0; children = shaped.1 }
 
 -- the bounds on a node may be wider
-pub shaped_within_wider : {T : Type 0} (low least most top : ℕ) (s : Heap T) (d n : ℕ) → low ≤ least → most ≤ top → ShapedBut least most s d n → ShapedBut low top s d n
+pub shaped_within_wider : {T : Type 0} (low least most top : ℕ) (s : Heap T) (d n : ℕ) → low ≤ least
+    → most ≤ top → ShapedBut least most s d n → ShapedBut low top s d n
 shaped_within_wider low least most top s d n le le' shaped = record {
-  node = record { present = shaped.node.present; enough = omega (arith, shaped.node.enough); fits = omega (arith, shaped.node.fits); branches = shaped.node.branches };
+  node =
+      record {
+        present = shaped.node.present;
+        enough = omega (arith, shaped.node.enough);
+        fits = omega (arith, shaped.node.fits);
+        branches = shaped.node.branches;
+      };
   children = shaped.children;
 }
 
@@ -26,15 +35,18 @@ pub child_count_cases : (d k m : ℕ) → m ≡ child_count d k → (m ≡ 0) �
 child_count_cases zero k m h = inl h
 child_count_cases (suc d) k m h = inr h
 
-pub used_is : {T : Type 0} (s : Heap T) (d n : ℕ) → used s (suc d) n ≡ n ∷ flat_map (used s d) (children_of (node_of s n))
+pub used_is : {T : Type 0} (s : Heap T) (d n : ℕ)
+    → used s (suc d) n ≡ n ∷ flat_map (used s d) (children_of (node_of s n))
 unfolding used
 used_is s d n = refl
 
-pub items_below_leaf : {T : Type 0} (s : Heap T) (n : ℕ) → length (children_of (node_of s n)) ≡ 0 → items_below s (suc zero) n ≡ items_of (node_of s n)
+pub items_below_leaf : {T : Type 0} (s : Heap T) (n : ℕ) → length (children_of (node_of s n)) ≡ 0
+    → items_below s (suc zero) n ≡ items_of (node_of s n)
 unfolding items_below
 items_below_leaf s n none = rw (nil_from_length (children_of (node_of s n)) none) refl
 
-pub used_leaf : {T : Type 0} (s : Heap T) (n : ℕ) → length (children_of (node_of s n)) ≡ 0 → used s (suc zero) n ≡ n ∷ []
+pub used_leaf : {T : Type 0} (s : Heap T) (n : ℕ) → length (children_of (node_of s n)) ≡ 0
+    → used s (suc zero) n ≡ n ∷ []
 unfolding used
 used_leaf s n none = rw (nil_from_length (children_of (node_of s n)) none) refl
 
@@ -42,31 +54,60 @@ pub child_count_inner : (d k : ℕ) → 0 < d → child_count d k ≡ k + 1
 child_count_inner zero k inner = absurd (omega arith)
 child_count_inner (suc d) k inner = refl
 
-pub weave_items_below : {T : Type 0} (s : Heap T) (d n : ℕ) → items_below s (suc d) n ≡ weave (items_of (node_of s n)) (map (items_below s d) (children_of (node_of s n)))
+pub weave_items_below : {T : Type 0} (s : Heap T) (d n : ℕ)
+    → items_below s (suc d) n
+    ≡ weave (items_of (node_of s n)) (map (items_below s d) (children_of (node_of s n)))
 unfolding items_below
 weave_items_below s d n = refl
 
-module _ {T : Type 0} (least most : ℕ) (s : Heap T) (d n : ℕ) (inner : 0 < d) (shaped : ShapedBut least most s d n) where
+module _ {T : Type 0} (least most : ℕ) (s : Heap T) (d n : ℕ) (inner : 0 < d)
+    (shaped : ShapedBut least most s d n) where
   pub children_length : length (children_of (node_of s n)) ≡ length (items_of (node_of s n)) + 1
   children_length = shaped.node.branches ∙ child_count_inner d _ inner
 
   -- the lists of the children, and how many items stand before the list at i
-  pub lists_length : length (map (items_below s d) (children_of (node_of s n))) ≡ length (items_of (node_of s n)) + 1
+  pub lists_length : length (map (items_below s d) (children_of (node_of s n)))
+      ≡ length (items_of (node_of s n)) + 1
   lists_length = length-map (children_of (node_of s n)) (items_below s d) ∙ children_length
 
-  pub items_below_at : (i : ℕ) → i ≤ length (items_of (node_of s n)) → items_below s (suc d) n ≡ before (items_of (node_of s n)) (map (items_below s d) (children_of (node_of s n))) i ++ (items_below s d (get_or (children_of (node_of s n)) i 0) ++ after (items_of (node_of s n)) (map (items_below s d) (children_of (node_of s n))) i)
+  pub items_below_at : (i : ℕ) → i ≤ length (items_of (node_of s n))
+      → items_below s (suc d) n
+      ≡ before (items_of (node_of s n)) (map (items_below s d) (children_of (node_of s n))) i
+      ++ (items_below s d (get_or (children_of (node_of s n)) i 0)
+      ++ after (items_of (node_of s n)) (map (items_below s d) (children_of (node_of s n))) i)
   items_below_at i within =
-      let kid = get_or-map (items_below s d) (children_of (node_of s n)) i 0 [] (omega (arith, children_length)) in
-      weave_items_below s d n ∙ weave_at (items_of (node_of s n)) (map (items_below s d) (children_of (node_of s n))) i within lists_length
-      ∙ ap (λ zs. before (items_of (node_of s n)) (map (items_below s d) (children_of (node_of s n))) i ++ (zs ++ after (items_of (node_of s n)) (map (items_below s d) (children_of (node_of s n))) i)) kid
+      let kid =
+      get_or-map (items_below s d) (children_of (node_of s n)) i 0 []
+      (omega (arith, children_length)) in
+      weave_items_below s d n
+      ∙ weave_at (items_of (node_of s n))
+      (map (items_below s d) (children_of (node_of s n))) i within lists_length
+      ∙ ap (λ zs. before (items_of (node_of s n))
+      (map (items_below s d) (children_of (node_of s n))) i
+      ++ (zs ++ after (items_of (node_of s n))
+      (map (items_below s d) (children_of (node_of s n))) i)) kid
 
-  pub length-before_more : (i : ℕ) → i < length (items_of (node_of s n)) → length (before (items_of (node_of s n)) (map (items_below s d) (children_of (node_of s n))) (i + 1)) ≡ length (before (items_of (node_of s n)) (map (items_below s d) (children_of (node_of s n))) i) + length (items_below s d (get_or (children_of (node_of s n)) i 0)) + 1
+  pub length-before_more : (i : ℕ) → i < length (items_of (node_of s n))
+      → length (before (items_of (node_of s n)) (map (items_below s d) (children_of (node_of s n)))
+      (i + 1))
+      ≡ length (before (items_of (node_of s n))
+      (map (items_below s d) (children_of (node_of s n))) i) + length
+      (items_below s d (get_or (children_of (node_of s n)) i 0)) + 1
   length-before_more i within =
-      let kid = get_or-map (items_below s d) (children_of (node_of s n)) i 0 [] (omega (arith, children_length)) in
-      omega (arith, length-before_next (items_of (node_of s n)) (map (items_below s d) (children_of (node_of s n))) i within (omega (arith, lists_length)), ap length kid)
+      let kid =
+      get_or-map (items_below s d) (children_of (node_of s n)) i 0 []
+      (omega (arith, children_length)) in
+      omega (
+        arith,
+        length-before_next (items_of (node_of s n))
+            (map (items_below s d) (children_of (node_of s n))) i within
+            (omega (arith, lists_length)),
+        ap length kid,
+      )
 
   -- after the last child stands nothing
-  pub none_after_last : after (items_of (node_of s n)) (map (items_below s d) (children_of (node_of s n))) (length (items_of (node_of s n))) ≡ []
+  pub none_after_last : after (items_of (node_of s n))
+      (map (items_below s d) (children_of (node_of s n))) (length (items_of (node_of s n))) ≡ []
   none_after_last =
       let i = length (items_of (node_of s n)) in
       let lists = map (items_below s d) (children_of (node_of s n)) in

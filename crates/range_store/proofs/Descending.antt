@@ -1,4 +1,5 @@
--- How a search goes down: what it finds below a node is what it finds below the one where it began, by the way between the two.
+-- How a search goes down: what it finds below a node is what it finds below the one where it began,
+-- by the way between the two.
 use Rattle.std.proofs.Common.{◌≡◌, ◌≢◌, ℕ, suc, ◌+◌, ◌-◌, ◌*◌, ◌/◌, ◌^◌, ◌<◌, ◌≤◌, Bool, length, get_or, refl, sym, ap, ◌∙◌, arith, count_by}
 use Rattle.std.proofs.Math.Nat.{pow-suc, pow-le-pow_right, mul_assoc, mul_comm, mul-add, mul-le-mul_left}
 use Rattle.std.proofs.lemmas.List.Sums.{count_by-le-length}
@@ -24,7 +25,8 @@ heavier : (way weight i : ℕ) → way < weight → i ≤ CAPACITY → way + wei
 heavier way weight i small low = omega (arith, small, mul-le-mul_left weight low)
 
 -- above a leaf no weight is too great
-pub weight_fits : (below left weight : ℕ) → below < DEEPEST → 0 < left → weight ≡ WIDTH ^ (below - left) → weight ≤ 2 ^ 120
+pub weight_fits : (below left weight : ℕ) → below < DEEPEST → 0 < left
+    → weight ≡ WIDTH ^ (below - left) → weight ≤ 2 ^ 120
 weight_fits below left weight deep some is =
     let few : below - left ≤ 30 = omega (arith, deep, some) in
     let wide : 0 < WIDTH = omega arith in
@@ -48,43 +50,67 @@ module _ {T : Type 0} (p : T → Bool) (s : Heap T) where
     pub outcome : (e : Edge) → Outcome left at e → Outcome below number (from_above way weight e)
 
   -- what is found below the child at i is found below the node
-  level_up : (b n : ℕ) → b ≢ 0 → ShapedBut 1 CAPACITY s b n → Falls p (items_below s (suc b) n) → (i : ℕ) → i ≡ count_by p (items_of (node_of s n)) → (e h : Edge) → turn h ≡ i → inside h ≡ e → Outcome (b - 1) (get_or (children_of (node_of s n)) i 0) e → Outcome b n h
+  level_up : (b n : ℕ) → b ≢ 0 → ShapedBut 1 CAPACITY s b n → Falls p (items_below s (suc b) n)
+      → (i : ℕ) → i ≡ count_by p (items_of (node_of s n)) → (e h : Edge) → turn h ≡ i → inside h ≡ e
+      → Outcome (b - 1) (get_or (children_of (node_of s n)) i 0) e → Outcome b n h
   level_up b n inner shaped falls i count e h at within o =
-      let low : i ≤ length (items_of (node_of s n)) = omega (arith, count, count_by-le-length p (items_of (node_of s n))) in
+      let low : i ≤ length (items_of (node_of s n)) =
+      omega (arith, count, count_by-le-length p (items_of (node_of s n))) in
       let found = rw (level_of_children s b n inner shaped) at o.count in
-      let step = rw (← count) at (search_step p 1 CAPACITY s b n shaped (omega (arith, inner)) falls) in
+      let step =
+      rw (← count) at (search_step p 1 CAPACITY s b n shaped (omega (arith, inner)) falls)
+      in
       record {
         edge = below_edge s b n inner shaped i e h at within low o.edge;
         count = omega (arith, below_place s b n inner shaped i e h at within, found, step);
       }
 
-  pub descends : (below number left at way weight : ℕ) → left ≢ 0 → Descent below number left at way weight → (i : ℕ) → i ≡ count_by p (items_of (node_of s at)) → Descent below number (left - 1) (get_or (children_of (node_of s at)) i 0) (way + weight * i) (weight * WIDTH)
+  pub descends : (below number left at way weight : ℕ) → left ≢ 0
+      → Descent below number left at way weight → (i : ℕ) → i ≡ count_by p (items_of (node_of s at))
+      → Descent below number (left - 1) (get_or (children_of (node_of s at)) i 0) (way + weight * i)
+      (weight * WIDTH)
   descends below number left at way weight inner d i count =
       let back = level_of_children s left at inner d.shaped in
-      let low : i ≤ length (items_of (node_of s at)) = omega (arith, count, count_by-le-length p (items_of (node_of s at))) in
+      let low : i ≤ length (items_of (node_of s at)) =
+      omega (arith, count, count_by-le-length p (items_of (node_of s at))) in
       let few : i ≤ CAPACITY = omega (arith, low, d.shaped.node.fits) in
       let deeper : below - (left - 1) ≡ suc (below - left) = omega (arith, inner, d.low) in
       record {
         low = omega (arith, d.low);
-        weight_is = rw deeper (ap (λ w. w * WIDTH) d.weight_is ∙ sym (pow-suc WIDTH (below - left)));
+        weight_is =
+            rw deeper (ap (λ w. w * WIDTH) d.weight_is ∙ sym (pow-suc WIDTH (below - left)));
         small = heavier way weight i d.small few;
         shaped = below_kid s left at inner d.shaped i low;
-        falls = rw (← back) at (kid_falls p 1 CAPACITY s left at d.shaped (omega (arith, inner)) i low d.falls);
+        falls =
+            rw (← back) at (kid_falls p 1 CAPACITY s left at d.shaped
+            (omega (arith, inner)) i low d.falls);
         outcome = λ e o.
             let h : Edge = record e { way = e.way * WIDTH + i } in
             let turned : turn h ≡ i = omega (arith, few) in
             let quotient : (e.way * WIDTH + i) / WIDTH ≡ e.way = omega (arith, few) in
-            let up = level_up left at inner d.shaped d.falls i count e h turned (ap (λ w. record e { way = w }) quotient) o in
-            let way_is : way + weight * i + weight * WIDTH * e.way ≡ way + weight * (e.way * WIDTH + i) = omega (arith, mul-add weight (e.way * WIDTH) i, mul_assoc weight WIDTH e.way, ap (λ w. weight * w) (mul_comm WIDTH e.way)) in
+            let up =
+            level_up left at inner d.shaped d.falls i count e h turned
+            (ap (λ w. record e { way = w }) quotient) o in
+            let way_is : way + weight * i + weight * WIDTH * e.way
+            ≡ way + weight * (e.way * WIDTH + i) =
+            omega (
+              arith,
+              mul-add weight (e.way * WIDTH) i,
+              mul_assoc weight WIDTH e.way,
+              ap (λ w. weight * w) (mul_comm WIDTH e.way),
+            ) in
             rw way_is (d.outcome h up);
       }
 
   -- a leaf ends the way down
-  pub descent_ends : (below number left at way weight : ℕ) → left ≡ 0 → Descent below number left at way weight → (i : ℕ) → i ≡ count_by p (items_of (node_of s at)) → Outcome below number (record { way = way; leaf = at; index = i })
+  pub descent_ends : (below number left at way weight : ℕ) → left ≡ 0
+      → Descent below number left at way weight → (i : ℕ) → i ≡ count_by p (items_of (node_of s at))
+      → Outcome below number (record { way = way; leaf = at; index = i })
   descent_ends below number left at way weight bottom d i count =
       let shaped = rw bottom at d.shaped in
       let all = items_below_leaf s at shaped.node.branches in
-      let low : i ≤ length (items_of (node_of s at)) = omega (arith, count, count_by-le-length p (items_of (node_of s at))) in
+      let low : i ≤ length (items_of (node_of s at)) =
+      omega (arith, count, count_by-le-length p (items_of (node_of s at))) in
       let e : Edge = record { way = 0; leaf = at; index = i } in
       let found : Outcome 0 at e = record {
         edge = leaf_edge s at e refl refl low;
@@ -94,7 +120,10 @@ module _ {T : Type 0} (p : T → Bool) (s : Heap T) where
       rw (← way_is) (d.outcome e (rw bottom found))
 
 -- the steps of a node come to those of the nodes above
-pub adds_more : (first before after below left : ℕ) → left ≢ 0 → left ≤ below → AddsSteps first before (below - left) (HALVINGS * (below - left)) → AddsSteps before after 1 HALVINGS → AddsSteps first after (below - (left - 1)) (HALVINGS * (below - (left - 1)))
+pub adds_more : (first before after below left : ℕ) → left ≢ 0 → left ≤ below
+    → AddsSteps first before (below - left) (HALVINGS * (below - left))
+    → AddsSteps before after 1 HALVINGS
+    → AddsSteps first after (below - (left - 1)) (HALVINGS * (below - (left - 1)))
 adds_more first before after below left inner low above here = record {
   at_most = omega (arith, inner, low, above.at_most, here.at_most);
   at_least = omega (arith, inner, low, above.at_least, here.at_least);

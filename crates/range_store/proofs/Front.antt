@@ -26,7 +26,8 @@ module _ {X : Type 0} (p : X → Bool) where
   true_or_false true = inl refl
   true_or_false false = inr refl
 
-  pub falls_true : (xs : List X) (i : ℕ) (d : X) → Falls p xs → i < length xs → p (get_or xs i d) ≡ true → i + 1 ≤ count_by p xs
+  pub falls_true : (xs : List X) (i : ℕ) (d : X) → Falls p xs → i < length xs
+      → p (get_or xs i d) ≡ true → i + 1 ≤ count_by p xs
   unfolding Falls
   falls_true [] i d falls within holds = absurd (omega arith)
   falls_true (x ∷ xs) zero d falls within holds = omega (arith, count-yes x xs holds)
@@ -37,7 +38,8 @@ module _ {X : Type 0} (p : X → Bool) where
         | inr none ↦ absurd (omega (arith, later, falls.0 none))
       ]
 
-  pub falls_false : (xs : List X) (i : ℕ) (d : X) → Falls p xs → i < length xs → p (get_or xs i d) ≡ false → count_by p xs ≤ i
+  pub falls_false : (xs : List X) (i : ℕ) (d : X) → Falls p xs → i < length xs
+      → p (get_or xs i d) ≡ false → count_by p xs ≤ i
   unfolding Falls
   falls_false [] i d falls within fails = absurd (omega arith)
   falls_false (x ∷ xs) zero d falls within fails = omega (arith, count-no x xs fails, falls.0 fails)
@@ -72,18 +74,27 @@ module _ {X : Type 0} (p : X → Bool) where
             ];
       }
 
-  none_counted : (xs : List X) → ((k : ℕ) (d : X) → k < length xs → p (get_or xs k d) ≡ false) → count_by p xs ≡ 0
+  none_counted : (xs : List X) → ((k : ℕ) (d : X) → k < length xs → p (get_or xs k d) ≡ false)
+      → count_by p xs ≡ 0
   none_counted [] fails = refl
   none_counted (x ∷ xs) fails =
-      omega (arith, count-no x xs (fails 0 x (omega arith)), none_counted xs (λ k d within. fails (suc k) d (omega arith)))
+      omega (
+        arith,
+        count-no x xs (fails 0 x (omega arith)),
+        none_counted xs (λ k d within. fails (suc k) d (omega arith)),
+      )
 
   -- a test that holds on a front alone falls
   pub falls_partitioned : (xs : List X) → IsPartitionedBy p xs → Falls p xs
   unfolding Falls
   falls_partitioned [] part = tt
   falls_partitioned (x ∷ xs) part = (
-    (λ fails. none_counted xs (λ k d within. false_from_ne_true _ (λ holds. both_ways (p x) fails (part 0 (suc k) d (omega arith) (omega (arith, within)) holds)))),
-    falls_partitioned xs (λ i j d le within holds. part (suc i) (suc j) d (omega arith) (omega (arith, within)) holds),
+    (λ fails. none_counted xs
+        (λ k d within. false_from_ne_true _
+        (λ holds. both_ways (p x) fails
+        (part 0 (suc k) d (omega arith) (omega (arith, within)) holds)))),
+    falls_partitioned xs (λ i j d le within holds.
+        part (suc i) (suc j) d (omega arith) (omega (arith, within)) holds),
   )
 
   -- the items that pass are the first ones
@@ -91,8 +102,22 @@ module _ {X : Type 0} (p : X → Bool) where
   falling_front xs falls = (
     count_by-le-length p xs,
     (
-      (λ k d low less. elim (true_or_false (p (get_or xs k d))) [ inl holds ↦ holds | inr fails ↦ absurd (omega (arith, less, falls_false xs k d falls (omega (arith, less, count_by-le-length p xs)) fails)) ]),
-      (λ k d low within. elim (true_or_false (p (get_or xs k d))) [ inl holds ↦ absurd (omega (arith, low, falls_true xs k d falls within holds)) | inr fails ↦ fails ]),
+      (λ k d low less.
+          elim (true_or_false (p (get_or xs k d))) [
+            | inl holds ↦ holds
+            | inr fails ↦
+                absurd
+                (omega (
+                  arith,
+                  less,
+                  falls_false xs k d falls (omega (arith, less, count_by-le-length p xs)) fails,
+                ))
+          ]),
+      (λ k d low within.
+          elim (true_or_false (p (get_or xs k d))) [
+            | inl holds ↦ absurd (omega (arith, low, falls_true xs k d falls within holds))
+            | inr fails ↦ fails
+          ]),
     ),
   )
 
@@ -100,7 +125,13 @@ module _ {X : Type 0} (p : X → Bool) where
   -- the same of full cells
   pub count_cells : (xs : List X) → count_by (at_item p) (full_cells xs) ≡ count_by p xs
   count_cells [] = refl
-  count_cells (x ∷ xs) = omega (arith, count-cons (at_item p) (Some x) (full_cells xs), count-cons p x xs, count_cells xs)
+  count_cells (x ∷ xs) =
+      omega (
+        arith,
+        count-cons (at_item p) (Some x) (full_cells xs),
+        count-cons p x xs,
+        count_cells xs,
+      )
 
   pub falls_cells : (xs : List X) → Falls p xs → Falls (at_item p) (full_cells xs)
   unfolding Falls
@@ -113,7 +144,8 @@ cells_full (x ∷ xs) zero d within = refl
 cells_full (x ∷ xs) (suc k) d within = cells_full xs k d (omega arith)
 
 -- a list that is halved this many times at most
-pub half_is_below_power : (r x : ℕ) → 0 < x → x < 2 ^ r → (s : ℕ) × (r ≡ s + 1) × ((y : ℕ) → y ≤ x / 2 → y < 2 ^ s)
+pub half_is_below_power : (r x : ℕ) → 0 < x → x < 2 ^ r
+    → (s : ℕ) × (r ≡ s + 1) × ((y : ℕ) → y ≤ x / 2 → y < 2 ^ s)
 half_is_below_power zero x some less = absurd (omega arith)
 half_is_below_power (suc s) x some less = (s, omega arith, λ y small. omega (arith, pow-suc 2 s))
 
@@ -128,7 +160,8 @@ module _ {X : Type 0} where
     pub later : min first greatest_count ≤ now
     pub begun : (min (first + 1) greatest_count ≤ now) ⊎ (high - low ≡ length xs)
 
-pub halving_starts : {X : Type 0} (p : X → Bool) (xs : List X) (first : ℕ) → length xs ≤ CAPACITY → count_by p xs ≤ length xs → Halving p xs 0 (length xs) first first
+pub halving_starts : {X : Type 0} (p : X → Bool) (xs : List X) (first : ℕ) → length xs ≤ CAPACITY
+    → count_by p xs ≤ length xs → Halving p xs 0 (length xs) first first
 halving_starts p xs first small count = record {
   ordered = omega arith;
   within = omega arith;
@@ -139,7 +172,10 @@ halving_starts p xs first small count = record {
   begun = inr (omega arith);
 }
 
-pub halving_holds : {X : Type 0} (p : X → Bool) (xs : List X) (low high first now : ℕ) (d : X) → Falls p xs → low < high → p (get_or xs (low + (high - low) / 2) d) ≡ true → Halving p xs low high first now → Halving p xs (low + (high - low) / 2 + 1) high first (one_step_after now)
+pub halving_holds : {X : Type 0} (p : X → Bool) (xs : List X) (low high first now : ℕ) (d : X)
+    → Falls p xs → low < high → p (get_or xs (low + (high - low) / 2) d) ≡ true
+    → Halving p xs low high first now
+    → Halving p xs (low + (high - low) / 2 + 1) high first (one_step_after now)
 halving_holds p xs low high first now d falls less holds h =
     let next = half_is_below_power h.left.0 (high - low) (omega arith) h.left.1 in
     let half : (high - low) / 2 < high - low = omega arith in
@@ -148,12 +184,19 @@ halving_holds p xs low high first now d falls less holds h =
       within = h.within;
       at_least = falls_true p xs (low + (high - low) / 2) d falls (omega (arith, h.within)) holds;
       at_most = h.at_most;
-      left = (next.0, next.2 (high - (low + (high - low) / 2 + 1)) (omega arith), omega (arith, next.1, h.left.2));
+      left = (
+        next.0,
+        next.2 (high - (low + (high - low) / 2 + 1)) (omega arith),
+        omega (arith, next.1, h.left.2),
+      );
       later = omega (arith, h.later);
       begun = inl (omega (arith, h.later));
     }
 
-pub halving_fails : {X : Type 0} (p : X → Bool) (xs : List X) (low high first now : ℕ) (d : X) → Falls p xs → low < high → p (get_or xs (low + (high - low) / 2) d) ≡ false → Halving p xs low high first now → Halving p xs low (low + (high - low) / 2) first (one_step_after now)
+pub halving_fails : {X : Type 0} (p : X → Bool) (xs : List X) (low high first now : ℕ) (d : X)
+    → Falls p xs → low < high → p (get_or xs (low + (high - low) / 2) d) ≡ false
+    → Halving p xs low high first now
+    → Halving p xs low (low + (high - low) / 2) first (one_step_after now)
 halving_fails p xs low high first now d falls less fails h =
     let next = half_is_below_power h.left.0 (high - low) (omega arith) h.left.1 in
     let half : (high - low) / 2 < high - low = omega arith in
@@ -162,7 +205,11 @@ halving_fails p xs low high first now d falls less fails h =
       within = omega (arith, h.within);
       at_least = h.at_least;
       at_most = falls_false p xs (low + (high - low) / 2) d falls (omega (arith, h.within)) fails;
-      left = (next.0, next.2 (low + (high - low) / 2 - low) (omega arith), omega (arith, next.1, h.left.2));
+      left = (
+        next.0,
+        next.2 (low + (high - low) / 2 - low) (omega arith),
+        omega (arith, next.1, h.left.2),
+      );
       later = omega (arith, h.later);
       begun = inl (omega (arith, h.later));
     }

@@ -16,7 +16,8 @@ use Rattle.range_store.proofs.Rank.{kid_shaped}
 pub place_index : {T : Type 0} (s : Heap T) (d n : ℕ) (g : Edge) → g.index ≤ place s d n g
 unfolding place
 place_index s zero n g = omega arith
-place_index s (suc d) n g = omega (arith, place_index s d (get_or (children_of (node_of s n)) (turn g) 0) (inside g))
+place_index s (suc d) n g =
+    omega (arith, place_index s d (get_or (children_of (node_of s n)) (turn g) 0) (inside g))
 
 module _ {T : Type 0} where
   -- the leaf that an edge lies in
@@ -27,37 +28,62 @@ module _ {T : Type 0} where
     pub childless : length (children_of (node_of s g.leaf)) ≡ 0
     pub within : g.index ≤ length (items_of (node_of s g.leaf))
 
-pub leaf_of_edge : {T : Type 0} (s : Heap T) (d n : ℕ) (g : Edge) → ShapedBut 1 CAPACITY s d n → IsEdge s d n g → IsLeafOf s g
+pub leaf_of_edge : {T : Type 0} (s : Heap T) (d n : ℕ) (g : Edge) → ShapedBut 1 CAPACITY s d n
+    → IsEdge s d n g → IsLeafOf s g
 unfolding IsEdge
 leaf_of_edge s zero n g shaped is =
-    rw is.0 (record { present = shaped.node.present; some = shaped.node.enough; fits = shaped.node.fits; childless = shaped.node.branches; within = is.2 })
+    rw is.0 (record {
+      present = shaped.node.present;
+      some = shaped.node.enough;
+      fits = shaped.node.fits;
+      childless = shaped.node.branches;
+      within = is.2;
+    })
 leaf_of_edge s (suc d) n g shaped is =
-    let low : turn g ≤ length (items_of (node_of s n)) = omega (arith, is.0, shaped.node.branches) in
-    let below = leaf_of_edge s d _ (inside g) (shaped_within_wider 1 MIN_LEN CAPACITY CAPACITY s d _ (omega arith) (omega arith) (kid_shaped 1 CAPACITY s d n (turn g) shaped low)) is.1 in
-    record { present = below.present; some = below.some; fits = below.fits; childless = below.childless; within = below.within }
+    let low : turn g ≤ length (items_of (node_of s n)) =
+    omega (arith, is.0, shaped.node.branches) in
+    let below =
+    leaf_of_edge s d _ (inside g)
+    (shaped_within_wider 1 MIN_LEN CAPACITY CAPACITY s d _ (omega arith) (omega arith)
+    (kid_shaped 1 CAPACITY s d n (turn g) shaped low)) is.1 in
+    record {
+      present = below.present;
+      some = below.some;
+      fits = below.fits;
+      childless = below.childless;
+      within = below.within;
+    }
 
 -- another edge in it
-pub leaf_beside : {T : Type 0} (s : Heap T) (d n : ℕ) (g h : Edge) → h.leaf ≡ g.leaf → h.way ≡ g.way → h.index ≤ length (items_of (node_of s g.leaf)) → IsEdge s d n g → IsEdge s d n h × (place s d n h + g.index ≡ place s d n g + h.index)
+pub leaf_beside : {T : Type 0} (s : Heap T) (d n : ℕ) (g h : Edge) → h.leaf ≡ g.leaf → h.way ≡ g.way
+    → h.index ≤ length (items_of (node_of s g.leaf)) → IsEdge s d n g
+    → IsEdge s d n h × (place s d n h + g.index ≡ place s d n g + h.index)
 unfolding IsEdge place
 leaf_beside s zero n g h leaf way index is =
     let within : h.index ≤ length (items_of (node_of s n)) = rw is.0 at index in
     ((leaf ∙ is.0, way ∙ is.1, within), omega arith)
 leaf_beside s (suc d) n g h leaf way index is =
     let first : turn h ≡ turn g = ap (λ w. w % WIDTH) way in
-    let rest = leaf_beside s d (get_or (children_of (node_of s n)) (turn g) 0) (inside g) (inside h) leaf (ap (λ w. w / WIDTH) way) index is.1 in
+    let rest =
+    leaf_beside s d (get_or (children_of (node_of s n)) (turn g) 0) (inside g)
+    (inside h) leaf (ap (λ w. w / WIDTH) way) index is.1 in
     rw first ((is.0, rest.0), omega (arith, rest.1))
 
 -- the item before it
-pub leaf_home : {T : Type 0} (s : Heap T) (d n : ℕ) (g : Edge) → IsEdge s d n g → 0 < g.index → home_of s d n g ≡ record { node = g.leaf; index = g.index - 1 }
+pub leaf_home : {T : Type 0} (s : Heap T) (d n : ℕ) (g : Edge) → IsEdge s d n g → 0 < g.index
+    → home_of s d n g ≡ record { node = g.leaf; index = g.index - 1 }
 unfolding IsEdge home_of
 leaf_home s zero n g is some = rw is.0 refl
 leaf_home s (suc d) n g is some =
-    let later : is_start (inside g) ≡ false = and_right _ _ (ne_eqb g.index 0 (λ none. omega (arith, none))) in
+    let later : is_start (inside g) ≡ false =
+    and_right _ _ (ne_eqb g.index 0 (λ none. omega (arith, none))) in
     rw later (leaf_home s d _ (inside g) is.1 some)
 
 -- an item that takes the place of its predecessor, once it was taken out
-pub moved_down : {X : Type 0} (xs : List X) (q : ℕ) (y : X) → suc q < length xs → y ≡ get_or xs (suc q) y → set (remove xs (suc q)) q y ≡ remove xs q
+pub moved_down : {X : Type 0} (xs : List X) (q : ℕ) (y : X) → suc q < length xs
+    → y ≡ get_or xs (suc q) y → set (remove xs (suc q)) q y ≡ remove xs q
 moved_down [] q y within here = absurd (omega arith)
 moved_down (x ∷ []) q y within here = absurd (omega arith)
 moved_down (x ∷ z ∷ xs) zero y within here = rw here refl
-moved_down (x ∷ z ∷ xs) (suc q) y within here = ap (λ zs. x ∷ zs) (moved_down (z ∷ xs) q y (omega arith) here)
+moved_down (x ∷ z ∷ xs) (suc q) y within here =
+    ap (λ zs. x ∷ zs) (moved_down (z ∷ xs) q y (omega arith) here)

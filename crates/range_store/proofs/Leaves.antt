@@ -14,7 +14,8 @@ use Rattle.range_store.proofs.Below.{used_is, items_below_leaf}
 use Rattle.range_store.proofs.Moves.{Moves-none}
 
 module _ {T : Type 0} (s : Heap T) (n i : ℕ) (item : T) (shaped : ShapedBut 1 CAPACITY s 0 n) where
-  pub leaf_content : Owned s 1 n → IsContent s 0 n (insert (items_of (node_of s n)) i item) (children_of (node_of s n))
+  pub leaf_content : Owned s 1 n
+      → IsContent s 0 n (insert (items_of (node_of s n)) i item) (children_of (node_of s n))
   leaf_content owned = record {
     present = shaped.node.present;
     shaped = shaped.children;
@@ -25,17 +26,32 @@ module _ {T : Type 0} (s : Heap T) (n i : ℕ) (item : T) (shaped : ShapedBut 1 
   pub leaf_moved : Moves s s (used s 1 n) (n ∷ flat_map (used s 0) (children_of (node_of s n)))
   leaf_moved = subst (λ zs. Moves s s (used s 1 n) zs) (used_is s 0 n) (Moves-none s (used s 1 n))
 
-  pub leaf_listed : weave (insert (items_of (node_of s n)) i item) (map (items_below s 0) (children_of (node_of s n))) ≡ insert (items_below s 1 n) i item
-  leaf_listed = rw (items_below_leaf s n shaped.node.branches, nil_from_length (children_of (node_of s n)) shaped.node.branches) refl
+  pub leaf_listed : weave (insert (items_of (node_of s n)) i item)
+      (map (items_below s 0) (children_of (node_of s n))) ≡ insert (items_below s 1 n) i item
+  leaf_listed =
+      rw (
+        items_below_leaf s n shaped.node.branches,
+        nil_from_length (children_of (node_of s n)) shaped.node.branches,
+      ) refl
 
-  pub leaf_longer : i ≤ length (items_of (node_of s n)) → length (weave (insert (items_of (node_of s n)) i item) (map (items_below s 0) (children_of (node_of s n)))) ≡ length (items_below s 1 n) + 1
+  pub leaf_longer : i ≤ length (items_of (node_of s n))
+      → length (weave (insert (items_of (node_of s n)) i item)
+      (map (items_below s 0) (children_of (node_of s n)))) ≡ length (items_below s 1 n) + 1
   leaf_longer low =
-      omega (arith, ap length leaf_listed, ap (λ zs. length (insert zs i item)) (items_below_leaf s n shaped.node.branches), length-insert (items_of (node_of s n)) i item low, ap length (items_below_leaf s n shaped.node.branches))
+      omega (
+        arith,
+        ap length leaf_listed,
+        ap (λ zs. length (insert zs i item)) (items_below_leaf s n shaped.node.branches),
+        length-insert (items_of (node_of s n)) i item low,
+        ap length (items_below_leaf s n shaped.node.branches),
+      )
 
-pub leaf_seat : {T : Type 0} (s : Heap T) (xs : List T) (ks : List ℕ) (i : ℕ) (g : Edge) → i ≤ length xs → IsSeat s 0 xs ks i g
+pub leaf_seat : {T : Type 0} (s : Heap T) (xs : List T) (ks : List ℕ) (i : ℕ) (g : Edge)
+    → i ≤ length xs → IsSeat s 0 xs ks i g
 unfolding IsSeat
 leaf_seat s xs ks i g low = low
 
-pub leaf_seat_place : {T : Type 0} (s : Heap T) (xs : List T) (ks : List ℕ) (i : ℕ) (g : Edge) → seat_place s 0 xs ks i g ≡ i
+pub leaf_seat_place : {T : Type 0} (s : Heap T) (xs : List T) (ks : List ℕ) (i : ℕ) (g : Edge)
+    → seat_place s 0 xs ks i g ≡ i
 unfolding seat_place
 leaf_seat_place s xs ks i g = refl

@@ -11,20 +11,32 @@ use Rattle.range_store.specs.Weave.{length-before_next}
 use Rattle.range_store.proofs.Joining.{seat_from_left, seat_from_right}
 use Rattle.range_store.proofs.Levelling.{pair_of}
 
-pub seat_low : {T : Type 0} (s : Heap T) (low k : ℕ) (g : Edge) (least : ℕ) → ShapedBut least CAPACITY s low k → IsEdge s low k g → seat_of low g ≤ length (items_of (node_of s k))
+pub seat_low : {T : Type 0} (s : Heap T) (low k : ℕ) (g : Edge) (least : ℕ)
+    → ShapedBut least CAPACITY s low k → IsEdge s low k g
+    → seat_of low g ≤ length (items_of (node_of s k))
 seat_low s zero k g least shaped is = leaf_index s k g is
 seat_low s (suc d) k g least shaped is = omega (arith, turn_within s d k g is, shaped.node.branches)
 
 -- the seat of an edge below one of two neighbours, in either of them and among what both have
-pub near_seat : {T : Type 0} (s : Heap T) (low n j i : ℕ) (g : Edge) → IsLevelled s low n j → (i ≡ j) ⊎ (i ≡ j + 1) → IsEdge s low (get_or (children_of (node_of s n)) i 0) g → child_size s n j + 1 + child_size s n (j + 1) ≤ CAPACITY → (seat_of low g ≤ CAPACITY) × ((q : ℕ) → (i - j ≡ 0 → q ≡ seat_of low g) → (0 < i - j → q ≡ child_size s n j + 1 + seat_of low g) → q ≤ CAPACITY)
+pub near_seat : {T : Type 0} (s : Heap T) (low n j i : ℕ) (g : Edge) → IsLevelled s low n j
+    → (i ≡ j) ⊎ (i ≡ j + 1) → IsEdge s low (get_or (children_of (node_of s n)) i 0) g
+    → child_size s n j + 1 + child_size s n (j + 1) ≤ CAPACITY
+    → (seat_of low g ≤ CAPACITY)
+    × ((q : ℕ) → (i - j ≡ 0 → q ≡ seat_of low g)
+    → (0 < i - j → q ≡ child_size s n j + 1 + seat_of low g) → q ≤ CAPACITY)
 near_seat s low n j i g levelled (inl same) is few =
-    let low' = seat_low s low _ g (MIN_LEN - 1) levelled.left (rw same at is) in
-    (omega (arith, low', few), λ q first second. omega (arith, first (omega (arith, same)), low', few))
+    let low' = seat_low s low _ g (MIN_LEN - 1) levelled.left (rw same at is) in (
+      omega (arith, low', few),
+      λ q first second. omega (arith, first (omega (arith, same)), low', few),
+    )
 near_seat s low n j i g levelled (inr next) is few =
-    let low' = seat_low s low _ g (MIN_LEN - 1) levelled.right (rw next at is) in
-    (omega (arith, low', few), λ q first second. omega (arith, second (omega (arith, next)), low', few))
+    let low' = seat_low s low _ g (MIN_LEN - 1) levelled.right (rw next at is) in (
+      omega (arith, low', few),
+      λ q first second. omega (arith, second (omega (arith, next)), low', few),
+    )
 
-module _ {T : Type 0} (s : Heap T) (low n j : ℕ) (x : T) (levelled : IsLevelled s low n j) (here : x ≡ get_or (items_of (node_of s n)) j x) where
+module _ {T : Type 0} (s : Heap T) (low n j : ℕ) (x : T) (levelled : IsLevelled s low n j)
+    (here : x ≡ get_or (items_of (node_of s n)) j x) where
   abbrev xs : List T
   xs = items_of (node_of s n)
 
@@ -43,19 +55,39 @@ module _ {T : Type 0} (s : Heap T) (low n j : ℕ) (x : T) (levelled : IsLevelle
   abbrev wide_children : List ℕ
   wide_children = children_of (node_of s l) ++ children_of (node_of s r)
 
-  rest_before : length (before xs (map (items_below s (suc low)) ks) (j + 1)) ≡ length (before xs (map (items_below s (suc low)) ks) j) + length (items_below s (suc low) l) + 1
+  rest_before : length (before xs (map (items_below s (suc low)) ks) (j + 1))
+      ≡ length (before xs (map (items_below s (suc low)) ks) j) + length
+      (items_below s (suc low) l) + 1
   rest_before =
-      let kid = get_or-map (items_below s (suc low)) ks j 0 [] (omega (arith, levelled.within, levelled.node.branches)) in
-      omega (arith, length-before_next xs (map (items_below s (suc low)) ks) j levelled.within (omega (arith, length-map ks (items_below s (suc low)), levelled.node.branches, levelled.within)), ap length kid)
+      let kid =
+      get_or-map (items_below s (suc low)) ks j 0 []
+      (omega (arith, levelled.within, levelled.node.branches)) in
+      omega (
+        arith,
+        length-before_next xs (map (items_below s (suc low)) ks) j levelled.within
+            (omega (
+              arith,
+              length-map ks (items_below s (suc low)),
+              levelled.node.branches,
+              levelled.within,
+            )),
+        ap length kid,
+      )
 
-  pub pair_seat : (i : ℕ) (g : Edge) (q : ℕ) → (i ≡ j) ⊎ (i ≡ j + 1) → IsEdge s low (get_or ks i 0) g → (i - j ≡ 0 → q ≡ seat_of low g) → (0 < i - j → q ≡ length (items_of (node_of s l)) + 1 + seat_of low g)
-      → IsSeat s low wide_items wide_children q (inside g) × (length (before xs (map (items_below s (suc low)) ks) j) + seat_place s low wide_items wide_children q (inside g) ≡ seat_place s (suc low) xs ks i g)
+  pub pair_seat : (i : ℕ) (g : Edge) (q : ℕ) → (i ≡ j) ⊎ (i ≡ j + 1)
+      → IsEdge s low (get_or ks i 0) g → (i - j ≡ 0 → q ≡ seat_of low g)
+      → (0 < i - j → q ≡ length (items_of (node_of s l)) + 1 + seat_of low g)
+      → IsSeat s low wide_items wide_children q (inside g)
+      × (length (before xs (map (items_below s (suc low)) ks) j) + seat_place s low wide_items
+      wide_children q (inside g) ≡ seat_place s (suc low) xs ks i g)
   unfolding seat_place
   pair_seat i g q (inl same) is left right =
       let at : q ≡ seat_of low g = left (omega (arith, same)) in
       let seat = seat_from_left s l x r g low (pair_of s low n j x levelled here) (rw same at is) in
       rw (at, same) (seat.0, omega (arith, seat.1))
   pair_seat i g q (inr next) is left right =
-      let at : q ≡ length (items_of (node_of s l)) + 1 + seat_of low g = right (omega (arith, next)) in
-      let seat = seat_from_right s l x r g low (pair_of s low n j x levelled here) (rw next at is) in
+      let at : q ≡ length (items_of (node_of s l)) + 1 + seat_of low g =
+      right (omega (arith, next)) in
+      let seat =
+      seat_from_right s l x r g low (pair_of s low n j x levelled here) (rw next at is) in
       rw (at, next) (seat.0, omega (arith, seat.1, rest_before))

@@ -12,56 +12,80 @@ use Rattle.range_store.specs.declared.btree.way.Edge.{Edge}
 use Rattle.range_store.proofs.Front.{falling_front}
 
 module _ {X : Type 0} where
-  remove_last : (xs : List X) (j : ℕ) (d : X) → j + 1 ≡ length xs → remove xs j ++ (get_or xs j d ∷ []) ≡ xs
+  remove_last : (xs : List X) (j : ℕ) (d : X) → j + 1 ≡ length xs
+      → remove xs j ++ (get_or xs j d ∷ []) ≡ xs
   remove_last [] j d last = absurd (omega arith)
   remove_last (x ∷ []) zero d last = refl
   remove_last (x ∷ []) (suc j) d last = absurd (omega arith)
   remove_last (x ∷ y ∷ xs) zero d last = absurd (omega arith)
-  remove_last (x ∷ y ∷ xs) (suc j) d last = ap (λ zs. x ∷ zs) (remove_last (y ∷ xs) j d (omega arith))
+  remove_last (x ∷ y ∷ xs) (suc j) d last =
+      ap (λ zs. x ∷ zs) (remove_last (y ∷ xs) j d (omega arith))
 
-  pub popped_first : (xs ys : List X) (x : X) (j : ℕ) → j ≡ 0 → j < length xs → x ≡ get_or xs j x → ys ≡ remove xs j → xs ≡ x ∷ ys
+  pub popped_first : (xs ys : List X) (x : X) (j : ℕ) → j ≡ 0 → j < length xs → x ≡ get_or xs j x
+      → ys ≡ remove xs j → xs ≡ x ∷ ys
   popped_first [] ys x j first within here rest = absurd (omega arith)
   popped_first (z ∷ xs) ys x zero first within here rest = rw (here, rest) refl
   popped_first (z ∷ xs) ys x (suc j) first within here rest = absurd (omega arith)
 
-  pub popped_last : (xs ys : List X) (x : X) (j : ℕ) → j + 1 ≡ length xs → x ≡ get_or xs j x → ys ≡ remove xs j → xs ≡ ys ++ (x ∷ [])
+  pub popped_last : (xs ys : List X) (x : X) (j : ℕ) → j + 1 ≡ length xs → x ≡ get_or xs j x
+      → ys ≡ remove xs j → xs ≡ ys ++ (x ∷ [])
   popped_last xs ys x j last here rest =
-      sym (remove_last xs j x last) ∙ ap (λ zs. zs ++ (get_or xs j x ∷ [])) (sym rest) ∙ ap (λ z. ys ++ (z ∷ [])) (sym here)
+      sym (remove_last xs j x last) ∙ ap (λ zs. zs ++ (get_or xs j x ∷ [])) (sym rest)
+      ∙ ap (λ z. ys ++ (z ∷ [])) (sym here)
 
 module _ {T : Type 0} (s : BoxStorage T) where
   -- an edge after an item stands for that
-  pub good_from : (edge : Edge) → IsBoxEdge s edge → 0 < box_place s edge → IsGood s edge × (box_rank s edge + 1 ≡ box_place s edge)
+  pub good_from : (edge : Edge) → IsBoxEdge s edge → 0 < box_place s edge
+      → IsGood s edge × (box_rank s edge + 1 ≡ box_place s edge)
   good_from edge is some =
       let good : IsGood s edge = record { is = is; some = some } in
       (good, omega (arith, rank_is s edge good, some))
 
-  pub next_at : (rank : ℕ) (edge : Option Edge) → IsNextEdge s edge rank → IsAt (IsGood s) (box_rank s) (length (box_items s)) edge rank
+  pub next_at : (rank : ℕ) (edge : Option Edge) → IsNextEdge s edge rank
+      → IsAt (IsGood s) (box_rank s) (length (box_items s)) edge rank
   next_at rank None at = at
   next_at rank (Some edge) at =
       let good = good_from edge at.0 (omega (arith, at.1)) in
       (good.0, omega (arith, good.1, at.1))
 
   -- the edge after an item, or none, from what is known below the root
-  pub next_from : (rank : ℕ) → 0 < s.levels → (edge : Option Edge) → MatchOption edge (rank ≡ length (items_below s.nodes (suc (s.levels - 1)) s.root)) (λ h. IsEdge s.nodes (s.levels - 1) s.root h × (place s.nodes (s.levels - 1) s.root h ≡ rank + 1)) → IsNextEdge s edge rank
-  next_from rank some None none = let level : suc (s.levels - 1) ≡ s.levels = omega (arith, some) in rw level at none
+  pub next_from : (rank : ℕ) → 0 < s.levels → (edge : Option Edge)
+      → MatchOption edge (rank ≡ length (items_below s.nodes (suc (s.levels - 1)) s.root))
+      (λ h. IsEdge s.nodes (s.levels - 1) s.root h
+      × (place s.nodes (s.levels - 1) s.root h ≡ rank + 1)) → IsNextEdge s edge rank
+  next_from rank some None none = let level : suc (s.levels - 1) ≡ s.levels =
+      omega (arith, some) in rw level at none
   next_from rank some (Some h) is = (record { some = some; edge = is.0 }, is.1)
 
   -- the edge after all items, if there are any
-  pub end_place : (edge : Option Edge) → MatchOption edge (box_items s ≡ []) (λ g. IsBoxEdge s g × (box_place s g ≡ length (box_items s))) → edge_or_end s edge ≡ length (box_items s)
+  pub end_place : (edge : Option Edge)
+      → MatchOption edge (box_items s ≡ [])
+      (λ g. IsBoxEdge s g × (box_place s g ≡ length (box_items s)))
+      → edge_or_end s edge ≡ length (box_items s)
   end_place None h = refl
   end_place (Some g) h = h.1
 
-  pub end_known : (edge : Option Edge) → MatchOption edge (box_items s ≡ []) (λ g. IsBoxEdge s g × (box_place s g ≡ length (box_items s))) → MatchOption edge (box_items s ≡ []) (IsBoxEdge s)
+  pub end_known : (edge : Option Edge)
+      → MatchOption edge (box_items s ≡ [])
+      (λ g. IsBoxEdge s g × (box_place s g ≡ length (box_items s)))
+      → MatchOption edge (box_items s ≡ []) (IsBoxEdge s)
   end_known None h = h
   end_known (Some g) h = h.0
 
   -- the edge before the item that a good edge stands for
-  pub before_good : (p : Edge) → IsGood s p → (edge : Option Edge) → MatchOption edge (box_place s p ≡ 0) (λ h. IsBoxEdge s h × (box_place s h + 1 ≡ box_place s p)) → MatchOption edge (box_items s ≡ []) (IsBoxEdge s) × (edge_or_end s edge ≡ box_rank s p)
+  pub before_good : (p : Edge) → IsGood s p → (edge : Option Edge)
+      → MatchOption edge (box_place s p ≡ 0)
+      (λ h. IsBoxEdge s h × (box_place s h + 1 ≡ box_place s p))
+      → MatchOption edge (box_items s ≡ []) (IsBoxEdge s) × (edge_or_end s edge ≡ box_rank s p)
   before_good p good None none = absurd (omega (arith, none, good.some))
   before_good p good (Some h) here = (here.0, omega (arith, here.1, rank_is s p good))
 
   -- the edge after the items that pass, as a position of the last of them
-  pub front_found : (test : T → Bool) → Falls test (box_items s) → (edge : Option Edge) → MatchOption edge (count_by test (box_items s) ≡ 0) (λ g. IsBoxEdge s g × (0 < box_place s g) × (box_place s g ≡ count_by test (box_items s))) → MatchOption edge (IsFrontOf test (box_items s) 0) (λ p. IsGood s p × IsFrontOf test (box_items s) (box_rank s p + 1))
+  pub front_found : (test : T → Bool) → Falls test (box_items s) → (edge : Option Edge)
+      → MatchOption edge (count_by test (box_items s) ≡ 0)
+      (λ g. IsBoxEdge s g × (0 < box_place s g) × (box_place s g ≡ count_by test (box_items s)))
+      → MatchOption edge (IsFrontOf test (box_items s) 0)
+      (λ p. IsGood s p × IsFrontOf test (box_items s) (box_rank s p + 1))
   front_found test falls None none = rw none at (falling_front test (box_items s) falls)
   front_found test falls (Some g) found =
       let good = good_from g found.0 found.1 in

@@ -17,15 +17,25 @@ used_none s n = refl
 pub IsTree-none : {T : Type 0} (s : Heap T) (root : ℕ) → s.slots ≡ [] → IsTree s zero root
 IsTree-none s root empty = record {
   shaped = tt;
-  once = λ k. let absent : here s k ≡ 0 = rw empty refl in omega (arith, absent, ap (occurrences k) (used_none s root), occurrences-nil k);
-  len = let nothing : node_count s ≡ 0 = rw empty refl in omega (arith, nothing, ap length (used_none s root));
+  once = λ k. let absent : here s k ≡ 0 =
+      rw empty refl in omega (
+        arith,
+        absent,
+        ap (occurrences k) (used_none s root),
+        occurrences-nil k,
+      );
+  len = let nothing : node_count s ≡ 0 =
+      rw empty refl in omega (arith, nothing, ap length (used_none s root));
 }
 
 -- an empty tree leaves all capacity free
-pub first_room : {T : Type 0} (s : Heap T) (levels root : ℕ) → levels ≡ 0 → IsTree s levels root → length (items_below s levels root) + 1 ≤ MIN_LEN * s.capacity → node_count s + 1 ≤ s.capacity
+pub first_room : {T : Type 0} (s : Heap T) (levels root : ℕ) → levels ≡ 0 → IsTree s levels root
+    → length (items_below s levels root) + 1 ≤ MIN_LEN * s.capacity → node_count s + 1 ≤ s.capacity
 first_room s zero root none tree room = omega (arith, tree.len, ap length (used_none s root), room)
 first_room s (suc d) root none tree room = absurd (omega arith)
 
-pub kid_shaped : {T : Type 0} (least most : ℕ) (s : Heap T) (d n i : ℕ) → ShapedBut least most s (suc d) n → i ≤ length (items_of (node_of s n)) → ShapedBut MIN_LEN CAPACITY s d (get_or (children_of (node_of s n)) i 0)
+pub kid_shaped : {T : Type 0} (least most : ℕ) (s : Heap T) (d n i : ℕ)
+    → ShapedBut least most s (suc d) n → i ≤ length (items_of (node_of s n))
+    → ShapedBut MIN_LEN CAPACITY s d (get_or (children_of (node_of s n)) i 0)
 kid_shaped least most s d n i shaped within =
     Shaped-but s d _ (shaped.children i 0 (omega (arith, shaped.node.branches)))

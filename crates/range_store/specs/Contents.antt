@@ -16,27 +16,37 @@ module _ {T : Type 0} where
     pub owned : (k : ℕ) → occurrences k (n ∷ flat_map (used s d) ks) ≤ here s k
 
   -- the node n, and perhaps a new one after it, were written with these items and children
-  pub record Settles (old new : Heap T) (d n : ℕ) (xs : List T) (ks : List ℕ) (split : Option (Split T)) : Type 0 where
-    pub listed : weave (separators split) (map (items_below new (suc d)) (tops n split)) ≡ weave xs (map (items_below old d) ks)
-    pub moved : Moves old new (n ∷ flat_map (used old d) ks) (flat_map (used new (suc d)) (tops n split))
-    pub shape : (least : ℕ) → least ≤ MIN_LEN → EnoughFor least split (length xs) → All (ShapedBut least CAPACITY new d) (tops n split)
+  pub record Settles (old new : Heap T) (d n : ℕ) (xs : List T) (ks : List ℕ)
+      (split : Option (Split T)) : Type 0 where
+    pub listed : weave (separators split) (map (items_below new (suc d)) (tops n split))
+        ≡ weave xs (map (items_below old d) ks)
+    pub moved : Moves old new (n ∷ flat_map (used old d) ks)
+        (flat_map (used new (suc d)) (tops n split))
+    pub shape : (least : ℕ) → least ≤ MIN_LEN → EnoughFor least split (length xs)
+        → All (ShapedBut least CAPACITY new d) (tops n split)
 
   -- the subtree of n has another list, and the same nodes
   pub record IsRewritten (old new : Heap T) (d n : ℕ) (list : List T) : Type 0 where
     pub listed : items_below new (suc d) n ≡ list
     pub moved : Moves old new (used old (suc d) n) (used new (suc d) n)
-    pub shape : (least : ℕ) → least ≤ MIN_LEN → ShapedBut least CAPACITY old d n → ShapedBut least CAPACITY new d n
+    pub shape : (least : ℕ) → least ≤ MIN_LEN → ShapedBut least CAPACITY old d n
+        → ShapedBut least CAPACITY new d n
 
   -- two nodes over d levels, of which one may lack an item
   pub record IsPair (s : Heap T) (d l r : ℕ) : Type 0 where
     pub left : ShapedBut (MIN_LEN - 1) CAPACITY s d l
     pub right : ShapedBut (MIN_LEN - 1) CAPACITY s d r
     pub owned : (k : ℕ) → occurrences k (used s (suc d) l ++ used s (suc d) r) ≤ here s k
-    pub enough : MIN_LEN + MIN_LEN ≤ length (items_of (node_of s l)) + 1 + length (items_of (node_of s r))
-    pub fits : length (items_of (node_of s l)) + 1 + length (items_of (node_of s r)) ≤ CAPACITY + MIN_LEN
+    pub enough : MIN_LEN + MIN_LEN
+        ≤ length (items_of (node_of s l)) + 1 + length (items_of (node_of s r))
+    pub fits : length (items_of (node_of s l)) + 1 + length (items_of (node_of s r))
+        ≤ CAPACITY + MIN_LEN
 
   -- they became one or two, with the item x between what they held
-  pub record Rejoins (old new : Heap T) (d l : ℕ) (x : T) (r : ℕ) (split : Option (Split T)) : Type 0 where
-    pub listed : weave (separators split) (map (items_below new (suc d)) (tops l split)) ≡ items_below old (suc d) l ++ (x ∷ items_below old (suc d) r)
-    pub moved : Moves old new (used old (suc d) l ++ used old (suc d) r) (flat_map (used new (suc d)) (tops l split))
+  pub record Rejoins (old new : Heap T) (d l : ℕ) (x : T) (r : ℕ)
+      (split : Option (Split T)) : Type 0 where
+    pub listed : weave (separators split) (map (items_below new (suc d)) (tops l split))
+        ≡ items_below old (suc d) l ++ (x ∷ items_below old (suc d) r)
+    pub moved : Moves old new (used old (suc d) l ++ used old (suc d) r)
+        (flat_map (used new (suc d)) (tops l split))
     pub shaped : All (Shaped new (suc d)) (tops l split)

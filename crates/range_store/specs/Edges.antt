@@ -1,4 +1,5 @@
--- Edges between the items below a node, how many items stand before one, and where the last of them stands.
+-- Edges between the items below a node, how many items stand before one, and where the last of them
+-- stands.
 use Rattle.std.specs.Prelude.{◌≡◌, ℕ, zero, suc, ◌+◌, ◌-◌, ◌/◌, ◌%◌, ◌<◌, ◌≤◌, ◌==◌, ◌&&◌, if◌then◌else◌, Bool, List, length, map, slice_index}
 use Rattle.range_store.specs.Heap.{Heap, node_of, items_of, children_of}
 use Rattle.range_store.specs.declared.btree.way.Edge.{Edge}
@@ -13,7 +14,8 @@ turn edge = edge.way % WIDTH
 abbrev pub inside : Edge → Edge
 inside edge = record edge { way = edge.way / WIDTH }
 
--- where an edge lies in the node that it is seen from: in the list of a leaf, or below the child at this index
+-- where an edge lies in the node that it is seen from: in the list of a leaf, or below the child at
+-- this index
 abbrev pub seat_of : ℕ → Edge → ℕ
 seat_of zero edge = edge.index
 seat_of (suc d) edge = turn edge
@@ -25,15 +27,18 @@ is_start edge = (edge.way == 0) && (edge.index == 0)
 module _ {T : Type 0} where
   -- the way leads from the node n, over d levels, to a leaf with such an edge
   unfoldable pub IsEdge : Heap T → ℕ → ℕ → Edge → Type 0
-  IsEdge s zero n edge = (edge.leaf ≡ n) × (edge.way ≡ 0) × (edge.index ≤ length (items_of (node_of s n)))
+  IsEdge s zero n edge =
+      (edge.leaf ≡ n) × (edge.way ≡ 0) × (edge.index ≤ length (items_of (node_of s n)))
   IsEdge s (suc d) n edge =
-      (turn edge < length (children_of (node_of s n))) × IsEdge s d (slice_index (children_of (node_of s n)) (turn edge)) (inside edge)
+      (turn edge < length (children_of (node_of s n)))
+      × IsEdge s d (slice_index (children_of (node_of s n)) (turn edge)) (inside edge)
 
   -- how many items below the node stand before the edge
   unfoldable pub place : Heap T → ℕ → ℕ → Edge → ℕ
   place s zero n edge = edge.index
   place s (suc d) n edge =
-      length (before (items_of (node_of s n)) (map (items_below s (suc d)) (children_of (node_of s n))) (turn edge))
+      length (before (items_of (node_of s n))
+      (map (items_below s (suc d)) (children_of (node_of s n))) (turn edge))
       + place s d (slice_index (children_of (node_of s n)) (turn edge)) (inside edge)
 
   -- where the item before the edge stands
@@ -44,11 +49,13 @@ module _ {T : Type 0} where
       then record { node = n; index = turn edge - 1 }
       else home_of s d (slice_index (children_of (node_of s n)) (turn edge)) (inside edge)
 
-  -- the same in a node that is to have these items and children, for an edge in a leaf's list of items or below the child at i
+  -- the same in a node that is to have these items and children, for an edge in a leaf's list of
+  -- items or below the child at i
   unfoldable pub IsSeat : Heap T → ℕ → List T → List ℕ → ℕ → Edge → Type 0
   IsSeat s zero xs ks i edge = i ≤ length xs
   IsSeat s (suc d) xs ks i edge = (i < length ks) × IsEdge s d (slice_index ks i) edge
 
   unfoldable pub seat_place : Heap T → ℕ → List T → List ℕ → ℕ → Edge → ℕ
   seat_place s zero xs ks i edge = i
-  seat_place s (suc d) xs ks i edge = length (before xs (map (items_below s (suc d)) ks) i) + place s d (slice_index ks i) edge
+  seat_place s (suc d) xs ks i edge =
+      length (before xs (map (items_below s (suc d)) ks) i) + place s d (slice_index ks i) edge

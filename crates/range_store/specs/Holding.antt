@@ -63,13 +63,21 @@ module _ {T : Type 0} where
         | inl leaf ↦
             elim (cases_eq g.way 0) [
               | inr other ↦ inr (λ is. other is.1)
-              | inl way ↦ elim (cases_lt (length (items_of (node_of s n))) g.index) [ inl past ↦ inr (λ is. omega (arith, past, is.2)) | inr within ↦ inl (leaf, way, within) ]
+              | inl way ↦
+                  elim (cases_lt (length (items_of (node_of s n))) g.index) [
+                    | inl past ↦ inr (λ is. omega (arith, past, is.2))
+                    | inr within ↦ inl (leaf, way, within)
+                  ]
             ]
       ]
   edge_or_not s (suc d) n g =
       elim (cases_lt (turn g) (length (children_of (node_of s n)))) [
         | inr past ↦ inr (λ is. omega (arith, past, is.0))
-        | inl within ↦ elim (edge_or_not s d _ (inside g)) [ inl is ↦ inl (within, is) | inr other ↦ inr (λ is. other is.1) ]
+        | inl within ↦
+            elim (edge_or_not s d _ (inside g)) [
+              | inl is ↦ inl (within, is)
+              | inr other ↦ inr (λ is. other is.1)
+            ]
       ]
 
   -- whether an edge is good
@@ -83,7 +91,12 @@ module _ {T : Type 0} where
         | inl some ↦
             elim (edge_or_not s.nodes (s.levels - 1) s.root edge) [
               | inr other ↦ inr (λ good. other good.is.edge)
-              | inl is ↦ elim (cases_lt 0 (box_place s edge)) [ inl later ↦ inl (record { is = record { some = some; edge = is }; some = later }) | inr first ↦ inr (λ good. omega (arith, first, good.some)) ]
+              | inl is ↦
+                  elim (cases_lt 0 (box_place s edge)) [
+                    | inl later ↦
+                        inl (record { is = record { some = some; edge = is }; some = later })
+                    | inr first ↦ inr (λ good. omega (arith, first, good.some))
+                  ]
             ]
       ]
 
@@ -99,24 +112,31 @@ module _ {T : Type 0} where
   abbrev pub box_place_before : BoxStorage T → Option Edge → ℕ
   box_place_before s before = place_before (box_rank s) (length (box_items s)) before
 
-  rank_when : (s : BoxStorage T) (edge : Edge) (decided : Decided s edge) → IsGood s edge → rank_as s edge decided ≡ box_place s edge - 1
+  rank_when : (s : BoxStorage T) (edge : Edge) (decided : Decided s edge) → IsGood s edge
+      → rank_as s edge decided ≡ box_place s edge - 1
   rank_when s edge (inl _) good = refl
   rank_when s edge (inr bad) good = absurd (bad good)
 
-  pub rank_is : (s : BoxStorage T) (edge : Edge) → IsGood s edge → box_rank s edge ≡ box_place s edge - 1
+  pub rank_is : (s : BoxStorage T) (edge : Edge) → IsGood s edge
+      → box_rank s edge ≡ box_place s edge - 1
   rank_is s edge good = rank_when s edge (good_or_not s edge) good
 
   -- the item before a good edge has a home
-  pub good_home : (s : BoxStorage T) (edge : Edge) → IsGood s edge → IsHome s.nodes (s.levels - 1) s.root (box_home s edge).node (box_home s edge).index (box_place s edge - 1)
+  pub good_home : (s : BoxStorage T) (edge : Edge) → IsGood s edge
+      → IsHome s.nodes (s.levels - 1) s.root (box_home s edge).node (box_home s edge).index
+      (box_place s edge - 1)
   good_home s edge good =
-      home_is s.nodes 1 CAPACITY (s.levels - 1) s.root edge (root_shaped s.nodes s.levels s.root good.is.some s.whole.tree) (tree_once s.nodes s.levels s.root good.is.some s.whole.tree) good.is.edge good.some
+      home_is s.nodes 1 CAPACITY (s.levels - 1) s.root edge
+      (root_shaped s.nodes s.levels s.root good.is.some s.whole.tree)
+      (tree_once s.nodes s.levels s.root good.is.some s.whole.tree) good.is.edge good.some
 
 module _ {T : Type 0} (s : BoxStorage T) (edge : Edge) (good : IsGood s edge) where
   level : suc (s.levels - 1) ≡ s.levels
   level = omega (arith, good.is.some)
 
   pub good_within : box_place s edge - 1 < length (box_items s)
-  good_within = rw level at (home_within s.nodes (s.levels - 1) s.root _ _ _ (good_home s edge good))
+  good_within =
+      rw level at (home_within s.nodes (s.levels - 1) s.root _ _ _ (good_home s edge good))
 
   abbrev now : T → Heap T
   now x = with_item s.nodes (box_home s edge).node (box_home s edge).index x
@@ -124,16 +144,23 @@ module _ {T : Type 0} (s : BoxStorage T) (edge : Edge) (good : IsGood s edge) wh
   pub written_nodes : (x : T) → SameShape s.nodes (now x)
   written_nodes x =
       let home = good_home s edge good in
-      written_shape s.nodes (now x) (box_home s edge).node _ (length-set _ (box_home s edge).index x) (item_written s.nodes (box_home s edge).node (box_home s edge).index x home.present)
+      written_shape s.nodes (now x) (box_home s edge).node _
+      (length-set _ (box_home s edge).index x)
+      (item_written s.nodes (box_home s edge).node (box_home s edge).index x home.present)
 
-  pub written_items : (x : T) → items_below (now x) s.levels s.root ≡ set (box_items s) (box_place s edge - 1) x
+  pub written_items : (x : T)
+      → items_below (now x) s.levels s.root ≡ set (box_items s) (box_place s edge - 1) x
   written_items x =
       let home = good_home s edge good in
-      rw level at (home_set s.nodes (s.levels - 1) s.root _ _ _ home (now x) x (item_written s.nodes (box_home s edge).node (box_home s edge).index x home.present))
+      rw level at (home_set s.nodes (s.levels - 1) s.root _ _ _ home (now x) x
+      (item_written s.nodes (box_home s edge).node (box_home s edge).index x home.present))
 
   -- the item before the edge
-  pub good_item : (e : T) → get_or (box_items s) (box_place s edge - 1) e ≡ get_or (items_of (node_of s.nodes (box_home s edge).node)) (box_home s edge).index e
-  good_item e = rw level at (home_item s.nodes (s.levels - 1) s.root _ _ _ (good_home s edge good) e)
+  pub good_item : (e : T)
+      → get_or (box_items s) (box_place s edge - 1) e
+      ≡ get_or (items_of (node_of s.nodes (box_home s edge).node)) (box_home s edge).index e
+  good_item e =
+      rw level at (home_item s.nodes (s.levels - 1) s.root _ _ _ (good_home s edge good) e)
 
   pub written_roomy : (x : T) → IsRoomy (now x) s.levels s.root
   written_roomy x =
@@ -146,21 +173,45 @@ module _ {T : Type 0} (s : BoxStorage T) (edge : Edge) (good : IsGood s edge) wh
 
   -- the storage with another item before a good edge
   abbrev pub with_good_item : T → BoxStorage T
-  with_good_item x = record s { nodes = with_item s.nodes (box_home s edge).node (box_home s edge).index x; whole = written_roomy x; counted = s.counted ∙ sym (length_same s.nodes (now x) (written_nodes x) s.levels s.root) }
+  with_good_item x =
+      record s {
+        nodes = with_item s.nodes (box_home s edge).node (box_home s edge).index x;
+        whole = written_roomy x;
+        counted =
+            s.counted ∙ sym (length_same s.nodes (now x) (written_nodes x) s.levels s.root);
+      }
 
-  pub good_then : (x : T) (other : Edge) → IsGood s other → IsGood (with_good_item x) other × (box_place (with_good_item x) other ≡ box_place s other)
+  pub good_then : (x : T) (other : Edge) → IsGood s other
+      → IsGood (with_good_item x) other × (box_place (with_good_item x) other ≡ box_place s other)
   good_then x other is =
-      let same = place_same s.nodes (now x) (written_nodes x) (s.levels - 1) s.root other in
-      (record { is = record { some = is.is.some; edge = edge_same s.nodes (now x) (written_nodes x) (s.levels - 1) s.root other is.is.edge }; some = omega (arith, same, is.some) }, same)
+      let same = place_same s.nodes (now x) (written_nodes x) (s.levels - 1) s.root other in (
+        record {
+          is = record {
+            some = is.is.some;
+            edge =
+                edge_same s.nodes (now x) (written_nodes x) (s.levels - 1) s.root other is.is.edge;
+          };
+          some = omega (arith, same, is.some);
+        },
+        same,
+      )
 
   good_before : (x : T) (other : Edge) → IsGood (with_good_item x) other → IsGood s other
   good_before x other is =
       let back = turned s.nodes (now x) (written_nodes x) in
       let same = place_same (now x) s.nodes back (s.levels - 1) s.root other in
-      record { is = record { some = is.is.some; edge = edge_same (now x) s.nodes back (s.levels - 1) s.root other is.is.edge }; some = omega (arith, same, is.some) }
+      record {
+        is = record {
+          some = is.is.some;
+          edge = edge_same (now x) s.nodes back (s.levels - 1) s.root other is.is.edge;
+        };
+        some = omega (arith, same, is.some);
+      }
 
-  rank_kept : (x : T) (other : Edge) (new : Decided (with_good_item x) other) (old : Decided s other) → rank_as (with_good_item x) other new ≡ rank_as s other old
-  rank_kept x other (inl _) (inl _) = ap (λ m. m - 1) (place_same s.nodes (now x) (written_nodes x) (s.levels - 1) s.root other)
+  rank_kept : (x : T) (other : Edge) (new : Decided (with_good_item x) other)
+      (old : Decided s other) → rank_as (with_good_item x) other new ≡ rank_as s other old
+  rank_kept x other (inl _) (inl _) =
+      ap (λ m. m - 1) (place_same s.nodes (now x) (written_nodes x) (s.levels - 1) s.root other)
   rank_kept x other (inl is) (inr bad) = absurd (bad (good_before x other is))
   rank_kept x other (inr bad) (inl is) = absurd (bad (good_then x other is).0)
   rank_kept x other (inr _) (inr _) = length_same s.nodes (now x) (written_nodes x) s.levels s.root
@@ -174,39 +225,54 @@ module _ {T : Type 0} where
   abbrev pub with_box_item : BoxStorage T → Edge → T → BoxStorage T
   with_box_item s edge x = with_item_as s edge (good_or_not s edge) x
 
-  items_as : (s : BoxStorage T) (edge : Edge) (decided : Decided s edge) (x : T) → box_items (with_item_as s edge decided x) ≡ slice_set (box_items s) (rank_as s edge decided) x
+  items_as : (s : BoxStorage T) (edge : Edge) (decided : Decided s edge) (x : T)
+      → box_items (with_item_as s edge decided x)
+      ≡ slice_set (box_items s) (rank_as s edge decided) x
   items_as s edge (inl good) x = written_items s edge good x
   items_as s edge (inr bad) x = sym (set_past (box_items s) (length (box_items s)) x (omega arith))
 
-  pub items_with_box_item : (s : BoxStorage T) (edge : Edge) (x : T) → box_items (with_box_item s edge x) ≡ slice_set (box_items s) (box_rank s edge) x
+  pub items_with_box_item : (s : BoxStorage T) (edge : Edge) (x : T)
+      → box_items (with_box_item s edge x) ≡ slice_set (box_items s) (box_rank s edge) x
   items_with_box_item s edge x = items_as s edge (good_or_not s edge) x
 
-  room_as : (s : BoxStorage T) (edge : Edge) (decided : Decided s edge) (x : T) → box_room (with_item_as s edge decided x) ≡ box_room s
-  room_as s edge (inl good) x = ap (λ m. min (MIN_LEN * s.nodes.capacity) 18446744073709551615 - m) (length_same s.nodes (now s edge good x) (written_nodes s edge good x) s.levels s.root)
+  room_as : (s : BoxStorage T) (edge : Edge) (decided : Decided s edge) (x : T)
+      → box_room (with_item_as s edge decided x) ≡ box_room s
+  room_as s edge (inl good) x =
+      ap (λ m. min (MIN_LEN * s.nodes.capacity) 18446744073709551615 - m)
+      (length_same s.nodes (now s edge good x) (written_nodes s edge good x) s.levels s.root)
   room_as s edge (inr bad) x = refl
 
-  pub room_with_box_item : (s : BoxStorage T) (edge : Edge) (x : T) → box_room (with_box_item s edge x) ≡ box_room s
+  pub room_with_box_item : (s : BoxStorage T) (edge : Edge) (x : T)
+      → box_room (with_box_item s edge x) ≡ box_room s
   room_with_box_item s edge x = room_as s edge (good_or_not s edge) x
 
-  good_as : (s : BoxStorage T) (edge : Edge) (decided : Decided s edge) (x : T) (other : Edge) → IsGood s other → IsGood (with_item_as s edge decided x) other
+  good_as : (s : BoxStorage T) (edge : Edge) (decided : Decided s edge) (x : T) (other : Edge)
+      → IsGood s other → IsGood (with_item_as s edge decided x) other
   good_as s edge (inl good) x other is = (good_then s edge good x other is).0
   good_as s edge (inr bad) x other is = is
 
-  pub good_with_box_item : (s : BoxStorage T) (edge : Edge) (x : T) (other : Edge) → IsGood s other → IsGood (with_box_item s edge x) other
+  pub good_with_box_item : (s : BoxStorage T) (edge : Edge) (x : T) (other : Edge) → IsGood s other
+      → IsGood (with_box_item s edge x) other
   good_with_box_item s edge x other is = good_as s edge (good_or_not s edge) x other is
 
-  rank_of : (s : BoxStorage T) (edge : Edge) (decided : Decided s edge) (x : T) (other : Edge) → box_rank (with_item_as s edge decided x) other ≡ box_rank s other
-  rank_of s edge (inl good) x other = rank_kept s edge good x other (good_or_not (with_good_item s edge good x) other) (good_or_not s other)
+  rank_of : (s : BoxStorage T) (edge : Edge) (decided : Decided s edge) (x : T) (other : Edge)
+      → box_rank (with_item_as s edge decided x) other ≡ box_rank s other
+  rank_of s edge (inl good) x other =
+      rank_kept s edge good x other (good_or_not (with_good_item s edge good x) other)
+      (good_or_not s other)
   rank_of s edge (inr bad) x other = refl
 
-  pub rank_with_box_item : (s : BoxStorage T) (edge : Edge) (x : T) (other : Edge) → box_rank (with_box_item s edge x) other ≡ box_rank s other
+  pub rank_with_box_item : (s : BoxStorage T) (edge : Edge) (x : T) (other : Edge)
+      → box_rank (with_box_item s edge x) other ≡ box_rank s other
   rank_with_box_item s edge x other = rank_of s edge (good_or_not s edge) x other
 
-  pub good_in_range : (s : BoxStorage T) (edge : Edge) → IsGood s edge → box_rank s edge < length (box_items s)
+  pub good_in_range : (s : BoxStorage T) (edge : Edge) → IsGood s edge
+      → box_rank s edge < length (box_items s)
   good_in_range s edge good = rw (rank_is s edge good) (good_within s edge good)
 
   pub items_fit : (s : BoxStorage T) → length (box_items s) < 2 ^ 64
   items_fit s = s.whole.counted
 
   pub none_asked_of_empty : (s : BoxStorage T) → length (box_items s) ≡ 0 → HALVINGS * s.levels ≡ 0
-  none_asked_of_empty s none = let levels : s.levels ≡ 0 = s.levelled.empty (s.counted ∙ none) in rw levels refl
+  none_asked_of_empty s none = let levels : s.levels ≡ 0 =
+      s.levelled.empty (s.counted ∙ none) in rw levels refl

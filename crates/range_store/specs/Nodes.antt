@@ -42,7 +42,8 @@ module _ {T : Type 0} where
   -- the items below a node, in order, where so many levels are left
   unfoldable pub items_below : Heap T → ℕ → ℕ → List T
   items_below s zero n = []
-  items_below s (suc d) n = weave (items_of (node_of s n)) (map (items_below s d) (children_of (node_of s n)))
+  items_below s (suc d) n =
+      weave (items_of (node_of s n)) (map (items_below s d) (children_of (node_of s n)))
 
   -- the nodes of the tree below a node, and itself
   unfoldable pub used : Heap T → ℕ → ℕ → List ℕ
@@ -54,7 +55,8 @@ module _ {T : Type 0} where
     pub present : IsSome (node_of s n)
     pub enough : least ≤ length (items_of (node_of s n))
     pub fits : length (items_of (node_of s n)) ≤ most
-    pub branches : length (children_of (node_of s n)) ≡ child_count d (length (items_of (node_of s n)))
+    pub branches : length (children_of (node_of s n))
+        ≡ child_count d (length (items_of (node_of s n)))
 
   -- each node has from MIN_LEN to CAPACITY items, and all leaves are at one depth
   unfoldable pub Shaped : Heap T → ℕ → ℕ → Type 0
@@ -77,7 +79,8 @@ module _ {T : Type 0} where
   -- the nodes us of the old heap became the nodes vs of the new one; nothing else changed
   pub record Moves (old new : Heap T) (us vs : List ℕ) : Type 0 where
     pub owned : (k : ℕ) → occurrences k vs + here old k ≡ occurrences k us + here new k
-    pub outside : (k : ℕ) → occurrences k us ≡ 0 → IsSome (node_of old k) → node_of new k ≡ node_of old k
+    pub outside : (k : ℕ) → occurrences k us ≡ 0 → IsSome (node_of old k)
+        → node_of new k ≡ node_of old k
     pub len : node_count new + length us ≡ node_count old + length vs
     pub capacity : new.capacity ≡ old.capacity
 
@@ -100,21 +103,28 @@ module _ {T : Type 0} where
   EnoughFor least (Some split) count = Unit {0}
 
   -- the subtree of n, over d levels, became one or two subtrees that together have this list
-  pub record Replaces (old new : Heap T) (d n : ℕ) (split : Option (Split T)) (list : List T) : Type 0 where
+  pub record Replaces (old new : Heap T) (d n : ℕ) (split : Option (Split T))
+      (list : List T) : Type 0 where
     pub listed : weave (separators split) (map (items_below new (suc d)) (tops n split)) ≡ list
     pub moved : Moves old new (used old (suc d) n) (flat_map (used new (suc d)) (tops n split))
-    pub shape : (least : ℕ) → least ≤ MIN_LEN → EnoughFor least split (length (items_of (node_of old n))) → All (ShapedBut least CAPACITY new d) (tops n split)
+    pub shape : (least : ℕ) → least ≤ MIN_LEN
+        → EnoughFor least split (length (items_of (node_of old n)))
+        → All (ShapedBut least CAPACITY new d) (tops n split)
 
-  -- with the nodes outside the subtree there is capacity for the nodes that it needs for so many more items
+  -- with the nodes outside the subtree there is capacity for the nodes that it needs for so many
+  -- more items
   pub record HasTreeRoom (s : Heap T) (d n more : ℕ) : Type 0 where
-    pub filled : MIN_LEN * node_count s + (length (items_below s d n) + more) + 1 ≤ MIN_LEN * s.capacity + MIN_LEN * length (used s d n) + MIN_LEN
-    pub few : MIN_LEN * node_count s + (length (items_below s d n) + more) + 1 ≤ MIN_LEN * s.capacity + MIN_LEN * length (used s d n) + length (items_of (node_of s n))
+    pub filled : MIN_LEN * node_count s + (length (items_below s d n) + more) + 1
+        ≤ MIN_LEN * s.capacity + MIN_LEN * length (used s d n) + MIN_LEN
+    pub few : MIN_LEN * node_count s + (length (items_below s d n) + more) + 1
+        ≤ MIN_LEN * s.capacity + MIN_LEN * length (used s d n) + length (items_of (node_of s n))
 
   -- the subtree of n, over d levels, became one with this list, at most one item shorter
   pub record Shrinks (old new : Heap T) (d n : ℕ) (list : List T) : Type 0 where
     pub listed : items_below new (suc d) n ≡ list
     pub moved : Moves old new (used old (suc d) n) (used new (suc d) n)
-    pub shape : (least : ℕ) → least + 1 ≤ length (items_of (node_of old n)) → ShapedBut least CAPACITY new d n
+    pub shape : (least : ℕ) → least + 1 ≤ length (items_of (node_of old n))
+        → ShapedBut least CAPACITY new d n
 
   -- a root, over the levels below it; the empty tree has none
   abbrev pub IsRoot : Heap T → ℕ → ℕ → Type 0
@@ -143,17 +153,23 @@ module _ {T : Type 0} where
     pub child : ShapedBut (MIN_LEN - 1) CAPACITY s low (slice_index (children_of (node_of s n)) i)
     pub behind : All (Shaped s (suc low)) (drop (i + 1) (children_of (node_of s n)))
 
-  -- a node over `suc low` levels, of whose children one of the two at j and after it may lack an item
+  -- a node over `suc low` levels, of whose children one of the two at j and after it may lack an
+  -- item
   pub record IsLevelled (s : Heap T) (low n j : ℕ) : Type 0 where
     pub node : IsNode 1 CAPACITY s (suc low) n
     pub owned : Owned s (suc (suc low)) n
     pub within : j < length (items_of (node_of s n))
     pub before : All (Shaped s (suc low)) (take j (children_of (node_of s n)))
     pub left : ShapedBut (MIN_LEN - 1) CAPACITY s low (slice_index (children_of (node_of s n)) j)
-    pub right : ShapedBut (MIN_LEN - 1) CAPACITY s low (slice_index (children_of (node_of s n)) (j + 1))
+    pub right : ShapedBut (MIN_LEN - 1) CAPACITY s low
+        (slice_index (children_of (node_of s n)) (j + 1))
     pub behind : All (Shaped s (suc low)) (drop (j + 2) (children_of (node_of s n)))
-    pub enough : MIN_LEN + MIN_LEN ≤ length (items_of (node_of s (slice_index (children_of (node_of s n)) j))) + 1 + length (items_of (node_of s (slice_index (children_of (node_of s n)) (j + 1))))
-    pub fits : length (items_of (node_of s (slice_index (children_of (node_of s n)) j))) + 1 + length (items_of (node_of s (slice_index (children_of (node_of s n)) (j + 1)))) ≤ CAPACITY + MIN_LEN
+    pub enough : MIN_LEN + MIN_LEN
+        ≤ length (items_of (node_of s (slice_index (children_of (node_of s n)) j))) + 1 + length
+        (items_of (node_of s (slice_index (children_of (node_of s n)) (j + 1))))
+    pub fits : length (items_of (node_of s (slice_index (children_of (node_of s n)) j))) + 1 +
+        length (items_of (node_of s (slice_index (children_of (node_of s n)) (j + 1))))
+        ≤ CAPACITY + MIN_LEN
 
   -- how many items the child of n at k has
   abbrev pub child_size : Heap T → ℕ → ℕ → ℕ
@@ -178,10 +194,16 @@ module _ {T : Type 0} where
   pub Shaped-prop : (s : Heap T) (d n : ℕ) → IsProp (Shaped s d n)
   unfolding Shaped
   Shaped-prop s zero n = Unit-prop
-  Shaped-prop s (suc d) n = ×_prop (IsNode-prop MIN_LEN CAPACITY s d n) (All_of-prop (Shaped s d) (Shaped-prop s d) (children_of (node_of s n)))
+  Shaped-prop s (suc d) n =
+      ×_prop (IsNode-prop MIN_LEN CAPACITY s d n)
+      (All_of-prop (Shaped s d) (Shaped-prop s d) (children_of (node_of s n)))
 
   pub ShapedBut-prop : (least most : ℕ) (s : Heap T) (d n : ℕ) → IsProp (ShapedBut least most s d n)
-  ShapedBut-prop least most s d n = hlevel (IsNode-prop least most s d n, All_of-prop (Shaped s d) (Shaped-prop s d) (children_of (node_of s n)))
+  ShapedBut-prop least most s d n =
+      hlevel (
+        IsNode-prop least most s d n,
+        All_of-prop (Shaped s d) (Shaped-prop s d) (children_of (node_of s n)),
+      )
 
   pub IsRoot-prop : (s : Heap T) (d n : ℕ) → IsProp (IsRoot s d n)
   IsRoot-prop s zero n = Unit-prop

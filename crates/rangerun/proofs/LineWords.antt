@@ -14,9 +14,12 @@ abbrev pub has_no_space : List ℕ → Bool
 has_no_space [] = true
 has_no_space (c ∷ cs) = if c == 32 then false else has_no_space cs
 
-lacks_first : (c : ℕ) (cs : List ℕ) (is_space : Bool) → (c == 32) ≡ is_space → (if is_space then false else has_no_space cs) ≡ true → (has_no_space cs ≡ true → Lacks 32 cs) → Lacks 32 (c ∷ cs)
+lacks_first : (c : ℕ) (cs : List ℕ) (is_space : Bool) → (c == 32) ≡ is_space
+    → (if is_space then false else has_no_space cs) ≡ true → (has_no_space cs ≡ true → Lacks 32 cs)
+    → Lacks 32 (c ∷ cs)
 lacks_first c cs true e h rest = absurd cc
-lacks_first c cs false e h rest = lacks_more 32 c cs (λ same. let space = rw same at e in cc) (rest h)
+lacks_first c cs false e h rest =
+    lacks_more 32 c cs (λ same. let space = rw same at e in cc) (rest h)
 
 pub lacks_space : (cs : List ℕ) → has_no_space cs ≡ true → Lacks 32 cs
 lacks_space [] h = lacks_nil 32
@@ -54,7 +57,12 @@ text_lacks MeetsWord = lacks_space (codes "meets") refl
 abbrev by_initial : List ℕ → Option Word
 by_initial [] = None
 by_initial (c ∷ cs) =
-    if c == 105 then Some InsertWord else (if c == 116 then Some TryWord else (if c == 114 then Some RemoveWord else (if c == 103 then Some GetWord else (if c == 104 then Some HasWord else (if c == 109 then Some MeetsWord else (if c == 117 then Some UpdateWord else None))))))
+    if c == 105 then Some InsertWord
+    else (if c == 116 then Some TryWord
+    else (if c == 114 then Some RemoveWord
+    else (if c == 103 then Some GetWord
+    else (if c == 104 then Some HasWord
+    else (if c == 109 then Some MeetsWord else (if c == 117 then Some UpdateWord else None))))))
 
 word_begins_its_text : (w : Word) → by_initial (text_of w) ≡ Some w
 word_begins_its_text InsertWord = refl
@@ -66,15 +74,19 @@ word_begins_its_text HasWord = refl
 word_begins_its_text MeetsWord = refl
 
 text_unique : (v w : Word) → text_of v ≡ text_of w → v ≡ w
-text_unique v w e = let same : Some v ≡ Some w = sym (word_begins_its_text v) ∙ (ap by_initial e ∙ word_begins_its_text w) in cc
+text_unique v w e = let same : Some v ≡ Some w =
+    sym (word_begins_its_text v) ∙ (ap by_initial e ∙ word_begins_its_text w) in cc
 
 module _ {K : Type 0} (IsKey : K → Type 0) (as_number : K → ℤ) where
   -- what the fields after a word say
   abbrev pub Fields : Word → List ℕ → Type 0
-  Fields InsertWord text = (range : AnyRange K) × (value : ℤ) × SpellsBinding IsKey as_number text range value
-  Fields TryWord text = (range : AnyRange K) × (value : ℤ) × SpellsBinding IsKey as_number text range value
+  Fields InsertWord text =
+      (range : AnyRange K) × (value : ℤ) × SpellsBinding IsKey as_number text range value
+  Fields TryWord text =
+      (range : AnyRange K) × (value : ℤ) × SpellsBinding IsKey as_number text range value
   Fields RemoveWord text = (range : AnyRange K) × SpellsRange IsKey as_number text range
-  Fields UpdateWord text = (range : AnyRange K) × (tag : Tag) × SpellsUpdate IsKey as_number text range tag
+  Fields UpdateWord text =
+      (range : AnyRange K) × (tag : Tag) × SpellsUpdate IsKey as_number text range tag
   Fields GetWord text = (key : K) × SpellsKey IsKey as_number text key
   Fields HasWord text = (key : K) × SpellsKey IsKey as_number text key
   Fields MeetsWord text = (range : AnyRange K) × SpellsRange IsKey as_number text range
@@ -85,28 +97,44 @@ module _ {K : Type 0} (IsKey : K → Type 0) (as_number : K → ℤ) where
     begins_with : word_text known ≡ text_of word
     spelled : Fields word fields
 
-  has_fields : (fields : List ℕ) (known : CommandLine K) → SpellsFields IsKey as_number fields known → HasFields fields known
-  has_fields fields (Run (Insert range value)) s = record { word = InsertWord; begins_with = refl; spelled = (range, value, s) }
-  has_fields fields (Run (InsertDisconnected range value)) s = record { word = TryWord; begins_with = refl; spelled = (range, value, s) }
-  has_fields fields (Run (Remove range)) s = record { word = RemoveWord; begins_with = refl; spelled = (range, s) }
-  has_fields fields (Run (Update range tag)) s = record { word = UpdateWord; begins_with = refl; spelled = (range, tag, s) }
-  has_fields fields (Run (Get key)) s = record { word = GetWord; begins_with = refl; spelled = (key, s) }
-  has_fields fields (Run (Contains key)) s = record { word = HasWord; begins_with = refl; spelled = (key, s) }
-  has_fields fields (Run (Intersects range)) s = record { word = MeetsWord; begins_with = refl; spelled = (range, s) }
+  has_fields : (fields : List ℕ) (known : CommandLine K) → SpellsFields IsKey as_number fields known
+      → HasFields fields known
+  has_fields fields (Run (Insert range value)) s =
+      record { word = InsertWord; begins_with = refl; spelled = (range, value, s) }
+  has_fields fields (Run (InsertDisconnected range value)) s =
+      record { word = TryWord; begins_with = refl; spelled = (range, value, s) }
+  has_fields fields (Run (Remove range)) s =
+      record { word = RemoveWord; begins_with = refl; spelled = (range, s) }
+  has_fields fields (Run (Update range tag)) s =
+      record { word = UpdateWord; begins_with = refl; spelled = (range, tag, s) }
+  has_fields fields (Run (Get key)) s =
+      record { word = GetWord; begins_with = refl; spelled = (key, s) }
+  has_fields fields (Run (Contains key)) s =
+      record { word = HasWord; begins_with = refl; spelled = (key, s) }
+  has_fields fields (Run (Intersects range)) s =
+      record { word = MeetsWord; begins_with = refl; spelled = (range, s) }
   has_fields fields known s = absurd s
 
   -- a word is refused where its fields are
-  pub none_of : (text fields : List ℕ) (word : Word) → text ≡ text_of word → (Fields word fields → ⊥) → (known : CommandLine K) → SpellsFields IsKey as_number fields known → text ≡ word_text known → ⊥
+  pub none_of : (text fields : List ℕ) (word : Word) → text ≡ text_of word
+      → (Fields word fields → ⊥) → (known : CommandLine K)
+      → SpellsFields IsKey as_number fields known → text ≡ word_text known → ⊥
   none_of text fields word is none known spelled e =
       let found = has_fields fields known spelled in
-      let same : word ≡ found.word = text_unique word found.word (sym is ∙ (e ∙ found.begins_with)) in
+      let same : word ≡ found.word =
+      text_unique word found.word (sym is ∙ (e ∙ found.begins_with)) in
       none (subst (λ w. Fields w fields) (sym same) found.spelled)
 
   -- and so is a text that is no word
-  pub none_named : (text fields : List ℕ) → ((word : Word) → text ≢ text_of word) → (known : CommandLine K) → SpellsFields IsKey as_number fields known → text ≡ word_text known → ⊥
-  none_named text fields none known spelled e = let found = has_fields fields known spelled in none found.word (e ∙ found.begins_with)
+  pub none_named : (text fields : List ℕ) → ((word : Word) → text ≢ text_of word)
+      → (known : CommandLine K) → SpellsFields IsKey as_number fields known → text ≡ word_text known
+      → ⊥
+  none_named text fields none known spelled e = let found =
+      has_fields fields known spelled in none found.word (e ∙ found.begins_with)
 
-  pub none_alone : (text : List ℕ) → text ≢ codes "count" → text ≢ codes "show" → text ≢ codes "gaps" → text ≢ codes "len" → text ≢ codes "levels" → text ≢ codes "save" → (known : CommandLine K) → StandsAlone known → text ≡ word_text known → ⊥
+  pub none_alone : (text : List ℕ) → text ≢ codes "count" → text ≢ codes "show"
+      → text ≢ codes "gaps" → text ≢ codes "len" → text ≢ codes "levels" → text ≢ codes "save"
+      → (known : CommandLine K) → StandsAlone known → text ≡ word_text known → ⊥
   none_alone text count show gaps len levels save (Run Count) alone e = count e
   none_alone text count show gaps len levels save Show alone e = show e
   none_alone text count show gaps len levels save Gaps alone e = gaps e
@@ -125,17 +153,26 @@ module _ {K : Type 0} (IsKey : K → Type 0) (as_number : K → ℤ) where
   alone_lacks known alone = absurd alone
 
   -- a line with a space says what its word and its fields say
-  pub none_by_fields : (text word fields : List ℕ) → IsSplitAt 32 text word fields → ((known : CommandLine K) → SpellsFields IsKey as_number fields known → word ≡ word_text known → ⊥) → (known : CommandLine K) → SpellsLine IsKey as_number text known → ⊥
-  none_by_fields text word fields cut none known (inl (alone, e)) = has_byte 32 (word_text known) word fields (sym e ∙ cut.0) (alone_lacks known alone)
+  pub none_by_fields : (text word fields : List ℕ) → IsSplitAt 32 text word fields
+      → ((known : CommandLine K) → SpellsFields IsKey as_number fields known
+      → word ≡ word_text known → ⊥) → (known : CommandLine K)
+      → SpellsLine IsKey as_number text known → ⊥
+  none_by_fields text word fields cut none known (inl (alone, e)) =
+      has_byte 32 (word_text known) word fields (sym e ∙ cut.0) (alone_lacks known alone)
   none_by_fields text word fields cut none known (inr (own, spelled, e)) =
       let found = has_fields own known spelled in
-      let same = split_unique 32 word (word_text known) fields own cut.1 (rw found.begins_with (text_lacks found.word)) (sym cut.0 ∙ e) in
+      let same =
+      split_unique 32 word (word_text known) fields own cut.1
+      (rw found.begins_with (text_lacks found.word)) (sym cut.0 ∙ e) in
       none known (subst (λ t. SpellsFields IsKey as_number t known) (sym same.1) spelled) same.0
 
   -- and one without a space what it does alone
-  pub none_by_word : (text : List ℕ) → Lacks 32 text → ((known : CommandLine K) → StandsAlone known → text ≡ word_text known → ⊥) → (known : CommandLine K) → SpellsLine IsKey as_number text known → ⊥
+  pub none_by_word : (text : List ℕ) → Lacks 32 text
+      → ((known : CommandLine K) → StandsAlone known → text ≡ word_text known → ⊥)
+      → (known : CommandLine K) → SpellsLine IsKey as_number text known → ⊥
   none_by_word text lacks none known (inl (alone, e)) = none known alone e
-  none_by_word text lacks none known (inr (fields, spelled, e)) = has_byte 32 text (word_text known) fields e lacks
+  none_by_word text lacks none known (inr (fields, spelled, e)) =
+      has_byte 32 text (word_text known) fields e lacks
 
 pub if_none_as : {A : Type 0} (o : Option A) (P Q : Type 0) → (P → Q) → IfNone o P → IfNone o Q
 if_none_as None P Q follows p = follows p

@@ -25,20 +25,24 @@ pub appends_none : (known : Option (List ℕ)) → Appends known known []
 appends_none None = tt
 appends_none (Some xs) = sym (append_nil xs)
 
-pub appends_then : (a b c : Option (List ℕ)) (x y : List ℕ) → Appends a b x → Appends b c y → Appends a c (x ++ y)
+pub appends_then : (a b c : Option (List ℕ)) (x y : List ℕ) → Appends a b x → Appends b c y
+    → Appends a c (x ++ y)
 appends_then None b c x y p q = tt
 appends_then (Some xs) None c x y p q = absurd p
 appends_then (Some xs) (Some ys) None x y p q = absurd q
 appends_then (Some xs) (Some ys) (Some zs) x y p q = q ∙ ap (λ l. l ++ y) p ∙ append_assoc xs x y
 
-pub appends_keeps : (a b c : Option (List ℕ)) (x : List ℕ) → Appends a b x → Keeps b c → Appends a c x
+pub appends_keeps : (a b c : Option (List ℕ)) (x : List ℕ) → Appends a b x → Keeps b c
+    → Appends a c x
 appends_keeps None b c x p q = tt
 appends_keeps (Some xs) None c x p q = absurd p
 appends_keeps (Some xs) (Some ys) None x p q = absurd q
 appends_keeps (Some xs) (Some ys) (Some zs) x p q = q ∙ p
 
-pub writes_keeps : (a b c : Option (List ℕ)) (Fits : List ℕ → Type 0) → Writes a b Fits → Keeps b c → Writes a c Fits
-writes_keeps a b c Fits (text, fits, appended) kept = (text, fits, appends_keeps a b c text appended kept)
+pub writes_keeps : (a b c : Option (List ℕ)) (Fits : List ℕ → Type 0) → Writes a b Fits → Keeps b c
+    → Writes a c Fits
+writes_keeps a b c Fits (text, fits, appended) kept =
+    (text, fits, appends_keeps a b c text appended kept)
 
 pub on_ok_as : {A E : Type 0} (r : Result A E) (P Q : Type 0) → (P → Q) → OnOk r P → OnOk r Q
 on_ok_as (Ok x) P Q follows p = follows p
@@ -49,99 +53,175 @@ module _ {X : Type 0} (SpellsOne : X → List ℕ → Type 0) where
   pub record HasShown (all left : List X) (before now : Option (List ℕ)) : Type 0 where
     pub written : List ℕ
     pub appended : Appends before now written
-    pub goes_on : (lines : List ℕ) → SpellsEach SpellsOne left lines → SpellsEach SpellsOne all (written ++ lines)
+    pub goes_on : (lines : List ℕ) → SpellsEach SpellsOne left lines
+        → SpellsEach SpellsOne all (written ++ lines)
 
   pub shown_none : (all : List X) (known : Option (List ℕ)) → HasShown all all known known
-  shown_none all known = record { written = []; appended = appends_none known; goes_on = λ lines spelled. spelled }
+  shown_none all known =
+      record { written = []; appended = appends_none known; goes_on = λ lines spelled. spelled }
 
-  pub shown_more : (all left : List X) (x : X) (before now next : Option (List ℕ)) → HasShown all (x ∷ left) before now → Writes now next (SpellsOne x) → HasShown all left before next
+  pub shown_more : (all left : List X) (x : X) (before now next : Option (List ℕ))
+      → HasShown all (x ∷ left) before now → Writes now next (SpellsOne x)
+      → HasShown all left before next
   shown_more all left x before now next shown (line, spelled, more) = record {
     written = shown.written ++ line;
     appended = appends_then before now next shown.written line shown.appended more;
-    goes_on = λ lines rest. subst (SpellsEach SpellsOne all) (sym (append_assoc shown.written line lines)) (shown.goes_on (line ++ lines) (line, lines, spelled, rest, refl));
+    goes_on =
+        λ lines rest. subst (SpellsEach SpellsOne all) (sym (append_assoc shown.written line lines))
+        (shown.goes_on (line ++ lines) (line, lines, spelled, rest, refl));
   }
 
-  pub shown_all : (all : List X) (before now : Option (List ℕ)) → HasShown all [] before now → Writes before now (SpellsEach SpellsOne all)
-  shown_all all before now shown = (shown.written, subst (SpellsEach SpellsOne all) (append_nil shown.written) (shown.goes_on [] refl), shown.appended)
+  pub shown_all : (all : List X) (before now : Option (List ℕ)) → HasShown all [] before now
+      → Writes before now (SpellsEach SpellsOne all)
+  shown_all all before now shown = (
+    shown.written,
+    subst (SpellsEach SpellsOne all) (append_nil shown.written) (shown.goes_on [] refl),
+    shown.appended,
+  )
 
   -- the first line and then the others
-  pub shown_first : (x : X) (others : List X) (before now next : Option (List ℕ)) → Writes before now (SpellsOne x) → Writes now next (SpellsEach SpellsOne others) → Writes before next (SpellsEach SpellsOne (x ∷ others))
-  shown_first x others before now next (line, spelled, first) (lines, rest, more) = (line ++ lines, (line, lines, spelled, rest, refl), appends_then before now next line lines first more)
+  pub shown_first : (x : X) (others : List X) (before now next : Option (List ℕ))
+      → Writes before now (SpellsOne x) → Writes now next (SpellsEach SpellsOne others)
+      → Writes before next (SpellsEach SpellsOne (x ∷ others))
+  shown_first x others before now next (line, spelled, first) (lines, rest, more) = (
+    line ++ lines,
+    (line, lines, spelled, rest, refl),
+    appends_then before now next line lines first more,
+  )
 
-  pub each_are_lines : (none : List ℕ) (all : List X) (text : List ℕ) → length all ≢ 0 → SpellsEach SpellsOne all text → SpellsLines SpellsOne none all text
+  pub each_are_lines : (none : List ℕ) (all : List X) (text : List ℕ) → length all ≢ 0
+      → SpellsEach SpellsOne all text → SpellsLines SpellsOne none all text
   each_are_lines none [] text some spelled = absurd (some refl)
   each_are_lines none (x ∷ rest) text some spelled = spelled
 
-  pub none_are_lines : (none : List ℕ) (all : List X) (text : List ℕ) → length all ≡ 0 → text ≡ none → SpellsLines SpellsOne none all text
+  pub none_are_lines : (none : List ℕ) (all : List X) (text : List ℕ) → length all ≡ 0 → text ≡ none
+      → SpellsLines SpellsOne none all text
   none_are_lines none [] text empty e = e
   none_are_lines none (x ∷ rest) text empty e = absurd (omega (arith, empty))
 
-module _ {K : Type 0} (order : KeyOrder K) (as_number : K → ℤ) (shape : K → Data) (reads : Data → Bool) (is_read : Data → K → Type 0) where
-  pub reads_line : (line : List ℕ) (command : Option (CommandLine K)) → IfSome command (SpellsLine order.is_key as_number line)
-      → IfNone command ((known : CommandLine K) → SpellsLine order.is_key as_number line known → ⊥) → IsRead order as_number shape reads is_read line command
+module _ {K : Type 0} (order : KeyOrder K) (as_number : K → ℤ) (shape : K → Data)
+    (reads : Data → Bool) (is_read : Data → K → Type 0) where
+  pub reads_line : (line : List ℕ) (command : Option (CommandLine K))
+      → IfSome command (SpellsLine order.is_key as_number line)
+      → IfNone command ((known : CommandLine K) → SpellsLine order.is_key as_number line known → ⊥)
+      → IsRead order as_number shape reads is_read line command
   reads_line line None found none = none
   reads_line line (Some known) found none = found
 
   -- a line that loads no text is answered as its command is
-  pub answers_known : (items next : List (Item (AnyRange K) ℤ)) (levels : ℕ) (line : List ℕ) (command : Option (CommandLine K)) (before now : Option (List ℕ))
-      → ((json : List ℕ) → line ≢ load_line json) → IsRead order as_number shape reads is_read line command
-      → Writes before now (λ text. Answers order as_number shape reads is_read items levels command text next) → Writes before now (λ text. AnswersLine order as_number shape reads is_read items levels line text next)
-  answers_known items next levels line command before now none read (text, answer, more) = (text, inr (none, command, read, answer), more)
+  pub answers_known : (items next : List (Item (AnyRange K) ℤ)) (levels : ℕ) (line : List ℕ)
+      (command : Option (CommandLine K)) (before now : Option (List ℕ))
+      → ((json : List ℕ) → line ≢ load_line json)
+      → IsRead order as_number shape reads is_read line command
+      → Writes before now (λ text.
+      Answers order as_number shape reads is_read items levels command text next)
+      → Writes before now (λ text.
+      AnswersLine order as_number shape reads is_read items levels line text next)
+  answers_known items next levels line command before now none read (text, answer, more) =
+      (text, inr (none, command, read, answer), more)
 
   -- the lines of the input before those that are left are answered
-  pub record HasAnswered (input : List ℕ) (left before now : Option (List ℕ)) (items : List (Item (AnyRange K) ℤ)) : Type 0 where
+  pub record HasAnswered (input : List ℕ) (left before now : Option (List ℕ))
+      (items : List (Item (AnyRange K) ℤ)) : Type 0 where
     pub remaining : List ℕ
     pub left_is : left ≡ Some remaining
     pub written : List ℕ
     pub appended : Appends before now written
-    pub goes_on : (more rest : List ℕ) → Conversation order as_number shape reads is_read items remaining more rest → Conversation order as_number shape reads is_read [] input (written ++ more) rest
+    pub goes_on : (more rest : List ℕ)
+        → Conversation order as_number shape reads is_read items remaining more rest
+        → Conversation order as_number shape reads is_read [] input (written ++ more) rest
 
-  pub answered_none : (input known : Option (List ℕ)) (items : List (Item (AnyRange K) ℤ)) → items ≡ [] → IfSome input (λ bytes. HasAnswered bytes input known known items)
+  pub answered_none : (input known : Option (List ℕ)) (items : List (Item (AnyRange K) ℤ))
+      → items ≡ [] → IfSome input (λ bytes. HasAnswered bytes input known known items)
   answered_none None known items empty = tt
   answered_none (Some bytes) known items empty = record {
     remaining = bytes;
     left_is = refl;
     written = [];
     appended = appends_none known;
-    goes_on = λ more rest held. subst (λ list. Conversation order as_number shape reads is_read list bytes more rest) empty held;
+    goes_on =
+        λ more rest held.
+        subst (λ list. Conversation order as_number shape reads is_read list bytes more rest) empty
+        held;
   }
 
-  pub answered_more : (input : List ℕ) (left later before now next : Option (List ℕ)) (items changed : List (Item (AnyRange K) ℤ)) (levels : ℕ) (line : List ℕ)
-      → (answered : HasAnswered input left before now items) → answered.remaining ≢ [] → later ≡ Some (drop_through 10 answered.remaining) → line ≡ first_line answered.remaining
-      → IsUtf8 line → HasLevels (length items) levels → Writes now next (λ text. AnswersLine order as_number shape reads is_read items levels line text changed) → HasAnswered input later before next changed
-  answered_more input left later before now next items changed levels line answered some later_is line_is is_text may_have (text, answer, more) = record {
-    remaining = drop_through 10 answered.remaining;
-    left_is = later_is;
-    written = answered.written ++ text;
-    appended = appends_then before now next answered.written text answered.appended more;
-    goes_on = λ others rest held. subst (λ all. Conversation order as_number shape reads is_read [] input all rest) (sym (append_assoc answered.written text others))
-        (answered.goes_on (text ++ others) rest (Answered items changed levels answered.remaining (text ++ others) text others rest some (subst IsUtf8 line_is is_text) may_have (subst (λ l. AnswersLine order as_number shape reads is_read items levels l text changed) line_is answer) held refl));
-  }
+  pub answered_more : (input : List ℕ) (left later before now next : Option (List ℕ))
+      (items changed : List (Item (AnyRange K) ℤ)) (levels : ℕ) (line : List ℕ)
+      → (answered : HasAnswered input left before now items) → answered.remaining ≢ []
+      → later ≡ Some (drop_through 10 answered.remaining) → line ≡ first_line answered.remaining
+      → IsUtf8 line → HasLevels (length items) levels
+      → Writes now next (λ text.
+      AnswersLine order as_number shape reads is_read items levels line text changed)
+      → HasAnswered input later before next changed
+  answered_more input left later before now next items changed levels line answered some later_is
+      line_is is_text may_have (text, answer, more) = record {
+        remaining = drop_through 10 answered.remaining;
+        left_is = later_is;
+        written = answered.written ++ text;
+        appended = appends_then before now next answered.written text answered.appended more;
+        goes_on =
+            λ others rest held. subst
+            (λ all. Conversation order as_number shape reads is_read [] input all rest)
+            (sym (append_assoc answered.written text others))
+            (answered.goes_on (text ++ others) rest
+            (Answered items changed levels answered.remaining (text ++ others) text others rest some
+            (subst IsUtf8 line_is is_text) may_have
+            (subst (λ l.
+            AnswersLine order as_number shape reads is_read items levels l text changed) line_is
+            answer) held refl));
+      }
 
   -- what is written answers the lines before those that are left
-  pub answered_so_far : (input : List ℕ) (left before now : Option (List ℕ)) (items : List (Item (AnyRange K) ℤ)) → (answered : HasAnswered input left before now items) → Writes before now (λ text. Conversation order as_number shape reads is_read [] input text answered.remaining)
-  answered_so_far input left before now items answered =
-      (answered.written, subst (λ text. Conversation order as_number shape reads is_read [] input text answered.remaining) (append_nil answered.written) (answered.goes_on [] answered.remaining (Ended items answered.remaining)), answered.appended)
+  pub answered_so_far : (input : List ℕ) (left before now : Option (List ℕ))
+      (items : List (Item (AnyRange K) ℤ)) → (answered : HasAnswered input left before now items)
+      → Writes before now (λ text.
+      Conversation order as_number shape reads is_read [] input text answered.remaining)
+  answered_so_far input left before now items answered = (
+    answered.written,
+    subst (λ text.
+        Conversation order as_number shape reads is_read [] input text answered.remaining)
+        (append_nil answered.written)
+        (answered.goes_on [] answered.remaining (Ended items answered.remaining)),
+    answered.appended,
+  )
 
-  pub answered_all : (input : List ℕ) (left before now : Option (List ℕ)) (items : List (Item (AnyRange K) ℤ)) → (answered : HasAnswered input left before now items) → answered.remaining ≡ [] → Writes before now (λ text. Conversation order as_number shape reads is_read [] input text [])
-  answered_all input left before now items answered ended = subst (λ rest. Writes before now (λ text. Conversation order as_number shape reads is_read [] input text rest)) ended (answered_so_far input left before now items answered)
+  pub answered_all : (input : List ℕ) (left before now : Option (List ℕ))
+      (items : List (Item (AnyRange K) ℤ)) → (answered : HasAnswered input left before now items)
+      → answered.remaining ≡ []
+      → Writes before now (λ text.
+      Conversation order as_number shape reads is_read [] input text [])
+  answered_all input left before now items answered ended =
+      subst (λ rest. Writes before now
+      (λ text. Conversation order as_number shape reads is_read [] input text rest)) ended
+      (answered_so_far input left before now items answered)
 
-module _ {K : Type 0} (order : KeyOrder K) (as_number : K → ℤ) (shape : K → Data) (reads : Data → Bool) (is_read : Data → K → Type 0) where
-  pub stopped_at : (input left before now : Option (List ℕ)) (items : List (Item (AnyRange K) ℤ)) → IfSome input (λ bytes. HasAnswered order as_number shape reads is_read bytes left before now items)
-      → IfSome input (λ bytes. (rest : List ℕ) × Writes before now (λ text. Conversation order as_number shape reads is_read [] bytes text rest))
+module _ {K : Type 0} (order : KeyOrder K) (as_number : K → ℤ) (shape : K → Data)
+    (reads : Data → Bool) (is_read : Data → K → Type 0) where
+  pub stopped_at : (input left before now : Option (List ℕ)) (items : List (Item (AnyRange K) ℤ))
+      → IfSome input (λ bytes.
+      HasAnswered order as_number shape reads is_read bytes left before now items)
+      → IfSome input (λ bytes. (rest : List ℕ)
+      × Writes before now (λ text.
+      Conversation order as_number shape reads is_read [] bytes text rest))
   stopped_at None left before now items answered = tt
-  stopped_at (Some bytes) left before now items answered = (answered.remaining, answered_so_far order as_number shape reads is_read bytes left before now items answered)
+  stopped_at (Some bytes) left before now items answered = (
+    answered.remaining,
+    answered_so_far order as_number shape reads is_read bytes left before now items answered,
+  )
 
-pub if_some_as : {A : Type 0} (o : Option A) (P Q : A → Type 0) → ((x : A) → o ≡ Some x → P x → Q x) → IfSome o P → IfSome o Q
+pub if_some_as : {A : Type 0} (o : Option A) (P Q : A → Type 0) → ((x : A) → o ≡ Some x → P x → Q x)
+    → IfSome o P → IfSome o Q
 if_some_as None P Q follows held = tt
 if_some_as (Some x) P Q follows held = follows x refl held
 
 -- a line that is read after nothing is the input's first, and is not empty where the input is not
-pub line_of : (old new input : List ℕ) → new ≡ old ++ take_through 10 input → old ≡ [] → new ≡ take_through 10 input
+pub line_of : (old new input : List ℕ) → new ≡ old ++ take_through 10 input → old ≡ []
+    → new ≡ take_through 10 input
 line_of old new input read empty = read ∙ ap (λ xs. xs ++ take_through 10 input) empty
 
 pub none_of_none : (new input : List ℕ) → new ≡ take_through 10 input → input ≡ [] → length new ≡ 0
 none_of_none new input read empty = ap length (read ∙ ap (λ xs. take_through 10 xs) empty)
 
-pub first_line_of : (text line input : List ℕ) → text ≡ line_content line → line ≡ take_through 10 input → text ≡ first_line input
+pub first_line_of : (text line input : List ℕ) → text ≡ line_content line
+    → line ≡ take_through 10 input → text ≡ first_line input
 first_line_of text line input content read = content ∙ ap line_content read

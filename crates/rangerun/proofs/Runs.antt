@@ -22,44 +22,89 @@ use Rattle.rangerun.specs.Tags.{IsAnswerOf}
 
 module _ {K : Type 0} (order : KeyOrder K) where
   -- a run that goes one step on
-  one_more : (items middle last : List (Item (AnyRange K) ℤ)) (commands : List (Command K ℤ Tag)) (replies : List (Reply K ℤ ℤ)) (command : Command K ℤ Tag) (reply : Reply K ℤ ℤ) → IsRun order int_eq IsAnswerOf items commands replies middle → IsStep order int_eq IsAnswerOf middle command reply last → IsRun order int_eq IsAnswerOf items (commands ++ command ∷ []) (replies ++ reply ∷ []) last
+  one_more : (items middle last : List (Item (AnyRange K) ℤ)) (commands : List (Command K ℤ Tag))
+      (replies : List (Reply K ℤ ℤ)) (command : Command K ℤ Tag) (reply : Reply K ℤ ℤ)
+      → IsRun order int_eq IsAnswerOf items commands replies middle
+      → IsStep order int_eq IsAnswerOf middle command reply last
+      → IsRun order int_eq IsAnswerOf items (commands ++ command ∷ []) (replies ++ reply ∷ []) last
   one_more items middle last [] [] command reply run step = (last, rw run at step, refl)
   one_more items middle last [] (r ∷ replies) command reply run step = absurd run
   one_more items middle last (c ∷ commands) [] command reply run step = absurd run
-  one_more items middle last (c ∷ commands) (r ∷ replies) command reply run step = (run.0, run.1, one_more run.0 middle last commands replies command reply run.2 step)
+  one_more items middle last (c ∷ commands) (r ∷ replies) command reply run step =
+      (run.0, run.1, one_more run.0 middle last commands replies command reply run.2 step)
 
-module _ {K : Type 0} (order : KeyOrder K) (as_number : K → ℤ) (shape : K → Data) (reads : Data → Bool) (is_read : Data → K → Type 0) where
+module _ {K : Type 0} (order : KeyOrder K) (as_number : K → ℤ) (shape : K → Data)
+    (reads : Data → Bool) (is_read : Data → K → Type 0) where
   abbrev IsChain : Commands K → List (Item (AnyRange K) ℤ) → Type 0
   IsChain done last = IsRun order int_eq IsAnswerOf done.first done.commands done.replies last
 
-  unchanged_list_keeps_chain : (done : Commands K) (items next : List (Item (AnyRange K) ℤ)) → next ≡ items → IsChain done items → IsChain done next
+  unchanged_list_keeps_chain : (done : Commands K) (items next : List (Item (AnyRange K) ℤ))
+      → next ≡ items → IsChain done items → IsChain done next
   unchanged_list_keeps_chain done items next same chain = rw same chain
 
-  chain_after : (done : Commands K) (items : List (Item (AnyRange K) ℤ)) (levels : ℕ) (line answer : List ℕ) (next : List (Item (AnyRange K) ℤ)) (said : AnswersLine order as_number shape reads is_read items levels line answer next) → IsChain done items → IsChain (with_line order as_number shape reads is_read done items levels line answer next said) next
+  chain_after : (done : Commands K) (items : List (Item (AnyRange K) ℤ)) (levels : ℕ)
+      (line answer : List ℕ) (next : List (Item (AnyRange K) ℤ))
+      (said : AnswersLine order as_number shape reads is_read items levels line answer next)
+      → IsChain done items
+      → IsChain (with_line order as_number shape reads is_read done items levels line answer next
+      said) next
   chain_after done items levels line answer next (inl (json, is, inl loaded)) chain = refl
-  chain_after done items levels line answer next (inl (json, is, inr (cause, why, text_is, same))) chain = unchanged_list_keeps_chain done items next same chain
-  chain_after done items levels line answer next (inr (none, None, read, (text_is, same))) chain = unchanged_list_keeps_chain done items next same chain
-  chain_after done items levels line answer next (inr (none, Some Show, read, (text_is, same))) chain = unchanged_list_keeps_chain done items next same chain
-  chain_after done items levels line answer next (inr (none, Some Gaps, read, (text_is, same))) chain = unchanged_list_keeps_chain done items next same chain
-  chain_after done items levels line answer next (inr (none, Some Len, read, (text_is, same))) chain = unchanged_list_keeps_chain done items next same chain
-  chain_after done items levels line answer next (inr (none, Some Levels, read, (text_is, same))) chain = unchanged_list_keeps_chain done items next same chain
-  chain_after done items levels line answer next (inr (none, Some Save, read, (text_is, same))) chain = unchanged_list_keeps_chain done items next same chain
-  chain_after done items levels line answer next (inr (none, Some (Run command), read, (reply, step, text_is))) chain = one_more order done.first items next done.commands done.replies command reply chain step
+  chain_after done items levels line answer next
+      (inl (json, is, inr (cause, why, text_is, same))) chain =
+      unchanged_list_keeps_chain done items next same chain
+  chain_after done items levels line answer next (inr (none, None, read, (text_is, same))) chain =
+      unchanged_list_keeps_chain done items next same chain
+  chain_after done items levels line answer next
+      (inr (none, Some Show, read, (text_is, same))) chain =
+      unchanged_list_keeps_chain done items next same chain
+  chain_after done items levels line answer next
+      (inr (none, Some Gaps, read, (text_is, same))) chain =
+      unchanged_list_keeps_chain done items next same chain
+  chain_after done items levels line answer next
+      (inr (none, Some Len, read, (text_is, same))) chain =
+      unchanged_list_keeps_chain done items next same chain
+  chain_after done items levels line answer next
+      (inr (none, Some Levels, read, (text_is, same))) chain =
+      unchanged_list_keeps_chain done items next same chain
+  chain_after done items levels line answer next
+      (inr (none, Some Save, read, (text_is, same))) chain =
+      unchanged_list_keeps_chain done items next same chain
+  chain_after done items levels line answer next
+      (inr (none, Some (Run command), read, (reply, step, text_is))) chain =
+      one_more order done.first items next done.commands done.replies command reply chain step
 
   module _ (lawful : IsLawful order) where
-    one_run : (done : Commands K) (items : List (Item (AnyRange K) ℤ)) → IsChain done items → AreOneRun order done items
+    one_run : (done : Commands K) (items : List (Item (AnyRange K) ℤ)) → IsChain done items
+        → AreOneRun order done items
     one_run done items chain = record {
       chain = chain;
-      history = λ k key b h. last_command_decides order lawful int_eq int_eq_equiv IsAnswerOf k key done.first items done.commands done.replies chain b h;
+      history =
+          λ k key b h.
+          last_command_decides order lawful int_eq int_eq_equiv IsAnswerOf k key done.first items
+          done.commands done.replies chain b h;
     }
 
-    conversation_is_runs : (done : Commands K) (items : List (Item (AnyRange K) ℤ)) (input text rest : List ℕ) → IsChain done items → (talk : Conversation order as_number shape reads is_read items input text rest) → AreRuns order as_number shape reads is_read done items input text rest talk
+    conversation_is_runs : (done : Commands K) (items : List (Item (AnyRange K) ℤ))
+        (input text rest : List ℕ) → IsChain done items
+        → (talk : Conversation order as_number shape reads is_read items input text rest)
+        → AreRuns order as_number shape reads is_read done items input text rest talk
     conversation_is_runs done items input text rest chain (Ended _ _) = one_run done items chain
-    conversation_is_runs done items input text rest chain (Answered _ next levels _ _ answer more _ some is_text may_have said talk is) =
-        (one_run done items chain, conversation_is_runs (with_line order as_number shape reads is_read done items levels (first_line input) answer next said) next (drop_through 10 input) more rest (chain_after done items levels (first_line input) answer next said chain) talk)
+    conversation_is_runs done items input text rest chain
+        (Answered _ next levels _ _ answer more _ some is_text may_have said talk is) = (
+          one_run done items chain,
+          conversation_is_runs (with_line order as_number shape reads is_read done items levels
+              (first_line input) answer next said) next (drop_through 10 input) more rest
+              (chain_after done items levels (first_line input) answer next said chain) talk,
+        )
 
     -- so what answers known input answers it by runs
-    pub answers_runs : (input before after : Option (List ℕ)) (rest : List ℕ) → IfSome input (λ bytes. Writes before after (λ text. Conversation order as_number shape reads is_read [] bytes text rest))
-        → IfSome input (λ bytes. Writes before after (λ text. AnswersRuns order as_number shape reads is_read bytes text rest))
+    pub answers_runs : (input before after : Option (List ℕ)) (rest : List ℕ)
+        → IfSome input (λ bytes.
+        Writes before after (λ text.
+        Conversation order as_number shape reads is_read [] bytes text rest))
+        → IfSome input (λ bytes.
+        Writes before after (λ text.
+        AnswersRuns order as_number shape reads is_read bytes text rest))
     answers_runs None before after rest answered = tt
-    answers_runs (Some bytes) before after rest (text, talk, appended) = (text, (talk, conversation_is_runs (no_commands []) [] bytes text rest refl talk), appended)
+    answers_runs (Some bytes) before after rest (text, talk, appended) =
+        (text, (talk, conversation_is_runs (no_commands []) [] bytes text rest refl talk), appended)

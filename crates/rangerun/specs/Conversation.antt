@@ -17,33 +17,48 @@ use Rattle.rangerun.specs.Replies.{SpellsReply, SpellsAll, SpellsGaps, SpellsLen
 use Rattle.rangerun.specs.Saving.{load_line, SpellsSaved, AnswersLoad}
 use Rattle.rangerun.specs.Tags.{IsAnswerOf}
 
--- of keys, each with its number, with the JSON value that it is written as, and with those that it is read of
-module _ {K : Type 0} (order : KeyOrder K) (as_number : K → ℤ) (shape : K → Data) (reads : Data → Bool) (is_read : Data → K → Type 0) where
+-- of keys, each with its number, with the JSON value that it is written as, and with those that it
+-- is read of
+module _ {K : Type 0} (order : KeyOrder K) (as_number : K → ℤ) (shape : K → Data)
+    (reads : Data → Bool) (is_read : Data → K → Type 0) where
   -- the command that the line writes, or none where it writes none
   abbrev pub IsRead : List ℕ → Option (CommandLine K) → Type 0
   IsRead line None = (known : CommandLine K) → SpellsLine order.is_key as_number line known → ⊥
   IsRead line (Some known) = SpellsLine order.is_key as_number line known
 
-  -- the text that may answer a command over the stored list, kept in a tree of so many levels, and the list that is stored then
-  abbrev pub Answers : List (Item (AnyRange K) ℤ) → ℕ → Option (CommandLine K) → List ℕ → List (Item (AnyRange K) ℤ) → Type 0
+  -- the text that may answer a command over the stored list, kept in a tree of so many levels, and
+  -- the list that is stored then
+  abbrev pub Answers : List (Item (AnyRange K) ℤ) → ℕ → Option (CommandLine K) → List ℕ
+      → List (Item (AnyRange K) ℤ) → Type 0
   Answers items levels None text next = (text ≡ codes "bad line\n") × (next ≡ items)
   Answers items levels (Some Show) text next = SpellsAll order as_number items text × (next ≡ items)
-  Answers items levels (Some Gaps) text next = SpellsGaps order as_number items text × (next ≡ items)
+  Answers items levels (Some Gaps) text next =
+      SpellsGaps order as_number items text × (next ≡ items)
   Answers items levels (Some Len) text next = SpellsLen order as_number items text × (next ≡ items)
   Answers items levels (Some Levels) text next = (text ≡ levels_text levels) × (next ≡ items)
   Answers items levels (Some Save) text next = SpellsSaved shape items text × (next ≡ items)
-  Answers items levels (Some (Run command)) text next = (reply : Reply K ℤ ℤ) × IsStep order int_eq IsAnswerOf items command reply next × SpellsReply order as_number reply text
+  Answers items levels (Some (Run command)) text next =
+      (reply : Reply K ℤ ℤ) × IsStep order int_eq IsAnswerOf items command reply next
+      × SpellsReply order as_number reply text
 
   -- the text that may answer a line: one that loads a text, or any other
-  abbrev pub AnswersLine : List (Item (AnyRange K) ℤ) → ℕ → List ℕ → List ℕ → List (Item (AnyRange K) ℤ) → Type 0
+  abbrev pub AnswersLine : List (Item (AnyRange K) ℤ) → ℕ → List ℕ → List ℕ
+      → List (Item (AnyRange K) ℤ) → Type 0
   AnswersLine items levels line text next =
-      ((json : List ℕ) × (line ≡ load_line json) × AnswersLoad order reads is_read items json text next)
+      ((json : List ℕ) × (line ≡ load_line json)
+      × AnswersLoad order reads is_read items json text next)
       ⊎ (((json : List ℕ) → line ≢ load_line json)
-      × (command : Option (CommandLine K)) × IsRead line command × Answers items levels command text next)
+      × (command : Option (CommandLine K)) × IsRead line command
+      × Answers items levels command text next)
 
-  -- the text that may answer the lines of the input before the rest of it, over the stored list: one answer for each line, in order; each line is text, and the tree may have so many levels
+  -- the text that may answer the lines of the input before the rest of it, over the stored list:
+  -- one answer for each line, in order; each line is text, and the tree may have so many levels
   pub data Conversation : List (Item (AnyRange K) ℤ) → List ℕ → List ℕ → List ℕ → Type 0 where
-    Ended : (items : List (Item (AnyRange K) ℤ)) (input : List ℕ) → Conversation items input [] input
-    Answered : (items next : List (Item (AnyRange K) ℤ)) (levels : ℕ) (input text answer more rest : List ℕ)
-        → input ≢ [] → IsUtf8 (first_line input) → HasLevels (length items) levels → AnswersLine items levels (first_line input) answer next → Conversation next (drop_through 10 input) more rest → text ≡ answer ++ more
+    Ended : (items : List (Item (AnyRange K) ℤ)) (input : List ℕ)
+        → Conversation items input [] input
+    Answered : (items next : List (Item (AnyRange K) ℤ)) (levels : ℕ)
+        (input text answer more rest : List ℕ)
+        → input ≢ [] → IsUtf8 (first_line input) → HasLevels (length items) levels
+        → AnswersLine items levels (first_line input) answer next
+        → Conversation next (drop_through 10 input) more rest → text ≡ answer ++ more
         → Conversation items input text rest

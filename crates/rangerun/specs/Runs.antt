@@ -27,27 +27,47 @@ pub record Commands (K : Type 0) : Type 0 where
 abbrev pub no_commands : {K : Type 0} → List (Item (AnyRange K) ℤ) → Commands K
 no_commands items = record { first = items; commands = []; replies = [] }
 
--- the commands are one run to the list, so that it binds each key as the last unrefused one on the key says
-pub record AreOneRun {K : Type 0} (order : KeyOrder K) (done : Commands K) (last : List (Item (AnyRange K) ℤ)) : Type 0 where
+-- the commands are one run to the list, so that it binds each key as the last unrefused one on the
+-- key says
+pub record AreOneRun {K : Type 0} (order : KeyOrder K) (done : Commands K)
+    (last : List (Item (AnyRange K) ℤ)) : Type 0 where
   pub chain : IsRun order int_eq IsAnswerOf done.first done.commands done.replies last
   pub history : (k : K) → order.is_key k → (b : Option ℤ) → Binds order int_eq last k b
-      → BindOver order int_eq IsAnswerOf k (λ u. Binds order int_eq done.first k u) done.commands done.replies b
+      → BindOver order int_eq IsAnswerOf k
+      (λ u. Binds order int_eq done.first k u) done.commands done.replies b
 
--- of keys, each with its number, with the JSON value that it is written as, and with those that it is read of
-module _ {K : Type 0} (order : KeyOrder K) (as_number : K → ℤ) (shape : K → Data) (reads : Data → Bool) (is_read : Data → K → Type 0) where
+-- of keys, each with its number, with the JSON value that it is written as, and with those that it
+-- is read of
+module _ {K : Type 0} (order : KeyOrder K) (as_number : K → ℤ) (shape : K → Data)
+    (reads : Data → Bool) (is_read : Data → K → Type 0) where
   -- the commands up to a line and that of the line; none yet where the line loads a list
-  abbrev pub with_line : Commands K → (items : List (Item (AnyRange K) ℤ)) (levels : ℕ) (line answer : List ℕ) (next : List (Item (AnyRange K) ℤ)) → AnswersLine order as_number shape reads is_read items levels line answer next → Commands K
+  abbrev pub with_line : Commands K
+      → (items : List (Item (AnyRange K) ℤ)) (levels : ℕ) (line answer : List ℕ)
+      (next : List (Item (AnyRange K) ℤ))
+      → AnswersLine order as_number shape reads is_read items levels line answer next → Commands K
   with_line done items levels line answer next (inl (json, is, inl loaded)) = no_commands next
-  with_line done items levels line answer next (inr (none, Some (Run command), read, (reply, step, text_is))) =
-      record { first = done.first; commands = done.commands ++ command ∷ []; replies = done.replies ++ reply ∷ [] }
+  with_line done items levels line answer next
+      (inr (none, Some (Run command), read, (reply, step, text_is))) =
+      record {
+        first = done.first;
+        commands = done.commands ++ command ∷ [];
+        replies = done.replies ++ reply ∷ [];
+      }
   with_line done items levels line answer next other = done
 
   -- before each line and at the end the commands so far, since a list was loaded, are one run
-  abbrev pub AreRuns : Commands K → (items : List (Item (AnyRange K) ℤ)) (input text rest : List ℕ) → Conversation order as_number shape reads is_read items input text rest → Type 0
+  abbrev pub AreRuns : Commands K → (items : List (Item (AnyRange K) ℤ)) (input text rest : List ℕ)
+      → Conversation order as_number shape reads is_read items input text rest → Type 0
   AreRuns done items input text rest (Ended _ _) = AreOneRun order done items
-  AreRuns done items input text rest (Answered _ next levels _ _ answer more _ some is_text may_have said talk is) =
-      AreOneRun order done items × AreRuns (with_line done items levels (first_line input) answer next said) next (drop_through 10 input) more rest talk
+  AreRuns done items input text rest
+      (Answered _ next levels _ _ answer more _ some is_text may_have said talk is) =
+      AreOneRun order done items
+      × AreRuns (with_line done items levels (first_line input) answer next said) next
+      (drop_through 10 input) more rest talk
 
-  -- the text may answer the lines of the input before the rest of it, over an empty map, and the commands among them are runs
+  -- the text may answer the lines of the input before the rest of it, over an empty map, and the
+  -- commands among them are runs
   abbrev pub AnswersRuns : List ℕ → List ℕ → List ℕ → Type 0
-  AnswersRuns input text rest = (talk : Conversation order as_number shape reads is_read [] input text rest) × AreRuns (no_commands []) [] input text rest talk
+  AnswersRuns input text rest =
+      (talk : Conversation order as_number shape reads is_read [] input text rest)
+      × AreRuns (no_commands []) [] input text rest talk

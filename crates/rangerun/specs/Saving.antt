@@ -22,7 +22,8 @@ load_line json = codes "load" ++ 32 ∷ json
 
 -- the line of a fault of the element at a place
 abbrev pub element_fault_text : ℕ → ℕ → List ℕ
-element_fault_text number i = codes "json " ++ decimal number ++ codes " " ++ decimal i ++ codes "\n"
+element_fault_text number i =
+    codes "json " ++ decimal number ++ codes " " ++ decimal i ++ codes "\n"
 
 -- the line of a fault: its number, and the place of its element
 abbrev pub fault_text : JsonError → List ℕ
@@ -52,23 +53,27 @@ integer_has_no_float (negsuc n) = refl
 -- the map as one line of JSON text, or no memory for it
 abbrev pub SpellsSaved : {K : Type 0} → (K → Data) → List (Item (AnyRange K) ℤ) → List ℕ → Type 0
 SpellsSaved shape items text =
-    (text ≡ compact_text (map_shape shape signed_shape items) ++ codes "\n") ⊎ (text ≡ codes "memory\n")
+    (text ≡ compact_text (map_shape shape signed_shape items) ++ codes "\n") ⊎
+    (text ≡ codes "memory\n")
 
 -- of keys, each with the JSON values that it is read of
 module _ {K : Type 0} (order : KeyOrder K) (reads : Data → Bool) (is_read : Data → K → Type 0) where
   -- the text has a JSON value, and the list is what it is read as
   abbrev pub IsLoaded : List ℕ → List (Item (AnyRange K) ℤ) → Type 0
   IsLoaded json items = (d : Data) × (read json ≡ Some d)
-      × IsMapRead order reads (λ v. is_some (signed_of 9223372036854775807 v)) is_read IsValueRead int_eq d items
+      × IsMapRead order reads (λ v. is_some (signed_of 9223372036854775807 v)) is_read IsValueRead
+      int_eq d items
       × IsStored order int_eq items
 
   -- the text has no JSON value, or this is the first fault of its value, or there is no memory
   abbrev pub IsCause : List ℕ → LoadError → Type 0
   IsCause json NotJson = read json ≡ None
   IsCause json (Faulty fault) = (fault ≡ Memory) ⊎ ((d : Data) × (read json ≡ Some d)
-      × IsMapFault order reads (λ v. is_some (signed_of 9223372036854775807 v)) is_read IsValueRead d fault)
+      × IsMapFault order reads
+      (λ v. is_some (signed_of 9223372036854775807 v)) is_read IsValueRead d fault)
 
   -- what loading a text answers, and the list that is stored then
-  abbrev pub AnswersLoad : List (Item (AnyRange K) ℤ) → List ℕ → List ℕ → List (Item (AnyRange K) ℤ) → Type 0
+  abbrev pub AnswersLoad : List (Item (AnyRange K) ℤ) → List ℕ → List ℕ → List (Item (AnyRange K) ℤ)
+      → Type 0
   AnswersLoad items json text next = ((text ≡ codes "ok\n") × IsLoaded json next)
       ⊎ ((cause : LoadError) × IsCause json cause × (text ≡ cause_text cause) × (next ≡ items))

@@ -13,7 +13,8 @@ distance-requires-in-Included-Excluded g c =
     let b = c.get-in-Included-Excluded.result.now in
     let start : bound_map key_value c.args.start.now ≡ Included a = search rules in
     let end : bound_map key_value c.args.end.now ≡ Excluded b = search rules in
-    ap is_gt (included_excluded g.T.MaybeBounded.order g.met.T.PartialEnum.lawful _ _ a b start end c.requires.nonempty)
+    ap is_gt (included_excluded g.T.MaybeBounded.order g.met.T.PartialEnum.lawful _ _ a b start end
+    c.requires.nonempty)
 
 pub distance-requires-in-Excluded-Included : goal.distance-requires-in-Excluded-Included
 distance-requires-in-Excluded-Included g c =
@@ -21,7 +22,8 @@ distance-requires-in-Excluded-Included g c =
     let b = c.get-b-in-Excluded-Included.result.now in
     let start : bound_map key_value c.args.start.now ≡ Excluded a = search rules in
     let end : bound_map key_value c.args.end.now ≡ Included b = search rules in
-    ap is_gt (excluded_included g.T.MaybeBounded.order g.met.T.PartialEnum.lawful _ _ a b start end c.requires.nonempty)
+    ap is_gt (excluded_included g.T.MaybeBounded.order g.met.T.PartialEnum.lawful _ _ a b start end
+    c.requires.nonempty)
 
 pub overflow_sub-result : goal.overflow_sub-result
 overflow_sub-result g c =
@@ -32,7 +34,9 @@ overflow_sub-result g c =
     let end : bound_map key_value c.args.end.now ≡ Included b = search rules in
     let low = subst (IsKnownBound order) start c.requires.known_start in
     let high = subst (IsKnownBound order) end c.requires.known_end in
-    let below = excluded_included order g.met.T.PartialEnum.lawful _ _ a b start end c.requires.nonempty in
+    let below =
+    excluded_included order g.met.T.PartialEnum.lawful _ _ a b start end c.requires.nonempty
+    in
     omega (arith, g.met.T.Measure.measured.at_least a b low high below)
 
 pub overflow_add-result-in-Excluded-Included : goal.overflow_add-result-in-Excluded-Included
@@ -44,7 +48,9 @@ overflow_add-result-in-Excluded-Included g c =
     let end : bound_map key_value c.args.end.now ≡ Included b = search rules in
     let low = subst (IsKnownBound order) start c.requires.known_start in
     let high = subst (IsKnownBound order) end c.requires.known_end in
-    let below = excluded_included order g.met.T.PartialEnum.lawful _ _ a b start end c.requires.nonempty in
+    let below =
+    excluded_included order g.met.T.PartialEnum.lawful _ _ a b start end c.requires.nonempty
+    in
     omega (arith, g.met.T.Measure.measured.fits a b low high (ap is_gt below))
 
 pub distance-requires-in-Excluded-Excluded : goal.distance-requires-in-Excluded-Excluded
@@ -53,7 +59,8 @@ distance-requires-in-Excluded-Excluded g c =
     let b = c.get-b-in-Excluded-Excluded.result.now in
     let start : bound_map key_value c.args.start.now ≡ Excluded a = search rules in
     let end : bound_map key_value c.args.end.now ≡ Excluded b = search rules in
-    ap is_gt (excluded_excluded g.T.MaybeBounded.order g.met.T.PartialEnum.lawful _ _ a b start end c.requires.nonempty)
+    ap is_gt (excluded_excluded g.T.MaybeBounded.order g.met.T.PartialEnum.lawful _ _ a b start end
+    c.requires.nonempty)
 
 pub overflow_sub-result-in-Excluded-Excluded : goal.overflow_sub-result-in-Excluded-Excluded
 overflow_sub-result-in-Excluded-Excluded g c =
@@ -64,7 +71,9 @@ overflow_sub-result-in-Excluded-Excluded g c =
     let end : bound_map key_value c.args.end.now ≡ Excluded b = search rules in
     let low = subst (IsKnownBound order) start c.requires.known_start in
     let high = subst (IsKnownBound order) end c.requires.known_end in
-    let below = excluded_excluded order g.met.T.PartialEnum.lawful _ _ a b start end c.requires.nonempty in
+    let below =
+    excluded_excluded order g.met.T.PartialEnum.lawful _ _ a b start end c.requires.nonempty
+    in
     omega (arith, g.met.T.Measure.measured.at_least a b low high below)
 
 pub returns-in-Included-Included : goal.returns-in-Included-Included

@@ -8,6 +8,9 @@ abbrev pub invariant-loop-command : goal.invariant-loop-command
 invariant-loop-command g l =
     record {
       left : l.yielded ++ l.command-iterator.rest.items ≡ l.fn.commands.items;
-      chain : IsCountedRun g.K.MaybeBounded.order g.V.PartialEq.eq (MayAnswerTo g.F.Fn l.f) (λ s. g.C.Storage.items s) (λ s. least_if l.fn.is_counted (g.C.Storage.least_asks s)) (λ s. g.C.Storage.most_asks s) l.fn.map l.yielded l.replies.items l.map l.fn.steps l.steps;
+      chain : IsCountedRun g.K.MaybeBounded.order g.V.PartialEq.eq (MayAnswerTo g.F.Fn l.f)
+          (λ s. g.C.Storage.items s) (λ s. least_if l.fn.is_counted (g.C.Storage.least_asks s))
+          (λ s. g.C.Storage.most_asks s) l.fn.map l.yielded l.replies.items l.map l.fn.steps
+          l.steps;
       space : vec_len l.replies + length l.command-iterator.rest.items ≤ vec_capacity l.replies;
     }

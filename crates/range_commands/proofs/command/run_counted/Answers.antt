@@ -9,27 +9,43 @@ use Rattle.range_commands.proofs.command.run_counted.Goals as goal
 
 pub returns-clause-chain : goal.returns-clause-chain
 returns-clause-chain g c =
-    if_ok_then c.run_by.result c.run_by.ensures.run (λ replies run. uncounted g.K.MaybeBounded.order g.V.PartialEq.eq (MayAnswerTo g.F.Fn c.args.f.now) _ _ _ c.args.map.now c.run_by.new.map c.args.commands.items replies.items _ _ run)
+    if_ok_then c.run_by.result c.run_by.ensures.run
+    (λ replies run. uncounted g.K.MaybeBounded.order g.V.PartialEq.eq
+    (MayAnswerTo g.F.Fn c.args.f.now) _ _ _ c.args.map.now c.run_by.new.map
+    c.args.commands.items replies.items _ _ run)
 
 pub returns-clause-history : goal.returns-clause-history
 returns-clause-history g c =
     let order = g.K.MaybeBounded.order in
     let items = box_items c.args.map.now in
     if_ok_then c.run_by.result (returns-clause-chain g c) (λ replies run k key b h.
-    last_command_decides order g.met.K.PartialEnum.lawful g.V.PartialEq.eq g.met.V.Eq.laws (MayAnswerTo g.F.Fn c.args.f.now) k key items (box_items c.run_by.new.map) c.args.commands.items replies.items run b h)
+    last_command_decides order g.met.K.PartialEnum.lawful g.V.PartialEq.eq g.met.V.Eq.laws
+    (MayAnswerTo g.F.Fn c.args.f.now) k key items
+    (box_items c.run_by.new.map) c.args.commands.items replies.items run b h)
 
 pub returns-clause-few : goal.returns-clause-few
 returns-clause-few g c = λ none.
-    few_after g.K.MaybeBounded.order g.V.PartialEq.eq (MayAnswerTo g.F.Fn c.args.f.now) (λ replies. replies.items) (box_items c.args.map.now) (box_items c.run_by.new.map) c.args.commands.items c.run_by.result (returns-clause-chain g c) c.run_by.ensures.refused none
+    few_after g.K.MaybeBounded.order g.V.PartialEq.eq (MayAnswerTo g.F.Fn c.args.f.now)
+    (λ replies. replies.items) (box_items c.args.map.now)
+    (box_items c.run_by.new.map) c.args.commands.items c.run_by.result
+    (returns-clause-chain g c) c.run_by.ensures.refused none
 
 pub returns-clause-most : goal.returns-clause-most
 returns-clause-most g c =
     if_ok_then c.run_by.result c.run_by.ensures.run (λ replies run none memory.
     let many = length (box_items c.args.map.now) + 2 * length c.args.commands.items in
     let level = greatest_level (many + 1) in
-    let all = run_most g.K.MaybeBounded.order g.V.PartialEq.eq (MayAnswerTo g.F.Fn c.args.f.now) _ _ _ level many (few_asks many level (greatest_level_is (many + 1))) c.args.map.now c.run_by.new.map c.args.commands.items replies.items c.args.steps.now c.run_by.new.steps (omega arith) none memory run in
+    let all =
+    run_most g.K.MaybeBounded.order g.V.PartialEq.eq
+    (MayAnswerTo g.F.Fn c.args.f.now) _ _ _ level many
+    (few_asks many level (greatest_level_is (many + 1))) c.args.map.now c.run_by.new.map
+    c.args.commands.items replies.items c.args.steps.now c.run_by.new.steps
+    (omega arith) none memory run in
     omega (arith, all))
 
 pub returns-clause-least : goal.returns-clause-least
 returns-clause-least g c =
-    if_ok_then c.run_by.result c.run_by.ensures.run (λ replies run. run_least g.K.MaybeBounded.order g.V.PartialEq.eq (MayAnswerTo g.F.Fn c.args.f.now) _ _ _ some_asks c.args.map.now c.run_by.new.map c.args.commands.items replies.items c.args.steps.now c.run_by.new.steps run)
+    if_ok_then c.run_by.result c.run_by.ensures.run
+    (λ replies run. run_least g.K.MaybeBounded.order g.V.PartialEq.eq
+    (MayAnswerTo g.F.Fn c.args.f.now) _ _ _ some_asks c.args.map.now c.run_by.new.map
+    c.args.commands.items replies.items c.args.steps.now c.run_by.new.steps run)

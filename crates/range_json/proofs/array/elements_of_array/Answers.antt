@@ -5,4 +5,5 @@ use Rattle.range_json.proofs.array.elements_of_array.Goals as goal
 
 pub returns-in-Some-clause-found : goal.returns-in-Some-clause-found
 returns-in-Some-clause-found c =
-    array_has_elements (view c.args.value.now) c.as_slice.result.now (sym c.in-Some.ensures ∙ ap (λ l. Some (items_view l)) (sym c.as_slice.ensures.value))
+    array_has_elements (view c.args.value.now) c.as_slice.result.now
+    (sym c.in-Some.ensures ∙ ap (λ l. Some (items_view l)) (sym c.as_slice.ensures.value))

@@ -11,7 +11,9 @@ use Rattle.range_json.proofs.map.map_from_json.Goals as goal
 pub loop-index-init : goal.loop-index-init
 loop-index-init g c =
     let items = g.C.Storage.items c.new-map.result in
-    map_begun g.K.MaybeBounded.order g.K.Json.reads g.V.Json.reads g.K.Json.is_read g.V.Json.is_read g.V.PartialEq.eq items c.new-map.ensures (none_stored g.K.MaybeBounded.order g.V.PartialEq.eq items c.new-map.ensures)
+    map_begun g.K.MaybeBounded.order g.K.Json.reads g.V.Json.reads g.K.Json.is_read g.V.Json.is_read
+    g.V.PartialEq.eq items c.new-map.ensures
+    (none_stored g.K.MaybeBounded.order g.V.PartialEq.eq items c.new-map.ensures)
 
 pub loop-index-preserved : goal.loop-index-preserved
 loop-index-preserved g c =
@@ -20,11 +22,15 @@ loop-index-preserved g c =
     let v = c.index-elements-index.result in
     let items = g.C.Storage.items in
     let x = c.in_ok-element_from_json.field-0 in
-    let within : n < length vs = omega (arith, c.loop-index-test.true, c.loop-index.auto.index-end) in
-    let more : take (n + 1) vs ≡ take n vs ++ v ∷ [] = take_more vs n v within ∙ ap (λ w. take n vs ++ w ∷ []) (sym c.index-elements-index.is) in
+    let within : n < length vs =
+    omega (arith, c.loop-index-test.true, c.loop-index.auto.index-end) in
+    let more : take (n + 1) vs ≡ take n vs ++ v ∷ [] =
+    take_more vs n v within
+    ∙ ap (λ w. take n vs ++ w ∷ []) (sym c.index-elements-index.is) in
     let size : length (take n vs) ≡ n = length-take-le n vs (omega (arith, within)) in
     let done = c.in_ok-insert_element.ensures in
-    let put : IsPut g.K.MaybeBounded.order g.V.PartialEq.eq (items c.loop-index.map) (items c.insert_element.new.map) x = record {
+    let put : IsPut g.K.MaybeBounded.order g.V.PartialEq.eq (items c.loop-index.map)
+    (items c.insert_element.new.map) x = record {
       known = done.known;
       apart = done.apart;
       bound = done.bound;
@@ -32,23 +38,44 @@ loop-index-preserved g c =
       frame = done.frame;
       unchanged = done.empty_unchanged;
     } in
-    rw more (map_more g.K.MaybeBounded.order g.K.Json.reads g.V.Json.reads g.K.Json.is_read g.V.Json.is_read g.V.PartialEq.eq g.met.K.PartialEnum.lawful g.met.V.Eq.laws (take n vs) v (items c.loop-index.map) (items c.insert_element.new.map) x c.loop-index.invariant (rw size c.in_ok-element_from_json.ensures.sound) c.in_ok-element_from_json.ensures.read put c.insert_element.ensures.form)
+    rw more (map_more g.K.MaybeBounded.order g.K.Json.reads g.V.Json.reads g.K.Json.is_read
+    g.V.Json.is_read g.V.PartialEq.eq g.met.K.PartialEnum.lawful g.met.V.Eq.laws (take n vs) v
+    (items c.loop-index.map) (items c.insert_element.new.map) x c.loop-index.invariant
+    (rw size c.in_ok-element_from_json.ensures.sound) c.in_ok-element_from_json.ensures.read put
+    c.insert_element.ensures.form)
 
-pub returns-in_err-element_from_json-clause-fault : goal.returns-in_err-element_from_json-clause-fault
+pub returns-in_err-element_from_json-clause-fault :
+    goal.returns-in_err-element_from_json-clause-fault
 returns-in_err-element_from_json-clause-fault g c =
     let order = g.K.MaybeBounded.order in
     let vs = c.in_ok-elements.elements.now in
     let n = c.loop-index.index in
     let v = c.index-elements-index.result in
-    let within : n < length vs = omega (arith, c.loop-index-test.true, c.loop-index.auto.index-end) in
-    let more : take (n + 1) vs ≡ take n vs ++ v ∷ [] = take_more vs n v within ∙ ap (λ w. take n vs ++ w ∷ []) (sym c.index-elements-index.is) in
+    let within : n < length vs =
+    omega (arith, c.loop-index-test.true, c.loop-index.auto.index-end) in
+    let more : take (n + 1) vs ≡ take n vs ++ v ∷ [] =
+    take_more vs n v within
+    ∙ ap (λ w. take n vs ++ w ∷ []) (sym c.index-elements-index.is) in
     let size : length (take n vs) ≡ n = length-take-le n vs (omega (arith, within)) in
     let rest = drop (n + 1) vs in
-    let all : take n vs ++ v ∷ rest ≡ vs = sym (append_one_more (take n vs) v rest) ∙ ap (λ l. l ++ rest) (sym more) ∙ take-append-drop (n + 1) vs in
+    let all : take n vs ++ v ∷ rest ≡ vs =
+    sym (append_one_more (take n vs) v rest) ∙ ap (λ l. l ++ rest) (sym more)
+    ∙ take-append-drop (n + 1) vs in
     let e = c.in_err-element_from_json.field-0.0 in
-    let told : (e ≡ Memory) ⊎ IsMapFault order g.K.Json.reads g.V.Json.reads g.K.Json.is_read g.V.Json.is_read (view c.args.value.now) e = elim c.in_err-element_from_json.ensures.fault [
+    let told : (e ≡ Memory) ⊎ IsMapFault order g.K.Json.reads g.V.Json.reads g.K.Json.is_read
+    g.V.Json.is_read (view c.args.value.now) e =
+    elim c.in_err-element_from_json.ensures.fault [
       | inl memory ↦ inl memory
-      | inr at ↦ inr (subst (λ w. IsFaultOf order g.K.Json.reads g.V.Json.reads g.K.Json.is_read g.V.Json.is_read w e) (sym c.in_ok-elements.ensures.found) (subst (λ l. IsFirstFault order g.K.Json.reads g.V.Json.reads g.K.Json.is_read g.V.Json.is_read (map view l) e) all (map_fails order g.K.Json.reads g.V.Json.reads g.K.Json.is_read g.V.Json.is_read g.V.PartialEq.eq (take n vs) rest v e (g.C.Storage.items c.loop-index.map) c.loop-index.invariant (rw size at))))
+      | inr at ↦
+          inr
+          (subst (λ w.
+          IsFaultOf order g.K.Json.reads g.V.Json.reads g.K.Json.is_read g.V.Json.is_read w e)
+          (sym c.in_ok-elements.ensures.found)
+          (subst (λ l.
+          IsFirstFault order g.K.Json.reads g.V.Json.reads g.K.Json.is_read g.V.Json.is_read
+          (map view l) e) all (map_fails order g.K.Json.reads g.V.Json.reads g.K.Json.is_read
+          g.V.Json.is_read g.V.PartialEq.eq (take n vs) rest v e
+          (g.C.Storage.items c.loop-index.map) c.loop-index.invariant (rw size at))))
     ] in
     search (rules, told)
 
@@ -58,15 +85,35 @@ returns-in_err-insert_element-clause-fault g c =
     let vs = c.in_ok-elements.elements.now in
     let n = c.loop-index.index in
     let v = c.index-elements-index.result in
-    let within : n < length vs = omega (arith, c.loop-index-test.true, c.loop-index.auto.index-end) in
-    let more : take (n + 1) vs ≡ take n vs ++ v ∷ [] = take_more vs n v within ∙ ap (λ w. take n vs ++ w ∷ []) (sym c.index-elements-index.is) in
+    let within : n < length vs =
+    omega (arith, c.loop-index-test.true, c.loop-index.auto.index-end) in
+    let more : take (n + 1) vs ≡ take n vs ++ v ∷ [] =
+    take_more vs n v within
+    ∙ ap (λ w. take n vs ++ w ∷ []) (sym c.index-elements-index.is) in
     let size : length (take n vs) ≡ n = length-take-le n vs (omega (arith, within)) in
     let rest = drop (n + 1) vs in
-    let all : take n vs ++ v ∷ rest ≡ vs = sym (append_one_more (take n vs) v rest) ∙ ap (λ l. l ++ rest) (sym more) ∙ take-append-drop (n + 1) vs in
+    let all : take n vs ++ v ∷ rest ≡ vs =
+    sym (append_one_more (take n vs) v rest) ∙ ap (λ l. l ++ rest) (sym more)
+    ∙ take-append-drop (n + 1) vs in
     let e = c.in_err-insert_element.field-0.0 in
-    let told : (e ≡ Memory) ⊎ IsMapFault order g.K.Json.reads g.V.Json.reads g.K.Json.is_read g.V.Json.is_read (view c.args.value.now) e = elim c.in_err-insert_element.ensures.met [
+    let told : (e ≡ Memory) ⊎ IsMapFault order g.K.Json.reads g.V.Json.reads g.K.Json.is_read
+    g.V.Json.is_read (view c.args.value.now) e = elim c.in_err-insert_element.ensures.met [
       | inl memory ↦ inl memory
-      | inr at ↦ inr (subst (λ w. IsFaultOf order g.K.Json.reads g.V.Json.reads g.K.Json.is_read g.V.Json.is_read w e) (sym c.in_ok-elements.ensures.found) (subst (λ l. IsFirstFault order g.K.Json.reads g.V.Json.reads g.K.Json.is_read g.V.Json.is_read (map view l) e) all (subst (λ f. IsFirstFault order g.K.Json.reads g.V.Json.reads g.K.Json.is_read g.V.Json.is_read (map view (take n vs ++ v ∷ rest)) f) (ap Meets size ∙ sym at.0) (map_meets order g.K.Json.reads g.V.Json.reads g.K.Json.is_read g.V.Json.is_read g.V.PartialEq.eq (take n vs) rest v (g.C.Storage.items c.loop-index.map) c.in_ok-element_from_json.field-0 c.loop-index.invariant (rw size c.in_ok-element_from_json.ensures.sound) c.in_ok-element_from_json.ensures.read c.insert_element.ensures.known (at.1, at.2)))))
+      | inr at ↦
+          inr
+          (subst (λ w.
+          IsFaultOf order g.K.Json.reads g.V.Json.reads g.K.Json.is_read g.V.Json.is_read w e)
+          (sym c.in_ok-elements.ensures.found)
+          (subst (λ l.
+          IsFirstFault order g.K.Json.reads g.V.Json.reads g.K.Json.is_read g.V.Json.is_read
+          (map view l) e) all (subst
+          (λ f. IsFirstFault order g.K.Json.reads g.V.Json.reads g.K.Json.is_read g.V.Json.is_read
+          (map view (take n vs ++ v ∷ rest)) f) (ap Meets size ∙ sym at.0)
+          (map_meets order g.K.Json.reads g.V.Json.reads g.K.Json.is_read g.V.Json.is_read
+          g.V.PartialEq.eq (take n vs) rest v
+          (g.C.Storage.items c.loop-index.map) c.in_ok-element_from_json.field-0
+          c.loop-index.invariant (rw size c.in_ok-element_from_json.ensures.sound)
+          c.in_ok-element_from_json.ensures.read c.insert_element.ensures.known (at.1, at.2)))))
     ] in
     search (rules, told)
 
@@ -74,9 +121,14 @@ pub returns-clause-read : goal.returns-clause-read
 returns-clause-read g c =
     let vs = c.in_ok-elements.elements.now in
     let n = c.loop-index.index in
-    let full : n ≡ length vs = omega (arith, c.loop-index-test.false, c.loop-index.auto.index-end) in
+    let full : n ≡ length vs =
+    omega (arith, c.loop-index-test.false, c.loop-index.auto.index-end) in
     let all : take n vs ≡ vs = ap (λ i. take i vs) full ∙ take-length vs in
-    let whole = subst (λ l. IsMapSoFar g.K.MaybeBounded.order g.K.Json.reads g.V.Json.reads g.K.Json.is_read g.V.Json.is_read g.V.PartialEq.eq l (g.C.Storage.items c.loop-index.map)) all c.loop-index.invariant in
+    let whole =
+    subst (λ l.
+    IsMapSoFar g.K.MaybeBounded.order g.K.Json.reads g.V.Json.reads g.K.Json.is_read
+    g.V.Json.is_read g.V.PartialEq.eq l (g.C.Storage.items c.loop-index.map)) all
+    c.loop-index.invariant in
     record {
       ds = map view vs;
       elements = whole.earlier;

@@ -6,8 +6,10 @@ use Rattle.range_json.proofs.map.map_to_json.Given as goal
 
 abbrev pub invariant-loop-range : goal.invariant-loop-range
 invariant-loop-range g l = record {
-  written : HasWritten (λ i. pair_shape (range_shape g.K.Json.shape i.key) (g.V.Json.shape i.value)) (g.C.Storage.items l.map) l.items l.written.items;
-  values : AreValuesSoFar (λ i. IsRangeValue g.K.Json.is_value i.key × g.V.Json.is_value i.value) (g.C.Storage.items l.map) l.items;
+  written : HasWritten (λ i. pair_shape (range_shape g.K.Json.shape i.key) (g.V.Json.shape i.value))
+      (g.C.Storage.items l.map) l.items l.written.items;
+  values : AreValuesSoFar (λ i. IsRangeValue g.K.Json.is_value i.key × g.V.Json.is_value i.value)
+      (g.C.Storage.items l.map) l.items;
 }
 
 abbrev pub decreases-loop-range : goal.decreases-loop-range

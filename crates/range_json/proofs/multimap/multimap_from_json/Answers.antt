@@ -16,7 +16,12 @@ use Rattle.range_json.proofs.multimap.multimap_from_json.Goals as goal
 pub loop-index-init : goal.loop-index-init
 loop-index-init g c =
     let items = g.C.Storage.items c.new-multimap.result in
-    map_begun g.K.MaybeBounded.order g.K.Json.reads (reads_some_values g.V.Json.reads) g.K.Json.is_read (AreValuesRead g.V.Ord.cmp g.V.Json.is_read) (same_values g.V.PartialEq.eq) items c.new-multimap.ensures (none_stored g.K.MaybeBounded.order (same_values g.V.PartialEq.eq) items c.new-multimap.ensures)
+    map_begun g.K.MaybeBounded.order g.K.Json.reads
+    (reads_some_values g.V.Json.reads) g.K.Json.is_read
+    (AreValuesRead g.V.Ord.cmp g.V.Json.is_read)
+    (same_values g.V.PartialEq.eq) items c.new-multimap.ensures
+    (none_stored g.K.MaybeBounded.order
+    (same_values g.V.PartialEq.eq) items c.new-multimap.ensures)
 
 pub loop-index-preserved : goal.loop-index-preserved
 loop-index-preserved g c =
@@ -25,11 +30,15 @@ loop-index-preserved g c =
     let v = c.index-elements-index.result in
     let items = g.C.Storage.items in
     let x = c.in_ok-element_with_values.field-0 in
-    let within : n < length vs = omega (arith, c.loop-index-test.true, c.loop-index.auto.index-end) in
-    let more : take (n + 1) vs ≡ take n vs ++ v ∷ [] = take_more vs n v within ∙ ap (λ w. take n vs ++ w ∷ []) (sym c.index-elements-index.is) in
+    let within : n < length vs =
+    omega (arith, c.loop-index-test.true, c.loop-index.auto.index-end) in
+    let more : take (n + 1) vs ≡ take n vs ++ v ∷ [] =
+    take_more vs n v within
+    ∙ ap (λ w. take n vs ++ w ∷ []) (sym c.index-elements-index.is) in
     let size : length (take n vs) ≡ n = length-take-le n vs (omega (arith, within)) in
     let done = c.in_ok-insert_values.ensures in
-    let put : IsPut g.K.MaybeBounded.order (same_values g.V.PartialEq.eq) (items c.loop-index.multimap) (items c.insert_values.new.multimap) x = record {
+    let put : IsPut g.K.MaybeBounded.order (same_values g.V.PartialEq.eq)
+    (items c.loop-index.multimap) (items c.insert_values.new.multimap) x = record {
       known = done.known;
       apart = done.apart;
       bound = done.bound;
@@ -37,26 +46,55 @@ loop-index-preserved g c =
       frame = done.frame;
       unchanged = done.empty_unchanged;
     } in
-    rw more (map_more g.K.MaybeBounded.order g.K.Json.reads (reads_some_values g.V.Json.reads) g.K.Json.is_read (AreValuesRead g.V.Ord.cmp g.V.Json.is_read) (same_values g.V.PartialEq.eq) g.met.K.PartialEnum.lawful (on_equiv (λ s. s.keys) (lists_equiv g.met.V.Eq.laws)) (take n vs) v (items c.loop-index.multimap) (items c.insert_values.new.multimap) x c.loop-index.invariant (rw size c.in_ok-element_with_values.ensures.sound) c.in_ok-element_with_values.ensures.read put c.insert_values.ensures.form)
+    rw more (map_more g.K.MaybeBounded.order g.K.Json.reads
+    (reads_some_values g.V.Json.reads) g.K.Json.is_read
+    (AreValuesRead g.V.Ord.cmp g.V.Json.is_read)
+    (same_values g.V.PartialEq.eq) g.met.K.PartialEnum.lawful
+    (on_equiv (λ s. s.keys) (lists_equiv g.met.V.Eq.laws)) (take n vs) v
+    (items c.loop-index.multimap) (items c.insert_values.new.multimap) x c.loop-index.invariant
+    (rw size c.in_ok-element_with_values.ensures.sound) c.in_ok-element_with_values.ensures.read
+    put c.insert_values.ensures.form)
 
-pub returns-in_err-element_with_values-clause-fault : goal.returns-in_err-element_with_values-clause-fault
+pub returns-in_err-element_with_values-clause-fault :
+    goal.returns-in_err-element_with_values-clause-fault
 returns-in_err-element_with_values-clause-fault g c =
     let order = g.K.MaybeBounded.order in
     let vs = c.in_ok-elements.elements.now in
     let n = c.loop-index.index in
     let v = c.index-elements-index.result in
-    let within : n < length vs = omega (arith, c.loop-index-test.true, c.loop-index.auto.index-end) in
-    let more : take (n + 1) vs ≡ take n vs ++ v ∷ [] = take_more vs n v within ∙ ap (λ w. take n vs ++ w ∷ []) (sym c.index-elements-index.is) in
+    let within : n < length vs =
+    omega (arith, c.loop-index-test.true, c.loop-index.auto.index-end) in
+    let more : take (n + 1) vs ≡ take n vs ++ v ∷ [] =
+    take_more vs n v within
+    ∙ ap (λ w. take n vs ++ w ∷ []) (sym c.index-elements-index.is) in
     let size : length (take n vs) ≡ n = length-take-le n vs (omega (arith, within)) in
     let rest = drop (n + 1) vs in
-    let all : take n vs ++ v ∷ rest ≡ vs = sym (append_one_more (take n vs) v rest) ∙ ap (λ l. l ++ rest) (sym more) ∙ take-append-drop (n + 1) vs in
+    let all : take n vs ++ v ∷ rest ≡ vs =
+    sym (append_one_more (take n vs) v rest) ∙ ap (λ l. l ++ rest) (sym more)
+    ∙ take-append-drop (n + 1) vs in
     let e = c.in_err-element_with_values.field-0.0 in
-    let told : (e ≡ Memory) ⊎ IsMultimapFault order g.K.Json.reads g.V.Json.reads g.K.Json.is_read g.V.Json.is_read g.V.Ord.cmp (view c.args.value.now) e = elim c.in_err-element_with_values.ensures.fault [
+    let told : (e ≡ Memory) ⊎ IsMultimapFault order g.K.Json.reads g.V.Json.reads g.K.Json.is_read
+    g.V.Json.is_read g.V.Ord.cmp (view c.args.value.now) e =
+    elim c.in_err-element_with_values.ensures.fault [
       | inl memory ↦ inl memory
-      | inr at ↦ inr (subst (λ w. IsFaultOf order g.K.Json.reads (reads_some_values g.V.Json.reads) g.K.Json.is_read (AreValuesRead g.V.Ord.cmp g.V.Json.is_read) w e) (sym c.in_ok-elements.ensures.found) (subst (λ l. IsFirstFault order g.K.Json.reads (reads_some_values g.V.Json.reads) g.K.Json.is_read (AreValuesRead g.V.Ord.cmp g.V.Json.is_read) (map view l) e) all (map_fails order g.K.Json.reads (reads_some_values g.V.Json.reads) g.K.Json.is_read (AreValuesRead g.V.Ord.cmp g.V.Json.is_read) (same_values g.V.PartialEq.eq) (take n vs) rest v e (g.C.Storage.items c.loop-index.multimap) c.loop-index.invariant (rw size at))))
+      | inr at ↦
+          inr
+          (subst (λ w. IsFaultOf order g.K.Json.reads
+          (reads_some_values g.V.Json.reads) g.K.Json.is_read
+          (AreValuesRead g.V.Ord.cmp g.V.Json.is_read) w e) (sym c.in_ok-elements.ensures.found)
+          (subst (λ l. IsFirstFault order g.K.Json.reads
+          (reads_some_values g.V.Json.reads) g.K.Json.is_read
+          (AreValuesRead g.V.Ord.cmp g.V.Json.is_read) (map view l) e) all
+          (map_fails order g.K.Json.reads (reads_some_values g.V.Json.reads) g.K.Json.is_read
+          (AreValuesRead g.V.Ord.cmp g.V.Json.is_read) (same_values g.V.PartialEq.eq)
+          (take n vs) rest v e (g.C.Storage.items c.loop-index.multimap) c.loop-index.invariant
+          (rw size at))))
     ] in
     let is : c.from_residual-in_err-element_with_values.result ≡ Err e = search rules in
-    fails_with (λ f. (f ≡ Memory) ⊎ IsMultimapFault order g.K.Json.reads g.V.Json.reads g.K.Json.is_read g.V.Json.is_read g.V.Ord.cmp (view c.args.value.now) f) c.from_residual-in_err-element_with_values.result e is told
+    fails_with (λ f.
+    (f ≡ Memory) ⊎ IsMultimapFault order g.K.Json.reads g.V.Json.reads g.K.Json.is_read
+    g.V.Json.is_read g.V.Ord.cmp (view c.args.value.now) f)
+    c.from_residual-in_err-element_with_values.result e is told
 
 pub returns-in_err-insert_values-clause-fault : goal.returns-in_err-insert_values-clause-fault
 returns-in_err-insert_values-clause-fault g c =
@@ -64,26 +102,58 @@ returns-in_err-insert_values-clause-fault g c =
     let vs = c.in_ok-elements.elements.now in
     let n = c.loop-index.index in
     let v = c.index-elements-index.result in
-    let within : n < length vs = omega (arith, c.loop-index-test.true, c.loop-index.auto.index-end) in
-    let more : take (n + 1) vs ≡ take n vs ++ v ∷ [] = take_more vs n v within ∙ ap (λ w. take n vs ++ w ∷ []) (sym c.index-elements-index.is) in
+    let within : n < length vs =
+    omega (arith, c.loop-index-test.true, c.loop-index.auto.index-end) in
+    let more : take (n + 1) vs ≡ take n vs ++ v ∷ [] =
+    take_more vs n v within
+    ∙ ap (λ w. take n vs ++ w ∷ []) (sym c.index-elements-index.is) in
     let size : length (take n vs) ≡ n = length-take-le n vs (omega (arith, within)) in
     let rest = drop (n + 1) vs in
-    let all : take n vs ++ v ∷ rest ≡ vs = sym (append_one_more (take n vs) v rest) ∙ ap (λ l. l ++ rest) (sym more) ∙ take-append-drop (n + 1) vs in
+    let all : take n vs ++ v ∷ rest ≡ vs =
+    sym (append_one_more (take n vs) v rest) ∙ ap (λ l. l ++ rest) (sym more)
+    ∙ take-append-drop (n + 1) vs in
     let e = c.in_err-insert_values.field-0.0 in
-    let told : (e ≡ Memory) ⊎ IsMultimapFault order g.K.Json.reads g.V.Json.reads g.K.Json.is_read g.V.Json.is_read g.V.Ord.cmp (view c.args.value.now) e = elim c.in_err-insert_values.ensures.met [
+    let told : (e ≡ Memory) ⊎ IsMultimapFault order g.K.Json.reads g.V.Json.reads g.K.Json.is_read
+    g.V.Json.is_read g.V.Ord.cmp (view c.args.value.now) e =
+    elim c.in_err-insert_values.ensures.met [
       | inl memory ↦ inl memory
-      | inr at ↦ inr (subst (λ w. IsFaultOf order g.K.Json.reads (reads_some_values g.V.Json.reads) g.K.Json.is_read (AreValuesRead g.V.Ord.cmp g.V.Json.is_read) w e) (sym c.in_ok-elements.ensures.found) (subst (λ l. IsFirstFault order g.K.Json.reads (reads_some_values g.V.Json.reads) g.K.Json.is_read (AreValuesRead g.V.Ord.cmp g.V.Json.is_read) (map view l) e) all (subst (λ f. IsFirstFault order g.K.Json.reads (reads_some_values g.V.Json.reads) g.K.Json.is_read (AreValuesRead g.V.Ord.cmp g.V.Json.is_read) (map view (take n vs ++ v ∷ rest)) f) (ap Meets size ∙ sym at.0) (map_meets order g.K.Json.reads (reads_some_values g.V.Json.reads) g.K.Json.is_read (AreValuesRead g.V.Ord.cmp g.V.Json.is_read) (same_values g.V.PartialEq.eq) (take n vs) rest v (g.C.Storage.items c.loop-index.multimap) c.in_ok-element_with_values.field-0 c.loop-index.invariant (rw size c.in_ok-element_with_values.ensures.sound) c.in_ok-element_with_values.ensures.read c.insert_values.ensures.known (at.1, at.2)))))
+      | inr at ↦
+          inr
+          (subst (λ w. IsFaultOf order g.K.Json.reads
+          (reads_some_values g.V.Json.reads) g.K.Json.is_read
+          (AreValuesRead g.V.Ord.cmp g.V.Json.is_read) w e) (sym c.in_ok-elements.ensures.found)
+          (subst (λ l. IsFirstFault order g.K.Json.reads
+          (reads_some_values g.V.Json.reads) g.K.Json.is_read
+          (AreValuesRead g.V.Ord.cmp g.V.Json.is_read) (map view l) e) all
+          (subst (λ f. IsFirstFault order g.K.Json.reads
+          (reads_some_values g.V.Json.reads) g.K.Json.is_read
+          (AreValuesRead g.V.Ord.cmp g.V.Json.is_read) (map view (take n vs ++ v ∷ rest)) f)
+          (ap Meets size ∙ sym at.0)
+          (map_meets order g.K.Json.reads (reads_some_values g.V.Json.reads) g.K.Json.is_read
+          (AreValuesRead g.V.Ord.cmp g.V.Json.is_read) (same_values g.V.PartialEq.eq)
+          (take n vs) rest v (g.C.Storage.items c.loop-index.multimap)
+          c.in_ok-element_with_values.field-0 c.loop-index.invariant
+          (rw size c.in_ok-element_with_values.ensures.sound)
+          c.in_ok-element_with_values.ensures.read c.insert_values.ensures.known (at.1, at.2)))))
     ] in
     let is : c.from_residual-in_err-insert_values.result ≡ Err e = search rules in
-    fails_with (λ f. (f ≡ Memory) ⊎ IsMultimapFault order g.K.Json.reads g.V.Json.reads g.K.Json.is_read g.V.Json.is_read g.V.Ord.cmp (view c.args.value.now) f) c.from_residual-in_err-insert_values.result e is told
+    fails_with (λ f.
+    (f ≡ Memory) ⊎ IsMultimapFault order g.K.Json.reads g.V.Json.reads g.K.Json.is_read
+    g.V.Json.is_read g.V.Ord.cmp (view c.args.value.now) f)
+    c.from_residual-in_err-insert_values.result e is told
 
 pub returns-clause-read : goal.returns-clause-read
 returns-clause-read g c =
     let vs = c.in_ok-elements.elements.now in
     let n = c.loop-index.index in
-    let full : n ≡ length vs = omega (arith, c.loop-index-test.false, c.loop-index.auto.index-end) in
+    let full : n ≡ length vs =
+    omega (arith, c.loop-index-test.false, c.loop-index.auto.index-end) in
     let all : take n vs ≡ vs = ap (λ i. take i vs) full ∙ take-length vs in
-    let whole = subst (λ l. IsMapSoFar g.K.MaybeBounded.order g.K.Json.reads (reads_some_values g.V.Json.reads) g.K.Json.is_read (AreValuesRead g.V.Ord.cmp g.V.Json.is_read) (same_values g.V.PartialEq.eq) l (g.C.Storage.items c.loop-index.multimap)) all c.loop-index.invariant in
+    let whole =
+    subst (λ l. IsMapSoFar g.K.MaybeBounded.order g.K.Json.reads
+    (reads_some_values g.V.Json.reads) g.K.Json.is_read
+    (AreValuesRead g.V.Ord.cmp g.V.Json.is_read) (same_values g.V.PartialEq.eq) l
+    (g.C.Storage.items c.loop-index.multimap)) all c.loop-index.invariant in
     record {
       ds = map view vs;
       elements = whole.earlier;

@@ -7,8 +7,11 @@ use Rattle.range_json.proofs.multimap.multimap_to_json.Given as goal
 
 abbrev pub invariant-loop-range : goal.invariant-loop-range
 invariant-loop-range g l = record {
-  written : HasWritten (λ i. pair_shape (range_shape g.K.Json.shape i.key) ((values_shape g.V.Json.shape) i.value)) (g.C.Storage.items l.multimap) l.items l.written.items;
-  values : AreValuesSoFar (λ i. IsRangeValue g.K.Json.is_value i.key × IsValueSet g.V.Ord.cmp g.V.Json.is_value i.value) (g.C.Storage.items l.multimap) l.items;
+  written : HasWritten (λ i.
+      pair_shape (range_shape g.K.Json.shape i.key) ((values_shape g.V.Json.shape) i.value))
+      (g.C.Storage.items l.multimap) l.items l.written.items;
+  values : AreValuesSoFar (λ i. IsRangeValue g.K.Json.is_value i.key
+      × IsValueSet g.V.Ord.cmp g.V.Json.is_value i.value) (g.C.Storage.items l.multimap) l.items;
 }
 
 abbrev pub decreases-loop-range : goal.decreases-loop-range

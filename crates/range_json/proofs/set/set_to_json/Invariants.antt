@@ -7,8 +7,10 @@ use Rattle.range_json.proofs.set.set_to_json.Given as goal
 
 abbrev pub invariant-loop-range : goal.invariant-loop-range
 invariant-loop-range g l = record {
-  written : HasWritten (range_shape g.T.Json.shape) (item_ranges (g.C.Storage.items l.set)) l.ranges l.written.items;
-  values : AreValuesSoFar (IsRangeValue g.T.Json.is_value) (item_ranges (g.C.Storage.items l.set)) l.ranges;
+  written : HasWritten (range_shape g.T.Json.shape)
+      (item_ranges (g.C.Storage.items l.set)) l.ranges l.written.items;
+  values : AreValuesSoFar (IsRangeValue g.T.Json.is_value)
+      (item_ranges (g.C.Storage.items l.set)) l.ranges;
 }
 
 abbrev pub decreases-loop-range : goal.decreases-loop-range

@@ -4,7 +4,13 @@ use Rattle.range_map.proofs.laws.stored_lists_are_coarse.Goals as goal
 pub returns : goal.returns
 returns g c =
     record {
-      coarse = stored_coarse g.K.MaybeBounded.order g.met.K.PartialEnum.lawful g.V.PartialEq.eq g.met.V.Eq.laws;
-      stored = λ complete. coarse_stored g.K.MaybeBounded.order g.met.K.PartialEnum.lawful complete g.V.PartialEq.eq;
-      equal = stored_equal g.K.MaybeBounded.order g.met.K.PartialEnum.lawful g.V.PartialEq.eq g.met.V.Eq.laws;
+      coarse =
+          stored_coarse g.K.MaybeBounded.order g.met.K.PartialEnum.lawful g.V.PartialEq.eq
+          g.met.V.Eq.laws;
+      stored =
+          λ complete.
+          coarse_stored g.K.MaybeBounded.order g.met.K.PartialEnum.lawful complete g.V.PartialEq.eq;
+      equal =
+          stored_equal g.K.MaybeBounded.order g.met.K.PartialEnum.lawful g.V.PartialEq.eq
+          g.met.V.Eq.laws;
     }

@@ -12,8 +12,10 @@ invariant-loop-low g l =
     record {
       in_order : l.low ≤ l.high;
       in_range : l.high ≤ length l.items;
-      reached : 0 < l.low → (d : Item (AnyRange g.row.T.Denot) g.row.V.Denot) → ElementIsBefore order element l.connected (get_or l.items (l.low - 1) d).key → ⊥;
-      behind : AllWithin (λ (i : Item (AnyRange g.row.T.Denot) g.row.V.Denot). ElementIsBefore order element l.connected i.key) l.items l.high (length l.items);
+      reached : 0 < l.low → (d : Item (AnyRange g.row.T.Denot) g.row.V.Denot)
+          → ElementIsBefore order element l.connected (get_or l.items (l.low - 1) d).key → ⊥;
+      behind : AllWithin (λ (i : Item (AnyRange g.row.T.Denot) g.row.V.Denot). ElementIsBefore order
+          element l.connected i.key) l.items l.high (length l.items);
     }
 
 abbrev pub decreases-loop-low : goal.decreases-loop-low

@@ -17,8 +17,12 @@ returns-in_ok-write_gap-in-Some g c =
     let next = g.W.Write.contents c.write_gaps.new.out in
     let step : c.gaps-gaps.result ≡ gap ∷ left = c.in-Some.ensures.steps in
     on_ok_as c.write_gaps.result _ _ (λ others.
-    let (text, spelled, appended) = shown_first Spells gap left before now next c.in_ok-write_gap-in-Some.ensures others in
-    (text, (gap ∷ left, subst (AreGaps order items) step c.gaps-gaps.ensures.gaps, spelled), appended)) c.write_gaps.ensures
+    let (text, spelled, appended) =
+    shown_first Spells gap left before now next c.in_ok-write_gap-in-Some.ensures others in (
+      text,
+      (gap ∷ left, subst (AreGaps order items) step c.gaps-gaps.ensures.gaps, spelled),
+      appended,
+    )) c.write_gaps.ensures
 
 pub returns-in-None : goal.returns-in-None
 returns-in-None g c = search rules

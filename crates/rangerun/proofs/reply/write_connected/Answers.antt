@@ -9,4 +9,6 @@ returns g c =
     let now = g.W.Write.contents c.write_all.new.self in
     let next = g.W.Write.contents c.write_part.new.out in
     let line = part_text c.args.ends.now.0 c.args.ends.now.1 c.args.value.now in
-    on_ok_as c.write_part.result _ _ (appends_then before now next (codes "connected ") line c.in_ok-write_all.ensures.bytes) c.write_part.ensures
+    on_ok_as c.write_part.result _ _
+    (appends_then before now next (codes "connected ") line c.in_ok-write_all.ensures.bytes)
+    c.write_part.ensures

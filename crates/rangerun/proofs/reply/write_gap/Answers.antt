@@ -8,11 +8,26 @@ use Rattle.rangerun.proofs.reply.write_gap.Goals as goal
 
 pub ends-requires : goal.ends-requires
 ends-requires g c =
-    let same = clone_same g.K.Clone.is_clone g.met.K.SpelledKey.clones_are_same (range_of c.args.gap) c.in_ok-range.range c.in_ok-range.ensures in
+    let same =
+    clone_same g.K.Clone.is_clone g.met.K.SpelledKey.clones_are_same
+    (range_of c.args.gap) c.in_ok-range.range c.in_ok-range.ensures in
     subst (λ r. ¬ IsEmptyRange g.K.MaybeBounded.order r) same c.requires
 
 pub returns : goal.returns
 returns g c =
-    let same = clone_same g.K.Clone.is_clone g.met.K.SpelledKey.clones_are_same (range_of c.args.gap) c.in_ok-range.range c.in_ok-range.ensures in
+    let same =
+    clone_same g.K.Clone.is_clone g.met.K.SpelledKey.clones_are_same
+    (range_of c.args.gap) c.in_ok-range.range c.in_ok-range.ensures in
     let span = c.in_ok-span.span in
-    on_ok_as c.write_span.result _ _ (λ appended. (span_text span.0 span.1, (span.0, span.1, subst (λ r. HasEnds g.K.MaybeBounded.order g.K.SpelledKey.as_number r span.0 span.1) (sym same) c.in_ok-span.ensures, refl), appended)) c.write_span.ensures
+    on_ok_as c.write_span.result _ _
+    (λ appended. (
+      span_text span.0 span.1,
+      (
+        span.0,
+        span.1,
+        subst (λ r. HasEnds g.K.MaybeBounded.order g.K.SpelledKey.as_number r span.0 span.1)
+            (sym same) c.in_ok-span.ensures,
+        refl,
+      ),
+      appended,
+    )) c.write_span.ensures

@@ -19,7 +19,10 @@ loop-gap-preserved g c =
     let step : c.loop-gap.gaps ≡ gap ∷ left = c.in-Some.ensures.steps in
     record {
       nonempty = (subst (Every (λ r. ¬ IsEmptyRange order r)) step c.loop-gap.invariant.nonempty).1;
-      shown = shown_more Spells all left gap before now next (subst (λ gaps. HasShown Spells all gaps before now) step c.loop-gap.invariant.shown) c.in_ok-write_gap.ensures;
+      shown =
+          shown_more Spells all left gap before now next
+          (subst (λ gaps. HasShown Spells all gaps before now) step c.loop-gap.invariant.shown)
+          c.in_ok-write_gap.ensures;
     }
 
 pub returns : goal.returns
@@ -29,4 +32,5 @@ returns g c =
     let before = g.W.Write.contents c.args.out.now in
     let now = g.W.Write.contents c.loop-gap.out in
     let ended : c.loop-gap.gaps ≡ [] = c.in_default.ensures.steps.0 in
-    shown_all Spells all before now (subst (λ gaps. HasShown Spells all gaps before now) ended c.loop-gap.invariant.shown)
+    shown_all Spells all before now
+    (subst (λ gaps. HasShown Spells all gaps before now) ended c.loop-gap.invariant.shown)

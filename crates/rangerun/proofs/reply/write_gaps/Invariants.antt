@@ -8,7 +8,8 @@ use Rattle.rangerun.proofs.reply.write_gaps.Given as goal
 abbrev pub invariant-loop-gap : goal.invariant-loop-gap
 invariant-loop-gap g l = record {
   nonempty : Every (λ gap. ¬ IsEmptyRange g.K.MaybeBounded.order gap) l.gaps;
-  shown : HasShown (SpellsSpan g.K.MaybeBounded.order g.K.SpelledKey.as_number) l.fn.gaps l.gaps (g.W.Write.contents l.fn.out) (g.W.Write.contents l.out);
+  shown : HasShown (SpellsSpan g.K.MaybeBounded.order g.K.SpelledKey.as_number) l.fn.gaps l.gaps
+      (g.W.Write.contents l.fn.out) (g.W.Write.contents l.out);
 }
 
 abbrev pub decreases-loop-gap : goal.decreases-loop-gap

@@ -8,4 +8,6 @@ use Rattle.access.proofs.table.AccessTable.open.Given as goal
 
 -- a port is open, and in none of the ranges that are left, just where no range at all allows it
 abbrev pub invariant-loop-range : goal.invariant-loop-range
-invariant-loop-range l = (port : Port) → port_order.is_key port → (HoldsKey port_order (box_items l.open) port × ¬ IsBound port_order l.range-iterator port) ↔ ¬ IsBound port_order l.initial.range-iterator port
+invariant-loop-range l = (port : Port) → port_order.is_key port
+    → (HoldsKey port_order (box_items l.open) port × ¬ IsBound port_order l.range-iterator port)
+    ↔ ¬ IsBound port_order l.initial.range-iterator port

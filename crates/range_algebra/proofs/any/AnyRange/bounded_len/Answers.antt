@@ -13,7 +13,8 @@ measured-requires-clause-known_start g c =
     let order = g.T.MaybeBounded.order in
     let lawful = g.met.T.PartialEnum.lawful in
     let bound = c.args.self.now.start in
-    let start : bound_map key_value c.with_told-start.result ≡ told_bound order.least bound = search rules in
+    let start : bound_map key_value c.with_told-start.result ≡ told_bound order.least bound =
+    search rules in
     rw start (told_known order lawful order.least bound lawful.least_key c.known.ensures.0)
 
 pub measured-requires-clause-known_end : goal.measured-requires-clause-known_end
@@ -21,7 +22,8 @@ measured-requires-clause-known_end g c =
     let order = g.T.MaybeBounded.order in
     let lawful = g.met.T.PartialEnum.lawful in
     let bound = c.args.self.now.end in
-    let end : bound_map key_value c.with_told-end.result ≡ told_bound order.greatest bound = search rules in
+    let end : bound_map key_value c.with_told-end.result ≡ told_bound order.greatest bound =
+    search rules in
     rw end (told_known order lawful order.greatest bound lawful.greatest_key c.known.ensures.1)
 
 pub measured-requires-clause-nonempty : goal.measured-requires-clause-nonempty
@@ -29,8 +31,10 @@ measured-requires-clause-nonempty g c =
     let order = g.T.MaybeBounded.order in
     let r = c.args.self.now in
     let full : ¬ IsEmptyRange order r = search rules in
-    let start : bound_map key_value c.with_told-start.result ≡ told_bound order.least r.start = search rules in
-    let end : bound_map key_value c.with_told-end.result ≡ told_bound order.greatest r.end = search rules in
+    let start : bound_map key_value c.with_told-start.result ≡ told_bound order.least r.start =
+    search rules in
+    let end : bound_map key_value c.with_told-end.result ≡ told_bound order.greatest r.end =
+    search rules in
     rw (start, end) (told_reach order g.met.T.PartialEnum.lawful r full)
 
 pub returns-clause-measure : goal.returns-clause-measure
@@ -38,16 +42,22 @@ returns-clause-measure g c =
     let order = g.T.MaybeBounded.order in
     let r = c.args.self.now in
     let full : ¬ IsEmptyRange order r = search rules in
-    let start : bound_map key_value c.with_told-start.result ≡ told_bound order.least r.start = search rules in
-    let end : bound_map key_value c.with_told-end.result ≡ told_bound order.greatest r.end = search rules in
-    let whole = full_measure order g.met.T.PartialEnum.lawful g.T.Measure.len g.T.Measure.distance r full in
+    let start : bound_map key_value c.with_told-start.result ≡ told_bound order.least r.start =
+    search rules in
+    let end : bound_map key_value c.with_told-end.result ≡ told_bound order.greatest r.end =
+    search rules in
+    let whole =
+    full_measure order g.met.T.PartialEnum.lawful g.T.Measure.len g.T.Measure.distance r
+    full in
     cc
 
 pub returns-clause-counted : goal.returns-clause-counted
 returns-clause-counted g c = λ counts.
     let order = g.T.MaybeBounded.order in
     let r = c.args.self.now in
-    subst (λ n. IsSomeAnd n (IsNumberOfKeys order (Holds order r))) (sym (returns-clause-measure g c)) (measure_is_number order g.T.Measure.len g.T.Measure.distance counts r c.known.ensures)
+    subst (λ n. IsSomeAnd n (IsNumberOfKeys order (Holds order r)))
+    (sym (returns-clause-measure g c))
+    (measure_is_number order g.T.Measure.len g.T.Measure.distance counts r c.known.ensures)
 
 pub returns-then-is_empty-clause-measure : goal.returns-then-is_empty-clause-measure
 returns-then-is_empty-clause-measure g c = search rules

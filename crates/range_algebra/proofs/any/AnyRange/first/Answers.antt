@@ -8,12 +8,16 @@ pub returns-clause-least : goal.returns-clause-least
 returns-clause-least g c =
     let order = g.T.MaybeBounded.order in
     let full : ¬ IsEmptyRange order c.args.self.now = search rules in
-    if_ok _ _ c.key_of_start.result (first_is_least order g.met.T.PartialEnum.lawful c.args.self.now c.known.ensures full) c.key_of_start.ensures.named
+    if_ok _ _ c.key_of_start.result
+    (first_is_least order g.met.T.PartialEnum.lawful c.args.self.now c.known.ensures full)
+    c.key_of_start.ensures.named
 
 pub returns-clause-complete : goal.returns-clause-complete
 returns-clause-complete g c = λ complete.
     let order = g.T.MaybeBounded.order in
-    if_ok _ _ c.key_of_start.result (first_none order g.met.T.PartialEnum.lawful c.args.self.now complete c.known.ensures) c.key_of_start.ensures.named
+    if_ok _ _ c.key_of_start.result
+    (first_none order g.met.T.PartialEnum.lawful c.args.self.now complete c.known.ensures)
+    c.key_of_start.ensures.named
 
 pub returns-clause-nonempty : goal.returns-clause-nonempty
 returns-clause-nonempty g c = search rules

@@ -12,8 +12,10 @@ returns-then-is_lt-clause-taken g c =
     let order = g.T.MaybeBounded.order in
     let a : Bound g.row.T.Denot = bound_map (λ x. x.now) c.args.own in
     let b : Bound g.row.T.Denot = bound_map (λ x. x.now) c.args.other in
-    let test : is_lt (position_cmp order.cmp (start_position order a) (start_position order b)) ≡ true = search rules in
-    own_taken order g.met.T.PartialEnum.lawful (is_lt (position_cmp order.cmp (start_position order a) (start_position order b))) a b test
+    let test : is_lt (position_cmp order.cmp (start_position order a) (start_position order b))
+    ≡ true = search rules in
+    own_taken order g.met.T.PartialEnum.lawful
+    (is_lt (position_cmp order.cmp (start_position order a) (start_position order b))) a b test
 
 pub returns-in_ok-clone_of-clause-taken : goal.returns-in_ok-clone_of-clause-taken
 returns-in_ok-clone_of-clause-taken g c =
@@ -21,6 +23,13 @@ returns-in_ok-clone_of-clause-taken g c =
     let lawful = g.met.T.PartialEnum.lawful in
     let a : Bound g.row.T.Denot = bound_map (λ x. x.now) c.args.own in
     let b : Bound g.row.T.Denot = bound_map (λ x. x.now) c.args.other in
-    let test : is_lt (position_cmp order.cmp (start_position order a) (start_position order b)) ≡ false = search rules in
-    let tie = clones_tie order g.T.Clone.is_clone g.T.PartialEq.eq g.T.Ord.cmp g.met.T.MaybeBounded.order_is_cmp g.met.T.Ord.matches_eq c.requires in
-    other_taken order lawful (is_lt (position_cmp order.cmp (start_position order a) (start_position order b))) a b c.in_ok-clone_of.field-0 test (bound_clone order lawful g.T.Clone.is_clone tie b c.in_ok-clone_of.field-0 c.in_ok-clone_of.ensures)
+    let test : is_lt (position_cmp order.cmp (start_position order a) (start_position order b))
+    ≡ false = search rules in
+    let tie =
+    clones_tie order g.T.Clone.is_clone g.T.PartialEq.eq g.T.Ord.cmp
+    g.met.T.MaybeBounded.order_is_cmp g.met.T.Ord.matches_eq c.requires in
+    other_taken order lawful
+    (is_lt (position_cmp order.cmp (start_position order a) (start_position order b))) a b
+    c.in_ok-clone_of.field-0 test
+    (bound_clone order lawful g.T.Clone.is_clone tie b c.in_ok-clone_of.field-0
+    c.in_ok-clone_of.ensures)

@@ -12,8 +12,16 @@ returns-clause-complete g c = λ complete full full'.
     let r = g.Self.AsRange.range c.args.self.now in
     let s = g.R.AsRange.range c.args.other.now in
     let exact : c.matches.result ≡ matches (range_ordering order r s) true = search rules in
-    let starts = not_greater (position_cmp order.cmp (start_position order r.start) (end_position order r.end)) full in
-    let ends = not_greater (position_cmp order.cmp (start_position order s.start) (end_position order s.end)) full' in (
-      λ e. connected_holds order lawful r s c.known_range.ensures c.known_range-2.ensures starts ends (sym exact ∙ e),
-      λ h. exact ∙ holds_connected order lawful r s c.known_range.ensures c.known_range-2.ensures starts ends complete h,
+    let starts =
+    not_greater (position_cmp order.cmp (start_position order r.start)
+    (end_position order r.end)) full in
+    let ends =
+    not_greater (position_cmp order.cmp (start_position order s.start)
+    (end_position order s.end)) full' in (
+      λ e.
+          connected_holds order lawful r s c.known_range.ensures c.known_range-2.ensures starts ends
+          (sym exact ∙ e),
+      λ h. exact
+          ∙ holds_connected order lawful r s c.known_range.ensures c.known_range-2.ensures starts
+          ends complete h,
     )

@@ -12,7 +12,13 @@ returns-clause-complete g c = λ complete full full'.
     let r = g.Self.AsRange.range c.args.self.now in
     let s = g.R.AsRange.range c.args.other.now in
     let exact : c.matches.result ≡ matches (range_ordering order r s) false = search rules in
-    let starts = not_greater (position_cmp order.cmp (start_position order r.start) (end_position order r.end)) full in
-    let ends = not_greater (position_cmp order.cmp (start_position order s.start) (end_position order s.end)) full' in
-    let by_keys = intersects_is order lawful r s starts ends complete c.known_range.ensures c.known_range-2.ensures in
+    let starts =
+    not_greater (position_cmp order.cmp (start_position order r.start)
+    (end_position order r.end)) full in
+    let ends =
+    not_greater (position_cmp order.cmp (start_position order s.start)
+    (end_position order s.end)) full' in
+    let by_keys =
+    intersects_is order lawful r s starts ends complete c.known_range.ensures
+    c.known_range-2.ensures in
     (λ e. by_keys.0 (sym exact ∙ e), λ h. exact ∙ by_keys.1 h)

@@ -13,18 +13,36 @@ returns-in_err-from_json-clause-refused g c h =
     let n = c.loop-element.element-index in
     let v = c.element-item.result in
     let reads = g.V.Json.reads in
-    let within : n < length vs = omega (arith, c.loop-element-test.true, c.loop-element.auto.element-index-end) in
-    let more : take (n + 1) vs ≡ take n vs ++ v ∷ [] = take_more vs n v within ∙ ap (λ w. take n vs ++ w ∷ []) (sym c.element-item.is) in
+    let within : n < length vs =
+    omega (arith, c.loop-element-test.true, c.loop-element.auto.element-index-end) in
+    let more : take (n + 1) vs ≡ take n vs ++ v ∷ [] =
+    take_more vs n v within ∙ ap (λ w. take n vs ++ w ∷ []) (sym c.element-item.is) in
     let rest = drop (n + 1) vs in
-    let all : take n vs ++ v ∷ rest ≡ vs = sym (append_one_more (take n vs) v rest) ∙ ap (λ l. l ++ rest) (sym more) ∙ take-append-drop (n + 1) vs in
-    let refused : reads (view v) ≡ false = search (rules, h, c.in_err-from_json.ensures.refused, c.from_residual.ensures, c.in_err-from_json.was) in
-    ap (reads_all reads) c.in-Ok.ensures.found ∙ subst (λ l. list_all reads (map view l) ≡ false) all (values_fail g.V.Ord.cmp reads g.V.Json.is_read (take n vs) rest v refused)
+    let all : take n vs ++ v ∷ rest ≡ vs =
+    sym (append_one_more (take n vs) v rest) ∙ ap (λ l. l ++ rest) (sym more)
+    ∙ take-append-drop (n + 1) vs in
+    let refused : reads (view v) ≡ false =
+    search (
+      rules,
+      h,
+      c.in_err-from_json.ensures.refused,
+      c.from_residual.ensures,
+      c.in_err-from_json.was,
+    ) in
+    ap (reads_all reads) c.in-Ok.ensures.found
+    ∙ subst (λ l. list_all reads (map view l) ≡ false) all
+    (values_fail g.V.Ord.cmp reads g.V.Json.is_read (take n vs) rest v refused)
 
 pub loop-element-preserved : goal.loop-element-preserved
 loop-element-preserved g c =
     let vs = c.in-Ok.elements.now in
     let n = c.loop-element.element-index in
     let v = c.element-item.result in
-    let within : n < length vs = omega (arith, c.loop-element-test.true, c.loop-element.auto.element-index-end) in
-    let more : take (n + 1) vs ≡ take n vs ++ v ∷ [] = take_more vs n v within ∙ ap (λ w. take n vs ++ w ∷ []) (sym c.element-item.is) in
-    rw more (values_more g.V.Ord.cmp g.V.Json.reads g.V.Json.is_read g.met.V.Ord.total (take n vs) v c.loop-element.values c.insert.new.self c.in_ok-from_json.field-0 c.loop-element.invariant c.in_ok-from_json.ensures.read c.in_ok-from_json.ensures.readable c.in-Ok-insert.ensures.updates c.insert.ensures.ordered)
+    let within : n < length vs =
+    omega (arith, c.loop-element-test.true, c.loop-element.auto.element-index-end) in
+    let more : take (n + 1) vs ≡ take n vs ++ v ∷ [] =
+    take_more vs n v within ∙ ap (λ w. take n vs ++ w ∷ []) (sym c.element-item.is) in
+    rw more (values_more g.V.Ord.cmp g.V.Json.reads g.V.Json.is_read g.met.V.Ord.total
+    (take n vs) v c.loop-element.values c.insert.new.self c.in_ok-from_json.field-0
+    c.loop-element.invariant c.in_ok-from_json.ensures.read c.in_ok-from_json.ensures.readable
+    c.in-Ok-insert.ensures.updates c.insert.ensures.ordered)

@@ -11,8 +11,14 @@ loop-value-preserved g c =
     let all = c.args.self.now.keys in
     let done = c.in_ok-to_json.ensures in
     record {
-      written = rw c.in_ok-push.ensures.items (written_more g.V.Json.shape all c.loop-value.values c.next.new.self c.in-Some.value.now c.loop-value.written.items c.in_ok-to_json.field-0 c.in-Some.ensures.steps done.written was.written);
-      values = values_more g.V.Json.is_value all c.loop-value.values c.next.new.self c.in-Some.value.now c.in-Some.ensures.steps done.known was.values;
+      written =
+          rw c.in_ok-push.ensures.items
+          (written_more g.V.Json.shape all c.loop-value.values c.next.new.self c.in-Some.value.now
+          c.loop-value.written.items c.in_ok-to_json.field-0 c.in-Some.ensures.steps done.written
+          was.written);
+      values =
+          values_more g.V.Json.is_value all c.loop-value.values c.next.new.self c.in-Some.value.now
+          c.in-Some.ensures.steps done.known was.values;
     }
 
 pub loop-value-init : goal.loop-value-init
@@ -23,9 +29,15 @@ loop-value-init g c = record {
 
 pub returns-clause-written : goal.returns-clause-written
 returns-clause-written g c =
-    view-Array c.loop-value.written ∙ ap (λ ds. array (items_of ds)) (all_written g.V.Json.shape c.args.self.now.keys c.loop-value.values c.loop-value.written.items c.in_default.ensures.steps.0 c.loop-value.invariant.written)
+    view-Array c.loop-value.written
+    ∙ ap (λ ds. array (items_of ds))
+    (all_written g.V.Json.shape c.args.self.now.keys c.loop-value.values
+    c.loop-value.written.items c.in_default.ensures.steps.0 c.loop-value.invariant.written)
 
 pub returns-clause-known : goal.returns-clause-known
 returns-clause-known g c =
-    let keys = c.args.self.now.keys in
-    (c.iter-values.ensures.ordered, all_values g.V.Json.is_value keys c.loop-value.values c.in_default.ensures.steps.0 c.loop-value.invariant.values)
+    let keys = c.args.self.now.keys in (
+      c.iter-values.ensures.ordered,
+      all_values g.V.Json.is_value keys c.loop-value.values c.in_default.ensures.steps.0
+          c.loop-value.invariant.values,
+    )

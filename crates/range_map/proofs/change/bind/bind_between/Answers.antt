@@ -23,13 +23,27 @@ returns g c =
     let r = c.args.item.key in
     let place = place_before (storage.rank stored) (length items) w.from in
     let new = storage.items c.insert_at-position.new.self in
-    let done : new ≡ insert items place c.args.item = put_at (storage.is_good stored) (storage.is_good ready) (storage.rank stored) (storage.rank ready) items (storage.items ready) new w.from c.args.item window.position c.reserve.ensures.list c.reserve.ensures.positions c.insert_at-position.ensures.list in
+    let done : new ≡ insert items place c.args.item =
+    put_at (storage.is_good stored) (storage.is_good ready) (storage.rank stored)
+    (storage.rank ready) items
+    (storage.items ready) new w.from c.args.item window.position c.reserve.ensures.list
+    c.reserve.ensures.positions c.insert_at-position.ensures.list in
     let none = none_reach c.requires.reach c.requires.none in
     let plus : place + 0 ≡ place = omega arith in
-    let left = rw none.0 at (c.requires.before lawful equal (turned_bound r.start) w.from (known_turned order lawful r.start window.known.0) (same_turned order lawful r.start) (rw (none.0, plus) window.position)) in
-    let right = rw none.1 at (c.requires.after lawful equal (turned_bound r.end) (known_turned order lawful r.end window.known.1) (same_turned order lawful r.end)) in
+    let left =
+    rw none.0 at (c.requires.before lawful equal (turned_bound r.start) w.from
+    (known_turned order lawful r.start window.known.0) (same_turned order lawful r.start)
+    (rw (none.0, plus) window.position)) in
+    let right =
+    rw none.1 at (c.requires.after lawful equal (turned_bound r.end)
+    (known_turned order lawful r.end window.known.1) (same_turned order lawful r.end)) in
     record {
       ok = put_between lawful equal window c.args.item.value c.requires.none left right new done;
-      few = omega (arith, ap length done, length-insert items place c.args.item (omega (arith, window.in_range)));
+      few =
+          omega (
+            arith,
+            ap length done,
+            length-insert items place c.args.item (omega (arith, window.in_range)),
+          );
       refused = tt;
     }

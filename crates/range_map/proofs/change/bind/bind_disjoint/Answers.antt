@@ -6,14 +6,25 @@ use Rattle.range_map.proofs.Framing.{meets_some, none_meets}
 use Rattle.range_map.proofs.change.bind.bind_disjoint.Goals as goal
 
 pub returns-then-window-gt0-clause-met : goal.returns-then-window-gt0-clause-met
-returns-then-window-gt0-clause-met g c = (λ _. meets_some g.met.K.PartialEnum.lawful g.met.V.Eq.laws c.find_window-window.ensures.window (omega (arith, c.if-window-gt0.true)), λ _. refl)
+returns-then-window-gt0-clause-met g c = (
+  λ _. meets_some g.met.K.PartialEnum.lawful g.met.V.Eq.laws c.find_window-window.ensures.window
+      (omega (arith, c.if-window-gt0.true)),
+  λ _. refl,
+)
 
 pub returns : goal.returns
 returns g c =
     let none : c.find_window-window.result.count ≡ 0 = omega (arith, c.if-window-gt0.false) in
-    let unmet = none_meets g.met.K.PartialEnum.lawful g.met.V.Eq.laws c.find_window-window.ensures.window none in
+    let unmet =
+    none_meets g.met.K.PartialEnum.lawful g.met.V.Eq.laws
+    c.find_window-window.ensures.window none in
     record {
-      met = (λ e. cc, λ met. absurd (any_none (λ i. Overlap g.K.MaybeBounded.order i.key c.args.range) _ _ unmet (λ i no at. no at) met));
+      met = (
+        λ e. cc,
+        λ met.
+            absurd (any_none (λ i. Overlap g.K.MaybeBounded.order i.key c.args.range) _ _ unmet
+            (λ i no at. no at) met),
+      );
       met_unchanged = λ e. absurd (cc);
       bound = λ _. c.in_ok-bind_over.ensures.ok;
       refused = tt;
@@ -22,9 +33,16 @@ returns g c =
 pub returns-in_err-bind_over : goal.returns-in_err-bind_over
 returns-in_err-bind_over g c =
     let none : c.find_window-window.result.count ≡ 0 = omega (arith, c.if-window-gt0.false) in
-    let unmet = none_meets g.met.K.PartialEnum.lawful g.met.V.Eq.laws c.find_window-window.ensures.window none in
+    let unmet =
+    none_meets g.met.K.PartialEnum.lawful g.met.V.Eq.laws
+    c.find_window-window.ensures.window none in
     record {
-      met = (λ e. absurd (search (rules, e)), λ met. absurd (any_none (λ i. Overlap g.K.MaybeBounded.order i.key c.args.range) _ _ unmet (λ i no at. no at) met));
+      met = (
+        λ e. absurd (search (rules, e)),
+        λ met.
+            absurd (any_none (λ i. Overlap g.K.MaybeBounded.order i.key c.args.range) _ _ unmet
+            (λ i no at. no at) met),
+      );
       met_unchanged = λ e. absurd (search (rules, e));
       bound = λ e. absurd (search (rules, e));
       refused = grind (arith, common_steps);
@@ -34,13 +52,24 @@ pub comes_last-requires : goal.comes_last-requires
 comes_last-requires g c = record { stored = c.requires.stored; nonempty = c.requires.nonempty }
 
 pub bind_last-requires : goal.bind_last-requires
-bind_last-requires g c = record { stored = c.requires.stored; nonempty = c.requires.nonempty; last = c.if-comes_last.ensures refl }
+bind_last-requires g c =
+    record {
+      stored = c.requires.stored;
+      nonempty = c.requires.nonempty;
+      last = c.if-comes_last.ensures refl;
+    }
 
 pub bind_over-requires : goal.bind_over-requires
 bind_over-requires g c =
     let none : c.find_window-window.result.count ≡ 0 = omega (arith, c.if-window-gt0.false) in
     record {
       keys = c.requires.keys;
-      reach = record { window = c.find_window-window.ensures.window; first = λ x some. absurd (omega (arith, some, none)); last = λ x some. absurd (omega (arith, some, none)) };
+      reach =
+          record {
+            window = c.find_window-window.ensures.window;
+            first = λ x some. absurd (omega (arith, some, none));
+            last =
+                λ x some. absurd (omega (arith, some, none));
+          };
       apart = omega arith;
     }

@@ -4,7 +4,9 @@ use Rattle.range_map.proofs.Surrounded.{stands, divided_around, few_added}
 use Rattle.range_map.proofs.change.bind.bind_within.Goals as goal
 
 pub returns-then-joins-clause-ok : goal.returns-then-joins-clause-ok
-returns-then-joins-clause-ok g c = stands g.met.K.PartialEnum.lawful g.met.V.Eq.laws c.requires.within c.get.result.now c.get.ensures c.args.value (sym c.if-joins.ensures)
+returns-then-joins-clause-ok g c =
+    stands g.met.K.PartialEnum.lawful g.met.V.Eq.laws c.requires.within c.get.result.now
+    c.get.ensures c.args.value (sym c.if-joins.ensures)
 
 pub returns : goal.returns
 returns g c =
@@ -20,13 +22,27 @@ returns g c =
     let rank = (c.cut_parts.ensures.positions c.args.p within.good).1 in
     let new = storage.items c.divide.new.stored in
     record {
-      ok = divided_around lawful equal within x c.get.ensures parts end start cloned.value _ new _ c.cut_parts.ensures.list rank c.args.value (sym c.if-joins.ensures) c.divide.ensures;
-      few = omega (arith, few_added lawful equal within x c.get.ensures parts end start cloned.value _ new _ c.cut_parts.ensures.list rank (Some _) c.divide.ensures);
+      ok =
+          divided_around lawful equal within x c.get.ensures parts end start cloned.value _ new _
+          c.cut_parts.ensures.list rank c.args.value (sym c.if-joins.ensures) c.divide.ensures;
+      few =
+          omega (
+            arith,
+            few_added lawful equal within x c.get.ensures parts end start cloned.value _ new _
+                c.cut_parts.ensures.list rank (Some _) c.divide.ensures,
+          );
       refused = tt;
     }
 
 pub cut_parts-requires : goal.cut_parts-requires
-cut_parts-requires g c = record { keys = c.requires.keys; values = c.requires.values; good = c.requires.within.good }
+cut_parts-requires g c =
+    record { keys = c.requires.keys; values = c.requires.values; good = c.requires.within.good }
 
 pub returns-in_err-parts : goal.returns-in_err-parts
-returns-in_err-parts g c = record { ok = error_has_no_value _ c.from_residual.result c.from_residual.ensures.0; few = error_has_no_value _ c.from_residual.result c.from_residual.ensures.0; refused = on_error _ c.from_residual.result c.cut_parts.ensures.list }
+returns-in_err-parts g c =
+    record {
+      ok = error_has_no_value _ c.from_residual.result c.from_residual.ensures.0;
+      few = error_has_no_value _ c.from_residual.result c.from_residual.ensures.0;
+      refused =
+          on_error _ c.from_residual.result c.cut_parts.ensures.list;
+    }

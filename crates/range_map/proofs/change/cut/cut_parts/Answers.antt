@@ -18,31 +18,55 @@ returns-in_err-reserve g c = record {
 
 pub returns-in_err-cut_bound : goal.returns-in_err-cut_bound
 returns-in_err-cut_bound g c = record {
-  end = error_has_no_value _ c.from_residual-in_err-cut_bound.result c.from_residual-in_err-cut_bound.ensures.0;
-  start = error_has_no_value _ c.from_residual-in_err-cut_bound.result c.from_residual-in_err-cut_bound.ensures.0;
-  value = error_has_no_value _ c.from_residual-in_err-cut_bound.result c.from_residual-in_err-cut_bound.ensures.0;
+  end =
+      error_has_no_value _ c.from_residual-in_err-cut_bound.result
+      c.from_residual-in_err-cut_bound.ensures.0;
+  start =
+      error_has_no_value _ c.from_residual-in_err-cut_bound.result
+      c.from_residual-in_err-cut_bound.ensures.0;
+  value =
+      error_has_no_value _ c.from_residual-in_err-cut_bound.result
+      c.from_residual-in_err-cut_bound.ensures.0;
   list = c.reserve.ensures.list;
-  space = error_has_no_value _ c.from_residual-in_err-cut_bound.result c.from_residual-in_err-cut_bound.ensures.0;
+  space =
+      error_has_no_value _ c.from_residual-in_err-cut_bound.result
+      c.from_residual-in_err-cut_bound.ensures.0;
   positions = c.reserve.ensures.positions;
 }
 
 pub returns-in_err-cut_bound-2 : goal.returns-in_err-cut_bound-2
 returns-in_err-cut_bound-2 g c = record {
-  end = error_has_no_value _ c.from_residual-in_err-cut_bound-2.result c.from_residual-in_err-cut_bound-2.ensures.0;
-  start = error_has_no_value _ c.from_residual-in_err-cut_bound-2.result c.from_residual-in_err-cut_bound-2.ensures.0;
-  value = error_has_no_value _ c.from_residual-in_err-cut_bound-2.result c.from_residual-in_err-cut_bound-2.ensures.0;
+  end =
+      error_has_no_value _ c.from_residual-in_err-cut_bound-2.result
+      c.from_residual-in_err-cut_bound-2.ensures.0;
+  start =
+      error_has_no_value _ c.from_residual-in_err-cut_bound-2.result
+      c.from_residual-in_err-cut_bound-2.ensures.0;
+  value =
+      error_has_no_value _ c.from_residual-in_err-cut_bound-2.result
+      c.from_residual-in_err-cut_bound-2.ensures.0;
   list = c.reserve.ensures.list;
-  space = error_has_no_value _ c.from_residual-in_err-cut_bound-2.result c.from_residual-in_err-cut_bound-2.ensures.0;
+  space =
+      error_has_no_value _ c.from_residual-in_err-cut_bound-2.result
+      c.from_residual-in_err-cut_bound-2.ensures.0;
   positions = c.reserve.ensures.positions;
 }
 
 pub returns-in_err-clone : goal.returns-in_err-clone
 returns-in_err-clone g c = record {
-  end = error_has_no_value _ c.from_residual-in_err-clone.result c.from_residual-in_err-clone.ensures.0;
-  start = error_has_no_value _ c.from_residual-in_err-clone.result c.from_residual-in_err-clone.ensures.0;
-  value = error_has_no_value _ c.from_residual-in_err-clone.result c.from_residual-in_err-clone.ensures.0;
+  end =
+      error_has_no_value _ c.from_residual-in_err-clone.result
+      c.from_residual-in_err-clone.ensures.0;
+  start =
+      error_has_no_value _ c.from_residual-in_err-clone.result
+      c.from_residual-in_err-clone.ensures.0;
+  value =
+      error_has_no_value _ c.from_residual-in_err-clone.result
+      c.from_residual-in_err-clone.ensures.0;
   list = c.reserve.ensures.list;
-  space = error_has_no_value _ c.from_residual-in_err-clone.result c.from_residual-in_err-clone.ensures.0;
+  space =
+      error_has_no_value _ c.from_residual-in_err-clone.result
+      c.from_residual-in_err-clone.ensures.0;
   positions = c.reserve.ensures.positions;
 }
 
@@ -60,5 +84,8 @@ returns-clause-value g c = λ d.
     let p = c.args.p in
     let x = c.get.result.now in
     let kept = c.reserve.ensures.positions p c.requires.good in
-    let read : x ≡ get_or items (storage.rank stored p) x = rw (c.reserve.ensures.list, kept.1) at c.get.ensures in
-    rw (← get_or_read items (storage.rank stored p) x (g.met.C.Storage.good_is_in_range stored p c.requires.good) read d) (c.requires.values x.value c.in_ok-clone.field-0 c.in_ok-clone.ensures.cases)
+    let read : x ≡ get_or items (storage.rank stored p) x =
+    rw (c.reserve.ensures.list, kept.1) at c.get.ensures in
+    rw (← get_or_read items (storage.rank stored p) x
+    (g.met.C.Storage.good_is_in_range stored p c.requires.good) read d)
+    (c.requires.values x.value c.in_ok-clone.field-0 c.in_ok-clone.ensures.cases)

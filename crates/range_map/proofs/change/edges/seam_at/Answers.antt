@@ -9,11 +9,23 @@ returns-in-Some-default g c =
     let order = g.K.MaybeBounded.order in
     let lawful = g.met.K.PartialEnum.lawful in
     let bound = bound_of c.args.bound in
-    record { cut = turned_bound bound; at = rw c.in-Some-default.is-0 refl; known = known_turned order lawful bound c.known_bound.ensures; turned = same_turned order lawful bound }
+    record {
+      cut = turned_bound bound;
+      at = rw c.in-Some-default.is-0 refl;
+      known = known_turned order lawful bound c.known_bound.ensures;
+      turned =
+          same_turned order lawful bound;
+    }
 
 pub returns-in-None-None : goal.returns-in-None-None
 returns-in-None-None g c =
     let order = g.K.MaybeBounded.order in
     let lawful = g.met.K.PartialEnum.lawful in
     let bound = bound_of c.args.bound in
-    record { cut = turned_bound bound; at = rw (c.in-None-None.is-0, c.in-None-None.is-1) refl; known = known_turned order lawful bound c.known_bound.ensures; turned = same_turned order lawful bound }
+    record {
+      cut = turned_bound bound;
+      at = rw (c.in-None-None.is-0, c.in-None-None.is-1) refl;
+      known = known_turned order lawful bound c.known_bound.ensures;
+      turned =
+          same_turned order lawful bound;
+    }

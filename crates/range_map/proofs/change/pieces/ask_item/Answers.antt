@@ -4,7 +4,12 @@ use Rattle.range_map.proofs.Results.{error_has_no_value}
 use Rattle.range_map.proofs.change.pieces.ask_item.Goals as goal
 
 pub ask_gap-requires : goal.ask_gap-requires
-ask_gap-requires g c = record { before = c.requires.before; after = λ x e. let same : c.args.item.now.key ≡ x = cc in rw (← same) c.requires.item; callable = c.requires.free }
+ask_gap-requires g c =
+    record {
+      before = c.requires.before;
+      after = λ x e. let same : c.args.item.now.key ≡ x = cc in rw (← same) c.requires.item;
+      callable = c.requires.free;
+    }
 
 pub returns-clause-closure : goal.returns-clause-closure
 returns-clause-closure g c = λ e failed. inr (c.ask.ensures.closure e failed)
@@ -13,4 +18,8 @@ pub returns-clause-ok : goal.returns-clause-ok
 returns-clause-ok g c = grind (arith, common_steps)
 
 pub returns-in_err-ask_gap : goal.returns-in_err-ask_gap
-returns-in_err-ask_gap g c = record { ok = error_has_no_value _ c.from_residual.result c.from_residual.ensures.0; closure = grind (arith, common_steps) }
+returns-in_err-ask_gap g c =
+    record {
+      ok = error_has_no_value _ c.from_residual.result c.from_residual.ensures.0;
+      closure = grind (arith, common_steps);
+    }

@@ -17,12 +17,17 @@ loop-met-init g c =
     let storage = g.C.Storage in
     let items = storage.items c.args.stored.now in
     let window = c.requires.window in
-    let place = place_before (storage.rank c.args.stored.now) (length items) c.args.window.now.from in
+    let place =
+    place_before (storage.rank c.args.stored.now) (length items) c.args.window.now.from in
     let none : place + 0 ≡ place = omega arith in
     record {
       position = rw none window.position;
       last_is = refl;
-      underway = λ lawful equal before h. rw (none, h, c.new-middle.ensures.items) (underway_none g.K.MaybeBounded.order lawful g.V.PartialEq.eq equal g.F.Fn c.args.f.now items c.args.range.now (take place items) window.below);
+      underway =
+          λ lawful equal before h.
+          rw (none, h, c.new-middle.ensures.items)
+          (underway_none g.K.MaybeBounded.order lawful g.V.PartialEq.eq equal g.F.Fn c.args.f.now
+          items c.args.range.now (take place items) window.below);
     }
 
 pub unreachable-requires : goal.unreachable-requires
@@ -32,7 +37,9 @@ unreachable-requires g c =
     omega (arith, here, c.loop-met-test.true, within)
 
 pub key_at-before-requires : goal.key_at-before-requires
-key_at-before-requires g c = asked_good g.met.K.PartialEnum.lawful g.met.V.Eq.laws c.requires.window c.loop-met.last c.loop-met._met c.loop-met.invariant.last_is
+key_at-before-requires g c =
+    asked_good g.met.K.PartialEnum.lawful g.met.V.Eq.laws c.requires.window c.loop-met.last
+    c.loop-met._met c.loop-met.invariant.last_is
 
 pub get-requires : goal.get-requires
 get-requires g c = let here = rw c.in-Some.is at c.loop-met.invariant.position in here.0
@@ -49,10 +56,15 @@ ask_item-requires g c =
     let x = c.get.result.now in
     let read = c.get.ensures ∙ ap (λ n. get_or (g.C.Storage.items c.args.stored.now) n x) here.1 in
     record {
-      before = asked_key_full lawful equal window c.loop-met.last met (option_copied c.key_at-before.result) was.last_is (omega (arith, more, window.in_range)) c.key_at-before.ensures;
+      before =
+          asked_key_full lawful equal window c.loop-met.last met
+          (option_copied c.key_at-before.result) was.last_is
+          (omega (arith, more, window.in_range)) c.key_at-before.ensures;
       item = met_nonempty lawful equal window met x more read;
       free = c.requires.free;
-      bound = met_holds lawful equal window met x more read (λ i. MayBeAsked g.F.Fn c.args.f.now (Some i.value)) c.requires.bound;
+      bound =
+          met_holds lawful equal window met x more read
+          (λ i. MayBeAsked g.F.Fn c.args.f.now (Some i.value)) c.requires.bound;
     }
 
 pub returns-in_err-ask_item : goal.returns-in_err-ask_item
@@ -67,7 +79,10 @@ returns-in_err-ask_item g c =
     let was = c.loop-met.invariant.underway lawful equal before c.key_at-before.ensures in
     record {
       ok = error_has_no_value _ c.from_residual.result c.from_residual.ensures.0;
-      closure = λ e failed. met_fails lawful equal c.requires.window c.loop-met._met x more read before was e (c.ask_item.ensures.closure e (search rules));
+      closure =
+          λ e failed.
+          met_fails lawful equal c.requires.window c.loop-met._met x more read before was e
+          (c.ask_item.ensures.closure e (search rules));
     }
 
 pub next-at-requires : goal.next-at-requires
@@ -85,7 +100,9 @@ loop-met-preserved g c =
     let x = c.get.result.now in
     let read = c.get.ensures ∙ ap (λ n. get_or items n x) here.1 in
     let equal_keys = λ (a : g.row.K.Denot) (b : g.row.K.Denot) (h : g.K.Clone.is_clone a b).
-    sym (g.met.K.MaybeBounded.order_is_cmp a b) ∙ (Equal-is (g.K.Ord.cmp a b)).0 (sym (g.met.K.Ord.matches_eq a b) ∙ c.requires.keys a b h) in
+    sym (g.met.K.MaybeBounded.order_is_cmp a b)
+    ∙ (Equal-is (g.K.Ord.cmp a b)).0
+    (sym (g.met.K.Ord.matches_eq a b) ∙ c.requires.keys a b h) in
     let before = option_copied c.key_at-before.result in
     let more : c.loop-met._met < c.args.window.now.count = omega (arith, c.loop-met-test.true) in
     let next : storage.rank stored c.in-Some.p + 1 ≡ place + (met + 1) = omega (arith, here.1) in
@@ -94,42 +111,63 @@ loop-met-preserved g c =
       last_is = (here.0, next, omega arith);
       underway = λ lawful equal key h.
           let was = c.loop-met.invariant.underway lawful equal before c.key_at-before.ensures in
-          let is = h x ∙ ap (λ y. Some y) (ap (λ (i : Item (AnyRange g.row.K.Denot) g.row.V.Denot). i.key) (sym c.get.ensures)) in
-          rw is (met_is_underway lawful equal c.requires.window met x more read before was g.K.Clone.is_clone (bound_clone order lawful g.K.Clone.is_clone equal_keys) c.ask_item.new.items.items c.in_ok-ask_item.ensures.ok);
+          let is =
+          h x
+          ∙ ap (λ y.
+          Some y) (ap (λ (i : Item (AnyRange g.row.K.Denot) g.row.V.Denot). i.key)
+          (sym c.get.ensures)) in
+          rw is (met_is_underway lawful equal c.requires.window met x more read before was
+          g.K.Clone.is_clone (bound_clone order lawful g.K.Clone.is_clone equal_keys)
+          c.ask_item.new.items.items c.in_ok-ask_item.ensures.ok);
     }
 
 pub key_at-requires : goal.key_at-requires
-key_at-requires g c = asked_good g.met.K.PartialEnum.lawful g.met.V.Eq.laws c.requires.window c.loop-met.last c.loop-met._met c.loop-met.invariant.last_is
+key_at-requires g c =
+    asked_good g.met.K.PartialEnum.lawful g.met.V.Eq.laws c.requires.window c.loop-met.last
+    c.loop-met._met c.loop-met.invariant.last_is
 
 pub ask_gap-requires-clause-before : goal.ask_gap-requires-clause-before
 ask_gap-requires-clause-before g c =
     let window = c.requires.window in
-    asked_key_full g.met.K.PartialEnum.lawful g.met.V.Eq.laws window c.loop-met.last c.loop-met._met (option_copied c.key_at.result) c.loop-met.invariant.last_is (omega (arith, c.loop-met-test.false, c.loop-met.auto._met-end, window.in_range)) c.key_at.ensures
+    asked_key_full g.met.K.PartialEnum.lawful g.met.V.Eq.laws window c.loop-met.last c.loop-met._met
+    (option_copied c.key_at.result) c.loop-met.invariant.last_is
+    (omega (arith, c.loop-met-test.false, c.loop-met.auto._met-end, window.in_range))
+    c.key_at.ensures
 
 pub returns-in_err-ask_gap : goal.returns-in_err-ask_gap
 returns-in_err-ask_gap g c =
     let lawful = g.met.K.PartialEnum.lawful in
     let equal = g.met.V.Eq.laws in
-    let all : c.loop-met._met ≡ c.args.window.now.count = omega (arith, c.loop-met-test.false, c.loop-met.auto._met-end) in
+    let all : c.loop-met._met ≡ c.args.window.now.count =
+    omega (arith, c.loop-met-test.false, c.loop-met.auto._met-end) in
     let before = option_copied c.key_at.result in
     let was = rw all at (c.loop-met.invariant.underway lawful equal before c.key_at.ensures) in
     record {
-      ok = error_has_no_value _ c.from_residual-in_err-ask_gap.result c.from_residual-in_err-ask_gap.ensures.0;
-      closure = λ e failed. last_fails lawful equal c.requires.window before was e (c.ask_gap.ensures.closure e (grind (arith, common_steps)));
+      ok =
+          error_has_no_value _ c.from_residual-in_err-ask_gap.result
+          c.from_residual-in_err-ask_gap.ensures.0;
+      closure =
+          λ e failed. last_fails lawful equal c.requires.window before was e
+          (c.ask_gap.ensures.closure e (grind (arith, common_steps)));
     }
 
 pub returns : goal.returns
 returns g c =
     let lawful = g.met.K.PartialEnum.lawful in
     let equal = g.met.V.Eq.laws in
-    let all : c.loop-met._met ≡ c.args.window.now.count = omega (arith, c.loop-met-test.false, c.loop-met.auto._met-end) in
+    let all : c.loop-met._met ≡ c.args.window.now.count =
+    omega (arith, c.loop-met-test.false, c.loop-met.auto._met-end) in
     let equal_keys = λ (a : g.row.K.Denot) (b : g.row.K.Denot) (h : g.K.Clone.is_clone a b).
-    sym (g.met.K.MaybeBounded.order_is_cmp a b) ∙ (Equal-is (g.K.Ord.cmp a b)).0 (sym (g.met.K.Ord.matches_eq a b) ∙ c.requires.keys a b h) in
+    sym (g.met.K.MaybeBounded.order_is_cmp a b)
+    ∙ (Equal-is (g.K.Ord.cmp a b)).0
+    (sym (g.met.K.Ord.matches_eq a b) ∙ c.requires.keys a b h) in
     let clones = bound_clone g.K.MaybeBounded.order lawful g.K.Clone.is_clone equal_keys in
     let before = option_copied c.key_at.result in
     let was = rw all at (c.loop-met.invariant.underway lawful equal before c.key_at.ensures) in
     record {
-      ok = all_gathered lawful equal c.requires.window before was g.K.Clone.is_clone clones c.ask_gap.new.items.items c.in_ok-ask_gap.ensures.ok;
+      ok =
+          all_gathered lawful equal c.requires.window before was g.K.Clone.is_clone clones
+          c.ask_gap.new.items.items c.in_ok-ask_gap.ensures.ok;
       closure = λ e failed. absurd (cc);
     }
 

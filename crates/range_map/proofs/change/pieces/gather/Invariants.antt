@@ -15,7 +15,12 @@ invariant-loop-met g l =
     let items = storage.items l.stored in
     let place = place_before (storage.rank l.stored) (length items) l.window.from in
     record {
-      position : IsAt (storage.is_good l.stored) (storage.rank l.stored) (length items) l.at (place + l._met);
+      position : IsAt (storage.is_good l.stored) (storage.rank l.stored) (length items) l.at
+          (place + l._met);
       last_is : IsLastOf (storage.is_good l.stored) (storage.rank l.stored) l.last place l._met;
-      underway : (lawful : IsLawful order) (equal : IsEquivalence g.V.PartialEq.eq) (before : Option (AnyRange g.row.K.Denot)) → IsKeyAt (storage.rank l.stored) items l.last before → IsUnderway order lawful g.V.PartialEq.eq equal g.F.Fn l.f items l.range (take (place + l._met) items) (gap_lower order l.range before) l.middle.items;
+      underway : (lawful : IsLawful order) (equal : IsEquivalence g.V.PartialEq.eq)
+          (before : Option (AnyRange g.row.K.Denot))
+          → IsKeyAt (storage.rank l.stored) items l.last before
+          → IsUnderway order lawful g.V.PartialEq.eq equal g.F.Fn l.f items l.range
+          (take (place + l._met) items) (gap_lower order l.range before) l.middle.items;
     }

@@ -9,4 +9,5 @@ pub returns-in-None : goal.returns-in-None
 returns-in-None g c = record { joins = λ h. absurd (cc); apart = grind (arith, common_steps) }
 
 pub returns-then-touching : goal.returns-then-touching
-returns-then-touching g c = record { joins = grind (arith, common_steps); apart = grind (arith, common_steps) }
+returns-then-touching g c =
+    record { joins = grind (arith, common_steps); apart = grind (arith, common_steps) }

@@ -20,13 +20,19 @@ returns-else-ends_after-clause-reaching g c = λ x some read.
     let place = place_before (storage.rank stored) (length items) w.from in
     let last = rw c.in-Some.is at c.requires.window.last_is in
     let index : storage.rank stored c.in-Some.last ≡ place + w.count - 1 = omega (arith, last.1) in
-    let within : place + w.count - 1 < length items = omega (arith, some, c.requires.window.in_range) in
+    let within : place + w.count - 1 < length items =
+    omega (arith, some, c.requires.window.in_range) in
     let item = c.get.result.now in
-    let here : item ≡ get_or items (place + w.count - 1) item = c.get.ensures ∙ ap (λ n. get_or items n item) index in
+    let here : item ≡ get_or items (place + w.count - 1) item =
+    c.get.ensures ∙ ap (λ n. get_or items n item) index in
     let same : x ≡ item = get_or_read items (place + w.count - 1) x within read item ∙ sym here in
     let cmp = position_cmp order.cmp in
-    let ends : Le cmp (item_upper order item) (upper order (g.R.AsRange.range c.args.range.now)) = not_lt cmp (position_total order.cmp g.met.K.PartialEnum.lawful.total) (item_upper order item) (upper order (g.R.AsRange.range c.args.range.now)) (λ l. let held : IsTrue c.ends_after.result = c.ends_after.ensures.1 l in cc) in
-    subst (λ y. Le cmp (item_upper order y) (upper order (g.R.AsRange.range c.args.range.now))) (sym same) ends
+    let ends : Le cmp (item_upper order item) (upper order (g.R.AsRange.range c.args.range.now)) =
+    not_lt cmp (position_total order.cmp g.met.K.PartialEnum.lawful.total)
+    (item_upper order item) (upper order (g.R.AsRange.range c.args.range.now))
+    (λ l. let held : IsTrue c.ends_after.result = c.ends_after.ensures.1 l in cc) in
+    subst (λ y. Le cmp (item_upper order y) (upper order (g.R.AsRange.range c.args.range.now)))
+    (sym same) ends
 
 pub returns-then-ends_after-clause-reaching : goal.returns-then-ends_after-clause-reaching
 returns-then-ends_after-clause-reaching g c = grind (arith, common_steps)

@@ -16,13 +16,24 @@ returns-then-starts_before-clause-reaching g c =
     let stored = c.args.stored.now in
     let items = storage.items stored in
     let place = place_before (storage.rank stored) (length items) c.args.window.now.from in
-    let index : place ≡ storage.rank stored c.in-Some.first = ap (place_before (storage.rank stored) (length items)) c.in-Some.is in
+    let index : place ≡ storage.rank stored c.in-Some.first =
+    ap (place_before (storage.rank stored) (length items)) c.in-Some.is in
     let good = (rw c.in-Some.is at c.requires.window.position).0 in
-    let within : place < length items = rw index (g.met.C.Storage.good_is_in_range stored c.in-Some.first good) in
+    let within : place < length items =
+    rw index (g.met.C.Storage.good_is_in_range stored c.in-Some.first good) in
     let item = c.get.result.now in
-    let here : item ≡ get_or items place item = c.get.ensures ∙ ap (λ n. get_or items n item) (sym index) in
-    let some : 0 < c.args.window.now.count = omega (arith, c.if-window-eq0.false) in
-    (good, sym index, some, λ x read. subst (λ y. Lt (position_cmp order.cmp) (item_lower order y) (lower order (g.R.AsRange.range c.args.range.now))) (sym (get_or_read items place x within read item ∙ sym here)) (c.starts_before.ensures.0 c.if-starts_before.true))
+    let here : item ≡ get_or items place item =
+    c.get.ensures ∙ ap (λ n. get_or items n item) (sym index) in
+    let some : 0 < c.args.window.now.count = omega (arith, c.if-window-eq0.false) in (
+      good,
+      sym index,
+      some,
+      λ x read.
+          subst (λ y. Lt (position_cmp order.cmp) (item_lower order y)
+          (lower order (g.R.AsRange.range c.args.range.now)))
+          (sym (get_or_read items place x within read item ∙ sym here))
+          (c.starts_before.ensures.0 c.if-starts_before.true),
+    )
 
 pub returns-else-starts_before-clause-reaching : goal.returns-else-starts_before-clause-reaching
 returns-else-starts_before-clause-reaching g c = λ x some read.
@@ -31,11 +42,17 @@ returns-else-starts_before-clause-reaching g c = λ x some read.
     let stored = c.args.stored.now in
     let items = storage.items stored in
     let place = place_before (storage.rank stored) (length items) c.args.window.now.from in
-    let index : place ≡ storage.rank stored c.in-Some.first = ap (place_before (storage.rank stored) (length items)) c.in-Some.is in
+    let index : place ≡ storage.rank stored c.in-Some.first =
+    ap (place_before (storage.rank stored) (length items)) c.in-Some.is in
     let within : place < length items = omega (arith, some, c.requires.window.in_range) in
     let item = c.get.result.now in
-    let here : item ≡ get_or items place item = c.get.ensures ∙ ap (λ n. get_or items n item) (sym index) in
+    let here : item ≡ get_or items place item =
+    c.get.ensures ∙ ap (λ n. get_or items n item) (sym index) in
     let same : x ≡ item = get_or_read items place x within read item ∙ sym here in
     let cmp = position_cmp order.cmp in
-    let starts : Le cmp (lower order (g.R.AsRange.range c.args.range.now)) (item_lower order item) = not_lt cmp (position_total order.cmp g.met.K.PartialEnum.lawful.total) (lower order (g.R.AsRange.range c.args.range.now)) (item_lower order item) (λ l. let held : IsTrue c.starts_before.result = c.starts_before.ensures.1 l in cc) in
-    subst (λ y. Le cmp (lower order (g.R.AsRange.range c.args.range.now)) (item_lower order y)) (sym same) starts
+    let starts : Le cmp (lower order (g.R.AsRange.range c.args.range.now)) (item_lower order item) =
+    not_lt cmp (position_total order.cmp g.met.K.PartialEnum.lawful.total)
+    (lower order (g.R.AsRange.range c.args.range.now)) (item_lower order item)
+    (λ l. let held : IsTrue c.starts_before.result = c.starts_before.ensures.1 l in cc) in
+    subst (λ y. Le cmp (lower order (g.R.AsRange.range c.args.range.now)) (item_lower order y))
+    (sym same) starts

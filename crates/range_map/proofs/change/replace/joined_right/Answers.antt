@@ -14,13 +14,24 @@ use Rattle.range_map.proofs.change.replace.joined_right.Goals as goal
 
 pub returns-in_default : goal.returns-in_default
 returns-in_default g c = λ lawful equal b known_b same_b.
-    inr (got_none _ c.args.previous c.in_default.is, right_cut_any lawful equal c.requires.reach.window c.args.reach.now.last b c.requires.reach.last known_b same_b)
+    inr (
+      got_none _ c.args.previous c.in_default.is,
+      right_cut_any lawful equal c.requires.reach.window c.args.reach.now.last b
+          c.requires.reach.last known_b same_b,
+    )
 
 pub returns-then-ends_after : goal.returns-then-ends_after
 returns-then-ends_after g c = λ lawful equal b known_b same_b.
     let order = g.K.MaybeBounded.order in
-    let Earlier = λ (m : Item (AnyRange g.row.K.Denot) g.row.V.Denot). Lt (places order lawful) (item_upper order m) (upper order c.args.range.now) in
-    inr (got_only Earlier c.args.previous c.in-Some.item c.in-Some.is (c.if-ends_after.ensures.0 refl), right_cut_any lawful equal c.requires.reach.window c.args.reach.now.last b c.requires.reach.last known_b same_b)
+    let Earlier =
+    λ (m : Item (AnyRange g.row.K.Denot) g.row.V.Denot). Lt (places order lawful)
+    (item_upper order m) (upper order c.args.range.now) in
+    inr (
+      got_only Earlier c.args.previous c.in-Some.item c.in-Some.is
+          (c.if-ends_after.ensures.0 refl),
+      right_cut_any lawful equal c.requires.reach.window c.args.reach.now.last b
+          c.requires.reach.last known_b same_b,
+    )
 
 pub returns : goal.returns
 returns g c = λ lawful equal b known_b same_b.
@@ -30,5 +41,14 @@ returns g c = λ lawful equal b known_b same_b.
     let m = c.in-Some.item.now in
     let r = c.args.range.now in
     let within = rw c.in-Some.is at c.requires.within in
-    let here : cmp (item_upper order m) (upper order r) ≡ Equal = both cmp total (item_upper order m) (upper order r) (within_end order lawful m.key r c.known.ensures c.requires.reach.window.known within) (not_lt cmp total (upper order r) (item_upper order m) (λ l. let earlier = c.if-ends_after.ensures.1 l in cc)) in
-    inl (m, ap option_copied c.in-Some.is, here, c.joins_after.ensures.joins lawful equal b known_b same_b)
+    let here : cmp (item_upper order m) (upper order r) ≡ Equal =
+    both cmp total (item_upper order m) (upper order r)
+    (within_end order lawful m.key r c.known.ensures c.requires.reach.window.known within)
+    (not_lt cmp total (upper order r) (item_upper order m)
+    (λ l. let earlier = c.if-ends_after.ensures.1 l in cc)) in
+    inl (
+      m,
+      ap option_copied c.in-Some.is,
+      here,
+      c.joins_after.ensures.joins lawful equal b known_b same_b,
+    )

@@ -13,7 +13,11 @@ replace_run-requires-clause-in_range g c =
     let stored = c.args.stored.now in
     let ready = c.open_sides-start.new.stored in
     let kept = c.open_sides-start.ensures in
-    let here = kept_place (storage.is_good stored) (storage.is_good ready) (storage.rank stored) (storage.rank ready) (length (storage.items stored)) (length (storage.items ready)) c.args.sides.run.at kept.positions kept.size c.requires.good in
+    let here =
+    kept_place (storage.is_good stored) (storage.is_good ready) (storage.rank stored)
+    (storage.rank ready) (length (storage.items stored))
+    (length (storage.items ready)) c.args.sides.run.at kept.positions kept.size
+    c.requires.good in
     rw (here, kept.size) c.requires.in_range
 
 pub remove_rest-requires-clause-in_range : goal.remove_rest-requires-clause-in_range
@@ -22,7 +26,11 @@ remove_rest-requires-clause-in_range g c =
     let stored = c.args.stored.now in
     let ready = c.open_sides-start.new.stored in
     let kept = c.open_sides-start.ensures in
-    let here = kept_place (storage.is_good stored) (storage.is_good ready) (storage.rank stored) (storage.rank ready) (length (storage.items stored)) (length (storage.items ready)) c.args.sides.run.at kept.positions kept.size c.requires.good in
+    let here =
+    kept_place (storage.is_good stored) (storage.is_good ready) (storage.rank stored)
+    (storage.rank ready) (length (storage.items stored))
+    (length (storage.items ready)) c.args.sides.run.at kept.positions kept.size
+    c.requires.good in
     rw (here, kept.size) c.requires.in_range
 
 pub returns-in-Some : goal.returns-in-Some
@@ -34,14 +42,35 @@ returns-in-Some g c = λ at end before behind start finish left_shape right_shap
     let kept = c.open_sides-start.ensures in
     let from = place_before (storage.rank stored) (length items) c.args.sides.run.at in
     let upto = from + c.args.sides.run.left in
-    let here = kept_place (storage.is_good stored) (storage.is_good ready) (storage.rank stored) (storage.rank ready) (length items) (length (storage.items ready)) c.args.sides.run.at kept.positions kept.size c.requires.good in
-    let opened = kept.opened at from upto end before behind start finish left_shape right_shape (omega (arith, le)) in
+    let here =
+    kept_place (storage.is_good stored) (storage.is_good ready) (storage.rank stored)
+    (storage.rank ready) (length items)
+    (length (storage.items ready)) c.args.sides.run.at kept.positions kept.size
+    c.requires.good in
+    let opened =
+    kept.opened at from upto end before behind start finish left_shape right_shape
+    (omega (arith, le)) in
     let own = c.into_bounds-own_start in
-    let starts : c.joined.result ≡ unwrap_or start c.in-Some.field-0.key.start = c.joined.ensures ∙ (ap (λ o. unwrap_or o own.result.0) opened.start_is ∙ ap (unwrap_or start) own.ensures.start) in
-    let ends : c.joined-in-Some.result ≡ unwrap_or finish c.in-Some.field-0.key.end = c.joined-in-Some.ensures ∙ (ap (λ o. unwrap_or o own.result.1) opened.end_is ∙ ap (unwrap_or finish) own.ensures.end) in
+    let starts : c.joined.result ≡ unwrap_or start c.in-Some.field-0.key.start =
+    c.joined.ensures
+    ∙ (ap (λ o. unwrap_or o own.result.0) opened.start_is
+    ∙ ap (unwrap_or start) own.ensures.start) in
+    let ends : c.joined-in-Some.result ≡ unwrap_or finish c.in-Some.field-0.key.end =
+    c.joined-in-Some.ensures
+    ∙ (ap (λ o. unwrap_or o own.result.1) opened.end_is
+    ∙ ap (unwrap_or finish) own.ensures.end) in
     let done = rw here at c.replace_run.ensures in
-    let item : Item (AnyRange g.row.K.Denot) g.row.V.Denot = record { key = record { start = c.joined.result; end = c.joined-in-Some.result }; value = c.in-Some.field-0.value } in
-    rw (c.in-Some.is, ← starts, ← ends) (done ∙ (ap (λ ys. ys ++ item ∷ drop upto (storage.items ready)) opened.front ∙ (ap (λ ys. (take at items ++ option_items before) ++ item ∷ ys) opened.behind ∙ opening_regroups (take at items) (option_items before) (option_items behind) (drop end items) item)))
+    let item : Item (AnyRange g.row.K.Denot) g.row.V.Denot =
+    record {
+      key = record { start = c.joined.result; end = c.joined-in-Some.result };
+      value = c.in-Some.field-0.value;
+    } in
+    rw (c.in-Some.is, ← starts, ← ends)
+    (done
+    ∙ (ap (λ ys. ys ++ item ∷ drop upto (storage.items ready)) opened.front
+    ∙ (ap (λ ys. (take at items ++ option_items before) ++ item ∷ ys) opened.behind
+    ∙ opening_regroups (take at items) (option_items before) (option_items behind)
+    (drop end items) item)))
 
 pub returns-in-None : goal.returns-in-None
 returns-in-None g c = λ at end before behind start finish left_shape right_shape le.
@@ -52,7 +81,17 @@ returns-in-None g c = λ at end before behind start finish left_shape right_shap
     let kept = c.open_sides-start.ensures in
     let from = place_before (storage.rank stored) (length items) c.args.sides.run.at in
     let upto = from + c.args.sides.run.left in
-    let here = kept_place (storage.is_good stored) (storage.is_good ready) (storage.rank stored) (storage.rank ready) (length items) (length (storage.items ready)) c.args.sides.run.at kept.positions kept.size c.requires.good in
-    let opened = kept.opened at from upto end before behind start finish left_shape right_shape (omega (arith, le)) in
+    let here =
+    kept_place (storage.is_good stored) (storage.is_good ready) (storage.rank stored)
+    (storage.rank ready) (length items)
+    (length (storage.items ready)) c.args.sides.run.at kept.positions kept.size
+    c.requires.good in
+    let opened =
+    kept.opened at from upto end before behind start finish left_shape right_shape
+    (omega (arith, le)) in
     let done = rw here at c.remove_rest.ensures.list in
-    rw c.in-None.is (done ∙ (ap (λ ys. ys ++ drop upto (storage.items ready)) opened.front ∙ (ap (λ ys. (take at items ++ option_items before) ++ ys) opened.behind ∙ regrouped_out (take at items) (option_items before) (option_items behind) (drop end items))))
+    rw c.in-None.is (done
+    ∙ (ap (λ ys. ys ++ drop upto (storage.items ready)) opened.front
+    ∙ (ap (λ ys. (take at items ++ option_items before) ++ ys) opened.behind
+    ∙ regrouped_out (take at items) (option_items before) (option_items behind)
+    (drop end items))))

@@ -18,7 +18,11 @@ insert_at-at-requires g c =
     let next = storage.rank old c.args.p + 1 in
     let len = length (storage.items old) in
     record {
-      good = good_at (storage.is_good ready) (storage.rank ready) len c.args.after next (kept_at (storage.is_good old) (storage.is_good ready) (storage.rank old) (storage.rank ready) len c.args.after next c.replace_end-old_end.ensures.positions c.requires.after);
+      good =
+          good_at (storage.is_good ready) (storage.rank ready) len c.args.after next
+          (kept_at (storage.is_good old) (storage.is_good ready) (storage.rank old)
+          (storage.rank ready) len c.args.after next c.replace_end-old_end.ensures.positions
+          c.requires.after);
       has_room = omega (arith, c.requires.space, c.replace_end-old_end.ensures.space);
     }
 
@@ -29,7 +33,8 @@ insert_at-middle-requires g c =
       good = λ q e.
           let same : c.insert_at-at.result ≡ q = cc in
           rw (← same) c.insert_at-at.ensures.position.0;
-      has_room = omega (arith, space, c.replace_end-old_end.ensures.space, c.insert_at-at.ensures.space);
+      has_room =
+          omega (arith, space, c.replace_end-old_end.ensures.space, c.insert_at-at.ensures.space);
     }
 
 pub returns-in-None : goal.returns-in-None
@@ -44,10 +49,24 @@ returns-in-None g c = λ d.
     let one = c.insert_at-at.new.self in
     let parts = c.args.parts in
     let within = g.met.C.Storage.good_is_in_range old p c.requires.good in
-    let after = kept_at (storage.is_good old) (storage.is_good ready) (storage.rank old) (storage.rank ready) (length items) c.args.after (place + 1) edit.positions c.requires.after in
-    let here : place_before (storage.rank ready) (length (storage.items ready)) c.args.after ≡ place + 1 = ap (λ n. place_before (storage.rank ready) n c.args.after) edit.size ∙ place_at (storage.is_good ready) (storage.rank ready) (length items) c.args.after (place + 1) after in
-    let behind : Item (AnyRange g.row.K.Denot) g.row.V.Denot = record { key = record { start = parts.start; end = c.replace_end-old_end.result }; value = parts.value } in
-    rw (c.in-None.is, ← edit.end d) (parted_alone items (storage.items ready) (storage.items one) place (with_end (get_or items place d) parts.end) behind within (edit.list d) (rw here at c.insert_at-at.ensures.list))
+    let after =
+    kept_at (storage.is_good old) (storage.is_good ready) (storage.rank old)
+    (storage.rank ready) (length items) c.args.after
+    (place + 1) edit.positions c.requires.after in
+    let here : place_before (storage.rank ready) (length (storage.items ready)) c.args.after
+    ≡ place + 1 =
+    ap (λ n. place_before (storage.rank ready) n c.args.after) edit.size
+    ∙ place_at (storage.is_good ready) (storage.rank ready) (length items) c.args.after
+    (place + 1) after in
+    let behind : Item (AnyRange g.row.K.Denot) g.row.V.Denot =
+    record {
+      key = record { start = parts.start; end = c.replace_end-old_end.result };
+      value = parts.value;
+    } in
+    rw (c.in-None.is, ← edit.end d)
+    (parted_alone items (storage.items ready) (storage.items one) place
+    (with_end (get_or items place d) parts.end) behind within (edit.list d)
+    (rw here at c.insert_at-at.ensures.list))
 
 pub returns-in-Some : goal.returns-in-Some
 returns-in-Some g c = λ d.
@@ -61,8 +80,24 @@ returns-in-Some g c = λ d.
     let one = c.insert_at-at.new.self in
     let parts = c.args.parts in
     let within = g.met.C.Storage.good_is_in_range old p c.requires.good in
-    let after = kept_at (storage.is_good old) (storage.is_good ready) (storage.rank old) (storage.rank ready) (length items) c.args.after (place + 1) edit.positions c.requires.after in
-    let here : place_before (storage.rank ready) (length (storage.items ready)) c.args.after ≡ place + 1 = ap (λ n. place_before (storage.rank ready) n c.args.after) edit.size ∙ place_at (storage.is_good ready) (storage.rank ready) (length items) c.args.after (place + 1) after in
-    let there : storage.rank one c.insert_at-at.result ≡ place + 1 = c.insert_at-at.ensures.position.1 ∙ here in
-    let behind : Item (AnyRange g.row.K.Denot) g.row.V.Denot = record { key = record { start = parts.start; end = c.replace_end-old_end.result }; value = parts.value } in
-    rw (c.in-Some.is, ← edit.end d) (parted_around items (storage.items ready) (storage.items one) (storage.items c.insert_at-middle.new.self) place (with_end (get_or items place d) parts.end) behind c.in-Some.item within (edit.list d) (rw here at c.insert_at-at.ensures.list) (rw there at c.insert_at-middle.ensures.list))
+    let after =
+    kept_at (storage.is_good old) (storage.is_good ready) (storage.rank old)
+    (storage.rank ready) (length items) c.args.after
+    (place + 1) edit.positions c.requires.after in
+    let here : place_before (storage.rank ready) (length (storage.items ready)) c.args.after
+    ≡ place + 1 =
+    ap (λ n. place_before (storage.rank ready) n c.args.after) edit.size
+    ∙ place_at (storage.is_good ready) (storage.rank ready) (length items) c.args.after
+    (place + 1) after in
+    let there : storage.rank one c.insert_at-at.result ≡ place + 1 =
+    c.insert_at-at.ensures.position.1 ∙ here in
+    let behind : Item (AnyRange g.row.K.Denot) g.row.V.Denot =
+    record {
+      key = record { start = parts.start; end = c.replace_end-old_end.result };
+      value = parts.value;
+    } in
+    rw (c.in-Some.is, ← edit.end d)
+    (parted_around items (storage.items ready) (storage.items one)
+    (storage.items c.insert_at-middle.new.self) place
+    (with_end (get_or items place d) parts.end) behind c.in-Some.item within (edit.list d)
+    (rw here at c.insert_at-at.ensures.list) (rw there at c.insert_at-middle.ensures.list))

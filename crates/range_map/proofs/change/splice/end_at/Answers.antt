@@ -9,4 +9,8 @@ returns-in-Some-last_mut g c =
     let item = c.in-Some-last_mut.item.now in
     let some : 0 < length items = omega (arith, size, c.in-Some-last_mut.ensures.variant.0 refl) in
     let last : c.args.items.now.len - 1 ≡ length items - 1 = omega (arith, size) in
-    rw (c.in-Some.is, last) (set_last items item c.in-Some.end some (c.in-Some-last_mut.ensures.value ∙ ap (λ n. get_or items n item) last))
+    rw (
+      c.in-Some.is,
+      last,
+    ) (set_last items item c.in-Some.end some
+    (c.in-Some-last_mut.ensures.value ∙ ap (λ n. get_or items n item) last))

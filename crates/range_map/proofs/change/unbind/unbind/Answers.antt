@@ -14,7 +14,9 @@ returns-then-window-eq0 g c =
         stored = c.requires.stored;
         apart = none_meets lawful equal window c.if-window-eq0.true;
         frame = not_cut lawful equal window;
-        unbound = unmet_is_unbound g.K.MaybeBounded.order lawful g.V.PartialEq.eq equal window c.if-window-eq0.true;
+        unbound =
+            unmet_is_unbound g.K.MaybeBounded.order lawful g.V.PartialEq.eq equal window
+            c.if-window-eq0.true;
       };
       most = grind (arith, common_steps);
       least = grind (arith, common_steps);
@@ -25,7 +27,9 @@ returns-then-window-eq0 g c =
 
 pub returns : goal.returns
 returns g c =
-    let met = some_meets g.met.K.PartialEnum.lawful g.met.V.Eq.laws c.find_window-window.ensures.window (omega (arith, c.if-window-eq0.false)) in
+    let met =
+    some_meets g.met.K.PartialEnum.lawful g.met.V.Eq.laws
+    c.find_window-window.ensures.window (omega (arith, c.if-window-eq0.false)) in
     record {
       ok = c.unbind_met.ensures.ok;
       most = grind (arith, common_steps);
@@ -36,4 +40,10 @@ returns g c =
     }
 
 pub unbind_met-requires : goal.unbind_met-requires
-unbind_met-requires g c = record { keys = c.requires.keys; values = c.requires.values; window = c.find_window-window.ensures.window; some = omega (arith, c.if-window-eq0.false) }
+unbind_met-requires g c =
+    record {
+      keys = c.requires.keys;
+      values = c.requires.values;
+      window = c.find_window-window.ensures.window;
+      some = omega (arith, c.if-window-eq0.false);
+    }

@@ -4,7 +4,8 @@ use Rattle.range_map.proofs.Surrounded.{reach_is_met, surrounded_by}
 use Rattle.range_map.proofs.change.unbind.unbind_met.Goals as goal
 
 pub surrounding-requires : goal.surrounding-requires
-surrounding-requires g c = let met = reach_is_met c.reaching-reach.ensures.reach in record { first = met.0; last = met.1 }
+surrounding-requires g c = let met =
+    reach_is_met c.reaching-reach.ensures.reach in record { first = met.0; last = met.1 }
 
 pub unbind_whole-requires : goal.unbind_whole-requires
 unbind_whole-requires g c =
@@ -16,7 +17,18 @@ unbind_whole-requires g c =
     }
 
 pub unbind_within-requires : goal.unbind_within-requires
-unbind_within-requires g c = record { keys = c.requires.keys; values = c.requires.values; within = surrounded_by c.reaching-reach.ensures.reach c.in-Some.ensures }
+unbind_within-requires g c =
+    record {
+      keys = c.requires.keys;
+      values = c.requires.values;
+      within = surrounded_by c.reaching-reach.ensures.reach c.in-Some.ensures;
+    }
 
 pub unbind_over-requires : goal.unbind_over-requires
-unbind_over-requires g c = record { keys = c.requires.keys; reach = c.reaching-reach.ensures.reach; some = rw c.reaching-reach.ensures.window c.requires.some; apart = c.in-None.ensures }
+unbind_over-requires g c =
+    record {
+      keys = c.requires.keys;
+      reach = c.reaching-reach.ensures.reach;
+      some = rw c.reaching-reach.ensures.window c.requires.some;
+      apart = c.in-None.ensures;
+    }

@@ -23,13 +23,27 @@ returns g c =
     let rank_is = (c.cut_parts.ensures.positions c.args.p within.good).1 in
     let new = storage.items c.divide.new.stored in
     record {
-      ok = divided_alone lawful equal within x read parts end start cloned.value _ new _ c.cut_parts.ensures.list rank_is c.divide.ensures;
-      few = omega (arith, few_added lawful equal within x read parts end start cloned.value _ new _ c.cut_parts.ensures.list rank_is None c.divide.ensures);
+      ok =
+          divided_alone lawful equal within x read parts end start cloned.value _ new _
+          c.cut_parts.ensures.list rank_is c.divide.ensures;
+      few =
+          omega (
+            arith,
+            few_added lawful equal within x read parts end start cloned.value _ new _
+                c.cut_parts.ensures.list rank_is None c.divide.ensures,
+          );
       refused = tt;
     }
 
 pub cut_parts-requires : goal.cut_parts-requires
-cut_parts-requires g c = record { keys = c.requires.keys; values = c.requires.values; good = c.requires.within.good }
+cut_parts-requires g c =
+    record { keys = c.requires.keys; values = c.requires.values; good = c.requires.within.good }
 
 pub returns-in_err-parts : goal.returns-in_err-parts
-returns-in_err-parts g c = record { ok = error_has_no_value _ c.from_residual.result c.from_residual.ensures.0; few = error_has_no_value _ c.from_residual.result c.from_residual.ensures.0; refused = on_error _ c.from_residual.result c.cut_parts.ensures.list }
+returns-in_err-parts g c =
+    record {
+      ok = error_has_no_value _ c.from_residual.result c.from_residual.ensures.0;
+      few = error_has_no_value _ c.from_residual.result c.from_residual.ensures.0;
+      refused =
+          on_error _ c.from_residual.result c.cut_parts.ensures.list;
+    }

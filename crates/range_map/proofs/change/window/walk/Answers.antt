@@ -18,8 +18,12 @@ loop-at-init g c =
     let place = place_before (storage.rank stored) len c.args.from in
     let none : place + 0 ≡ place = omega arith in
     record {
-      position = rw none (at_place (storage.is_good stored) (storage.rank stored) len c.args.from c.requires);
-      in_range = rw none (place_is_in_range (storage.is_good stored) (storage.rank stored) len c.args.from (g.met.C.Storage.good_is_in_range stored) c.requires);
+      position =
+          rw none (at_place (storage.is_good stored)
+          (storage.rank stored) len c.args.from c.requires);
+      in_range =
+          rw none (place_is_in_range (storage.is_good stored) (storage.rank stored) len c.args.from
+          (g.met.C.Storage.good_is_in_range stored) c.requires);
       last_is = refl;
       meets = λ d some. absurd (omega (arith, some));
       counted = record { at_most = omega arith; at_least = omega arith };
@@ -32,14 +36,23 @@ loop-at-preserved g c =
     let items = storage.items stored in
     let place = place_before (storage.rank stored) (length items) c.args.from in
     let here = rw c.in-Some.is at c.loop-at.invariant.position in
-    let within : storage.rank stored c.in-Some.p < length items = g.met.C.Storage.good_is_in_range stored c.in-Some.p here.0 in
-    let next : storage.rank stored c.in-Some.p + 1 ≡ place + (c.loop-at.count + 1) = omega (arith, here.1) in
-    let index : place + (c.loop-at.count + 1) - 1 ≡ storage.rank stored c.in-Some.p = omega (arith, here.1) in
+    let within : storage.rank stored c.in-Some.p < length items =
+    g.met.C.Storage.good_is_in_range stored c.in-Some.p here.0 in
+    let next : storage.rank stored c.in-Some.p + 1 ≡ place + (c.loop-at.count + 1) =
+    omega (arith, here.1) in
+    let index : place + (c.loop-at.count + 1) - 1 ≡ storage.rank stored c.in-Some.p =
+    omega (arith, here.1) in
     record {
       position = rw next at c.next-at.ensures;
       in_range = omega (arith, here.1, within);
       last_is = (here.0, next, omega arith);
-      meets = λ d some. rw (index, ← get_or_read items (storage.rank stored c.in-Some.p) c.get.result.now within c.get.ensures d) (sym c.if-starts_past.ensures.past);
+      meets =
+          λ d some.
+          rw (
+            index,
+            ← get_or_read items (storage.rank stored c.in-Some.p) c.get.result.now within
+                c.get.ensures d,
+          ) (sym c.if-starts_past.ensures.past);
       counted = record { at_most = omega arith; at_least = omega arith };
     }
 
@@ -52,19 +65,28 @@ returns-then-starts_past g c =
     let place = place_before (storage.rank stored) (length items) c.args.from in
     let was = c.loop-at.invariant in
     let here = rw c.in-Some.is at was.position in
-    let within : storage.rank stored c.in-Some.p < length items = g.met.C.Storage.good_is_in_range stored c.in-Some.p here.0 in
+    let within : storage.rank stored c.in-Some.p < length items =
+    g.met.C.Storage.good_is_in_range stored c.in-Some.p here.0 in
     let index : place + c.loop-at.count ≡ storage.rank stored c.in-Some.p = sym here.1 in
     let x = c.get.result.now in
     let end = reference_position order c.args.end.now in
     let start = start_position order x.key.start in
-    let past : Lt (position_cmp order.cmp) end start = not_le (position_cmp order.cmp) (position_total order.cmp g.met.K.PartialEnum.lawful.total) end start (λ h. let both : true ≡ false = c.if-starts_past.ensures.past ∙ h in cc) in
+    let past : Lt (position_cmp order.cmp) end start =
+    not_le (position_cmp order.cmp)
+    (position_total order.cmp g.met.K.PartialEnum.lawful.total) end start
+    (λ h. let both : true ≡ false = c.if-starts_past.ensures.past ∙ h in cc) in
     record {
       walked = record {
         in_range = was.in_range;
         last_is = was.last_is;
         after_is = here;
         meets = was.meets;
-        stops = λ d some. rw (index, ← get_or_read items (storage.rank stored c.in-Some.p) x within c.get.ensures d) past;
+        stops =
+            λ d some.
+            rw (
+              index,
+              ← get_or_read items (storage.rank stored c.in-Some.p) x within c.get.ensures d,
+            ) past;
       };
       counted = record { at_most = omega arith; at_least = omega arith };
     }

@@ -16,13 +16,17 @@ bind_disjoint-requires g c =
     record {
       keys = c.requires.keys;
       stored = rw c.map.view_is c.in_form.ensures;
-      nonempty = λ empty. let told = c.is_empty.ensures.by_position.1 empty in let not = c.if-is_empty.false in cc;
+      nonempty = λ empty. let told = c.is_empty.ensures.by_position.1 empty in let not =
+          c.if-is_empty.false in cc;
     }
 
 pub returns-then-is_empty : goal.returns-then-is_empty
 returns-then-is_empty g c =
     record {
-      met = (λ e. absurd (cc), λ h. absurd (h.0 (c.is_empty.ensures.by_position.0 c.if-is_empty.true)));
+      met = (
+        λ e. absurd (cc),
+        λ h. absurd (h.0 (c.is_empty.ensures.by_position.0 c.if-is_empty.true)),
+      );
       met_unchanged = λ _. refl;
       bound = grind (arith, common_steps);
       meets = λ _ full. absurd (full (c.is_empty.ensures.by_position.0 c.if-is_empty.true));
@@ -36,27 +40,62 @@ returns-then-is_empty g c =
 pub returns-in_err-disjoint : goal.returns-in_err-disjoint
 returns-in_err-disjoint g c =
     record {
-      met = (λ e. absurd (error_is_no_value c.from_residual.result _ c.from_residual.ensures.0 e), λ h. absurd (error_is_no_value c.bind_disjoint.result false (rw c.in_err-disjoint.was refl) (c.bind_disjoint.ensures.met.1 (rw c.map.view_is h.1))));
-      met_unchanged = λ e. absurd (error_is_no_value c.from_residual.result _ c.from_residual.ensures.0 e);
+      met = (
+        λ e. absurd (error_is_no_value c.from_residual.result _ c.from_residual.ensures.0 e),
+        λ h.
+            absurd (error_is_no_value c.bind_disjoint.result false (rw c.in_err-disjoint.was refl)
+            (c.bind_disjoint.ensures.met.1 (rw c.map.view_is h.1))),
+      );
+      met_unchanged =
+          λ e. absurd (error_is_no_value c.from_residual.result _ c.from_residual.ensures.0 e);
       bound = λ e. absurd (error_is_no_value c.from_residual.result _ c.from_residual.ensures.0 e);
-      meets = λ e full. absurd (error_is_no_value c.from_residual.result _ c.from_residual.ensures.0 e);
-      frame = λ e full. absurd (error_is_no_value c.from_residual.result _ c.from_residual.ensures.0 e);
+      meets =
+          λ e full. absurd (error_is_no_value c.from_residual.result _ c.from_residual.ensures.0 e);
+      frame =
+          λ e full. absurd (error_is_no_value c.from_residual.result _ c.from_residual.ensures.0 e);
       form = rw (c.in_err-disjoint.ensures.refused, c.map.view_is) c.in_form.ensures;
-      refused = on_error _ c.from_residual.result (rw (← c.map.view_is) c.in_err-disjoint.ensures.refused);
-      empty = λ empty. let told = c.is_empty.ensures.by_position.1 empty in let not = c.if-is_empty.false in absurd (cc);
-      empty_unchanged = λ empty. let told = c.is_empty.ensures.by_position.1 empty in let not = c.if-is_empty.false in absurd (cc);
+      refused =
+          on_error _ c.from_residual.result
+          (rw (← c.map.view_is) c.in_err-disjoint.ensures.refused);
+      empty = λ empty. let told = c.is_empty.ensures.by_position.1 empty in let not =
+          c.if-is_empty.false in absurd (cc);
+      empty_unchanged = λ empty. let told = c.is_empty.ensures.by_position.1 empty in let not =
+          c.if-is_empty.false in absurd (cc);
     }
 
 pub returns : goal.returns
 returns g c =
     record {
-      met = (λ e. let same : c.in_ok-disjoint.disjoint ≡ false = same_value c.in_ok-disjoint.disjoint false e in (λ empty. let told = c.is_empty.ensures.by_position.1 empty in let not = c.if-is_empty.false in cc, rw (← c.map.view_is) (c.in_ok-disjoint.ensures.met.0 (ap (λ b. Ok b) same))), λ h. ap (λ b. Ok b) (same_value c.in_ok-disjoint.disjoint false (c.in_ok-disjoint.ensures.met.1 (rw c.map.view_is h.1))));
-      met_unchanged = λ e. let same : c.in_ok-disjoint.disjoint ≡ false = same_value c.in_ok-disjoint.disjoint false e in rw (← c.map.view_is) (c.in_ok-disjoint.ensures.met_unchanged (ap (λ b. Ok b) same));
-      bound = λ e. let same : c.in_ok-disjoint.disjoint ≡ true = same_value c.in_ok-disjoint.disjoint true e in rw (← c.map.view_is) (c.in_ok-disjoint.ensures.bound (ap (λ b. Ok b) same)).bound;
-      meets = λ e full. let same : c.in_ok-disjoint.disjoint ≡ true = same_value c.in_ok-disjoint.disjoint true e in rw (← c.map.view_is) (c.in_ok-disjoint.ensures.bound (ap (λ b. Ok b) same)).meets;
-      frame = λ e full. let same : c.in_ok-disjoint.disjoint ≡ true = same_value c.in_ok-disjoint.disjoint true e in rw (← c.map.view_is) (c.in_ok-disjoint.ensures.bound (ap (λ b. Ok b) same)).frame;
+      met = (
+        λ e. let same : c.in_ok-disjoint.disjoint
+            ≡ false =
+            same_value c.in_ok-disjoint.disjoint false
+            e in (
+              λ empty.
+                  let told = c.is_empty.ensures.by_position.1 empty in let not =
+                  c.if-is_empty.false in cc,
+              rw (← c.map.view_is) (c.in_ok-disjoint.ensures.met.0 (ap (λ b. Ok b) same)),
+            ),
+        λ h.
+            ap (λ b. Ok b) (same_value c.in_ok-disjoint.disjoint false
+            (c.in_ok-disjoint.ensures.met.1 (rw c.map.view_is h.1))),
+      );
+      met_unchanged = λ e. let same : c.in_ok-disjoint.disjoint ≡ false =
+          same_value c.in_ok-disjoint.disjoint false e in rw (← c.map.view_is)
+          (c.in_ok-disjoint.ensures.met_unchanged (ap (λ b. Ok b) same));
+      bound = λ e. let same : c.in_ok-disjoint.disjoint ≡ true =
+          same_value c.in_ok-disjoint.disjoint true e in rw (← c.map.view_is)
+          (c.in_ok-disjoint.ensures.bound (ap (λ b. Ok b) same)).bound;
+      meets = λ e full. let same : c.in_ok-disjoint.disjoint ≡ true =
+          same_value c.in_ok-disjoint.disjoint true e in rw (← c.map.view_is)
+          (c.in_ok-disjoint.ensures.bound (ap (λ b. Ok b) same)).meets;
+      frame = λ e full. let same : c.in_ok-disjoint.disjoint ≡ true =
+          same_value c.in_ok-disjoint.disjoint true e in rw (← c.map.view_is)
+          (c.in_ok-disjoint.ensures.bound (ap (λ b. Ok b) same)).frame;
       form = grind (arith, common_steps);
       refused = tt;
-      empty = λ empty. let told = c.is_empty.ensures.by_position.1 empty in let not = c.if-is_empty.false in absurd (cc);
-      empty_unchanged = λ empty. let told = c.is_empty.ensures.by_position.1 empty in let not = c.if-is_empty.false in absurd (cc);
+      empty = λ empty. let told = c.is_empty.ensures.by_position.1 empty in let not =
+          c.if-is_empty.false in absurd (cc);
+      empty_unchanged = λ empty. let told = c.is_empty.ensures.by_position.1 empty in let not =
+          c.if-is_empty.false in absurd (cc);
     }

@@ -4,4 +4,5 @@ use Rattle.range_algebra.specs.Range.{Holds}
 use Rattle.range_map.proofs.inner.scan.find.Given as goal
 
 abbrev pub invariant-loop-item : goal.invariant-loop-item
-invariant-loop-item g l = All (λ i. ¬ Holds g.K.MaybeBounded.order i.key l.key) (take l.item-index l.items)
+invariant-loop-item g l =
+    All (λ i. ¬ Holds g.K.MaybeBounded.order i.key l.key) (take l.item-index l.items)

@@ -6,21 +6,30 @@ use Rattle.range_map.proofs.map.RangeMap.clone.Goals as goal
 pub clone-requires : goal.clone-requires
 clone-requires g c =
     let equal = λ (x : g.row.K.Denot) (y : g.row.K.Denot) (h : g.K.Clone.is_clone x y).
-    sym (g.met.K.MaybeBounded.order_is_cmp x y) ∙ (Equal-is (g.K.Ord.cmp x y)).0 (sym (g.met.K.Ord.matches_eq x y) ∙ c.requires.keys x y h) in
-    λ k d within y h. item_clone g.K.MaybeBounded.order g.met.K.PartialEnum.lawful g.V.PartialEq.eq g.met.V.Eq.laws g.K.Clone.is_clone equal g.V.Clone.is_clone c.requires.values (get_or (g.C.Storage.items c.self.inside.stored) k d) y h.0 h.1
+    sym (g.met.K.MaybeBounded.order_is_cmp x y)
+    ∙ (Equal-is (g.K.Ord.cmp x y)).0
+    (sym (g.met.K.Ord.matches_eq x y) ∙ c.requires.keys x y h) in
+    λ k d within y h.
+    item_clone g.K.MaybeBounded.order g.met.K.PartialEnum.lawful g.V.PartialEq.eq
+    g.met.V.Eq.laws g.K.Clone.is_clone equal g.V.Clone.is_clone c.requires.values
+    (get_or (g.C.Storage.items c.self.inside.stored) k d) y h.0 h.1
 
 pub invariant_of-result : goal.invariant_of-result
 invariant_of-result g c =
     let items = g.C.Storage.items c.self.inside.stored in
     let copy = g.C.Storage.items c.in_ok-stored.stored in
-    let equal = equal_items_are_copy g.K.MaybeBounded.order g.met.K.PartialEnum.lawful g.V.PartialEq.eq g.met.V.Eq.laws items copy c.in_ok-stored.ensures in
-    copy_stored g.K.MaybeBounded.order g.met.K.PartialEnum.lawful g.V.PartialEq.eq g.met.V.Eq.laws copy items equal c.known_items.ensures c.self.invariant
+    let equal =
+    equal_items_are_copy g.K.MaybeBounded.order g.met.K.PartialEnum.lawful g.V.PartialEq.eq
+    g.met.V.Eq.laws items copy c.in_ok-stored.ensures in
+    copy_stored g.K.MaybeBounded.order g.met.K.PartialEnum.lawful g.V.PartialEq.eq g.met.V.Eq.laws
+    copy items equal c.known_items.ensures c.self.invariant
 
 pub returns-clause-equal : goal.returns-clause-equal
 returns-clause-equal g c =
     let items = g.C.Storage.items c.self.inside.stored in
     let copy = g.C.Storage.items c.in_ok-stored.stored in
-    rw (← c.self.view_is) (equal_items_are_copy g.K.MaybeBounded.order g.met.K.PartialEnum.lawful g.V.PartialEq.eq g.met.V.Eq.laws items copy c.in_ok-stored.ensures)
+    rw (← c.self.view_is) (equal_items_are_copy g.K.MaybeBounded.order g.met.K.PartialEnum.lawful
+    g.V.PartialEq.eq g.met.V.Eq.laws items copy c.in_ok-stored.ensures)
 
 pub returns-clause-form : goal.returns-clause-form
 returns-clause-form g c = invariant_of-result g c

@@ -12,17 +12,33 @@ pub returns-clause-meets : goal.returns-clause-meets
 returns-clause-meets g c = λ full.
     let items = g.C.Storage.items c.self.inside.stored in
     let new = g.C.Storage.items c.bind_in_order.new.stored in
-    rw (← c.self.view_is) (subst (λ r. MeetAlso g.K.MaybeBounded.order items new r) c.into_range-range.ensures c.in_ok-bind_in_order.ensures.ok.meets)
+    rw (← c.self.view_is) (subst
+    (λ r. MeetAlso g.K.MaybeBounded.order items new r) c.into_range-range.ensures
+    c.in_ok-bind_in_order.ensures.ok.meets)
 
 pub returns-then-is_empty : goal.returns-then-is_empty
 returns-then-is_empty g c =
     record {
       bound = grind (arith, common_steps);
       form = c.in_form.ensures;
-      coarse = λ complete. stored_coarse g.K.MaybeBounded.order g.met.K.PartialEnum.lawful g.V.PartialEq.eq g.met.V.Eq.laws complete (g.C.Storage.items c.args.self.now) c.in_form.ensures;
-      only = λ complete. stored_only g.K.MaybeBounded.order g.met.K.PartialEnum.lawful g.V.PartialEq.eq g.met.V.Eq.laws complete (g.C.Storage.items c.args.self.now) c.in_form.ensures;
-      frame = λ full. absurd (full (rw (← c.into_range-range.ensures) (c.is_empty.ensures.by_position.0 c.if-is_empty.true)));
-      meets = λ full. absurd (full (rw (← c.into_range-range.ensures) (c.is_empty.ensures.by_position.0 c.if-is_empty.true)));
+      coarse =
+          λ complete.
+          stored_coarse g.K.MaybeBounded.order g.met.K.PartialEnum.lawful g.V.PartialEq.eq
+          g.met.V.Eq.laws complete (g.C.Storage.items c.args.self.now) c.in_form.ensures;
+      only =
+          λ complete.
+          stored_only g.K.MaybeBounded.order g.met.K.PartialEnum.lawful g.V.PartialEq.eq
+          g.met.V.Eq.laws complete (g.C.Storage.items c.args.self.now) c.in_form.ensures;
+      frame =
+          λ full.
+          absurd
+          (full (rw (← c.into_range-range.ensures)
+          (c.is_empty.ensures.by_position.0 c.if-is_empty.true)));
+      meets =
+          λ full.
+          absurd
+          (full (rw (← c.into_range-range.ensures)
+          (c.is_empty.ensures.by_position.0 c.if-is_empty.true)));
       few = le_sum _ 2;
       refused = tt;
       empty = λ _. refl;
@@ -34,39 +50,71 @@ returns-in_err-bind_in_order g c =
     record {
       bound = error_has_no_value _ c.from_residual.result c.from_residual.ensures.0;
       form = rw (c.in_err-bind_in_order.ensures.refused, c.self.view_is) c.in_form.ensures;
-      coarse = λ complete. stored_coarse g.K.MaybeBounded.order g.met.K.PartialEnum.lawful g.V.PartialEq.eq g.met.V.Eq.laws complete (g.C.Storage.items c.bind_in_order.new.stored) (rw (c.in_err-bind_in_order.ensures.refused, c.self.view_is) c.in_form.ensures);
-      only = λ complete. stored_only g.K.MaybeBounded.order g.met.K.PartialEnum.lawful g.V.PartialEq.eq g.met.V.Eq.laws complete (g.C.Storage.items c.bind_in_order.new.stored) (rw (c.in_err-bind_in_order.ensures.refused, c.self.view_is) c.in_form.ensures);
+      coarse =
+          λ complete.
+          stored_coarse g.K.MaybeBounded.order g.met.K.PartialEnum.lawful g.V.PartialEq.eq
+          g.met.V.Eq.laws complete (g.C.Storage.items c.bind_in_order.new.stored)
+          (rw (c.in_err-bind_in_order.ensures.refused, c.self.view_is) c.in_form.ensures);
+      only =
+          λ complete.
+          stored_only g.K.MaybeBounded.order g.met.K.PartialEnum.lawful g.V.PartialEq.eq
+          g.met.V.Eq.laws complete (g.C.Storage.items c.bind_in_order.new.stored)
+          (rw (c.in_err-bind_in_order.ensures.refused, c.self.view_is) c.in_form.ensures);
       frame = error_has_no_value _ c.from_residual.result c.from_residual.ensures.0;
       meets = error_has_no_value _ c.from_residual.result c.from_residual.ensures.0;
       few = rw (← c.self.view_is) c.bind_in_order.ensures.few;
-      refused = on_error _ c.from_residual.result (rw (← c.self.view_is) c.in_err-bind_in_order.ensures.refused);
-      empty = λ empty. let told = c.is_empty.ensures.by_position.1 (rw c.into_range-range.ensures empty) in let not = c.if-is_empty.false in absurd (cc);
-      empty_unchanged = λ empty. let told = c.is_empty.ensures.by_position.1 (rw c.into_range-range.ensures empty) in let not = c.if-is_empty.false in absurd (cc);
+      refused =
+          on_error _ c.from_residual.result
+          (rw (← c.self.view_is) c.in_err-bind_in_order.ensures.refused);
+      empty = λ empty. let told =
+          c.is_empty.ensures.by_position.1 (rw c.into_range-range.ensures empty) in let not =
+          c.if-is_empty.false in absurd (cc);
+      empty_unchanged = λ empty. let told =
+          c.is_empty.ensures.by_position.1 (rw c.into_range-range.ensures empty) in let not =
+          c.if-is_empty.false in absurd (cc);
     }
 
 pub returns-clause-form : goal.returns-clause-form
 returns-clause-form g c = c.in_ok-bind_in_order.ensures.ok.stored
 
 pub returns-clause-coarse : goal.returns-clause-coarse
-returns-clause-coarse g c = λ complete. stored_coarse g.K.MaybeBounded.order g.met.K.PartialEnum.lawful g.V.PartialEq.eq g.met.V.Eq.laws complete (g.C.Storage.items c.bind_in_order.new.stored) (returns-clause-form g c)
+returns-clause-coarse g c =
+    λ complete.
+    stored_coarse g.K.MaybeBounded.order g.met.K.PartialEnum.lawful g.V.PartialEq.eq g.met.V.Eq.laws
+    complete (g.C.Storage.items c.bind_in_order.new.stored) (returns-clause-form g c)
 
 pub returns-clause-only : goal.returns-clause-only
-returns-clause-only g c = λ complete. stored_only g.K.MaybeBounded.order g.met.K.PartialEnum.lawful g.V.PartialEq.eq g.met.V.Eq.laws complete (g.C.Storage.items c.bind_in_order.new.stored) (returns-clause-form g c)
+returns-clause-only g c =
+    λ complete.
+    stored_only g.K.MaybeBounded.order g.met.K.PartialEnum.lawful g.V.PartialEq.eq g.met.V.Eq.laws
+    complete (g.C.Storage.items c.bind_in_order.new.stored) (returns-clause-form g c)
 
 pub returns-clause-bound : goal.returns-clause-bound
-returns-clause-bound g c = rw (← c.self.view_is) (subst (λ r. IsBoundAfter g.K.MaybeBounded.order g.V.PartialEq.eq (g.C.Storage.items c.self.inside.stored) (g.C.Storage.items c.bind_in_order.new.stored) r c.args.value) c.into_range-range.ensures c.in_ok-bind_in_order.ensures.ok.bound)
+returns-clause-bound g c =
+    rw (← c.self.view_is) (subst
+    (λ r. IsBoundAfter g.K.MaybeBounded.order g.V.PartialEq.eq
+    (g.C.Storage.items c.self.inside.stored)
+    (g.C.Storage.items c.bind_in_order.new.stored) r c.args.value) c.into_range-range.ensures
+    c.in_ok-bind_in_order.ensures.ok.bound)
 
 pub returns-clause-empty : goal.returns-clause-empty
 returns-clause-empty g c = λ _. refl
 
 pub returns-clause-empty_unchanged : goal.returns-clause-empty_unchanged
-returns-clause-empty_unchanged g c = λ empty. let told = c.is_empty.ensures.by_position.1 (rw c.into_range-range.ensures empty) in let not = c.if-is_empty.false in absurd (cc)
+returns-clause-empty_unchanged g c = λ empty. let told =
+    c.is_empty.ensures.by_position.1 (rw c.into_range-range.ensures empty) in let not =
+    c.if-is_empty.false in absurd (cc)
 
 pub returns-clause-few : goal.returns-clause-few
 returns-clause-few g c = rw (← c.self.view_is) c.bind_in_order.ensures.few
 
 pub returns-clause-frame : goal.returns-clause-frame
-returns-clause-frame g c = λ full. rw (← c.self.view_is) (subst (λ r. GaveWayTo g.K.MaybeBounded.order g.V.PartialEq.eq (g.C.Storage.items c.self.inside.stored) (g.C.Storage.items c.bind_in_order.new.stored) r c.args.value) c.into_range-range.ensures c.in_ok-bind_in_order.ensures.ok.frame)
+returns-clause-frame g c =
+    λ full. rw (← c.self.view_is)
+    (subst (λ r. GaveWayTo g.K.MaybeBounded.order g.V.PartialEq.eq
+    (g.C.Storage.items c.self.inside.stored)
+    (g.C.Storage.items c.bind_in_order.new.stored) r c.args.value) c.into_range-range.ensures
+    c.in_ok-bind_in_order.ensures.ok.frame)
 
 pub returns-clause-refused : goal.returns-clause-refused
 returns-clause-refused g c = tt
@@ -83,5 +131,6 @@ bind_in_order-requires g c =
       keys = c.requires.keys;
       values = c.requires.values;
       stored = rw c.self.view_is c.in_form.ensures;
-      nonempty = λ empty. let told = c.is_empty.ensures.by_position.1 empty in let not = c.if-is_empty.false in cc;
+      nonempty = λ empty. let told = c.is_empty.ensures.by_position.1 empty in let not =
+          c.if-is_empty.false in cc;
     }

@@ -11,22 +11,46 @@ use Rattle.range_map.proofs.map.RangeMap.insert_counted.Goals as goal
 pub returns : goal.returns
 returns g c =
     record {
-      bound = rw (← c.self.view_is) (subst (λ r. IsBoundAfter g.K.MaybeBounded.order g.V.PartialEq.eq (g.C.Storage.items c.self.inside.stored) (g.C.Storage.items c.bind.new.stored) r c.args.value) c.into_range-range.ensures c.in_ok-bind.ensures.ok.bound);
+      bound =
+          rw (← c.self.view_is) (subst
+          (λ r. IsBoundAfter g.K.MaybeBounded.order g.V.PartialEq.eq
+          (g.C.Storage.items c.self.inside.stored)
+          (g.C.Storage.items c.bind.new.stored) r c.args.value) c.into_range-range.ensures
+          c.in_ok-bind.ensures.ok.bound);
       form = c.in_ok-bind.ensures.ok.stored;
-      coarse = λ complete. stored_coarse g.K.MaybeBounded.order g.met.K.PartialEnum.lawful g.V.PartialEq.eq g.met.V.Eq.laws complete (g.C.Storage.items c.bind.new.stored) c.in_ok-bind.ensures.ok.stored;
-      only = λ complete. stored_only g.K.MaybeBounded.order g.met.K.PartialEnum.lawful g.V.PartialEq.eq g.met.V.Eq.laws complete (g.C.Storage.items c.bind.new.stored) c.in_ok-bind.ensures.ok.stored;
-      frame = λ full. rw (← c.self.view_is) (subst (λ r. GaveWayTo g.K.MaybeBounded.order g.V.PartialEq.eq (g.C.Storage.items c.self.inside.stored) (g.C.Storage.items c.bind.new.stored) r c.args.value) c.into_range-range.ensures c.in_ok-bind.ensures.ok.frame);
+      coarse =
+          λ complete.
+          stored_coarse g.K.MaybeBounded.order g.met.K.PartialEnum.lawful g.V.PartialEq.eq
+          g.met.V.Eq.laws complete
+          (g.C.Storage.items c.bind.new.stored) c.in_ok-bind.ensures.ok.stored;
+      only =
+          λ complete.
+          stored_only g.K.MaybeBounded.order g.met.K.PartialEnum.lawful g.V.PartialEq.eq
+          g.met.V.Eq.laws complete
+          (g.C.Storage.items c.bind.new.stored) c.in_ok-bind.ensures.ok.stored;
+      frame =
+          λ full. rw (← c.self.view_is)
+          (subst (λ r. GaveWayTo g.K.MaybeBounded.order g.V.PartialEq.eq
+          (g.C.Storage.items c.self.inside.stored)
+          (g.C.Storage.items c.bind.new.stored) r c.args.value) c.into_range-range.ensures
+          c.in_ok-bind.ensures.ok.frame);
       meets = λ full.
           let items = g.C.Storage.items c.self.inside.stored in
           let new = g.C.Storage.items c.bind.new.stored in
-          rw (← c.self.view_is) (subst (λ r. MeetAlso g.K.MaybeBounded.order items new r) c.into_range-range.ensures c.in_ok-bind.ensures.ok.meets);
+          rw (← c.self.view_is) (subst
+          (λ r. MeetAlso g.K.MaybeBounded.order items new r) c.into_range-range.ensures
+          c.in_ok-bind.ensures.ok.meets);
       few = grind (arith, common_steps);
       refused = tt;
       empty = λ _. refl;
-      empty_unchanged = λ empty. let told = c.is_empty.ensures.by_position.1 (rw c.into_range-range.ensures empty) in let not = c.if-is_empty.false in absurd (cc);
+      empty_unchanged = λ empty. let told =
+          c.is_empty.ensures.by_position.1 (rw c.into_range-range.ensures empty) in let not =
+          c.if-is_empty.false in absurd (cc);
       most = rw (← c.self.view_is) c.in_ok-bind.ensures.most;
       least = λ _. rw (← c.self.view_is) c.bind.ensures.least;
-      empty_uncounted = λ empty. let told = c.is_empty.ensures.by_position.1 (rw c.into_range-range.ensures empty) in let not = c.if-is_empty.false in absurd (cc);
+      empty_uncounted = λ empty. let told =
+          c.is_empty.ensures.by_position.1 (rw c.into_range-range.ensures empty) in let not =
+          c.if-is_empty.false in absurd (cc);
     }
 
 pub returns-then-is_empty : goal.returns-then-is_empty
@@ -34,16 +58,34 @@ returns-then-is_empty g c =
     record {
       bound = grind (arith, common_steps);
       form = c.in_form.ensures;
-      coarse = λ complete. stored_coarse g.K.MaybeBounded.order g.met.K.PartialEnum.lawful g.V.PartialEq.eq g.met.V.Eq.laws complete (g.C.Storage.items c.args.self.now) c.in_form.ensures;
-      only = λ complete. stored_only g.K.MaybeBounded.order g.met.K.PartialEnum.lawful g.V.PartialEq.eq g.met.V.Eq.laws complete (g.C.Storage.items c.args.self.now) c.in_form.ensures;
-      frame = λ full. absurd (full (rw (← c.into_range-range.ensures) (c.is_empty.ensures.by_position.0 c.if-is_empty.true)));
-      meets = λ full. absurd (full (rw (← c.into_range-range.ensures) (c.is_empty.ensures.by_position.0 c.if-is_empty.true)));
+      coarse =
+          λ complete.
+          stored_coarse g.K.MaybeBounded.order g.met.K.PartialEnum.lawful g.V.PartialEq.eq
+          g.met.V.Eq.laws complete (g.C.Storage.items c.args.self.now) c.in_form.ensures;
+      only =
+          λ complete.
+          stored_only g.K.MaybeBounded.order g.met.K.PartialEnum.lawful g.V.PartialEq.eq
+          g.met.V.Eq.laws complete (g.C.Storage.items c.args.self.now) c.in_form.ensures;
+      frame =
+          λ full.
+          absurd
+          (full (rw (← c.into_range-range.ensures)
+          (c.is_empty.ensures.by_position.0 c.if-is_empty.true)));
+      meets =
+          λ full.
+          absurd
+          (full (rw (← c.into_range-range.ensures)
+          (c.is_empty.ensures.by_position.0 c.if-is_empty.true)));
       few = le_sum _ 2;
       refused = tt;
       empty = λ _. refl;
       empty_unchanged = λ _. refl;
       most = search rules;
-      least = λ full. absurd (full (rw (← c.into_range-range.ensures) (c.is_empty.ensures.by_position.0 c.if-is_empty.true)));
+      least =
+          λ full.
+          absurd
+          (full (rw (← c.into_range-range.ensures)
+          (c.is_empty.ensures.by_position.0 c.if-is_empty.true)));
       empty_uncounted = λ _. refl;
     }
 
@@ -52,17 +94,32 @@ returns-in_err-bind g c =
     record {
       bound = error_has_no_value _ c.from_residual.result c.from_residual.ensures.0;
       form = rw (c.in_err-bind.ensures.refused, c.self.view_is) c.in_form.ensures;
-      coarse = λ complete. stored_coarse g.K.MaybeBounded.order g.met.K.PartialEnum.lawful g.V.PartialEq.eq g.met.V.Eq.laws complete (g.C.Storage.items c.bind.new.stored) (rw (c.in_err-bind.ensures.refused, c.self.view_is) c.in_form.ensures);
-      only = λ complete. stored_only g.K.MaybeBounded.order g.met.K.PartialEnum.lawful g.V.PartialEq.eq g.met.V.Eq.laws complete (g.C.Storage.items c.bind.new.stored) (rw (c.in_err-bind.ensures.refused, c.self.view_is) c.in_form.ensures);
+      coarse =
+          λ complete.
+          stored_coarse g.K.MaybeBounded.order g.met.K.PartialEnum.lawful g.V.PartialEq.eq
+          g.met.V.Eq.laws complete (g.C.Storage.items c.bind.new.stored)
+          (rw (c.in_err-bind.ensures.refused, c.self.view_is) c.in_form.ensures);
+      only =
+          λ complete.
+          stored_only g.K.MaybeBounded.order g.met.K.PartialEnum.lawful g.V.PartialEq.eq
+          g.met.V.Eq.laws complete (g.C.Storage.items c.bind.new.stored)
+          (rw (c.in_err-bind.ensures.refused, c.self.view_is) c.in_form.ensures);
       frame = error_has_no_value _ c.from_residual.result c.from_residual.ensures.0;
       meets = error_has_no_value _ c.from_residual.result c.from_residual.ensures.0;
       few = grind (arith, common_steps);
-      refused = on_error _ c.from_residual.result (rw (← c.self.view_is) c.in_err-bind.ensures.refused);
-      empty = λ empty. let told = c.is_empty.ensures.by_position.1 (rw c.into_range-range.ensures empty) in let not = c.if-is_empty.false in absurd (cc);
-      empty_unchanged = λ empty. let told = c.is_empty.ensures.by_position.1 (rw c.into_range-range.ensures empty) in let not = c.if-is_empty.false in absurd (cc);
+      refused =
+          on_error _ c.from_residual.result (rw (← c.self.view_is) c.in_err-bind.ensures.refused);
+      empty = λ empty. let told =
+          c.is_empty.ensures.by_position.1 (rw c.into_range-range.ensures empty) in let not =
+          c.if-is_empty.false in absurd (cc);
+      empty_unchanged = λ empty. let told =
+          c.is_empty.ensures.by_position.1 (rw c.into_range-range.ensures empty) in let not =
+          c.if-is_empty.false in absurd (cc);
       most = error_has_no_value _ c.from_residual.result c.from_residual.ensures.0;
       least = λ _. rw (← c.self.view_is) c.bind.ensures.least;
-      empty_uncounted = λ empty. let told = c.is_empty.ensures.by_position.1 (rw c.into_range-range.ensures empty) in let not = c.if-is_empty.false in absurd (cc);
+      empty_uncounted = λ empty. let told =
+          c.is_empty.ensures.by_position.1 (rw c.into_range-range.ensures empty) in let not =
+          c.if-is_empty.false in absurd (cc);
     }
 
 pub invariant_of-self : goal.invariant_of-self
@@ -77,5 +134,6 @@ bind-requires g c =
       keys = c.requires.keys;
       values = c.requires.values;
       stored = rw c.self.view_is c.in_form.ensures;
-      nonempty = λ empty. let told = c.is_empty.ensures.by_position.1 empty in let not = c.if-is_empty.false in cc;
+      nonempty = λ empty. let told = c.is_empty.ensures.by_position.1 empty in let not =
+          c.if-is_empty.false in cc;
     }

@@ -9,8 +9,11 @@ use Rattle.range_map.proofs.StoredLists.{stored_coarse, stored_only}
 use Rattle.range_map.proofs.map.RangeMap.insert_disconnected.Goals as goal
 
 -- putting one item in adds one
-put_few : {T A E : Type 0} (r : Result A E) (before after : List T) (x : T) → OnOk r (IsPutInto before after x) → OnErr r (after ≡ before) → length after ≤ length before + 1
-put_few (Ok a) before after x put same = let long = ap length put.2 in let more = length-insert before put.0 x put.1 in omega arith
+put_few : {T A E : Type 0} (r : Result A E) (before after : List T) (x : T)
+    → OnOk r (IsPutInto before after x) → OnErr r (after ≡ before)
+    → length after ≤ length before + 1
+put_few (Ok a) before after x put same = let long = ap length put.2 in let more =
+    length-insert before put.0 x put.1 in omega arith
 put_few (Err e) before after x put same = let long = ap length same in omega arith
 
 pub returns : goal.returns
@@ -19,21 +22,46 @@ returns g c =
     let items = g.C.Storage.items c.self.inside.stored in
     let new = g.C.Storage.items c.bind_apart.new.stored in
     let range = g.R.AsRange.range c.args.range in
-    let met : OnOk c.bind_apart.result (MeetAlso order items new range) = subst (λ r. OnOk c.bind_apart.result (MeetAlso order items new r)) c.into_range-range.ensures c.bind_apart.ensures.meets in
+    let met : OnOk c.bind_apart.result (MeetAlso order items new range) =
+    subst (λ r. OnOk c.bind_apart.result (MeetAlso order items new r))
+    c.into_range-range.ensures c.bind_apart.ensures.meets in
     record {
       connected = grind (arith, common_steps);
       given = grind (arith, common_steps);
       put = grind (arith, common_steps);
-      bound = rw (← c.self.view_is) (subst (λ r. OnOk c.bind_apart.result (IsBoundAfter g.K.MaybeBounded.order g.V.PartialEq.eq (g.C.Storage.items c.self.inside.stored) (g.C.Storage.items c.bind_apart.new.stored) r c.args.value)) c.into_range-range.ensures c.bind_apart.ensures.bound);
-      meets = rw (← c.self.view_is) (on_ok (MeetAlso order items new range) ((IsEmptyRange order range → ⊥) → MeetAlso order items new range) c.bind_apart.result (λ h full. h) met);
+      bound =
+          rw (← c.self.view_is) (subst
+          (λ r. OnOk c.bind_apart.result
+          (IsBoundAfter g.K.MaybeBounded.order g.V.PartialEq.eq
+          (g.C.Storage.items c.self.inside.stored)
+          (g.C.Storage.items c.bind_apart.new.stored) r c.args.value)) c.into_range-range.ensures
+          c.bind_apart.ensures.bound);
+      meets =
+          rw (← c.self.view_is) (on_ok (MeetAlso order items new range)
+          ((IsEmptyRange order range → ⊥) → MeetAlso order items new range) c.bind_apart.result
+          (λ h full. h) met);
       form = c.bind_apart.ensures.form;
-      coarse = λ complete. stored_coarse g.K.MaybeBounded.order g.met.K.PartialEnum.lawful g.V.PartialEq.eq g.met.V.Eq.laws complete (g.C.Storage.items c.bind_apart.new.stored) c.bind_apart.ensures.form;
-      only = λ complete. stored_only g.K.MaybeBounded.order g.met.K.PartialEnum.lawful g.V.PartialEq.eq g.met.V.Eq.laws complete (g.C.Storage.items c.bind_apart.new.stored) c.bind_apart.ensures.form;
+      coarse =
+          λ complete.
+          stored_coarse g.K.MaybeBounded.order g.met.K.PartialEnum.lawful g.V.PartialEq.eq
+          g.met.V.Eq.laws complete
+          (g.C.Storage.items c.bind_apart.new.stored) c.bind_apart.ensures.form;
+      only =
+          λ complete.
+          stored_only g.K.MaybeBounded.order g.met.K.PartialEnum.lawful g.V.PartialEq.eq
+          g.met.V.Eq.laws complete
+          (g.C.Storage.items c.bind_apart.new.stored) c.bind_apart.ensures.form;
       few = rw (← c.self.view_is)
-          (put_few c.bind_apart.result (g.C.Storage.items c.self.inside.stored) (g.C.Storage.items c.bind_apart.new.stored) _ c.bind_apart.ensures.put c.bind_apart.ensures.refused);
+          (put_few c.bind_apart.result (g.C.Storage.items c.self.inside.stored)
+          (g.C.Storage.items c.bind_apart.new.stored) _ c.bind_apart.ensures.put
+          c.bind_apart.ensures.refused);
       refused = rw (← c.self.view_is) c.bind_apart.ensures.refused;
-      empty = λ empty. let told = c.is_empty.ensures.by_position.1 (rw c.into_range-range.ensures empty) in let not = c.if-is_empty.false in absurd (cc);
-      empty_unchanged = λ empty. let told = c.is_empty.ensures.by_position.1 (rw c.into_range-range.ensures empty) in let not = c.if-is_empty.false in absurd (cc);
+      empty = λ empty. let told =
+          c.is_empty.ensures.by_position.1 (rw c.into_range-range.ensures empty) in let not =
+          c.if-is_empty.false in absurd (cc);
+      empty_unchanged = λ empty. let told =
+          c.is_empty.ensures.by_position.1 (rw c.into_range-range.ensures empty) in let not =
+          c.if-is_empty.false in absurd (cc);
     }
 
 pub returns-then-is_empty : goal.returns-then-is_empty
@@ -41,12 +69,26 @@ returns-then-is_empty g c =
     record {
       connected = grind (arith, common_steps);
       given = tt;
-      put = λ full. absurd (full (rw (← c.into_range-range.ensures) (c.is_empty.ensures.by_position.0 c.if-is_empty.true)));
+      put =
+          λ full.
+          absurd
+          (full (rw (← c.into_range-range.ensures)
+          (c.is_empty.ensures.by_position.0 c.if-is_empty.true)));
       bound = grind (arith, common_steps);
-      meets = λ full. absurd (full (rw (← c.into_range-range.ensures) (c.is_empty.ensures.by_position.0 c.if-is_empty.true)));
+      meets =
+          λ full.
+          absurd
+          (full (rw (← c.into_range-range.ensures)
+          (c.is_empty.ensures.by_position.0 c.if-is_empty.true)));
       form = c.in_form.ensures;
-      coarse = λ complete. stored_coarse g.K.MaybeBounded.order g.met.K.PartialEnum.lawful g.V.PartialEq.eq g.met.V.Eq.laws complete (g.C.Storage.items c.args.self.now) c.in_form.ensures;
-      only = λ complete. stored_only g.K.MaybeBounded.order g.met.K.PartialEnum.lawful g.V.PartialEq.eq g.met.V.Eq.laws complete (g.C.Storage.items c.args.self.now) c.in_form.ensures;
+      coarse =
+          λ complete.
+          stored_coarse g.K.MaybeBounded.order g.met.K.PartialEnum.lawful g.V.PartialEq.eq
+          g.met.V.Eq.laws complete (g.C.Storage.items c.args.self.now) c.in_form.ensures;
+      only =
+          λ complete.
+          stored_only g.K.MaybeBounded.order g.met.K.PartialEnum.lawful g.V.PartialEq.eq
+          g.met.V.Eq.laws complete (g.C.Storage.items c.args.self.now) c.in_form.ensures;
       few = grind (arith, common_steps);
       refused = tt;
       empty = λ _. refl;
@@ -57,5 +99,6 @@ pub bind_apart-requires : goal.bind_apart-requires
 bind_apart-requires g c =
     record {
       stored = rw c.self.view_is c.in_form.ensures;
-      nonempty = λ empty. let told = c.is_empty.ensures.by_position.1 empty in let not = c.if-is_empty.false in cc;
+      nonempty = λ empty. let told = c.is_empty.ensures.by_position.1 empty in let not =
+          c.if-is_empty.false in cc;
     }

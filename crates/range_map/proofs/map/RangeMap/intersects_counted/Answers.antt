@@ -11,14 +11,25 @@ returns-in-None g c =
     let lawful = g.met.K.PartialEnum.lawful in
     let items = g.C.Storage.items c.self.inside.stored in
     let start = ap (start_position order) c.start.ensures in
-    let none : MeetsSome order items (g.R.AsRange.range c.args.range) → ⊥ = none_decides order lawful items (g.R.AsRange.range c.args.range) (start_position order (bound_of c.start.result)) start (rw c.in-None.is at c.find-from.ensures.found.below) in
+    let none : MeetsSome order items (g.R.AsRange.range c.args.range) → ⊥ =
+    none_decides order lawful items (g.R.AsRange.range c.args.range)
+    (start_position order (bound_of c.start.result)) start
+    (rw c.in-None.is at c.find-from.ensures.found.below) in
     record {
       meets = rw (← c.self.view_is) (λ h. absurd (cc), λ h. absurd (none h.1));
-      bound = rw (← c.self.view_is) (λ h. absurd (none (binding_meets order lawful items (g.R.AsRange.range c.args.range) h).1));
+      bound =
+          rw (← c.self.view_is) (λ h.
+          absurd (none (binding_meets order lawful items (g.R.AsRange.range c.args.range) h).1));
       complete = λ complete h. absurd (cc);
-      counted = rw (← c.self.view_is) (λ full. record { at_most = omega (arith, c.find-from.ensures.counted.at_most); at_least = c.find-from.ensures.counted.at_least });
+      counted =
+          rw (← c.self.view_is) (λ full.
+          record {
+            at_most = omega (arith, c.find-from.ensures.counted.at_most);
+            at_least = c.find-from.ensures.counted.at_least;
+          });
       none = search rules;
-      empty_uncounted = λ empty. let told = c.is_empty.ensures.by_position.1 empty in let not = c.if-is_empty.false in absurd (cc);
+      empty_uncounted = λ empty. let told = c.is_empty.ensures.by_position.1 empty in let not =
+          c.if-is_empty.false in absurd (cc);
     }
 
 pub returns-clause-meets : goal.returns-clause-meets
@@ -32,52 +43,81 @@ returns-clause-meets g c =
     let end = ap (end_position order) c.end.ensures in
     let position = rw c.in-Some.is at c.find-from.ensures.found.position in
     let place = storage.rank stored c.in-Some.p in
-    let within : place < length items = g.met.C.Storage.good_is_in_range stored c.in-Some.p position.0 in
-    let full : IsEmptyRange order (g.R.AsRange.range c.args.range) → ⊥ = λ h. let e = c.is_empty.ensures.by_position.1 h in let f = c.if-is_empty.false in cc in
-    rw (← c.self.view_is) (first_not_before_decides order lawful g.V.PartialEq.eq g.met.V.Eq.laws items (g.R.AsRange.range c.args.range) (start_position order (bound_of c.start.result)) (end_position order (bound_of c.end.result)) place c.get.result.now c.starts_past.result start end c.self.invariant full within c.get.ensures (rw c.in-Some.is at c.find-from.ensures.found.below) (rw c.in-Some.is at c.find-from.ensures.found.above) c.starts_past.ensures.past)
+    let within : place < length items =
+    g.met.C.Storage.good_is_in_range stored c.in-Some.p position.0 in
+    let full : IsEmptyRange order (g.R.AsRange.range c.args.range) → ⊥ = λ h. let e =
+    c.is_empty.ensures.by_position.1 h in let f = c.if-is_empty.false in cc in
+    rw (← c.self.view_is) (first_not_before_decides order lawful g.V.PartialEq.eq g.met.V.Eq.laws
+    items (g.R.AsRange.range c.args.range) (start_position order (bound_of c.start.result))
+    (end_position order (bound_of c.end.result)) place c.get.result.now c.starts_past.result
+    start end c.self.invariant full within c.get.ensures
+    (rw c.in-Some.is at c.find-from.ensures.found.below)
+    (rw c.in-Some.is at c.find-from.ensures.found.above) c.starts_past.ensures.past)
 
 pub returns-clause-bound : goal.returns-clause-bound
 returns-clause-bound g c =
     let order = g.K.MaybeBounded.order in
     let lawful = g.met.K.PartialEnum.lawful in
     let met = returns-clause-meets g c in
-    λ h. met.1 (binding_meets order lawful (g.C.Storage.items c.args.self.now) (g.R.AsRange.range c.args.range) h)
+    λ h.
+    met.1 (binding_meets order lawful (g.C.Storage.items c.args.self.now)
+    (g.R.AsRange.range c.args.range) h)
 
 pub returns-clause-complete : goal.returns-clause-complete
 returns-clause-complete g c =
     let order = g.K.MaybeBounded.order in
     let lawful = g.met.K.PartialEnum.lawful in
     let met = returns-clause-meets g c in
-    λ complete h. let found = met.0 h in meeting_binds order lawful g.V.PartialEq.eq (g.C.Storage.items c.args.self.now) (g.R.AsRange.range c.args.range) complete c.in_form.ensures c.known_range.ensures found.0 found.1
+    λ complete h. let found =
+    met.0 h in meeting_binds order lawful g.V.PartialEq.eq (g.C.Storage.items c.args.self.now)
+    (g.R.AsRange.range c.args.range) complete c.in_form.ensures c.known_range.ensures found.0
+    found.1
 
 pub returns-then-is_empty-clause-meets : goal.returns-then-is_empty-clause-meets
-returns-then-is_empty-clause-meets g c = (λ h. absurd (cc), λ h. absurd (h.0 (c.is_empty.ensures.by_position.0 c.if-is_empty.true)))
+returns-then-is_empty-clause-meets g c =
+    (λ h. absurd (cc), λ h. absurd (h.0 (c.is_empty.ensures.by_position.0 c.if-is_empty.true)))
 
 pub returns-then-is_empty-clause-bound : goal.returns-then-is_empty-clause-bound
-returns-then-is_empty-clause-bound g c = λ h. absurd ((binding_meets g.K.MaybeBounded.order g.met.K.PartialEnum.lawful (g.C.Storage.items c.args.self.now) (g.R.AsRange.range c.args.range) h).0 (c.is_empty.ensures.by_position.0 c.if-is_empty.true))
+returns-then-is_empty-clause-bound g c =
+    λ h.
+    absurd
+    ((binding_meets g.K.MaybeBounded.order g.met.K.PartialEnum.lawful
+    (g.C.Storage.items c.args.self.now) (g.R.AsRange.range c.args.range) h).0
+    (c.is_empty.ensures.by_position.0 c.if-is_empty.true))
 
 pub returns-then-is_empty-clause-complete : goal.returns-then-is_empty-clause-complete
 returns-then-is_empty-clause-complete g c = λ complete h. absurd (cc)
 
 pub returns-then-is_empty-clause-counted : goal.returns-then-is_empty-clause-counted
-returns-then-is_empty-clause-counted g c = λ full. absurd (full (c.is_empty.ensures.by_position.0 c.if-is_empty.true))
+returns-then-is_empty-clause-counted g c =
+    λ full. absurd (full (c.is_empty.ensures.by_position.0 c.if-is_empty.true))
 
 pub returns-then-is_empty-clause-none : goal.returns-then-is_empty-clause-none
-returns-then-is_empty-clause-none g c = λ none. record { at_most = omega arith; at_least = omega arith }
+returns-then-is_empty-clause-none g c =
+    λ none. record { at_most = omega arith; at_least = omega arith }
 
 pub returns-then-is_empty-clause-empty_uncounted : goal.returns-then-is_empty-clause-empty_uncounted
 returns-then-is_empty-clause-empty_uncounted g c = λ _. refl
 
 pub returns-clause-counted : goal.returns-clause-counted
-returns-clause-counted g c = rw (← c.self.view_is) (λ full. record { at_most = omega (arith, c.find-from.ensures.counted.at_most, c.starts_past.ensures.counted.at_most); at_least = omega (arith, c.find-from.ensures.counted.at_least, c.starts_past.ensures.counted.at_least) })
+returns-clause-counted g c =
+    rw (← c.self.view_is) (λ full.
+    record {
+      at_most = omega
+          (arith, c.find-from.ensures.counted.at_most, c.starts_past.ensures.counted.at_most);
+      at_least =
+          omega (arith, c.find-from.ensures.counted.at_least, c.starts_past.ensures.counted.at_least);
+    })
 
 pub returns-clause-empty_uncounted : goal.returns-clause-empty_uncounted
-returns-clause-empty_uncounted g c = λ empty. let told = c.is_empty.ensures.by_position.1 empty in let not = c.if-is_empty.false in absurd (cc)
+returns-clause-empty_uncounted g c = λ empty. let told =
+    c.is_empty.ensures.by_position.1 empty in let not = c.if-is_empty.false in absurd (cc)
 
 pub returns-clause-none : goal.returns-clause-none
 returns-clause-none g c =
     let storage = g.C.Storage in
     let stored = c.self.inside.stored in
     let position = rw c.in-Some.is at c.find-from.ensures.found.position in
-    let within : storage.rank stored c.in-Some.p < length (storage.items stored) = g.met.C.Storage.good_is_in_range stored c.in-Some.p position.0 in
+    let within : storage.rank stored c.in-Some.p < length (storage.items stored) =
+    g.met.C.Storage.good_is_in_range stored c.in-Some.p position.0 in
     rw (← c.self.view_is) (λ none. absurd (omega (arith, within, ap length none)))

@@ -19,17 +19,28 @@ module _ {X : Type 0} where
   next_front R (x ∷ y ∷ xs) ys h = (h.0, next_front R (y ∷ xs) ys h.1)
 
 module _ {K : Type 0} (order : KeyOrder K) {V : Type 0} (same : V → V → Bool) where
-  stored_front : (items rest : List (Item (AnyRange K) V)) → IsStored order same (items ++ rest) → IsStored order same items
-  stored_front items rest form = record { known = all_front _ items rest form.known; nonempty = all_front _ items rest form.nonempty; rising = next_front _ items rest form.rising }
+  stored_front : (items rest : List (Item (AnyRange K) V)) → IsStored order same (items ++ rest)
+      → IsStored order same items
+  stored_front items rest form =
+      record {
+        known = all_front _ items rest form.known;
+        nonempty = all_front _ items rest form.nonempty;
+        rising =
+            next_front _ items rest form.rising;
+      }
 
-  stored_without_last : (old new : List (Item (AnyRange K) V)) (last : Option (Item (AnyRange K) V)) → IsStored order same old → MatchOption last ((old ≡ []) × (new ≡ [])) (λ x. old ≡ new ++ x ∷ []) → IsStored order same new
+  stored_without_last : (old new : List (Item (AnyRange K) V)) (last : Option (Item (AnyRange K) V))
+      → IsStored order same old
+      → MatchOption last ((old ≡ []) × (new ≡ [])) (λ x. old ≡ new ++ x ∷ [])
+      → IsStored order same new
   stored_without_last old new None form h = rw h.1 (rw h.0 at form)
   stored_without_last old new (Some x) form h = stored_front new (x ∷ []) (rw h at form)
 
 pub invariant_of-self : goal.invariant_of-self
 invariant_of-self g c =
     let items = g.C.Storage.items in
-    stored_without_last g.K.MaybeBounded.order g.V.PartialEq.eq (items c.self.inside.stored) (items c.pop_last.new.self) c.pop_last.result c.self.invariant c.pop_last.ensures.list
+    stored_without_last g.K.MaybeBounded.order g.V.PartialEq.eq (items c.self.inside.stored)
+    (items c.pop_last.new.self) c.pop_last.result c.self.invariant c.pop_last.ensures.list
 
 pub returns-clause-form : goal.returns-clause-form
 returns-clause-form g c = invariant_of-self g c

@@ -20,17 +20,24 @@ update_pieces-requires g c =
     let order = g.K.MaybeBounded.order in
     let lawful = g.met.K.PartialEnum.lawful in
     let equal_keys = λ (a : g.row.K.Denot) (b : g.row.K.Denot) (h : g.K.Clone.is_clone a b).
-    sym (g.met.K.MaybeBounded.order_is_cmp a b) ∙ (Equal-is (g.K.Ord.cmp a b)).0 (sym (g.met.K.Ord.matches_eq a b) ∙ c.requires.keys a b h) in
+    sym (g.met.K.MaybeBounded.order_is_cmp a b)
+    ∙ (Equal-is (g.K.Ord.cmp a b)).0
+    (sym (g.met.K.Ord.matches_eq a b) ∙ c.requires.keys a b h) in
     let r = g.R.AsRange.range c.args.range in
     let s = c.in_ok-range.range in
-    let start = bound_clone order lawful g.K.Clone.is_clone equal_keys r.start s.start c.in_ok-range.ensures.start in
-    let end = bound_clone order lawful g.K.Clone.is_clone equal_keys r.end s.end c.in_ok-range.ensures.end in
+    let start =
+    bound_clone order lawful g.K.Clone.is_clone equal_keys r.start s.start
+    c.in_ok-range.ensures.start in
+    let end =
+    bound_clone order lawful g.K.Clone.is_clone equal_keys r.end s.end
+    c.in_ok-range.ensures.end in
     record {
       keys = c.requires.keys;
       values = c.requires.values;
       stored = rw c.self.view_is c.in_form.ensures;
       nonempty = λ empty.
-          let told = c.is_empty.ensures.by_position.1 (clone_empty order lawful r s start end empty) in
+          let told =
+          c.is_empty.ensures.by_position.1 (clone_empty order lawful r s start end empty) in
           let not = c.if-is_empty.false in
           cc;
       free = c.requires.free;
@@ -42,36 +49,81 @@ returns g c =
     let order = g.K.MaybeBounded.order in
     let lawful = g.met.K.PartialEnum.lawful in
     let equal_keys = λ (a : g.row.K.Denot) (b : g.row.K.Denot) (h : g.K.Clone.is_clone a b).
-    sym (g.met.K.MaybeBounded.order_is_cmp a b) ∙ (Equal-is (g.K.Ord.cmp a b)).0 (sym (g.met.K.Ord.matches_eq a b) ∙ c.requires.keys a b h) in
+    sym (g.met.K.MaybeBounded.order_is_cmp a b)
+    ∙ (Equal-is (g.K.Ord.cmp a b)).0
+    (sym (g.met.K.Ord.matches_eq a b) ∙ c.requires.keys a b h) in
     let r = g.R.AsRange.range c.args.range in
     let s = c.in_ok-range.range in
-    let start = bound_clone order lawful g.K.Clone.is_clone equal_keys r.start s.start c.in_ok-range.ensures.start in
-    let end = bound_clone order lawful g.K.Clone.is_clone equal_keys r.end s.end c.in_ok-range.ensures.end in
+    let start =
+    bound_clone order lawful g.K.Clone.is_clone equal_keys r.start s.start
+    c.in_ok-range.ensures.start in
+    let end =
+    bound_clone order lawful g.K.Clone.is_clone equal_keys r.end s.end
+    c.in_ok-range.ensures.end in
     let items = g.C.Storage.items c.self.inside.stored in
     let new = g.C.Storage.items c.update_pieces.new.stored in
     let same = g.V.PartialEq.eq in
     record {
-      updated = rw (← c.self.view_is) (on_ok (IsUpdated order same g.F.Fn c.args.f items new s) ((IsEmptyRange order r → ⊥) → IsUpdated order same g.F.Fn c.args.f items new r) c.update_pieces.result (λ h full. updated_too order lawful r s start end same g.F.Fn c.args.f items new h) c.update_pieces.ensures.ok);
-      rebound = rw (← c.self.view_is) (on_ok (IsUpdated order same g.F.Fn c.args.f items new s) (AreRebound order same (MayAnswer g.F.Fn c.args.f) items new r) c.update_pieces.result (λ h. update_rebinds order lawful same g.met.V.Eq.laws g.F.Fn c.args.f items new r (updated_too order lawful r s start end same g.F.Fn c.args.f items new h)) c.update_pieces.ensures.ok);
-      kept = rw (← c.self.view_is) (on_ok (IsUpdated order same g.F.Fn c.args.f items new s) (StandOrMerge order same items new r) c.update_pieces.result (λ h. updated_stands order same g.met.V.Eq.laws g.F.Fn c.args.f items new r (updated_too order lawful r s start end same g.F.Fn c.args.f items new h)) c.update_pieces.ensures.ok);
+      updated =
+          rw (← c.self.view_is) (on_ok (IsUpdated order same g.F.Fn c.args.f items new s)
+          ((IsEmptyRange order r → ⊥) → IsUpdated order same g.F.Fn c.args.f items new r)
+          c.update_pieces.result (λ h full.
+          updated_too order lawful r s start end same g.F.Fn c.args.f items new h)
+          c.update_pieces.ensures.ok);
+      rebound =
+          rw (← c.self.view_is) (on_ok (IsUpdated order same g.F.Fn c.args.f items new s)
+          (AreRebound order same (MayAnswer g.F.Fn c.args.f) items new r) c.update_pieces.result
+          (λ h. update_rebinds order lawful same g.met.V.Eq.laws g.F.Fn c.args.f items new r
+          (updated_too order lawful r s start end same g.F.Fn c.args.f items new h))
+          c.update_pieces.ensures.ok);
+      kept =
+          rw (← c.self.view_is) (on_ok (IsUpdated order same g.F.Fn c.args.f items new s)
+          (StandOrMerge order same items new r) c.update_pieces.result
+          (λ h. updated_stands order same g.met.V.Eq.laws g.F.Fn c.args.f items new r
+          (updated_too order lawful r s start end same g.F.Fn c.args.f items new h))
+          c.update_pieces.ensures.ok);
       form = c.update_pieces.ensures.form;
-      coarse = λ complete. stored_coarse g.K.MaybeBounded.order g.met.K.PartialEnum.lawful g.V.PartialEq.eq g.met.V.Eq.laws complete (g.C.Storage.items c.update_pieces.new.stored) c.update_pieces.ensures.form;
-      only = λ complete. stored_only g.K.MaybeBounded.order g.met.K.PartialEnum.lawful g.V.PartialEq.eq g.met.V.Eq.laws complete (g.C.Storage.items c.update_pieces.new.stored) c.update_pieces.ensures.form;
-      closure = λ e failed. rw (← c.self.view_is) (fails_too order lawful r s start end same g.F.Fn c.args.f items e (c.update_pieces.ensures.closure e failed));
+      coarse =
+          λ complete.
+          stored_coarse g.K.MaybeBounded.order g.met.K.PartialEnum.lawful g.V.PartialEq.eq
+          g.met.V.Eq.laws complete
+          (g.C.Storage.items c.update_pieces.new.stored) c.update_pieces.ensures.form;
+      only =
+          λ complete.
+          stored_only g.K.MaybeBounded.order g.met.K.PartialEnum.lawful g.V.PartialEq.eq
+          g.met.V.Eq.laws complete
+          (g.C.Storage.items c.update_pieces.new.stored) c.update_pieces.ensures.form;
+      closure =
+          λ e failed. rw (← c.self.view_is)
+          (fails_too order lawful r s start end same g.F.Fn c.args.f items e
+          (c.update_pieces.ensures.closure e failed));
       refused = rw (← c.self.view_is) c.update_pieces.ensures.refused;
-      empty = λ empty. let told = c.is_empty.ensures.by_position.1 empty in let not = c.if-is_empty.false in absurd (cc);
-      empty_unchanged = λ empty. let told = c.is_empty.ensures.by_position.1 empty in let not = c.if-is_empty.false in absurd (cc);
+      empty = λ empty. let told = c.is_empty.ensures.by_position.1 empty in let not =
+          c.if-is_empty.false in absurd (cc);
+      empty_unchanged = λ empty. let told = c.is_empty.ensures.by_position.1 empty in let not =
+          c.if-is_empty.false in absurd (cc);
     }
 
 pub returns-then-is_empty : goal.returns-then-is_empty
 returns-then-is_empty g c =
     record {
       updated = λ full. absurd (full (c.is_empty.ensures.by_position.0 c.if-is_empty.true));
-      rebound = none_rebound g.K.MaybeBounded.order g.met.K.PartialEnum.lawful g.V.PartialEq.eq g.met.V.Eq.laws g.F.Fn c.args.f (g.C.Storage.items c.args.self.now) (g.R.AsRange.range c.args.range) (c.is_empty.ensures.by_position.0 c.if-is_empty.true);
-      kept = unchanged_stands g.K.MaybeBounded.order g.V.PartialEq.eq (g.R.AsRange.range c.args.range) (g.C.Storage.items c.args.self.now);
+      rebound =
+          none_rebound g.K.MaybeBounded.order g.met.K.PartialEnum.lawful g.V.PartialEq.eq
+          g.met.V.Eq.laws g.F.Fn c.args.f (g.C.Storage.items c.args.self.now)
+          (g.R.AsRange.range c.args.range) (c.is_empty.ensures.by_position.0 c.if-is_empty.true);
+      kept =
+          unchanged_stands g.K.MaybeBounded.order g.V.PartialEq.eq (g.R.AsRange.range c.args.range)
+          (g.C.Storage.items c.args.self.now);
       form = c.in_form.ensures;
-      coarse = λ complete. stored_coarse g.K.MaybeBounded.order g.met.K.PartialEnum.lawful g.V.PartialEq.eq g.met.V.Eq.laws complete (g.C.Storage.items c.args.self.now) c.in_form.ensures;
-      only = λ complete. stored_only g.K.MaybeBounded.order g.met.K.PartialEnum.lawful g.V.PartialEq.eq g.met.V.Eq.laws complete (g.C.Storage.items c.args.self.now) c.in_form.ensures;
+      coarse =
+          λ complete.
+          stored_coarse g.K.MaybeBounded.order g.met.K.PartialEnum.lawful g.V.PartialEq.eq
+          g.met.V.Eq.laws complete (g.C.Storage.items c.args.self.now) c.in_form.ensures;
+      only =
+          λ complete.
+          stored_only g.K.MaybeBounded.order g.met.K.PartialEnum.lawful g.V.PartialEq.eq
+          g.met.V.Eq.laws complete (g.C.Storage.items c.args.self.now) c.in_form.ensures;
       closure = λ e failed. absurd (cc);
       refused = tt;
       empty = λ _. refl;
@@ -85,10 +137,17 @@ returns-in_err-range g c =
       rebound = error_has_no_value _ c.from_residual.result c.from_residual.ensures.0;
       kept = error_has_no_value _ c.from_residual.result c.from_residual.ensures.0;
       form = c.in_form.ensures;
-      coarse = λ complete. stored_coarse g.K.MaybeBounded.order g.met.K.PartialEnum.lawful g.V.PartialEq.eq g.met.V.Eq.laws complete (g.C.Storage.items c.args.self.now) c.in_form.ensures;
-      only = λ complete. stored_only g.K.MaybeBounded.order g.met.K.PartialEnum.lawful g.V.PartialEq.eq g.met.V.Eq.laws complete (g.C.Storage.items c.args.self.now) c.in_form.ensures;
+      coarse =
+          λ complete.
+          stored_coarse g.K.MaybeBounded.order g.met.K.PartialEnum.lawful g.V.PartialEq.eq
+          g.met.V.Eq.laws complete (g.C.Storage.items c.args.self.now) c.in_form.ensures;
+      only =
+          λ complete.
+          stored_only g.K.MaybeBounded.order g.met.K.PartialEnum.lawful g.V.PartialEq.eq
+          g.met.V.Eq.laws complete (g.C.Storage.items c.args.self.now) c.in_form.ensures;
       closure = grind (arith, common_steps);
       refused = on_error _ c.from_residual.result refl;
-      empty = λ empty. let told = c.is_empty.ensures.by_position.1 empty in let not = c.if-is_empty.false in absurd (cc);
+      empty = λ empty. let told = c.is_empty.ensures.by_position.1 empty in let not =
+          c.if-is_empty.false in absurd (cc);
       empty_unchanged = λ _. refl;
     }

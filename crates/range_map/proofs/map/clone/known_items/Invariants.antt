@@ -12,7 +12,8 @@ invariant-loop-at g l =
     let place = place_before (storage.rank l.stored) (length items) l.at in
     record {
       position : IsAt (storage.is_good l.stored) (storage.rank l.stored) (length items) l.at place;
-      known : (k : ℕ) (d : Item (AnyRange g.row.K.Denot) g.row.V.Denot) → k < place → IsKnownRange g.K.MaybeBounded.order (get_or items k d).key;
+      known : (k : ℕ) (d : Item (AnyRange g.row.K.Denot) g.row.V.Denot) → k < place
+          → IsKnownRange g.K.MaybeBounded.order (get_or items k d).key;
     }
 
 abbrev pub decreases-loop-at : goal.decreases-loop-at

@@ -4,7 +4,8 @@ use Rattle.range_map.proofs.map.compare.compare_lists.Given as goal
 
 abbrev pub invariant-loop-range : goal.invariant-loop-range
 invariant-loop-range g l =
-    list_cmp g.K.MaybeBounded.order g.V.Ord.cmp (g.C.Storage.items l.left) (g.D.Storage.items l.right) ≡ list_cmp g.K.MaybeBounded.order g.V.Ord.cmp l.items l.others
+    list_cmp g.K.MaybeBounded.order g.V.Ord.cmp (g.C.Storage.items l.left)
+    (g.D.Storage.items l.right) ≡ list_cmp g.K.MaybeBounded.order g.V.Ord.cmp l.items l.others
 
 abbrev pub decreases-loop-range : goal.decreases-loop-range
 decreases-loop-range g l = length l.items

@@ -15,6 +15,7 @@ returns-in_err-start g c = record {
 
 pub returns-in_err-end : goal.returns-in_err-end
 returns-in_err-end g c = record {
-  start = error_has_no_value _ c.from_residual-in_err-end.result c.from_residual-in_err-end.ensures.0;
+  start =
+      error_has_no_value _ c.from_residual-in_err-end.result c.from_residual-in_err-end.ensures.0;
   end = error_has_no_value _ c.from_residual-in_err-end.result c.from_residual-in_err-end.ensures.0;
 }

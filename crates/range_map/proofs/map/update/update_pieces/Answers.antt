@@ -9,17 +9,28 @@ pub returns : goal.returns
 returns g c =
     let storage = g.C.Storage in
     record {
-      ok = by_middle g.K.MaybeBounded.order g.V.PartialEq.eq g.met.V.Eq.laws g.F.Fn c.args.f.now (storage.items c.args.stored.now) (storage.items c.replace.new.stored) c.args.range c.in_ok-middle.middle.items c.in_ok-middle.ensures.ok c.in_ok-replace.ensures.ok;
+      ok =
+          by_middle g.K.MaybeBounded.order g.V.PartialEq.eq g.met.V.Eq.laws g.F.Fn c.args.f.now
+          (storage.items c.args.stored.now)
+          (storage.items c.replace.new.stored) c.args.range c.in_ok-middle.middle.items
+          c.in_ok-middle.ensures.ok c.in_ok-replace.ensures.ok;
       form = c.in_ok-replace.ensures.ok.stored;
       closure = λ e failed. absurd (cc);
       refused = tt;
     }
 
 pub surrounding-requires : goal.surrounding-requires
-surrounding-requires g c = let met = reach_is_met c.reaching-reach.ensures.reach in record { first = met.0; last = met.1 }
+surrounding-requires g c = let met =
+    reach_is_met c.reaching-reach.ensures.reach in record { first = met.0; last = met.1 }
 
 pub replace-requires : goal.replace-requires
-replace-requires g c = record { reach = c.reaching-reach.ensures.reach; apart = c.in_default.ensures; middle = c.in_ok-middle.ensures.ok.stored; within = c.in_ok-middle.ensures.ok.within }
+replace-requires g c =
+    record {
+      reach = c.reaching-reach.ensures.reach;
+      apart = c.in_default.ensures;
+      middle = c.in_ok-middle.ensures.ok.stored;
+      within = c.in_ok-middle.ensures.ok.within;
+    }
 
 pub returns-in-Some : goal.returns-in-Some
 returns-in-Some g c =
@@ -42,14 +53,29 @@ returns-in_err-middle g c =
 pub returns-in_err-replace : goal.returns-in_err-replace
 returns-in_err-replace g c =
     record {
-      ok = error_has_no_value _ c.from_residual-in_err-replace.result c.from_residual-in_err-replace.ensures.0;
+      ok =
+          error_has_no_value _ c.from_residual-in_err-replace.result
+          c.from_residual-in_err-replace.ensures.0;
       form = rw c.in_err-replace.ensures.refused c.requires.stored;
       closure = grind (arith, common_steps);
       refused = on_error _ c.from_residual-in_err-replace.result c.in_err-replace.ensures.refused;
     }
 
 pub update_within-requires : goal.update_within-requires
-update_within-requires g c = record { keys = c.requires.keys; values = c.requires.values; within = surrounded_by c.reaching-reach.ensures.reach c.in-Some.ensures; bound = c.requires.bound }
+update_within-requires g c =
+    record {
+      keys = c.requires.keys;
+      values = c.requires.values;
+      within = surrounded_by c.reaching-reach.ensures.reach c.in-Some.ensures;
+      bound =
+          c.requires.bound;
+    }
 
 pub gather-requires : goal.gather-requires
-gather-requires g c = record { keys = c.requires.keys; window = c.reaching-reach.ensures.reach.window; free = c.requires.free; bound = c.requires.bound }
+gather-requires g c =
+    record {
+      keys = c.requires.keys;
+      window = c.reaching-reach.ensures.reach.window;
+      free = c.requires.free;
+      bound = c.requires.bound;
+    }

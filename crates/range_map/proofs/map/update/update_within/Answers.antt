@@ -16,7 +16,12 @@ returns-in_ok-bind_within-in-Ok-Some g c =
     let done = c.in_ok-bind_within-in-Ok-Some.ensures.ok in
     let says : MayAnswer g.F.Fn c.args.f.now (Some x.value) (Ok (Some v)) = search rules in
     record {
-      ok = by_insertion g.K.MaybeBounded.order g.V.PartialEq.eq equal g.F.Fn c.args.f.now (storage.items c.args.stored.now) (storage.items c.bind_within.new.stored) c.args.range x.value v (alone lawful equal c.requires.within x c.get.ensures) (answer_is_to_piece lawful equal c.requires.within x c.get.ensures (Some v)) says done;
+      ok =
+          by_insertion g.K.MaybeBounded.order g.V.PartialEq.eq equal g.F.Fn c.args.f.now
+          (storage.items c.args.stored.now)
+          (storage.items c.bind_within.new.stored) c.args.range x.value v
+          (alone lawful equal c.requires.within x c.get.ensures)
+          (answer_is_to_piece lawful equal c.requires.within x c.get.ensures (Some v)) says done;
       form = done.stored;
       closure = λ e failed. absurd (cc);
       refused = tt;
@@ -30,7 +35,12 @@ returns-in_ok-unbind_within-in-Ok-None g c =
     let done = c.in_ok-unbind_within-in-Ok-None.ensures.ok in
     let says : MayAnswer g.F.Fn c.args.f.now (Some x.value) (Ok None) = search rules in
     record {
-      ok = by_removal g.K.MaybeBounded.order g.V.PartialEq.eq equal g.F.Fn c.args.f.now (storage.items c.args.stored.now) (storage.items c.unbind_within.new.stored) c.args.range x.value (answer_is_to_piece g.met.K.PartialEnum.lawful equal c.requires.within x c.get.ensures None) says done;
+      ok =
+          by_removal g.K.MaybeBounded.order g.V.PartialEq.eq equal g.F.Fn c.args.f.now
+          (storage.items c.args.stored.now)
+          (storage.items c.unbind_within.new.stored) c.args.range x.value
+          (answer_is_to_piece g.met.K.PartialEnum.lawful equal c.requires.within x c.get.ensures
+          None) says done;
       form = done.stored;
       closure = λ e failed. absurd (cc);
       refused = tt;
@@ -44,7 +54,13 @@ returns-in-Err g c =
       form = c.requires.within.window.stored;
       closure = λ e failed.
           let says : MayAnswer g.F.Fn c.args.f.now (Some x.value) (Err e) = search rules in
-          record { piece = c.args.range; value = Some x.value; is_piece = piece g.met.K.PartialEnum.lawful g.met.V.Eq.laws c.requires.within x c.get.ensures; says = says };
+          record {
+            piece = c.args.range;
+            value = Some x.value;
+            is_piece =
+                piece g.met.K.PartialEnum.lawful g.met.V.Eq.laws c.requires.within x c.get.ensures;
+            says = says;
+          };
       refused = refl;
     }
 
@@ -60,14 +76,20 @@ returns-in_err-bind_within-in-Ok-Some g c =
 pub returns-in_err-unbind_within-in-Ok-None : goal.returns-in_err-unbind_within-in-Ok-None
 returns-in_err-unbind_within-in-Ok-None g c =
     record {
-      ok = error_has_no_value _ c.from_residual-in_err-unbind_within-in-Ok-None.result c.from_residual-in_err-unbind_within-in-Ok-None.ensures.0;
+      ok =
+          error_has_no_value _ c.from_residual-in_err-unbind_within-in-Ok-None.result
+          c.from_residual-in_err-unbind_within-in-Ok-None.ensures.0;
       form = rw c.in_err-unbind_within-in-Ok-None.ensures.refused c.requires.within.window.stored;
       closure = grind (arith, common_steps);
-      refused = on_error _ c.from_residual-in_err-unbind_within-in-Ok-None.result c.in_err-unbind_within-in-Ok-None.ensures.refused;
+      refused =
+          on_error _ c.from_residual-in_err-unbind_within-in-Ok-None.result
+          c.in_err-unbind_within-in-Ok-None.ensures.refused;
     }
 
 pub bind_within-requires : goal.bind_within-requires
-bind_within-requires g c = record { keys = c.requires.keys; values = c.requires.values; within = c.requires.within }
+bind_within-requires g c =
+    record { keys = c.requires.keys; values = c.requires.values; within = c.requires.within }
 
 pub unbind_within-requires : goal.unbind_within-requires
-unbind_within-requires g c = record { keys = c.requires.keys; values = c.requires.values; within = c.requires.within }
+unbind_within-requires g c =
+    record { keys = c.requires.keys; values = c.requires.values; within = c.requires.within }

@@ -20,8 +20,11 @@ returns-clause-added g c =
     let once = c.stored_lists_bind_once.ensures items form in
     let next_once = c.stored_lists_bind_once.ensures next c.update.ensures.form in
     let now = not_refused c.update.result c.update.ensures.rebound c.in_default.not-Err in
-    rw (← c.self.view_is) (added order same equal has respects _ items next (g.R.AsRange.range c.args.range) now g.met.K.PartialEnum.lawful once next_once g.V.PartialEq.eq c.args.value
-    (λ old answer m. subst (λ o. HasAlso has g.V.PartialEq.eq o answer c.args.value) m.shows m.says.1.0))
+    rw (← c.self.view_is) (added order same equal has respects _ items next
+    (g.R.AsRange.range c.args.range) now g.met.K.PartialEnum.lawful once next_once
+    g.V.PartialEq.eq c.args.value
+    (λ old answer m.
+    subst (λ o. HasAlso has g.V.PartialEq.eq o answer c.args.value) m.shows m.says.1.0))
 
 pub returns-clause-kept : goal.returns-clause-kept
 returns-clause-kept g c =
@@ -36,9 +39,13 @@ returns-clause-kept g c =
     let once = c.stored_lists_bind_once.ensures items form in
     let next_once = c.stored_lists_bind_once.ensures next c.update.ensures.form in
     let now = not_refused c.update.result c.update.ensures.rebound c.in_default.not-Err in
-    rw (← c.self.view_is) (stay_bound order same equal has respects _ items next (g.R.AsRange.range c.args.range) now g.met.K.PartialEnum.lawful once next_once (λ k. HasPair order has items k c.args.value)
+    rw (← c.self.view_is) (stay_bound order same equal has respects _ items next
+    (g.R.AsRange.range c.args.range) now g.met.K.PartialEnum.lawful once next_once
+    (λ k. HasPair order has items k c.args.value)
     (λ k key here old answer was m.
-    subst (λ o. IsTrue (among has o c.args.value) → IsAsAnswered same o answer) m.shows m.says.1.1.1 ((values_at order same equal has respects k items old (once k key) was c.args.value).0 here)))
+    subst (λ o. IsTrue (among has o c.args.value) → IsAsAnswered same o answer) m.shows m.says.1.1.1
+    ((values_at order same equal has respects k items old (once k key) was c.args.value).0
+    here)))
 
 pub returns-clause-others : goal.returns-clause-others
 returns-clause-others g c =
@@ -62,15 +69,21 @@ returns-clause-frame g c =
 pub invariant_of-self-2 : goal.invariant_of-self-2
 invariant_of-self-2 g c =
     let done = c.update.ensures in
-    stays_full g.K.MaybeBounded.order g.S.PartialEq.eq g.met.S.Eq.laws g.S.MaybeEmpty.is_void g.met.S.MaybeEmpty.void_equal _ _
-    (g.C.Storage.items c.self.inside.map) (g.C.Storage.items c.update.new.self) (g.R.AsRange.range c.args.range) (not_refused c.update.result c.update.ensures.updated c.in_default.not-Err)
+    stays_full g.K.MaybeBounded.order g.S.PartialEq.eq g.met.S.Eq.laws g.S.MaybeEmpty.is_void
+    g.met.S.MaybeEmpty.void_equal _ _
+    (g.C.Storage.items c.self.inside.map) (g.C.Storage.items c.update.new.self)
+    (g.R.AsRange.range c.args.range)
+    (not_refused c.update.result c.update.ensures.updated c.in_default.not-Err)
     (λ old answer m. m.says.1.1.0) c.self.invariant done.empty_unchanged
 
 pub returns-clause-nonempty : goal.returns-clause-nonempty
 returns-clause-nonempty g c =
     let done = c.update.ensures in
-    stays_full g.K.MaybeBounded.order g.S.PartialEq.eq g.met.S.Eq.laws g.S.MaybeEmpty.is_void g.met.S.MaybeEmpty.void_equal _ _
-    (g.C.Storage.items c.self.inside.map) (g.C.Storage.items c.update.new.self) (g.R.AsRange.range c.args.range) (not_refused c.update.result c.update.ensures.updated c.in_default.not-Err)
+    stays_full g.K.MaybeBounded.order g.S.PartialEq.eq g.met.S.Eq.laws g.S.MaybeEmpty.is_void
+    g.met.S.MaybeEmpty.void_equal _ _
+    (g.C.Storage.items c.self.inside.map) (g.C.Storage.items c.update.new.self)
+    (g.R.AsRange.range c.args.range)
+    (not_refused c.update.result c.update.ensures.updated c.in_default.not-Err)
     (λ old answer m. m.says.1.1.0) c.self.invariant done.empty_unchanged
 
 pub update-requires-clause-keys : goal.update-requires-clause-keys
@@ -83,7 +96,8 @@ pub update-requires-clause-free : goal.update-requires-clause-free
 update-requires-clause-free g c = λ shown shows. c.requires.values
 
 pub update-requires-clause-bound : goal.update-requires-clause-bound
-update-requires-clause-bound g c = every_one _ (g.C.Storage.items c.self.inside.map) (λ i shown shows. c.requires.values)
+update-requires-clause-bound g c =
+    every_one _ (g.C.Storage.items c.self.inside.map) (λ i shown shows. c.requires.values)
 
 pub returns-clause-form : goal.returns-clause-form
 returns-clause-form g c = c.update.ensures.form
@@ -104,7 +118,8 @@ pub returns-in-Err-clause-added : goal.returns-in-Err-clause-added
 returns-in-Err-clause-added g c = tt
 
 pub returns-in-Err-clause-kept : goal.returns-in-Err-clause-kept
-returns-in-Err-clause-kept g c = rw (← c.self.view_is, c.in-Err.ensures.refused) (λ k key here b. (λ h. h, λ h. h))
+returns-in-Err-clause-kept g c =
+    rw (← c.self.view_is, c.in-Err.ensures.refused) (λ k key here b. (λ h. h, λ h. h))
 
 pub returns-in-Err-clause-others : goal.returns-in-Err-clause-others
 returns-in-Err-clause-others g c =

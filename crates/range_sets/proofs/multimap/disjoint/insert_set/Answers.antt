@@ -4,7 +4,11 @@ use Rattle.range_sets.proofs.multimap.disjoint.insert_set.Goals as goal
 pub invariant_of-multimap : goal.invariant_of-multimap
 invariant_of-multimap g c =
     let done = c.insert_disjoint.ensures in
-    inserted_full g.K.MaybeBounded.order g.S.PartialEq.eq g.S.MaybeEmpty.is_void g.met.S.MaybeEmpty.void_equal (g.C.Storage.items c.multimap.inside.map) (g.C.Storage.items c.insert_disjoint.new.map) c.args.range c.args.set c.insert_disjoint.result c.requires.nonempty c.multimap.invariant done.met_unchanged done.frame done.refused done.empty_unchanged
+    inserted_full g.K.MaybeBounded.order g.S.PartialEq.eq g.S.MaybeEmpty.is_void
+    g.met.S.MaybeEmpty.void_equal (g.C.Storage.items c.multimap.inside.map)
+    (g.C.Storage.items c.insert_disjoint.new.map) c.args.range c.args.set
+    c.insert_disjoint.result c.requires.nonempty c.multimap.invariant done.met_unchanged
+    done.frame done.refused done.empty_unchanged
 
 pub returns-clause-nonempty : goal.returns-clause-nonempty
 returns-clause-nonempty g c = invariant_of-multimap g c

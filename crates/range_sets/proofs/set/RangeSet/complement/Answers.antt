@@ -8,7 +8,8 @@ pub append_gaps-requires-clause-empty : goal.append_gaps-requires-clause-empty
 append_gaps-requires-clause-empty g c = c.reserve.ensures.list ∙ c.new-others.ensures
 
 pub append_gaps-requires-clause-room : goal.append_gaps-requires-clause-room
-append_gaps-requires-clause-room g c = omega (arith, c.in-Some.ensures, c.range_count.ensures.value, c.in_ok-reserve.ensures.space)
+append_gaps-requires-clause-room g c =
+    omega (arith, c.in-Some.ensures, c.range_count.ensures.value, c.in_ok-reserve.ensures.space)
 
 pub returns-clause-held : goal.returns-clause-held
 returns-clause-held g c = c.in_ok-append_gaps.ensures.held

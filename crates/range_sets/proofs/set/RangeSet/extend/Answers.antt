@@ -5,7 +5,9 @@ use Rattle.range_sets.proofs.set.RangeSet.extend.Goals as goal
 
 pub loop-range-init : goal.loop-range-init
 loop-range-init g c =
-    let ready = c.requires.ends c.into_iter-range-iterator.result c.into_iter-range-iterator.ensures.into_iter_gives in
+    let ready =
+    c.requires.ends c.into_iter-range-iterator.result
+    c.into_iter-range-iterator.ensures.into_iter_gives in
     record {
       can = ready.0;
       ends = ready.1;
@@ -19,7 +21,10 @@ loop-range-preserved g c =
     let range = g.R.AsRange.range in
     let was = c.loop-range.invariant in
     let next = c.in-Some.range in
-    let more = one_more g.T.MaybeBounded.order (items c.args.self.now) (items c.loop-range.self) (items c.insert.new.self) (map range c.loop-range.yielded) (range next) was.added c.in_ok-insert.ensures.added in
+    let more =
+    one_more g.T.MaybeBounded.order (items c.args.self.now) (items c.loop-range.self)
+    (items c.insert.new.self) (map range c.loop-range.yielded)
+    (range next) was.added c.in_ok-insert.ensures.added in
     record {
       can = (c.in-Some.ensures.goes.on was.ends).0;
       ends = (c.in-Some.ensures.goes.on was.ends).1;

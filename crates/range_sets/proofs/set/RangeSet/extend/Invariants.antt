@@ -7,6 +7,7 @@ invariant-loop-range g l =
     record {
       can : (goal.iterator-loop-range g).can_next l.range-iterator;
       ends : (goal.iterator-loop-range g).is_finite l.range-iterator;
-      added : HoldsAllAlso g.T.MaybeBounded.order (g.C.Storage.items l.initial.self) (g.C.Storage.items l.self) (map g.R.AsRange.range l.yielded);
+      added : HoldsAllAlso g.T.MaybeBounded.order (g.C.Storage.items l.initial.self)
+          (g.C.Storage.items l.self) (map g.R.AsRange.range l.yielded);
       form : IsStoredSet g.T.MaybeBounded.order (g.C.Storage.items l.self);
     }

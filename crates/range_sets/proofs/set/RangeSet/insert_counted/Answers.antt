@@ -7,12 +7,18 @@ use Rattle.range_sets.proofs.set.RangeSet.insert_counted.Goals as goal
 pub returns-clause-added : goal.returns-clause-added
 returns-clause-added g c =
     let items = g.C.Storage.items in
-    rw (← c.self.view_is) (on_ok_weaker c.insert_counted.result (added g.T.MaybeBounded.order g.met.T.PartialEnum.lawful (λ _ _. true) (λ _ _. refl) (items c.self.inside.map) (items c.insert_counted.new.self) (g.R.AsRange.range c.args.range)) c.insert_counted.ensures.bound)
+    rw (← c.self.view_is) (on_ok_weaker c.insert_counted.result
+    (added g.T.MaybeBounded.order g.met.T.PartialEnum.lawful (λ _ _. true) (λ _ _. refl)
+    (items c.self.inside.map) (items c.insert_counted.new.self)
+    (g.R.AsRange.range c.args.range)) c.insert_counted.ensures.bound)
 
 pub returns-clause-few : goal.returns-clause-few
 returns-clause-few g c =
     let items = g.C.Storage.items in
-    rw (← c.self.view_is) (one_more g.T.MaybeBounded.order c.insert_counted.result (items c.self.inside.map) (items c.insert_counted.new.self) (g.R.AsRange.range c.args.range) c.insert_counted.ensures.frame c.insert_counted.ensures.refused c.insert_counted.ensures.empty_unchanged)
+    rw (← c.self.view_is) (one_more g.T.MaybeBounded.order c.insert_counted.result
+    (items c.self.inside.map) (items c.insert_counted.new.self)
+    (g.R.AsRange.range c.args.range) c.insert_counted.ensures.frame
+    c.insert_counted.ensures.refused c.insert_counted.ensures.empty_unchanged)
 
 pub returns-clause-form : goal.returns-clause-form
 returns-clause-form g c = search rules

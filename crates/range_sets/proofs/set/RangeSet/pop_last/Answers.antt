@@ -11,6 +11,7 @@ returns-clause-last g c =
     rw (← c.self.view_is) (elim c.match-pop_last.branch [
       | in-Some w ↦
           let item = pair_item (w.in-Some.range, w.in-Some.field-0-1) in
-          rw w.result-is (ap item_ranges w.in-Some.ensures.last ∙ item_ranges_append left (item ∷ []))
+          rw w.result-is (ap item_ranges w.in-Some.ensures.last
+          ∙ item_ranges_append left (item ∷ []))
       | in-None w ↦ rw w.result-is w.in-None.ensures.last
     ])

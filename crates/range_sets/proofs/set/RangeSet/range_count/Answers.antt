@@ -6,7 +6,8 @@ pub returns-clause-least : goal.returns-clause-least
 returns-clause-least g c =
     rw (← c.self.view_is)
     (λ complete others alike.
-    c.range_count.ensures.least complete others ((held_bound g.T.MaybeBounded.order (g.C.Storage.items c.self.inside.map) others).0 alike))
+    c.range_count.ensures.least complete others
+    ((held_bound g.T.MaybeBounded.order (g.C.Storage.items c.self.inside.map) others).0 alike))
 
 pub returns-clause-value : goal.returns-clause-value
 returns-clause-value g c = search rules

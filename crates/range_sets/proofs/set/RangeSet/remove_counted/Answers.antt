@@ -6,7 +6,10 @@ use Rattle.range_sets.proofs.set.RangeSet.remove_counted.Goals as goal
 pub returns-clause-removed : goal.returns-clause-removed
 returns-clause-removed g c =
     let items = g.C.Storage.items in
-    rw (← c.self.view_is) (on_ok_weaker c.remove_counted.result (removed g.T.MaybeBounded.order g.met.T.PartialEnum.lawful (λ _ _. true) (λ _ _. refl) (items c.self.inside.map) (items c.remove_counted.new.self) (g.R.AsRange.range c.args.range)) c.remove_counted.ensures.unbound)
+    rw (← c.self.view_is) (on_ok_weaker c.remove_counted.result
+    (removed g.T.MaybeBounded.order g.met.T.PartialEnum.lawful (λ _ _. true) (λ _ _. refl)
+    (items c.self.inside.map) (items c.remove_counted.new.self)
+    (g.R.AsRange.range c.args.range)) c.remove_counted.ensures.unbound)
 
 pub returns-clause-form : goal.returns-clause-form
 returns-clause-form g c = search rules

@@ -7,14 +7,18 @@ edge_before-requires g c = (search rules, (c.requires c.in-Some.edge c.in-Some.i
 
 pub returns-in-Some-clause-edge : goal.returns-in-Some-clause-edge
 returns-in-Some-clause-edge g c =
-    (before_good c.args.self.now c.in-Some.edge (c.requires c.in-Some.edge c.in-Some.is) c.edge_before.result c.edge_before.ensures).0
+    (before_good c.args.self.now c.in-Some.edge
+    (c.requires c.in-Some.edge c.in-Some.is) c.edge_before.result c.edge_before.ensures).0
 
 pub returns-in-Some-clause-place : goal.returns-in-Some-clause-place
 returns-in-Some-clause-place g c =
-    rw c.in-Some.is ((before_good c.args.self.now c.in-Some.edge (c.requires c.in-Some.edge c.in-Some.is) c.edge_before.result c.edge_before.ensures).1)
+    rw c.in-Some.is
+    ((before_good c.args.self.now c.in-Some.edge
+    (c.requires c.in-Some.edge c.in-Some.is) c.edge_before.result c.edge_before.ensures).1)
 
 pub returns-in-None-clause-edge : goal.returns-in-None-clause-edge
 returns-in-None-clause-edge g c = end_known c.args.self.now c.end.result c.end.ensures
 
 pub returns-in-None-clause-place : goal.returns-in-None-clause-place
-returns-in-None-clause-place g c = rw c.in-None.is (end_place c.args.self.now c.end.result c.end.ensures)
+returns-in-None-clause-place g c =
+    rw c.in-None.is (end_place c.args.self.now c.end.result c.end.ensures)

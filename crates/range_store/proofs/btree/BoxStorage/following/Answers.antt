@@ -11,14 +11,29 @@ item_count-requires g c = (search rules, (tree_leaf c.args.self.now c.args.edge 
 
 pub returns-then-edge-item_count : goal.returns-then-edge-item_count
 returns-then-edge-item_count g c =
-    let low : c.args.edge.index < length (items_of (node_of c.args.self.now.nodes c.args.edge.leaf)) = omega (arith, c.if-edge-item_count.true, c.item_count.ensures) in
-    let next = tree_beside c.args.self.now c.args.edge c.requires (record { leaf = c.args.edge.leaf; way = c.args.edge.way; index = c.args.edge.index + 1 }) refl refl (omega (arith, low)) in
+    let low : c.args.edge.index
+    < length (items_of (node_of c.args.self.now.nodes c.args.edge.leaf)) =
+    omega (arith, c.if-edge-item_count.true, c.item_count.ensures) in
+    let next =
+    tree_beside c.args.self.now c.args.edge c.requires
+    (record {
+      leaf = c.args.edge.leaf;
+      way = c.args.edge.way;
+      index = c.args.edge.index + 1;
+    }) refl refl (omega (arith, low)) in
     (next.0, omega (arith, next.1))
 
 pub following-requires : goal.following-requires
 following-requires g c =
-    let s = c.args.self.now in
-    (search rules, (root_shaped s.nodes s.levels s.root c.requires.some s.whole.tree, (tree_is_not_too_deep s.nodes s.levels s.root s.whole, c.requires.edge)))
+    let s = c.args.self.now in (
+      search rules,
+      (
+        root_shaped s.nodes s.levels s.root c.requires.some s.whole.tree,
+        (tree_is_not_too_deep s.nodes s.levels s.root s.whole, c.requires.edge),
+      ),
+    )
 
 pub returns : goal.returns
-returns g c = next_from c.args.self.now (box_place c.args.self.now c.args.edge) c.requires.some c.following.result c.following.ensures
+returns g c =
+    next_from c.args.self.now
+    (box_place c.args.self.now c.args.edge) c.requires.some c.following.result c.following.ensures

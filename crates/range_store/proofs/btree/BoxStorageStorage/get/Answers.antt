@@ -9,4 +9,6 @@ item_at-requires g c =
     (search rules, rw c.home-home.ensures (home.present, home.within))
 
 pub returns : goal.returns
-returns g c = item_home c.args.self.now c.args.p c.requires c.home-home.result c.home-home.ensures c.item_at.result.now c.item_at.ensures
+returns g c =
+    item_home c.args.self.now c.args.p c.requires c.home-home.result c.home-home.ensures
+    c.item_at.result.now c.item_at.ensures

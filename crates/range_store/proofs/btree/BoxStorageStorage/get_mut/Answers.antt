@@ -11,11 +11,23 @@ item_mut-requires g c =
 pub invariant_of-self-lent : goal.invariant_of-self-lent
 invariant_of-self-lent g c w =
     let s = c.args.self.now in
-    let same = written_at s c.args.p c.requires c.home-home.result w _ c.home-home.ensures refl in
-    (roomy_at s c.args.p c.requires w _ same, (counted_at s c.args.p c.requires w _ same, (s.levelled, tt)))
+    let same = written_at s c.args.p c.requires c.home-home.result w _ c.home-home.ensures refl in (
+      roomy_at s c.args.p c.requires w _ same,
+      (counted_at s c.args.p c.requires w _ same, (s.levelled, tt)),
+    )
 
 pub returns : goal.returns
 returns g c = (
-  (refl, λ w. same_storage c.args.self.now c.args.p c.requires c.home-home.result w c.home-home.ensures _ _ _),
-  record { writes_back = tt; value = item_home c.args.self.now c.args.p c.requires c.home-home.result c.home-home.ensures c.item_mut.result.now c.item_mut.ensures.value },
+  (
+    refl,
+    λ w.
+        same_storage c.args.self.now c.args.p c.requires c.home-home.result w c.home-home.ensures _ _
+        _,
+  ),
+  record {
+    writes_back = tt;
+    value =
+        item_home c.args.self.now c.args.p c.requires c.home-home.result c.home-home.ensures
+        c.item_mut.result.now c.item_mut.ensures.value;
+  },
 )

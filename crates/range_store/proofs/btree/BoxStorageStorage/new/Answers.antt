@@ -7,4 +7,12 @@ pub invariant_of-result : goal.invariant_of-result
 invariant_of-result g c =
     let none = ap length (items_below_none c.new.result 0) in
     let tree = IsTree-none c.new.result 0 c.new.ensures.empty in
-    record { whole = record { tree = tree; fits = omega (arith, none); counted = omega (arith, none) }; counted = sym none; levelled = rw none at (has_levels c.new.result 0 0 tree) }
+    record {
+      whole = record {
+        tree = tree;
+        fits = omega (arith, none);
+        counted = omega (arith, none);
+      };
+      counted = sym none;
+      levelled = rw none at (has_levels c.new.result 0 0 tree);
+    }

@@ -7,4 +7,6 @@ pub returns-clause-list : goal.returns-clause-list
 returns-clause-list g c =
     let s = c.args.self.now in
     let last = c.in_ok-last.last in
-    popped_last _ _ c.take.result.0 (box_place s last - 1) (ap (λ m. m + 1) (sym (rank_is s last c.in_ok-last.ensures.0)) ∙ c.in_ok-last.ensures.1) c.take.ensures.removed c.take.ensures.list
+    popped_last _ _ c.take.result.0 (box_place s last - 1)
+    (ap (λ m. m + 1) (sym (rank_is s last c.in_ok-last.ensures.0)) ∙ c.in_ok-last.ensures.1)
+    c.take.ensures.removed c.take.ensures.list

@@ -11,4 +11,6 @@ returns-clause-list g c = rw (rank_is c.args.self.now c.args.p c.requires) c.tak
 
 pub returns-clause-following : goal.returns-clause-following
 returns-clause-following g c =
-    rw (rank_is c.args.self.now c.args.p c.requires) (next_at c.take.new.self (box_place c.args.self.now c.args.p - 1) c.take.result.1 c.take.ensures.following)
+    rw (rank_is c.args.self.now c.args.p c.requires)
+    (next_at c.take.new.self
+    (box_place c.args.self.now c.args.p - 1) c.take.result.1 c.take.ensures.following)

@@ -5,8 +5,13 @@ use Rattle.range_store.proofs.Positions.{front_found}
 use Rattle.range_store.proofs.btree.BoxStorageStorage.search.Goals as goal
 
 pub edge_after_passing-requires : goal.edge_after_passing-requires
-edge_after_passing-requires g c = (search rules, falls_partitioned (g.P.Probe.test c.args.probe.now) (box_items c.args.self.now) c.requires)
+edge_after_passing-requires g c = (
+  search rules,
+  falls_partitioned (g.P.Probe.test c.args.probe.now) (box_items c.args.self.now) c.requires,
+)
 
 pub returns-clause-found : goal.returns-clause-found
 returns-clause-found g c =
-    front_found c.args.self.now (g.P.Probe.test c.args.probe.now) (falls_partitioned (g.P.Probe.test c.args.probe.now) (box_items c.args.self.now) c.requires) c.edge_after_passing.result c.edge_after_passing.ensures.found
+    front_found c.args.self.now (g.P.Probe.test c.args.probe.now)
+    (falls_partitioned (g.P.Probe.test c.args.probe.now) (box_items c.args.self.now) c.requires)
+    c.edge_after_passing.result c.edge_after_passing.ensures.found

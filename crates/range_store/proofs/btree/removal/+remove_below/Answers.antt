@@ -13,86 +13,237 @@ use Rattle.range_store.proofs.Ways.{level_of_children, child_within, below_kid, 
 use Rattle.range_store.proofs.btree.removal.+remove_below.Goals as goal
 
 pub take_item-item-requires : goal.take_item-item-requires
-take_item-item-requires g t c =
-    (search rules, (c.requires.shaped.node.present, omega (arith, leaf_index c.args.nodes.now c.args.number c.args.edge (rw c.if-below-eq0.true at c.requires.edge), c.requires.in_leaf)))
+take_item-item-requires g t c = (
+  search rules,
+  (
+    c.requires.shaped.node.present,
+    omega (
+      arith,
+      leaf_index c.args.nodes.now c.args.number c.args.edge
+          (rw c.if-below-eq0.true at c.requires.edge),
+      c.requires.in_leaf,
+    ),
+  ),
+)
 
 pub returns-then-below-eq0-clause-item : goal.returns-then-below-eq0-clause-item
 returns-then-below-eq0-clause-item g t c =
-    let leaf = leaf_is c.args.nodes.now c.args.number c.args.edge (rw c.if-below-eq0.true at c.requires.edge) in
+    let leaf =
+    leaf_is c.args.nodes.now c.args.number c.args.edge
+    (rw c.if-below-eq0.true at c.requires.edge) in
     rw leaf c.take_item-item.ensures.value
 
 pub returns-then-below-eq0-clause-shrinks : goal.returns-then-below-eq0-clause-shrinks
 returns-then-below-eq0-clause-shrinks g t c =
-    rw (c.if-below-eq0.true, leaf_place c.args.nodes.now c.args.number c.args.edge) (leaf_shrinks c.args.nodes.now c.take_item-item.new.self c.args.number (c.args.edge.index - 1) (rw c.if-below-eq0.true at c.requires.shaped) (rw c.if-below-eq0.true at c.requires.owned) (omega (arith, leaf_index c.args.nodes.now c.args.number c.args.edge (rw c.if-below-eq0.true at c.requires.edge), c.requires.in_leaf)) c.take_item-item.ensures.rest)
+    rw (c.if-below-eq0.true, leaf_place c.args.nodes.now c.args.number c.args.edge)
+    (leaf_shrinks c.args.nodes.now c.take_item-item.new.self c.args.number
+    (c.args.edge.index - 1) (rw c.if-below-eq0.true at c.requires.shaped)
+    (rw c.if-below-eq0.true at c.requires.owned)
+    (omega (
+      arith,
+      leaf_index c.args.nodes.now c.args.number c.args.edge
+          (rw c.if-below-eq0.true at c.requires.edge),
+      c.requires.in_leaf,
+    ))
+    c.take_item-item.ensures.rest)
 
 pub returns-then-below-eq0-clause-edge : goal.returns-then-below-eq0-clause-edge
 returns-then-below-eq0-clause-edge g t c =
-    let index = leaf_index c.args.nodes.now c.args.number c.args.edge (rw c.if-below-eq0.true at c.requires.edge) in
-    rw c.if-below-eq0.true (leaf_edge c.take_item-item.new.self c.args.number _ refl refl (omega (arith, index, c.requires.in_leaf, ap length c.take_item-item.ensures.rest.items_are, length-remove (items_of (node_of c.args.nodes.now c.args.number)) (c.args.edge.index - 1) (omega (arith, index, c.requires.in_leaf)))))
+    let index =
+    leaf_index c.args.nodes.now c.args.number c.args.edge
+    (rw c.if-below-eq0.true at c.requires.edge) in
+    rw c.if-below-eq0.true (leaf_edge c.take_item-item.new.self c.args.number _ refl refl
+    (omega (
+      arith,
+      index,
+      c.requires.in_leaf,
+      ap length c.take_item-item.ensures.rest.items_are,
+      length-remove (items_of (node_of c.args.nodes.now c.args.number)) (c.args.edge.index - 1)
+          (omega (arith, index, c.requires.in_leaf)),
+    )))
 
 pub returns-then-below-eq0-clause-place : goal.returns-then-below-eq0-clause-place
 returns-then-below-eq0-clause-place g t c =
-    rw c.if-below-eq0.true (omega (arith, leaf_place c.args.nodes.now c.args.number c.args.edge, leaf_place c.take_item-item.new.self c.args.number (record { leaf = c.args.number; way = 0; index = c.args.edge.index - 1 }), c.requires.in_leaf))
+    rw c.if-below-eq0.true (omega (
+      arith,
+      leaf_place c.args.nodes.now c.args.number c.args.edge,
+      leaf_place c.take_item-item.new.self c.args.number
+          (record { leaf = c.args.number; way = 0; index = c.args.edge.index - 1 }),
+      c.requires.in_leaf,
+    ))
 
 pub child_at-child-requires : goal.child_at-child-requires
-child_at-child-requires g t c =
-    (search rules, (c.requires.shaped.node.present, rw c.first_turn-index.ensures (child_within c.args.nodes.now c.args.below c.args.number c.if-below-eq0.false c.requires.shaped _ (below_turn c.args.nodes.now c.args.below c.args.number c.if-below-eq0.false c.requires.shaped c.args.edge c.requires.edge))))
+child_at-child-requires g t c = (
+  search rules,
+  (
+    c.requires.shaped.node.present,
+    rw c.first_turn-index.ensures
+        (child_within c.args.nodes.now c.args.below c.args.number c.if-below-eq0.false
+        c.requires.shaped _ (below_turn c.args.nodes.now c.args.below c.args.number
+        c.if-below-eq0.false c.requires.shaped c.args.edge c.requires.edge)),
+  ),
+)
 
 pub remove_below-taken-requires : goal.remove_below-taken-requires
 remove_below-taken-requires g t c κs inside =
-    let low = below_turn c.args.nodes.now c.args.below c.args.number c.if-below-eq0.false c.requires.shaped c.args.edge c.requires.edge in
-    let kid = below_kid c.args.nodes.now c.args.below c.args.number c.if-below-eq0.false c.requires.shaped (turn c.args.edge) low in
-    let is = below_inside c.args.nodes.now c.args.below c.args.number c.if-below-eq0.false c.requires.shaped c.args.edge c.requires.edge in
-    let back = level_of_children c.args.nodes.now c.args.below c.args.number c.if-below-eq0.false c.requires.shaped in
-    let owned = kid_owned c.args.nodes.now c.args.below c.args.number (turn c.args.edge) c.requires.owned (child_within c.args.nodes.now c.args.below c.args.number c.if-below-eq0.false c.requires.shaped _ low) in
-    (omega (arith, c.if-below-eq0.false), (inside, (search rules, rw (c.child_at-child.ensures, c.first_turn-index.ensures, c.seen_inside.ensures) (kid, (rw (← back) at owned, (omega (arith, c.requires.deep), (is, c.requires.in_leaf)))))))
+    let low =
+    below_turn c.args.nodes.now c.args.below c.args.number c.if-below-eq0.false
+    c.requires.shaped c.args.edge c.requires.edge in
+    let kid =
+    below_kid c.args.nodes.now c.args.below c.args.number c.if-below-eq0.false
+    c.requires.shaped (turn c.args.edge) low in
+    let is =
+    below_inside c.args.nodes.now c.args.below c.args.number c.if-below-eq0.false
+    c.requires.shaped c.args.edge c.requires.edge in
+    let back =
+    level_of_children c.args.nodes.now c.args.below c.args.number c.if-below-eq0.false
+    c.requires.shaped in
+    let owned =
+    kid_owned c.args.nodes.now c.args.below c.args.number
+    (turn c.args.edge) c.requires.owned
+    (child_within c.args.nodes.now c.args.below c.args.number c.if-below-eq0.false
+    c.requires.shaped _ low) in (
+      omega (arith, c.if-below-eq0.false),
+      (
+        inside,
+        (
+          search rules,
+          rw (c.child_at-child.ensures, c.first_turn-index.ensures, c.seen_inside.ensures)
+              (kid, (rw (← back) at owned, (omega (arith, c.requires.deep), (is, c.requires.in_leaf)))),
+        ),
+      ),
+    )
 
 pub mend-edge-requires : goal.mend-edge-requires
 mend-edge-requires g t c =
     let s = c.args.nodes.now in
     let i = turn c.args.edge in
-    let low = below_turn s c.args.below c.args.number c.if-below-eq0.false c.requires.shaped c.args.edge c.requires.edge in
-    let back = level_of_children s c.args.below c.args.number c.if-below-eq0.false c.requires.shaped in
-    let child = rw (c.child_at-child.ensures, c.first_turn-index.ensures, c.seen_inside.ensures) at c.remove_below-taken.ensures.shrinks in
+    let low =
+    below_turn s c.args.below c.args.number c.if-below-eq0.false c.requires.shaped
+    c.args.edge c.requires.edge in
+    let back =
+    level_of_children s c.args.below c.args.number c.if-below-eq0.false c.requires.shaped in
+    let child =
+    rw (c.child_at-child.ensures, c.first_turn-index.ensures, c.seen_inside.ensures) at
+    c.remove_below-taken.ensures.shrinks in
     let listed = rw back at child.listed in
     let moved = rw back at child.moved in
-    let enough = (kid_shaped 1 CAPACITY s (c.args.below - 1) c.args.number i (rw (← back) at c.requires.shaped) low).node.enough in
-    let mendable = kid_mendable s c.remove_below-taken.new.nodes c.args.below c.args.number i _ c.if-below-eq0.false c.requires.shaped c.requires.owned low listed moved (child.shape (MIN_LEN - 1) (omega (arith, enough))) in
-    let edge = rw (c.child_at-child.ensures, c.first_turn-index.ensures) at c.remove_below-taken.ensures.edge in
-    (search rules, (rw c.first_turn-index.ensures mendable, (omega (arith, c.requires.deep, c.if-below-eq0.false), rw (c.first_turn-index.ensures, kid_kept s c.remove_below-taken.new.nodes c.args.below c.args.number i _ c.if-below-eq0.false c.requires.shaped c.requires.owned low listed moved) edge)))
+    let enough =
+    (kid_shaped 1 CAPACITY s (c.args.below - 1) c.args.number i
+    (rw (← back) at c.requires.shaped) low).node.enough in
+    let mendable =
+    kid_mendable s c.remove_below-taken.new.nodes c.args.below c.args.number i _
+    c.if-below-eq0.false c.requires.shaped c.requires.owned low listed moved
+    (child.shape (MIN_LEN - 1) (omega (arith, enough))) in
+    let edge =
+    rw (c.child_at-child.ensures, c.first_turn-index.ensures) at
+    c.remove_below-taken.ensures.edge in (
+      search rules,
+      (
+        rw c.first_turn-index.ensures mendable,
+        (
+          omega (arith, c.requires.deep, c.if-below-eq0.false),
+          rw (
+            c.first_turn-index.ensures,
+            kid_kept s c.remove_below-taken.new.nodes c.args.below c.args.number i _
+                c.if-below-eq0.false c.requires.shaped c.requires.owned low listed moved,
+          ) edge,
+        ),
+      ),
+    )
 
 pub returns-clause-shrinks : goal.returns-clause-shrinks
 returns-clause-shrinks g t c =
     let i = turn c.args.edge in
-    let low = below_turn c.args.nodes.now c.args.below c.args.number c.if-below-eq0.false c.requires.shaped c.args.edge c.requires.edge in
-    let back = level_of_children c.args.nodes.now c.args.below c.args.number c.if-below-eq0.false c.requires.shaped in
-    let child = rw (c.child_at-child.ensures, c.first_turn-index.ensures, c.seen_inside.ensures) at c.remove_below-taken.ensures.shrinks in
+    let low =
+    below_turn c.args.nodes.now c.args.below c.args.number c.if-below-eq0.false
+    c.requires.shaped c.args.edge c.requires.edge in
+    let back =
+    level_of_children c.args.nodes.now c.args.below c.args.number c.if-below-eq0.false
+    c.requires.shaped in
+    let child =
+    rw (c.child_at-child.ensures, c.first_turn-index.ensures, c.seen_inside.ensures) at
+    c.remove_below-taken.ensures.shrinks in
     let listed = rw back at child.listed in
     let moved = rw back at child.moved in
-    let at = rw (c.child_at-child.ensures, c.first_turn-index.ensures, c.seen_inside.ensures) at c.remove_below-taken.ensures.place in
-    let q = place c.args.nodes.now (c.args.below - 1) (get_or (children_of (node_of c.args.nodes.now c.args.number)) (turn c.args.edge) 0) (inside c.args.edge) in
-    let within = below_most c.args.nodes.now c.args.below c.args.number c.if-below-eq0.false c.requires.shaped i (inside c.args.edge) low (below_inside c.args.nodes.now c.args.below c.args.number c.if-below-eq0.false c.requires.shaped c.args.edge c.requires.edge) in
-    let same : length (before (items_of (node_of c.args.nodes.now c.args.number)) (map (items_below c.args.nodes.now c.args.below) (children_of (node_of c.args.nodes.now c.args.number))) i) + (q - 1) ≡ place c.args.nodes.now c.args.below c.args.number c.args.edge - 1 = omega (arith, below_here c.args.nodes.now c.args.below c.args.number c.if-below-eq0.false c.requires.shaped c.args.edge, at) in
-    rw (← same) (shorter_child_shrinks_node c.args.nodes.now c.remove_below-taken.new.nodes c.mend-edge.new.nodes c.args.below c.args.number i (q - 1) c.if-below-eq0.false c.requires.shaped c.requires.owned low (omega (arith, within, at)) child c.mend-edge.ensures.shrinks)
+    let at =
+    rw (c.child_at-child.ensures, c.first_turn-index.ensures, c.seen_inside.ensures) at
+    c.remove_below-taken.ensures.place in
+    let q =
+    place c.args.nodes.now (c.args.below - 1)
+    (get_or (children_of (node_of c.args.nodes.now c.args.number)) (turn c.args.edge) 0)
+    (inside c.args.edge) in
+    let within =
+    below_most c.args.nodes.now c.args.below c.args.number c.if-below-eq0.false
+    c.requires.shaped i (inside c.args.edge) low
+    (below_inside c.args.nodes.now c.args.below c.args.number c.if-below-eq0.false
+    c.requires.shaped c.args.edge c.requires.edge) in
+    let same : length (before (items_of (node_of c.args.nodes.now c.args.number))
+    (map (items_below c.args.nodes.now c.args.below)
+    (children_of (node_of c.args.nodes.now c.args.number))) i) + (q - 1)
+    ≡ place c.args.nodes.now c.args.below c.args.number c.args.edge - 1 =
+    omega (
+      arith,
+      below_here c.args.nodes.now c.args.below c.args.number c.if-below-eq0.false
+          c.requires.shaped c.args.edge,
+      at,
+    ) in
+    rw (← same) (shorter_child_shrinks_node c.args.nodes.now c.remove_below-taken.new.nodes
+    c.mend-edge.new.nodes c.args.below c.args.number i
+    (q - 1) c.if-below-eq0.false c.requires.shaped c.requires.owned low
+    (omega (arith, within, at)) child c.mend-edge.ensures.shrinks)
 
 pub returns-clause-edge : goal.returns-clause-edge
 returns-clause-edge g t c =
-    rw (level_of_children c.args.nodes.now c.args.below c.args.number c.if-below-eq0.false c.requires.shaped) at c.mend-edge.ensures.edge
+    rw (level_of_children c.args.nodes.now c.args.below c.args.number c.if-below-eq0.false
+    c.requires.shaped) at c.mend-edge.ensures.edge
 
 pub returns-clause-place : goal.returns-clause-place
 returns-clause-place g t c =
     let i = turn c.args.edge in
-    let low = below_turn c.args.nodes.now c.args.below c.args.number c.if-below-eq0.false c.requires.shaped c.args.edge c.requires.edge in
-    let back = level_of_children c.args.nodes.now c.args.below c.args.number c.if-below-eq0.false c.requires.shaped in
-    let child = rw (c.child_at-child.ensures, c.first_turn-index.ensures, c.seen_inside.ensures) at c.remove_below-taken.ensures.shrinks in
+    let low =
+    below_turn c.args.nodes.now c.args.below c.args.number c.if-below-eq0.false
+    c.requires.shaped c.args.edge c.requires.edge in
+    let back =
+    level_of_children c.args.nodes.now c.args.below c.args.number c.if-below-eq0.false
+    c.requires.shaped in
+    let child =
+    rw (c.child_at-child.ensures, c.first_turn-index.ensures, c.seen_inside.ensures) at
+    c.remove_below-taken.ensures.shrinks in
     let listed = rw back at child.listed in
     let moved = rw back at child.moved in
-    let at = rw (c.child_at-child.ensures, c.first_turn-index.ensures, c.seen_inside.ensures) at c.remove_below-taken.ensures.place in
-    let q = place c.args.nodes.now (c.args.below - 1) (get_or (children_of (node_of c.args.nodes.now c.args.number)) (turn c.args.edge) 0) (inside c.args.edge) in
-    let within = below_most c.args.nodes.now c.args.below c.args.number c.if-below-eq0.false c.requires.shaped i (inside c.args.edge) low (below_inside c.args.nodes.now c.args.below c.args.number c.if-below-eq0.false c.requires.shaped c.args.edge c.requires.edge) in
+    let at =
+    rw (c.child_at-child.ensures, c.first_turn-index.ensures, c.seen_inside.ensures) at
+    c.remove_below-taken.ensures.place in
+    let q =
+    place c.args.nodes.now (c.args.below - 1)
+    (get_or (children_of (node_of c.args.nodes.now c.args.number)) (turn c.args.edge) 0)
+    (inside c.args.edge) in
+    let within =
+    below_most c.args.nodes.now c.args.below c.args.number c.if-below-eq0.false
+    c.requires.shaped i (inside c.args.edge) low
+    (below_inside c.args.nodes.now c.args.below c.args.number c.if-below-eq0.false
+    c.requires.shaped c.args.edge c.requires.edge) in
     let place' = rw c.first_turn-index.ensures at c.mend-edge.ensures.place in
-    let seat = rw back at (place' ∙ seat_place_inner c.remove_below-taken.new.nodes (c.args.below - 1) _ _ i c.remove_below-taken.result.edge) in
-    let front = kid_front c.args.nodes.now c.remove_below-taken.new.nodes c.args.below c.args.number i _ c.if-below-eq0.false c.requires.shaped c.requires.owned low listed moved in
-    let kid = rw (kid_kept c.args.nodes.now c.remove_below-taken.new.nodes c.args.below c.args.number i _ c.if-below-eq0.false c.requires.shaped c.requires.owned low listed moved) at seat in
-    let front' = rw (kid_kept c.args.nodes.now c.remove_below-taken.new.nodes c.args.below c.args.number i _ c.if-below-eq0.false c.requires.shaped c.requires.owned low listed moved) at front in
-    omega (arith, kid, front', at, below_here c.args.nodes.now c.args.below c.args.number c.if-below-eq0.false c.requires.shaped c.args.edge)
+    let seat =
+    rw back at (place'
+    ∙ seat_place_inner c.remove_below-taken.new.nodes
+    (c.args.below - 1) _ _ i c.remove_below-taken.result.edge) in
+    let front =
+    kid_front c.args.nodes.now c.remove_below-taken.new.nodes c.args.below c.args.number i _
+    c.if-below-eq0.false c.requires.shaped c.requires.owned low listed moved in
+    let kid =
+    rw (kid_kept c.args.nodes.now c.remove_below-taken.new.nodes c.args.below c.args.number
+    i _ c.if-below-eq0.false c.requires.shaped c.requires.owned low listed moved) at seat in
+    let front' =
+    rw (kid_kept c.args.nodes.now c.remove_below-taken.new.nodes c.args.below c.args.number
+    i _ c.if-below-eq0.false c.requires.shaped c.requires.owned low listed moved) at front
+    in
+    omega (
+      arith,
+      kid,
+      front',
+      at,
+      below_here c.args.nodes.now c.args.below c.args.number c.if-below-eq0.false
+          c.requires.shaped c.args.edge,
+    )

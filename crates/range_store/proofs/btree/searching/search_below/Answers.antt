@@ -11,57 +11,94 @@ use Rattle.range_store.proofs.btree.searching.search_below.Given.{Over}
 use Rattle.range_store.proofs.btree.searching.search_below.Goals.{After-halve-index}
 
 pub halve-index-requires-clause-full : goal.halve-index-requires-clause-full
-halve-index-requires-clause-full g c = rw c.cells.ensures (cells_full (items_of (node_of c.args.nodes.now c.down.at)))
+halve-index-requires-clause-full g c =
+    rw c.cells.ensures (cells_full (items_of (node_of c.args.nodes.now c.down.at)))
 
 pub halve-index-requires-clause-falls : goal.halve-index-requires-clause-falls
 halve-index-requires-clause-falls g c =
     let p = g.P.Probe.test c.args.probe.now in
     let d = c.down.invariant.0 in
-    rw (c.down.invariant.1, c.cells.ensures) (falls_cells p (items_of (node_of c.args.nodes.now c.down.at)) (node_falls p 1 CAPACITY c.args.nodes.now c.down.left c.down.at d.shaped d.falls))
+    rw (c.down.invariant.1, c.cells.ensures)
+    (falls_cells p (items_of (node_of c.args.nodes.now c.down.at))
+    (node_falls p 1 CAPACITY c.args.nodes.now c.down.left c.down.at d.shaped d.falls))
 
 -- how many of the node's items pass
-counted : (g : Over) (c : After-halve-index g) → c.halve-index.result ≡ count_by (g.P.Probe.test c.args.probe.now) (items_of (node_of c.args.nodes.now c.down.at))
+counted : (g : Over) (c : After-halve-index g)
+    → c.halve-index.result ≡ count_by (g.P.Probe.test c.args.probe.now)
+    (items_of (node_of c.args.nodes.now c.down.at))
 counted g c =
-    (rw (c.down.invariant.1, c.cells.ensures) at c.halve-index.ensures.count) ∙ count_cells (g.P.Probe.test c.args.probe.now) (items_of (node_of c.args.nodes.now c.down.at))
+    (rw (c.down.invariant.1, c.cells.ensures) at c.halve-index.ensures.count)
+    ∙ count_cells (g.P.Probe.test c.args.probe.now)
+    (items_of (node_of c.args.nodes.now c.down.at))
 
 few : (g : Over) (c : After-halve-index g) → c.halve-index.result ≤ CAPACITY
 few g c =
     let d = c.down.invariant.0 in
-    omega (arith, counted g c, count_by-le-length (g.P.Probe.test c.args.probe.now) (items_of (node_of c.args.nodes.now c.down.at)), d.shaped.node.fits)
+    omega (
+      arith,
+      counted g c,
+      count_by-le-length (g.P.Probe.test c.args.probe.now)
+          (items_of (node_of c.args.nodes.now c.down.at)),
+      d.shaped.node.fits,
+    )
 
 pub returns-then-left-eq0-clause-edge : goal.returns-then-left-eq0-clause-edge
 returns-then-left-eq0-clause-edge g c =
     let a = (goal.at.returns-then-left-eq0-clause-edge g c).After-halve-index in
-    (descent_ends (g.P.Probe.test c.args.probe.now) c.args.nodes.now c.args.below c.args.number c.down.left c.down.at c.down.way c.down.weight c.if-left-eq0.true c.down.invariant.0 c.halve-index.result (counted g a)).edge
+    (descent_ends (g.P.Probe.test c.args.probe.now) c.args.nodes.now c.args.below c.args.number
+    c.down.left c.down.at c.down.way c.down.weight c.if-left-eq0.true c.down.invariant.0
+    c.halve-index.result (counted g a)).edge
 
 pub returns-then-left-eq0-clause-count : goal.returns-then-left-eq0-clause-count
 returns-then-left-eq0-clause-count g c =
     let a = (goal.at.returns-then-left-eq0-clause-count g c).After-halve-index in
-    (descent_ends (g.P.Probe.test c.args.probe.now) c.args.nodes.now c.args.below c.args.number c.down.left c.down.at c.down.way c.down.weight c.if-left-eq0.true c.down.invariant.0 c.halve-index.result (counted g a)).count
+    (descent_ends (g.P.Probe.test c.args.probe.now) c.args.nodes.now c.args.below c.args.number
+    c.down.left c.down.at c.down.way c.down.weight c.if-left-eq0.true c.down.invariant.0
+    c.halve-index.result (counted g a)).count
 
 pub overflow_mul-way : goal.overflow_mul-way
 overflow_mul-way g c =
     let a = (goal.at.overflow_mul-way g c).After-halve-index in
     let d = c.down.invariant.0 in
-    omega (arith, d.small, weight_fits c.args.below c.down.left c.down.weight c.requires.deep (omega (arith, c.if-left-eq0.false)) d.weight_is, mul-le-mul_left c.down.weight (few g a))
+    omega (
+      arith,
+      d.small,
+      weight_fits c.args.below c.down.left c.down.weight c.requires.deep
+          (omega (arith, c.if-left-eq0.false)) d.weight_is,
+      mul-le-mul_left c.down.weight (few g a),
+    )
 
 pub overflow_add-way : goal.overflow_add-way
 overflow_add-way g c =
     let a = (goal.at.overflow_add-way g c).After-halve-index in
     let d = c.down.invariant.0 in
-    omega (arith, d.small, weight_fits c.args.below c.down.left c.down.weight c.requires.deep (omega (arith, c.if-left-eq0.false)) d.weight_is, mul-le-mul_left c.down.weight (few g a))
+    omega (
+      arith,
+      d.small,
+      weight_fits c.args.below c.down.left c.down.weight c.requires.deep
+          (omega (arith, c.if-left-eq0.false)) d.weight_is,
+      mul-le-mul_left c.down.weight (few g a),
+    )
 
 pub overflow_mul-weight : goal.overflow_mul-weight
 overflow_mul-weight g c =
     let d = c.down.invariant.0 in
-    omega (arith, weight_fits c.args.below c.down.left c.down.weight c.requires.deep (omega (arith, c.if-left-eq0.false)) d.weight_is)
+    omega (
+      arith,
+      weight_fits c.args.below c.down.left c.down.weight c.requires.deep
+          (omega (arith, c.if-left-eq0.false)) d.weight_is,
+    )
 
 pub down-preserved : goal.down-preserved
 down-preserved g c =
     let a = (goal.at.down-preserved g c).After-halve-index in
     let d = c.down.invariant.0 in
-    let down = descends (g.P.Probe.test c.args.probe.now) c.args.nodes.now c.args.below c.args.number c.down.left c.down.at c.down.way c.down.weight c.if-left-eq0.false d c.halve-index.result (counted g a) in (
+    let down =
+    descends (g.P.Probe.test c.args.probe.now) c.args.nodes.now c.args.below c.args.number
+    c.down.left c.down.at c.down.way c.down.weight c.if-left-eq0.false d
+    c.halve-index.result (counted g a) in (
       rw c.child_at-at.ensures down,
       c.halve-index.ensures.kept ∙ c.down.invariant.1,
-      adds_more _ _ _ c.args.below c.down.left c.if-left-eq0.false d.low c.down.invariant.2 c.halve-index.ensures.asked,
+      adds_more _ _ _ c.args.below c.down.left c.if-left-eq0.false d.low c.down.invariant.2
+          c.halve-index.ensures.asked,
     )

@@ -11,7 +11,10 @@ returns-clause-steps g c =
     let items = storage.items stored in
     let place = place_before (storage.rank stored) (length items) c.self.inside.front in
     let ends = rw c.in-Some.is at (c.self.invariant.ends (omega arith)) in
-    sym c.self.view_is ∙ last_of_run items place c.self.inside.left (storage.rank stored c.in-Some.p) c.get-item.result.now (omega arith) c.self.invariant.in_range ends.1 c.get-item.ensures
+    sym c.self.view_is
+    ∙ last_of_run items place c.self.inside.left
+    (storage.rank stored c.in-Some.p) c.get-item.result.now
+    (omega arith) c.self.invariant.in_range ends.1 c.get-item.ensures
 
 pub invariant_of-self : goal.invariant_of-self
 invariant_of-self g c = search rules

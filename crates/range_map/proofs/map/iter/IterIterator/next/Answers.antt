@@ -11,11 +11,19 @@ returns-clause-steps g c =
     let stored = c.self.inside.stored.now in
     let items = storage.items stored in
     let left = c.self.inside.left in
-    let here : place_before (storage.rank stored) (length items) c.self.inside.front ≡ storage.rank stored c.in-Some.p = ap (place_before (storage.rank stored) (length items)) c.in-Some.is in
-    let next = place_at (storage.is_good stored) (storage.rank stored) (length items) c.next-self-inside.result (storage.rank stored c.in-Some.p + 1) c.next-self-inside.ensures in
+    let here : place_before (storage.rank stored) (length items) c.self.inside.front
+    ≡ storage.rank stored c.in-Some.p =
+    ap (place_before (storage.rank stored) (length items)) c.in-Some.is in
+    let next =
+    place_at (storage.is_good stored) (storage.rank stored)
+    (length items) c.next-self-inside.result
+    (storage.rank stored c.in-Some.p + 1) c.next-self-inside.ensures in
     let x = c.get-item.result.now in
     let rank = storage.rank stored c.in-Some.p in
-    sym c.self.view_is ∙ ap (λ place. take left (drop place items)) here ∙ first_of_run items rank left x (omega arith) (omega (arith, here, c.self.invariant.in_range)) c.get-item.ensures ∙ ap (λ place. x ∷ take (left - 1) (drop place items)) (sym next)
+    sym c.self.view_is ∙ ap (λ place. take left (drop place items)) here
+    ∙ first_of_run items rank left x (omega arith)
+    (omega (arith, here, c.self.invariant.in_range)) c.get-item.ensures
+    ∙ ap (λ place. x ∷ take (left - 1) (drop place items)) (sym next)
 
 pub invariant_of-self : goal.invariant_of-self
 invariant_of-self g c = search rules
