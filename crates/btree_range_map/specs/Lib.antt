@@ -1,3 +1,4 @@
+pub mod Names
 -- What the contracts of the crates below say.
 pub use Rattle.range_keys.specs.Characters
 pub use Rattle.range_keys.specs.Counted
@@ -43,6 +44,7 @@ pub use Rattle.range_map.specs.Pieces
 pub use Rattle.range_map.specs.Rebinding
 pub use Rattle.range_map.specs.Replaced
 pub use Rattle.range_map.specs.Searches
+pub use Rattle.range_map.specs.SimpleUpdates
 pub use Rattle.range_map.specs.Stored
 pub use Rattle.range_map.specs.Texts as MapTexts
 pub use Rattle.range_sets.specs.Calls
