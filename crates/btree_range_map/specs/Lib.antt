@@ -1,5 +1,6 @@
-pub mod Names
 -- What the contracts of the crates below say.
+pub mod KeyNumbers
+pub mod Names
 pub use Rattle.range_keys.specs.Characters
 pub use Rattle.range_keys.specs.Counted
 pub use Rattle.range_keys.specs.Directed
