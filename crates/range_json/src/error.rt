@@ -14,7 +14,7 @@ pub enum ReadError {
     #[error("out of memory")]
     Memory,
     /// The JSON value is none of the type's.
-    #[error("no value of the type")]
+    #[error("not a value of the type")]
     Refused,
 }
 
@@ -33,28 +33,28 @@ pub enum JsonError {
     #[error("out of memory")]
     Memory,
     /// The whole, or its member `items`, is no array.
-    #[error("no array")]
+    #[error("expected an array of elements, or an object with such an array as its member items")]
     NotArray,
     /// The element is no array of two.
-    #[error("element {0} is no pair")]
+    #[error("element {0}: expected an array of two, a range and what it is bound to")]
     NotPair(usize),
     /// The range is no array of two.
-    #[error("element {0} has no range")]
+    #[error("element {0}: expected a range, an array of two bounds")]
     NotRange(usize),
     /// A bound of the range is none.
-    #[error("element {0} has a bound that is none")]
+    #[error("element {0}: expected a bound, Unbounded or an object whose one member is Included or Excluded")]
     NotBound(usize),
     /// The key of a bound is none.
-    #[error("element {0} has a key that is none")]
+    #[error("element {0}: the key of a bound is not of the type of the keys")]
     Key(usize),
     /// The value is none.
-    #[error("element {0} has a value that is none")]
+    #[error("element {0}: what the range is bound to is not of the type of the values")]
     Value(usize),
     /// The range meets that of an earlier element.
-    #[error("element {0} meets an earlier one")]
+    #[error("element {0}: the range meets that of an earlier element")]
     Meets(usize),
     /// The object is none of version 2.
-    #[error("another version")]
+    #[error("expected an object with the members version, which is 2, and items, and no others")]
     Version,
 }
 
