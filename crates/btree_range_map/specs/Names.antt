@@ -40,9 +40,6 @@ i32_order = signed_order 2147483647
 abbrev pub i64_order : KeyOrder ℤ
 i64_order = signed_order 9223372036854775807
 
-abbrev pub isize_order : KeyOrder ℤ
-isize_order = signed_order 9223372036854775807
-
 abbrev pub char_order : KeyOrder ℕ
 char_order = character_order
 
