@@ -139,6 +139,18 @@ impl<T: Drop> Nodes<T> {
         self.lists[self.nodes[number].list].as_slice()[index]
     }
 
+    /// The children of a node, by their numbers.
+    pub fn children(&self, number: usize) -> &[usize]
+        requires { HasNode self.now number }
+        ensures { result.now ≡ children_of (node_of self.now number) }
+    {
+        let list = self.nodes[number].list;
+        if list == NO_LIST {
+            return &[];
+        }
+        self.lists[list].as_slice()
+    }
+
     /// The items of a node, each in a cell.
     pub fn cells(&self, number: usize) -> &[Option<T>]
         requires { HasNode self.now number }

@@ -13,6 +13,21 @@ use crate::storage::Probe;
 // How often a node is asked at most.
 pub const HALVINGS: usize = 4;
 
+// Reads each second cell, so that the lines of memory in which the cells lie come together, and not
+// one after the other as they are asked.
+fn read_ahead<T>(cells: &[Option<T>])
+    requires full { All IsSome cells.now }
+    requires fits { length cells.now ≤ CAPACITY }
+{
+    let mut at = 0;
+    while at < cells.len() {
+        if cells[at].is_none() {
+            unreachable!();
+        }
+        at += 2;
+    }
+}
+
 // How many of the items in these cells pass, found by halving.
 pub fn halve<T, P: Probe<T>>(cells: &[Option<T>], probe: &mut P) -> usize
     requires full { All IsSome cells.now }
@@ -62,7 +77,10 @@ pub fn search_below<T: Drop, P: Probe<T>>(
     let mut way: u128 = 0;
     let mut weight: u128 = 1;
     'down: loop {
-        let index = halve(nodes.cells(at), probe);
+        let cells = nodes.cells(at);
+        let children = nodes.children(at);
+        read_ahead(cells);
+        let index = halve(cells, probe);
         if left == 0 {
             return Edge {
                 way,
@@ -72,7 +90,7 @@ pub fn search_below<T: Drop, P: Probe<T>>(
         }
         way += weight * (index as u128);
         weight *= WIDTH;
-        at = nodes.child_at(at, index);
+        at = children[index];
         left -= 1;
     }
 }

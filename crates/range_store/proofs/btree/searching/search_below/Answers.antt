@@ -10,15 +10,19 @@ use Rattle.range_store.proofs.btree.searching.search_below.Goals as goal
 use Rattle.range_store.proofs.btree.searching.search_below.Given.{Over}
 use Rattle.range_store.proofs.btree.searching.search_below.Goals.{After-halve-index}
 
+pub read_ahead-requires-clause-full : goal.read_ahead-requires-clause-full
+read_ahead-requires-clause-full g c =
+    rw c.cells-cells.ensures (cells_full (items_of (node_of c.args.nodes.now c.down.at)))
+
 pub halve-index-requires-clause-full : goal.halve-index-requires-clause-full
 halve-index-requires-clause-full g c =
-    rw c.cells.ensures (cells_full (items_of (node_of c.args.nodes.now c.down.at)))
+    rw c.cells-cells.ensures (cells_full (items_of (node_of c.args.nodes.now c.down.at)))
 
 pub halve-index-requires-clause-falls : goal.halve-index-requires-clause-falls
 halve-index-requires-clause-falls g c =
     let p = g.P.Probe.test c.args.probe.now in
     let d = c.down.invariant.0 in
-    rw (c.down.invariant.1, c.cells.ensures)
+    rw (c.down.invariant.1, c.cells-cells.ensures)
     (falls_cells p (items_of (node_of c.args.nodes.now c.down.at))
     (node_falls p 1 CAPACITY c.args.nodes.now c.down.left c.down.at d.shaped d.falls))
 
@@ -27,7 +31,7 @@ counted : (g : Over) (c : After-halve-index g)
     → c.halve-index.result ≡ count_by (g.P.Probe.test c.args.probe.now)
     (items_of (node_of c.args.nodes.now c.down.at))
 counted g c =
-    (rw (c.down.invariant.1, c.cells.ensures) at c.halve-index.ensures.count)
+    (rw (c.down.invariant.1, c.cells-cells.ensures) at c.halve-index.ensures.count)
     ∙ count_cells (g.P.Probe.test c.args.probe.now)
     (items_of (node_of c.args.nodes.now c.down.at))
 
@@ -97,7 +101,7 @@ down-preserved g c =
     descends (g.P.Probe.test c.args.probe.now) c.args.nodes.now c.args.below c.args.number
     c.down.left c.down.at c.down.way c.down.weight c.if-left-eq0.false d
     c.halve-index.result (counted g a) in (
-      rw c.child_at-at.ensures down,
+      rw c.children-children.ensures down,
       c.halve-index.ensures.kept ∙ c.down.invariant.1,
       adds_more _ _ _ c.args.below c.down.left c.if-left-eq0.false d.low c.down.invariant.2
           c.halve-index.ensures.asked,
