@@ -1,3 +1,4 @@
 pub mod BoundPositions
+pub mod Distances
 pub mod Orderings
 pub mod Touching
