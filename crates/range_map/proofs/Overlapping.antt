@@ -1,0 +1,266 @@
+-- The items that a range meets are one run of a stored list.
+use Rattle.std.proofs.Common.{◌≡◌, refl, sym, ap, subst, ◌∙◌, ℕ, zero, suc, ◌+◌, ◌-◌, ◌<◌, ◌≤◌, Bool, true, false, List, [], ◌∷◌, ◌++◌, length, take, drop, get_or, arith, Option, Some, None, inl, inr, length-drop}
+use Rattle.std.specs.Ordering.{is_gt}
+use Rattle.std.proofs.lemmas.List.{drop_more, take_more, get_or-take, get_or-drop, drop-drop, length-take-le}
+use Rattle.std.proofs.Math.Seq.{take-add}
+use Rattle.range_keys.specs.Order.{KeyOrder, IsLawful}
+use Rattle.range_keys.specs.Position.{start_position, end_position, position_cmp}
+use Rattle.range_keys.specs.PositionOrder.{position_total}
+use Rattle.range_keys.specs.declared.inner.position.Position.{Position}
+use Rattle.range_keys.proofs.Orderings.{not_greater}
+use Rattle.range_algebra.specs.declared.any.AnyRange.{AnyRange}
+use Rattle.range_algebra.specs.Intervals.{Le, Lt, Any, Every}
+use Rattle.range_algebra.specs.Orders.{le_refl, lt_le, le_trans, lt_not_le, lt_le_trans, le_lt_trans, lt_trans}
+use Rattle.range_algebra.specs.Range.{IsEmptyRange}
+use Rattle.range_algebra.proofs.Lists.{any_none, any_left, any_right, any_split, every_at, every_append, every_left, every_right, every_weaker, list_is_take_and_drop, drop_all}
+use Rattle.range_store.specs.declared.storage.Item.{Item}
+use Rattle.range_map.specs.Lookups.{MeetsSome, Overlap}
+use Rattle.range_map.specs.Overlapping.{AreOverlapping}
+use Rattle.range_map.specs.Stored.{IsStored}
+use Rattle.range_map.proofs.Cutting.{every_with}
+use Rattle.range_map.proofs.Found.{starts_rise, stored_tail, every_nonempty, stored_drop}
+use Rattle.range_map.proofs.Listed.{IsListed, stored_list_is_listed}
+
+module _ {K : Type 0} (order : KeyOrder K) (lawful : IsLawful order) {V : Type 0} where
+  abbrev PLe : Position K → Position K → Type 0
+  PLe p q = Le (position_cmp order.cmp) p q
+
+  abbrev PLt : Position K → Position K → Type 0
+  PLt p q = Lt (position_cmp order.cmp) p q
+
+  abbrev Start : Item (AnyRange K) V → Position K
+  Start i = start_position order i.key.start
+
+  abbrev End : Item (AnyRange K) V → Position K
+  End i = end_position order i.key.end
+
+  module _ (same : V → V → Bool) where
+    first_rises : (i : Item (AnyRange K) V) (rest : List (Item (AnyRange K) V))
+        → IsListed order lawful same (i ∷ rest) → Every (λ j. PLt (Start i) (Start j)) rest
+    first_rises i rest h =
+        let cmp = position_cmp order.cmp in
+        let total = position_total order.cmp lawful.total in
+        every_weaker (λ j. PLt (End i) (Start j)) (λ j. PLt (Start i) (Start j)) rest
+        (λ j l. le_lt_trans cmp total (Start i) (End i) (Start j)
+        (every_nonempty order lawful same (i ∷ rest) h).0 l)
+        (starts_rise order lawful same i rest h)
+
+    first_starts_first : (i : Item (AnyRange K) V) (rest : List (Item (AnyRange K) V)) (n : ℕ)
+        (y : Item (AnyRange K) V) → IsListed order lawful same (i ∷ rest) → n < length rest
+        → y ≡ get_or rest n y → PLt (Start i) (Start y)
+    first_starts_first i rest n y h within read =
+        subst (λ z. PLt (Start i) (Start z)) (sym read)
+        (every_at (λ j. PLt (Start i) (Start j)) rest n y (first_rises i rest h) within)
+
+    -- the one item stands before the other where the other starts past its start
+    listed_order : (items : List (Item (AnyRange K) V)) (m n : ℕ) (x y : Item (AnyRange K) V)
+        → IsListed order lawful same items → m < length items → n < length items
+        → x ≡ get_or items m x → y ≡ get_or items n y →
+        (is_gt (position_cmp order.cmp (Start y) (Start x)) ≡ true → m < n)
+        × (is_gt (position_cmp order.cmp (Start y) (Start x)) ≡ false → n ≤ m)
+    listed_order [] m n x y h in_m in_n read read' = absurd (omega (arith, in_m))
+    listed_order (i ∷ rest) zero zero x y h in_m in_n read read' =
+        let here : x ≡ i = read in
+        let there : y ≡ i = read' in (
+          λ e.
+              let own : is_gt (position_cmp order.cmp (Start y) (Start x)) ≡ false =
+              rw (here, there) (le_refl (position_cmp order.cmp)
+              (position_total order.cmp lawful.total) (Start i)) in
+              let clash : true ≡ false = sym e ∙ own in
+              absurd (cc),
+          λ e. omega arith,
+        )
+    listed_order (i ∷ rest) zero (suc n) x y h in_m in_n read read' =
+        let cmp = position_cmp order.cmp in
+        let total = position_total order.cmp lawful.total in
+        let here : x ≡ i = read in
+        let rise : PLt (Start x) (Start y) =
+        rw here (first_starts_first i rest n y h (omega (arith, in_n)) read') in
+        (λ e. omega arith, λ e. absurd (lt_not_le cmp total (Start x) (Start y) rise e))
+    listed_order (i ∷ rest) (suc m) zero x y h in_m in_n read read' =
+        let cmp = position_cmp order.cmp in
+        let total = position_total order.cmp lawful.total in
+        let here : y ≡ i = read' in
+        let rise : PLt (Start y) (Start x) =
+        rw here (first_starts_first i rest m x h (omega (arith, in_m)) read) in (
+          λ e.
+              let clash : true ≡ false = sym e ∙ lt_le cmp total (Start y) (Start x) rise in
+              absurd (cc),
+          λ e. omega arith,
+        )
+    listed_order (i ∷ rest) (suc m) (suc n) x y h in_m in_n read read' =
+        let next =
+        listed_order rest m n x y (stored_tail order lawful same i rest h) (omega (arith, in_m))
+        (omega (arith, in_n)) read read' in
+        (λ e. omega (arith, next.0 e), λ e. omega (arith, next.1 e))
+
+    pub stored_order : (items : List (Item (AnyRange K) V)) (m n : ℕ) (x y : Item (AnyRange K) V)
+        → IsStored order same items → m < length items → n < length items
+        → x ≡ get_or items m x → y ≡ get_or items n y →
+        (is_gt (position_cmp order.cmp (Start y) (Start x)) ≡ true → m < n)
+        × (is_gt (position_cmp order.cmp (Start y) (Start x)) ≡ false → n ≤ m)
+    stored_order items m n x y stored in_m in_n read read' =
+        listed_order items m n x y (stored_list_is_listed order lawful same items stored)
+        in_m in_n read read'
+
+    -- what ends before a position starts before it
+    pub starts_upto : (items : List (Item (AnyRange K) V)) (e : Position K) (f : ℕ)
+        → IsStored order same items → Every (λ i. PLt (End i) e) (take f items)
+        → Every (λ i. PLe (Start i) e) (take f items)
+    starts_upto items e f stored below =
+        let cmp = position_cmp order.cmp in
+        let total = position_total order.cmp lawful.total in
+        let own =
+        every_nonempty order lawful same items
+        (stored_list_is_listed order lawful same items stored) in
+        every_with (λ i. PLt (End i) e) (λ i. PLe (Start i) (End i)) (λ i. PLe (Start i) e)
+        (take f items) below
+        (every_left (λ i. PLe (Start i) (End i)) (take f items) (drop f items)
+        (rw (list_is_take_and_drop items f) at own))
+        (λ i l le. lt_le cmp total (Start i) e (le_lt_trans cmp total (Start i) (End i) e le l))
+
+    rest_from : (items : List (Item (AnyRange K) V)) (f : ℕ) (x : Item (AnyRange K) V)
+        → f < length items → x ≡ get_or items f x → drop f items ≡ x ∷ drop (f + 1) items
+    rest_from items f x within read =
+        drop_more items f x within ∙ ap (λ y. y ∷ drop (f + 1) items) (sym read)
+
+    listed_from : (items : List (Item (AnyRange K) V)) (f : ℕ) (x : Item (AnyRange K) V)
+        → IsStored order same items → f < length items → x ≡ get_or items f x
+        → IsListed order lawful same (x ∷ drop (f + 1) items)
+    listed_from items f x stored within read =
+        rw (rest_from items f x within read)
+        at (stored_drop order lawful same f items
+        (stored_list_is_listed order lawful same items stored))
+
+    -- with an item that starts past a position, those after it do
+    pub starts_past_from : (items : List (Item (AnyRange K) V)) (e : Position K) (f : ℕ)
+        (x : Item (AnyRange K) V) → IsStored order same items → f < length items
+        → x ≡ get_or items f x → PLt e (Start x) → Every (λ i. PLt e (Start i)) (drop f items)
+    starts_past_from items e f x stored within read past =
+        let cmp = position_cmp order.cmp in
+        let total = position_total order.cmp lawful.total in
+        rw (rest_from items f x within read) (
+          past,
+          every_weaker (λ j. PLt (Start x) (Start j)) (λ j. PLt e (Start j)) (drop (f + 1) items)
+              (λ j l. lt_trans cmp total e (Start x) (Start j) past l)
+              (first_rises x (drop (f + 1) items) (listed_from items f x stored within read)),
+        )
+
+    -- after an item that reaches a position all start past it
+    pub starts_past_after : (items : List (Item (AnyRange K) V)) (e : Position K) (f : ℕ)
+        (x : Item (AnyRange K) V) → IsStored order same items → f < length items
+        → x ≡ get_or items f x → Every (λ i. PLe e (End i)) (drop f items)
+        → Every (λ i. PLt e (Start i)) (drop (f + 1) items)
+    starts_past_after items e f x stored within read above =
+        let cmp = position_cmp order.cmp in
+        let total = position_total order.cmp lawful.total in
+        let ends : Every (λ i. PLe e (End i)) (x ∷ drop (f + 1) items) =
+        rw (rest_from items f x within read) at above in
+        every_weaker (λ j. PLt (End x) (Start j)) (λ j. PLt e (Start j)) (drop (f + 1) items)
+        (λ j l. le_lt_trans cmp total e (End x) (Start j) ends.0 l)
+        (starts_rise order lawful same x (drop (f + 1) items)
+        (listed_from items f x stored within read))
+
+    module _ (r : AnyRange K) (full : IsEmptyRange order r → ⊥) where
+      abbrev Low : Position K
+      Low = start_position order r.start
+
+      abbrev High : Position K
+      High = end_position order r.end
+
+      not_behind : (items : List (Item (AnyRange K) V)) (a b : ℕ) → IsStored order same items
+          → a ≤ length items → Every (λ i. PLt (End i) Low) (take a items)
+          → Every (λ i. PLt High (Start i)) (drop b items) → b < a → ⊥
+      not_behind [] a b stored fits below past behind = omega (arith, fits, behind)
+      not_behind (i ∷ rest) a b stored fits below past behind =
+          let cmp = position_cmp order.cmp in
+          let total = position_total order.cmp lawful.total in
+          let items : List (Item (AnyRange K) V) = i ∷ rest in
+          let x = get_or items b i in
+          let none : b + 0 ≡ b = omega arith in
+          let ends : PLt (End x) Low =
+          subst (λ y. PLt (End y) Low) (get_or-take a items b i behind)
+          (every_at (λ j. PLt (End j) Low) (take a items) b i below
+          (omega (arith, fits, behind, length-take-le a items fits))) in
+          let starts : PLt High (Start x) =
+          subst (λ y. PLt High (Start y))
+          (get_or-drop b items 0 i ∙ ap (λ n. get_or items n i) none)
+          (every_at (λ j. PLt High (Start j)) (drop b items) 0 i past
+          (omega (arith, fits, behind, length-drop b items))) in
+          let own : PLe (Start x) (End x) =
+          every_at (λ j. PLe (Start j) (End j)) items b i
+          (every_nonempty order lawful same items
+          (stored_list_is_listed order lawful same items stored))
+          (omega (arith, fits, behind)) in
+          lt_not_le cmp total High Low
+          (lt_trans cmp total High (Start x) Low starts (le_lt_trans cmp total (Start x) (End x) Low
+          own ends)) (not_greater (cmp Low High) full)
+
+      -- the items from the first that does not end before the range to the last that starts within
+      -- it at the latest
+      pub overlapping_are : (items : List (Item (AnyRange K) V)) (a b : ℕ)
+          → IsStored order same items → a ≤ length items
+          → Every (λ i. PLt (End i) Low) (take a items) → Every (λ i. PLe Low (End i)) (drop a items)
+          → Every (λ i. PLe (Start i) High) (take b items)
+          → Every (λ i. PLt High (Start i)) (drop b items)
+          → AreOverlapping order items r (take (b - a) (drop a items))
+      overlapping_are items a b stored fits below above upto past =
+          let cmp = position_cmp order.cmp in
+          let total = position_total order.cmp lawful.total in
+          let met = take (b - a) (drop a items) in
+          let in_order : a ≤ b =
+          elim (le_or_lt a b) [
+            | inl le ↦ le
+            | inr behind ↦ absurd (not_behind items a b stored fits below past behind)
+          ] in
+          let whole : b ≡ a + (b - a) = omega (arith, in_order) in
+          let behind : drop (b - a) (drop a items) ≡ drop b items =
+          drop-drop (b - a) a items ∙ ap (λ n. drop n items) (sym whole) in
+          let rest : drop a items ≡ met ++ drop b items =
+          list_is_take_and_drop (drop a items) (b - a) ∙ ap (λ ys. met ++ ys) behind in
+          let front : take b items ≡ take a items ++ met =
+          ap (λ n. take n items) whole ∙ take-add a (b - a) items in
+          record {
+            before = take a items;
+            after = drop b items;
+            split = list_is_take_and_drop items a ∙ ap (λ ys. take a items ++ ys) rest;
+            below = below;
+            meet =
+                every_with (λ i. PLe Low (End i)) (λ i. PLe (Start i) High)
+                (λ i. Overlap order i.key r) met
+                (every_left (λ i. PLe Low (End i)) met (drop b items) (rw rest at above))
+                (every_right (λ i. PLe (Start i) High) (take a items) met (rw front at upto))
+                (λ i h k. (
+                  λ l. lt_not_le cmp total (End i) Low l h,
+                  λ l. lt_not_le cmp total High (Start i) l k,
+                ));
+            above = past;
+          }
+
+  -- where none is shown, the range meets none
+  pub none_shown : (items : List (Item (AnyRange K) V)) (r : AnyRange K)
+      (met : List (Item (AnyRange K) V)) → AreOverlapping order items r met → met ≡ []
+      → MeetsSome order items r → ⊥
+  none_shown items r met are none h =
+      let shown : Any (λ i. Overlap order i.key r) (are.before ++ met ++ are.after) =
+      rw are.split at h in
+      elim (any_split (λ i. Overlap order i.key r) are.before (met ++ are.after) shown) [
+        | inl k ↦
+            any_none (λ i. Overlap order i.key r) (λ i. PLt (End i) (start_position order r.start))
+            are.before are.below (λ i l both. both.0 l) k
+        | inr k ↦
+            any_none (λ i. Overlap order i.key r) (λ i. PLt (end_position order r.end) (Start i))
+            are.after are.above (λ i l both. both.1 l)
+            (rw none at k)
+      ]
+
+  -- where the range meets none, none is shown
+  pub all_shown : (items : List (Item (AnyRange K) V)) (r : AnyRange K)
+      (met : List (Item (AnyRange K) V)) → AreOverlapping order items r met
+      → (MeetsSome order items r → ⊥) → met ≡ []
+  all_shown items r [] are none = refl
+  all_shown items r (i ∷ rest) are none =
+      let shown : MeetsSome order (are.before ++ (i ∷ rest) ++ are.after) r =
+      any_right (λ j. Overlap order j.key r) are.before ((i ∷ rest) ++ are.after)
+      (any_left (λ j. Overlap order j.key r) (i ∷ rest) are.after (inl are.meet.0)) in
+      absurd (none (rw are.split shown))
