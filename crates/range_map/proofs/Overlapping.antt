@@ -1,40 +1,48 @@
 -- The items that a range meets are one run of a stored list.
 use Rattle.std.proofs.Common.{◌≡◌, refl, sym, ap, subst, ◌∙◌, ℕ, zero, suc, ◌+◌, ◌-◌, ◌<◌, ◌≤◌, Bool, true, false, List, [], ◌∷◌, ◌++◌, length, take, drop, get_or, arith, Option, Some, None, inl, inr, length-drop}
+use Rattle.std.specs.Prelude.{MatchOption}
+use Rattle.std.specs.List.{AllByRecursion}
 use Rattle.std.specs.Ordering.{is_gt}
+use Rattle.std.specs.declared.ops.Bound.TheVariants.{Included, Unbounded}
 use Rattle.std.proofs.lemmas.List.{drop_more, take_more, get_or-take, get_or-drop, drop-drop, length-take-le}
 use Rattle.std.proofs.Math.Seq.{take-add}
 use Rattle.range_keys.specs.Order.{KeyOrder, IsLawful}
 use Rattle.range_keys.specs.Position.{start_position, end_position, position_cmp}
 use Rattle.range_keys.specs.PositionOrder.{position_total}
 use Rattle.range_keys.specs.declared.inner.position.Position.{Position}
-use Rattle.range_keys.proofs.Orderings.{not_greater}
+use Rattle.range_keys.proofs.Orderings.{not_greater, not_both_greater_and_not}
 use Rattle.range_algebra.specs.declared.any.AnyRange.{AnyRange}
 use Rattle.range_algebra.specs.Intervals.{Le, Lt, Any, Every}
-use Rattle.range_algebra.specs.Orders.{le_refl, lt_le, le_trans, lt_not_le, lt_le_trans, le_lt_trans, lt_trans}
-use Rattle.range_algebra.specs.Range.{IsEmptyRange}
+use Rattle.range_algebra.specs.Orders.{le_refl, lt_le, le_trans, lt_not_le, not_le, lt_le_trans, le_lt_trans, lt_trans}
+use Rattle.range_algebra.specs.Range.{IsEmptyRange, IsKnownRange, with_bounds}
 use Rattle.range_algebra.proofs.Lists.{any_none, any_left, any_right, any_split, every_at, every_append, every_left, every_right, every_weaker, list_is_take_and_drop, drop_all}
 use Rattle.range_store.specs.declared.storage.Item.{Item}
+use Rattle.range_store.specs.Places.{place_before}
 use Rattle.range_map.specs.Lookups.{MeetsSome, Overlap}
-use Rattle.range_map.specs.Overlapping.{AreOverlapping}
+use Rattle.range_map.specs.Overlapping.{AreOverlapping, IsLastStarting, place_after}
 use Rattle.range_map.specs.Stored.{IsStored}
+use Rattle.range_map.specs.Window.{IsFound, IsJustBefore}
 use Rattle.range_map.proofs.Cutting.{every_with}
 use Rattle.range_map.proofs.Found.{starts_rise, stored_tail, every_nonempty, stored_drop}
+use Rattle.range_map.proofs.Gathering.{take_one_more}
+use Rattle.range_map.proofs.JustBefore.{ends_full}
 use Rattle.range_map.proofs.Listed.{IsListed, stored_list_is_listed}
+use Rattle.range_map.proofs.Windows.{first_of_run, last_of_run}
 
-module _ {K : Type 0} (order : KeyOrder K) (lawful : IsLawful order) {V : Type 0} where
+module _ {K : Type 0} (order : KeyOrder K) (lawful : IsLawful order) where
   abbrev PLe : Position K → Position K → Type 0
   PLe p q = Le (position_cmp order.cmp) p q
 
   abbrev PLt : Position K → Position K → Type 0
   PLt p q = Lt (position_cmp order.cmp) p q
 
-  abbrev Start : Item (AnyRange K) V → Position K
+  abbrev Start : {V : Type 0} → Item (AnyRange K) V → Position K
   Start i = start_position order i.key.start
 
-  abbrev End : Item (AnyRange K) V → Position K
+  abbrev End : {V : Type 0} → Item (AnyRange K) V → Position K
   End i = end_position order i.key.end
 
-  module _ (same : V → V → Bool) where
+  module _ {V : Type 0} (same : V → V → Bool) where
     first_rises : (i : Item (AnyRange K) V) (rest : List (Item (AnyRange K) V))
         → IsListed order lawful same (i ∷ rest) → Every (λ j. PLt (Start i) (Start j)) rest
     first_rises i rest h =
@@ -208,11 +216,8 @@ module _ {K : Type 0} (order : KeyOrder K) (lawful : IsLawful order) {V : Type 0
           let cmp = position_cmp order.cmp in
           let total = position_total order.cmp lawful.total in
           let met = take (b - a) (drop a items) in
-          let in_order : a ≤ b =
-          elim (le_or_lt a b) [
-            | inl le ↦ le
-            | inr behind ↦ absurd (not_behind items a b stored fits below past behind)
-          ] in
+          let never : b < a → ⊥ = not_behind items a b stored fits below past in
+          let in_order : a ≤ b = omega (arith, never) in
           let whole : b ≡ a + (b - a) = omega (arith, in_order) in
           let behind : drop (b - a) (drop a items) ≡ drop b items =
           drop-drop (b - a) a items ∙ ap (λ n. drop n items) (sym whole) in
@@ -238,11 +243,11 @@ module _ {K : Type 0} (order : KeyOrder K) (lawful : IsLawful order) {V : Type 0
           }
 
   -- where none is shown, the range meets none
-  pub none_shown : (items : List (Item (AnyRange K) V)) (r : AnyRange K)
+  pub none_shown : {V : Type 0} (items : List (Item (AnyRange K) V)) (r : AnyRange K)
       (met : List (Item (AnyRange K) V)) → AreOverlapping order items r met → met ≡ []
       → MeetsSome order items r → ⊥
   none_shown items r met are none h =
-      let shown : Any (λ i. Overlap order i.key r) (are.before ++ met ++ are.after) =
+      let shown : Any (λ i. Overlap order i.key r) (are.before ++ (met ++ are.after)) =
       rw are.split at h in
       elim (any_split (λ i. Overlap order i.key r) are.before (met ++ are.after) shown) [
         | inl k ↦
@@ -255,12 +260,154 @@ module _ {K : Type 0} (order : KeyOrder K) (lawful : IsLawful order) {V : Type 0
       ]
 
   -- where the range meets none, none is shown
-  pub all_shown : (items : List (Item (AnyRange K) V)) (r : AnyRange K)
+  pub all_shown : {V : Type 0} (items : List (Item (AnyRange K) V)) (r : AnyRange K)
       (met : List (Item (AnyRange K) V)) → AreOverlapping order items r met
       → (MeetsSome order items r → ⊥) → met ≡ []
   all_shown items r [] are none = refl
   all_shown items r (i ∷ rest) are none =
-      let shown : MeetsSome order (are.before ++ (i ∷ rest) ++ are.after) r =
+      let shown : MeetsSome order (are.before ++ ((i ∷ rest) ++ are.after)) r =
       any_right (λ j. Overlap order j.key r) are.before ((i ∷ rest) ++ are.after)
       (any_left (λ j. Overlap order j.key r) (i ∷ rest) are.after (inl are.meet.0)) in
       absurd (none (rw are.split shown))
+
+module _ {K : Type 0} (order : KeyOrder K) (lawful : IsLawful order) {V : Type 0}
+    (same : V → V → Bool) {P : Type 0} (is_good : P → Type 0) (rank : P → ℕ)
+    (items : List (Item (AnyRange K) V)) (stored : IsStored order same items) where
+  after_previous : (before : Option P) (place : ℕ) → IsJustBefore is_good rank before place
+      → place_after rank before ≡ place
+  after_previous None place h = sym h
+  after_previous (Some p) place h = h.1
+
+  module _ (e : Position K) (before : Option P) where
+    last_by : (place : ℕ) → IsJustBefore is_good rank before place
+        → Every (λ i. PLt order lawful (End order lawful i) e) (take place items)
+        → Every (λ i. PLt order lawful e (Start order lawful i)) (drop place items)
+        → IsLastStarting order is_good rank items e before (place_after rank before)
+    last_by place previous below past =
+        rw (after_previous before place previous) record {
+          position = previous;
+          upto = starts_upto order lawful same items e place stored below;
+          past = past;
+        }
+
+    -- no item ends at the position or after it
+    pub last_of_all : IsFound order is_good rank items e before None
+        → IsLastStarting order is_good rank items e before (place_after rank before)
+    last_of_all found =
+        last_by (length items) found.previous found.below
+        (rw (drop_all items (length items) refl) tt)
+
+    -- the first that does starts past it
+    pub last_before : (p : P) (x : Item (AnyRange K) V)
+        → IsFound order is_good rank items e before (Some p) → rank p < length items
+        → x ≡ get_or items (rank p) x
+        → true ≡ is_gt (position_cmp order.cmp (Start order lawful x) e)
+        → IsLastStarting order is_good rank items e before (place_after rank before)
+    last_before p x found within read past =
+        last_by (rank p) found.previous found.below
+        (starts_past_from order lawful same items e (rank p) x stored within read
+        (not_le (position_cmp order.cmp) (position_total order.cmp lawful.total) e
+        (Start order lawful x)
+        (λ h. let clash : true ≡ false = past ∙ h in cc)))
+
+    -- the first that does starts at it at most
+    pub last_here : (p : P) (x : Item (AnyRange K) V)
+        → IsFound order is_good rank items e before (Some p) → is_good p → rank p < length items
+        → x ≡ get_or items (rank p) x
+        → false ≡ is_gt (position_cmp order.cmp (Start order lawful x) e)
+        → IsLastStarting order is_good rank items e (Some p) (rank p + 1)
+    last_here p x found good within read starts = record {
+      position = (good, refl);
+      upto =
+          rw (take_one_more items (rank p) (rank p + 1) x within read refl)
+          (every_append (λ i. PLe order lawful (Start order lawful i) e) (take (rank p) items)
+          (x ∷ []) (starts_upto order lawful same items e (rank p) stored found.below)
+          (sym starts, tt));
+      past = starts_past_after order lawful same items e (rank p) x stored within read found.above;
+    }
+
+  -- what stands neither before what the first search finds nor after what the second does
+  module _ (r : AnyRange K) (full : IsEmptyRange order r → ⊥) where
+    pub overlapping_found : (p e : Position K) → p ≡ start_position order r.start
+        → e ≡ end_position order r.end → (before first last : Option P)
+        → IsFound order is_good rank items p before first
+        → IsLastStarting order is_good rank items e last (place_after rank last)
+        → AreOverlapping order items r
+        (take (place_after rank last - place_before rank (length items) first)
+        (drop (place_before rank (length items) first) items))
+    overlapping_found p e low high before first last found ends =
+        overlapping_are order lawful same r full items (place_before rank (length items) first)
+        (place_after rank last) stored found.in_range (rw low at found.below)
+        (rw low at found.above) (rw high at ends.upto) (rw high at ends.past)
+
+  at_end : (last : Option P)
+      → MatchOption last (items ≡ []) (λ p. is_good p × (rank p + 1 ≡ length items))
+      → place_after rank last ≡ length items
+  at_end None h = rw h refl
+  at_end (Some p) h = h.1
+
+  -- all that stand not before what the search for a key finds
+  pub found_from : (k : K) → order.is_key k → (before first last : Option P)
+      → IsFound order is_good rank items (start_position order (Included k)) before first
+      → MatchOption last (items ≡ []) (λ p. is_good p × (rank p + 1 ≡ length items))
+      → AreOverlapping order items (with_bounds (Included k) Unbounded)
+      (take (place_after rank last - place_before rank (length items) first)
+      (drop (place_before rank (length items) first) items))
+  found_from k key before first last found is_last =
+      let cmp = position_cmp order.cmp in
+      let total = position_total order.cmp lawful.total in
+      let listed = stored_list_is_listed order lawful same items stored in
+      let upper : Position K = end_position order Unbounded in
+      let full : IsEmptyRange order (with_bounds (Included k) Unbounded) → ⊥ =
+      not_both_greater_and_not (cmp (start_position order (Included k)) upper)
+      (ends_full order lawful (Included k) key) in
+      let all : Every (λ i. PLe order lawful (Start order lawful i) upper) items =
+      every_with (λ i. PLe order lawful (Start order lawful i) (End order lawful i))
+      (λ i. IsKnownRange order i.key) (λ i. PLe order lawful (Start order lawful i) upper) items
+      (every_nonempty order lawful same items listed) (all_known items stored.known)
+      (λ i own known. le_trans cmp total (Start order lawful i) (End order lawful i) upper own
+      (ends_full order lawful i.key.end known.1)) in
+      let b = place_after rank last in
+      overlapping_are order lawful same (with_bounds (Included k) Unbounded) full items
+      (place_before rank (length items) first) b stored found.in_range found.below found.above
+      (every_left (λ i. PLe order lawful (Start order lawful i) upper) (take b items)
+      (drop b items) (rw (list_is_take_and_drop items b) at all))
+      (rw (drop_all items b (at_end last is_last)) tt)
+    where
+      all_known : (xs : List (Item (AnyRange K) V))
+          → AllByRecursion (λ i. IsKnownRange order i.key) xs
+          → Every (λ i. IsKnownRange order i.key) xs
+      all_known [] h = tt
+      all_known (x ∷ xs) h = (h.0, all_known xs h.1)
+
+-- the first of a run and the rest, and the last and those before it
+module _ {T : Type 0} (items : List T) (p q : ℕ) (x : T) (within : q < length items) where
+  pub run_first : p ≤ q → x ≡ get_or items p x → (n : ℕ) → n ≡ p + 1
+      → take (q + 1 - p) (drop p items) ≡ x ∷ take (q + 1 - n) (drop n items)
+  run_first le read n next =
+      let left : q + 1 - p - 1 ≡ q + 1 - (p + 1) = omega arith in
+      rw next (first_of_run items p (q + 1 - p) x (omega (arith, le)) (omega (arith, le, within)) read
+      ∙ ap (λ m. x ∷ take m (drop (p + 1) items)) left)
+
+  pub run_last : p ≤ q → x ≡ get_or items q x → (n : ℕ) → n + 1 ≡ q
+      → take (q + 1 - p) (drop p items) ≡ take (n + 1 - p) (drop p items) ++ x ∷ []
+  run_last le read n next =
+      let left : q + 1 - p - 1 ≡ n + 1 - p = omega (arith, next) in
+      last_of_run items p (q + 1 - p) q x (omega (arith, le)) (omega (arith, le, within))
+      (omega (arith, le)) read
+      ∙ ap (λ m. take m (drop p items) ++ x ∷ []) left
+
+  pub run_alone : p ≤ q → q ≤ p → x ≡ get_or items q x
+      → take (q + 1 - p) (drop p items) ≡ x ∷ []
+  run_alone le ge read =
+      let none : q + 1 - p - 1 ≡ 0 = omega (arith, le, ge) in
+      last_of_run items p (q + 1 - p) q x (omega (arith, le)) (omega (arith, le, within))
+      (omega (arith, le)) read
+      ∙ ap (λ m. take m (drop p items) ++ x ∷ []) none
+
+  pub run_alone_first : p ≤ q → q ≤ p → x ≡ get_or items p x
+      → take (q + 1 - p) (drop p items) ≡ x ∷ []
+  run_alone_first le ge read =
+      let none : q + 1 - p - 1 ≡ 0 = omega (arith, le, ge) in
+      first_of_run items p (q + 1 - p) x (omega (arith, le)) (omega (arith, le, within)) read
+      ∙ ap (λ m. x ∷ take m (drop (p + 1) items)) none

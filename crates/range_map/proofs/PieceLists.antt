@@ -436,10 +436,10 @@ module _ {K : Type 0} (order : KeyOrder K) (lawful : IsLawful order) {V : Type 0
   regroup answers gap p more = simp (told_append, append_assoc)
 
   relist : (done rest after : List (Item (AnyRange K) V)) (x : Item (AnyRange K) V)
-      → done ++ (x ∷ rest) ++ after ≡ (done ++ x ∷ []) ++ rest ++ after
+      → done ++ ((x ∷ rest) ++ after) ≡ (done ++ x ∷ []) ++ (rest ++ after)
   relist done rest after x = simp append_assoc
 
-  pieces_reach : (rest done after : List (Item (AnyRange K) V)) → items ≡ done ++ rest ++ after
+  pieces_reach : (rest done after : List (Item (AnyRange K) V)) → items ≡ done ++ (rest ++ after)
       → Every (λ i. Overlap order i.key r) rest → Every (λ i. Le' (High r) (Low i.key)) after
       → (from : Position K) (start : Option (Bound K)) (answers : List (Answered K V))
       → IsReady done from → Opens start from → IsCutUpTo order lawful items r from answers
@@ -492,7 +492,7 @@ module _ {K : Type 0} (order : KeyOrder K) (lawful : IsLawful order) {V : Type 0
   own_room : PLt order lawful (Lo order lawful r) (Hi order lawful r)
   own_room = (nonempty_good order lawful r known).0 nonempty
 
-  known_parts : Every (λ i. IsKnownRange order i.key) (are.before ++ met ++ are.after)
+  known_parts : Every (λ i. IsKnownRange order i.key) (are.before ++ (met ++ are.after))
   known_parts = rw are.split at all_known
 
   lie_below : Every (λ i. PLe order lawful (Hi order lawful i.key) (Lo order lawful r)) are.before

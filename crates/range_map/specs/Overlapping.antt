@@ -1,5 +1,5 @@
 -- The items that a range meets, as they stand in a list, and the run of items between two of them.
-use Rattle.std.specs.Prelude.{◌≡◌, ℕ, ◌+◌, ◌-◌, ◌≤◌, List, [], ◌++◌, take, drop, Option, Some, None, ⊤}
+use Rattle.std.specs.Prelude.{◌≡◌, ℕ, ◌+◌, ◌-◌, ◌≤◌, List, [], ◌∷◌, ◌++◌, take, drop, Option, Some, None, ⊤}
 use Rattle.range_keys.specs.Order.{KeyOrder}
 use Rattle.range_keys.specs.Position.{start_position, end_position, position_cmp}
 use Rattle.range_keys.specs.declared.inner.position.Position.{Position}
@@ -16,7 +16,7 @@ module _ {K : Type 0} (order : KeyOrder K) {V : Type 0} where
       (met : List (Item (AnyRange K) V)) : Type 0 where
     pub before : List (Item (AnyRange K) V)
     pub after : List (Item (AnyRange K) V)
-    pub split : items ≡ before ++ met ++ after
+    pub split : items ≡ before ++ (met ++ after)
     pub below : Every (λ i. LiesBefore order i.key r) before
     pub meet : Every (λ i. Overlap order i.key r) met
     pub above : Every (λ i. LiesBefore order r i.key) after
@@ -45,3 +45,11 @@ IsRun is_good rank (Some ends) = is_good ends.0 × is_good ends.1 × (rank ends.
 abbrev pub run_items : {P X : Type 0} → (P → ℕ) → List X → Option (P × P) → List X
 run_items rank items None = []
 run_items rank items (Some ends) = take (rank ends.1 + 1 - rank ends.0) (drop (rank ends.0) items)
+
+-- the range from the start of the first item to the end of the last
+pub record IsSpan {K V : Type 0} (items : List (Item (AnyRange K) V)) (s : AnyRange K) : Type 0 where
+  pub first : Item (AnyRange K) V
+  pub last : Item (AnyRange K) V
+  pub starts : (rest : List (Item (AnyRange K) V)) × (items ≡ first ∷ rest)
+  pub ends : (front : List (Item (AnyRange K) V)) × (items ≡ front ++ last ∷ [])
+  pub is : s ≡ record { start = first.key.start; end = last.key.end }

@@ -22,6 +22,7 @@ mod lookup;
 mod overlapping;
 mod pieces;
 mod remove;
+mod span;
 mod text;
 mod update;
 
