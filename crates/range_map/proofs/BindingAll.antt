@@ -164,3 +164,7 @@ module _ {K : Type 0} (order : KeyOrder K) (lawful : IsLawful order) {V : Type 0
       (binding_meets order lawful items part (k, found.1, found.2, bound k found.1 held)).1 in
       any_none (λ i. Overlap order i.key part) (λ i. Overlap order i.key part → ⊥) items free.free
       (λ i none h. none h) meets
+
+  pub shown_is_free : (gaps : List (AnyRange K)) (g : AnyRange K) (rest : List (AnyRange K))
+      → gaps ≡ g ∷ rest → AreGapsWithin order items r gaps → IsFreePart order items r g
+  shown_is_free gaps g rest is are = gap_is_free g rest (rw is at are)

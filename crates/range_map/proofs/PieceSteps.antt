@@ -1,11 +1,13 @@
 -- One piece after the other, from either end, and the free ones alone.
-use Rattle.std.proofs.Common.{◌≡◌, refl, sym, ap, ◌∙◌, List, [], ◌∷◌, ◌++◌, ◌⊎◌, inl, inr, Option, Some, None, Bool, true, false, map, if◌then◌else◌, append_assoc}
+use Rattle.std.proofs.Common.{◌≡◌, refl, sym, ap, subst, ◌∙◌, List, [], ◌∷◌, ◌++◌, ◌⊎◌, inl, inr, Option, Some, None, Bool, true, false, map, if◌then◌else◌, append_assoc, arith, length, length-append, ◌<◌}
+use Rattle.std.specs.Borrow.{Bor}
+use Rattle.std.specs.Cmp.{IsEquivalence}
 use Rattle.std.specs.declared.ops.Bound.{Bound}
 use Rattle.std.specs.declared.cmp.Ordering.TheVariants.{Equal}
 use Rattle.range_keys.specs.Order.{KeyOrder, IsLawful, IsComplete}
-use Rattle.range_keys.specs.Position.{start_position, end_position, position_cmp}
+use Rattle.range_keys.specs.Position.{bound_of, start_position, end_position, position_cmp}
 use Rattle.range_keys.specs.PositionOrder.{position_total}
-use Rattle.range_keys.proofs.Orderings.{not_greater}
+use Rattle.range_keys.proofs.Orderings.{greater_or_not, not_both_greater_and_not, not_greater}
 use Rattle.range_algebra.specs.declared.any.AnyRange.{AnyRange}
 use Rattle.range_algebra.specs.Compared.{inverted, starts_past_end}
 use Rattle.range_algebra.specs.Cuts.{past}
@@ -13,15 +15,20 @@ use Rattle.range_algebra.specs.Intervals.{Le, Lt, Any, Every}
 use Rattle.range_algebra.specs.Orders.{eq_le, eq_ge, le_trans, lt_not_le, lt_trans, lt_le_trans}
 use Rattle.range_algebra.specs.Range.{IsKnownBound, IsKnownRange, IsEmptyRange}
 use Rattle.range_algebra.specs.RangeOrder.{range_cmp}
+use Rattle.range_algebra.specs.References.{range_of}
 use Rattle.range_algebra.specs.Relations.{LiesBefore}
 use Rattle.range_algebra.proofs.Lists.{any_left, any_right, every_append, every_weaker}
 use Rattle.range_algebra.proofs.Places.{inverted_bound_is_past, turned_back, turned_known}
 use Rattle.range_store.specs.declared.storage.Item.{Item}
 use Rattle.range_map.specs.FreeRanges.{between}
 use Rattle.range_map.specs.Neighbours.{BeforeFirst, EachNext}
+use Rattle.range_map.specs.Overlapping.{AreOverlapping}
 use Rattle.range_map.specs.PieceLists.{free_piece, bound_piece, free_between, pieces_from, range_if_free, free_ranges, AreGapsWithin}
 use Rattle.range_map.specs.Pieces.{IsPiece, IsFreePart, ArePieces}
+use Rattle.range_map.specs.Stored.{IsStored}
+use Rattle.range_map.proofs.BindingAll.{no_pieces, no_free_part}
 use Rattle.range_map.proofs.Forms.{before_is}
+use Rattle.range_map.proofs.PieceLists.{pieces_are, free_shows}
 
 module _ {K : Type 0} (order : KeyOrder K) (lawful : IsLawful order) where
   abbrev PLe : (p q : _) → Type 0
@@ -241,3 +248,64 @@ module _ {K : Type 0} (order : KeyOrder K) (lawful : IsLawful order) {V : Type 0
         λ part known piece. any_free (λ g. range_cmp order g part ≡ Equal) pieces
         (are.all part None known piece);
   }
+
+-- a range over references by what its bounds refer to
+pub range_by : {K : Type 0} (x : AnyRange (Bor K)) (r : AnyRange K) (a b : Bound (Bor K))
+    → x.start ≡ a → x.end ≡ b → bound_of a ≡ r.start → bound_of b ≡ r.end → range_of x ≡ r
+range_by {K} x r a b s e s' e' =
+    let by_start : Bound K → AnyRange K = λ c. record { start = c; end = bound_of x.end } in
+    let by_end : Bound K → AnyRange K = λ c. record { start = r.start; end = c } in
+    ap by_start (ap bound_of s ∙ s') ∙ ap by_end (ap bound_of e ∙ e')
+
+-- what holds of the pieces of a range holds of those that references to its bounds show
+pub pieces_shown : {K V : Type 0} (order : KeyOrder K) (met : List (Item (AnyRange K) V))
+    (P : List (Item (AnyRange K) (Option V)) → Type 0) (x : AnyRange (Bor K)) (r : AnyRange K)
+    (a b : Bound (Bor K)) → range_of x ≡ r → bound_of a ≡ r.start → bound_of b ≡ r.end
+    → P (pieces_from order r (Some r.start) (Some r.end) met)
+    → P (pieces_from order (range_of x) (Some (bound_of a)) (Some (bound_of b)) met)
+pieces_shown order met P x r a b is start end h =
+    subst (λ s. P (pieces_from order s (Some (bound_of a)) (Some (bound_of b)) met)) (sym is)
+    (subst (λ s. P (pieces_from order r (Some s) (Some (bound_of b)) met)) (sym start)
+    (subst (λ e. P (pieces_from order r (Some r.start) (Some e) met)) (sym end) h))
+
+module _ {K : Type 0} (order : KeyOrder K) (lawful : IsLawful order) {V : Type 0}
+    (same : V → V → Bool) (equal : IsEquivalence same) (items : List (Item (AnyRange K) V))
+    (r : AnyRange K) (met : List (Item (AnyRange K) V)) (stored : IsStored order same items)
+    (known : IsKnownRange order r)
+    (are : (IsEmptyRange order r → ⊥) → AreOverlapping order items r met)
+    (none : IsEmptyRange order r → met ≡ []) where
+  abbrev All : List (Item (AnyRange K) (Option V))
+  All = pieces_from order r (Some r.start) (Some r.end) met
+
+  alone_by : (t : Bool) → starts_past_end order r.start r.end ≡ t → IsEmptyRange order r
+      → map (free_piece {V = V}) (if t then [] else r ∷ []) ≡ []
+  alone_by true e empty = refl
+  alone_by false e empty =
+      absurd (not_both_greater_and_not
+      (position_cmp order.cmp (start_position order r.start) (end_position order r.end)) e empty)
+
+  none_of_empty : IsEmptyRange order r → All ≡ []
+  none_of_empty empty =
+      rw (none empty) (alone_by (starts_past_end order r.start r.end) refl empty)
+
+  pub all_pieces : ArePieces order items r All
+  all_pieces =
+      elim (greater_or_not
+      (position_cmp order.cmp (start_position order r.start) (end_position order r.end))) [
+        | inl empty ↦ rw (none_of_empty empty) (no_pieces order lawful items r empty)
+        | inr full ↦ pieces_are order lawful same equal items r met stored known full (are full)
+      ]
+
+  pub all_free : (part : AnyRange K) → IsFreePart order items r part
+      → Any (λ p. p.value ≡ None) All
+  all_free part free =
+      elim (greater_or_not
+      (position_cmp order.cmp (start_position order r.start) (end_position order r.end))) [
+        | inl empty ↦ absurd (no_free_part order lawful items r empty part free)
+        | inr full ↦
+            free_shows order lawful same equal items r met stored known full (are full) part free
+      ]
+
+-- what is left once the last is taken is less
+pub last_is_less : {X : Type 0} (xs ys : List X) (x : X) → xs ≡ ys ++ x ∷ [] → length ys < length xs
+last_is_less xs ys x is = omega (arith, ap length is, length-append ys (x ∷ []))

@@ -1,12 +1,14 @@
 //! The parts of a range that a map leaves free, and whether there is one.
-ghost use Rattle.std.specs.Prelude.{◌≡◌, ◌↔◌, [], ◌∷◌, ◌++◌, IsTrue};
+ghost use Rattle.std.specs.Prelude.{◌≡◌, ◌↔◌, [], ◌∷◌, ◌++◌, IsTrue, None};
 ghost use Rattle.std.specs.Iterator.{YieldsFirstBy, YieldsLastBy, item_count};
+ghost use Rattle.std.specs.Option.{option_map};
 ghost use Rattle.range_keys.specs.Order.{IsComplete};
 ghost use Rattle.range_algebra.specs.References.{range_of};
 ghost use Rattle.range_algebra.specs.declared.any.AnyRange.{AnyRange};
 ghost use Rattle.range_map.specs.Lookups.{BindsAllOf};
-ghost use Rattle.range_map.specs.PieceLists.{AreGapsWithin};
+ghost use Rattle.range_map.specs.PieceLists.{AreGapsWithin, free_ranges};
 ghost use Rattle.range_map.specs.Pieces.{IsFreePart};
+ghost use Rattle.range_map.specs.Window.{option_items};
 
 use crate::map::RangeMap;
 use crate::map::pieces::Pieces;
@@ -35,6 +37,40 @@ impl<'a, K: PartialEnum + 'a, V: Eq + 'a, C: Storage<Item<AnyRange<K>, V>> + 'a>
     ghost view = { λ g. free_ranges g.pieces };
 }
 
+/// The next free piece.
+fn next_free<'a, K: PartialEnum, V: Eq, C: Storage<Item<AnyRange<K>, V>>>(
+    pieces: &mut Pieces<'a, K, V, C>,
+) -> Option<AnyRange<&'a K>>
+    ensures next { free_ranges pieces.old
+        ≡ option_items (option_map range_of result) ++ free_ranges pieces.new }
+    ensures last { result ≡ None → free_ranges pieces.new ≡ [] }
+{
+    while let Some((range, value)) = pieces.next() {
+        match value {
+            None => return Some(range),
+            Some(_) => (),
+        }
+    }
+    None
+}
+
+/// The last free piece.
+fn last_free<'a, K: PartialEnum, V: Eq, C: Storage<Item<AnyRange<K>, V>>>(
+    pieces: &mut Pieces<'a, K, V, C>,
+) -> Option<AnyRange<&'a K>>
+    ensures next { free_ranges pieces.old
+        ≡ free_ranges pieces.new ++ option_items (option_map range_of result) }
+    ensures last { result ≡ None → free_ranges pieces.new ≡ [] }
+{
+    while let Some((range, value)) = pieces.next_back() {
+        match value {
+            None => return Some(range),
+            Some(_) => (),
+        }
+    }
+    None
+}
+
 impl<'a, K: PartialEnum + 'a, V: Eq + 'a, C: Storage<Item<AnyRange<K>, V>> + 'a> Iterator
     for GapsWithin<'a, K, V, C> {
     type Item = AnyRange<&'a K>;
@@ -44,12 +80,7 @@ impl<'a, K: PartialEnum + 'a, V: Eq + 'a, C: Storage<Item<AnyRange<K>, V>> + 'a>
     ghost remaining = { item_count (λ rest. rest) };
 
     fn next(&mut self) -> Option<AnyRange<&'a K>> {
-        while let Some((range, value)) = self.pieces.next() {
-            if value.is_none() {
-                return Some(range);
-            }
-        }
-        None
+        next_free(&mut self.pieces)
     }
 
     fn size_hint(&self) -> (usize, Option<usize>) {
@@ -62,12 +93,7 @@ impl<'a, K: PartialEnum + 'a, V: Eq + 'a, C: Storage<Item<AnyRange<K>, V>> + 'a>
     ghost next_back_gives = { YieldsLastBy range_of (λ rest. rest) };
 
     fn next_back(&mut self) -> Option<AnyRange<&'a K>> {
-        while let Some((range, value)) = self.pieces.next_back() {
-            if value.is_none() {
-                return Some(range);
-            }
-        }
-        None
+        last_free(&mut self.pieces)
     }
 }
 
@@ -113,6 +139,9 @@ impl<K: Measure, V: Eq + Drop, C: Storage<Item<AnyRange<K>, V>>> RangeMap<K, V, 
         self.in_form();
         inner::known_range(&range);
         let mut gaps = self.gaps_within(&range);
-        gaps.next().is_none()
+        match gaps.next() {
+            None => true,
+            Some(_) => false,
+        }
     }
 }

@@ -1,6 +1,6 @@
 //! The stored ranges, in ascending order, from both ends.
 ghost use Rattle.std.specs.Prelude.{◌≡◌, List};
-ghost use Rattle.std.specs.Iterator.{YieldsFirstRef, YieldsLastBy, item_count};
+ghost use Rattle.std.specs.Iterator.{YieldsFirstRef, YieldsLastRef, item_count};
 ghost use Rattle.range_map.specs.FreeRanges.{item_ranges};
 ghost use Rattle.range_sets.specs.KeySets.{IsStoredSet};
 
@@ -56,7 +56,7 @@ impl<'a, T: 'a, C: Storage<Item<AnyRange<T>, ()>> + 'a> Iterator for Iter<'a, T,
 }
 
 impl<'a, T: 'a, C: Storage<Item<AnyRange<T>, ()>> + 'a> DoubleEndedIterator for Iter<'a, T, C> {
-    ghost next_back_gives = { YieldsLastBy (λ r. r.now) (λ rest. rest) };
+    ghost next_back_gives = { YieldsLastRef (λ rest. rest) };
 
     fn next_back(&mut self) -> Option<&'a AnyRange<T>> {
         match self.items.next_back() {

@@ -1,6 +1,6 @@
 //! Look-ups over a range: the stored ranges that meet it, its gaps, and whether all of it is held.
 ghost use Rattle.std.specs.Prelude.{◌≡◌, ◌↔◌, [], ⊤, List, IsTrue, MatchOption};
-ghost use Rattle.std.specs.Iterator.{YieldsFirstRef, YieldsLastBy, item_count};
+ghost use Rattle.std.specs.Iterator.{YieldsFirstRef, YieldsLastRef, item_count};
 ghost use Rattle.std.specs.declared.ops.Bound.TheVariants.{Included, Unbounded};
 ghost use Rattle.range_keys.specs.Order.{IsComplete};
 ghost use Rattle.range_algebra.specs.Range.{IsEmptyRange, with_bounds};
@@ -79,7 +79,7 @@ impl<'a, T: PartialEnum + 'a, C: Storage<Item<AnyRange<T>, ()>> + 'a> Iterator
 
 impl<'a, T: PartialEnum + 'a, C: Storage<Item<AnyRange<T>, ()>> + 'a> DoubleEndedIterator
     for Overlapping<'a, T, C> {
-    ghost next_back_gives = { YieldsLastBy (λ r. r.now) (λ rest. rest) };
+    ghost next_back_gives = { YieldsLastRef (λ rest. rest) };
 
     fn next_back(&mut self) -> Option<&'a AnyRange<T>> {
         match self.items.next_back() {
