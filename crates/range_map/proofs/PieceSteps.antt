@@ -12,7 +12,7 @@ use Rattle.range_algebra.specs.declared.any.AnyRange.{AnyRange}
 use Rattle.range_algebra.specs.Compared.{inverted, starts_past_end}
 use Rattle.range_algebra.specs.Cuts.{past}
 use Rattle.range_algebra.specs.Intervals.{Le, Lt, Any, Every}
-use Rattle.range_algebra.specs.Orders.{eq_le, eq_ge, le_trans, lt_not_le, lt_trans, lt_le_trans}
+use Rattle.range_algebra.specs.Orders.{eq_le, le_trans, lt_not_le, lt_trans, lt_le_trans}
 use Rattle.range_algebra.specs.Range.{IsKnownBound, IsKnownRange, IsEmptyRange}
 use Rattle.range_algebra.specs.RangeOrder.{range_cmp}
 use Rattle.range_algebra.specs.References.{range_of}
@@ -31,16 +31,13 @@ use Rattle.range_map.proofs.Forms.{before_is}
 use Rattle.range_map.proofs.PieceLists.{pieces_are, free_shows}
 
 module _ {K : Type 0} (order : KeyOrder K) (lawful : IsLawful order) where
-  abbrev PLe : (p q : _) → Type 0
-  PLe p q = Le (position_cmp order.cmp) p q
-
   none_to : (s : Option (Bound K)) → between order s None ≡ []
   none_to None = refl
   none_to (Some a) = refl
 
   none_by : (a b : Bound K) (t : Bool) → starts_past_end order a b ≡ t
       → Lt (position_cmp order.cmp) (end_position order b) (start_position order a)
-      → (if t then [] else record { start = a; end = b } ∷ []) ≡ []
+      → ◌≡◌ {A = List (AnyRange K)} (if t then [] else record { start = a; end = b } ∷ []) []
   none_by a b true e l = refl
   none_by a b false e l =
       absurd (lt_not_le (position_cmp order.cmp) (position_total order.cmp lawful.total)
@@ -64,14 +61,14 @@ module _ {K : Type 0} (order : KeyOrder K) (lawful : IsLawful order) where
   none_after_end e (Some b) turns known =
       none_by b e (starts_past_end order b e) refl
       ((before_is order lawful e b known (turned_known order lawful e b turns known)).1
-      (eq_ge (position_cmp order.cmp) (position_total order.cmp lawful.total)
-      (start_position order b) (past order (end_position order e))
+      (eq_le (position_cmp order.cmp) (position_total order.cmp lawful.total)
+      (past order (end_position order e)) (start_position order b)
       (inverted_bound_is_past order lawful e b turns)))
 
   module _ {V : Type 0} (r : AnyRange K) where
     -- the piece that comes first
     pub gap_alone : (s e : Option (Bound K)) (g : AnyRange K) → g ∷ [] ≡ between order s e
-        → pieces_from order {V} r s e [] ≡ free_piece g ∷ pieces_from order r None e []
+        → pieces_from order {V = V} r s e [] ≡ free_piece g ∷ pieces_from order r None e []
     gap_alone s e g is = ap (λ gs. map free_piece gs) (sym is)
 
     pub gap_first : (s e : Option (Bound K)) (i : Item (AnyRange K) V)
@@ -95,7 +92,7 @@ module _ {K : Type 0} (order : KeyOrder K) (lawful : IsLawful order) where
 
     -- the piece that comes last
     pub gap_alone_last : (s e : Option (Bound K)) (g : AnyRange K) → g ∷ [] ≡ between order s e
-        → pieces_from order {V} r s e [] ≡ pieces_from order r s None [] ++ free_piece g ∷ []
+        → pieces_from order {V = V} r s e [] ≡ pieces_from order r s None [] ++ free_piece g ∷ []
     gap_alone_last s e g is =
         ap (λ gs. map free_piece gs) (sym is)
         ∙ ap (λ gs. map free_piece gs ++ free_piece g ∷ []) (sym (none_to s))
@@ -186,24 +183,25 @@ module _ {K : Type 0} (order : KeyOrder K) (lawful : IsLawful order) {V : Type 0
   nonempty_piece part (Some v) h = h.0
 
   -- what lies before the first of a rising list of nonempty ranges lies before all
-  lies_before_all : (q : AnyRange K) (pieces : List (Item (AnyRange K) (Option V)))
+  lies_before_all : (q : Item (AnyRange K) (Option V))
+      (pieces : List (Item (AnyRange K) (Option V)))
       → Every (λ p. IsPiece order items r p.key p.value) pieces
       → EachNext (λ p s. LiesBefore order p.key s.key) pieces
-      → BeforeFirst (λ q p. LiesBefore order q p.key) q pieces
-      → Every (λ p. LiesBefore order q p.key) pieces
+      → BeforeFirst (λ p s. LiesBefore order p.key s.key) q pieces
+      → Every (λ p. LiesBefore order q.key p.key) pieces
   lies_before_all q [] each rising first = tt
   lies_before_all q (p ∷ rest) each rising first =
       let cmp = position_cmp order.cmp in
       let total = position_total order.cmp lawful.total in
-      let later = lies_before_all p.key rest each.1 rising.1 rising.0 in
+      let later = lies_before_all p rest each.1 rising.1 rising.0 in
       let own =
       not_greater (cmp (start_position order p.key.start) (end_position order p.key.end))
       (nonempty_piece p.key p.value each.0) in (
         first,
-        every_weaker (λ s. LiesBefore order p.key s.key) (λ s. LiesBefore order q s.key) rest
-            (λ s l. lt_trans cmp total (end_position order q.end)
+        every_weaker (λ s. LiesBefore order p.key s.key) (λ s. LiesBefore order q.key s.key) rest
+            (λ s l. lt_trans cmp total (end_position order q.key.end)
             (end_position order p.key.end) (start_position order s.key.start)
-            (lt_le_trans cmp total (end_position order q.end)
+            (lt_le_trans cmp total (end_position order q.key.end)
             (start_position order p.key.start) (end_position order p.key.end) first own) l) later,
       )
 
@@ -212,27 +210,27 @@ module _ {K : Type 0} (order : KeyOrder K) (lawful : IsLawful order) {V : Type 0
   first_of_every q [] h = tt
   first_of_every q (x ∷ xs) h = h.0
 
+  rising_with : (p : Item (AnyRange K) (Option V)) (rest : List (Item (AnyRange K) (Option V)))
+      → Every (λ s. LiesBefore order p.key s.key) rest
+      → EachNext (LiesBefore order) (free_ranges rest) → (v : Option V)
+      → EachNext (LiesBefore order) (range_if_free p.key v ++ free_ranges rest)
+  rising_with p rest before later None = (
+    first_of_every p.key (free_ranges rest)
+        (every_free (LiesBefore order p.key) rest
+        (every_weaker (λ s. LiesBefore order p.key s.key)
+        (λ s. s.value ≡ None → LiesBefore order p.key s.key) rest (λ s l e. l) before)),
+    later,
+  )
+  rising_with p rest before later (Some v) = later
+
   rising_free : (pieces : List (Item (AnyRange K) (Option V)))
       → Every (λ p. IsPiece order items r p.key p.value) pieces
       → EachNext (λ p s. LiesBefore order p.key s.key) pieces
       → EachNext (LiesBefore order) (free_ranges pieces)
   rising_free [] each rising = tt
-  rising_free (p ∷ rest) each rising = with_first p.value
-    where
-      later : EachNext (LiesBefore order) (free_ranges rest)
-      later = rising_free rest each.1 rising.1
-
-      with_first : (v : Option V)
-          → EachNext (LiesBefore order) (range_if_free p.key v ++ free_ranges rest)
-      with_first None = (
-        first_of_every p.key (free_ranges rest)
-            (every_free (LiesBefore order p.key) rest
-            (every_weaker (λ s. LiesBefore order p.key s.key)
-            (λ s. s.value ≡ None → LiesBefore order p.key s.key) rest (λ s l e. l)
-            (lies_before_all p.key rest each.1 rising.1 rising.0))),
-        later,
-      )
-      with_first (Some v) = later
+  rising_free (p ∷ rest) each rising =
+      rising_with p rest (lies_before_all p rest each.1 rising.1 rising.0)
+      (rising_free rest each.1 rising.1) p.value
 
   -- the free ones of all pieces are all free pieces
   pub gaps_within_are : (pieces : List (Item (AnyRange K) (Option V)))

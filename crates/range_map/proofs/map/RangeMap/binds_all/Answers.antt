@@ -13,8 +13,8 @@ returns-in-None g c =
       complete = λ _ _. refl;
     }
 
-pub returns-in-Some : goal.returns-in-Some
-returns-in-Some g c =
+pub returns : goal.returns
+returns g c =
     let order = g.K.MaybeBounded.order in
     let items = g.C.Storage.items c.args.self.now in
     let r = g.R.AsRange.range c.args.range in

@@ -15,7 +15,7 @@ returns-in-Some-Some g c =
         is =
             range_by c.new.result
             (record { start = first.key.start; end = last.key.end }) c.start_bound.result
-            c.end_bound.result c.new.ensures.start c.new.ensures.end c.start_bound.ensures
-            c.end_bound.ensures;
+            c.end_bound.result c.new.ensures.start c.new.ensures.end (c.start_bound.ensures tt)
+            (c.end_bound.ensures tt);
       };
     }

@@ -20,14 +20,14 @@ returns-in-Some-range_between-clause-steps g c =
     let gap = range_of c.in-Some-range_between.gap in
     let list : items ≡ init ++ i ∷ [] = sym c.duplicate-rest.ensures ∙ c.in-Some.ensures.steps in
     let is =
-    rw (c.in-Some-range_between.is, c.invert.ensures, c.end_bound.ensures)
+    rw (c.in-Some-range_between.is, c.invert.ensures, c.end_bound.ensures tt)
     at c.range_between-in-Some.ensures in
     sym c.self.view_is
     ∙ (ap (λ xs. pieces_from order r s e xs) list
     ∙ gap_last order g.met.K.PartialEnum.lawful r s e init i gap c.known.ensures is
     ∙ ap (λ xs. pieces_from order r s (Some i.key.end) xs ++ free_piece gap ∷ []) (sym list)
     ∙ ap (λ b. pieces_from order r s (Some b) items ++ free_piece gap ∷ [])
-    (sym c.end_bound-in-Some-range_between.ensures))
+    (sym (c.end_bound-in-Some-range_between.ensures tt)))
 
 pub returns-in-Some-range_between-clause-goes : goal.returns-in-Some-range_between-clause-goes
 returns-in-Some-range_between-clause-goes g c =
@@ -45,13 +45,13 @@ returns-in-None-range_between-clause-steps g c =
     let list : c.self.inside.items ≡ init ++ i ∷ [] =
     sym c.duplicate-rest.ensures ∙ c.in-Some.ensures.steps in
     let none =
-    rw (c.in-None-range_between.is, c.invert.ensures, c.end_bound.ensures)
+    rw (c.in-None-range_between.is, c.invert.ensures, c.end_bound.ensures tt)
     at c.range_between-in-Some.ensures in
     sym c.self.view_is
     ∙ (ap (λ xs. pieces_from order r s e xs) list
     ∙ item_last order g.met.K.PartialEnum.lawful r s e init i none
     ∙ ap (λ t. pieces_from order r s t init ++ bound_piece order r i ∷ [])
-    (sym (c.invert-self-inside.ensures ∙ ap inverted c.start_bound.ensures))
+    (sym (c.invert-self-inside.ensures ∙ ap inverted (c.start_bound.ensures tt)))
     ∙ ap (λ k. pieces_from order r s (option_map bound_of c.invert-self-inside.result) init
     ++ record { key = k; value = Some i.value } ∷ []) (sym c.clipped.ensures))
 

@@ -19,14 +19,14 @@ returns-in-Some-range_between-clause-steps g c =
     let gap = range_of c.in-Some-range_between.gap in
     let list : items ≡ i ∷ rest = sym c.duplicate-rest.ensures ∙ c.in-Some.ensures.steps in
     let is =
-    rw (c.in-Some-range_between.is, c.invert.ensures, c.start_bound.ensures)
+    rw (c.in-Some-range_between.is, c.invert.ensures, c.start_bound.ensures tt)
     at c.range_between-in-Some.ensures in
     sym c.self.view_is
     ∙ (ap (λ xs. pieces_from order r s e xs) list
     ∙ gap_first order g.met.K.PartialEnum.lawful r s e i rest gap c.known.ensures is
     ∙ ap (λ xs. free_piece gap ∷ pieces_from order r (Some i.key.start) e xs) (sym list)
     ∙ ap (λ b. free_piece gap ∷ pieces_from order r (Some b) e items)
-    (sym c.start_bound-in-Some-range_between.ensures))
+    (sym (c.start_bound-in-Some-range_between.ensures tt)))
 
 pub returns-in-Some-range_between-clause-goes : goal.returns-in-Some-range_between-clause-goes
 returns-in-Some-range_between-clause-goes g c =
