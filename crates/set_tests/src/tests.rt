@@ -1,5 +1,6 @@
 mod calls;
 mod comparing;
 mod counted;
+mod reads;
 mod support;
 mod surface;

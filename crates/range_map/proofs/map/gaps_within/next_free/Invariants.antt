@@ -1,0 +1,9 @@
+use Rattle.std.proofs.Common.{◌≡◌, length}
+use Rattle.range_map.specs.PieceLists.{free_ranges}
+use Rattle.range_map.proofs.map.gaps_within.next_free.Given as goal
+
+abbrev pub invariant-loop-range : goal.invariant-loop-range
+invariant-loop-range g l = free_ranges l.initial.pieces ≡ free_ranges l.pieces
+
+abbrev pub decreases-loop-range : goal.decreases-loop-range
+decreases-loop-range g l = length l.pieces
