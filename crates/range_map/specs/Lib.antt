@@ -8,6 +8,7 @@ pub mod Changes
 pub mod Costs
 pub mod Edges
 pub mod Edits
+pub mod Extending
 pub mod Frames
 pub mod FreeRanges
 pub mod Iterating
@@ -19,6 +20,7 @@ pub mod Plans
 pub mod Reach
 pub mod Rebinding
 pub mod Replaced
+pub mod Retaining
 pub mod Seams
 pub mod Searches
 pub mod Stored

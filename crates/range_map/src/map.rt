@@ -7,9 +7,11 @@ ghost use Rattle.range_store.specs.Counting.{AddsSteps};
 ghost use Rattle.range_map.specs.Bindings.{Binds, IsCoarse, IsItemFor, IsStoredFor, IsOnlyCoarse, IsLeastCount};
 ghost use Rattle.range_map.specs.Iterating.{shown_item};
 
+mod clear;
 mod clone;
 mod compare;
 mod ends;
+mod extend;
 mod gaps;
 mod insert;
 mod insert_disconnected;
@@ -19,6 +21,7 @@ mod len;
 mod levels;
 mod lookup;
 mod remove;
+mod retain;
 mod text;
 mod update;
 
