@@ -112,19 +112,30 @@ invariant_of-self g c =
     g.met.V.Eq.laws done.0 old c.self.invariant)
 
 pub returns-clause-form : goal.returns-clause-form
-returns-clause-form g c = invariant_of-self g c
+returns-clause-form g c =
+    let storage = g.C.Storage in
+    let stored = c.loop-at.self-inside.stored in
+    let items = storage.items stored in
+    let old = storage.items c.self.inside.stored in
+    let done =
+    retained (CalledAtItem g.F.FnMut) old c.args.f items
+    (place_before (storage.rank stored) (length items) c.loop-at.at) c.loop-at.f
+    c.loop-at.invariant.told
+    (ap (place_before (storage.rank stored) (length items)) c.in_default.is) in
+    rw done.4 (kept_stored g.K.MaybeBounded.order g.met.K.PartialEnum.lawful g.V.PartialEq.eq
+    g.met.V.Eq.laws done.0 old c.self.invariant)
 
 pub returns-clause-coarse : goal.returns-clause-coarse
 returns-clause-coarse g c complete =
     stored_coarse g.K.MaybeBounded.order g.met.K.PartialEnum.lawful g.V.PartialEq.eq
     g.met.V.Eq.laws complete (g.C.Storage.items c.loop-at.self-inside.stored)
-    (invariant_of-self g c)
+    (returns-clause-form g c)
 
 pub returns-clause-only : goal.returns-clause-only
 returns-clause-only g c complete =
     stored_only g.K.MaybeBounded.order g.met.K.PartialEnum.lawful g.V.PartialEq.eq
     g.met.V.Eq.laws complete (g.C.Storage.items c.loop-at.self-inside.stored)
-    (invariant_of-self g c)
+    (returns-clause-form g c)
 
 pub returns-clause-kept : goal.returns-clause-kept
 returns-clause-kept g c =
