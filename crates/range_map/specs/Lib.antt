@@ -11,6 +11,7 @@ pub mod Edits
 pub mod Extending
 pub mod Frames
 pub mod FreeRanges
+pub mod Freeing
 pub mod Iterating
 pub mod ListOrder
 pub mod Lookups

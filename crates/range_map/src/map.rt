@@ -23,6 +23,7 @@ mod lookup;
 mod remove;
 mod retain;
 mod text;
+mod try_insert;
 mod update;
 
 use crate::change::window::{find, starts_past};
@@ -36,6 +37,7 @@ pub use gaps::Gaps;
 pub use into_iter::IntoIter;
 pub use iter::Iter;
 pub use levels::one_level_is_greatest;
+pub use try_insert::NotFree;
 use range_algebra::any::AnyRange;
 use range_keys::bound::Directed;
 use range_keys::traits::PartialEnum;
