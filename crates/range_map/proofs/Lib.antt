@@ -17,12 +17,14 @@ pub mod Depths
 pub mod Dividing
 pub mod Edging
 pub mod Endings
+pub mod Extending
 pub mod Extents
 pub mod Filling
 pub mod Forms
 pub mod Found
 pub mod Framing
 pub mod FreeParts
+pub mod Freeing
 pub mod Gapping
 pub mod Gathering
 pub mod JustBefore
@@ -41,6 +43,7 @@ pub mod Planning
 pub mod Rebinding
 pub mod Replaced
 pub mod Results
+pub mod Retaining
 pub mod Scans
 pub mod Seaming
 pub mod Searching

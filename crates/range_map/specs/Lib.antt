@@ -8,8 +8,10 @@ pub mod Changes
 pub mod Costs
 pub mod Edges
 pub mod Edits
+pub mod Extending
 pub mod Frames
 pub mod FreeRanges
+pub mod Freeing
 pub mod Iterating
 pub mod ListOrder
 pub mod Lookups
@@ -21,6 +23,7 @@ pub mod Plans
 pub mod Reach
 pub mod Rebinding
 pub mod Replaced
+pub mod Retaining
 pub mod Seams
 pub mod Searches
 pub mod SimpleUpdates

@@ -7,9 +7,11 @@ ghost use Rattle.range_store.specs.Counting.{AddsSteps};
 ghost use Rattle.range_map.specs.Bindings.{Binds, IsCoarse, IsItemFor, IsStoredFor, IsOnlyCoarse, IsLeastCount};
 ghost use Rattle.range_map.specs.Iterating.{shown_item};
 
+mod clear;
 mod clone;
 mod compare;
 mod ends;
+mod extend;
 mod gaps;
 mod gaps_within;
 mod insert;
@@ -22,8 +24,10 @@ mod lookup;
 mod overlapping;
 mod pieces;
 mod remove;
+mod retain;
 mod span;
 mod text;
+mod try_insert;
 mod update;
 
 use crate::change::window::{find, starts_past};
@@ -47,6 +51,7 @@ use range_store::storage::{Item, Steps, Storage};
 use std::alloc::Global;
 use std::marker::{Model, PhantomData};
 use std::ops::Bound;
+pub use try_insert::NotFree;
 
 /// A map that binds the keys of ranges to values.
 ///

@@ -1,0 +1,165 @@
+use Rattle.std.proofs.Common.{◌≡◌, ◌∙◌, ◌+◌, ◌-◌, ◌<◌, ◌≤◌, ap, arith, refl, length, Bool, List}
+use Rattle.std.specs.Prelude.{remove}
+use Rattle.std.specs.List.{items_where_true}
+use Rattle.std.specs.List.Retain.{ReturnsInTurn}
+use Rattle.std.proofs.lemmas.List.Edits.{length-remove}
+use Rattle.range_store.specs.Places.{place_before}
+use Rattle.range_store.proofs.Places.{place_at}
+use Rattle.range_map.specs.Retaining.{CalledAtItem}
+use Rattle.range_map.proofs.Retaining.{retaining_starts, kept_next, removed_next, retained, kept_stored, kept_as_before, fewer_kept}
+use Rattle.range_map.proofs.StoredLists.{stored_coarse, stored_only}
+use Rattle.range_map.proofs.map.RangeMap.retain.Goals as goal
+
+pub loop-at-init : goal.loop-at-init
+loop-at-init g c =
+    let storage = g.C.Storage in
+    let stored = c.self.inside.stored in
+    let items = storage.items stored in
+    let here : place_before (storage.rank stored) (length items) c.first-at.result ≡ 0 =
+    place_at (storage.is_good stored) (storage.rank stored) (length items) c.first-at.result 0
+    c.first-at.ensures in
+    record {
+      position = rw here c.first-at.ensures;
+      callable = c.requires;
+      told = rw here (retaining_starts (CalledAtItem g.F.FnMut) items c.args.f);
+    }
+
+pub loop-at-preserved-then-keeps : goal.loop-at-preserved-then-keeps
+loop-at-preserved-then-keeps g c =
+    let storage = g.C.Storage in
+    let stored = c.loop-at.self-inside.stored in
+    let items = storage.items stored in
+    let p = c.in-Some.p in
+    let here = rw c.in-Some.is at c.loop-at.invariant.position in
+    let was = rw c.in-Some.is at c.loop-at.invariant.told in
+    let within : storage.rank stored p < length items =
+    g.met.C.Storage.good_is_in_range stored p here.0 in
+    let next : place_before (storage.rank stored) (length items) c.next-at.result
+    ≡ storage.rank stored p + 1 =
+    place_at (storage.is_good stored) (storage.rank stored) (length items) c.next-at.result
+    (storage.rank stored p + 1) c.next-at.ensures in
+    record {
+      position = rw next c.next-at.ensures;
+      callable = c.keeps.ensures.callable;
+      told =
+          rw next
+          (kept_next (CalledAtItem g.F.FnMut) (storage.items c.self.inside.stored) c.args.f items
+          c.loop-at.f c.keeps.new.f c.get.result.now (storage.rank stored p) was within
+          c.get.ensures (rw c.if-keeps.true at c.keeps.ensures.called));
+    }
+
+pub loop-at-preserved : goal.loop-at-preserved
+loop-at-preserved g c =
+    let storage = g.C.Storage in
+    let stored = c.loop-at.self-inside.stored in
+    let items = storage.items stored in
+    let after = c.remove_at-removed.new.self in
+    let p = c.in-Some.p in
+    let here = rw c.in-Some.is at c.loop-at.invariant.position in
+    let was = rw c.in-Some.is at c.loop-at.invariant.told in
+    let within : storage.rank stored p < length items =
+    g.met.C.Storage.good_is_in_range stored p here.0 in
+    let removed = c.remove_at-removed.ensures in
+    let next : place_before (storage.rank after) (length (storage.items after))
+    c.remove_at-removed.result.1 ≡ storage.rank stored p =
+    place_at (storage.is_good after) (storage.rank after) (length (storage.items after))
+    c.remove_at-removed.result.1 (storage.rank stored p) removed.following in
+    record {
+      position = rw next removed.following;
+      callable = c.keeps.ensures.callable;
+      told =
+          rw next
+          (removed_next (CalledAtItem g.F.FnMut) (storage.items c.self.inside.stored) c.args.f
+          items (storage.items after) c.loop-at.f c.keeps.new.f c.get.result.now
+          (storage.rank stored p) was within
+          c.get.ensures (rw c.if-keeps.false at c.keeps.ensures.called) removed.list);
+    }
+
+pub loop-at-smaller : goal.loop-at-smaller
+loop-at-smaller g c =
+    let storage = g.C.Storage in
+    let stored = c.loop-at.self-inside.stored in
+    let items = storage.items stored in
+    let after = c.remove_at-removed.new.self in
+    let p = c.in-Some.p in
+    let here = rw c.in-Some.is at c.loop-at.invariant.position in
+    let within : storage.rank stored p < length items =
+    g.met.C.Storage.good_is_in_range stored p here.0 in
+    let removed = c.remove_at-removed.ensures in
+    let next : place_before (storage.rank after) (length (storage.items after))
+    c.remove_at-removed.result.1 ≡ storage.rank stored p =
+    place_at (storage.is_good after) (storage.rank after) (length (storage.items after))
+    c.remove_at-removed.result.1 (storage.rank stored p) removed.following in
+    let now : place_before (storage.rank stored) (length items) c.loop-at.at
+    ≡ storage.rank stored p =
+    ap (place_before (storage.rank stored) (length items)) c.in-Some.is in
+    let fewer : length (storage.items after) + 1 ≡ length items =
+    ap (λ xs. length xs + 1) removed.list ∙ length-remove items (storage.rank stored p) within in
+    rw (now, next) (omega (arith, fewer, within))
+
+pub invariant_of-self : goal.invariant_of-self
+invariant_of-self g c =
+    let storage = g.C.Storage in
+    let stored = c.loop-at.self-inside.stored in
+    let items = storage.items stored in
+    let old = storage.items c.self.inside.stored in
+    let done =
+    retained (CalledAtItem g.F.FnMut) old c.args.f items
+    (place_before (storage.rank stored) (length items) c.loop-at.at) c.loop-at.f
+    c.loop-at.invariant.told
+    (ap (place_before (storage.rank stored) (length items)) c.in_default.is) in
+    rw done.4 (kept_stored g.K.MaybeBounded.order g.met.K.PartialEnum.lawful g.V.PartialEq.eq
+    g.met.V.Eq.laws done.0 old c.self.invariant)
+
+pub returns-clause-form : goal.returns-clause-form
+returns-clause-form g c =
+    let storage = g.C.Storage in
+    let stored = c.loop-at.self-inside.stored in
+    let items = storage.items stored in
+    let old = storage.items c.self.inside.stored in
+    let done =
+    retained (CalledAtItem g.F.FnMut) old c.args.f items
+    (place_before (storage.rank stored) (length items) c.loop-at.at) c.loop-at.f
+    c.loop-at.invariant.told
+    (ap (place_before (storage.rank stored) (length items)) c.in_default.is) in
+    rw done.4 (kept_stored g.K.MaybeBounded.order g.met.K.PartialEnum.lawful g.V.PartialEq.eq
+    g.met.V.Eq.laws done.0 old c.self.invariant)
+
+pub returns-clause-coarse : goal.returns-clause-coarse
+returns-clause-coarse g c complete =
+    stored_coarse g.K.MaybeBounded.order g.met.K.PartialEnum.lawful g.V.PartialEq.eq
+    g.met.V.Eq.laws complete (g.C.Storage.items c.loop-at.self-inside.stored)
+    (returns-clause-form g c)
+
+pub returns-clause-only : goal.returns-clause-only
+returns-clause-only g c complete =
+    stored_only g.K.MaybeBounded.order g.met.K.PartialEnum.lawful g.V.PartialEq.eq
+    g.met.V.Eq.laws complete (g.C.Storage.items c.loop-at.self-inside.stored)
+    (returns-clause-form g c)
+
+pub returns-clause-kept : goal.returns-clause-kept
+returns-clause-kept g c =
+    let storage = g.C.Storage in
+    let stored = c.loop-at.self-inside.stored in
+    let items = storage.items stored in
+    let old = storage.items c.self.inside.stored in
+    let done =
+    retained (CalledAtItem g.F.FnMut) old c.args.f items
+    (place_before (storage.rank stored) (length items) c.loop-at.at) c.loop-at.f
+    c.loop-at.invariant.told
+    (ap (place_before (storage.rank stored) (length items)) c.in_default.is) in
+    rw (← c.self.view_is, done.4) (kept_as_before g.K.MaybeBounded.order
+    g.met.K.PartialEnum.lawful g.V.PartialEq.eq g.met.V.Eq.laws done.0 old c.self.invariant)
+
+pub returns-clause-few : goal.returns-clause-few
+returns-clause-few g c =
+    let storage = g.C.Storage in
+    let stored = c.loop-at.self-inside.stored in
+    let items = storage.items stored in
+    let old = storage.items c.self.inside.stored in
+    let done =
+    retained (CalledAtItem g.F.FnMut) old c.args.f items
+    (place_before (storage.rank stored) (length items) c.loop-at.at) c.loop-at.f
+    c.loop-at.invariant.told
+    (ap (place_before (storage.rank stored) (length items)) c.in_default.is) in
+    rw (← c.self.view_is, done.4) (fewer_kept done.0 old)

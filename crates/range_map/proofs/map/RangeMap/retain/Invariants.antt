@@ -1,0 +1,25 @@
+use Rattle.std.proofs.Common.{◌-◌, ◌≤◌, length}
+use Rattle.range_store.specs.Places.{place_before, IsAt}
+use Rattle.range_map.specs.Retaining.{CalledAtItem}
+use Rattle.range_map.proofs.Retaining.{IsRetaining}
+use Rattle.range_map.proofs.map.RangeMap.retain.Given as goal
+
+abbrev pub invariant-loop-at : goal.invariant-loop-at
+invariant-loop-at g l =
+    let storage = g.C.Storage in
+    let stored = l.self-inside.stored in
+    let items = storage.items stored in
+    let place = place_before (storage.rank stored) (length items) l.at in
+    record {
+      position : IsAt (storage.is_good stored) (storage.rank stored) (length items) l.at place;
+      callable : goal.F-IsAlwaysCallable g l.f;
+      told : IsRetaining (CalledAtItem g.F.FnMut) (storage.items l.initial.self-inside.stored)
+          l.fn.f items place l.f;
+    }
+
+abbrev pub decreases-loop-at : goal.decreases-loop-at
+decreases-loop-at g l =
+    let storage = g.C.Storage in
+    let stored = l.self-inside.stored in
+    length (storage.items stored)
+    - place_before (storage.rank stored) (length (storage.items stored)) l.at

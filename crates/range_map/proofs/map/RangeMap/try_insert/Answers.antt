@@ -1,0 +1,101 @@
+use Rattle.std.proofs.lemmas.Grind.{common_steps}
+use Rattle.std.proofs.Common.{OnOk, OnErr, ◌≡◌, refl, arith, subst}
+use Rattle.range_algebra.specs.Range.{IsEmptyRange}
+use Rattle.range_map.specs.Bindings.{IsBoundAfter}
+use Rattle.range_map.specs.Changes.{IsInserted}
+use Rattle.range_map.specs.Frames.{GaveWayTo}
+use Rattle.range_map.specs.Lookups.{MeetAlso}
+use Rattle.range_map.proofs.Covering.{on_ok}
+use Rattle.range_map.proofs.Freeing.{form_after}
+use Rattle.range_map.proofs.StoredLists.{stored_coarse, stored_only}
+use Rattle.range_map.proofs.map.RangeMap.try_insert.Goals as goal
+
+pub bind_where_free-requires : goal.bind_where_free-requires
+bind_where_free-requires g c =
+    record {
+      stored = rw c.self.view_is c.in_form.ensures;
+      nonempty = λ empty. let told = c.is_empty.ensures.by_position.1 empty in let not =
+          c.if-is_empty.false in cc;
+    }
+
+pub invariant_of-self : goal.invariant_of-self
+invariant_of-self g c =
+    form_after g.K.MaybeBounded.order g.V.PartialEq.eq c.bind_where_free.result
+    (g.C.Storage.items c.self.inside.stored)
+    (g.C.Storage.items c.bind_where_free.new.stored) c.into_range-range.result c.args.value
+    c.bind_where_free.ensures.ok c.bind_where_free.ensures.refused c.self.invariant
+
+pub returns : goal.returns
+returns g c =
+    let order = g.K.MaybeBounded.order in
+    let same = g.V.PartialEq.eq in
+    let items = g.C.Storage.items c.self.inside.stored in
+    let new = g.C.Storage.items c.bind_where_free.new.stored in
+    let range = g.R.AsRange.range c.args.range in
+    let done : OnOk c.bind_where_free.result (IsInserted order same items new range c.args.value) =
+    subst (λ r. OnOk c.bind_where_free.result (IsInserted order same items new r c.args.value))
+    c.into_range-range.ensures c.bind_where_free.ensures.ok in
+    let form =
+    form_after order same c.bind_where_free.result items new c.into_range-range.result
+    c.args.value c.bind_where_free.ensures.ok c.bind_where_free.ensures.refused
+    c.self.invariant in
+    record {
+      occupied = grind (arith, common_steps);
+      given = grind (arith, common_steps);
+      bound =
+          rw (← c.self.view_is) (on_ok (IsInserted order same items new range c.args.value)
+          (IsBoundAfter order same items new range c.args.value) c.bind_where_free.result
+          (λ h. h.bound) done);
+      frame =
+          rw (← c.self.view_is) (on_ok (IsInserted order same items new range c.args.value)
+          ((IsEmptyRange order range → ⊥) → GaveWayTo order same items new range c.args.value)
+          c.bind_where_free.result (λ h full. h.frame) done);
+      meets =
+          rw (← c.self.view_is) (on_ok (IsInserted order same items new range c.args.value)
+          ((IsEmptyRange order range → ⊥) → MeetAlso order items new range)
+          c.bind_where_free.result (λ h full. h.meets) done);
+      form = form;
+      coarse =
+          λ complete.
+          stored_coarse order g.met.K.PartialEnum.lawful same g.met.V.Eq.laws complete new form;
+      only =
+          λ complete.
+          stored_only order g.met.K.PartialEnum.lawful same g.met.V.Eq.laws complete new form;
+      refused = rw (← c.self.view_is) c.bind_where_free.ensures.refused;
+      empty = λ empty. let told =
+          c.is_empty.ensures.by_position.1 (rw c.into_range-range.ensures empty) in let not =
+          c.if-is_empty.false in absurd (cc);
+      empty_unchanged = λ empty. let told =
+          c.is_empty.ensures.by_position.1 (rw c.into_range-range.ensures empty) in let not =
+          c.if-is_empty.false in absurd (cc);
+    }
+
+pub returns-then-is_empty : goal.returns-then-is_empty
+returns-then-is_empty g c =
+    record {
+      occupied = grind (arith, common_steps);
+      given = tt;
+      bound = grind (arith, common_steps);
+      frame =
+          λ full.
+          absurd
+          (full (rw (← c.into_range-range.ensures)
+          (c.is_empty.ensures.by_position.0 c.if-is_empty.true)));
+      meets =
+          λ full.
+          absurd
+          (full (rw (← c.into_range-range.ensures)
+          (c.is_empty.ensures.by_position.0 c.if-is_empty.true)));
+      form = c.in_form.ensures;
+      coarse =
+          λ complete.
+          stored_coarse g.K.MaybeBounded.order g.met.K.PartialEnum.lawful g.V.PartialEq.eq
+          g.met.V.Eq.laws complete (g.C.Storage.items c.args.self.now) c.in_form.ensures;
+      only =
+          λ complete.
+          stored_only g.K.MaybeBounded.order g.met.K.PartialEnum.lawful g.V.PartialEq.eq
+          g.met.V.Eq.laws complete (g.C.Storage.items c.args.self.now) c.in_form.ensures;
+      refused = tt;
+      empty = λ _. refl;
+      empty_unchanged = λ _. refl;
+    }

@@ -1,0 +1,37 @@
+use Rattle.std.proofs.Common.{◌≡◌, refl, arith, rules}
+use Rattle.std.proofs.lemmas.Grind.{common_steps}
+use Rattle.range_algebra.proofs.Lists.{any_none}
+use Rattle.range_map.specs.Lookups.{Overlap}
+use Rattle.range_map.proofs.Framing.{meets_some, none_meets}
+use Rattle.range_map.proofs.map.try_insert.bind_where_free.Goals as goal
+
+pub returns-then-window-gt0-clause-occupied : goal.returns-then-window-gt0-clause-occupied
+returns-then-window-gt0-clause-occupied g c = (
+  λ _. meets_some g.met.K.PartialEnum.lawful g.met.V.Eq.laws c.find_window-window.ensures.window
+      (omega (arith, c.if-window-gt0.true)),
+  λ _. tt,
+)
+
+pub returns-in-Ok-clause-occupied : goal.returns-in-Ok-clause-occupied
+returns-in-Ok-clause-occupied g c =
+    let none : c.find_window-window.result.count ≡ 0 = omega (arith, c.if-window-gt0.false) in
+    let unmet =
+    none_meets g.met.K.PartialEnum.lawful g.met.V.Eq.laws
+    c.find_window-window.ensures.window none in (
+      λ e. absurd e,
+      λ met.
+          absurd (any_none (λ i. Overlap g.K.MaybeBounded.order i.key c.args.range) _ _ unmet
+          (λ i no at. no at) met),
+    )
+
+pub returns-in-Err-clause-occupied : goal.returns-in-Err-clause-occupied
+returns-in-Err-clause-occupied g c =
+    let none : c.find_window-window.result.count ≡ 0 = omega (arith, c.if-window-gt0.false) in
+    let unmet =
+    none_meets g.met.K.PartialEnum.lawful g.met.V.Eq.laws
+    c.find_window-window.ensures.window none in (
+      λ e. absurd e,
+      λ met.
+          absurd (any_none (λ i. Overlap g.K.MaybeBounded.order i.key c.args.range) _ _ unmet
+          (λ i no at. no at) met),
+    )
