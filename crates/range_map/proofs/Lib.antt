@@ -7,6 +7,8 @@ pub mod ChainSides
 pub mod Chains
 pub mod ClosureAnswers
 pub mod Coarse
+pub mod Combination
+pub mod Combining
 pub mod Copying
 pub mod Covering
 pub mod CutOut
@@ -25,6 +27,7 @@ pub mod FreeParts
 pub mod Gapping
 pub mod Gathering
 pub mod JustBefore
+pub mod KeysTogether
 pub mod Lengths
 pub mod Likeness
 pub mod Listed
@@ -44,6 +47,7 @@ pub mod Separating
 pub mod Splicing
 pub mod StoredLists
 pub mod Surrounded
+pub mod Together
 pub mod Updating
 pub mod Walking
 pub mod Windows

@@ -1,3 +1,4 @@
+pub mod Algebra
 pub mod Altered
 pub mod CallHistories
 pub mod ComplementTwice

@@ -7,6 +7,7 @@ ghost use Rattle.range_store.specs.Counting.{AddsSteps};
 ghost use Rattle.range_map.specs.Lookups.{MeetsSome, BindsKeyOf};
 ghost use Rattle.range_sets.specs.KeySets.{HoldsKey, IsLeastCount, IsStoredSet};
 
+mod algebra;
 mod clone;
 mod compare;
 mod complement;
@@ -16,6 +17,7 @@ mod insert;
 mod into_iter;
 mod iter;
 mod len;
+mod relations;
 mod remove;
 mod text;
 

@@ -3,3 +3,4 @@ mod comparing;
 mod counted;
 mod support;
 mod surface;
+mod together;
