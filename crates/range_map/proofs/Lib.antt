@@ -20,6 +20,7 @@ pub mod Edging
 pub mod Endings
 pub mod Extents
 pub mod Filling
+pub mod FirstPieces
 pub mod Forms
 pub mod Found
 pub mod Framing

@@ -145,15 +145,22 @@ fn first_of_both<'a, K: PartialEnum, V, W>(
     ensures { IsFirstPieceOf K.order (Some (part_item part.entry)) (Some (part_item other.entry))
         result }
 {
-    let left = part_from(part.0, invert(other.0.end));
-    let right = part_from(other.0, invert(part.0.end));
-    let range = if left.is_some() { other.0 } else { part.0 };
+    if let Some(rest) = part_from(part.0, invert(other.0.end)) {
+        return Piece {
+            range: other.0,
+            value: Some(part.1),
+            other_value: Some(other.1),
+            left: Some((rest, part.1)),
+            right: None,
+        };
+    }
+    let rest = part_from(other.0, invert(part.0.end));
     Piece {
-        range,
+        range: part.0,
         value: Some(part.1),
         other_value: Some(other.1),
-        left: with_value(left, part.1),
-        right: with_value(right, other.1),
+        left: None,
+        right: with_value(rest, other.1),
     }
 }
 
