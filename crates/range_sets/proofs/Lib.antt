@@ -1,4 +1,3 @@
-pub mod Algebra
 pub mod Altered
 pub mod CallHistories
 pub mod ComplementTwice

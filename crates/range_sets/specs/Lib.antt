@@ -1,4 +1,3 @@
-pub mod Algebra
 pub mod Calls
 pub mod Complements
 pub mod EqualClones

@@ -17,8 +17,8 @@ impl<T: PartialEnum, C: Storage<Item<AnyRange<T>, ()>>> RangeSet<T, C> {
     /// step for each stored range, and stops at the first two ranges that meet.
     ///
     /// ```
-    /// // of a set of the keys 0..=5
-    /// assert!(rt; set.is_disjoint(&evens) == false); // a set of 2, 4 and 6
+    /// // of a set of the keys 0..=5, and one of the keys 2..4
+    /// assert!(rt; !set.is_disjoint(few));
     /// ```
     pub fn is_disjoint<D: Storage<Item<AnyRange<T>, ()>>>(&self, other: &RangeSet<T, D>) -> bool
         ensures meets { IsTrue result
@@ -40,8 +40,8 @@ impl<T: PartialEnum, C: Storage<Item<AnyRange<T>, ()>>> RangeSet<T, C> {
     /// at most a step for each stored range, and stops at the first range that lies in none.
     ///
     /// ```
-    /// // of a set of the keys 0..=5
-    /// assert!(rt; set.is_subset(&set) && !set.is_subset(&evens)); // a set of 2, 4 and 6
+    /// // of a set of the keys 0..=5, and one of the keys 2..4
+    /// assert!(rt; few.is_subset(set) && !set.is_subset(few));
     /// ```
     pub fn is_subset<D: Storage<Item<AnyRange<T>, ()>>>(&self, other: &RangeSet<T, D>) -> bool
         ensures inside { IsTrue result
@@ -59,8 +59,8 @@ impl<T: PartialEnum, C: Storage<Item<AnyRange<T>, ()>>> RangeSet<T, C> {
     /// other way round. Allocates nothing.
     ///
     /// ```
-    /// // of a set of the keys 0..=5
-    /// assert!(rt; set.is_superset(&set));
+    /// // of a set of the keys 0..=5, and one of the keys 2..4
+    /// assert!(rt; set.is_superset(few));
     /// ```
     pub fn is_superset<D: Storage<Item<AnyRange<T>, ()>>>(&self, other: &RangeSet<T, D>) -> bool
         ensures inside { IsTrue result

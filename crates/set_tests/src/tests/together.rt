@@ -63,14 +63,24 @@ static ROWS: &[Row<'static>] = &[
         superset: false,
     },
     Row {
-        first: &[Keys::Alone(1), Keys::Alone(4), Closed(6, 9), Keys::Alone(20)],
+        first: &[
+            Keys::Alone(1),
+            Keys::Alone(4),
+            Closed(6, 9),
+            Keys::Alone(20),
+        ],
         second: &[Closed(0, 9), Closed(15, 30)],
         disjoint: false,
         subset: true,
         superset: false,
     },
     Row {
-        first: &[Keys::Alone(1), Keys::Alone(4), Closed(6, 10), Keys::Alone(20)],
+        first: &[
+            Keys::Alone(1),
+            Keys::Alone(4),
+            Closed(6, 10),
+            Keys::Alone(20),
+        ],
         second: &[Closed(0, 9), Closed(15, 30)],
         disjoint: false,
         subset: false,
@@ -83,17 +93,25 @@ fn lie_so<C: Storage<Entry<u8>>, D: Storage<Entry<u8>>>(
     alloc: Global,
     row: &Row<'static>,
 ) -> Result<bool, MapError> {
-    let first: RangeSet<u8, C> =
-        RangeSet::from_iter(alloc, row.first.iter().map(|keys| range_of(*keys)))?;
-    let second: RangeSet<u8, D> =
-        RangeSet::from_iter(alloc, row.second.iter().map(|keys| range_of(*keys)))?;
-    Ok(first.is_disjoint(&second) == row.disjoint
-        && first.is_subset(&second) == row.subset
-        && first.is_superset(&second) == row.superset)
+    let first: RangeSet<u8, C> = RangeSet::from_iter(
+        alloc,
+        row.first.iter().map(|keys| range_of(*keys)),
+    )?;
+    let second: RangeSet<u8, D> = RangeSet::from_iter(
+        alloc,
+        row.second.iter().map(|keys| range_of(*keys)),
+    )?;
+    Ok(
+        first.is_disjoint(&second) == row.disjoint
+            && first.is_subset(&second) == row.subset
+            && first.is_superset(&second) == row.superset,
+    )
 }
 
 /// Whether all rows agree, over these two containers.
-fn all_lie_so<C: Storage<Entry<u8>>, D: Storage<Entry<u8>>>(alloc: Global) -> Result<bool, MapError> {
+fn all_lie_so<C: Storage<Entry<u8>>, D: Storage<Entry<u8>>>(
+    alloc: Global,
+) -> Result<bool, MapError> {
     for row in ROWS.iter() {
         if !lie_so::<C, D>(alloc, row)? {
             return Ok(false);

@@ -1,8 +1,6 @@
 use Rattle.std.proofs.Common.{◌∙◌, refl, arith, rules}
 use Rattle.range_algebra.specs.Relations.{LiesBefore}
 use Rattle.range_map.specs.Pieces.{LiesIn}
-use Rattle.range_map.proofs.KeysTogether.{apart_share_none, share_none_apart, inside_binds, binds_inside}
-use Rattle.range_map.proofs.Combination.{combined_none, combined_more, combined_all}
 use Rattle.range_map.proofs.Together.{stepped, drained, shorter, inside_begins, inside_goes_left, inside_goes_right, not_inside, inside_none_left, inside_none_right}
 use Rattle.range_map.proofs.inner.relate.lie_inside.Goals as goal
 
