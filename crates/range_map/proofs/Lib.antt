@@ -28,6 +28,7 @@ pub mod Freeing
 pub mod Gapping
 pub mod Gathering
 pub mod JustBefore
+pub mod KeysTogether
 pub mod Lengths
 pub mod Likeness
 pub mod Listed
@@ -51,6 +52,7 @@ pub mod Separating
 pub mod Splicing
 pub mod StoredLists
 pub mod Surrounded
+pub mod Together
 pub mod Updating
 pub mod Walking
 pub mod Windows

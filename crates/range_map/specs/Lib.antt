@@ -29,4 +29,5 @@ pub mod Searches
 pub mod SimpleUpdates
 pub mod Stored
 pub mod Texts
+pub mod Together
 pub mod Window

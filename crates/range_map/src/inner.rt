@@ -2,4 +2,5 @@
 
 pub mod append;
 pub mod disjoint;
+pub mod relate;
 pub mod scan;

@@ -18,6 +18,7 @@ mod into_iter;
 mod iter;
 mod len;
 mod reads;
+mod relations;
 mod remove;
 mod text;
 

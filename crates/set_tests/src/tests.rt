@@ -4,3 +4,4 @@ mod counted;
 mod reads;
 mod support;
 mod surface;
+mod together;

@@ -86,6 +86,23 @@ fn copied<R: Abort, C: Storage<Entry>>(rt: &R, set: &Set<C>) -> Result<(), Alloc
     Ok(())
 }
 
+fn related<R: Abort, C: Storage<Entry>, D: Storage<Entry>>(rt: &R, set: &Set<C>, few: &Set<D>) {
+    // of a set of the keys 0..=5, and one of the keys 2..4
+    assert!(rt; few.is_subset(set) && !set.is_subset(few));
+    assert!(rt; set.is_superset(few));
+    assert!(rt; !set.is_disjoint(few));
+}
+
+fn beside<R: Abort, C: Storage<Entry>>(
+    rt: &R,
+    alloc: Global,
+    set: &Set<C>,
+) -> Result<(), MapError> {
+    let few: Set<C> = generic::RangeSet::from_iter(alloc, [2..4])?;
+    related(rt, set, &few);
+    Ok(())
+}
+
 fn counted<R: Abort, C: Storage<Entry>>(rt: &R, set: &mut Set<C>) -> Result<(), MapError> {
     // of a set of the keys 0..2 and 4..6
     let mut steps = Steps::new();
@@ -112,6 +129,7 @@ fn played<R: Abort, C: Storage<Entry>>(
     gone_over(rt, set);
     copied(rt, set)?;
     taken_apart(rt, set)?;
+    beside(rt, alloc, set)?;
     gathered::<R, C>(rt, alloc)
 }
 

@@ -1,0 +1,326 @@
+-- Two lists of ranges, by the keys that they bind: where they share none, and where the one binds
+-- all of the other.
+use Rattle.std.proofs.Common.{◌≡◌, refl, ◌⊎◌, inl, inr, Bool, true, Option, Some, None, List, [], ◌∷◌}
+use Rattle.std.specs.declared.ops.Bound.{Bound}
+use Rattle.std.specs.declared.ops.Bound.TheVariants.{Included, Excluded, Unbounded}
+use Rattle.std.specs.declared.cmp.Ordering.{Ordering}
+use Rattle.std.specs.Cmp.{IsEquivalence}
+use Rattle.std.specs.List.{AllByRecursion}
+use Rattle.range_keys.specs.Order.{KeyOrder, IsLawful, IsComplete}
+use Rattle.range_keys.specs.Position.{start_position, end_position, position_cmp}
+use Rattle.range_keys.specs.PositionOrder.{position_total}
+use Rattle.range_keys.specs.declared.inner.position.Position.{Position}
+use Rattle.range_keys.specs.declared.inner.position.Position.TheVariants.{Beside}
+use Rattle.range_keys.specs.declared.inner.position.Side.TheVariants.{At}
+use Rattle.range_keys.proofs.BoundPositions.{starts_lie_at_starts, ends_lie_at_ends}
+use Rattle.range_algebra.specs.Compared.{inverted}
+use Rattle.range_algebra.specs.Cuts.{lower, upper, past}
+use Rattle.range_algebra.specs.Intervals.{Le, Lt, Any, Every}
+use Rattle.range_algebra.specs.Orders.{le_refl, lt_le, eq_le, eq_ge, le_trans, lt_not_le, lt_trans, cases, le_lt_trans, lt_le_trans, not_le}
+use Rattle.range_algebra.specs.Range.{Holds, IsKnownRange, IsKnownBound, IsEmptyRange}
+use Rattle.range_algebra.specs.declared.any.AnyRange.{AnyRange}
+use Rattle.range_algebra.proofs.Canonical.{NotPast, IsBefore, KeyFrom, key_from}
+use Rattle.range_algebra.proofs.Completeness.{nonempty_holds}
+use Rattle.range_algebra.proofs.Holding.{holds_by_position}
+use Rattle.range_algebra.proofs.Meeting.{past_is_start}
+use Rattle.range_algebra.proofs.Places.{held_between, inverted_bound_is_past, reaching_is_before_past, turned_known, unbounded_end}
+use Rattle.range_store.specs.declared.storage.Item.{Item}
+use Rattle.range_map.specs.Bindings.{IsBound}
+use Rattle.range_map.specs.Chains.{line_of}
+use Rattle.range_map.specs.Lookups.{Overlap, MeetsSome}
+use Rattle.range_map.specs.Pieces.{LiesIn}
+use Rattle.range_map.specs.Stored.{IsStored, item_lower}
+use Rattle.range_map.specs.Together.{MeetNowhere, LieInside, ShareNoKey, BindKeysOf}
+use Rattle.range_map.proofs.Chains.{chain_above}
+use Rattle.range_map.proofs.Cutting.{lies_in}
+use Rattle.range_map.proofs.Forms.{Known, Chained, nonempty_good, stored_chain, stored_known}
+use Rattle.range_map.proofs.Meeting.{binding_meets, meeting_binds}
+
+abbrev any_same : {V : Type 0} → V → V → Bool
+any_same _ _ = true
+
+all_same : {V : Type 0} → IsEquivalence {K = V} any_same
+all_same = record { refl = λ x. refl; symm = λ x y. refl; congr = λ x y z e. refl }
+
+module _ {K : Type 0} (order : KeyOrder K) (lawful : IsLawful order) where
+  abbrev cmp : Position K → Position K → Ordering
+  cmp = position_cmp order.cmp
+
+  abbrev Lo : AnyRange K → Position K
+  Lo r = lower order r
+
+  abbrev Hi : AnyRange K → Position K
+  Hi r = upper order r
+
+  module _ {W : Type 0} where
+    -- a key of a range that lies in one of the list is bound
+    pub inside_holds : (i : AnyRange K) (others : List (Item (AnyRange K) W)) (k : K) → order.is_key k
+        → Holds order i k → Any (λ j. LiesIn order i j.key) others → IsBound order others k
+    inside_holds i [] k key held inside = inside
+    inside_holds i (j ∷ others) k key held (inr inside) =
+        inr (inside_holds i others k key held inside)
+    inside_holds i (j ∷ others) k key held (inl inside) =
+        let total = position_total order.cmp lawful.total in
+        let at = (holds_by_position order lawful i k key).0 held in
+        inl ((holds_by_position order lawful j.key k key).1 (
+          le_trans cmp total (start_position order j.key.start) (start_position order i.start)
+              (Beside k At) inside.starts at.0,
+          le_trans cmp total (Beside k At) (end_position order i.end)
+              (end_position order j.key.end) at.1 inside.ends,
+        ))
+
+  module _ {V W : Type 0} where
+    -- lists of which no ranges meet share no key
+    pub apart_share_none : (items : List (Item (AnyRange K) V)) (others : List (Item (AnyRange K) W))
+        → MeetNowhere order items others → ShareNoKey order items others
+    apart_share_none [] others apart k key bound other = bound
+    apart_share_none (i ∷ items) others apart k key (inl held) other =
+        apart.0 (binding_meets order lawful others i.key (k, key, held, other)).1
+    apart_share_none (i ∷ items) others apart k key (inr bound) other =
+        apart_share_none items others apart.1 k key bound other
+
+    share_none_by : (complete : IsComplete order) (same : W → W → Bool)
+        (items : List (Item (AnyRange K) V)) (others : List (Item (AnyRange K) W))
+        → Every (λ i. IsKnownRange order i.key × (IsEmptyRange order i.key → ⊥)) items
+        → IsStored order same others → ShareNoKey order items others
+        → MeetNowhere order items others
+    share_none_by complete same [] others full stored none = tt
+    share_none_by complete same (i ∷ items) others full stored none = (
+      λ meets. let found = meeting_binds order lawful same others i.key complete stored full.0.0
+          full.0.1 meets in none found.0 found.1 (inl found.2) found.3,
+      share_none_by complete same items others full.1 stored
+          (λ k key bound other. none k key (inr bound) other),
+    )
+
+    -- what lies inside binds no other keys
+    pub inside_binds : (items : List (Item (AnyRange K) V)) (others : List (Item (AnyRange K) W))
+        → LieInside order items others → BindKeysOf order items others
+    inside_binds [] others inside k key bound = absurd bound
+    inside_binds (i ∷ items) others inside k key (inl held) =
+        inside_holds i.key others k key held inside.0
+    inside_binds (i ∷ items) others inside k key (inr bound) =
+        inside_binds items others inside.1 k key bound
+
+  module _ {W : Type 0} where
+    below_all : (items : List (Item (AnyRange K) W)) (p : Position K) (k : K) → order.is_key k
+        → Lt cmp (Beside k At) p → Every (λ j. IsKnownRange order j.key) items
+        → Every (λ j. Le cmp p (item_lower order j)) items → ¬ IsBound order items k
+    below_all [] p k key below known above bound = bound
+    below_all (j ∷ items) p k key below known above (inl held) =
+        let total = position_total order.cmp lawful.total in
+        let at = (held_between order lawful j.key k known.0 key).0 held in
+        lt_not_le cmp total (Beside k At) p below
+        (le_trans cmp total p (Lo j.key) (Beside k At) above.0 at.0)
+    below_all (j ∷ items) p k key below known above (inr bound) =
+        below_all items p k key below known.1 above.1 bound
+
+  module _ (complete : IsComplete order) where
+    -- a key from the one place on and before the other, which a range holds
+    abbrev HasKeyIn : AnyRange K → Position K → Type 0
+    HasKeyIn r p =
+        (k : K) × order.is_key k × Holds order r k × Le cmp p (Beside k At)
+
+    -- a key of the range from a place on, where the place lies before its end
+    from_bound : (r : AnyRange K) (b : Bound K) → IsKnownRange order r → IsKnownBound order b
+        → Le cmp (Lo r) (start_position order b) → Lt cmp (start_position order b) (Hi r)
+        → HasKeyIn r (start_position order b)
+    from_bound r b known known_b from upto =
+        let total = position_total order.cmp lawful.total in
+        let part : AnyRange K = record { start = b; end = r.end } in
+        let found =
+        nonempty_holds order lawful complete part (known_b, known.1)
+        ((reaching_is_before_past order lawful b r.end known_b known.1).1 upto) in
+        let at =
+        (held_between order lawful part found.0 (known_b, known.1) found.1).0 found.2 in (
+          found.0,
+          found.1,
+          (held_between order lawful r found.0 known found.1).1 (
+            le_trans cmp total (Lo r) (start_position order b) (Beside found.0 At) from at.0,
+            at.1,
+          ),
+          at.0,
+        )
+
+    turned_end : (r : AnyRange K) (e b : Bound K) → inverted e ≡ Some b → IsKnownRange order r
+        → IsKnownBound order e → Le cmp (Lo r) (past order (end_position order e))
+        → Lt cmp (past order (end_position order e)) (Hi r)
+        → HasKeyIn r (past order (end_position order e))
+    turned_end r e b turns known known_e from upto =
+        let total = position_total order.cmp lawful.total in
+        let p = past order (end_position order e) in
+        let q = start_position order b in
+        let at = inverted_bound_is_past order lawful e b turns in
+        let found =
+        from_bound r b known (turned_known order lawful e b turns known_e)
+        (le_trans cmp total (Lo r) p q from (eq_le cmp total p q at))
+        (le_lt_trans cmp total q p (Hi r) (eq_ge cmp total p q at) upto) in (
+          found.0,
+          found.1,
+          found.2,
+          le_trans cmp total p q (Beside found.0 At) (eq_le cmp total p q at) found.3,
+        )
+
+    past_end : (r : AnyRange K) (e : Bound K) → IsKnownRange order r → IsKnownBound order e
+        → Le cmp (Lo r) (past order (end_position order e))
+        → Lt cmp (past order (end_position order e)) (Hi r)
+        → HasKeyIn r (past order (end_position order e))
+    past_end r Unbounded known known_e from upto =
+        absurd (lt_not_le cmp (position_total order.cmp lawful.total)
+        (past order (end_position order Unbounded)) (Hi r) upto
+        (unbounded_end order lawful r.end known.1))
+    past_end r (Included a) known known_e from upto =
+        turned_end r (Included a) (Excluded a) refl known known_e from upto
+    past_end r (Excluded a) known known_e from upto =
+        turned_end r (Excluded a) (Included a) refl known known_e from upto
+
+    -- a key of the range before the start of another that starts within it
+    module _ {V : Type 0} (i : Item (AnyRange K) V) (known : IsKnownRange order i.key)
+        (full : Lt cmp (Lo i.key) (Hi i.key)) where
+      -- some key of the range lies from the place on and before the start
+      before_start : (p : Position K) (b : Bound K)
+          → ((k : K) → order.is_key k → Le cmp p (Beside k At)
+          → Lt cmp (Beside k At) (start_position order b) → Holds order i.key k → ⊥)
+          → HasKeyIn i.key p → KeyFrom order lawful complete p (start_position order b)
+          → Le cmp (Lo i.key) p → ⊥
+      unfolding NotPast IsBefore KeyFrom
+      before_start p b none found key from =
+          let total = position_total order.cmp lawful.total in
+          elim (cases cmp total (start_position order b) (Hi i.key)) [
+            | inl l ↦
+                none key.0 key.1 key.2 key.3
+                ((held_between order lawful i.key key.0 known key.1).1 (
+                  le_trans cmp total (Lo i.key) p (Beside key.0 At) from key.2,
+                  lt_trans cmp total (Beside key.0 At) (start_position order b) (Hi i.key) key.3 l,
+                ))
+            | inr g ↦
+                let at = (held_between order lawful i.key found.0 known found.1).0 found.2 in
+                none found.0 found.1 found.3
+                (lt_le_trans cmp total (Beside found.0 At) (Hi i.key)
+                (start_position order b) at.1 g) found.2
+          ]
+
+      module _ {W : Type 0} where
+        abbrev Each : List (Item (AnyRange K) W) → Type 0
+        Each ys = (k : K) → order.is_key k → Holds order i.key k → IsBound order ys k
+
+        -- the first starts after the range does
+        starts_late : (y : Item (AnyRange K) W) (ys : List (Item (AnyRange K) W))
+            → Known order lawful any_same all_same (y ∷ ys)
+            → Chained order lawful any_same all_same (y ∷ ys) → Each (y ∷ ys)
+            → Lt cmp (Lo i.key) (Lo y.key) → ⊥
+        unfolding IsBefore
+        starts_late y ys known_ys chain each late =
+            let total = position_total order.cmp lawful.total in
+            before_start (Lo i.key) y.key.start
+            (λ k key from upto held. below_all (y ∷ ys) (Lo y.key) k key upto known_ys
+            (chain_above (line_of order lawful any_same all_same) (Lo y.key) y ys chain
+            (le_refl cmp total (Lo y.key))) (each k key held))
+            (from_bound i.key i.key.start known known.0 (le_refl cmp total (Lo i.key)) full)
+            (key_from order lawful complete (Lo i.key) (Lo y.key)
+            (starts_lie_at_starts order lawful i.key.start known.0)
+            (starts_lie_at_starts order lawful y.key.start known_ys.0.0) late)
+            (le_refl cmp total (Lo i.key))
+
+        not_by_first : (y : Item (AnyRange K) W) (ys : List (Item (AnyRange K) W)) (k : K)
+            → IsKnownRange order y.key → order.is_key k → Le cmp (Hi y.key) (Beside k At)
+            → IsBound order (y ∷ ys) k → IsBound order ys k
+        not_by_first y ys k known_y key over (inl held) =
+            absurd (lt_not_le cmp (position_total order.cmp lawful.total) (Beside k At)
+            (Hi y.key) ((held_between order lawful y.key k known_y key).0 held).1 over)
+        not_by_first y ys k known_y key over (inr bound) = bound
+
+        -- the first ends within the range
+        ends_early : (y : Item (AnyRange K) W) (ys : List (Item (AnyRange K) W))
+            → Known order lawful any_same all_same (y ∷ ys)
+            → Chained order lawful any_same all_same (y ∷ ys) → Each (y ∷ ys)
+            → Le cmp (Lo i.key) (Hi y.key) → Lt cmp (Hi y.key) (Hi i.key) → ⊥
+        unfolding IsBefore
+        ends_early y [] known_ys chain each from early =
+            let found = past_end i.key y.key.end known known_ys.0.1 from early in
+            not_by_first y [] found.0 known_ys.0 found.1 found.3 (each found.0 found.1 found.2)
+        ends_early y (z ∷ zs) known_ys chain each from early =
+            let total = position_total order.cmp lawful.total in
+            let apart : Lt cmp (Hi y.key) (Lo z.key) =
+            not_le cmp total (Hi y.key) (Lo z.key) (λ le. chain.1.0.1 le refl) in
+            before_start (Hi y.key) z.key.start
+            (λ k key over upto held. below_all (z ∷ zs) (Lo z.key) k key upto known_ys.1
+            (chain_above (line_of order lawful any_same all_same) (Lo z.key) z zs chain.1.1
+            (le_refl cmp total (Lo z.key)))
+            (not_by_first y (z ∷ zs) k known_ys.0 key over (each k key held)))
+            (past_end i.key y.key.end known known_ys.0.1 from early)
+            (key_from order lawful complete (Hi y.key) (Lo z.key)
+            (past_is_start order lawful (end_position order y.key.end) (Lo z.key) complete
+            (ends_lie_at_ends order lawful y.key.end known_ys.0.1) apart)
+            (starts_lie_at_starts order lawful z.key.start known_ys.1.0.0) apart) from
+
+        chain_rest : (y : Item (AnyRange K) W) (ys : List (Item (AnyRange K) W))
+            → Chained order lawful any_same all_same (y ∷ ys)
+            → Chained order lawful any_same all_same ys
+        chain_rest y [] chain = tt
+        chain_rest y (z ∷ zs) chain = chain.1.1
+
+        -- a range whose keys are all bound lies in one range of the list
+        inside_some : (ys : List (Item (AnyRange K) W)) → Known order lawful any_same all_same ys
+            → Chained order lawful any_same all_same ys → Each ys
+            → Any (λ y. LiesIn order i.key y.key) ys
+        inside_some [] known_ys chain each =
+            let found =
+            from_bound i.key i.key.start known known.0
+            (le_refl cmp (position_total order.cmp lawful.total) (Lo i.key)) full in
+            each found.0 found.1 found.2
+        inside_some (y ∷ ys) known_ys chain each =
+            let total = position_total order.cmp lawful.total in
+            elim (cases cmp total (Lo i.key) (Hi y.key)) [
+              | inr past_it ↦
+                  inr (inside_some ys known_ys.1 (chain_rest y ys chain) (λ k key held.
+                  not_by_first y ys k known_ys.0 key
+                  (le_trans cmp total (Hi y.key) (Lo i.key) (Beside k At) past_it
+                  ((held_between order lawful i.key k known key).0 held).0) (each k key held)))
+              | inl reaches ↦ elim (cases cmp total (Lo i.key) (Lo y.key)) [
+                | inl late ↦ absurd (starts_late y ys known_ys chain each late)
+                | inr from ↦ elim (cases cmp total (Hi y.key) (Hi i.key)) [
+                  | inl early ↦
+                      absurd (ends_early y ys known_ys chain each
+                      (lt_le cmp total (Lo i.key) (Hi y.key) reaches) early)
+                  | inr upto ↦ inl (lies_in order lawful i.key y.key known known_ys.0 from upto)
+                ]
+              ]
+            ]
+
+    binds_inside_by : {V W : Type 0} (items : List (Item (AnyRange K) V))
+        (others : List (Item (AnyRange K) W))
+        → Every (λ i. IsKnownRange order i.key × (IsEmptyRange order i.key → ⊥)) items
+        → IsStored order any_same others → BindKeysOf order items others
+        → LieInside order items others
+    binds_inside_by [] others full stored binds = tt
+    binds_inside_by (i ∷ items) others full stored binds = (
+      inside_some i full.0.0 ((nonempty_good order lawful i.key full.0.0).0 full.0.1) others
+          (stored_known order lawful any_same all_same others stored)
+          (stored_chain order lawful any_same all_same others stored)
+          (λ k key held. binds k key (inl held)),
+      binds_inside_by items others full.1 stored (λ k key bound. binds k key (inr bound)),
+    )
+
+module _ {K : Type 0} (order : KeyOrder K) (lawful : IsLawful order) {V W : Type 0}
+    (same : V → V → Bool) (items : List (Item (AnyRange K) V))
+    (others : List (Item (AnyRange K) W)) (stored : IsStored order same items) where
+  each_full : (xs : List (Item (AnyRange K) V)) → AllByRecursion (λ i. IsKnownRange order i.key) xs
+      → AllByRecursion (λ i. IsEmptyRange order i.key → ⊥) xs
+      → Every (λ i. IsKnownRange order i.key × (IsEmptyRange order i.key → ⊥)) xs
+  each_full [] known full = tt
+  each_full (i ∷ xs) known full = ((known.0, full.0), each_full xs known.1 full.1)
+
+  -- over complete keys lists that share no key meet nowhere
+  pub share_none_apart : IsComplete order → (same_other : W → W → Bool)
+      → IsStored order same_other others → ShareNoKey order items others
+      → MeetNowhere order items others
+  share_none_apart complete same_other stored_other none =
+      share_none_by order lawful complete same_other items others
+      (each_full items stored.known stored.nonempty) stored_other none
+
+  -- over complete keys a list whose keys a set holds lies inside the set's ranges
+  pub binds_inside : IsComplete order → IsStored order (λ _ _. true) others
+      → BindKeysOf order items others → LieInside order items others
+  binds_inside complete stored_other binds =
+      binds_inside_by order lawful complete items others
+      (each_full items stored.known stored.nonempty) stored_other binds
