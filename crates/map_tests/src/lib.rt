@@ -24,6 +24,8 @@ mod lookups;
 #[cfg(test)]
 mod set_values;
 #[cfg(test)]
+mod spelling;
+#[cfg(test)]
 mod support;
 #[cfg(test)]
 mod tallied;

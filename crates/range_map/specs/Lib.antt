@@ -21,6 +21,7 @@ pub mod Rebinding
 pub mod Replaced
 pub mod Seams
 pub mod Searches
+pub mod Spelling
 pub mod Stored
 pub mod Texts
 pub mod Window
