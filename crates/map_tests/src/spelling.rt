@@ -160,7 +160,11 @@ impl Table<NumberItem> for Many {
                 _ => return Ok(Some(usize::from(number))),
             }
         }
-        Ok(if done.is_ok() && stored.next().is_none() { None } else { Some(0) })
+        Ok(if done.is_ok() && stored.next().is_none() {
+            None
+        } else {
+            Some(0)
+        })
     }
 }
 

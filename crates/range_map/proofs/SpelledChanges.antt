@@ -97,13 +97,16 @@ module _ {K : Type 0} {order : KeyOrder K} (lawful : IsLawful order) {V : Type 0
         subst (λ y. Lt (places order lawful) (lower order r) (item_upper order y)) (sym x_is)
         above.0 in
         let spelled = one_is_spelled place x within x_is in (
-          rw is ((
-            spelled.0,
-            cut_end_is_kept order lawful same equal items known chain (take place items)
-                (drop (place + 1) items) x (listed_at items place x within x_is) r
-                found.window.known (before.3 x x_is) ends (turned_bound r.start)
-                (same_itself order lawful (turned_bound r.start)),
-          ), tt),
+          rw is (
+            (
+              spelled.0,
+              cut_end_is_kept order lawful same equal items known chain (take place items)
+                  (drop (place + 1) items) x (listed_at items place x within x_is) r
+                  found.window.known (before.3 x x_is) ends (turned_bound r.start)
+                  (same_itself order lawful (turned_bound r.start)),
+            ),
+            tt,
+          ),
           λ b e. absurd (cc),
         )
     left_is_spelled (Some q) first at begin rest start (good, here, next, none, (x, read, is)) size
@@ -136,13 +139,16 @@ module _ {K : Type 0} {order : KeyOrder K} (lawful : IsLawful order) {V : Type 0
         subst (λ y. Lt (places order lawful) (item_lower order y) (upper order r)) (sym x_is)
         (found.window.meets x after.2) in
         let spelled = one_is_spelled upto x within read in (
-          rw is ((
-            cut_start_is_kept order lawful same equal items known chain (take upto items)
-                (drop (upto + 1) items) x (listed_at items upto x within read) r
-                found.window.known starts (after.3 x x_is) (turned_bound r.end)
-                (same_itself order lawful (turned_bound r.end)),
-            spelled.1,
-          ), tt),
+          rw is (
+            (
+              cut_start_is_kept order lawful same equal items known chain (take upto items)
+                  (drop (upto + 1) items) x (listed_at items upto x within read) r
+                  found.window.known starts (after.3 x x_is) (turned_bound r.end)
+                  (same_itself order lawful (turned_bound r.end)),
+              spelled.1,
+            ),
+            tt,
+          ),
           λ b e. absurd (cc),
         )
     right_is_spelled (Some q) last upto end rest finish (good, here, next, none, (x, read, is))
