@@ -235,8 +235,8 @@ module _ {K : Type 0} (order : KeyOrder K) (lawful : IsLawful order) {V : Type 0
       (some : PLt order lawful (Lo order lawful r) (Hi order lawful r)) where
     listed : Known order lawful same equal items
     listed =
-        every_weaker (IsFull order lawful items r) (λ i. IsKnownRange order i.key) items (λ i h. h.0)
-        full
+        every_weaker (IsFull order lawful items r) (λ i. IsKnownRange order i.key) items
+        (λ i h. h.0) full
 
     put_gap_keeps_spelling : (gap : AnyRange K) → IsKnownRange order gap
         → PLt order lawful (Lo order lawful gap) (Hi order lawful gap)
@@ -321,7 +321,8 @@ module _ {K : Type 0} (order : KeyOrder K) (lawful : IsLawful order) {V : Type 0
                             (λ b. PLe order lawful (start_position order b) p)
                             (le_trans cmp total (Lo order lawful x.key) m p behind le) low,
                         earlier_is order lawful x.key.end r.end
-                            (λ b. PLt order lawful p (past order (end_position order b))) before high,
+                            (λ b. PLt order lawful p (past order (end_position order b))) before
+                            high,
                       )
                 ]);
             filled =

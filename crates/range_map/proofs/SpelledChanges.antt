@@ -1,16 +1,16 @@
 -- That what a change puts in the place of a range is spelled as what it replaces.
-use Rattle.std.proofs.Common.{◌≡◌, refl, sym, ap, subst, ◌∙◌, ℕ, ◌+◌, ◌-◌, ◌<◌, ◌≤◌, arith, Option, Some, None, Bool, List, [], ◌∷◌, ◌++◌, ◌⊎◌, inl, inr, length, get_or, take, drop}
+use Rattle.std.proofs.Common.{◌≡◌, refl, sym, ap, subst, ◌∙◌, ℕ, ◌+◌, ◌-◌, ◌<◌, ◌≤◌, arith, Option, Some, None, Bool, List, [], ◌∷◌, ◌++◌, inl, inr, length, get_or, take, drop}
 use Rattle.std.proofs.lemmas.List.{drop_more}
 use Rattle.std.proofs.lemmas.Option.{same_Some}
 use Rattle.std.specs.Cmp.{IsEquivalence}
 use Rattle.std.specs.declared.ops.Bound.{Bound}
 use Rattle.range_keys.specs.Order.{KeyOrder, IsLawful}
-use Rattle.range_keys.specs.Position.{start_position, end_position}
+use Rattle.range_keys.specs.Position.{end_position}
 use Rattle.range_keys.specs.PositionOrder.{position_total}
 use Rattle.range_algebra.specs.declared.any.AnyRange.{AnyRange}
-use Rattle.range_algebra.specs.Clones.{SameBound, same_itself}
+use Rattle.range_algebra.specs.Clones.{same_itself}
 use Rattle.range_algebra.specs.Cuts.{lower, upper}
-use Rattle.range_algebra.specs.Intervals.{Lt, Any, Every}
+use Rattle.range_algebra.specs.Intervals.{Lt, Every}
 use Rattle.range_algebra.specs.Orders.{lt_le, eq_le, eq_ge, lt_not_le, lt_trans}
 use Rattle.range_algebra.specs.Range.{IsKnownRange}
 use Rattle.range_algebra.proofs.Lists.{every_weaker, every_append, every_left, every_right, list_is_take_and_drop}
@@ -31,7 +31,7 @@ use Rattle.range_map.proofs.Cutting.{any_use}
 use Rattle.range_map.proofs.Extents.{past_le, end_le}
 use Rattle.range_map.proofs.Forms.{places, Known, Chained, stored_known, stored_chain, nonempty_good}
 use Rattle.range_map.proofs.Gathering.{listed_at, item_at}
-use Rattle.range_map.proofs.Spelling.{own_spelling, own_start_is_kept, own_end_is_kept, start_is_kept, end_is_kept, cut_end_is_kept, cut_start_is_kept}
+use Rattle.range_map.proofs.Spelling.{own_spelling, start_is_kept, end_is_kept, cut_end_is_kept, cut_start_is_kept}
 use Rattle.range_map.proofs.Surrounded.{reach_is_met}
 
 module _ {K : Type 0} (order : KeyOrder K) {V : Type 0} (items : List (Item (AnyRange K) V)) where
@@ -159,8 +159,9 @@ module _ {K : Type 0} {order : KeyOrder K} (lawful : IsLawful order) {V : Type 0
           λ b e. subst (IsEndAsIn order items) (same_Some x.key.end b (sym is ∙ e)) spelled.1,
         )
 
-    pub replaced_keeps_spelling : (joined other : Option P) (new middle : List (Item (AnyRange K) V))
-        (at begin upto end : ℕ) (rest beyond : Option (Item (AnyRange K) V))
+    pub replaced_keeps_spelling : (joined other : Option P)
+        (new middle : List (Item (AnyRange K) V)) (at begin upto end : ℕ)
+        (rest beyond : Option (Item (AnyRange K) V))
         (start finish : Option (Bound K))
         → IsLeftShape is_good rank items (seam_edge joined reach.first (turned_bound r.start)) at
         begin rest start
@@ -191,8 +192,9 @@ module _ {K : Type 0} {order : KeyOrder K} (lawful : IsLawful order) {V : Type 0
         let inside =
         ended_keeps order items finish (with_first_start start middle)
         (started_keeps order items start middle kept left.1) right.1 in
-        rw changed (every_append IsSpelled (front ++ option_items rest ++ body ++ option_items beyond)
-        tail (every_append IsSpelled (front ++ option_items rest ++ body) (option_items beyond)
+        rw changed (every_append IsSpelled
+        (front ++ option_items rest ++ body ++ option_items beyond) tail
+        (every_append IsSpelled (front ++ option_items rest ++ body) (option_items beyond)
         (every_append IsSpelled (front ++ option_items rest) body
         (every_append IsSpelled front (option_items rest) before left.0) inside) right.0) behind)
 

@@ -162,7 +162,8 @@ impl<K: Measure + Clone, V: Eq + Clone, C: Storage<Item<AnyRange<K>, V>>> RangeM
             (R.range range)) }
         ensures kept { OnOk result
             (StandOrMerge K.order V.eq (C.items self.old) (C.items self.new) (R.range range)) }
-        ensures spelled { OnOk result (KeepsSpelling K.order (C.items self.old) (C.items self.new)) }
+        ensures spelled { OnOk result
+            (KeepsSpelling K.order (C.items self.old) (C.items self.new)) }
         ensures form { IsStored K.order V.eq (C.items self.new) }
         ensures coarse { IsComplete K.order → IsCoarse K.order V.eq (C.items self.new) }
         ensures only { IsComplete K.order → IsOnlyCoarse K.order V.eq (C.items self.new) }

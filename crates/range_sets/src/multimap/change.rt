@@ -116,7 +116,8 @@ impl<K: Measure + Clone, S: MaybeEmpty, C: Storage<Item<AnyRange<K>, S>>> RangeM
         ensures frame { OnOk result (¬ IsEmptyRange K.order (R.range range)
             → GaveWay K.order S.eq (C.items self.old) (C.items self.new) (R.range range)
             (λ s. IsTrue (S.has s value))) }
-        ensures spelled { OnOk result (KeepsSpelling K.order (C.items self.old) (C.items self.new)) }
+        ensures spelled { OnOk result
+            (KeepsSpelling K.order (C.items self.old) (C.items self.new)) }
         ensures form { IsStored K.order S.eq (C.items self.new) }
         ensures nonempty { HasNoEmptySet S.is_void (C.items self.new) }
         ensures coarse { IsComplete K.order → IsCoarse K.order S.eq (C.items self.new) }
@@ -149,9 +150,9 @@ impl<K: Measure + Clone, S: MaybeEmpty, C: Storage<Item<AnyRange<K>, S>>> RangeM
     /// and so does each key outside the range. A stored range that the range neither meets nor
     /// touches stands as it was, and a bound that lies where a stored range had one stays as it was
     /// written. An empty range changes nothing. Allocates for a copy of each set that the range
-    /// meets, for clones of bounds, and where more ranges are stored than the container has capacity
-    /// for; after an error nothing is changed. Costs one search, a step for each stored range that
-    /// the range meets or touches, and the copies.
+    /// meets, for clones of bounds, and where more ranges are stored than the container has
+    /// capacity for; after an error nothing is changed. Costs one search, a step for each stored
+    /// range that the range meets or touches, and the copies.
     ///
     /// ```
     /// classes.remove('0'..='z', &1)?;
@@ -176,7 +177,8 @@ impl<K: Measure + Clone, S: MaybeEmpty, C: Storage<Item<AnyRange<K>, S>>> RangeM
         ensures frame { OnOk result (¬ IsEmptyRange K.order (R.range range)
             → GaveWay K.order S.eq (C.items self.old) (C.items self.new) (R.range range)
             (λ s. ¬ IsTrue (S.has s value.now))) }
-        ensures spelled { OnOk result (KeepsSpelling K.order (C.items self.old) (C.items self.new)) }
+        ensures spelled { OnOk result
+            (KeepsSpelling K.order (C.items self.old) (C.items self.new)) }
         ensures form { IsStored K.order S.eq (C.items self.new) }
         ensures nonempty { HasNoEmptySet S.is_void (C.items self.new) }
         ensures coarse { IsComplete K.order → IsCoarse K.order S.eq (C.items self.new) }
