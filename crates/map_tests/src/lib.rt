@@ -28,6 +28,8 @@ mod reads;
 #[cfg(test)]
 mod set_values;
 #[cfg(test)]
+mod spelling;
+#[cfg(test)]
 mod support;
 #[cfg(test)]
 mod tallied;

@@ -16,12 +16,13 @@ use Rattle.range_store.specs.declared.storage.Item.{Item}
 use Rattle.range_map.specs.Answers.{MayAnswer, FailsAt, IsGathered}
 use Rattle.range_map.specs.Asking.{gap_lower, IsGapAsked, IsItemAsked, FailsAtGap, IsKeyAt}
 use Rattle.range_map.specs.Lookups.{Overlap}
+use Rattle.range_map.specs.Spelling.{KeepsSpelling}
 use Rattle.range_map.specs.Window.{IsLastOf, IsWindow}
 use Rattle.range_map.specs.declared.change.window.Window.{Window}
 use Rattle.range_map.proofs.Cutting.{Hi, IsFull}
 use Rattle.range_map.proofs.Forms.{places, Chained, stored_known, stored_chain, nonempty_good}
 use Rattle.range_map.proofs.Framing.{all_meet}
-use Rattle.range_map.proofs.Gathering.{IsUnderway, asked_item_is_underway, gap_or_item_fails, fails_last, last_gap_asked_is_gathered, all_full, key_full, run_at, item_at, last_good, listed_at, take_one_more}
+use Rattle.range_map.proofs.Gathering.{IsUnderway, asked_item_is_underway, asked_item_keeps_spelling, last_gap_keeps_spelling, gap_or_item_fails, fails_last, last_gap_asked_is_gathered, all_full, key_full, run_at, item_at, last_good, listed_at, take_one_more}
 
 module _ {K : Type 0} {order : KeyOrder K} (lawful : IsLawful order) {V : Type 0}
     {same : V → V → Bool} (equal : IsEquivalence same) {P : Type 0} {is_good : P → Type 0}
@@ -96,6 +97,16 @@ module _ {K : Type 0} {order : KeyOrder K} (lawful : IsLawful order) {V : Type 0
           some (take (place + met) items)
           (drop (place + met + 1) items) x list meets before old was is_clone clones new asked)
 
+      pub met_keeps_spelling : (is_clone : K → K → Type 0)
+          (clones : (a b : Bound K) → IsBoundClone is_clone a b → SameBound order a b)
+          (new : List (Item (AnyRange K) V)) → KeepsSpelling order items old
+          → IsItemAsked order same is_clone calls f r before x old new
+          → KeepsSpelling order items new
+      met_keeps_spelling is_clone clones new kept asked =
+          asked_item_keeps_spelling order lawful same equal calls f items r window.known full chain
+          some (take (place + met) items)
+          (drop (place + met + 1) items) x list meets before old was is_clone clones new kept asked
+
   -- after all of them
   module _ {F E : Type 0} {calls : Shared F (Option (Bor V) × Unit {0}) (Result (Option V) E)}
       {f : F} (before : Option (AnyRange K)) {old : List (Item (AnyRange K) V)}
@@ -118,3 +129,14 @@ module _ {K : Type 0} {order : KeyOrder K} (lawful : IsLawful order) {V : Type 0
         some (take (place + w.count) items) (drop (place + w.count) items)
         (list_is_take_and_drop items (place + w.count)) window.behind before old was is_clone clones
         new asked
+
+    pub all_keep_spelling : (is_clone : K → K → Type 0)
+        (clones : (a b : Bound K) → IsBoundClone is_clone a b → SameBound order a b)
+        (new : List (Item (AnyRange K) V)) → KeepsSpelling order items old
+        → IsGapAsked order same is_clone calls f r before None old new
+        → KeepsSpelling order items new
+    all_keep_spelling is_clone clones new kept asked =
+        last_gap_keeps_spelling order lawful same equal calls f items r window.known full chain
+        some (take (place + w.count) items) (drop (place + w.count) items)
+        (list_is_take_and_drop items (place + w.count)) window.behind before old was is_clone clones
+        new kept asked

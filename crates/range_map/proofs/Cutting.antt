@@ -125,15 +125,15 @@ module _ {K : Type 0} (order : KeyOrder K) (lawful : IsLawful order) where
   either_choice_holds P false p q h k = k
 
   -- the common part of two ranges starts at the later start and ends at the earlier end
-  pub common_is : (r i : AnyRange K) → IsCommonPart order r i (common order r i)
+  pub common_is : (r i : AnyRange K) → IsCommonPart order r i (common order i r)
   common_is r i =
       let cmp = position_cmp order.cmp in
       let total = position_total order.cmp lawful.total in
-      let c = common order r i in
+      let c = common order i r in
       let s = start_position order c.start in
       let e = end_position order c.end in
-      let over = starts_over order lawful r.start i.start in
-      let under = ends_under order lawful r.end i.end in
+      let over = starts_over order lawful i.start r.start in
+      let under = ends_under order lawful i.end r.end in
       let p = start_position order r.start in
       let q = start_position order i.start in
       let u = end_position order r.end in
@@ -143,14 +143,14 @@ module _ {K : Type 0} (order : KeyOrder K) (lawful : IsLawful order) where
       record {
         starts =
             both cmp total s (later order p q)
-            (later_is order lawful r.start i.start
-            (λ b. PLe (start_position order b) (later order p q)) latest.0 latest.1)
-            (either_choice_holds (λ x. PLe x s) (is_gt (cmp p q)) p q over.0 over.1);
+            (later_is order lawful i.start r.start
+            (λ b. PLe (start_position order b) (later order p q)) latest.1 latest.0)
+            (either_choice_holds (λ x. PLe x s) (is_gt (cmp p q)) p q over.1 over.0);
         ends =
             both cmp total e (earlier order u v)
-            (either_choice_holds (λ x. PLe e x) (is_gt (cmp u v)) v u under.1 under.0)
-            (earlier_is order lawful r.end i.end
-            (λ b. PLe (earlier order u v) (end_position order b)) first.0 first.1);
+            (either_choice_holds (λ x. PLe e x) (is_gt (cmp u v)) v u under.0 under.1)
+            (earlier_is order lawful i.end r.end
+            (λ b. PLe (earlier order u v) (end_position order b)) first.1 first.0);
       }
 
   -- a common part lies in both

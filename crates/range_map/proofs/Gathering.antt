@@ -30,6 +30,7 @@ use Rattle.range_store.specs.declared.storage.Item.{Item}
 use Rattle.range_map.specs.Answers.{MayAnswer, Answered, IsAsAnswered, FailsAt, IsGathered}
 use Rattle.range_map.specs.Asking.{gap_lower, IsPut, IsGapAsked, IsItemAsked, FailsAtGap, IsKeyAt}
 use Rattle.range_map.specs.Bindings.{Binds}
+use Rattle.range_map.specs.Spelling.{KeepsSpelling}
 use Rattle.range_map.specs.Stored.{item_lower}
 use Rattle.range_map.specs.Neighbours.{EachNext}
 use Rattle.range_map.specs.Pieces.{IsCommonPart, LiesIn}
@@ -38,6 +39,7 @@ use Rattle.range_map.specs.Window.{IsLastOf}
 use Rattle.range_map.proofs.Cutting.{PLe, PLt, Lo, Hi, IsFull, IsOpenPart, IsRight, IsInside, IsCutUpTo, cut_none, cut_more, cut_all, a_piece, common_is, common_within, lies_in, any_end, any_with, any_use, every_with}
 use Rattle.range_map.proofs.Framing.{run_size}
 use Rattle.range_map.proofs.Filling.{IsFilledUpTo, Gives, Alike, filled_none, fill_more}
+use Rattle.range_map.proofs.Spelling.{gap_start_is_kept, gap_end_is_kept, common_start_is_kept, common_end_is_kept, put_keeps_spelling}
 use Rattle.range_map.proofs.Forms.{Known, Chained, Hold, before_is, nonempty_good, chain_stored, binds_hold, bound_hold}
 
 some_element : {X : Type 0} (xs : List X) (k : ℕ) → k < length xs → X
@@ -231,44 +233,63 @@ module _ {K : Type 0} (order : KeyOrder K) (lawful : IsLawful order) {V : Type 0
   module _ (known : IsKnownRange order r) (full : Every (IsFull order lawful items r) items)
       (chain : Chained order lawful same equal items)
       (some : PLt order lawful (Lo order lawful r) (Hi order lawful r)) where
+    listed : Known order lawful same equal items
+    listed =
+        every_weaker (IsFull order lawful items r) (λ i. IsKnownRange order i.key) items
+        (λ i h. h.0) full
+
+    put_gap_keeps_spelling : (gap : AnyRange K) → IsKnownRange order gap
+        → PLt order lawful (Lo order lawful gap) (Hi order lawful gap)
+        → Every (λ i. PLe order lawful (Hi order lawful i.key) (Lo order lawful gap)
+        ⊎ PLe order lawful (Hi order lawful gap) (Lo order lawful i.key)) items
+        → (is_clone : K → K → Type 0)
+        (clones : (a b : Bound K) → IsBoundClone is_clone a b → SameBound order a b)
+        (old new : List (Item (AnyRange K) V)) (answer : Option V) → KeepsSpelling order items old
+        → IsPut order same is_clone old new gap answer → KeepsSpelling order items new
+    put_gap_keeps_spelling gap is_known room free is_clone clones old new answer kept put =
+        put_keeps_spelling order lawful same equal items gap is_clone clones
+        (gap_start_is_kept order lawful same equal items listed chain gap (is_known, room) free)
+        (gap_end_is_kept order lawful same equal items listed chain gap (is_known, room) free) old
+        new answer kept put
+
     -- what the range and an item that it meets have in common
     module _ (x : Item (AnyRange K) V) (good : IsFull order lawful items r x)
         (starts : PLt order lawful (Lo order lawful x.key) (Hi order lawful r))
         (ends : PLt order lawful (Lo order lawful r) (Hi order lawful x.key)) where
-      both_known : IsKnownRange order (common order r x.key)
+      both_known : IsKnownRange order (common order x.key r)
       both_known = (
-        later_is order lawful r.start x.key.start (IsKnownBound order) known.0 good.0.0,
-        earlier_is order lawful r.end x.key.end (IsKnownBound order) known.1 good.0.1,
+        later_is order lawful x.key.start r.start (IsKnownBound order) good.0.0 known.0,
+        earlier_is order lawful x.key.end r.end (IsKnownBound order) good.0.1 known.1,
       )
 
-      both_within : PLe order lawful (Lo order lawful r) (Lo order lawful (common order r x.key))
-          × PLe order lawful (Lo order lawful x.key) (Lo order lawful (common order r x.key))
-          × PLe order lawful (Hi order lawful (common order r x.key)) (Hi order lawful r)
-          × PLe order lawful (Hi order lawful (common order r x.key)) (Hi order lawful x.key)
+      both_within : PLe order lawful (Lo order lawful r) (Lo order lawful (common order x.key r))
+          × PLe order lawful (Lo order lawful x.key) (Lo order lawful (common order x.key r))
+          × PLe order lawful (Hi order lawful (common order x.key r)) (Hi order lawful r)
+          × PLe order lawful (Hi order lawful (common order x.key r)) (Hi order lawful x.key)
       both_within =
-          common_within order lawful r x.key (common order r x.key) known good.0 both_known
+          common_within order lawful r x.key (common order x.key r) known good.0 both_known
           (common_is order lawful r x.key)
 
-      both_inside : IsInside order lawful items r (common order r x.key)
+      both_inside : IsInside order lawful items r (common order x.key r)
       both_inside =
           let lo =
           λ (p : Position K) (h : PLt order lawful p (Hi order lawful r))
-          (k : PLt order lawful p (Hi order lawful x.key)). earlier_is order lawful r.end
-          x.key.end (λ b. PLt order lawful p (past order (end_position order b))) h k in (
+          (k : PLt order lawful p (Hi order lawful x.key)). earlier_is order lawful x.key.end
+          r.end (λ b. PLt order lawful p (past order (end_position order b))) k h in (
             both_known,
             both_within.0,
-            later_is order lawful r.start x.key.start
+            later_is order lawful x.key.start r.start
                 (λ b. PLt order lawful (start_position order b)
-                (Hi order lawful (common order r x.key))) (lo (Lo order lawful r) some ends)
-                (lo (Lo order lawful x.key) starts good.1),
+                (Hi order lawful (common order x.key r))) (lo (Lo order lawful x.key) starts good.1)
+                (lo (Lo order lawful r) some ends),
             both_within.2,
           )
 
       both_right : (done rest : List (Item (AnyRange K) V)) → items ≡ done ++ x ∷ rest
-          → IsRight order lawful items r (common order r x.key) (Some x.value)
+          → IsRight order lawful items r (common order x.key r) (Some x.value)
       both_right done rest list =
           rw list
-          (any_right (λ i. IsCommonPart order r i.key (common order r x.key)
+          (any_right (λ i. IsCommonPart order r i.key (common order x.key r)
           × (i.value ≡ x.value)) done (x ∷ rest) (inl (common_is order lawful r x.key, refl)))
 
       -- the part in common, where the range up to its start was asked about
@@ -277,14 +298,14 @@ module _ {K : Type 0} (order : KeyOrder K) (lawful : IsLawful order) {V : Type 0
           (m : Position K) (old new : List (Item (AnyRange K) V)) (answer : Option V)
           (done rest : List (Item (AnyRange K) V)) → items ≡ done ++ x ∷ rest → IsAnsweredUpTo m old
           → PLe order lawful (Lo order lawful x.key) m
-          → PLe order lawful m (Lo order lawful (common order r x.key))
+          → PLe order lawful m (Lo order lawful (common order x.key r))
           → MayAnswer calls f (Some x.value) (Ok answer)
-          → IsPut order same is_clone old new (common order r x.key) answer
+          → IsPut order same is_clone old new (common order x.key r) answer
           → IsAnsweredUpTo (Hi order lawful x.key) new
       add_common is_clone clones m old new answer done rest list was behind from says put =
           let cmp = position_cmp order.cmp in
           let total = position_total order.cmp lawful.total in
-          let c = common order r x.key in
+          let c = common order x.key r in
           let a : Answered K V = record { key = c; value = Some x.value; answer = answer } in
           record {
             answers = was.answers ++ a ∷ [];
@@ -296,11 +317,12 @@ module _ {K : Type 0} (order : KeyOrder K) (lawful : IsLawful order) {V : Type 0
                   | inl l ↦ inl l
                   | inr le ↦
                       inr (
-                        later_is order lawful r.start x.key.start
-                            (λ b. PLe order lawful (start_position order b) p) low
-                            (le_trans cmp total (Lo order lawful x.key) m p behind le),
-                        earlier_is order lawful r.end x.key.end
-                            (λ b. PLt order lawful p (past order (end_position order b))) high before,
+                        later_is order lawful x.key.start r.start
+                            (λ b. PLe order lawful (start_position order b) p)
+                            (le_trans cmp total (Lo order lawful x.key) m p behind le) low,
+                        earlier_is order lawful x.key.end r.end
+                            (λ b. PLt order lawful p (past order (end_position order b))) before
+                            high,
                       )
                 ]);
             filled =
@@ -497,12 +519,12 @@ module _ {K : Type 0} (order : KeyOrder K) (lawful : IsLawful order) {V : Type 0
 
       -- the place so far is not after the part in common
       common_part_is_after : PLe order lawful (gap_lower order r before)
-          (Lo order lawful (common order r x.key))
+          (Lo order lawful (common order x.key r))
       common_part_is_after =
           let cmp = position_cmp order.cmp in
           let total = position_total order.cmp lawful.total in
           let from = gap_lower order r before in
-          let c = Lo order lawful (common order r x.key) in
+          let c = Lo order lawful (common order x.key r) in
           let inner = both_within x good_at starts_at ends_at in
           elim was.edge [
             | inl le ↦ le_trans cmp total from (Lo order lawful r) c le inner.0
@@ -576,6 +598,38 @@ module _ {K : Type 0} (order : KeyOrder K) (lawful : IsLawful order) {V : Type 0
           (le_refl (position_cmp order.cmp) (position_total order.cmp lawful.total)
           (Lo order lawful x.key)) inner.1 says put)
 
+      put_common_keeps_spelling : (is_clone : K → K → Type 0)
+          (clones : (a b : Bound K) → IsBoundClone is_clone a b → SameBound order a b)
+          (so_far new : List (Item (AnyRange K) V)) (answer : Option V)
+          → KeepsSpelling order items so_far
+          → IsPut order same is_clone so_far new (common order x.key r) answer
+          → KeepsSpelling order items new
+      put_common_keeps_spelling is_clone clones so_far new answer kept put =
+          put_keeps_spelling order lawful same equal items (common order x.key r) is_clone clones
+          (λ b. common_start_is_kept order lawful same equal items listed chain done rest x list r
+          known starts_at ends_at b)
+          (λ b. common_end_is_kept order lawful same equal items listed chain done rest x list r
+          known starts_at ends_at b) so_far new answer kept put
+
+      -- what is put for the gap and for the item is spelled as in the list
+      pub asked_item_keeps_spelling : (is_clone : K → K → Type 0)
+          (clones : (a b : Bound K) → IsBoundClone is_clone a b → SameBound order a b)
+          (new : List (Item (AnyRange K) V)) → KeepsSpelling order items old
+          → IsItemAsked order same is_clone calls f r before x old new
+          → KeepsSpelling order items new
+      asked_item_keeps_spelling is_clone clones new kept
+          (middle, inl none, (answer, says, put)) =
+          put_common_keeps_spelling is_clone clones middle new answer (rw none.1 kept) put
+      asked_item_keeps_spelling is_clone clones new kept
+          (middle, inr (gap, is_gap, (first, said, placed)), (answer, says, put)) =
+          let clear =
+          gap_open done (x ∷ rest) list (gap_lower order r before)
+          (Lo order lawful x.key) gap is_gap.0 is_gap.1 is_gap.2 is_gap.3 was.edge
+          was.at_least was.below within_it above_it bounded_it in
+          put_common_keeps_spelling is_clone clones middle new answer
+          (put_gap_keeps_spelling gap is_gap.0 is_gap.3 clear.free is_clone clones old middle first
+          kept placed) put
+
       pub gap_or_item_fails : (e : E)
           → FailsAtGap order calls f r before (Some x.key) e ⊎ MayAnswer calls f (Some x.value)
           (Err e) → FailsAt order same calls f items r e
@@ -595,10 +649,10 @@ module _ {K : Type 0} (order : KeyOrder K) (lawful : IsLawful order) {V : Type 0
         says = says;
       }
       gap_or_item_fails e (inr says) = record {
-        piece = common order r x.key;
+        piece = common order x.key r;
         value = Some x.value;
         is_piece =
-            a_piece order lawful items r known full (common order r x.key) (Some x.value)
+            a_piece order lawful items r known full (common order x.key r) (Some x.value)
             (both_inside x good_at starts_at ends_at)
             (both_right x good_at starts_at ends_at done rest list);
         says = says;
@@ -715,6 +769,20 @@ module _ {K : Type 0} (order : KeyOrder K) (lawful : IsLawful order) {V : Type 0
       last_gap_asked_is_gathered is_clone clones new h =
           let end = last_step is_clone clones new h in
           answered_to_end_is_gathered end.0 new end.1 end.2
+
+      pub last_gap_keeps_spelling : (is_clone : K → K → Type 0)
+          (clones : (a b : Bound K) → IsBoundClone is_clone a b → SameBound order a b)
+          (new : List (Item (AnyRange K) V)) → KeepsSpelling order items old
+          → IsGapAsked order same is_clone calls f r before None old new
+          → KeepsSpelling order items new
+      last_gap_keeps_spelling is_clone clones new kept (inl none) = rw none.1 kept
+      last_gap_keeps_spelling is_clone clones new kept (inr (gap, is_gap, (answer, says, put))) =
+          let clear =
+          gap_open done rest list (gap_lower order r before)
+          (Hi order lawful r) gap is_gap.0 is_gap.1 is_gap.2 is_gap.3 was.edge was.at_least
+          was.below up_to_end behind (inl up_to_end) in
+          put_gap_keeps_spelling gap is_gap.0 is_gap.3 clear.free is_clone clones old new answer
+          kept put
 
 module _ {K : Type 0} (order : KeyOrder K) (lawful : IsLawful order) {V : Type 0}
     (same : V → V → Bool) (equal : IsEquivalence same) (r : AnyRange K) where

@@ -49,6 +49,8 @@ pub mod Scans
 pub mod Seaming
 pub mod Searching
 pub mod Separating
+pub mod SpelledChanges
+pub mod Spelling
 pub mod Splicing
 pub mod StoredLists
 pub mod Surrounded

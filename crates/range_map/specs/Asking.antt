@@ -101,13 +101,13 @@ module _ {K : Type 0} (order : KeyOrder K) where
             ((gap : AnyRange K) × IsGapBetween r before after (Some gap)
             × IsAnsweredBy calls f None (IsPut old new gap))
 
-        -- the gap before the item was asked about, if there is one, and then what the range has in
-        -- common with the item
+        -- the gap before the item was asked about, if there is one, and then what the item has in
+        -- common with the range
         abbrev pub IsItemAsked : AnyRange K → Option (AnyRange K) → Item (AnyRange K) V
             → List (Item (AnyRange K) V) → List (Item (AnyRange K) V) → Type 0
         IsItemAsked r before i old new =
             (middle : List (Item (AnyRange K) V)) × IsGapAsked r before (Some i.key) old middle
-            × IsAnsweredBy calls f (Some i.value) (IsPut middle new (common order r i.key))
+            × IsAnsweredBy calls f (Some i.value) (IsPut middle new (common order i.key r))
 
   -- the closure may answer an error where it is asked about the gap
   abbrev pub FailsAtGap : {F V E : Type 0}

@@ -27,6 +27,7 @@ pub mod Retaining
 pub mod Seams
 pub mod Searches
 pub mod SimpleUpdates
+pub mod Spelling
 pub mod Stored
 pub mod Texts
 pub mod Together

@@ -85,6 +85,25 @@ fn far_ranges_stand(rt: HostRuntime) -> Result<(), Fail> {
     passes_numbers(&rt, rt.alloc(), &Table(FAR_RANGES))
 }
 
+/// Bounds that lie where those of a call do stay as they are written.
+static WRITTEN: &[Step<'static, i32>] = &[
+    Step::Insert(HalfOpen(0, 10), 1),
+    Step::Remove(Closed(0, 9), 2),
+    Step::Insert(Closed(0, 9), 1),
+    Step::Bounds(&[HalfOpen(0, 10)]),
+    Step::Insert(Closed(5, 9), 2),
+    Step::Bounds(&[HalfOpen(0, 5), HalfOpen(5, 10)]),
+    Step::Remove(Closed(-5, 9), 2),
+    Step::Bounds(&[HalfOpen(0, 10)]),
+    Step::Insert(Closed(-5, 9), 1),
+    Step::Bounds(&[HalfOpen(-5, 10)]),
+];
+
+#[test]
+fn bounds_stay_as_they_are_written(rt: HostRuntime) -> Result<(), Fail> {
+    passes_numbers(&rt, rt.alloc(), &Table(WRITTEN))
+}
+
 /// Digits with a number each, and then one number more for all of them.
 static DIGITS: &[Step<'static, char>] = &[
     Step::Insert(Alone('1'), 100),

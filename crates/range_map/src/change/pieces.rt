@@ -8,6 +8,7 @@ ghost use Rattle.range_algebra.specs.References.{range_of};
 ghost use Rattle.range_map.specs.Answers.{MayAnswer, MayBeAsked, IsAnsweredBy, FailsAt, IsGathered};
 ghost use Rattle.range_map.specs.Asking.{IsGapStart, IsGapEnd, IsGapBetween, JoinsLast, JoinsNoLast, IsPut, IsGapAsked, FailsAtGap, IsItemAsked, IsKeyAt};
 ghost use Rattle.range_map.specs.Edits.{with_end, IsEditedAt};
+ghost use Rattle.range_map.specs.Spelling.{KeepsSpelling};
 ghost use Rattle.range_map.specs.Window.{IsWindowOf};
 ghost use Rattle.range_map.specs.declared.error.UpdateError.TheVariants.{Closure as ClosureError};
 
@@ -195,7 +196,8 @@ fn ask_gap<
     }
 }
 
-/// Asks the closure for the gap before an item, and for what the range and the item have in common.
+/// Asks the closure for the gap before an item, and for what the item has in common with the range,
+/// which keeps a bound of the item that lies where the range's does.
 fn ask_item<
     'a,
     K: Measure + Clone,
@@ -223,7 +225,7 @@ fn ask_item<
     ask_gap(items, range, before, Some(&item.key), f)?;
     ask(
         items,
-        range.intersected_with(&item.key),
+        item.key.intersected_with(range),
         Some(&item.value),
         f,
     )
@@ -265,6 +267,8 @@ pub(crate) fn gather<
     requires bound { Every (λ i. MayBeAsked F.Fn f.now (Some i.value)) (C.items stored.now) }
     ensures ok { IfOk result
         (λ middle. IsGathered K.order V.eq F.Fn f.now (C.items stored.now) range.now middle.items) }
+    ensures spelled { IfOk result
+        (λ middle. KeepsSpelling K.order (C.items stored.now) middle.items) }
     ensures closure { (e : E) → result ≡ Err (ClosureError e)
         → FailsAt K.order V.eq F.Fn f.now (C.items stored.now) range.now e }
 {

@@ -4,6 +4,7 @@ ghost use Rattle.range_map.specs.Pieces.{LiesIn};
 ghost use Rattle.range_map.specs.Reach.{AreApart, IsReachOf};
 ghost use Rattle.range_map.specs.Replaced.{AreWithin, IsReplaced};
 ghost use Rattle.range_map.specs.Seams.{IsJoiningFirst, IsJoiningLast};
+ghost use Rattle.range_map.specs.Spelling.{KeepsSpelling};
 ghost use Rattle.range_map.specs.Stored.{IsStored};
 
 use crate::change::cut::{ends_after, starts_before, turned};
@@ -80,6 +81,8 @@ pub(crate) fn replace<K: Measure, V: Eq + Drop, C: Storage<Item<AnyRange<K>, V>>
     requires within { AreWithin K.order middle.items range }
     ensures ok { OnOk result
         (IsReplaced K.order V.eq (C.items stored.old) (C.items stored.new) middle.items range) }
+    ensures spelled { KeepsSpelling K.order (C.items stored.old) middle.items
+        → OnOk result (KeepsSpelling K.order (C.items stored.old) (C.items stored.new)) }
     ensures refused { OnErr result (C.items stored.new ≡ C.items stored.old) }
 {
     let before = joined_left::<K, V, C>(stored, reach, &range, middle.first());

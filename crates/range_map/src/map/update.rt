@@ -10,6 +10,7 @@ ghost use Rattle.range_map.specs.Bindings.{IsCoarse, IsOnlyCoarse};
 ghost use Rattle.range_map.specs.Frames.{StandOrMerge};
 ghost use Rattle.range_map.specs.Reach.{IsSurroundedOf};
 ghost use Rattle.range_map.specs.Rebinding.{AreRebound};
+ghost use Rattle.range_map.specs.Spelling.{KeepsSpelling};
 ghost use Rattle.range_map.specs.Stored.{IsStored};
 ghost use Rattle.range_map.specs.declared.error.UpdateError.TheVariants.{Closure as ClosureError};
 
@@ -49,6 +50,8 @@ fn update_within<
     requires bound { Every (λ i. MayBeAsked F.Fn f.now (Some i.value)) (C.items stored.old) }
     ensures ok { OnOk result
         (IsUpdated K.order V.eq F.Fn f.now (C.items stored.old) (C.items stored.new) range) }
+    ensures spelled { OnOk result
+        (KeepsSpelling K.order (C.items stored.old) (C.items stored.new)) }
     ensures form { IsStored K.order V.eq (C.items stored.new) }
     ensures closure { (e : E) → result ≡ Err (ClosureError e)
         → FailsAt K.order V.eq F.Fn f.now (C.items stored.old) range e }
@@ -87,6 +90,8 @@ fn update_pieces<
     requires bound { Every (λ i. MayBeAsked F.Fn f.now (Some i.value)) (C.items stored.old) }
     ensures ok { OnOk result
         (IsUpdated K.order V.eq F.Fn f.now (C.items stored.old) (C.items stored.new) range) }
+    ensures spelled { OnOk result
+        (KeepsSpelling K.order (C.items stored.old) (C.items stored.new)) }
     ensures form { IsStored K.order V.eq (C.items stored.new) }
     ensures closure { (e : E) → result ≡ Err (ClosureError e)
         → FailsAt K.order V.eq F.Fn f.now (C.items stored.old) range e }
@@ -123,7 +128,9 @@ impl<K: Measure + Clone, V: Eq + Clone, C: Storage<Item<AnyRange<K>, V>>> RangeM
     /// to unbind the keys, or an error, which ends the call. Only when all answers are there is
     /// anything changed; after an error the map is as it was. An empty range asks nothing and
     /// changes nothing. A stored range that the range only touches keeps its bounds and its value,
-    /// unless keys beside it come to have an equal value: then it is one range with them.
+    /// unless keys beside it come to have an equal value: then it is one range with them. A range
+    /// that starts or ends where a stored one did keeps that bound as it was written: where `0..10`
+    /// is stored, `update(0..=9, f)` binds `0..10`.
     ///
     /// Allocates a list of what the closure returns, clones of the bounds of its pieces
     /// and of the stored ranges that are cut, and where more ranges are stored than the container
@@ -155,6 +162,8 @@ impl<K: Measure + Clone, V: Eq + Clone, C: Storage<Item<AnyRange<K>, V>>> RangeM
             (R.range range)) }
         ensures kept { OnOk result
             (StandOrMerge K.order V.eq (C.items self.old) (C.items self.new) (R.range range)) }
+        ensures spelled { OnOk result
+            (KeepsSpelling K.order (C.items self.old) (C.items self.new)) }
         ensures form { IsStored K.order V.eq (C.items self.new) }
         ensures coarse { IsComplete K.order → IsCoarse K.order V.eq (C.items self.new) }
         ensures only { IsComplete K.order → IsOnlyCoarse K.order V.eq (C.items self.new) }

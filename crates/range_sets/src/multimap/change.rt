@@ -6,6 +6,7 @@ ghost use Rattle.range_algebra.specs.Range.{ClonesAreEqual, Holds, IsEmptyRange}
 ghost use Rattle.range_map.specs.Answers.{IsAsAnswered};
 ghost use Rattle.range_map.specs.Bindings.{IsCoarse, IsOnlyCoarse};
 ghost use Rattle.range_map.specs.Frames.{GaveWay};
+ghost use Rattle.range_map.specs.Spelling.{KeepsSpelling};
 ghost use Rattle.range_map.specs.Stored.{IsStored};
 ghost use Rattle.range_sets.specs.Members.{HasAlso, HasAllBut, among};
 ghost use Rattle.range_sets.specs.Pairs.{HasNoEmptySet, HasPair, HasPairsAlso, HasPairsWithout, StayBound};
@@ -83,12 +84,13 @@ impl<K: Measure + Clone, S: MaybeEmpty, C: Storage<Item<AnyRange<K>, S>>> RangeM
     /// Pairs each key of the range with the value.
     ///
     /// Each key that has an equal value already keeps its set, and so does each key outside the
-    /// range. A stored range that the range neither meets nor touches stands as it was. An empty
-    /// range changes nothing. Allocates for a copy of each set that the range meets, for a clone of
-    /// the value in each set that it joins, for clones of bounds, and where more ranges are stored
-    /// than the container has capacity for; after an error nothing is changed. Costs one search, a
-    /// step for each stored range that the range meets or touches, and the copies: `n` values that
-    /// are given to one range one by one copy `n * n / 2` values in all.
+    /// range. A stored range that the range neither meets nor touches stands as it was, and a bound
+    /// that lies where a stored range had one stays as it was written. An empty range changes
+    /// nothing. Allocates for a copy of each set that the range meets, for a clone of the value in
+    /// each set that it joins, for clones of bounds, and where more ranges are stored than the
+    /// container has capacity for; after an error nothing is changed. Costs one search, a step for
+    /// each stored range that the range meets or touches, and the copies: `n` values that are given
+    /// to one range one by one copy `n * n / 2` values in all.
     ///
     /// ```
     /// classes.insert('0'..='9', 1)?; // digits
@@ -114,6 +116,8 @@ impl<K: Measure + Clone, S: MaybeEmpty, C: Storage<Item<AnyRange<K>, S>>> RangeM
         ensures frame { OnOk result (¬ IsEmptyRange K.order (R.range range)
             → GaveWay K.order S.eq (C.items self.old) (C.items self.new) (R.range range)
             (λ s. IsTrue (S.has s value))) }
+        ensures spelled { OnOk result
+            (KeepsSpelling K.order (C.items self.old) (C.items self.new)) }
         ensures form { IsStored K.order S.eq (C.items self.new) }
         ensures nonempty { HasNoEmptySet S.is_void (C.items self.new) }
         ensures coarse { IsComplete K.order → IsCoarse K.order S.eq (C.items self.new) }
@@ -144,10 +148,11 @@ impl<K: Measure + Clone, S: MaybeEmpty, C: Storage<Item<AnyRange<K>, S>>> RangeM
     ///
     /// A key without a value left is bound no more; each key that has no equal value keeps its set,
     /// and so does each key outside the range. A stored range that the range neither meets nor
-    /// touches stands as it was. An empty range changes nothing. Allocates for a copy of each set
-    /// that the range meets, for clones of bounds, and where more ranges are stored than the
-    /// container has capacity for; after an error nothing is changed. Costs one search, a step for
-    /// each stored range that the range meets or touches, and the copies.
+    /// touches stands as it was, and a bound that lies where a stored range had one stays as it was
+    /// written. An empty range changes nothing. Allocates for a copy of each set that the range
+    /// meets, for clones of bounds, and where more ranges are stored than the container has
+    /// capacity for; after an error nothing is changed. Costs one search, a step for each stored
+    /// range that the range meets or touches, and the copies.
     ///
     /// ```
     /// classes.remove('0'..='z', &1)?;
@@ -172,6 +177,8 @@ impl<K: Measure + Clone, S: MaybeEmpty, C: Storage<Item<AnyRange<K>, S>>> RangeM
         ensures frame { OnOk result (¬ IsEmptyRange K.order (R.range range)
             → GaveWay K.order S.eq (C.items self.old) (C.items self.new) (R.range range)
             (λ s. ¬ IsTrue (S.has s value.now))) }
+        ensures spelled { OnOk result
+            (KeepsSpelling K.order (C.items self.old) (C.items self.new)) }
         ensures form { IsStored K.order S.eq (C.items self.new) }
         ensures nonempty { HasNoEmptySet S.is_void (C.items self.new) }
         ensures coarse { IsComplete K.order → IsCoarse K.order S.eq (C.items self.new) }

@@ -7,7 +7,7 @@ use Rattle.range_algebra.specs.declared.any.AnyRange.{AnyRange}
 use Rattle.range_store.specs.declared.storage.Item.{Item}
 use Rattle.range_store.specs.Places.{place_before}
 use Rattle.range_map.specs.Answers.{MayBeAsked}
-use Rattle.range_map.proofs.Asked.{asked_good, asked_key_full, met_holds, met_nonempty, met_fails, met_is_underway, last_fails, all_gathered}
+use Rattle.range_map.proofs.Asked.{asked_good, asked_key_full, met_holds, met_nonempty, met_fails, met_is_underway, met_keeps_spelling, last_fails, all_gathered, all_keep_spelling}
 use Rattle.range_map.proofs.Gathering.{underway_none}
 use Rattle.range_map.proofs.Results.{error_has_no_value}
 use Rattle.range_map.proofs.change.pieces.gather.Goals as goal
@@ -23,6 +23,7 @@ loop-met-init g c =
     record {
       position = rw none window.position;
       last_is = refl;
+      spelled = rw c.new-middle.ensures.items tt;
       underway =
           λ lawful equal before h.
           rw (none, h, c.new-middle.ensures.items)
@@ -79,6 +80,7 @@ returns-in_err-ask_item g c =
     let was = c.loop-met.invariant.underway lawful equal before c.key_at-before.ensures in
     record {
       ok = error_has_no_value _ c.from_residual.result c.from_residual.ensures.0;
+      spelled = error_has_no_value _ c.from_residual.result c.from_residual.ensures.0;
       closure =
           λ e failed.
           met_fails lawful equal c.requires.window c.loop-met._met x more read before was e
@@ -109,6 +111,13 @@ loop-met-preserved g c =
     record {
       position = rw next at c.next-at.ensures;
       last_is = (here.0, next, omega arith);
+      spelled =
+          let lawful = g.met.K.PartialEnum.lawful in
+          let equal = g.met.V.Eq.laws in
+          met_keeps_spelling lawful equal c.requires.window met x more read before
+          (c.loop-met.invariant.underway lawful equal before c.key_at-before.ensures)
+          g.K.Clone.is_clone (bound_clone order lawful g.K.Clone.is_clone equal_keys)
+          c.ask_item.new.items.items c.loop-met.invariant.spelled c.in_ok-ask_item.ensures.ok;
       underway = λ lawful equal key h.
           let was = c.loop-met.invariant.underway lawful equal before c.key_at-before.ensures in
           let is =
@@ -146,6 +155,9 @@ returns-in_err-ask_gap g c =
       ok =
           error_has_no_value _ c.from_residual-in_err-ask_gap.result
           c.from_residual-in_err-ask_gap.ensures.0;
+      spelled =
+          error_has_no_value _ c.from_residual-in_err-ask_gap.result
+          c.from_residual-in_err-ask_gap.ensures.0;
       closure =
           λ e failed. last_fails lawful equal c.requires.window before was e
           (c.ask_gap.ensures.closure e (grind (arith, common_steps)));
@@ -168,6 +180,10 @@ returns g c =
       ok =
           all_gathered lawful equal c.requires.window before was g.K.Clone.is_clone clones
           c.ask_gap.new.items.items c.in_ok-ask_gap.ensures.ok;
+      spelled =
+          all_keep_spelling lawful equal c.requires.window before was g.K.Clone.is_clone clones
+          c.ask_gap.new.items.items c.loop-met.invariant.spelled
+          c.in_ok-ask_gap.ensures.ok;
       closure = λ e failed. absurd (cc);
     }
 

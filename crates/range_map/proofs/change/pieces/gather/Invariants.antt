@@ -4,6 +4,7 @@ use Rattle.range_keys.specs.Order.{IsLawful}
 use Rattle.range_algebra.specs.declared.any.AnyRange.{AnyRange}
 use Rattle.range_store.specs.Places.{place_before, IsAt}
 use Rattle.range_map.specs.Asking.{gap_lower, IsKeyAt}
+use Rattle.range_map.specs.Spelling.{KeepsSpelling}
 use Rattle.range_map.specs.Window.{IsLastOf}
 use Rattle.range_map.proofs.Gathering.{IsUnderway}
 use Rattle.range_map.proofs.change.pieces.gather.Given as goal
@@ -18,6 +19,7 @@ invariant-loop-met g l =
       position : IsAt (storage.is_good l.stored) (storage.rank l.stored) (length items) l.at
           (place + l._met);
       last_is : IsLastOf (storage.is_good l.stored) (storage.rank l.stored) l.last place l._met;
+      spelled : KeepsSpelling order items l.middle.items;
       underway : (lawful : IsLawful order) (equal : IsEquivalence g.V.PartialEq.eq)
           (before : Option (AnyRange g.row.K.Denot))
           → IsKeyAt (storage.rank l.stored) items l.last before

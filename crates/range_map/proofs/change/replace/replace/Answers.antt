@@ -9,6 +9,7 @@ use Rattle.range_map.proofs.Planned.{plan_fits}
 use Rattle.range_map.proofs.Replaced.{IsReplacement, plans_replacement, replacement_is_made}
 use Rattle.range_map.proofs.Results.{error_has_no_value, on_error}
 use Rattle.range_map.proofs.Seaming.{seam_count}
+use Rattle.range_map.proofs.SpelledChanges.{replaced_keeps_spelling}
 use Rattle.range_map.proofs.Surrounded.{run_can_start}
 use Rattle.range_map.proofs.change.replace.replace.Given.{Over}
 use Rattle.range_map.proofs.change.replace.replace.Goals.{After-run_start}
@@ -151,6 +152,11 @@ returns g c =
           reach.first reach.last edge behind c.run_start.result window.stored c.requires.middle
           window.known (all_meet lawful equal window) left right
           (rw c.reserve.ensures.list at done);
+      spelled =
+          replaced_keeps_spelling lawful equal window.stored c.requires.reach joined other
+          (g.C.Storage.items c.change_to.new.stored) c.args.middle.items left.at left.begin
+          right.upto right.end left.rest right.rest left.start right.finish left.shape left.begins
+          right.shape right.in_range (rw c.reserve.ensures.list at done);
       refused = tt;
     }
 
@@ -166,5 +172,6 @@ pub returns-in_err-reserve : goal.returns-in_err-reserve
 returns-in_err-reserve g c =
     record {
       ok = error_has_no_value _ c.from_residual.result c.from_residual.ensures.0;
+      spelled = λ kept. error_has_no_value _ c.from_residual.result c.from_residual.ensures.0;
       refused = on_error _ c.from_residual.result c.reserve.ensures.list;
     }

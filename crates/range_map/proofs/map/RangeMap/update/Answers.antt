@@ -9,6 +9,7 @@ use Rattle.range_map.proofs.Likeness.{clone_empty, updated_too, fails_too}
 use Rattle.range_map.specs.Frames.{StandOrMerge}
 use Rattle.range_map.specs.Rebinding.{AreRebound}
 use Rattle.range_map.proofs.Merging.{unchanged_stands}
+use Rattle.range_map.proofs.SpelledChanges.{list_keeps_spelling}
 use Rattle.range_map.proofs.Updating.{updated_stands}
 use Rattle.range_map.proofs.Rebinding.{update_rebinds, none_rebound}
 use Rattle.range_map.proofs.StoredLists.{stored_coarse, stored_only}
@@ -82,6 +83,7 @@ returns g c =
           (λ h. updated_stands order same g.met.V.Eq.laws g.F.Fn c.args.f items new r
           (updated_too order lawful r s start end same g.F.Fn c.args.f items new h))
           c.update_pieces.ensures.ok);
+      spelled = rw (← c.self.view_is) c.update_pieces.ensures.spelled;
       form = c.update_pieces.ensures.form;
       coarse =
           λ complete.
@@ -115,6 +117,7 @@ returns-then-is_empty g c =
       kept =
           unchanged_stands g.K.MaybeBounded.order g.V.PartialEq.eq (g.R.AsRange.range c.args.range)
           (g.C.Storage.items c.args.self.now);
+      spelled = list_keeps_spelling g.met.K.PartialEnum.lawful g.met.V.Eq.laws c.in_form.ensures;
       form = c.in_form.ensures;
       coarse =
           λ complete.
@@ -136,6 +139,7 @@ returns-in_err-range g c =
       updated = error_has_no_value _ c.from_residual.result c.from_residual.ensures.0;
       rebound = error_has_no_value _ c.from_residual.result c.from_residual.ensures.0;
       kept = error_has_no_value _ c.from_residual.result c.from_residual.ensures.0;
+      spelled = error_has_no_value _ c.from_residual.result c.from_residual.ensures.0;
       form = c.in_form.ensures;
       coarse =
           λ complete.

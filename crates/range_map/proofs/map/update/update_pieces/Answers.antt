@@ -14,6 +14,7 @@ returns g c =
           (storage.items c.args.stored.now)
           (storage.items c.replace.new.stored) c.args.range c.in_ok-middle.middle.items
           c.in_ok-middle.ensures.ok c.in_ok-replace.ensures.ok;
+      spelled = c.in_ok-replace.ensures.spelled c.in_ok-middle.ensures.spelled;
       form = c.in_ok-replace.ensures.ok.stored;
       closure = λ e failed. absurd (cc);
       refused = tt;
@@ -36,6 +37,7 @@ pub returns-in-Some : goal.returns-in-Some
 returns-in-Some g c =
     record {
       ok = c.update_within.ensures.ok;
+      spelled = c.update_within.ensures.spelled;
       form = c.update_within.ensures.form;
       closure = c.update_within.ensures.closure;
       refused = c.update_within.ensures.refused;
@@ -45,6 +47,7 @@ pub returns-in_err-middle : goal.returns-in_err-middle
 returns-in_err-middle g c =
     record {
       ok = error_has_no_value _ c.from_residual.result c.from_residual.ensures.0;
+      spelled = error_has_no_value _ c.from_residual.result c.from_residual.ensures.0;
       form = c.requires.stored;
       closure = grind (arith, common_steps);
       refused = on_error _ c.from_residual.result refl;
@@ -54,6 +57,9 @@ pub returns-in_err-replace : goal.returns-in_err-replace
 returns-in_err-replace g c =
     record {
       ok =
+          error_has_no_value _ c.from_residual-in_err-replace.result
+          c.from_residual-in_err-replace.ensures.0;
+      spelled =
           error_has_no_value _ c.from_residual-in_err-replace.result
           c.from_residual-in_err-replace.ensures.0;
       form = rw c.in_err-replace.ensures.refused c.requires.stored;

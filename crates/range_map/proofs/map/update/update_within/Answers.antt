@@ -3,6 +3,7 @@ use Rattle.std.proofs.Common.{rules, refl, arith, Some, None, Ok, Err}
 use Rattle.range_map.specs.Answers.{MayAnswer}
 use Rattle.range_map.proofs.Results.{error_has_no_value, on_error}
 use Rattle.range_map.proofs.Surrounded.{alone, piece, answer_is_to_piece}
+use Rattle.range_map.proofs.SpelledChanges.{inserted_keeps_spelling, removed_keeps_spelling}
 use Rattle.range_map.proofs.Updating.{by_insertion, by_removal}
 use Rattle.range_map.proofs.map.update.update_within.Goals as goal
 
@@ -22,6 +23,9 @@ returns-in_ok-bind_within-in-Ok-Some g c =
           (storage.items c.bind_within.new.stored) c.args.range x.value v
           (alone lawful equal c.requires.within x c.get.ensures)
           (answer_is_to_piece lawful equal c.requires.within x c.get.ensures (Some v)) says done;
+      spelled =
+          inserted_keeps_spelling lawful equal c.requires.within.window.stored c.requires.within x
+          c.get.ensures done;
       form = done.stored;
       closure = λ e failed. absurd (cc);
       refused = tt;
@@ -41,6 +45,9 @@ returns-in_ok-unbind_within-in-Ok-None g c =
           (storage.items c.unbind_within.new.stored) c.args.range x.value
           (answer_is_to_piece g.met.K.PartialEnum.lawful equal c.requires.within x c.get.ensures
           None) says done;
+      spelled =
+          removed_keeps_spelling g.met.K.PartialEnum.lawful equal c.requires.within.window.stored
+          c.requires.within x c.get.ensures done;
       form = done.stored;
       closure = λ e failed. absurd (cc);
       refused = tt;
@@ -51,6 +58,7 @@ returns-in-Err g c =
     let x = c.get.result.now in
     record {
       ok = tt;
+      spelled = tt;
       form = c.requires.within.window.stored;
       closure = λ e failed.
           let says : MayAnswer g.F.Fn c.args.f.now (Some x.value) (Err e) = search rules in
@@ -68,6 +76,7 @@ pub returns-in_err-bind_within-in-Ok-Some : goal.returns-in_err-bind_within-in-O
 returns-in_err-bind_within-in-Ok-Some g c =
     record {
       ok = error_has_no_value _ c.from_residual.result c.from_residual.ensures.0;
+      spelled = error_has_no_value _ c.from_residual.result c.from_residual.ensures.0;
       form = rw c.in_err-bind_within-in-Ok-Some.ensures.refused c.requires.within.window.stored;
       closure = grind (arith, common_steps);
       refused = on_error _ c.from_residual.result c.in_err-bind_within-in-Ok-Some.ensures.refused;
@@ -77,6 +86,9 @@ pub returns-in_err-unbind_within-in-Ok-None : goal.returns-in_err-unbind_within-
 returns-in_err-unbind_within-in-Ok-None g c =
     record {
       ok =
+          error_has_no_value _ c.from_residual-in_err-unbind_within-in-Ok-None.result
+          c.from_residual-in_err-unbind_within-in-Ok-None.ensures.0;
+      spelled =
           error_has_no_value _ c.from_residual-in_err-unbind_within-in-Ok-None.result
           c.from_residual-in_err-unbind_within-in-Ok-None.ensures.0;
       form = rw c.in_err-unbind_within-in-Ok-None.ensures.refused c.requires.within.window.stored;

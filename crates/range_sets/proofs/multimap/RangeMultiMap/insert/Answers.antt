@@ -66,6 +66,11 @@ returns-clause-frame g c =
     g.met.V.Eq.laws value _ answer s m.says.1.0)
     items next (g.R.AsRange.range c.args.range) (done nonempty))
 
+pub returns-clause-spelled : goal.returns-clause-spelled
+returns-clause-spelled g c =
+    rw (← c.self.view_is)
+    (not_refused c.update.result c.update.ensures.spelled c.in_default.not-Err)
+
 pub invariant_of-self-2 : goal.invariant_of-self-2
 invariant_of-self-2 g c =
     let done = c.update.ensures in
@@ -127,6 +132,9 @@ returns-in-Err-clause-others g c =
 
 pub returns-in-Err-clause-frame : goal.returns-in-Err-clause-frame
 returns-in-Err-clause-frame g c = tt
+
+pub returns-in-Err-clause-spelled : goal.returns-in-Err-clause-spelled
+returns-in-Err-clause-spelled g c = tt
 
 pub returns-in-Err-clause-form : goal.returns-in-Err-clause-form
 returns-in-Err-clause-form g c = c.update.ensures.form

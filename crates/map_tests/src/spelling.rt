@@ -1,0 +1,178 @@
+//! How an update leaves bounds written.
+
+use crate::support::{
+    Answers, NumberItem, Range, Table, between, check, closed, half_open, insert, new_map, update,
+};
+use range_map::map::{MapError, RangeMap};
+use range_store::storage::Storage;
+use std::alloc::Global;
+use std::cell::Cell;
+use std::ops::Bound;
+use std::test::Fail;
+
+/// A range with its value, as it is written.
+type Written = (Range, i64);
+
+/// What is stored, the range of an update with its answers, and what is stored then.
+#[derive(Clone, Copy)]
+struct Row<'a> {
+    stored: &'a [Written],
+    range: Range,
+    answers: Answers<'a>,
+    left: &'a [Written],
+}
+
+fn is_written(range: &Range, other: Range) -> bool {
+    range.start == other.start && range.end == other.end
+}
+
+/// Whether the map stores just these ranges, with these bounds.
+fn writes<C: Storage<NumberItem>>(map: &RangeMap<i32, i64, C>, rows: &[Written]) -> bool {
+    let mut stored = map.iter();
+    for (other, expected) in rows {
+        match stored.next() {
+            Some((range, value)) if is_written(range, *other) && *value == *expected => (),
+            _ => return false,
+        }
+    }
+    stored.next().is_none()
+}
+
+/// Updates that are each played on a new map.
+#[derive(Clone, Copy)]
+struct Updates<'a>(&'a [Row<'a>]);
+
+impl<'a> Table<NumberItem> for Updates<'a> {
+    fn first_wrong<C: Storage<NumberItem>>(
+        &self,
+        alloc: Global,
+    ) -> Result<Option<usize>, MapError> {
+        for (index, row) in self.0.iter().enumerate() {
+            let mut map = new_map::<C>(alloc);
+            for (range, value) in row.stored {
+                insert(&mut map, *range, *value)?;
+            }
+            let done = update(&mut map, row.range, row.answers, &Cell::new((0, 0)));
+            if done.is_err() || !writes(&map, row.left) {
+                return Ok(Some(index));
+            }
+        }
+        Ok(None)
+    }
+}
+
+#[test]
+fn what_stands_keeps_its_bounds(rt: HostRuntime) -> Result<(), Fail> {
+    let open_at_minus_one = between(Bound::Excluded(-1), Bound::Included(9));
+    let up_to_ten = between(Bound::Unbounded, Bound::Excluded(10));
+    let rows = [
+        Row {
+            stored: &[(half_open(0, 10), 1)],
+            range: closed(0, 9),
+            answers: &[],
+            left: &[(half_open(0, 10), 1)],
+        },
+        Row {
+            stored: &[(half_open(0, 10), 1), (closed(12, 14), 2)],
+            range: closed(-5, 20),
+            answers: &[],
+            left: &[(half_open(0, 10), 1), (closed(12, 14), 2)],
+        },
+        Row {
+            stored: &[(open_at_minus_one, 1)],
+            range: half_open(0, 10),
+            answers: &[],
+            left: &[(open_at_minus_one, 1)],
+        },
+        Row {
+            stored: &[(up_to_ten, 1)],
+            range: closed(i32::MIN, 9),
+            answers: &[],
+            left: &[(up_to_ten, 1)],
+        },
+    ];
+    check(&rt, rt.alloc(), &Updates(&rows))
+}
+
+#[test]
+fn what_is_bound_anew_keeps_its_bounds(rt: HostRuntime) -> Result<(), Fail> {
+    let behind_five = between(Bound::Excluded(5), Bound::Excluded(10));
+    let rows = [
+        Row {
+            stored: &[(closed(0, 9), 1)],
+            range: half_open(0, 10),
+            answers: &[(Some(1), Ok(Some(2)))],
+            left: &[(closed(0, 9), 2)],
+        },
+        Row {
+            stored: &[(half_open(0, 10), 1)],
+            range: closed(5, 9),
+            answers: &[(Some(1), Ok(Some(2)))],
+            left: &[(half_open(0, 5), 1), (half_open(5, 10), 2)],
+        },
+        Row {
+            stored: &[(half_open(0, 10), 1)],
+            range: closed(3, 5),
+            answers: &[(Some(1), Ok(Some(2)))],
+            left: &[(half_open(0, 3), 1), (closed(3, 5), 2), (behind_five, 1)],
+        },
+        Row {
+            stored: &[(half_open(0, 10), 1), (closed(10, 19), 2)],
+            range: half_open(10, 20),
+            answers: &[(Some(2), Ok(Some(1)))],
+            left: &[(closed(0, 19), 1)],
+        },
+        Row {
+            stored: &[(half_open(0, 10), 1), (half_open(20, 30), 2)],
+            range: closed(0, 29),
+            answers: &[(None, Ok(Some(1)))],
+            left: &[(half_open(0, 20), 1), (half_open(20, 30), 2)],
+        },
+    ];
+    check(&rt, rt.alloc(), &Updates(&rows))
+}
+
+/// The first half of ten keys.
+fn first_half(number: u8) -> Range {
+    let first = 10 * i32::from(number);
+    half_open(first, first + 5)
+}
+
+/// So many ranges, of which an update of all with the values that it is shown rewrites none.
+#[derive(Clone, Copy)]
+struct Many(u8);
+
+impl Table<NumberItem> for Many {
+    fn first_wrong<C: Storage<NumberItem>>(
+        &self,
+        alloc: Global,
+    ) -> Result<Option<usize>, MapError> {
+        let mut map = new_map::<C>(alloc);
+        for number in 0..self.0 {
+            insert(&mut map, first_half(number), i64::from(number))?;
+        }
+        let range = closed(0, 10 * i32::from(self.0) - 6);
+        let done = update(&mut map, range, &[], &Cell::new((0, 0)));
+        let mut stored = map.iter();
+        for number in 0..self.0 {
+            match stored.next() {
+                Some((range, _)) if is_written(range, first_half(number)) => (),
+                _ => return Ok(Some(usize::from(number))),
+            }
+        }
+        Ok(if done.is_ok() && stored.next().is_none() {
+            None
+        } else {
+            Some(0)
+        })
+    }
+}
+
+/// Over trees of one, of two and of three levels.
+#[test]
+fn many_ranges_keep_their_bounds(rt: HostRuntime) -> Result<(), Fail> {
+    let alloc = rt.alloc();
+    check(&rt, alloc, &Many(3))?;
+    check(&rt, alloc, &Many(30))?;
+    check(&rt, alloc, &Many(120))
+}
