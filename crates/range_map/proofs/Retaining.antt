@@ -198,11 +198,11 @@ module _ {X F : Type 0} (R : F → X → Bool → F → Type 0) (old : List X) (
             ∙ length-append (items_where_true was.bs was.done) (items_where_true (b ∷ []) (x ∷ []))
             ∙ ap (λ n. n + length (items_where_true (b ∷ []) (x ∷ []))) was.size;
         answers = omega (
-            arith,
-            was.answers,
-            length_push was.bs b,
-            length_push was.done x,
-          );
+          arith,
+          was.answers,
+          length_push was.bs b,
+          length_push was.done x,
+        );
         told = told_more R start f g was.bs b was.done x was.answers was.told one;
       }
 
@@ -245,8 +245,7 @@ module _ {X F : Type 0} (R : F → X → Bool → F → Type 0) (old : List X) (
       let kept = items_where_true was.bs was.done in
       let none = no_rest kept was.rest
       (omega (arith, end, was.size, ap length was.left)) in
-      let all : old ≡ was.done = was.whole ∙ ap (λ xs. was.done ++ xs) none ∙ append-nil was.done in
-      (
+      let all : old ≡ was.done = was.whole ∙ ap (λ xs. was.done ++ xs) none ∙ append-nil was.done in (
         was.bs,
         f,
         was.answers ∙ ap length (sym all),

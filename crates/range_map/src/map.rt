@@ -11,7 +11,6 @@ mod clear;
 mod clone;
 mod compare;
 mod ends;
-mod extend;
 mod gaps;
 mod insert;
 mod insert_disconnected;
@@ -37,7 +36,6 @@ pub use gaps::Gaps;
 pub use into_iter::IntoIter;
 pub use iter::Iter;
 pub use levels::one_level_is_greatest;
-pub use try_insert::NotFree;
 use range_algebra::any::AnyRange;
 use range_keys::bound::Directed;
 use range_keys::traits::PartialEnum;
@@ -45,6 +43,7 @@ use range_store::storage::{Item, Steps, Storage};
 use std::alloc::Global;
 use std::marker::{Model, PhantomData};
 use std::ops::Bound;
+pub use try_insert::NotFree;
 
 /// A map that binds the keys of ranges to values.
 ///

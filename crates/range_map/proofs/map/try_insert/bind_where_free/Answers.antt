@@ -17,8 +17,7 @@ returns-in-Ok-clause-occupied g c =
     let none : c.find_window-window.result.count ≡ 0 = omega (arith, c.if-window-gt0.false) in
     let unmet =
     none_meets g.met.K.PartialEnum.lawful g.met.V.Eq.laws
-    c.find_window-window.ensures.window none in
-    (
+    c.find_window-window.ensures.window none in (
       λ e. absurd e,
       λ met.
           absurd (any_none (λ i. Overlap g.K.MaybeBounded.order i.key c.args.range) _ _ unmet
@@ -30,8 +29,7 @@ returns-in-Err-clause-occupied g c =
     let none : c.find_window-window.result.count ≡ 0 = omega (arith, c.if-window-gt0.false) in
     let unmet =
     none_meets g.met.K.PartialEnum.lawful g.met.V.Eq.laws
-    c.find_window-window.ensures.window none in
-    (
+    c.find_window-window.ensures.window none in (
       λ e. absurd e,
       λ met.
           absurd (any_none (λ i. Overlap g.K.MaybeBounded.order i.key c.args.range) _ _ unmet
