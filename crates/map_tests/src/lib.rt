@@ -2,8 +2,6 @@
 #![tactic(auto)]
 
 #[cfg(test)]
-mod bulk;
-#[cfg(test)]
 mod calls;
 #[cfg(test)]
 mod characters;

@@ -11,7 +11,6 @@ mod clear;
 mod clone;
 mod compare;
 mod ends;
-mod extend;
 mod gaps;
 mod gaps_within;
 mod insert;
