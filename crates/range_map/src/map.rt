@@ -11,6 +11,7 @@ mod clear;
 mod clone;
 mod compare;
 mod ends;
+mod extend;
 mod gaps;
 mod gaps_within;
 mod insert;

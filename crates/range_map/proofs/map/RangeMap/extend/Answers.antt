@@ -1,0 +1,62 @@
+use Rattle.std.proofs.Common.{◌∷◌, [], map, rules}
+use Rattle.std.proofs.lemmas.List.{map-append}
+use Rattle.range_map.specs.Extending.{item_of}
+use Rattle.range_map.proofs.Extending.{none_bound_after, one_bound_after}
+use Rattle.range_map.proofs.Results.{on_error}
+use Rattle.range_map.proofs.StoredLists.{stored_coarse, stored_only}
+use Rattle.range_map.proofs.map.RangeMap.extend.Goals as goal
+
+pub loop-range-init : goal.loop-range-init
+loop-range-init g c =
+    let ready =
+    c.requires.ends c.into_iter-range-iterator.result
+    c.into_iter-range-iterator.ensures.into_iter_gives in
+    record {
+      can = ready.0;
+      ends = ready.1;
+      bound = none_bound_after g.K.MaybeBounded.order g.V.PartialEq.eq
+          (g.C.Storage.items c.args.self.now);
+      form = c.in_form.ensures;
+    }
+
+pub loop-range-preserved : goal.loop-range-preserved
+loop-range-preserved g c =
+    let items = g.C.Storage.items in
+    let range = g.R.AsRange.range in
+    let was = c.loop-range.invariant in
+    let more =
+    one_bound_after g.K.MaybeBounded.order g.V.PartialEq.eq (items c.args.self.now)
+    (items c.loop-range.self)
+    (items c.insert.new.self) (map (item_of range) c.loop-range.yielded)
+    (range c.in-Some.range) c.in-Some.value was.bound c.in_ok-insert.ensures.bound in
+    record {
+      can = (c.in-Some.ensures.goes.on was.ends).0;
+      ends = (c.in-Some.ensures.goes.on was.ends).1;
+      bound =
+          rw (map-append (item_of range) c.loop-range.yielded
+          ((c.in-Some.range, c.in-Some.value) ∷ [])) more;
+      form = c.insert.ensures.form;
+    }
+
+pub returns-in_err-insert-clause-refused : goal.returns-in_err-insert-clause-refused
+returns-in_err-insert-clause-refused g c =
+    on_error _ c.from_residual.result (
+      c.into_iter-range-iterator.result,
+      c.loop-range.yielded,
+      (c.in-Some.range, c.in-Some.value),
+      c.next.new.self,
+      c.into_iter-range-iterator.ensures.into_iter_gives,
+      (c.loop-range.range-iterator, search rules, search rules),
+      λ empty. absurd (search (rules, c.insert.ensures.empty empty)),
+      rw c.in_err-insert.ensures.refused c.loop-range.invariant.bound,
+    )
+
+pub returns-clause-coarse : goal.returns-clause-coarse
+returns-clause-coarse g c complete =
+    stored_coarse g.K.MaybeBounded.order g.met.K.PartialEnum.lawful g.V.PartialEq.eq
+    g.met.V.Eq.laws complete (g.C.Storage.items c.loop-range.self) c.loop-range.invariant.form
+
+pub returns-clause-only : goal.returns-clause-only
+returns-clause-only g c complete =
+    stored_only g.K.MaybeBounded.order g.met.K.PartialEnum.lawful g.V.PartialEq.eq
+    g.met.V.Eq.laws complete (g.C.Storage.items c.loop-range.self) c.loop-range.invariant.form
