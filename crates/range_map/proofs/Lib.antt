@@ -16,6 +16,7 @@ pub mod Depths
 pub mod Dividing
 pub mod Edging
 pub mod Endings
+pub mod Extending
 pub mod Extents
 pub mod Filling
 pub mod Forms

@@ -8,6 +8,7 @@ pub mod Changes
 pub mod Costs
 pub mod Edges
 pub mod Edits
+pub mod Extending
 pub mod Frames
 pub mod FreeRanges
 pub mod Freeing

@@ -11,6 +11,7 @@ mod clear;
 mod clone;
 mod compare;
 mod ends;
+mod extend;
 mod gaps;
 mod insert;
 mod insert_disconnected;

@@ -1,0 +1,108 @@
+-- One item more that is bound after others.
+use Rattle.std.proofs.Common.{◌≡◌, ◌∙◌, refl, sym, ap, Bool, List, [], ◌∷◌, ◌++◌, ◌↔◌, ◌⊎◌, inl, inr, Option, subst}
+use Rattle.range_keys.specs.Order.{KeyOrder}
+use Rattle.range_algebra.specs.Range.{Holds}
+use Rattle.range_algebra.specs.declared.any.AnyRange.{AnyRange}
+use Rattle.range_store.specs.declared.storage.Item.{Item}
+use Rattle.range_map.specs.Bindings.{Binds, IsBound, IsBoundAfter, IsSomeOf}
+use Rattle.range_map.specs.Extending.{AreBoundAfter}
+
+-- where the last of a list stands, that is parted at an item
+record PartsBefore {X : Type 0} (xs front rest : List X) (x i : X) : Type 0 where
+  others : List X
+  behind : rest ≡ others ++ x ∷ []
+  before : xs ≡ front ++ i ∷ others
+
+last_or_before : {X : Type 0} (xs front rest : List X) (x i : X)
+    → xs ++ x ∷ [] ≡ front ++ i ∷ rest → ((rest ≡ []) × (x ≡ i)) ⊎ PartsBefore xs front rest x i
+last_or_before [] [] rest x i e = inl (cc, cc)
+last_or_before [] (y ∷ []) rest x i e = absurd (cc)
+last_or_before [] (y ∷ z ∷ front) rest x i e = absurd (cc)
+last_or_before (y ∷ xs) [] rest x i e =
+    inr (record { others = xs; behind = cc; before = cc })
+last_or_before (y ∷ xs) (z ∷ front) rest x i e =
+    let first : y ≡ z = cc in
+    let tail : xs ++ x ∷ [] ≡ front ++ i ∷ rest = cc in
+    elim (last_or_before xs front rest x i tail) [
+      | inl h ↦ inl h
+      | inr h ↦
+          inr (record {
+            others = h.others;
+            behind = h.behind;
+            before = ap (λ ys. y ∷ ys) h.before ∙ ap (λ w. w ∷ front ++ i ∷ h.others) first;
+          })
+    ]
+
+module _ {K : Type 0} (order : KeyOrder K) {V : Type 0} where
+  bound_left : (xs ys : List (Item (AnyRange K) V)) (k : K) → IsBound order xs k
+      → IsBound order (xs ++ ys) k
+  bound_left [] ys k h = absurd h
+  bound_left (x ∷ xs) ys k (inl h) = inl h
+  bound_left (x ∷ xs) ys k (inr h) = inr (bound_left xs ys k h)
+
+  bound_right : (xs ys : List (Item (AnyRange K) V)) (k : K) → IsBound order ys k
+      → IsBound order (xs ++ ys) k
+  bound_right [] ys k h = h
+  bound_right (x ∷ xs) ys k h = inr (bound_right xs ys k h)
+
+  module _ (same : V → V → Bool) where
+    -- no item binds nothing
+    pub none_bound_after : (items : List (Item (AnyRange K) V))
+        → AreBoundAfter order same items items []
+    none_bound_after items =
+        record {
+          held = λ front rest i e. absurd (no_item front rest i e);
+          others = λ k key unheld b. (λ h. h, λ h. h);
+        }
+      where
+        no_item : (front rest : List (Item (AnyRange K) V)) (i : Item (AnyRange K) V)
+            → [] ≡ front ++ i ∷ rest → ⊥
+        no_item [] rest i e = absurd (cc)
+        no_item (j ∷ front) rest i e = absurd (cc)
+
+    module _ (before now after items : List (Item (AnyRange K) V)) (r : AnyRange K) (v : V)
+        (was : AreBoundAfter order same before now items)
+        (one : IsBoundAfter order same now after r v) where
+      abbrev last : Item (AnyRange K) V
+      last = record { key = r; value = v }
+
+      last_binds : (i : Item (AnyRange K) V) (k : K) → order.is_key k → last ≡ i
+          → Holds order i.key k → (b : Option V) → Binds order same after k b
+          ↔ IsSomeOf order same i.value b
+      last_binds i k key is holds b =
+          subst (λ (j : Item (AnyRange K) V). Binds order same after k b
+          ↔ IsSomeOf order same j.value b) is
+          (one.held k key
+          (subst (λ (j : Item (AnyRange K) V). Holds order j.key k) (sym is) holds) b)
+
+      earlier_binds : (front rest : List (Item (AnyRange K) V)) (i : Item (AnyRange K) V) (k : K)
+          → order.is_key k → PartsBefore items front rest last i → Holds order i.key k
+          → (IsBound order rest k → ⊥) → (b : Option V) → Binds order same after k b
+          ↔ IsSomeOf order same i.value b
+      earlier_binds front rest i k key parts holds unheld b =
+          let others = parts.others in
+          let none : IsBound order (others ++ last ∷ []) k → ⊥ =
+          λ h. unheld (rw parts.behind h) in
+          let own =
+          one.others k key (λ h. none (bound_right others (last ∷ []) k (inl h))) b in
+          let old =
+          was.held front others i parts.before k key holds
+          (λ h. none (bound_left others (last ∷ []) k h)) b in
+          (λ h. old.0 (own.0 h), λ h. own.1 (old.1 h))
+
+      -- one more is bound after the others
+      pub one_bound_after : AreBoundAfter order same before after
+          (items ++ record { key = r; value = v } ∷ [])
+      one_bound_after =
+          record {
+            held = λ front rest i e k key holds unheld b.
+                elim (last_or_before items front rest last i e) [
+                  | inl h ↦ last_binds i k key h.1 holds b
+                  | inr h ↦ earlier_binds front rest i k key h holds unheld b
+                ];
+            others = λ k key unheld b.
+                let own =
+                one.others k key (λ h. unheld (bound_right items (last ∷ []) k (inl h))) b in
+                let old = was.others k key (λ h. unheld (bound_left items (last ∷ []) k h)) b in
+                (λ h. old.0 (own.0 h), λ h. own.1 (old.1 h));
+          }

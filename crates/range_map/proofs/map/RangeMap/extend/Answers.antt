@@ -1,0 +1,37 @@
+use Rattle.std.proofs.Common.{◌∷◌, [], map, rules}
+use Rattle.std.proofs.lemmas.List.{map-append}
+use Rattle.range_map.specs.Extending.{item_of}
+use Rattle.range_map.proofs.Extending.{none_bound_after, one_bound_after}
+use Rattle.range_map.proofs.map.RangeMap.extend.Goals as goal
+
+pub loop-range-init : goal.loop-range-init
+loop-range-init g c =
+    let ready =
+    c.requires.ends c.into_iter-range-iterator.result
+    c.into_iter-range-iterator.ensures.into_iter_gives in
+    record {
+      can = ready.0;
+      ends = ready.1;
+      bound = none_bound_after g.K.MaybeBounded.order g.V.PartialEq.eq
+          (g.C.Storage.items c.args.self.now);
+      form = c.in_form.ensures;
+    }
+
+pub loop-range-preserved : goal.loop-range-preserved
+loop-range-preserved g c =
+    let items = g.C.Storage.items in
+    let range = g.R.AsRange.range in
+    let was = c.loop-range.invariant in
+    let more =
+    one_bound_after g.K.MaybeBounded.order g.V.PartialEq.eq (items c.args.self.now)
+    (items c.loop-range.self)
+    (items c.insert.new.self) (map (item_of range) c.loop-range.yielded)
+    (range c.in-Some.range) c.in-Some.value was.bound c.in_ok-insert.ensures.bound in
+    record {
+      can = (c.in-Some.ensures.goes.on was.ends).0;
+      ends = (c.in-Some.ensures.goes.on was.ends).1;
+      bound =
+          rw (map-append (item_of range) c.loop-range.yielded
+          ((c.in-Some.range, c.in-Some.value) ∷ [])) more;
+      form = c.insert.ensures.form;
+    }

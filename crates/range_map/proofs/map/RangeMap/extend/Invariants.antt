@@ -1,0 +1,15 @@
+use Rattle.std.proofs.Common.{map}
+use Rattle.range_map.specs.Extending.{AreBoundAfter, item_of}
+use Rattle.range_map.specs.Stored.{IsStored}
+use Rattle.range_map.proofs.map.RangeMap.extend.Given as goal
+
+abbrev pub invariant-loop-range : goal.invariant-loop-range
+invariant-loop-range g l =
+    let items = g.C.Storage.items in
+    record {
+      can : (goal.iterator-loop-range g).can_next l.range-iterator;
+      ends : (goal.iterator-loop-range g).is_finite l.range-iterator;
+      bound : AreBoundAfter g.K.MaybeBounded.order g.V.PartialEq.eq (items l.initial.self)
+          (items l.self) (map (item_of g.R.AsRange.range) l.yielded);
+      form : IsStored g.K.MaybeBounded.order g.V.PartialEq.eq (items l.self);
+    }
