@@ -2,6 +2,7 @@ use Rattle.std.proofs.Common.{◌∷◌, [], map, rules}
 use Rattle.std.proofs.lemmas.List.{map-append}
 use Rattle.range_map.specs.Extending.{item_of}
 use Rattle.range_map.proofs.Extending.{none_bound_after, one_bound_after}
+use Rattle.range_map.proofs.StoredLists.{stored_coarse, stored_only}
 use Rattle.range_map.proofs.map.RangeMap.extend.Goals as goal
 
 pub loop-range-init : goal.loop-range-init
@@ -35,3 +36,16 @@ loop-range-preserved g c =
           ((c.in-Some.range, c.in-Some.value) ∷ [])) more;
       form = c.insert.ensures.form;
     }
+
+pub returns-in_err-insert-clause-refused : goal.returns-in_err-insert-clause-refused
+returns-in_err-insert-clause-refused g c = search rules
+
+pub returns-clause-coarse : goal.returns-clause-coarse
+returns-clause-coarse g c complete =
+    stored_coarse g.K.MaybeBounded.order g.met.K.PartialEnum.lawful g.V.PartialEq.eq
+    g.met.V.Eq.laws complete (g.C.Storage.items c.loop-range.self) c.loop-range.invariant.form
+
+pub returns-clause-only : goal.returns-clause-only
+returns-clause-only g c complete =
+    stored_only g.K.MaybeBounded.order g.met.K.PartialEnum.lawful g.V.PartialEq.eq
+    g.met.V.Eq.laws complete (g.C.Storage.items c.loop-range.self) c.loop-range.invariant.form
