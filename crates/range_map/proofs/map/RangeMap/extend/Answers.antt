@@ -2,6 +2,7 @@ use Rattle.std.proofs.Common.{◌∷◌, [], map, rules}
 use Rattle.std.proofs.lemmas.List.{map-append}
 use Rattle.range_map.specs.Extending.{item_of}
 use Rattle.range_map.proofs.Extending.{none_bound_after, one_bound_after}
+use Rattle.range_map.proofs.Results.{on_error}
 use Rattle.range_map.proofs.StoredLists.{stored_coarse, stored_only}
 use Rattle.range_map.proofs.map.RangeMap.extend.Goals as goal
 
@@ -38,7 +39,18 @@ loop-range-preserved g c =
     }
 
 pub returns-in_err-insert-clause-refused : goal.returns-in_err-insert-clause-refused
-returns-in_err-insert-clause-refused g c = search rules
+returns-in_err-insert-clause-refused g c =
+    on_error _ c.from_residual.result
+    (
+      c.into_iter-range-iterator.result,
+      c.loop-range.yielded,
+      (c.in-Some.range, c.in-Some.value),
+      c.next.new.self,
+      c.into_iter-range-iterator.ensures.into_iter_gives,
+      (c.loop-range.range-iterator, search rules, search rules),
+      λ empty. absurd (search (rules, c.insert.ensures.empty empty)),
+      rw c.in_err-insert.ensures.refused c.loop-range.invariant.bound,
+    )
 
 pub returns-clause-coarse : goal.returns-clause-coarse
 returns-clause-coarse g c complete =
