@@ -40,8 +40,7 @@ loop-range-preserved g c =
 
 pub returns-in_err-insert-clause-refused : goal.returns-in_err-insert-clause-refused
 returns-in_err-insert-clause-refused g c =
-    on_error _ c.from_residual.result
-    (
+    on_error _ c.from_residual.result (
       c.into_iter-range-iterator.result,
       c.loop-range.yielded,
       (c.in-Some.range, c.in-Some.value),
