@@ -69,6 +69,24 @@ fn popped_at_end<R: Abort, C: Storage<Entry>>(rt: &R, map: &mut Map<C>) {
     assert!(rt; map.pop_last().is_some() && map.is_empty());
 }
 
+fn cleared<R: Abort, C: Storage<Entry>>(rt: &R, map: &mut Map<C>) {
+    // of a map that binds 0..=5 to 1
+    map.clear();
+    assert!(rt; map.is_empty());
+}
+
+fn retained<R: Abort, C: Storage<Entry>>(rt: &R, map: &mut Map<C>) {
+    // of a map that binds 0..=5 to 1
+    map.retain(|_range, value| *value != 1);
+    assert!(rt; map.is_empty());
+}
+
+fn tried<R: Abort, C: Storage<Entry>>(rt: &R, map: &mut Map<C>) {
+    assert!(rt; map.try_insert(0..5, 1).is_ok());
+    assert!(rt; map.try_insert(5..9, 2).is_ok()); // it only touches 0..5
+    assert!(rt; map.try_insert(8..12, 3).is_err()); // 5..9 is in the way
+}
+
 fn measured<R: Abort, C: Storage<Entry>>(rt: &R, map: &Map<C>) {
     // of a map that binds 0..=5 to 1
     assert!(rt; !map.is_empty());
@@ -147,6 +165,9 @@ fn changed<R: Abort, C: Storage<Entry>>(rt: &R, alloc: Global) -> Result<(), Map
     updated(rt, &mut ones_over::<C>(alloc)?);
     popped(rt, &mut ones_over::<C>(alloc)?);
     popped_at_end(rt, &mut ones_over::<C>(alloc)?);
+    cleared(rt, &mut ones_over::<C>(alloc)?);
+    retained(rt, &mut ones_over::<C>(alloc)?);
+    tried(rt, &mut Map::<C>::new(alloc));
     bound_apart::<R, C>(rt, &mut generic::RangeMap::new(alloc));
     counted::<R, C>(rt, &mut generic::RangeMap::new(alloc))
 }
