@@ -202,6 +202,8 @@ impl Table<NumberItem> for Within {
         let range = half_open(at(first).wrapping_add(1), at(last).wrapping_add(1));
         let end = last.wrapping_add(1);
         Ok(first_false(&[
+            shows(&mut map.overlapping(range), first, end),
+            shows_back(&mut map.overlapping(range), first, end),
             shows_from_both_ends(&mut map.overlapping(range), first, end)?,
             shows_from_both_ends(
                 &mut map.iter_from(at(first).wrapping_add(1)),
@@ -229,7 +231,6 @@ impl Table<NumberItem> for Edges {
         let empty = half_open(8, 4);
         let gap = AnyRange::new(Excluded(1), Excluded(4));
         Ok(first_false(&[
-            shows_from_both_ends(&mut map.overlapping(full), 0, 60)?,
             is_done(&mut none.overlapping(full)) && is_done(&mut none.iter_from(0)),
             is_done(&mut map.overlapping(empty)) && map.pieces(&empty).next().is_none(),
             is_done(&mut map.overlapping(gap)) && is_done(&mut map.iter_from(240)),
@@ -246,6 +247,7 @@ impl Table<NumberItem> for Edges {
             )?,
             map.binds_all(empty) && !none.binds_all(full) && map.binds_all(numbered(59)),
             shows_from_both_ends(&mut map.iter_from(-1), 0, 60)?,
+            shows_from_both_ends(&mut map.overlapping(full), 0, 60)?,
         ]))
     }
 }
@@ -253,11 +255,11 @@ impl Table<NumberItem> for Edges {
 #[test]
 fn a_range_shows_what_it_meets(rt: HostRuntime) -> Result<(), Fail> {
     for (count, first, last) in [
-        (1, 0, 0),
+        (3, 1, 2),
         (2, 0, 1),
         (60, 0, 59),
         (400, 7, 391),
-        (400, 200, 200),
+        (400, 200, 201),
     ] {
         check(&rt, rt.alloc(), &Within { count, first, last })?;
     }
