@@ -124,7 +124,7 @@ impl Trial<i32> for Shown {
         D: Storage<Item<AnyRange<i32>, S>>,
     >(&self, alloc: Global) -> Result<Option<usize>, MapError> {
         let mut map: RangeMultiMap<i32, S, C> = RangeMultiMap::new(alloc);
-        let shown = shows(alloc, &mut map, "{0..5=>{1}5..=9=>{1, 2}}")?;
+        let shown = shows(alloc, &mut map, "{0..5=>{1}5..10=>{1, 2}}")?;
         Ok(wrong_unless(shown))
     }
 }
