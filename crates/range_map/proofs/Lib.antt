@@ -7,6 +7,8 @@ pub mod ChainSides
 pub mod Chains
 pub mod ClosureAnswers
 pub mod Coarse
+pub mod Combination
+pub mod Combining
 pub mod Copying
 pub mod Covering
 pub mod CutOut
@@ -18,6 +20,7 @@ pub mod Edging
 pub mod Endings
 pub mod Extents
 pub mod Filling
+pub mod FirstPieces
 pub mod Forms
 pub mod Found
 pub mod Framing

@@ -5,6 +5,7 @@ pub mod Asking
 pub mod Bindings
 pub mod Chains
 pub mod Changes
+pub mod Combining
 pub mod Costs
 pub mod Edges
 pub mod Edits
@@ -13,6 +14,7 @@ pub mod FreeRanges
 pub mod Iterating
 pub mod ListOrder
 pub mod Lookups
+pub mod Merged
 pub mod Neighbours
 pub mod Pieces
 pub mod Plans

@@ -4,6 +4,7 @@ pub(crate) mod apart;
 pub(crate) mod bind;
 pub(crate) mod cut;
 pub(crate) mod edges;
+pub(crate) mod merged;
 pub(crate) mod pieces;
 pub(crate) mod probe;
 pub(crate) mod reach;

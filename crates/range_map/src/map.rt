@@ -8,6 +8,7 @@ ghost use Rattle.range_map.specs.Bindings.{Binds, IsCoarse, IsItemFor, IsStoredF
 ghost use Rattle.range_map.specs.Iterating.{shown_item};
 
 mod clone;
+mod combine;
 mod compare;
 mod ends;
 mod gaps;
