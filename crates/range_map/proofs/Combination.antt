@@ -1,11 +1,10 @@
 -- A merged pass over two lists: what the answers so far make of both.
-use Rattle.std.proofs.Common.{◌≡◌, refl, sym, ap, subst, ◌∙◌, ◌↔◌, ◌⊎◌, inl, inr, Bool, true, Option, Some, None, Result, Ok, Err, List, [], ◌∷◌, ◌++◌, map}
+use Rattle.std.proofs.Common.{◌≡◌, refl, sym, ap, subst, ◌∙◌, ◌↔◌, ◌⊎◌, inl, inr, Bool, true, Option, Some, None, Result, Ok, List, [], ◌∷◌, ◌++◌, map}
 use Rattle.std.specs.Cmp.{IsEquivalence}
 use Rattle.std.specs.Fn.{Shared}
 use denote.Ref.{Bor}
 use Rattle.std.specs.declared.ops.Bound.{Bound}
 use Rattle.range_keys.specs.Order.{KeyOrder, IsLawful}
-use Rattle.range_keys.specs.Position.{position_cmp}
 use Rattle.range_keys.specs.PositionOrder.{position_total}
 use Rattle.range_keys.specs.declared.inner.position.Position.{Position}
 use Rattle.range_keys.specs.declared.inner.position.Position.TheVariants.{Beside}
@@ -22,9 +21,9 @@ use Rattle.range_store.specs.declared.storage.Item.{Item}
 use Rattle.range_map.specs.Answers.{Answered, IsAsAnswered}
 use Rattle.range_map.specs.Asking.{IsPut}
 use Rattle.range_map.specs.Bindings.{IsBound, Binds, BindsTo}
-use Rattle.range_map.specs.Combining.{MayBeAskedBoth, MayBeAskedOfBoth, Combined, IsConstantOn, IsSharedPart, IsCombinedAt, AreCombined, IsCombination}
+use Rattle.range_map.specs.Combining.{MayBeAskedBoth, MayBeAskedOfBoth, Combined, IsConstantOn, IsSharedPart, AreCombined, IsCombination}
 use Rattle.range_map.specs.FreeRanges.{full_range}
-use Rattle.range_map.specs.Merged.{IsPlaced, IsCutFrom, IsFirstPiece}
+use Rattle.range_map.specs.Merged.{IsCutFrom, IsFirstPiece}
 use Rattle.range_map.specs.Neighbours.{EachNext}
 use Rattle.range_map.specs.Pieces.{LiesIn}
 use Rattle.range_map.specs.Stored.{IsStored}
@@ -32,7 +31,7 @@ use Rattle.range_map.specs.Window.{option_items}
 use Rattle.range_map.proofs.Combining.{cmp, Lo, Hi, HoldsAt, Gives, Alike, IsLeftFrom, IsFirstOf, all_left, left_past, left_seen, constant_on}
 use Rattle.range_map.proofs.Cutting.{any_end, any_map, any_over, any_use, any_with, next_last}
 use Rattle.range_map.proofs.Filling.{IsFilledUpTo, filled_none, fill_more, Gives as GivesAnswer}
-use Rattle.range_map.proofs.Forms.{Known, Chained, Hold, before_is, nonempty_good, stored_known, stored_chain, chain_stored, binds_hold, bound_hold, respects_any}
+use Rattle.range_map.proofs.Forms.{Known, Hold, before_is, nonempty_good, stored_known, stored_chain, chain_stored, binds_hold, bound_hold}
 use Rattle.range_map.proofs.KeysTogether.{inside_holds}
 use Rattle.range_map.proofs.Meeting.{binding_meets}
 

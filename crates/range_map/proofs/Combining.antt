@@ -11,7 +11,7 @@ use Rattle.range_keys.specs.PositionOrder.{position_total}
 use Rattle.range_keys.specs.declared.inner.position.Position.{Position}
 use Rattle.range_algebra.specs.Cuts.{lower, upper}
 use Rattle.range_algebra.specs.Intervals.{Le, Lt, Any, Every}
-use Rattle.range_algebra.specs.Orders.{le_refl, lt_le, eq_le, eq_ge, le_trans, lt_not_le, cases, le_lt_trans, lt_le_trans}
+use Rattle.range_algebra.specs.Orders.{le_refl, lt_le, eq_le, eq_ge, le_trans, lt_not_le, cases, lt_le_trans}
 use Rattle.range_algebra.specs.Range.{IsKnownRange}
 use Rattle.range_algebra.specs.declared.any.AnyRange.{AnyRange}
 use Rattle.range_algebra.proofs.Lists.{any_none, every_left, every_weaker}
@@ -24,7 +24,7 @@ use Rattle.range_map.specs.Pieces.{LiesIn}
 use Rattle.range_map.specs.Stored.{IsStored, item_lower}
 use Rattle.range_map.specs.Window.{option_items}
 use Rattle.range_map.proofs.Chains.{chain_left, chain_above, chain_tail, follows_above, follows_like}
-use Rattle.range_map.proofs.Covering.{IsCovered, met_range_is_covered, chained_items_have_places}
+use Rattle.range_map.proofs.Covering.{met_range_is_covered, chained_items_have_places}
 use Rattle.range_map.proofs.Cutting.{any_with, any_over, lies_in}
 use Rattle.range_map.proofs.Forms.{Known, Chained, Hold, stored_chain, stored_known, chain_stored}
 

@@ -14,14 +14,14 @@ use Rattle.range_keys.specs.declared.inner.position.Position.{Position}
 use Rattle.range_algebra.specs.Compared.{inverted}
 use Rattle.range_algebra.specs.Cuts.{lower, upper, past}
 use Rattle.range_algebra.specs.Intervals.{Le, Lt}
-use Rattle.range_algebra.specs.Orders.{le_refl, eq_le, eq_ge, le_trans, lt_not_le, lt_le_trans, not_lt, both}
+use Rattle.range_algebra.specs.Orders.{eq_le, eq_ge, le_trans, lt_not_le, lt_le_trans, not_lt, both}
 use Rattle.range_algebra.specs.Range.{IsKnownBound}
 use Rattle.range_algebra.specs.References.{range_of}
 use denote.Ref.{Bor}
 use Rattle.range_algebra.specs.declared.any.AnyRange.{AnyRange}
 use Rattle.range_algebra.proofs.Places.{reaching_is_before_past, inverted_bound_is_past, turned_back, turned_known, unbounded_start, unbounded_end}
 use Rattle.range_store.specs.declared.storage.Item.{Item}
-use Rattle.range_map.specs.Merged.{IsPlaced, IsPartFrom, AreParts, IsSplitAt, IsCutFrom, IsPartPast, IsUsedUp, StartAlike, IsFirstPiece}
+use Rattle.range_map.specs.Merged.{IsPlaced, IsPartFrom, IsSplitAt, IsCutFrom, IsUsedUp, StartAlike, IsFirstPiece}
 
 pub greater_not_equal : Greater ≡ Equal → ⊥
 greater_not_equal e = cc

@@ -1,5 +1,5 @@
 -- Two lists of ranges in one pass over both: what the first ranges say of all.
-use Rattle.std.proofs.Common.{◌≡◌, refl, sym, ◌∙◌, ◌<◌, ◌↔◌, ◌⊎◌, inl, inr, Bool, true, Option, Some, None, List, [], ◌∷◌, ◌++◌, length, arith}
+use Rattle.std.proofs.Common.{◌≡◌, sym, ◌∙◌, ◌<◌, ◌↔◌, inl, inr, Bool, Option, Some, None, List, [], ◌∷◌, ◌++◌, length, arith}
 use Rattle.std.specs.Prelude.{MatchOption}
 use Rattle.std.specs.Option.{option_map}
 use denote.Ref.{Bor}
@@ -9,8 +9,8 @@ use Rattle.range_keys.specs.Position.{start_position, end_position, position_cmp
 use Rattle.range_keys.specs.PositionOrder.{position_total}
 use Rattle.range_keys.specs.declared.inner.position.Position.{Position}
 use Rattle.range_keys.proofs.Orderings.{not_greater}
-use Rattle.range_algebra.specs.Intervals.{Le, Lt, Any, Every}
-use Rattle.range_algebra.specs.Orders.{le_trans, lt_le, lt_not_le, le_lt_trans, lt_le_trans, not_lt}
+use Rattle.range_algebra.specs.Intervals.{Le, Any, Every}
+use Rattle.range_algebra.specs.Orders.{le_trans, lt_le, lt_not_le, lt_le_trans}
 use Rattle.range_algebra.specs.Range.{IsEmptyRange}
 use Rattle.range_algebra.specs.Relations.{LiesBefore}
 use Rattle.range_algebra.specs.declared.any.AnyRange.{AnyRange}

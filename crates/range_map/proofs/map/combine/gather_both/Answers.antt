@@ -1,11 +1,10 @@
-use Rattle.std.proofs.Common.{◌≡◌, ◌∙◌, sym, ap, ◌++◌, arith, rules, Some, None, [], Ok, Err}
-use Rattle.std.specs.Cmp.{IsEquivalence, Equal-is}
+use Rattle.std.proofs.Common.{◌∙◌, sym, ◌++◌, rules}
+use Rattle.std.specs.Cmp.{Equal-is}
 use Rattle.std.specs.Option.{option_copied, option_map}
-use Rattle.range_keys.specs.declared.inner.position.Position.{Position}
 use Rattle.range_algebra.specs.Clones.{bound_clone}
 use Rattle.range_algebra.specs.Cuts.{lower, upper}
 use Rattle.range_algebra.specs.References.{range_of}
-use Rattle.range_map.specs.Combining.{MayAnswerBoth, IsSharedPart}
+use Rattle.range_map.specs.Combining.{MayAnswerBoth}
 use Rattle.range_map.specs.FreeRanges.{full_range}
 use Rattle.range_map.specs.Merged.{part_item}
 use Rattle.range_map.specs.Window.{option_items}

@@ -1,5 +1,4 @@
-use Rattle.std.proofs.lemmas.Grind.{common_steps}
-use Rattle.std.proofs.Common.{◌≡◌, ◌∷◌, ◌++◌, [], length, ap, sym, ◌∙◌, arith, append_assoc, rules}
+use Rattle.std.proofs.Common.{◌≡◌, ◌∷◌, ◌++◌, [], length, ap, sym, ◌∙◌, arith, append_assoc}
 use Rattle.range_map.proofs.Combining.{next_stored}
 use Rattle.range_map.proofs.Endings.{prefix_is_all}
 use Rattle.range_map.proofs.map.combine.map_of.Goals as goal
