@@ -89,7 +89,7 @@ module _ {K : Type 0} (order : KeyOrder K) (lawful : IsLawful order) where
       )
 
   module _ {V : Type 0} (same : V → V → Bool) (equal : IsEquivalence same) where
-    chained_items_have_places : (items : List (Item (AnyRange K) V))
+    pub chained_items_have_places : (items : List (Item (AnyRange K) V))
         → Chained order lawful same equal items
         → Every (λ i. Lt (places order lawful) (item_lower order i) (item_upper order i)) items
     chained_items_have_places [] h = tt
@@ -97,13 +97,13 @@ module _ {K : Type 0} (order : KeyOrder K) (lawful : IsLawful order) where
     chained_items_have_places (i ∷ j ∷ rest) h = (h.0, chained_items_have_places (j ∷ rest) h.1.1)
 
     -- a place of the range that some item holds
-    record IsCovered (s : AnyRange K) (items : List (Item (AnyRange K) V)) : Type 0 where
-      place : Position K
-      from : Le (places order lawful) (lower order s) place
-      upto : Lt (places order lawful) place (upper order s)
-      held : Hold order lawful same equal (λ u. true) place items
+    pub record IsCovered (s : AnyRange K) (items : List (Item (AnyRange K) V)) : Type 0 where
+      pub place : Position K
+      pub from : Le (places order lawful) (lower order s) place
+      pub upto : Lt (places order lawful) place (upper order s)
+      pub held : Hold order lawful same equal (λ u. true) place items
 
-    met_range_is_covered : (s : AnyRange K) (items : List (Item (AnyRange K) V))
+    pub met_range_is_covered : (s : AnyRange K) (items : List (Item (AnyRange K) V))
         → IsKnownRange order s → Lt (places order lawful) (lower order s) (upper order s)
         → Known order lawful same equal items
         → Every (λ i. Lt (places order lawful) (item_lower order i) (item_upper order i)) items

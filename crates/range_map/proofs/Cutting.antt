@@ -70,7 +70,7 @@ next_map f S T P [] g e h = tt
 next_map f S T P (x ∷ []) g e h = (tt, tt)
 next_map f S T P (x ∷ y ∷ ys) g e h = (g x y e.0 e.1.0 h.0, next_map f S T P (y ∷ ys) g e.1 h.1)
 
-next_last : {X : Type 0} (S : X → X → Type 0) (xs : List X) (y : X) → EachNext S xs
+pub next_last : {X : Type 0} (S : X → X → Type 0) (xs : List X) (y : X) → EachNext S xs
     → Every (λ x. S x y) xs → EachNext S (xs ++ y ∷ [])
 next_last S [] y h e = (tt, tt)
 next_last S (x ∷ []) y h e = (e.0, (tt, tt))

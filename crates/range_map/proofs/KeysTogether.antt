@@ -1,6 +1,6 @@
 -- Two lists of ranges, by the keys that they bind: where they share none, and where the one binds
 -- all of the other.
-use Rattle.std.proofs.Common.{◌≡◌, refl, ◌⊎◌, inl, inr, Bool, true, Option, Some, None, List, [], ◌∷◌}
+use Rattle.std.proofs.Common.{◌≡◌, refl, inl, inr, Bool, true, Some, List, [], ◌∷◌}
 use Rattle.std.specs.declared.ops.Bound.{Bound}
 use Rattle.std.specs.declared.ops.Bound.TheVariants.{Included, Excluded, Unbounded}
 use Rattle.std.specs.declared.cmp.Ordering.{Ordering}
@@ -27,7 +27,6 @@ use Rattle.range_algebra.proofs.Places.{held_between, inverted_bound_is_past, re
 use Rattle.range_store.specs.declared.storage.Item.{Item}
 use Rattle.range_map.specs.Bindings.{IsBound}
 use Rattle.range_map.specs.Chains.{line_of}
-use Rattle.range_map.specs.Lookups.{Overlap, MeetsSome}
 use Rattle.range_map.specs.Pieces.{LiesIn}
 use Rattle.range_map.specs.Stored.{IsStored, item_lower}
 use Rattle.range_map.specs.Together.{MeetNowhere, LieInside, ShareNoKey, BindKeysOf}

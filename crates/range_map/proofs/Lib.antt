@@ -8,6 +8,8 @@ pub mod ChainSides
 pub mod Chains
 pub mod ClosureAnswers
 pub mod Coarse
+pub mod Combination
+pub mod Combining
 pub mod Copying
 pub mod Covering
 pub mod CutOut
@@ -20,6 +22,7 @@ pub mod Endings
 pub mod Extending
 pub mod Extents
 pub mod Filling
+pub mod FirstPieces
 pub mod Forms
 pub mod Found
 pub mod Framing

@@ -1,5 +1,5 @@
 -- Two lists of ranges in one pass over both: what the first ranges say of all.
-use Rattle.std.proofs.Common.{◌≡◌, refl, sym, ◌∙◌, ◌<◌, ◌↔◌, ◌⊎◌, inl, inr, Bool, true, Option, Some, None, List, [], ◌∷◌, ◌++◌, length, arith}
+use Rattle.std.proofs.Common.{◌≡◌, sym, ◌∙◌, ◌<◌, ◌↔◌, inl, inr, Bool, Option, Some, None, List, [], ◌∷◌, ◌++◌, length, arith}
 use Rattle.std.specs.Prelude.{MatchOption}
 use Rattle.std.specs.Option.{option_map}
 use denote.Ref.{Bor}
@@ -9,8 +9,8 @@ use Rattle.range_keys.specs.Position.{start_position, end_position, position_cmp
 use Rattle.range_keys.specs.PositionOrder.{position_total}
 use Rattle.range_keys.specs.declared.inner.position.Position.{Position}
 use Rattle.range_keys.proofs.Orderings.{not_greater}
-use Rattle.range_algebra.specs.Intervals.{Le, Lt, Any, Every}
-use Rattle.range_algebra.specs.Orders.{le_trans, lt_le, lt_not_le, le_lt_trans, lt_le_trans, not_lt}
+use Rattle.range_algebra.specs.Intervals.{Le, Any, Every}
+use Rattle.range_algebra.specs.Orders.{le_trans, lt_le, lt_not_le, lt_le_trans}
 use Rattle.range_algebra.specs.Range.{IsEmptyRange}
 use Rattle.range_algebra.specs.Relations.{LiesBefore}
 use Rattle.range_algebra.specs.declared.any.AnyRange.{AnyRange}
@@ -373,7 +373,7 @@ module _ {K : Type 0} (order : KeyOrder K) where
             → (¬ LiesBefore order other.0.now pair.0.now) → ¬ MeetNowhere order items others
         not_apart pair other e f h k =
             let start : IsApartUnless items others (shown_item pair ∷ ranges)
-                (shown_item other ∷ rest) =
+            (shown_item other ∷ rest) =
             rw (e, f) at was in
             met_not_apart items others (shown_item pair) ranges (shown_item other) rest h k start
 
@@ -381,7 +381,7 @@ module _ {K : Type 0} (order : KeyOrder K) where
             → MeetNowhere order items others
         apart_none_left e none =
             let end : IsApartUnless items others []
-                (option_items (option_map shown_item near) ++ rest) =
+            (option_items (option_map shown_item near) ++ rest) =
             rw (e, none e) at was in
             end.same.1 tt
 
@@ -389,7 +389,7 @@ module _ {K : Type 0} (order : KeyOrder K) where
             → MeetNowhere order items others
         apart_none_right e none =
             let end : IsApartUnless items others
-                (option_items (option_map shown_item next) ++ ranges) [] =
+            (option_items (option_map shown_item next) ++ ranges) [] =
             rw (e, none e) at was in
             apart_at_end items others (option_items (option_map shown_item next) ++ ranges) end
 
@@ -442,7 +442,7 @@ module _ {K : Type 0} (order : KeyOrder K) where
             → (¬ LiesBefore order other.0.now pair.0.now) → ¬ LieInside order items others
         not_inside pair other e f h k =
             let start : IsInsideUnless items others (shown_item pair ∷ ranges)
-                (shown_item other ∷ rest) =
+            (shown_item other ∷ rest) =
             rw (e, f) at was in
             outside_not_inside items others (shown_item pair) ranges (shown_item other) rest h k
             start
@@ -451,7 +451,7 @@ module _ {K : Type 0} (order : KeyOrder K) where
             → LieInside order items others
         inside_none_left e none =
             let end : IsInsideUnless items others []
-                (option_items (option_map shown_item near) ++ rest) =
+            (option_items (option_map shown_item near) ++ rest) =
             rw (e, none e) at was in
             inside_at_end items others (option_items (option_map shown_item near) ++ rest) end
 

@@ -5,6 +5,7 @@ pub mod Asking
 pub mod Bindings
 pub mod Chains
 pub mod Changes
+pub mod Combining
 pub mod Costs
 pub mod Edges
 pub mod Edits
@@ -15,6 +16,7 @@ pub mod Freeing
 pub mod Iterating
 pub mod ListOrder
 pub mod Lookups
+pub mod Merged
 pub mod Neighbours
 pub mod Overlapping
 pub mod PieceLists

@@ -5,6 +5,7 @@ pub(crate) mod bind;
 pub(crate) mod cut;
 pub(crate) mod edges;
 pub(crate) mod free;
+pub(crate) mod merged;
 pub(crate) mod pieces;
 pub(crate) mod probe;
 pub(crate) mod reach;

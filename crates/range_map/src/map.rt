@@ -9,6 +9,7 @@ ghost use Rattle.range_map.specs.Iterating.{shown_item};
 
 mod clear;
 mod clone;
+mod combine;
 mod compare;
 mod ends;
 mod extend;

@@ -112,7 +112,7 @@ fn end_last_at<K: Drop, V>(items: &mut Vec<Item<AnyRange<K>, V>>, end: Bound<K>)
 }
 
 /// Puts a part with its value after the others, or makes it one with the last of them.
-fn put<K: PartialEnum + Clone, V: Eq + Drop>(
+pub(crate) fn put<K: PartialEnum + Clone, V: Eq + Drop>(
     items: &mut Vec<Item<AnyRange<K>, V>>,
     part: AnyRange<&K>,
     value: V,

@@ -1,7 +1,7 @@
-use Rattle.std.proofs.Common.{◌∙◌, refl, arith, rules}
+use Rattle.std.proofs.Common.{◌∙◌, arith}
 use Rattle.range_algebra.specs.Relations.{LiesBefore}
 use Rattle.range_map.specs.Pieces.{LiesIn}
-use Rattle.range_map.proofs.Together.{stepped, drained, shorter, inside_begins, inside_goes_left, inside_goes_right, not_inside, inside_none_left, inside_none_right}
+use Rattle.range_map.proofs.Together.{stepped, drained, shorter, inside_begins, inside_goes_left, inside_goes_right, not_inside}
 use Rattle.range_map.proofs.inner.relate.lie_inside.Goals as goal
 
 pub loop-next-init : goal.loop-next-init
