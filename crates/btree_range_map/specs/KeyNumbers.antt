@@ -21,7 +21,9 @@ module _ {K : Type 0} {order : KeyOrder K} {index : K → ℕ} {size : ℕ}
   rising_fit k (j ∷ rest) n key keys below rising low =
       let less : index k < index j =
       ranked (index k) (index j) Less (sym below.0 ∙ counted.by_index k j key keys.0) in
-      let fit = rising_fit j rest (n + 1) keys.0 keys.1 rising.0 rising.1 (omega (arith, low, less)) in
+      let fit =
+      rising_fit j rest (n + 1) keys.0 keys.1 rising.0 rising.1
+      (omega (arith, low, less)) in
       omega (arith, fit)
 
   all_fit : (keys : List K) → AllByRecursion order.is_key keys → AreRising order keys

@@ -37,7 +37,7 @@ pub use Rattle.range_map.specs.Costs
 pub use Rattle.range_map.specs.Frames
 pub use Rattle.range_map.specs.FreeRanges
 pub use Rattle.range_map.specs.Apart
-pub use Rattle.range_map.specs.Iterating
+pub use Rattle.range_map.specs.Iteration
 pub use Rattle.range_map.specs.ListOrder
 pub use Rattle.range_map.specs.Lookups
 pub use Rattle.range_map.specs.Neighbours

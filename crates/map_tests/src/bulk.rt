@@ -46,13 +46,21 @@ impl Table<NumberItem> for Retained {
         let mut map = filled::<C>(alloc, self.count)?;
         map.retain(|_range, value| *value & 1 == 0);
         for (index, number) in (0..self.count).enumerate() {
-            let value = if number & 1 == 0 { Some(i64::from(number)) } else { None };
+            let value = if number & 1 == 0 {
+                Some(i64::from(number))
+            } else {
+                None
+            };
             if !binds(&map, number.wrapping_mul(4), value) {
                 return Ok(Some(index));
             }
         }
         map.clear();
-        Ok(if map.is_empty() { None } else { Some(usize::MAX) })
+        Ok(if map.is_empty() {
+            None
+        } else {
+            Some(usize::MAX)
+        })
     }
 }
 

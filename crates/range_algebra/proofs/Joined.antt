@@ -19,7 +19,7 @@ use Rattle.range_algebra.proofs.Pieces.{start_up, end_down}
 use Rattle.range_algebra.specs.Range.{StartHolds, EndHolds, Holds, IsKnownBound, IsKnownRange, IsEmptyRange}
 use Rattle.range_algebra.specs.declared.any.AnyRange.{AnyRange}
 use Rattle.range_algebra.specs.declared.ordering.RangeOrdering.TheVariants.{Before, Intersecting, After}
-use Rattle.range_algebra.specs.Compared.{range_ordering, is_before, is_after, inverted, start_is_at, starts_at_end}
+use Rattle.range_algebra.specs.Compared.{range_ordering, is_before, is_after, flipped, start_is_at, starts_at_end}
 use Rattle.range_algebra.proofs.Holding.{start_holds, holds_by_position, empty_is_keyless}
 use Rattle.range_algebra.proofs.Completeness.{nonempty_holds}
 use Rattle.range_algebra.proofs.Canonical.{same_is_equal}
@@ -45,8 +45,8 @@ reversed_greater_is_less Less e = cc
 reversed_greater_is_less Equal e = cc
 reversed_greater_is_less Greater e = refl
 
-turned_less_is_greater : (o p : Ordering) → p ≡ ordering_reverse o → o ≡ Less → is_gt p ≡ true
-turned_less_is_greater o p e f = rw (e, f) refl
+reversed_less_is_greater : (o p : Ordering) → p ≡ ordering_reverse o → o ≡ Less → is_gt p ≡ true
+reversed_less_is_greater o p e f = rw (e, f) refl
 
 stable_not : (b : Bool) → ((b ≡ false → ⊥) → ⊥) → b ≡ false
 stable_not true h = absurd (h (λ e. cc))
@@ -79,7 +79,7 @@ module _ {K : Type 0} (order : KeyOrder K) (lawful : IsLawful order) where
       let back : is_gt (position_cmp order.cmp r q) ≡ false =
       upto total r s q g (upto total s p q h e) in
       let over : is_gt (position_cmp order.cmp r q) ≡ true =
-      turned_less_is_greater (position_cmp order.cmp q r) (position_cmp order.cmp r q)
+      reversed_less_is_greater (position_cmp order.cmp q r) (position_cmp order.cmp r q)
       (total.antisymm r q) f in
       let clash : true ≡ false = sym over ∙ back in
       cc
@@ -177,7 +177,7 @@ module _ {K : Type 0} (order : KeyOrder K) (lawful : IsLawful order) where
         (position_cmp order.cmp (end_position order t.end) (end_position order s.end)) level).0
 
     touching_by : (e : Bound K) → r.end ≡ e
-        → IsTrue (start_is_at order (inverted e) (start_position order s.start))
+        → IsTrue (start_is_at order (flipped e) (start_position order s.start))
     unfolding Member
     touching_by (Included a) at =
         ap is_eq (starts_there (Excluded a) (subst (IsKnownBound order) at known.1)
@@ -228,7 +228,7 @@ module _ {K : Type 0} (order : KeyOrder K) (lawful : IsLawful order) (r s : AnyR
       (le_refl order.cmp lawful.total k)
 
   gap_by : (e : Bound K) → r.end ≡ e
-      → IsTrue (start_is_at order (inverted e) (start_position order s.start)) → (k : K)
+      → IsTrue (start_is_at order (flipped e) (start_position order s.start)) → (k : K)
       → order.is_key k → ¬ LiesBetween order r s k
   gap_by (Included a) at t =
       none_between (Excluded a)
@@ -460,5 +460,5 @@ module _ {K : Type 0} (order : KeyOrder K) (lawful : IsLawful order) where
         write_after _ _ _ _ _ _ _ _ _
         (not_less _ _ (total.antisymm (start_position order r.start) (start_position order s.start))
         starts)
-        (turned_less_is_greater _ _
+        (reversed_less_is_greater _ _
         (total.antisymm (start_position order r.start) (end_position order s.end)) ends)

@@ -19,12 +19,12 @@ use Rattle.range_algebra.specs.declared.ordering.RangeOrdering.TheVariants as ly
 use Rattle.range_algebra.specs.Intervals.{Le, Lt}
 use Rattle.range_algebra.specs.Orders.{lt_le, eq_ge, le_trans, lt_not_le, cases, not_le, not_lt, lt_le_trans, le_lt_trans, both}
 use Rattle.range_algebra.specs.Range.{StartHolds, EndHolds, Holds, IsKnownBound, IsKnownRange}
-use Rattle.range_algebra.specs.Compared.{inverted, start_is_at, starts_at_end, range_ordering, matches}
+use Rattle.range_algebra.specs.Compared.{flipped, start_is_at, starts_at_end, range_ordering, matches}
 use Rattle.range_algebra.specs.Combined.{earlier_end, common}
 use Rattle.range_algebra.specs.Cuts.{past, lower, upper}
 use Rattle.range_algebra.specs.Relations.{Meets, EitherHolds, ShareKey, AreConnected}
 use Rattle.range_algebra.proofs.Holding.{start_holds, end_holds, holds_by_position}
-use Rattle.range_algebra.proofs.Places.{reaching_is_before_past, key_reaches, inverted_bound_is_past, unbounded_end}
+use Rattle.range_algebra.proofs.Places.{reaching_is_before_past, key_reaches, flipped_bound_is_past, unbounded_end}
 use Rattle.range_algebra.proofs.Completeness.{nonempty_holds}
 use Rattle.range_algebra.proofs.Canonical.{NotPast, IsBefore, KeyFrom, key_from}
 use Rattle.range_algebra.proofs.Commons.{later_is, earlier_is, common_holds, common_known}
@@ -60,14 +60,14 @@ module _ {K : Type 0} (order : KeyOrder K) (lawful : IsLawful order) where
             (past order (end_position order e)) (reach.0 k) h),
       )
 
-  touches_by : (e i : Bound K) (s : AnyRange K) → inverted e ≡ Some i
+  touches_by : (e i : Bound K) (s : AnyRange K) → flipped e ≡ Some i
       → PLe (past order (end_position order e)) (lower order s)
       → IsTrue (start_is_at order (Some i) (lower order s))
       ↔ PLe (lower order s) (past order (end_position order e))
   touches_by e i s turns le =
       let cmp = position_cmp order.cmp in
       let total = position_total order.cmp lawful.total in
-      let at = inverted_bound_is_past order lawful e i turns in
+      let at = flipped_bound_is_past order lawful e i turns in
       let other = eq_is_equal (cmp (start_position order i) (lower order s)) in (
         λ h. le_trans cmp total (lower order s) (start_position order i)
             (past order (end_position order e))
@@ -155,8 +155,8 @@ module _ {K : Type 0} (order : KeyOrder K) (lawful : IsLawful order) where
         (start_position order s.start) (start_position order r.start)
         (end_position order r.end) h full
 
-    turned_greater_is_less : (p q : Position K) → position_cmp order.cmp p q ≡ Greater → PLt q p
-    turned_greater_is_less p q e =
+    greater_is_below : (p q : Position K) → position_cmp order.cmp p q ≡ Greater → PLt q p
+    greater_is_below p q e =
         (position_total order.cmp lawful.total).antisymm q p ∙ ap ordering_reverse e
 
     lying_by : (a b d : Ordering)
@@ -186,7 +186,7 @@ module _ {K : Type 0} (order : KeyOrder K) (lawful : IsLawful order) where
                 (start_position order s.start) e),
             lt_le (position_cmp order.cmp) total (start_position order s.start)
                 (end_position order r.end)
-                (turned_greater_is_less (end_position order r.end) (start_position order s.start) f),
+                (greater_is_below (end_position order r.end) (start_position order s.start) f),
           ),
           λ c. refl,
         ))
@@ -195,7 +195,8 @@ module _ {K : Type 0} (order : KeyOrder K) (lawful : IsLawful order) where
         (inl (
           (
             ap is_gt g,
-            upper_start_reaches_end (eq_ge (position_cmp order.cmp) total (start_position order r.start)
+            upper_start_reaches_end (eq_ge (position_cmp order.cmp) total
+                (start_position order r.start)
                 (start_position order s.start) e),
           ),
           λ c. refl,
@@ -205,7 +206,8 @@ module _ {K : Type 0} (order : KeyOrder K) (lawful : IsLawful order) where
         (inl (
           (
             ap is_gt g,
-            upper_start_reaches_end (eq_ge (position_cmp order.cmp) total (start_position order r.start)
+            upper_start_reaches_end (eq_ge (position_cmp order.cmp) total
+                (start_position order r.start)
                 (start_position order s.start) e),
           ),
           λ c. refl,
@@ -213,7 +215,7 @@ module _ {K : Type 0} (order : KeyOrder K) (lawful : IsLawful order) where
     lying_by Equal b Greater e f g =
         inr
         (inr (
-          turned_greater_is_less (start_position order r.start) (end_position order s.end) g,
+          greater_is_below (start_position order r.start) (end_position order s.end) g,
           λ c. refl,
         ))
     lying_by Greater b Less e f g = let total =
@@ -221,9 +223,10 @@ module _ {K : Type 0} (order : KeyOrder K) (lawful : IsLawful order) where
         (inl (
           (
             ap is_gt g,
-            upper_start_reaches_end (lt_le (position_cmp order.cmp) total (start_position order s.start)
+            upper_start_reaches_end (lt_le (position_cmp order.cmp) total
+                (start_position order s.start)
                 (start_position order r.start)
-                (turned_greater_is_less (start_position order r.start) (start_position order s.start) e)),
+                (greater_is_below (start_position order r.start) (start_position order s.start) e)),
           ),
           λ c. refl,
         ))
@@ -232,16 +235,17 @@ module _ {K : Type 0} (order : KeyOrder K) (lawful : IsLawful order) where
         (inl (
           (
             ap is_gt g,
-            upper_start_reaches_end (lt_le (position_cmp order.cmp) total (start_position order s.start)
+            upper_start_reaches_end (lt_le (position_cmp order.cmp) total
+                (start_position order s.start)
                 (start_position order r.start)
-                (turned_greater_is_less (start_position order r.start) (start_position order s.start) e)),
+                (greater_is_below (start_position order r.start) (start_position order s.start) e)),
           ),
           λ c. refl,
         ))
     lying_by Greater b Greater e f g =
         inr
         (inr (
-          turned_greater_is_less (start_position order r.start) (end_position order s.end) g,
+          greater_is_below (start_position order r.start) (end_position order s.end) g,
           λ c. refl,
         ))
 

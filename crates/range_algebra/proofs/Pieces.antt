@@ -9,7 +9,7 @@ use Rattle.range_algebra.specs.declared.any.AnyRange.{AnyRange}
 use Rattle.range_algebra.specs.declared.range.parts.Difference.TheVariants.{Before, Empty}
 use Rattle.range_algebra.specs.Orders.{le_trans, lt_not_le, cases, not_le, not_lt, lt_le_trans, le_lt_trans}
 use Rattle.range_algebra.specs.Range.{StartHolds, EndHolds, Holds, IsEmptyRange}
-use Rattle.range_algebra.specs.Compared.{inverted, range_ordering, matches}
+use Rattle.range_algebra.specs.Compared.{flipped, range_ordering, matches}
 use Rattle.range_algebra.specs.Combined.{later_start, earlier_end}
 use Rattle.range_algebra.specs.Parts.{is_empty_range, unless_empty, part_to, part_from, part_before, part_after, pieces, difference, DifferenceHolds, LieRound, RangeHolds}
 use Rattle.range_algebra.proofs.Holding.{empty_is_keyless}
@@ -51,38 +51,38 @@ module _ {K : Type 0} (order : KeyOrder K) (lawful : IsLawful order) where
   end_decided Unbounded k = inl tt
 
   -- the bound on the other side of the same place holds the other keys
-  pub inverted_end : (b i : Bound K) (k : K) → inverted b ≡ Some i → EndHolds order i k
+  pub flipped_end : (b i : Bound K) (k : K) → flipped b ≡ Some i → EndHolds order i k
       ↔ (¬ StartHolds order b k)
-  inverted_end (Included a) i k e =
+  flipped_end (Included a) i k e =
       let same : Excluded a ≡ i = cc in
       rw (← same) (lt_not_le order.cmp lawful.total k a, not_le order.cmp lawful.total k a)
-  inverted_end (Excluded a) i k e =
+  flipped_end (Excluded a) i k e =
       let same : Included a ≡ i = cc in
       rw (← same) (
         λ h l. lt_not_le order.cmp lawful.total a k l h,
         not_lt order.cmp lawful.total k a,
       )
-  inverted_end Unbounded i k e = absurd (cc)
+  flipped_end Unbounded i k e = absurd (cc)
 
-  pub inverted_start : (b i : Bound K) (k : K) → inverted b ≡ Some i → StartHolds order i k
+  pub flipped_start : (b i : Bound K) (k : K) → flipped b ≡ Some i → StartHolds order i k
       ↔ (¬ EndHolds order b k)
-  inverted_start (Included a) i k e =
+  flipped_start (Included a) i k e =
       let same : Excluded a ≡ i = cc in
       rw (← same) (lt_not_le order.cmp lawful.total a k, not_le order.cmp lawful.total a k)
-  inverted_start (Excluded a) i k e =
+  flipped_start (Excluded a) i k e =
       let same : Included a ≡ i = cc in
       rw (← same) (
         λ h l. lt_not_le order.cmp lawful.total k a l h,
         not_lt order.cmp lawful.total a k,
       )
-  inverted_start Unbounded i k e = absurd (cc)
+  flipped_start Unbounded i k e = absurd (cc)
 
-  none_start : (b : Bound K) (k : K) → inverted b ≡ None → StartHolds order b k
+  none_start : (b : Bound K) (k : K) → flipped b ≡ None → StartHolds order b k
   none_start (Included a) k e = absurd (cc)
   none_start (Excluded a) k e = absurd (cc)
   none_start Unbounded k e = tt
 
-  none_end : (b : Bound K) (k : K) → inverted b ≡ None → EndHolds order b k
+  none_end : (b : Bound K) (k : K) → flipped b ≡ None → EndHolds order b k
   none_end (Included a) k e = absurd (cc)
   none_end (Excluded a) k e = absurd (cc)
   none_end Unbounded k e = tt
@@ -116,7 +116,8 @@ module _ {K : Type 0} (order : KeyOrder K) (lawful : IsLawful order) where
   unless_by r k key true e = (
     λ h. absurd h,
     empty_is_keyless order lawful r
-        (gt_is_greater (places order lawful (start_position order r.start) (end_position order r.end))
+        (gt_is_greater (places order lawful (start_position order r.start)
+        (end_position order r.end))
         e) k key,
   )
   unless_by r k key false e = (λ h. h, λ h. h)
@@ -126,13 +127,13 @@ module _ {K : Type 0} (order : KeyOrder K) (lawful : IsLawful order) where
   unless_holds r k key = unless_by r k key (is_empty_range order r) refl
 
   part_to_holds : (r : AnyRange K) (b : Bound K) (o : Option (Bound K)) (k : K) → order.is_key k
-      → inverted b ≡ o → RangeHolds order (part_to order r o) k
+      → flipped b ≡ o → RangeHolds order (part_to order r o) k
       ↔ (Holds order r k × (¬ StartHolds order b k))
   part_to_holds r b None k key e = (λ h. absurd h, λ h. h.1 (none_start b k e))
   part_to_holds r b (Some i) k key e =
       let cut = unless_holds (record { start = r.start; end = earlier_end order r.end i }) k key in
       let ends = end_both order lawful r.end i k key in
-      let turned = inverted_end b i k e in (
+      let turned = flipped_end b i k e in (
         λ h. let g = cut.0 h in ((g.0, (ends.0 g.1).0), turned.0 (ends.0 g.1).1),
         λ h. cut.1 (h.0.0, ends.1 (h.0.1, turned.1 h.1)),
       )
@@ -141,23 +142,23 @@ module _ {K : Type 0} (order : KeyOrder K) (lawful : IsLawful order) where
   pub before_holds : (r s : AnyRange K) (k : K) → order.is_key k
       → RangeHolds order (part_before order r s) k
       ↔ (Holds order r k × (¬ StartHolds order s.start k))
-  before_holds r s k key = part_to_holds r s.start (inverted s.start) k key refl
+  before_holds r s k key = part_to_holds r s.start (flipped s.start) k key refl
 
   part_from_holds : (r : AnyRange K) (b : Bound K) (o : Option (Bound K)) (k : K) → order.is_key k
-      → inverted b ≡ o → RangeHolds order (part_from order r o) k
+      → flipped b ≡ o → RangeHolds order (part_from order r o) k
       ↔ (Holds order r k × (¬ EndHolds order b k))
   part_from_holds r b None k key e = (λ h. absurd h, λ h. h.1 (none_end b k e))
   part_from_holds r b (Some i) k key e =
       let cut = unless_holds (record { start = later_start order r.start i; end = r.end }) k key in
       let starts = start_both order lawful r.start i k key in
-      let turned = inverted_start b i k e in (
+      let turned = flipped_start b i k e in (
         λ h. let g = cut.0 h in (((starts.0 g.0).0, g.1), turned.0 (starts.0 g.0).1),
         λ h. cut.1 (starts.1 (h.0.0, turned.1 h.1), h.0.1),
       )
 
   pub after_holds : (r s : AnyRange K) (k : K) → order.is_key k
       → RangeHolds order (part_after order r s) k ↔ (Holds order r k × (¬ EndHolds order s.end k))
-  after_holds r s k key = part_from_holds r s.end (inverted s.end) k key refl
+  after_holds r s k key = part_from_holds r s.end (flipped s.end) k key refl
 
   pieces_hold : (left right : Option (AnyRange K)) (met : Bool) (k : K)
       → DifferenceHolds order (pieces order left right met) k
@@ -194,14 +195,16 @@ module _ {K : Type 0} (order : KeyOrder K) (lawful : IsLawful order) where
   difference_by r s k key true e f g = (
     λ h. absurd h,
     λ h. empty_is_keyless order lawful r
-        (gt_is_greater (places order lawful (start_position order r.start) (end_position order r.end))
+        (gt_is_greater (places order lawful (start_position order r.start)
+        (end_position order r.end))
         f) k key h.0,
   )
   difference_by r s k key false true f g = (
     λ h. (
       h,
       empty_is_keyless order lawful s
-          (gt_is_greater (places order lawful (start_position order s.start) (end_position order s.end))
+          (gt_is_greater (places order lawful (start_position order s.start)
+          (end_position order s.end))
           g) k key,
     ),
     λ h. h.0,

@@ -15,7 +15,7 @@ use Rattle.range_keys.proofs.Orderings.{any_then_equal, less_unless_greater, les
 use Rattle.range_keys.proofs.BoundPositions.{IsStart, IsEnd, starts_lie_at_starts, ends_lie_at_ends}
 use Rattle.range_algebra.specs.declared.any.AnyRange.{AnyRange}
 use Rattle.range_algebra.specs.Range.{Holds, IsKnownBound, IsKnownRange}
-use Rattle.range_algebra.specs.Compared.{inverted}
+use Rattle.range_algebra.specs.Compared.{flipped}
 use Rattle.range_algebra.proofs.Holding.{holds_by_position}
 use Rattle.range_algebra.specs.Intervals.{Le, Lt}
 use Rattle.range_algebra.specs.Orders.{lt_not_le, not_le, not_lt, le_lt_trans, both}
@@ -116,36 +116,36 @@ module _ {K : Type 0} (order : KeyOrder K) (lawful : IsLawful order) where
   key_reaches k e key h =
       start_end (Beside k At) (end_position order e) key (ends_lie_at_ends order lawful e h)
 
-  turned_by : (a p : K) (o : Option K) → Tells order o a
+  flipped_by : (a p : K) (o : Option K) → Tells order o a
       → position_cmp order.cmp (at_told o (Beside p After)) (Beside a At) ≡ Equal
-  turned_by a p None t = absurd t
-  turned_by a p (Some b) t = rw t refl
+  flipped_by a p None t = absurd t
+  flipped_by a p (Some b) t = rw t refl
 
-  turned_told : (a : K) (o : Option K) → order.pred a ≡ o
+  flipped_told : (a : K) (o : Option K) → order.pred a ≡ o
       → position_cmp order.cmp (past order (at_told o (Beside a Before))) (Beside a At) ≡ Equal
-  turned_told a None e = tied_itself (position_total order.cmp lawful.total) (Beside a At)
-  turned_told a (Some p) e = turned_by a p (order.succ p) (lawful.pred_succ p a e)
+  flipped_told a None e = tied_itself (position_total order.cmp lawful.total) (Beside a At)
+  flipped_told a (Some p) e = flipped_by a p (order.succ p) (lawful.pred_succ p a e)
 
   -- the place past an end is that of the start bound just past it
-  pub inverted_bound_is_past : (b i : Bound K) → inverted b ≡ Some i
+  pub flipped_bound_is_past : (b i : Bound K) → flipped b ≡ Some i
       → position_cmp order.cmp (past order (end_position order b)) (start_position order i) ≡ Equal
-  inverted_bound_is_past (Included a) i e = let same : Excluded a ≡ i =
+  flipped_bound_is_past (Included a) i e = let same : Excluded a ≡ i =
       cc in rw (← same) (tied_itself (position_total order.cmp lawful.total)
       (start_position order (Excluded a)))
-  inverted_bound_is_past (Excluded a) i e = let same : Included a ≡ i =
-      cc in rw (← same) (turned_told a (order.pred a) refl)
-  inverted_bound_is_past Unbounded i e = absurd (cc)
+  flipped_bound_is_past (Excluded a) i e = let same : Included a ≡ i =
+      cc in rw (← same) (flipped_told a (order.pred a) refl)
+  flipped_bound_is_past Unbounded i e = absurd (cc)
 
-  pub turned_back : (b i : Bound K) → inverted b ≡ Some i → inverted i ≡ Some b
-  turned_back (Included a) i e = let same : Excluded a ≡ i = cc in rw (← same) refl
-  turned_back (Excluded a) i e = let same : Included a ≡ i = cc in rw (← same) refl
-  turned_back Unbounded i e = absurd (cc)
+  pub flipped_back : (b i : Bound K) → flipped b ≡ Some i → flipped i ≡ Some b
+  flipped_back (Included a) i e = let same : Excluded a ≡ i = cc in rw (← same) refl
+  flipped_back (Excluded a) i e = let same : Included a ≡ i = cc in rw (← same) refl
+  flipped_back Unbounded i e = absurd (cc)
 
-  pub turned_known : (b i : Bound K) → inverted b ≡ Some i → IsKnownBound order b
+  pub flipped_known : (b i : Bound K) → flipped b ≡ Some i → IsKnownBound order b
       → IsKnownBound order i
-  turned_known (Included a) i e h = let same : Excluded a ≡ i = cc in rw (← same) h
-  turned_known (Excluded a) i e h = let same : Included a ≡ i = cc in rw (← same) h
-  turned_known Unbounded i e h = absurd (cc)
+  flipped_known (Included a) i e h = let same : Excluded a ≡ i = cc in rw (← same) h
+  flipped_known (Excluded a) i e h = let same : Included a ≡ i = cc in rw (← same) h
+  flipped_known Unbounded i e h = absurd (cc)
 
   least_under : (o : Option K) (s : Position K) → order.least ≡ o → IsStart order s
       → PLe (at_told o MinusInfinity) s

@@ -16,12 +16,12 @@ use Rattle.range_algebra.specs.declared.range.parts.ProductArg.TheVariants.{Subj
 use Rattle.range_algebra.specs.Intervals.{Le, Lt}
 use Rattle.range_algebra.specs.Orders.{eq_le, le_trans, lt_not_le, not_le, lt_le_trans, le_lt_trans, lt_trans}
 use Rattle.range_algebra.specs.Range.{StartHolds, EndHolds, Holds, IsKnownBound, IsKnownRange, IsKeyless}
-use Rattle.range_algebra.specs.Compared.{inverted}
+use Rattle.range_algebra.specs.Compared.{flipped}
 use Rattle.range_algebra.specs.Combined.{later_start, earlier_end, common}
 use Rattle.range_algebra.specs.Cuts.{past}
 use Rattle.range_algebra.specs.Parts.{is_empty_range, unless_empty, part_to, part_from, part_before, part_after, product, full_product, RangeHolds, PartHolds, IsOfSubject, IsOfObject, IsProduct}
 use Rattle.range_algebra.proofs.Holding.{start_holds, end_holds, empty_is_keyless}
-use Rattle.range_algebra.proofs.Places.{reaching_is_before_past, inverted_bound_is_past, turned_back, turned_known}
+use Rattle.range_algebra.proofs.Places.{reaching_is_before_past, flipped_bound_is_past, flipped_back, flipped_known}
 use Rattle.range_algebra.proofs.Commons.{later_over, earlier_under, common_holds}
 use Rattle.range_algebra.proofs.Pieces.{start_decided, end_decided, before_holds, after_holds, unless_holds, before_below, after_above}
 
@@ -33,29 +33,29 @@ module _ {K : Type 0} (order : KeyOrder K) (lawful : IsLawful order) where
   PLe p q = Le (position_cmp order.cmp) p q
 
   -- an end on the other side of a start lies before it
-  inverted_before : (b i : Bound K) → inverted b ≡ Some i → IsKnownBound order b
+  flipped_before : (b i : Bound K) → flipped b ≡ Some i → IsKnownBound order b
       → PLt (end_position order i) (start_position order b)
   unfolding PLt
-  inverted_before b i e known =
+  flipped_before b i e known =
       let total = position_total order.cmp lawful.total in
       let cmp = position_cmp order.cmp in
-      let known' = turned_known order lawful b i e known in
-      let back = turned_back order lawful b i e in
-      let at = inverted_bound_is_past order lawful i b back in
+      let known' = flipped_known order lawful b i e known in
+      let back = flipped_back order lawful b i e in
+      let at = flipped_bound_is_past order lawful i b back in
       not_le cmp total (end_position order i) (start_position order b) (λ le.
       lt_not_le cmp total (start_position order b) (past order (end_position order i))
       ((reaching_is_before_past order lawful b i known known').0 le)
       (eq_le cmp total (past order (end_position order i)) (start_position order b) at))
 
   -- a start on the other side of an end lies past it
-  inverted_past : (b i : Bound K) → inverted b ≡ Some i → IsKnownBound order b
+  flipped_past : (b i : Bound K) → flipped b ≡ Some i → IsKnownBound order b
       → PLt (end_position order b) (start_position order i)
   unfolding PLt
-  inverted_past b i e known =
+  flipped_past b i e known =
       let total = position_total order.cmp lawful.total in
       let cmp = position_cmp order.cmp in
-      let known' = turned_known order lawful b i e known in
-      let at = inverted_bound_is_past order lawful b i e in
+      let known' = flipped_known order lawful b i e known in
+      let at = flipped_bound_is_past order lawful b i e in
       not_le cmp total (end_position order b) (start_position order i) (λ le.
       lt_not_le cmp total (start_position order i) (past order (end_position order b))
       ((reaching_is_before_past order lawful i b known' known).0 le)
@@ -67,7 +67,7 @@ module _ {K : Type 0} (order : KeyOrder K) (lawful : IsLawful order) where
   unless_some r x false e h = e
 
   -- there is a part before another range only where the range starts before it
-  to_some : (r x : AnyRange K) (b : Bound K) (o : Option (Bound K)) → inverted b ≡ o
+  to_some : (r x : AnyRange K) (b : Bound K) (o : Option (Bound K)) → flipped b ≡ o
       → IsKnownBound order b → part_to order r o ≡ Some x
       → PLt (start_position order r.start) (start_position order b)
   unfolding PLt
@@ -84,9 +84,9 @@ module _ {K : Type 0} (order : KeyOrder K) (lawful : IsLawful order) where
       le_lt_trans cmp total (start_position order r.start) (end_position order i)
       (start_position order b) up
       (let h : PLt (end_position order i)
-      (start_position order b) = inverted_before b i e known in h)
+      (start_position order b) = flipped_before b i e known in h)
 
-  from_some : (r x : AnyRange K) (b : Bound K) (o : Option (Bound K)) → inverted b ≡ o
+  from_some : (r x : AnyRange K) (b : Bound K) (o : Option (Bound K)) → flipped b ≡ o
       → IsKnownBound order b → part_from order r o ≡ Some x
       → PLt (end_position order b) (end_position order r.end)
   unfolding PLt
@@ -103,7 +103,7 @@ module _ {K : Type 0} (order : KeyOrder K) (lawful : IsLawful order) where
       lt_le_trans cmp total (end_position order b) (start_position order i)
       (end_position order r.end)
       (let h : PLt (end_position order b)
-      (start_position order i) = inverted_past b i e known in h) up
+      (start_position order i) = flipped_past b i e known in h) up
 
   -- a key that a start does not hold lies before it
   start_over : (b : Bound K) (k : K) → order.is_key k → (¬ StartHolds order b k)
@@ -130,7 +130,7 @@ module _ {K : Type 0} (order : KeyOrder K) (lawful : IsLawful order) where
       let total = position_total order.cmp lawful.total in
       let cmp = position_cmp order.cmp in
       let first : PLt (start_position order r.start) (start_position order s.start) =
-      to_some r x s.start (inverted s.start) refl known.0 e in
+      to_some r x s.start (flipped s.start) refl known.0 e in
       let own = (before_holds order lawful s r k key).0 h in
       let over : PLt (Beside k At) (start_position order r.start) =
       start_over r.start k key own.1 in
@@ -148,7 +148,7 @@ module _ {K : Type 0} (order : KeyOrder K) (lawful : IsLawful order) where
       let total = position_total order.cmp lawful.total in
       let cmp = position_cmp order.cmp in
       let last : PLt (end_position order s.end) (end_position order r.end) =
-      from_some r x s.end (inverted s.end) refl known.1 e in
+      from_some r x s.end (flipped s.end) refl known.1 e in
       let own = (after_holds order lawful s r k key).0 h in
       let under : PLt (end_position order r.end) (Beside k At) = end_under r.end k key own.1 in
       let over = (end_holds order lawful s.end k key).0 own.0.1 in

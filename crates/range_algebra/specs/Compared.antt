@@ -29,10 +29,10 @@ matches (Intersecting starts ends) connected = true
 matches (After touching) connected = touching && connected
 
 -- the start bound just past an end bound
-abbrev pub inverted : {A : Type 0} → Bound A → Option (Bound A)
-inverted (Included a) = Some (Excluded a)
-inverted (Excluded a) = Some (Included a)
-inverted Unbounded = None
+abbrev pub flipped : {A : Type 0} → Bound A → Option (Bound A)
+flipped (Included a) = Some (Excluded a)
+flipped (Excluded a) = Some (Included a)
+flipped Unbounded = None
 
 module _ {K : Type 0} (order : KeyOrder K) where
   -- the start lies past the end
@@ -46,7 +46,7 @@ module _ {K : Type 0} (order : KeyOrder K) where
 
   -- the position is that of the start bound just past the end bound
   abbrev pub starts_at_end : Bound K → Position K → Bool
-  starts_at_end end p = start_is_at (inverted end) p
+  starts_at_end end p = start_is_at (flipped end) p
 
   abbrev pub bounds_ordering : Bound K → Bound K → Bound K → Bound K → RangeOrdering
   bounds_ordering left left_end right right_end =

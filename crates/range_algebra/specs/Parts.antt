@@ -9,7 +9,7 @@ use Rattle.range_algebra.specs.declared.range.parts.Difference.TheVariants.{Befo
 use Rattle.range_algebra.specs.declared.range.parts.Product.{Product}
 use Rattle.range_algebra.specs.declared.range.parts.ProductArg.{ProductArg}
 use Rattle.range_algebra.specs.declared.range.parts.ProductArg.TheVariants.{Subject, Object}
-use Rattle.range_algebra.specs.Compared.{inverted, starts_past_end, range_ordering, matches}
+use Rattle.range_algebra.specs.Compared.{flipped, starts_past_end, range_ordering, matches}
 use Rattle.range_algebra.specs.Combined.{later_start, earlier_end, common}
 use Rattle.range_algebra.specs.Range.{Holds}
 use Rattle.range_algebra.specs.Relations.{AreBelow}
@@ -36,10 +36,10 @@ module _ {K : Type 0} (order : KeyOrder K) where
 
   -- what of the first lies before the second, and after it, if anything does
   abbrev pub part_before : AnyRange K → AnyRange K → Option (AnyRange K)
-  part_before r s = part_to r (inverted s.start)
+  part_before r s = part_to r (flipped s.start)
 
   abbrev pub part_after : AnyRange K → AnyRange K → Option (AnyRange K)
-  part_after r s = part_from r (inverted s.end)
+  part_after r s = part_from r (flipped s.end)
 
   abbrev pub pieces : Option (AnyRange K) → Option (AnyRange K) → Bool → Difference K
   pieces None None met = Empty

@@ -3,7 +3,7 @@
 ghost use Rattle.std.specs.Prelude.{◌≡◌};
 ghost use Rattle.std.specs.Option.{option_map, option_or};
 ghost use Rattle.range_keys.specs.Position.{bound_of};
-ghost use Rattle.range_algebra.specs.Compared.{inverted};
+ghost use Rattle.range_algebra.specs.Compared.{flipped};
 ghost use Rattle.range_algebra.specs.Combined.{later_start, earlier_end, common};
 ghost use Rattle.range_algebra.specs.References.{range_of, difference_of, part_of, product_of};
 ghost use Rattle.range_algebra.specs.Parts.{unless_empty, part_to, part_from, pieces, difference, product, full_product};
@@ -31,8 +31,8 @@ pub fn by_reference<T: Drop>(range: &AnyRange<T>) -> AnyRange<&T>
 }
 
 /// The bound on the other side of the same place.
-fn inverted<'a, T>(bound: Bound<&'a T>) -> Option<Bound<&'a T>>
-    ensures { option_map bound_of result ≡ inverted (bound_of bound.entry) }
+fn flipped<'a, T>(bound: Bound<&'a T>) -> Option<Bound<&'a T>>
+    ensures { option_map bound_of result ≡ flipped (bound_of bound.entry) }
 {
     match bound {
         Bound::Included(key) => Some(Bound::Excluded(key)),
@@ -93,9 +93,9 @@ fn part_before<'a, T: PartialEnum>(
     start: Bound<&'a T>,
 ) -> Option<AnyRange<&'a T>>
     ensures { option_map range_of result
-        ≡ part_to T.order (range_of range.entry) (inverted (bound_of start.entry)) }
+        ≡ part_to T.order (range_of range.entry) (flipped (bound_of start.entry)) }
 {
-    match inverted(start) {
+    match flipped(start) {
         Some(end) => unless_empty(AnyRange::new(range.start, earlier_end(range.end, end))),
         None => None,
     }
@@ -107,9 +107,9 @@ fn part_after<'a, T: PartialEnum>(
     end: Bound<&'a T>,
 ) -> Option<AnyRange<&'a T>>
     ensures { option_map range_of result
-        ≡ part_from T.order (range_of range.entry) (inverted (bound_of end.entry)) }
+        ≡ part_from T.order (range_of range.entry) (flipped (bound_of end.entry)) }
 {
-    match inverted(end) {
+    match flipped(end) {
         Some(start) => unless_empty(AnyRange::new(later_start(range.start, start), range.end)),
         None => None,
     }

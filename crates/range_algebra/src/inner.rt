@@ -82,12 +82,12 @@ pub fn starts_at_end<T: PartialEnum>(end: Bound<&T>, start: Bound<&T>) -> bool
         ≡ starts_at_end T.order (bound_of end.entry)
         (start_position T.order (bound_of start.entry)) }
 {
-    let inverted = match end {
+    let flipped = match end {
         Bound::Included(key) => Bound::Excluded(key),
         Bound::Excluded(key) => Bound::Included(key),
         Bound::Unbounded => return false,
     };
-    Directed::Start(inverted) == Directed::Start(start)
+    Directed::Start(flipped) == Directed::Start(start)
 }
 
 /// Compares two ranges by their bounds.

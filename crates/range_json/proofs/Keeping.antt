@@ -18,9 +18,9 @@ use Rattle.range_algebra.specs.Cuts.{past, lower, upper}
 use Rattle.range_algebra.specs.Intervals.{Le, Lt, Every}
 use Rattle.range_algebra.specs.Orders.{eq_le, le_trans, lt_le, lt_not_le}
 use Rattle.range_algebra.specs.Range.{IsKnownRange}
-use Rattle.range_algebra.proofs.Places.{inverted_bound_is_past}
+use Rattle.range_algebra.proofs.Places.{flipped_bound_is_past}
 use Rattle.range_store.specs.declared.storage.Item.{Item}
-use Rattle.range_map.specs.Frames.{GaveWayTo, JoinsOrMeets}
+use Rattle.range_map.specs.Frames.{IsInsertionFrame, JoinsOrMeets}
 use Rattle.range_map.specs.Stored.{item_lower, item_upper, IsStored}
 use Rattle.range_map.proofs.Forms.{places, before_is, touches_is, Chained, Known, stored_chain, stored_known, chain_stored}
 
@@ -53,7 +53,7 @@ module _ {K V : Type 0} (order : KeyOrder K) (lawful : IsLawful order) (same : V
       (start_position order (Excluded a)) (lower order s)
       (eq_le (places order lawful) total (past order (end_position order (Included a)))
       (start_position order (Excluded a))
-      (inverted_bound_is_past order lawful (Included a) (Excluded a) refl))
+      (flipped_bound_is_past order lawful (Included a) (Excluded a) refl))
       (eq_le (places order lawful) total (start_position order (Excluded a)) (lower order s)
       ((eq_is_equal (places order lawful (start_position order (Excluded a)) (lower order s))).0
       h))
@@ -63,7 +63,7 @@ module _ {K V : Type 0} (order : KeyOrder K) (lawful : IsLawful order) (same : V
       (start_position order (Included a)) (lower order s)
       (eq_le (places order lawful) total (past order (end_position order (Excluded a)))
       (start_position order (Included a))
-      (inverted_bound_is_past order lawful (Excluded a) (Included a) refl))
+      (flipped_bound_is_past order lawful (Excluded a) (Included a) refl))
       (eq_le (places order lawful) total (start_position order (Included a)) (lower order s)
       ((eq_is_equal (places order lawful (start_position order (Included a)) (lower order s))).0
       h))
@@ -158,7 +158,7 @@ module _ {K V : Type 0} (order : KeyOrder K) (lawful : IsLawful order) (same : V
   -- a list in the form stands as it is, where its last item is put to the others
   pub stands_last : (xs new : List (Item (AnyRange K) V)) (x : Item (AnyRange K) V)
       → IsStored order same (xs ++ x ∷ []) → IsStored order same new
-      → GaveWayTo order same xs new x.key x.value → new ≡ xs ++ x ∷ []
+      → IsInsertionFrame order same xs new x.key x.value → new ≡ xs ++ x ∷ []
   stands_last xs new x whole stored frame =
       let cmp = places order lawful in
       let total = position_total order.cmp lawful.total in

@@ -13,10 +13,10 @@ use Rattle.range_algebra.proofs.Pieces.{empty_or_not}
 use Rattle.range_algebra.proofs.Meeting.{held_or_not}
 use Rattle.range_store.specs.declared.storage.Item.{Item}
 use Rattle.range_map.specs.Bindings.{IsBound, BindsTo, Binds, BindAlike, IsBoundAfter}
-use Rattle.range_map.specs.Frames.{GaveWayTo}
+use Rattle.range_map.specs.Frames.{IsInsertionFrame}
 use Rattle.range_map.specs.Lookups.{MeetsSome, MeetAlso}
 use Rattle.range_map.specs.Stored.{IsStored}
-use Rattle.range_map.proofs.Meeting.{binding_meets, binds_bound}
+use Rattle.range_map.proofs.Overlaps.{binding_meets, binds_bound}
 use Rattle.range_json.specs.declared.error.JsonError.{JsonError}
 use Rattle.range_json.specs.declared.error.JsonError.TheVariants.{Meets}
 use Rattle.range_json.specs.MapFaults.{element_fault, IsElementRead, MeetNonempty, MeetsOne, AreApart, AreRead, IsFirstFault}
@@ -35,7 +35,8 @@ module _ {K V : Type 0} (order : KeyOrder K) where
     pub apart : ¬ ((¬ IsEmptyRange order x.key) × MeetsSome order before x.key)
     pub bound : IsBoundAfter order same before after x.key x.value
     pub meets : (¬ IsEmptyRange order x.key) → MeetAlso order before after x.key
-    pub frame : (¬ IsEmptyRange order x.key) → GaveWayTo order same before after x.key x.value
+    pub frame : (¬ IsEmptyRange order x.key)
+        → IsInsertionFrame order same before after x.key x.value
     pub unchanged : IsEmptyRange order x.key → after ≡ before
 
 module _ {K V : Type 0} (order : KeyOrder K) where
@@ -262,7 +263,7 @@ module _ {K V : Type 0} (order : KeyOrder K) where
               let full =
               of_last (λ i. ¬ IsEmptyRange order i.key) so_far.earlier x whole.nonempty in
               stands_last order lawful same equal so_far.earlier new x whole form
-              (subst (λ is. GaveWayTo order same is new x.key x.value) was (put.frame full));
+              (subst (λ is. IsInsertionFrame order same is new x.key x.value) was (put.frame full));
         }
 
     abbrev FirstFault : List Data → JsonError → Type 0

@@ -1,7 +1,7 @@
 -- What is read of a list while a loop goes over it.
 use Rattle.range_keys.specs.Order.{IsLawful}
 use Rattle.range_algebra.specs.Range.{IsEmptyRange, IsKnownRange}
-use Rattle.range_map.specs.Frames.{GaveWayTo}
+use Rattle.range_map.specs.Frames.{IsInsertionFrame}
 use Rattle.range_json.proofs.Keeping.{of_last, stored_before, stands_last}
 use Rattle.std.proofs.Common.{◌≡◌, refl, sym, ap, subst, ◌∙◌, ℕ, suc, ◌+◌, List, [], ◌∷◌, ◌++◌, map, length, Bool, true, Option, Some, None, arith, rules}
 use Rattle.std.proofs.lemmas.List.{map-append}
@@ -96,7 +96,7 @@ module _ {K : Type 0} (key_reads : Data → Bool) (key_is_read : Data → K → 
       → IsSetSoFar vs before_it → range_fault key_reads (length vs) (view v) ≡ None
       → IsRangeRead key_is_read (view v) r → IsKnownRange order r
       → HoldsAlso order before_it after_it r → IsStoredSet order after_it
-      → ((¬ IsEmptyRange order r) → GaveWayTo order (λ _ _. true) before_it after_it r tt)
+      → ((¬ IsEmptyRange order r) → IsInsertionFrame order (λ _ _. true) before_it after_it r tt)
       → IsSetSoFar (vs ++ v ∷ []) after_it
   set_more lawful vs v old new r h fine is_read known added form frame =
       let more : range_items (h.ranges ++ r ∷ []) ≡ range_items h.ranges ++ item_of r ∷ [] =
@@ -122,7 +122,8 @@ module _ {K : Type 0} (key_reads : Data → Bool) (key_is_read : Data → K → 
             of_last (λ i. ¬ IsEmptyRange order i.key) (range_items h.ranges)
             (item_of r) last.nonempty in
             stands_last order lawful (λ _ _. true) all_equal (range_items h.ranges) new
-            (item_of r) last form (subst (λ is. GaveWayTo order (λ _ _. true) is new r tt) was
+            (item_of r) last form (subst
+            (λ is. IsInsertionFrame order (λ _ _. true) is new r tt) was
             (frame full)) ∙ sym more;
       }
 

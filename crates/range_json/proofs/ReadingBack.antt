@@ -18,7 +18,7 @@ use Rattle.range_store.specs.declared.storage.Item.{Item}
 use Rattle.range_map.specs.FreeRanges.{item_ranges}
 use Rattle.range_map.specs.ListOrder.{same_list}
 use Rattle.range_map.specs.Stored.{IsStored}
-use Rattle.range_map.proofs.Copying.{equal_items_are_copy, copy_stored, item_clone}
+use Rattle.range_map.proofs.CloneLists.{equal_items_are_copy, copy_stored, item_clone}
 use Rattle.range_sets.proofs.Likeness.{same_sets}
 use Rattle.range_sets.specs.KeySets.{IsStoredSet}
 use Rattle.range_sets.specs.SetOrder.{same_ranges}

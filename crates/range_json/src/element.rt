@@ -3,7 +3,7 @@ ghost use Rattle.std.specs.Prelude.{◌≡◌, ◌⊎◌, Some, None, IfOk, OnOk
 ghost use Rattle.serde_json.specs.View.{view};
 ghost use Rattle.range_algebra.specs.Range.{ClonesAreEqual, IsEmptyRange, IsKnownRange};
 ghost use Rattle.range_map.specs.Bindings.{IsBoundAfter};
-ghost use Rattle.range_map.specs.Frames.{GaveWayTo};
+ghost use Rattle.range_map.specs.Frames.{IsInsertionFrame};
 ghost use Rattle.range_map.specs.Lookups.{MeetsSome, MeetAlso};
 ghost use Rattle.range_map.specs.Stored.{IsStored};
 ghost use Rattle.range_json.specs.MapFaults.{IsElementRead, element_fault, value_fault};
@@ -73,7 +73,7 @@ pub(crate) fn insert_element<K: Measure + Clone, V: Eq + Clone, C: Storage<Item<
         → MeetAlso K.order (C.items map.old) (C.items map.new) element.key) }
     ensures frame { OnOk result
         ((¬ IsEmptyRange K.order element.key)
-        → GaveWayTo K.order V.eq (C.items map.old) (C.items map.new) element.key element.value) }
+        → IsInsertionFrame K.order V.eq (C.items map.old) (C.items map.new) element.key element.value) }
     ensures form { IsStored K.order V.eq (C.items map.new) }
     ensures empty_unchanged { IsEmptyRange K.order element.key → C.items map.new ≡ C.items map.old }
     ensures met { IfErr result

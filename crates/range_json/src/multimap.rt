@@ -4,7 +4,7 @@ ghost use Rattle.std.specs.BTreeSet.{IsEmpty};
 ghost use Rattle.serde_json.specs.View.{view};
 ghost use Rattle.range_algebra.specs.Range.{ClonesAreEqual, IsEmptyRange, IsKnownRange};
 ghost use Rattle.range_map.specs.Bindings.{IsBoundAfter};
-ghost use Rattle.range_map.specs.Frames.{GaveWayTo};
+ghost use Rattle.range_map.specs.Frames.{IsInsertionFrame};
 ghost use Rattle.range_map.specs.Lookups.{MeetsSome, MeetAlso};
 ghost use Rattle.range_map.specs.Stored.{IsStored};
 ghost use Rattle.range_sets.specs.Pairs.{HasNoEmptySet};
@@ -95,7 +95,7 @@ fn insert_values<K: Measure + Clone, S: MaybeEmpty, C: Storage<Item<AnyRange<K>,
         → MeetAlso K.order (C.items multimap.old) (C.items multimap.new) element.key) }
     ensures frame { OnOk result
         ((¬ IsEmptyRange K.order element.key)
-        → GaveWayTo K.order S.eq (C.items multimap.old) (C.items multimap.new) element.key
+        → IsInsertionFrame K.order S.eq (C.items multimap.old) (C.items multimap.new) element.key
         element.value) }
     ensures form { IsStored K.order S.eq (C.items multimap.new) }
     ensures empty_unchanged { IsEmptyRange K.order element.key

@@ -14,15 +14,15 @@ use Rattle.range_algebra.specs.declared.any.AnyRange.{AnyRange}
 use Rattle.range_algebra.proofs.Lists.{list_is_take_and_drop}
 use Rattle.range_store.specs.declared.storage.Item.{Item}
 use Rattle.range_map.specs.Answers.{MayAnswer, FailsAt, IsGathered}
-use Rattle.range_map.specs.Asking.{gap_lower, IsGapAsked, IsItemAsked, FailsAtGap, IsKeyAt}
+use Rattle.range_map.specs.Questions.{gap_lower, IsGapAsked, IsItemAsked, FailsAtGap, IsKeyAt}
 use Rattle.range_map.specs.Lookups.{Overlap}
 use Rattle.range_map.specs.Spelling.{KeepsSpelling}
 use Rattle.range_map.specs.Window.{IsLastOf, IsWindow}
 use Rattle.range_map.specs.declared.change.window.Window.{Window}
-use Rattle.range_map.proofs.Cutting.{Hi, IsFull}
+use Rattle.range_map.proofs.RangePieces.{Hi, IsFull}
 use Rattle.range_map.proofs.Forms.{places, Chained, stored_known, stored_chain, nonempty_good}
-use Rattle.range_map.proofs.Framing.{all_meet}
-use Rattle.range_map.proofs.Gathering.{IsUnderway, asked_item_is_underway, asked_item_keeps_spelling, last_gap_keeps_spelling, gap_or_item_fails, fails_last, last_gap_asked_is_gathered, all_full, key_full, run_at, item_at, last_good, listed_at, take_one_more}
+use Rattle.range_map.proofs.InsertionFrames.{all_meet}
+use Rattle.range_map.proofs.PieceAnswers.{IsUnderway, asked_item_is_underway, asked_item_keeps_spelling, last_gap_keeps_spelling, gap_or_item_fails, fails_last, last_gap_asked_is_gathered, all_full, key_full, run_at, item_at, last_good, listed_at, take_one_more}
 
 module _ {K : Type 0} {order : KeyOrder K} (lawful : IsLawful order) {V : Type 0}
     {same : V → V → Bool} (equal : IsEquivalence same) {P : Type 0} {is_good : P → Type 0}

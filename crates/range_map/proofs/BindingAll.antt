@@ -20,8 +20,8 @@ use Rattle.range_map.specs.Bindings.{IsBound}
 use Rattle.range_map.specs.Lookups.{Overlap, BindsAllOf}
 use Rattle.range_map.specs.PieceLists.{AreGapsWithin}
 use Rattle.range_map.specs.Pieces.{LiesIn, IsCommonPart, IsFreePart, IsPiece, ArePieces, later, earlier}
-use Rattle.range_map.proofs.Cutting.{any_use, later_over, earlier_under}
-use Rattle.range_map.proofs.Meeting.{binding_meets}
+use Rattle.range_map.proofs.RangePieces.{any_use, later_over, earlier_under}
+use Rattle.range_map.proofs.Overlaps.{binding_meets}
 
 module _ {K : Type 0} (order : KeyOrder K) (lawful : IsLawful order) {V : Type 0}
     (items : List (Item (AnyRange K) V)) (r : AnyRange K) where

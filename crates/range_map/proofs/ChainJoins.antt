@@ -270,7 +270,8 @@ module _ {L V X : Type 0} (line : Line L V X) where
                     (
                       le_trans line.cmp line.total (line.lo m) s p s_low
                           (le_trans line.cmp line.total s c p left.below
-                          (le_trans line.cmp line.total c d p (lt_le line.cmp line.total c d l) above)),
+                          (le_trans line.cmp line.total c d p
+                          (lt_le line.cmp line.total c d l) above)),
                       lt_le_trans line.cmp line.total p e (line.hi m) k.0 e_high,
                     ),
                     alike v (line.value m) value_back k.1,

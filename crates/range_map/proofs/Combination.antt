@@ -19,7 +19,7 @@ use Rattle.range_algebra.proofs.Lists.{any_none, any_left, any_split, every_appe
 use Rattle.range_algebra.proofs.Places.{held_between, unbounded_start, unbounded_end}
 use Rattle.range_store.specs.declared.storage.Item.{Item}
 use Rattle.range_map.specs.Answers.{Answered, IsAsAnswered}
-use Rattle.range_map.specs.Asking.{IsPut}
+use Rattle.range_map.specs.Questions.{IsPut}
 use Rattle.range_map.specs.Bindings.{IsBound, Binds, BindsTo}
 use Rattle.range_map.specs.Combining.{MayBeAskedBoth, MayBeAskedOfBoth, Combined, IsConstantOn, IsSharedPart, AreCombined, IsCombination}
 use Rattle.range_map.specs.FreeRanges.{full_range}
@@ -29,11 +29,11 @@ use Rattle.range_map.specs.Pieces.{LiesIn}
 use Rattle.range_map.specs.Stored.{IsStored}
 use Rattle.range_map.specs.Window.{option_items}
 use Rattle.range_map.proofs.Combining.{cmp, Lo, Hi, HoldsAt, Gives, Alike, IsLeftFrom, IsFirstOf, all_left, left_past, left_seen, constant_on}
-use Rattle.range_map.proofs.Cutting.{any_end, any_map, any_over, any_use, any_with, next_last}
-use Rattle.range_map.proofs.Filling.{IsFilledUpTo, filled_none, fill_more, Gives as GivesAnswer}
+use Rattle.range_map.proofs.RangePieces.{any_end, any_map, any_over, any_use, any_with, next_last}
+use Rattle.range_map.proofs.AnswerLists.{IsFilledUpTo, filled_none, fill_more, Gives as GivesAnswer}
 use Rattle.range_map.proofs.Forms.{Known, Hold, before_is, nonempty_good, stored_known, stored_chain, chain_stored, binds_hold, bound_hold}
 use Rattle.range_map.proofs.KeysTogether.{inside_holds}
-use Rattle.range_map.proofs.Meeting.{binding_meets}
+use Rattle.range_map.proofs.Overlaps.{binding_meets}
 
 any_unmap : {X Y : Type 0} (f : X → Y) (P : Y → Type 0) (xs : List X) → Any P (map f xs)
     → Any (λ x. P (f x)) xs
@@ -119,7 +119,8 @@ module _ {K : Type 0} (order : KeyOrder K) (lawful : IsLawful order) {V W X : Ty
       }
 
   -- the next piece, and the lists of which it is the first
-  module _ (stored : IsStored order same_left items) (stored_others : IsStored order same_right others)
+  module _ (stored : IsStored order same_left items)
+      (stored_others : IsStored order same_right others)
       (m : Position K) (middle : List (Item (AnyRange K) X))
       (first : Option (Item (AnyRange K) V)) (rest : List (Item (AnyRange K) V))
       (second : Option (Item (AnyRange K) W)) (others_rest : List (Item (AnyRange K) W))
@@ -357,7 +358,8 @@ module _ {K : Type 0} (order : KeyOrder K) (lawful : IsLawful order) {V W X : Ty
             | inl e ↦ e.1
             | inr e ↦
                 absurd (any_none (λ d. HoldsAt order lawful p d.key × Answers U d.answer)
-                (λ d. Le (cmp order lawful) (Hi order lawful c.key) (Lo order lawful d.key)) cs later
+                (λ d. Le (cmp order lawful) (Hi order lawful c.key) (Lo order lawful d.key)) cs
+                later
                 (λ d le f. lt_not_le (cmp order lawful) total p (Hi order lawful c.key) h.1
                 (le_trans (cmp order lawful) total (Hi order lawful c.key) (Lo order lawful d.key) p
                 le f.0.0)) e)
@@ -445,7 +447,8 @@ module _ {K : Type 0} (order : KeyOrder K) (lawful : IsLawful order) {V W X : Ty
       λ p U h. let no : Hold order lawful same_left equal_left U p [] = rw no_left at h in no in
       let none_other : (p : Position K) (U : W → Bool)
       → Hold order lawful same_right equal_right U p right → ⊥ =
-      λ p U h. let no : Hold order lawful same_right equal_right U p [] = rw no_right at h in no in (
+      λ p U h. let no : Hold order lawful same_right equal_right U p [] =
+      rw no_right at h in no in (
         chain_stored order lawful same equal new was.filled.known was.filled.chain,
         record {
           answers = was.answers;
@@ -484,7 +487,9 @@ module _ {K : Type 0} (order : KeyOrder K) (lawful : IsLawful order) {V W X : Ty
                 λ b. as_answered new k was.filled.known key c.answer b
                     (λ U alike.
                     let says = was.filled.has p U alike in
-                    let P = λ (a : Answered K X). HoldsAt order lawful p a.key × Answers U a.answer in (
+                    let P =
+                    λ (a : Answered K X). HoldsAt order lawful p a.key
+                    × Answers U a.answer in (
                       λ g. (only.1 U).0 (any_unmap answer_of P was.answers (says.0 g)),
                       λ g. says.1 (any_map answer_of P was.answers ((only.1 U).1 g)),
                     )),

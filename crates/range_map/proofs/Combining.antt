@@ -24,8 +24,8 @@ use Rattle.range_map.specs.Pieces.{LiesIn}
 use Rattle.range_map.specs.Stored.{IsStored, item_lower}
 use Rattle.range_map.specs.Window.{option_items}
 use Rattle.range_map.proofs.Chains.{chain_left, chain_above, chain_tail, follows_above, follows_like}
-use Rattle.range_map.proofs.Covering.{met_range_is_covered, chained_items_have_places}
-use Rattle.range_map.proofs.Cutting.{any_with, any_over, lies_in}
+use Rattle.range_map.proofs.CoveredPlaces.{met_range_is_covered, chained_items_have_places}
+use Rattle.range_map.proofs.RangePieces.{any_with, any_over, lies_in}
 use Rattle.range_map.proofs.Forms.{Known, Chained, Hold, stored_chain, stored_known, chain_stored}
 
 -- the option gives a value that is such
@@ -295,7 +295,8 @@ module _ {K : Type 0} (order : KeyOrder K) (lawful : IsLawful order) where
       constant_on None (Some v) last rest known chain none cut was seen = absurd cut
       constant_on (Some i) None last rest known chain none cut was seen =
           let total = position_total order.cmp lawful.total in
-          let above = chain_above (line_of order lawful same equal) (Hi key) i rest was.chain cut.1 in
+          let above =
+          chain_above (line_of order lawful same equal) (Hi key) i rest was.chain cut.1 in
           none_there known chain
           (λ p at held. any_none (λ x. HoldsAt p x.key × (true ≡ true))
           (λ x. Le cmp (Hi key) (Lo x.key)) (i ∷ rest) above
@@ -385,7 +386,8 @@ module _ {K : Type 0} (order : KeyOrder K) where
       absurd cut_other
   alike_now (Some i) (Some i') (Some j) None xs ys key value other cut cut_other h k = absurd k
   alike_now (Some i) (Some i') (Some j) (Some j') xs ys key value other cut cut_other h k =
-      let now = unlike_by_none (position_cmp order.cmp (item_lower order i') (item_lower order j')) k
+      let now =
+      unlike_by_none (position_cmp order.cmp (item_lower order i') (item_lower order j')) k
       in
       let before =
       unlike_by_one (position_cmp order.cmp (item_lower order i) (item_lower order j)) h in
@@ -425,7 +427,8 @@ module _ {K : Type 0} (order : KeyOrder K) where
       → IsFirstPiece order left right key value other left_rest right_rest
       → steps_left after others_after
       < steps_left (option_items left ++ xs) (option_items right ++ ys)
-  fewer_steps_at left left_rest right right_rest xs ys key value other after others_after e f piece =
+  fewer_steps_at left left_rest right right_rest xs ys key value other after others_after e f piece
+      =
       rw (e, f) (fewer_steps left left_rest right right_rest xs ys key value other piece)
 
 pub unmapped : {A B : Type 0} (f : A → B) (o : Option A) → option_map f o ≡ None → o ≡ None

@@ -11,13 +11,13 @@ use Rattle.range_keys.specs.Position.{start_position, end_position}
 use Rattle.range_keys.specs.PositionOrder.{position_total}
 use Rattle.range_algebra.specs.declared.any.AnyRange.{AnyRange}
 use Rattle.range_algebra.specs.Range.{IsKnownBound, IsKnownRange}
-use Rattle.range_algebra.specs.Compared.{inverted}
+use Rattle.range_algebra.specs.Compared.{flipped}
 use Rattle.range_algebra.specs.Clones.{SameBound, same_start}
 use Rattle.range_algebra.specs.Intervals.{Lt}
 use Rattle.range_algebra.specs.Orders.{eq_le, eq_ge, le_lt_trans, lt_not_le}
 use Rattle.range_algebra.specs.Cuts.{past, upper}
-use Rattle.range_map.specs.Edits.{turned_bound}
-use Rattle.range_algebra.proofs.Places.{reaching_is_before_past, inverted_bound_is_past, turned_known, unbounded_start, unbounded_end}
+use Rattle.range_map.specs.Edits.{flipped_bound}
+use Rattle.range_algebra.proofs.Places.{reaching_is_before_past, flipped_bound_is_past, flipped_known, unbounded_start, unbounded_end}
 use Rattle.range_map.proofs.Forms.{places}
 
 module _ {K : Type 0} (order : KeyOrder K) (lawful : IsLawful order) where
@@ -28,8 +28,8 @@ module _ {K : Type 0} (order : KeyOrder K) (lawful : IsLawful order) where
   same_past (Included a) (Included b) h = same_start order lawful (Excluded a) (Excluded b) h
   same_past (Excluded a) (Excluded b) h =
       let total = position_total order.cmp lawful.total in
-      let at = inverted_bound_is_past order lawful (Excluded a) (Included a) refl in
-      let other = inverted_bound_is_past order lawful (Excluded b) (Included b) refl in
+      let at = flipped_bound_is_past order lawful (Excluded a) (Included a) refl in
+      let other = flipped_bound_is_past order lawful (Excluded b) (Included b) refl in
       let starts = same_start order lawful (Included a) (Included b) h in
       total.congr (past order (end_position order (Excluded a))) (start_position order (Included a))
       (past order (end_position order (Excluded b))) at
@@ -52,7 +52,7 @@ module _ {K : Type 0} (order : KeyOrder K) (lawful : IsLawful order) where
   same_itself (Excluded a) = tied_itself lawful.total a
   same_itself Unbounded = tt
 
-  pub known_turned : (b : Bound K) → IsKnownBound order b → IsKnownBound order (turned_bound b)
+  pub known_turned : (b : Bound K) → IsKnownBound order b → IsKnownBound order (flipped_bound b)
   known_turned (Included a) h = h
   known_turned (Excluded a) h = h
   known_turned Unbounded h = h
@@ -68,14 +68,14 @@ module _ {K : Type 0} (order : KeyOrder K) (lawful : IsLawful order) where
   -- the end just before a start bound that is not the first of all
   pub cut_end : (a s b : Bound K) → IsKnownBound order a
       → Lt (places order lawful) (start_position order a) (start_position order s)
-      → SameBound order (turned_bound s) b
+      → SameBound order (flipped_bound s) b
       → places order lawful (past order (end_position order b)) (start_position order s) ≡ Equal
   cut_end a (Included k) b known l h =
       end_by (Included k) (Excluded k) b
-      (inverted_bound_is_past order lawful (Excluded k) (Included k) refl) h
+      (flipped_bound_is_past order lawful (Excluded k) (Included k) refl) h
   cut_end a (Excluded k) b known l h =
       end_by (Excluded k) (Included k) b
-      (inverted_bound_is_past order lawful (Included k) (Excluded k) refl) h
+      (flipped_bound_is_past order lawful (Included k) (Excluded k) refl) h
   cut_end a Unbounded b known l h =
       absurd (lt_not_le (places order lawful) (position_total order.cmp lawful.total)
       (start_position order a) (start_position order Unbounded) l
@@ -94,23 +94,23 @@ module _ {K : Type 0} (order : KeyOrder K) (lawful : IsLawful order) where
   -- the start just after an end bound that is not the last of all
   pub cut_start : (a e b : Bound K) → IsKnownBound order a
       → Lt (places order lawful) (past order (end_position order e))
-      (past order (end_position order a)) → SameBound order (turned_bound e) b
+      (past order (end_position order a)) → SameBound order (flipped_bound e) b
       → places order lawful (start_position order b) (past order (end_position order e)) ≡ Equal
   cut_start a (Included k) b known l h =
       start_by (Included k) (Excluded k) b
-      (inverted_bound_is_past order lawful (Included k) (Excluded k) refl) h
+      (flipped_bound_is_past order lawful (Included k) (Excluded k) refl) h
   cut_start a (Excluded k) b known l h =
       start_by (Excluded k) (Included k) b
-      (inverted_bound_is_past order lawful (Excluded k) (Included k) refl) h
+      (flipped_bound_is_past order lawful (Excluded k) (Included k) refl) h
   cut_start a Unbounded b known l h =
       absurd (lt_not_le (places order lawful) (position_total order.cmp lawful.total)
       (past order (end_position order Unbounded)) (past order (end_position order a)) l
       (unbounded_end order lawful a known))
 
-  pub same_turned : (b : Bound K) → SameBound order (turned_bound b) (turned_bound b)
-  same_turned b = same_itself (turned_bound b)
+  pub same_turned : (b : Bound K) → SameBound order (flipped_bound b) (flipped_bound b)
+  same_turned b = same_itself (flipped_bound b)
 
-  not_past_all : (e a : Bound K) → None ≡ inverted e → IsKnownBound order a
+  not_past_all : (e a : Bound K) → None ≡ flipped e → IsKnownBound order a
       → Lt (places order lawful) (past order (end_position order e))
       (past order (end_position order a)) → ⊥
   not_past_all (Included k) a turns known l = cc
@@ -121,7 +121,7 @@ module _ {K : Type 0} (order : KeyOrder K) (lawful : IsLawful order) where
       (unbounded_end order lawful a known)
 
   -- nothing ends after an unbounded end
-  pub ends_never : (r i : AnyRange K) → IsKnownRange order i → None ≡ inverted r.end → IsTrue false
+  pub ends_never : (r i : AnyRange K) → IsKnownRange order i → None ≡ flipped r.end → IsTrue false
       ↔ Lt (places order lawful) (upper order r) (upper order i)
   ends_never r i known turns =
       (λ h. absurd (cc), λ l. absurd (not_past_all r.end i.end turns known.1 l))
@@ -133,16 +133,16 @@ module _ {K : Type 0} (order : KeyOrder K) (lawful : IsLawful order) where
 
   -- a range ends after another where it reaches the start just after it
   pub ends_after_is : (r i : AnyRange K) (s : Bound K) → IsKnownRange order r → IsKnownRange order i
-      → Some s ≡ inverted r.end
+      → Some s ≡ flipped r.end
       → IsTrue (is_le (places order lawful (start_position order s) (end_position order i.end)))
       ↔ Lt (places order lawful) (upper order r) (upper order i)
   ends_after_is r i s known others turns =
       let total = position_total order.cmp lawful.total in
       let cmp = places order lawful in
-      let at = inverted_bound_is_past order lawful r.end s (sym turns) in
+      let at = flipped_bound_is_past order lawful r.end s (sym turns) in
       let reach =
       reaching_is_before_past order lawful s i.end
-      (turned_known order lawful r.end s (sym turns) known.1) others.1 in
+      (flipped_known order lawful r.end s (sym turns) known.1) others.1 in
       let test = le_is (cmp (start_position order s) (end_position order i.end)) in (
         λ h. le_lt_trans cmp total (upper order r) (start_position order s) (upper order i)
             (eq_le cmp total (upper order r) (start_position order s) at) (reach.0 (test.0 h)),

@@ -13,11 +13,11 @@ use Rattle.range_keys.specs.declared.inner.position.Side.TheVariants.{Before, At
 use Rattle.range_keys.proofs.BoundPositions.{IsEnd, ends_lie_at_ends}
 use Rattle.range_keys.proofs.Orderings.{less_unless_greater, less_unless_equal, less_unless_less, less_then_any}
 use Rattle.range_algebra.specs.Range.{IsKnownBound}
-use Rattle.range_algebra.specs.Compared.{inverted}
+use Rattle.range_algebra.specs.Compared.{flipped}
 use Rattle.range_algebra.specs.Intervals.{Le, Lt}
 use Rattle.range_algebra.specs.Orders.{eq_le, eq_ge, le_trans, lt_not_le, not_le, not_lt, both, le_lt_trans, lt_trans}
 use Rattle.range_algebra.specs.Cuts.{past}
-use Rattle.range_algebra.proofs.Places.{reaching_is_before_past, inverted_bound_is_past, turned_known, unbounded_end}
+use Rattle.range_algebra.proofs.Places.{reaching_is_before_past, flipped_bound_is_past, flipped_known, unbounded_end}
 
 module _ {K : Type 0} (order : KeyOrder K) (lawful : IsLawful order) where
   abbrev PLe : Position K → Position K → Type 0
@@ -27,14 +27,14 @@ module _ {K : Type 0} (order : KeyOrder K) (lawful : IsLawful order) where
   PLt p q = Lt (position_cmp order.cmp) p q
 
   -- an end that is at most another lies before it past its place too
-  past_turned : (e f i : Bound K) → inverted f ≡ Some i → IsKnownBound order e
+  past_turned : (e f i : Bound K) → flipped f ≡ Some i → IsKnownBound order e
       → IsKnownBound order f → PLe (end_position order e) (end_position order f)
       → PLe (past order (end_position order e)) (past order (end_position order f))
   past_turned e f i turns known known' le =
       let cmp = position_cmp order.cmp in
       let total = position_total order.cmp lawful.total in
-      let at = inverted_bound_is_past order lawful f i turns in
-      let start = turned_known order lawful f i turns known' in
+      let at = flipped_bound_is_past order lawful f i turns in
+      let start = flipped_known order lawful f i turns known' in
       let pe = past order (end_position order e) in
       let pf = past order (end_position order f) in
       let s = start_position order i in

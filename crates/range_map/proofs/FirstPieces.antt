@@ -11,7 +11,7 @@ use Rattle.range_keys.specs.Order.{KeyOrder, IsLawful}
 use Rattle.range_keys.specs.Position.{start_position, end_position, position_cmp}
 use Rattle.range_keys.specs.PositionOrder.{position_total}
 use Rattle.range_keys.specs.declared.inner.position.Position.{Position}
-use Rattle.range_algebra.specs.Compared.{inverted}
+use Rattle.range_algebra.specs.Compared.{flipped}
 use Rattle.range_algebra.specs.Cuts.{lower, upper, past}
 use Rattle.range_algebra.specs.Intervals.{Le, Lt}
 use Rattle.range_algebra.specs.Orders.{eq_le, eq_ge, le_trans, lt_not_le, lt_le_trans, not_lt, both}
@@ -19,7 +19,7 @@ use Rattle.range_algebra.specs.Range.{IsKnownBound}
 use Rattle.range_algebra.specs.References.{range_of}
 use denote.Ref.{Bor}
 use Rattle.range_algebra.specs.declared.any.AnyRange.{AnyRange}
-use Rattle.range_algebra.proofs.Places.{reaching_is_before_past, inverted_bound_is_past, turned_back, turned_known, unbounded_start, unbounded_end}
+use Rattle.range_algebra.proofs.Places.{reaching_is_before_past, flipped_bound_is_past, flipped_back, flipped_known, unbounded_start, unbounded_end}
 use Rattle.range_store.specs.declared.storage.Item.{Item}
 use Rattle.range_map.specs.Merged.{IsPlaced, IsPartFrom, IsSplitAt, IsCutFrom, IsUsedUp, StartAlike, IsFirstPiece}
 
@@ -67,7 +67,7 @@ module _ {K : Type 0} (order : KeyOrder K) (lawful : IsLawful order) where
 
   -- a start that lies past another is not unbounded
   pub later_has_end : (r : AnyRange K) (s : Bound K) → IsPlaced order r
-      → Lt cmp (Lo r) (start_position order s) → inverted s ≡ None → ⊥
+      → Lt cmp (Lo r) (start_position order s) → flipped s ≡ None → ⊥
   later_has_end r Unbounded placed later e =
       lt_not_le cmp (position_total order.cmp lawful.total) (Lo r) (start_position order Unbounded)
       later (unbounded_start order lawful r.start placed.known.0)
@@ -75,17 +75,17 @@ module _ {K : Type 0} (order : KeyOrder K) (lawful : IsLawful order) where
   later_has_end r (Excluded a) placed later e = cc
 
   pub split_off : (r : AnyRange K) (s e : Bound K) (rest : AnyRange K) → IsPlaced order r
-      → IsKnownBound order s → Lt cmp (Lo r) (start_position order s) → inverted s ≡ Some e
+      → IsKnownBound order s → Lt cmp (Lo r) (start_position order s) → flipped s ≡ Some e
       → IsPartFrom order r (Some s) (Some rest)
       → IsSplitAt order r (start_position order s) (record { start = r.start; end = e })
       (Some rest)
   split_off r s e rest placed known later turns part =
       let total = position_total order.cmp lawful.total in
       let p = start_position order s in
-      let at = inverted_bound_is_past order lawful e s (turned_back order lawful s e turns) in
+      let at = flipped_bound_is_past order lawful e s (flipped_back order lawful s e turns) in
       rw part.0 (record {
         front_placed = record {
-          known = (placed.known.0, turned_known order lawful s e turns known);
+          known = (placed.known.0, flipped_known order lawful s e turns known);
           good =
               lt_le_trans cmp total (Lo r) p (past order (end_position order e)) later
               (eq_ge cmp total (past order (end_position order e)) p at);
@@ -149,7 +149,7 @@ module _ {K : Type 0} (order : KeyOrder K) (lawful : IsLawful order) where
       IsPlaced order q × (cmp (Hi s) (Lo q) ≡ Equal) × (cmp (Hi q) (Hi r) ≡ Equal)
 
   past_by : (r : AnyRange K) (e : Bound K) (b : Option (Bound K)) (q : Option (AnyRange K))
-      → IsPlaced order r → IsKnownBound order e → inverted e ≡ b → IsPartFrom order r b q
+      → IsPlaced order r → IsKnownBound order e → flipped e ≡ b → IsPartFrom order r b q
       → (s : AnyRange K) → s.end ≡ e → IsPast r s q
   past_by r Unbounded None q placed known turns part s is =
       rw (part, is) (unbounded_end order lawful r.end placed.known.1)
@@ -157,27 +157,27 @@ module _ {K : Type 0} (order : KeyOrder K) (lawful : IsLawful order) where
   past_by r (Excluded a) None q placed known turns part s is = absurd (cc)
   past_by r e (Some b) None placed known turns part s is =
       let total = position_total order.cmp lawful.total in
-      let at = inverted_bound_is_past order lawful e b turns in
+      let at = flipped_bound_is_past order lawful e b turns in
       rw is (le_trans cmp total (Hi r) (start_position order b) (past order (end_position order e))
-      (ends_before b r.end (turned_known order lawful e b turns known) placed.known.1 part)
+      (ends_before b r.end (flipped_known order lawful e b turns known) placed.known.1 part)
       (eq_ge cmp total (past order (end_position order e)) (start_position order b) at))
   past_by r e (Some b) (Some q) placed known turns part s is =
       rw (part.0, is) (
-        rest_placed r b placed (turned_known order lawful e b turns known) part.1,
-        inverted_bound_is_past order lawful e b turns,
+        rest_placed r b placed (flipped_known order lawful e b turns known) part.1,
+        flipped_bound_is_past order lawful e b turns,
         itself (Hi r),
       )
 
   pub past_end_of : (r s : AnyRange K) (q : Option (AnyRange K)) → IsPlaced order r
-      → IsPlaced order s → IsPartFrom order r (inverted s.end) q → IsPast r s q
+      → IsPlaced order s → IsPartFrom order r (flipped s.end) q → IsPast r s q
   past_end_of r s q placed placed_s part =
-      past_by r s.end (inverted s.end) q placed placed_s.known.1 refl part s refl
+      past_by r s.end (flipped s.end) q placed placed_s.known.1 refl part s refl
 
   module _ {V W : Type 0} (i : Item (AnyRange K) V) (j : Item (AnyRange K) W)
       (placed : IsPlaced order i.key) (placed_j : IsPlaced order j.key)
       (alike : cmp (Lo i.key) (Lo j.key) ≡ Equal) where
     -- the second ends first
-    pub second_first : (q : AnyRange K) → IsPartFrom order i.key (inverted j.key.end) (Some q)
+    pub second_first : (q : AnyRange K) → IsPartFrom order i.key (flipped j.key.end) (Some q)
         → IsFirstPiece order (Some i) (Some j) j.key (Some i.value) (Some j.value)
         (Some (record { key = q; value = i.value })) None
     second_first q part =
@@ -196,8 +196,8 @@ module _ {K : Type 0} (order : KeyOrder K) (lawful : IsLawful order) where
 
     -- the first ends first, or both at once
     pub first_first : (q : Option (AnyRange (Bor K)))
-        → IsPartFrom order i.key (inverted j.key.end) None
-        → IsPartFrom order j.key (inverted i.key.end) (option_map range_of q)
+        → IsPartFrom order i.key (flipped j.key.end) None
+        → IsPartFrom order j.key (flipped i.key.end) (option_map range_of q)
         → IsFirstPiece order (Some i) (Some j) i.key (Some i.value) (Some j.value) None
         (option_map (λ r. record { key = range_of r; value = j.value }) q)
     first_first None part other =

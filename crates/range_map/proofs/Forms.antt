@@ -14,7 +14,7 @@ use Rattle.range_keys.specs.declared.inner.position.Side.TheVariants.{At}
 use Rattle.range_keys.proofs.Orderings.{not_both_greater_and_not, eq_is_equal, not_greater}
 use Rattle.range_algebra.specs.declared.any.AnyRange.{AnyRange}
 use Rattle.range_algebra.specs.Range.{Holds, IsKnownBound, IsKnownRange, IsEmptyRange}
-use Rattle.range_algebra.specs.Compared.{inverted, start_is_at, starts_at_end}
+use Rattle.range_algebra.specs.Compared.{flipped, start_is_at, starts_at_end}
 use Rattle.range_store.specs.declared.storage.Item.{Item}
 use Rattle.range_algebra.specs.Intervals.{Le, Lt, Every}
 use Rattle.range_algebra.specs.Orders.{eq_ge, le_trans, lt_not_le, cases, not_le, not_lt, both}
@@ -23,7 +23,7 @@ use Rattle.range_algebra.specs.Cuts.{past, lower, upper}
 use Rattle.range_map.specs.Stored.{IsStored}
 use Rattle.range_map.specs.Bindings.{IsBound, BindsTo, Binds, IsSomeOf, IsBoundAfter, IsUnboundAfter}
 use Rattle.range_map.proofs.Listed.{IsListed, stored_list_is_listed, stored_by}
-use Rattle.range_algebra.proofs.Places.{reaching_is_before_past, inverted_bound_is_past, unbounded_end, held_between}
+use Rattle.range_algebra.proofs.Places.{reaching_is_before_past, flipped_bound_is_past, unbounded_end, held_between}
 
 module _ {K : Type 0} (order : KeyOrder K) (lawful : IsLawful order) where
   abbrev pub places : Position K → Position K → Ordering
@@ -55,13 +55,13 @@ module _ {K : Type 0} (order : KeyOrder K) (lawful : IsLawful order) where
             (past order (end_position order e)) (reach.0 k) h),
       )
 
-  touches_by : (e i : Bound K) (s : AnyRange K) → inverted e ≡ Some i
+  touches_by : (e i : Bound K) (s : AnyRange K) → flipped e ≡ Some i
       → Le places (past order (end_position order e)) (lower order s)
       → IsTrue (start_is_at order (Some i) (lower order s))
       ↔ Le places (lower order s) (past order (end_position order e))
   touches_by e i s turns le =
       let total = position_total order.cmp lawful.total in
-      let at = inverted_bound_is_past order lawful e i turns in
+      let at = flipped_bound_is_past order lawful e i turns in
       let other = eq_is_equal (places (start_position order i) (lower order s)) in (
         λ h. le_trans places total (lower order s) (start_position order i)
             (past order (end_position order e))

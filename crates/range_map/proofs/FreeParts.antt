@@ -12,7 +12,7 @@ use Rattle.range_keys.specs.declared.inner.position.Side.TheVariants.{At}
 use Rattle.range_keys.proofs.Orderings.{equal_then_equal, not_both_greater_and_not, not_greater}
 use Rattle.range_algebra.specs.declared.any.AnyRange.{AnyRange}
 use Rattle.range_algebra.proofs.Lists.{any_left, any_right, every_append, every_left, every_right, every_weaker}
-use Rattle.range_algebra.specs.Compared.{inverted, starts_past_end}
+use Rattle.range_algebra.specs.Compared.{flipped, starts_past_end}
 use Rattle.range_algebra.specs.Cuts.{past}
 use Rattle.range_algebra.specs.Intervals.{Le, Lt, Any, Every}
 use Rattle.range_algebra.specs.Orders.{eq_le, eq_ge, le_refl, lt_le, le_trans, lt_not_le, cases, lt_le_trans, le_lt_trans, lt_trans, both}
@@ -20,15 +20,15 @@ use Rattle.range_algebra.specs.Range.{StartHolds, EndHolds, Holds, IsKnownBound,
 use Rattle.range_algebra.specs.RangeOrder.{range_cmp}
 use Rattle.range_algebra.specs.Relations.{LiesBefore}
 use Rattle.range_algebra.proofs.Holding.{start_holds, end_holds}
-use Rattle.range_algebra.proofs.Pieces.{start_decided, end_decided, inverted_end, inverted_start}
-use Rattle.range_algebra.proofs.Places.{inverted_bound_is_past, turned_back, turned_known, unbounded_start}
+use Rattle.range_algebra.proofs.Pieces.{start_decided, end_decided, flipped_end, flipped_start}
+use Rattle.range_algebra.proofs.Places.{flipped_bound_is_past, flipped_back, flipped_known, unbounded_start}
 use Rattle.range_store.specs.declared.storage.Item.{Item}
 use Rattle.range_map.specs.FreeRanges.{full_range, item_ranges, IsHeldOnce, AreGaps, between, free_from}
 use Rattle.range_map.specs.Neighbours.{BeforeFirst, EachNext}
 use Rattle.range_map.specs.Pieces.{LiesIn, IsFreePart, IsPiece}
 use Rattle.range_map.specs.Lookups.{Overlap}
 use Rattle.range_map.specs.Stored.{IsStored}
-use Rattle.range_map.proofs.Cutting.{every_with}
+use Rattle.range_map.proofs.RangePieces.{every_with}
 use Rattle.range_map.proofs.Forms.{before_is}
 use Rattle.range_map.proofs.JustBefore.{ends_before, ends_full}
 use Rattle.range_map.proofs.Listed.{IsListed, stored_list_is_listed}
@@ -84,19 +84,19 @@ module _ {K : Type 0} (order : KeyOrder K) (lawful : IsLawful order) where
   KnownCut None = Unit {0}
   KnownCut (Some b) = IsKnownBound order b
 
-  known_inverted : (b : Bound K) → IsKnownBound order b → KnownCut (inverted b)
+  known_inverted : (b : Bound K) → IsKnownBound order b → KnownCut (flipped b)
   known_inverted (Included a) h = h
   known_inverted (Excluded a) h = h
   known_inverted Unbounded h = tt
 
   -- a range starts after an end where it starts at the bound on the other side of it
   after_end_is_from_turned : (e i : Bound K) (r : AnyRange K) → IsKnownBound order e
-      → inverted e ≡ Some i → IsKnownBound order r.start → PLt (End e) (Start r.start)
+      → flipped e ≡ Some i → IsKnownBound order r.start → PLt (End e) (Start r.start)
       ↔ PLe (Start i) (Start r.start)
   after_end_is_from_turned e i r known turns full =
       let total = position_total order.cmp lawful.total in
       let cmp = position_cmp order.cmp in
-      let at = inverted_bound_is_past order lawful e i turns in
+      let at = flipped_bound_is_past order lawful e i turns in
       let by = before_is order lawful e r.start known full in (
         λ h. le_trans cmp total (Start i) (past order (End e)) (Start r.start)
             (eq_ge cmp total (past order (End e)) (Start i) at) (by.0 h),
@@ -114,7 +114,7 @@ module _ {K : Type 0} (order : KeyOrder K) (lawful : IsLawful order) where
       (ends_full order lawful r.end full.0.1))
 
   after_end_is_from : (e : Bound K) (r : AnyRange K) → IsKnownBound order e → IsFull r
-      → PLt (End e) (Start r.start) ↔ From (inverted e) r
+      → PLt (End e) (Start r.start) ↔ From (flipped e) r
   after_end_is_from (Included a) r known full =
       after_end_is_from_turned (Included a) (Excluded a) r known refl full.0.0
   after_end_is_from (Excluded a) r known full =
@@ -122,14 +122,14 @@ module _ {K : Type 0} (order : KeyOrder K) (lawful : IsLawful order) where
   after_end_is_from Unbounded r known full = (λ h. beyond_all r full h, λ h. absurd h)
 
   -- a range that ends just before a start lies before it
-  ends_just_before : (s i : Bound K) → IsKnownBound order s → inverted s ≡ Some i
+  ends_just_before : (s i : Bound K) → IsKnownBound order s → flipped s ≡ Some i
       → PLt (End i) (Start s)
   ends_just_before s i known turns =
       let total = position_total order.cmp lawful.total in
       let cmp = position_cmp order.cmp in
-      (before_is order lawful i s (turned_known order lawful s i turns known) known).1
+      (before_is order lawful i s (flipped_known order lawful s i turns known) known).1
       (eq_le cmp total (past order (End i)) (Start s)
-      (inverted_bound_is_past order lawful i s (turned_back order lawful s i turns)))
+      (flipped_bound_is_past order lawful i s (flipped_back order lawful s i turns)))
 
   -- what holds of each range that may stand between two bounds holds of the one that does
   between_by : (P : AnyRange K → Type 0) (a b : Bound K) (t : Bool) → starts_past_end order a b ≡ t
@@ -235,7 +235,7 @@ module _ {K : Type 0} (order : KeyOrder K) (lawful : IsLawful order) where
         any_left (λ g. range_cmp order g part ≡ Equal) (between order (Some a) (Some b)) gaps
         (found_at a b from (ends b refl) (every_left F (between order (Some a) (Some b)) gaps such))
 
-    bounded_start : (b : Bound K) → PLt (End part.end) (Start b) → inverted b ≡ None → ⊥
+    bounded_start : (b : Bound K) → PLt (End part.end) (Start b) → flipped b ≡ None → ⊥
     bounded_start (Included a) l e = cc
     bounded_start (Excluded a) l e = cc
     bounded_start Unbounded l e =
@@ -268,17 +268,17 @@ module _ {K : Type 0} (order : KeyOrder K) (lawful : IsLawful order) where
   held_between (Some a) (Some b) k key h ends some =
       between_is (HeldBy k) a b (held_reach a b k key h (ends b refl)) (inl (h, ends b refl))
 
-  unheld_start : (b : Bound K) (k : K) → (StartHolds order b k → ⊥) → inverted b ≡ None → ⊥
+  unheld_start : (b : Bound K) (k : K) → (StartHolds order b k → ⊥) → flipped b ≡ None → ⊥
   unheld_start (Included a) k h e = cc
   unheld_start (Excluded a) k h e = cc
   unheld_start Unbounded k h e = h tt
 
   unheld_end_holds_from : (b : Bound K) (k : K) → (EndHolds order b k → ⊥)
-      → HoldsFrom (inverted b) k
+      → HoldsFrom (flipped b) k
   unheld_end_holds_from (Included a) k h =
-      (inverted_start order lawful (Included a) (Excluded a) k refl).1 h
+      (flipped_start order lawful (Included a) (Excluded a) k refl).1 h
   unheld_end_holds_from (Excluded a) k h =
-      (inverted_start order lawful (Excluded a) (Included a) k refl).1 h
+      (flipped_start order lawful (Excluded a) (Included a) k refl).1 h
   unheld_end_holds_from Unbounded k h = absurd (h tt)
 
   before_not_both : (r s : AnyRange K) (k : K) → order.is_key k → LiesBefore order r s
@@ -368,10 +368,10 @@ module _ {K : Type 0} (order : KeyOrder K) (lawful : IsLawful order) where
     Ahead s items = Every (λ j. From s j.key) items
 
     ahead_next : (i : Item (AnyRange K) V) (rest : List (Item (AnyRange K) V)) → IsRow (i ∷ rest)
-        → Ahead (inverted i.key.end) rest
+        → Ahead (flipped i.key.end) rest
     ahead_next i rest row =
         every_with (λ j. IsFull j.key) (λ j. LiesBefore order i.key j.key)
-        (λ j. From (inverted i.key.end) j.key) rest row.full.1 row.pairs.0
+        (λ j. From (flipped i.key.end) j.key) rest row.full.1 row.pairs.0
         (λ j full l. (after_end_is_from i.key.end j.key row.full.0.0.1 full).0 l)
 
     -- free ranges are known and nonempty
@@ -381,18 +381,18 @@ module _ {K : Type 0} (order : KeyOrder K) (lawful : IsLawful order) where
         each_between IsFull s (Some Unbounded)
         (λ a b e f le. ((subst KnownCut e known, subst KnownCut f tt), le))
     free_full s (i ∷ rest) known full =
-        every_append IsFull (between order s (inverted i.key.start))
-        (free_from order (inverted i.key.end) rest)
-        (each_between IsFull s (inverted i.key.start)
+        every_append IsFull (between order s (flipped i.key.start))
+        (free_from order (flipped i.key.end) rest)
+        (each_between IsFull s (flipped i.key.start)
         (λ a b e f le. (
           (subst KnownCut e known, subst KnownCut f (known_inverted i.key.start full.0.0.0)),
           le,
         )))
-        (free_full (inverted i.key.end) rest (known_inverted i.key.end full.0.0.1) full.1)
+        (free_full (flipped i.key.end) rest (known_inverted i.key.end full.0.0.1) full.1)
 
     -- what starts after the end of an item starts after what the item starts after
     from_end_is_from_start : (s : Option (Bound K)) (i : Item (AnyRange K) V) (r : AnyRange K)
-        → IsFull i.key → IsFull r → From s i.key → From (inverted i.key.end) r → From s r
+        → IsFull i.key → IsFull r → From s i.key → From (flipped i.key.end) r → From s r
     from_end_is_from_start None i r full full_r ahead h = ahead
     from_end_is_from_start (Some b) i r full full_r ahead h =
         let total = position_total order.cmp lawful.total in
@@ -409,18 +409,18 @@ module _ {K : Type 0} (order : KeyOrder K) (lawful : IsLawful order) where
         (λ a b e f le. (from_is s a (record { start = a; end = b }) e).1
         (le_refl (position_cmp order.cmp) (position_total order.cmp lawful.total) (Start a)))
     free_ranges_are_from s (i ∷ rest) row ahead =
-        let gaps = free_from order (inverted i.key.end) rest in
+        let gaps = free_from order (flipped i.key.end) rest in
         let full =
-        free_full (inverted i.key.end) rest
+        free_full (flipped i.key.end) rest
         (known_inverted i.key.end row.full.0.0.1) row.full.1 in
         let others =
-        free_ranges_are_from (inverted i.key.end) rest (rest_row i rest row)
+        free_ranges_are_from (flipped i.key.end) rest (rest_row i rest row)
         (ahead_next i rest row) in
-        every_append (From s) (between order s (inverted i.key.start)) gaps
-        (each_between (From s) s (inverted i.key.start)
+        every_append (From s) (between order s (flipped i.key.start)) gaps
+        (each_between (From s) s (flipped i.key.start)
         (λ a b e f le. (from_is s a (record { start = a; end = b }) e).1
         (le_refl (position_cmp order.cmp) (position_total order.cmp lawful.total) (Start a))))
-        (every_with IsFull (From (inverted i.key.end)) (From s) gaps full others
+        (every_with IsFull (From (flipped i.key.end)) (From s) gaps full others
         (λ r full_r h. from_end_is_from_start s i r row.full.0 full_r ahead.0 h))
 
     abbrev Misses : List (Item (AnyRange K) V) → AnyRange K → Type 0
@@ -447,23 +447,23 @@ module _ {K : Type 0} (order : KeyOrder K) (lawful : IsLawful order) where
         → Every (Misses items) (free_from order s items)
     free_misses s [] row = each_between (Misses []) s (Some Unbounded) (λ a b e f le. tt)
     free_misses s (i ∷ rest) row =
-        let gaps = free_from order (inverted i.key.end) rest in
+        let gaps = free_from order (flipped i.key.end) rest in
         let full =
-        free_full (inverted i.key.end) rest
+        free_full (flipped i.key.end) rest
         (known_inverted i.key.end row.full.0.0.1) row.full.1 in
         let after =
-        free_ranges_are_from (inverted i.key.end) rest (rest_row i rest row)
+        free_ranges_are_from (flipped i.key.end) rest (rest_row i rest row)
         (ahead_next i rest row) in
         let past =
-        every_with IsFull (From (inverted i.key.end))
+        every_with IsFull (From (flipped i.key.end))
         (λ r. LiesBefore order i.key r) gaps full after
         (λ r full_r h. (after_end_is_from i.key.end r row.full.0.0.1 full_r).1 h) in
-        every_append (Misses (i ∷ rest)) (between order s (inverted i.key.start)) gaps
-        (each_between (Misses (i ∷ rest)) s (inverted i.key.start)
+        every_append (Misses (i ∷ rest)) (between order s (flipped i.key.start)) gaps
+        (each_between (Misses (i ∷ rest)) s (flipped i.key.start)
         (λ a b e f le. misses_before i rest (record { start = a; end = b }) row
         (ends_just_before i.key.start b row.full.0.0.0 f)))
         (every_with (λ r. LiesBefore order i.key r) (Misses rest) (Misses (i ∷ rest)) gaps past
-        (free_misses (inverted i.key.end) rest (rest_row i rest row))
+        (free_misses (flipped i.key.end) rest (rest_row i rest row))
         (λ r l h. (λ meets. meets.0 l, h)))
 
     free_pairs : (s : Option (Bound K)) (items : List (Item (AnyRange K) V)) → IsRow items
@@ -483,21 +483,21 @@ module _ {K : Type 0} (order : KeyOrder K) (lawful : IsLawful order) where
     free_pairs s (i ∷ rest) row =
         let total = position_total order.cmp lawful.total in
         let cmp = position_cmp order.cmp in
-        let gaps = free_from order (inverted i.key.end) rest in
+        let gaps = free_from order (flipped i.key.end) rest in
         let full =
-        free_full (inverted i.key.end) rest
+        free_full (flipped i.key.end) rest
         (known_inverted i.key.end row.full.0.0.1) row.full.1 in
         let after =
-        free_ranges_are_from (inverted i.key.end) rest (rest_row i rest row)
+        free_ranges_are_from (flipped i.key.end) rest (rest_row i rest row)
         (ahead_next i rest row) in
         let past =
-        every_with IsFull (From (inverted i.key.end))
+        every_with IsFull (From (flipped i.key.end))
         (λ r. LiesBefore order i.key r) gaps full after
         (λ r full_r h. (after_end_is_from i.key.end r row.full.0.0.1 full_r).1 h) in
-        pairs_append (LiesBefore order) (between order s (inverted i.key.start)) gaps
-        (range_between_is_alone s (inverted i.key.start))
-        (free_pairs (inverted i.key.end) rest (rest_row i rest row))
-        (each_between (λ g. Every (LiesBefore order g) gaps) s (inverted i.key.start) (λ a b e f le.
+        pairs_append (LiesBefore order) (between order s (flipped i.key.start)) gaps
+        (range_between_is_alone s (flipped i.key.start))
+        (free_pairs (flipped i.key.end) rest (rest_row i rest row))
+        (each_between (λ g. Every (LiesBefore order g) gaps) s (flipped i.key.start) (λ a b e f le.
         let first = ends_just_before i.key.start b row.full.0.0.0 f in
         every_weaker (λ r. LiesBefore order i.key r) (λ r. PLt (End b) (Start r.start)) gaps
         (λ r l. lt_trans cmp total (End b) (End i.key.end) (Start r.start)
@@ -517,13 +517,13 @@ module _ {K : Type 0} (order : KeyOrder K) (lawful : IsLawful order) where
 
     module _ (F : AnyRange K → Type 0) (full : (r : AnyRange K) → F r → IsFull r) where
       item_bars_after_end : (i : Item (AnyRange K) V) → IsFull i.key
-          → ((r : AnyRange K) → F r → ¬ Overlap order i.key r) → Bars F (inverted i.key.end)
+          → ((r : AnyRange K) → F r → ¬ Overlap order i.key r) → Bars F (flipped i.key.end)
       item_bars_after_end i known apart b e r such reach =
           let total = position_total order.cmp lawful.total in
           let cmp = position_cmp order.cmp in
           elim (lies_by i.key r (apart r such)) [
             | inl l ↦
-                (from_is (inverted i.key.end) b r e).0
+                (from_is (flipped i.key.end) b r e).0
                 ((after_end_is_from i.key.end r known.0.1 (full r such)).0 l)
             | inr l ↦
                 let over =
@@ -540,9 +540,9 @@ module _ {K : Type 0} (order : KeyOrder K) (lawful : IsLawful order) where
 
       wide_between : (s : Option (Bound K)) (i : Item (AnyRange K) V) → Bars F s → IsFull i.key
           → ((r : AnyRange K) → F r → ¬ Overlap order i.key r)
-          → Every (IsWide F) (between order s (inverted i.key.start))
+          → Every (IsWide F) (between order s (flipped i.key.start))
       wide_between s i bars known apart =
-          each_between (IsWide F) s (inverted i.key.start) (λ a b e f le r such within.
+          each_between (IsWide F) s (flipped i.key.start) (λ a b e f le r such within.
           let total = position_total order.cmp lawful.total in
           let cmp = position_cmp order.cmp in
           let first = ends_just_before i.key.start b known.0.0 f in
@@ -572,10 +572,10 @@ module _ {K : Type 0} (order : KeyOrder K) (lawful : IsLawful order) where
           → Every (IsWide F) (free_from order s items)
       free_wide s [] known apart bars = wide_last F full s bars
       free_wide s (i ∷ rest) known apart bars =
-          every_append (IsWide F) (between order s (inverted i.key.start))
-          (free_from order (inverted i.key.end) rest)
+          every_append (IsWide F) (between order s (flipped i.key.start))
+          (free_from order (flipped i.key.end) rest)
           (wide_between s i bars known.0 (λ r such. (apart r such).0))
-          (free_wide (inverted i.key.end) rest known.1 (λ r such. (apart r such).1)
+          (free_wide (flipped i.key.end) rest known.1 (λ r such. (apart r such).1)
           (item_bars_after_end i known.0 (λ r such. (apart r such).0)))
 
     module _ (F : AnyRange K → Type 0) (part : AnyRange K) (full : IsFull part)
@@ -591,15 +591,15 @@ module _ {K : Type 0} (order : KeyOrder K) (lawful : IsLawful order) where
           elim (lies_by i.key part apart.0) [
             | inl l ↦
                 any_right (λ g. range_cmp order g part ≡ Equal)
-                (between order s (inverted i.key.start))
-                (free_from order (inverted i.key.end) rest)
-                (free_found (inverted i.key.end) rest known.1 apart.1
+                (between order s (flipped i.key.start))
+                (free_from order (flipped i.key.end) rest)
+                (free_found (flipped i.key.end) rest known.1 apart.1
                 ((after_end_is_from i.key.end part known.0.0.1 full).0 l)
-                (every_right F (between order s (inverted i.key.start))
-                (free_from order (inverted i.key.end) rest) such))
+                (every_right F (between order s (flipped i.key.start))
+                (free_from order (flipped i.key.end) rest) such))
             | inr l ↦
-                found_between F part full wide s (inverted i.key.start)
-                (free_from order (inverted i.key.end) rest)
+                found_between F part full wide s (flipped i.key.start)
+                (free_from order (flipped i.key.end) rest)
                 from (λ b e. ends_before order lawful part.end i.key.start b full.0.1 e l)
                 (bounded_start F part full wide i.key.start l) such
           ]
@@ -665,13 +665,13 @@ module _ {K : Type 0} (order : KeyOrder K) (lawful : IsLawful order) where
         (λ b e. let same : Unbounded
         ≡ b = same_some (Some Unbounded) Unbounded b refl e in rw (← same) tt) (λ e. cc))
     key_is_held_or_free s (i ∷ rest) k key h =
-        let first = between order s (inverted i.key.start) in
-        let gaps = free_from order (inverted i.key.end) rest in
+        let first = between order s (flipped i.key.start) in
+        let gaps = free_from order (flipped i.key.end) rest in
         elim (start_decided order lawful i.key.start k) [
           | inl from ↦ elim (end_decided order lawful i.key.end k) [
             | inl upto ↦ inl (inl (from, upto))
             | inr over ↦
-                elim (key_is_held_or_free (inverted i.key.end) rest k key
+                elim (key_is_held_or_free (flipped i.key.end) rest k key
                 (unheld_end_holds_from i.key.end k over)) [
                   | inl g ↦ inl (inr g)
                   | inr g ↦ inr (any_right (λ r. Holds order r k) first gaps g)
@@ -679,8 +679,8 @@ module _ {K : Type 0} (order : KeyOrder K) (lawful : IsLawful order) where
           ]
           | inr under ↦
               inr (any_left (λ r. Holds order r k) first gaps
-              (held_between s (inverted i.key.start) k key h
-              (λ b e. (inverted_end order lawful i.key.start b k e).1 under)
+              (held_between s (flipped i.key.start) k key h
+              (λ b e. (flipped_end order lawful i.key.start b k e).1 under)
               (unheld_start i.key.start k under)))
         ]
 
@@ -748,8 +748,8 @@ module _ {K : Type 0} (order : KeyOrder K) where
   few_free s (i ∷ rest) =
       omega (
         arith,
-        one_between s (inverted i.key.start),
-        few_free (inverted i.key.end) rest,
-        length-append (between order s (inverted i.key.start))
-            (free_from order (inverted i.key.end) rest),
+        one_between s (flipped i.key.start),
+        few_free (flipped i.key.end) rest,
+        length-append (between order s (flipped i.key.start))
+            (free_from order (flipped i.key.end) rest),
       )

@@ -1,4 +1,5 @@
--- Where a range meets no stored one, no item is cut beside it, and what is made of the list is in its
+-- Where a range meets no stored one, no item is cut beside it, and what is made of the list is in
+-- its
 -- form.
 use Rattle.std.proofs.Common.{◌≡◌, refl, Bool, List, Option, Some, None, Result, Ok, Err, OnOk, OnErr}
 use Rattle.std.specs.declared.ops.Bound.{Bound}

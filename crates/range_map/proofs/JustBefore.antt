@@ -10,7 +10,7 @@ use Rattle.range_keys.specs.declared.inner.position.Position.TheVariants.{MinusI
 use Rattle.range_keys.specs.declared.inner.position.Side.TheVariants.{Before, At, After}
 use Rattle.range_keys.proofs.BoundPositions.{IsEnd, ends_lie_at_ends}
 use Rattle.range_keys.proofs.Orderings.{less_then_greater, any_then_equal, less_unless_less}
-use Rattle.range_algebra.specs.Compared.{inverted}
+use Rattle.range_algebra.specs.Compared.{flipped}
 use Rattle.range_algebra.specs.Intervals.{Le, Lt}
 use Rattle.range_algebra.specs.Orders.{eq_ge, lt_not_le, lt_le_trans, not_le, not_lt, both}
 use Rattle.range_algebra.specs.Range.{IsKnownBound}
@@ -95,7 +95,7 @@ module _ {K : Type 0} (order : KeyOrder K) (lawful : IsLawful order) where
   before_excluded PlusInfinity a (Some c) h n l = absurd (cc)
 
   -- an end before a start lies at most at the end that is just before it
-  pub ends_before : (e s i : Bound K) → IsKnownBound order e → inverted s ≡ Some i
+  pub ends_before : (e s i : Bound K) → IsKnownBound order e → flipped s ≡ Some i
       → PLt (end_position order e) (start_position order s)
       → PLe (end_position order e) (end_position order i)
   ends_before e (Included a) i known turns l = let same : Excluded a ≡ i =

@@ -13,7 +13,7 @@ use Rattle.range_keys.specs.declared.inner.position.Position.{Position}
 use Rattle.range_keys.specs.declared.inner.position.Position.TheVariants.{Beside}
 use Rattle.range_keys.specs.declared.inner.position.Side.TheVariants.{At}
 use Rattle.range_keys.proofs.BoundPositions.{starts_lie_at_starts, ends_lie_at_ends}
-use Rattle.range_algebra.specs.Compared.{inverted}
+use Rattle.range_algebra.specs.Compared.{flipped}
 use Rattle.range_algebra.specs.Cuts.{lower, upper, past}
 use Rattle.range_algebra.specs.Intervals.{Le, Lt, Any, Every}
 use Rattle.range_algebra.specs.Orders.{le_refl, lt_le, eq_le, eq_ge, le_trans, lt_not_le, lt_trans, cases, le_lt_trans, lt_le_trans, not_le}
@@ -23,7 +23,7 @@ use Rattle.range_algebra.proofs.Canonical.{NotPast, IsBefore, KeyFrom, key_from}
 use Rattle.range_algebra.proofs.Completeness.{nonempty_holds}
 use Rattle.range_algebra.proofs.Holding.{holds_by_position}
 use Rattle.range_algebra.proofs.Meeting.{past_is_start}
-use Rattle.range_algebra.proofs.Places.{held_between, inverted_bound_is_past, reaching_is_before_past, turned_known, unbounded_end}
+use Rattle.range_algebra.proofs.Places.{held_between, flipped_bound_is_past, reaching_is_before_past, flipped_known, unbounded_end}
 use Rattle.range_store.specs.declared.storage.Item.{Item}
 use Rattle.range_map.specs.Bindings.{IsBound}
 use Rattle.range_map.specs.Chains.{line_of}
@@ -31,9 +31,9 @@ use Rattle.range_map.specs.Pieces.{LiesIn}
 use Rattle.range_map.specs.Stored.{IsStored, item_lower}
 use Rattle.range_map.specs.Together.{MeetNowhere, LieInside, ShareNoKey, BindKeysOf}
 use Rattle.range_map.proofs.Chains.{chain_above}
-use Rattle.range_map.proofs.Cutting.{lies_in}
+use Rattle.range_map.proofs.RangePieces.{lies_in}
 use Rattle.range_map.proofs.Forms.{Known, Chained, nonempty_good, stored_chain, stored_known}
-use Rattle.range_map.proofs.Meeting.{binding_meets, meeting_binds}
+use Rattle.range_map.proofs.Overlaps.{binding_meets, meeting_binds}
 
 abbrev any_same : {V : Type 0} → V → V → Bool
 any_same _ _ = true
@@ -53,7 +53,8 @@ module _ {K : Type 0} (order : KeyOrder K) (lawful : IsLawful order) where
 
   module _ {W : Type 0} where
     -- a key of a range that lies in one of the list is bound
-    pub inside_holds : (i : AnyRange K) (others : List (Item (AnyRange K) W)) (k : K) → order.is_key k
+    pub inside_holds : (i : AnyRange K) (others : List (Item (AnyRange K) W)) (k : K)
+        → order.is_key k
         → Holds order i k → Any (λ j. LiesIn order i j.key) others → IsBound order others k
     inside_holds i [] k key held inside = inside
     inside_holds i (j ∷ others) k key held (inr inside) =
@@ -70,7 +71,8 @@ module _ {K : Type 0} (order : KeyOrder K) (lawful : IsLawful order) where
 
   module _ {V W : Type 0} where
     -- lists of which no ranges meet share no key
-    pub apart_share_none : (items : List (Item (AnyRange K) V)) (others : List (Item (AnyRange K) W))
+    pub apart_share_none : (items : List (Item (AnyRange K) V))
+        (others : List (Item (AnyRange K) W))
         → MeetNowhere order items others → ShareNoKey order items others
     apart_share_none [] others apart k key bound other = bound
     apart_share_none (i ∷ items) others apart k key (inl held) other =
@@ -140,17 +142,17 @@ module _ {K : Type 0} (order : KeyOrder K) (lawful : IsLawful order) where
           at.0,
         )
 
-    turned_end : (r : AnyRange K) (e b : Bound K) → inverted e ≡ Some b → IsKnownRange order r
+    end_is_flipped : (r : AnyRange K) (e b : Bound K) → flipped e ≡ Some b → IsKnownRange order r
         → IsKnownBound order e → Le cmp (Lo r) (past order (end_position order e))
         → Lt cmp (past order (end_position order e)) (Hi r)
         → HasKeyIn r (past order (end_position order e))
-    turned_end r e b turns known known_e from upto =
+    end_is_flipped r e b turns known known_e from upto =
         let total = position_total order.cmp lawful.total in
         let p = past order (end_position order e) in
         let q = start_position order b in
-        let at = inverted_bound_is_past order lawful e b turns in
+        let at = flipped_bound_is_past order lawful e b turns in
         let found =
-        from_bound r b known (turned_known order lawful e b turns known_e)
+        from_bound r b known (flipped_known order lawful e b turns known_e)
         (le_trans cmp total (Lo r) p q from (eq_le cmp total p q at))
         (le_lt_trans cmp total q p (Hi r) (eq_ge cmp total p q at) upto) in (
           found.0,
@@ -168,9 +170,9 @@ module _ {K : Type 0} (order : KeyOrder K) (lawful : IsLawful order) where
         (past order (end_position order Unbounded)) (Hi r) upto
         (unbounded_end order lawful r.end known.1))
     past_end r (Included a) known known_e from upto =
-        turned_end r (Included a) (Excluded a) refl known known_e from upto
+        end_is_flipped r (Included a) (Excluded a) refl known known_e from upto
     past_end r (Excluded a) known known_e from upto =
-        turned_end r (Excluded a) (Included a) refl known known_e from upto
+        end_is_flipped r (Excluded a) (Included a) refl known known_e from upto
 
     -- a key of the range before the start of another that starts within it
     module _ {V : Type 0} (i : Item (AnyRange K) V) (known : IsKnownRange order i.key)

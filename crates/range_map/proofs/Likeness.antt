@@ -27,8 +27,8 @@ use Rattle.range_map.specs.Answers.{piece_of, FailsAt, IsUpdated}
 use Rattle.range_map.specs.Frames.{IsMergedInto}
 use Rattle.range_map.specs.Pieces.{later, earlier, IsCommonPart, LiesIn, IsFreePart, IsPiece}
 use Rattle.range_map.specs.Lookups.{Overlap}
-use Rattle.range_map.proofs.Cutting.{PLe, any_over, later_over, earlier_under, either_choice_holds}
-use Rattle.range_map.proofs.Merging.{way_follows}
+use Rattle.range_map.proofs.RangePieces.{PLe, any_over, later_over, earlier_under, either_choice_holds}
+use Rattle.range_map.proofs.MergedItems.{way_follows}
 
 not_false_is_greater : (o : Ordering) → (is_gt o ≡ false → ⊥) → o ≡ Greater
 not_false_is_greater Less h = absurd (h refl)
@@ -245,14 +245,16 @@ module _ {K : Type 0} (order : KeyOrder K) (lawful : IsLawful order) where
           inr
           (inl (
             touches_start i.key.end s r starts_alike h.0,
-            any_over _ _ others (λ j g. (g.0, overlap_too s r starts_alike ends_alike j.key g.1, g.2))
+            any_over _ _ others (λ j g.
+                (g.0, overlap_too s r starts_alike ends_alike j.key g.1, g.2))
                 h.1,
           ))
       concerned_too i (inr (inr h)) =
           inr
           (inr (
             touches_end s.end r.end (start_position order i.key.start) end h.0,
-            any_over _ _ others (λ j g. (g.0, overlap_too s r starts_alike ends_alike j.key g.1, g.2))
+            any_over _ _ others (λ j g.
+                (g.0, overlap_too s r starts_alike ends_alike j.key g.1, g.2))
                 h.1,
           ))
 

@@ -22,9 +22,9 @@ use Rattle.range_map.specs.Lookups.{MeetsSome, Overlap}
 use Rattle.range_map.specs.Overlapping.{AreOverlapping, IsLastStarting, place_after}
 use Rattle.range_map.specs.Stored.{IsStored}
 use Rattle.range_map.specs.Window.{IsFound, IsJustBefore}
-use Rattle.range_map.proofs.Cutting.{every_with}
+use Rattle.range_map.proofs.RangePieces.{every_with}
 use Rattle.range_map.proofs.Found.{starts_rise, stored_tail, every_nonempty, stored_drop}
-use Rattle.range_map.proofs.Gathering.{take_one_more}
+use Rattle.range_map.proofs.PieceAnswers.{take_one_more}
 use Rattle.range_map.proofs.JustBefore.{ends_full}
 use Rattle.range_map.proofs.Listed.{IsListed, stored_list_is_listed}
 use Rattle.range_map.proofs.Windows.{first_of_run, last_of_run}
@@ -208,7 +208,8 @@ module _ {K : Type 0} (order : KeyOrder K) (lawful : IsLawful order) where
       -- it at the latest
       pub overlapping_are : (items : List (Item (AnyRange K) V)) (a b : ℕ)
           → IsStored order same items → a ≤ length items
-          → Every (λ i. PLt (End i) Low) (take a items) → Every (λ i. PLe Low (End i)) (drop a items)
+          → Every (λ i. PLt (End i) Low) (take a items)
+          → Every (λ i. PLe Low (End i)) (drop a items)
           → Every (λ i. PLe (Start i) High) (take b items)
           → Every (λ i. PLt High (Start i)) (drop b items)
           → AreOverlapping order items r (take (b - a) (drop a items))
@@ -386,7 +387,8 @@ module _ {T : Type 0} (items : List T) (p q : ℕ) (x : T) (within : q < length 
       → take (q + 1 - p) (drop p items) ≡ x ∷ take (q + 1 - n) (drop n items)
   run_first le read n next =
       let left : q + 1 - p - 1 ≡ q + 1 - (p + 1) = omega arith in
-      rw next (first_of_run items p (q + 1 - p) x (omega (arith, le)) (omega (arith, le, within)) read
+      rw next (first_of_run items p (q + 1 - p) x (omega (arith, le))
+      (omega (arith, le, within)) read
       ∙ ap (λ m. x ∷ take m (drop (p + 1) items)) left)
 
   pub run_last : p ≤ q → x ≡ get_or items q x → (n : ℕ) → n + 1 ≡ q

@@ -11,7 +11,7 @@ use Rattle.range_keys.specs.PositionOrder.{position_total}
 use Rattle.range_keys.specs.declared.inner.position.Position.{Position}
 use Rattle.range_algebra.specs.declared.any.AnyRange.{AnyRange}
 use Rattle.range_algebra.specs.Combined.{common}
-use Rattle.range_algebra.specs.Compared.{inverted, starts_past_end}
+use Rattle.range_algebra.specs.Compared.{flipped, starts_past_end}
 use Rattle.range_algebra.specs.Cuts.{past, lower}
 use Rattle.range_algebra.specs.Intervals.{Any, Every}
 use Rattle.range_algebra.specs.Orders.{le_refl, lt_le, eq_le, eq_ge, le_trans, cases, not_le, not_lt, lt_le_trans}
@@ -19,7 +19,7 @@ use Rattle.range_algebra.specs.Range.{IsEmptyRange, IsKnownBound, IsKnownRange}
 use Rattle.range_algebra.specs.Relations.{LiesBefore}
 use Rattle.range_algebra.proofs.Commons.{later_is, earlier_is}
 use Rattle.range_algebra.proofs.Lists.{any_left, any_right, every_weaker, every_append, every_left, every_right}
-use Rattle.range_algebra.proofs.Places.{reaching_is_before_past, inverted_bound_is_past, turned_back, turned_known, unbounded_start, unbounded_end}
+use Rattle.range_algebra.proofs.Places.{reaching_is_before_past, flipped_bound_is_past, flipped_back, flipped_known, unbounded_start, unbounded_end}
 use Rattle.range_store.specs.declared.storage.Item.{Item}
 use Rattle.range_map.specs.Answers.{Answered, piece_of}
 use Rattle.range_map.specs.Chains.{line_of, Leads}
@@ -30,9 +30,9 @@ use Rattle.range_map.specs.Overlapping.{AreOverlapping}
 use Rattle.range_map.specs.Pieces.{IsCommonPart, IsFreePart, ArePieces}
 use Rattle.range_map.specs.Stored.{item_lower, IsStored}
 use Rattle.range_map.proofs.Chains.{chain_before, chain_right, follows_above}
-use Rattle.range_map.proofs.Cutting.{PLe, PLt, Lo, Hi, IsFull, IsOpenPart, IsRight, IsInside, IsCutUpTo, cut_none, cut_more, cut_all, common_is, common_within, any_end, any_with, any_use, every_with, free_apart, free_inside, common_place_is_not_clear}
+use Rattle.range_map.proofs.RangePieces.{PLe, PLt, Lo, Hi, IsFull, IsOpenPart, IsRight, IsInside, IsCutUpTo, cut_none, cut_more, cut_all, common_is, common_within, any_end, any_with, any_use, every_with, free_apart, free_inside, common_place_is_not_clear}
 use Rattle.range_map.proofs.Forms.{Chained, before_is, stored_chain, stored_known, nonempty_good}
-use Rattle.range_map.proofs.Gathering.{all_full}
+use Rattle.range_map.proofs.PieceAnswers.{all_full}
 
 -- a piece to which no answer was given
 abbrev told : {K V : Type 0} → Item (AnyRange K) (Option V) → Answered K V
@@ -356,27 +356,27 @@ module _ {K : Type 0} (order : KeyOrder K) (lawful : IsLawful order) {V : Type 0
               (le_refl cmp total hi, tt);
         }
 
-    opens_by : (e : Bound K) (i : Option (Bound K)) → IsKnownBound order e → inverted e ≡ i
+    opens_by : (e : Bound K) (i : Option (Bound K)) → IsKnownBound order e → flipped e ≡ i
         → (i ≡ None → Le' (High r) (past order (end_position order e)))
         → Opens i (past order (end_position order e))
     opens_by e None known_e turns last = last refl
     opens_by e (Some b) known_e turns last = (
-      turned_known order lawful e b turns known_e,
+      flipped_known order lawful e b turns known_e,
       tied_back (position_total order.cmp lawful.total) (past order (end_position order e))
-          (start_position order b) (inverted_bound_is_past order lawful e b turns),
+          (start_position order b) (flipped_bound_is_past order lawful e b turns),
     )
 
-    last_end : (e : Bound K) → inverted e ≡ None
+    last_end : (e : Bound K) → flipped e ≡ None
         → Le' (High r) (past order (end_position order e))
     last_end (Included k) turns = absurd (cc)
     last_end (Excluded k) turns = absurd (cc)
     last_end Unbounded turns = unbounded_end order lawful r.end known.1
 
-    opens_after : Opens (inverted x.key.end) (High x.key)
+    opens_after : Opens (flipped x.key.end) (High x.key)
     opens_after =
-        opens_by x.key.end (inverted x.key.end) good_at.0.1 refl (last_end x.key.end)
+        opens_by x.key.end (flipped x.key.end) good_at.0.1 refl (last_end x.key.end)
 
-    first_start : (s : Bound K) (from : Position K) → inverted s ≡ None → Le' (Low r) from
+    first_start : (s : Bound K) (from : Position K) → flipped s ≡ None → Le' (Low r) from
         → Le' (start_position order s) from
     first_start (Included k) from turns le = absurd (cc)
     first_start (Excluded k) from turns le = absurd (cc)
@@ -388,7 +388,7 @@ module _ {K : Type 0} (order : KeyOrder K) (lawful : IsLawful order) {V : Type 0
     -- the gap before the item
     gap_before : (from : Position K) (start : Option (Bound K)) (answers : List (Answered K V))
         → IsReady done from → Opens start from → IsCutUpTo order lawful items r from answers
-        → Reaches answers (free_between order start (inverted x.key.start))
+        → Reaches answers (free_between order start (flipped x.key.start))
         (λ m. Le' (Low x.key) m × (Le' m from ⊎ Le' m (Low x.key)))
     gap_before from start answers ready opens was =
         let cmp = position_cmp order.cmp in
@@ -396,11 +396,11 @@ module _ {K : Type 0} (order : KeyOrder K) (lawful : IsLawful order) {V : Type 0
         let own = le_refl cmp total (Low x.key) in
         gap_step done (x ∷ rest) list from (Low x.key) ready
         (lt_le cmp total (Low x.key) (High r) starts_at) above_it (inr (inl (own, own))) answers was
-        start (inverted x.key.start) opens
+        start (flipped x.key.start) opens
         (λ b turns. (
-          turned_known order lawful x.key.start b turns good_at.0.0,
-          inverted_bound_is_past order lawful b x.key.start
-              (turned_back order lawful x.key.start b turns),
+          flipped_known order lawful x.key.start b turns good_at.0.0,
+          flipped_bound_is_past order lawful b x.key.start
+              (flipped_back order lawful x.key.start b turns),
         ))
         (λ turns. first_start x.key.start from turns ready.at_least)
 
@@ -408,14 +408,14 @@ module _ {K : Type 0} (order : KeyOrder K) (lawful : IsLawful order) {V : Type 0
     add_item : (from : Position K) (start : Option (Bound K)) (answers : List (Answered K V))
         → IsReady done from → Opens start from → IsCutUpTo order lawful items r from answers
         → IsCutUpTo order lawful items r (High x.key)
-        ((answers ++ map told (free_between order start (inverted x.key.start)))
+        ((answers ++ map told (free_between order start (flipped x.key.start)))
         ++ told (bound_piece order r x) ∷ [])
     add_item from start answers ready opens was =
         let cmp = position_cmp order.cmp in
         let total = position_total order.cmp lawful.total in
         let opened = gap_before from start answers ready opens was in
         add_part opened.place
-        (answers ++ map told (free_between order start (inverted x.key.start))) opened.cut
+        (answers ++ map told (free_between order start (flipped x.key.start))) opened.cut
         opened.there.0
         (elim opened.there.1 [
           | inl le ↦
@@ -458,12 +458,12 @@ module _ {K : Type 0} (order : KeyOrder K) (lawful : IsLawful order) {V : Type 0
   pieces_reach (x ∷ rest) done after list meet behind from start answers ready opens was =
       let next =
       add_item done (rest ++ after) x list meet.0 from start answers ready opens was in
-      let gap = free_between order start (inverted x.key.start) in
-      let more = pieces_from order r (inverted x.key.end) (Some r.end) rest in
+      let gap = free_between order start (flipped x.key.start) in
+      let more = pieces_from order r (flipped x.key.end) (Some r.end) rest in
       let so_far = (answers ++ map told gap) ++ told (bound_piece order r x) ∷ [] in
       let end =
       pieces_reach rest (done ++ x ∷ []) after (list ∙ relist done rest after x) meet.1 behind
-      (High x.key) (inverted x.key.end) so_far
+      (High x.key) (flipped x.key.end) so_far
       (ready_after done (rest ++ after) x list meet.0)
       (opens_after done (rest ++ after) x list meet.0) next in
       record {
@@ -510,7 +510,8 @@ module _ {K : Type 0} (order : KeyOrder K) (lawful : IsLawful order) {V : Type 0
       (every_right (λ i. IsKnownRange order i.key) are.before (met ++ are.after) known_parts))
       (λ i l k. (before_is order lawful r.end i.key.start known.1 k.0).0 l)
 
-  reached : Reaches order lawful same equal items r known all_nonempty all_chained own_room [] Pieces
+  reached : Reaches order lawful same equal items r known all_nonempty all_chained own_room []
+      Pieces
       (λ m. PLe order lawful (Hi order lawful r) m)
   reached =
       let total = position_total order.cmp lawful.total in

@@ -9,7 +9,7 @@ use Rattle.range_keys.specs.Position.{bound_of, start_position, end_position, po
 use Rattle.range_keys.specs.PositionOrder.{position_total}
 use Rattle.range_keys.proofs.Orderings.{greater_or_not, not_both_greater_and_not, not_greater}
 use Rattle.range_algebra.specs.declared.any.AnyRange.{AnyRange}
-use Rattle.range_algebra.specs.Compared.{inverted, starts_past_end}
+use Rattle.range_algebra.specs.Compared.{flipped, starts_past_end}
 use Rattle.range_algebra.specs.Cuts.{past}
 use Rattle.range_algebra.specs.Intervals.{Le, Lt, Any, Every}
 use Rattle.range_algebra.specs.Orders.{eq_le, le_trans, lt_not_le, lt_trans, lt_le_trans}
@@ -18,7 +18,7 @@ use Rattle.range_algebra.specs.RangeOrder.{range_cmp}
 use Rattle.range_algebra.specs.References.{range_of}
 use Rattle.range_algebra.specs.Relations.{LiesBefore}
 use Rattle.range_algebra.proofs.Lists.{any_left, any_right, every_append, every_weaker}
-use Rattle.range_algebra.proofs.Places.{inverted_bound_is_past, turned_back, turned_known}
+use Rattle.range_algebra.proofs.Places.{flipped_bound_is_past, flipped_back, flipped_known}
 use Rattle.range_store.specs.declared.storage.Item.{Item}
 use Rattle.range_map.specs.FreeRanges.{between}
 use Rattle.range_map.specs.Neighbours.{BeforeFirst, EachNext}
@@ -44,26 +44,26 @@ module _ {K : Type 0} (order : KeyOrder K) (lawful : IsLawful order) where
       (end_position order b) (start_position order a) l e)
 
   -- nothing is free between a start and the end before it
-  none_before_start : (s : Bound K) (e : Option (Bound K)) → inverted s ≡ e → IsKnownBound order s
+  none_before_start : (s : Bound K) (e : Option (Bound K)) → flipped s ≡ e → IsKnownBound order s
       → between order (Some s) e ≡ []
   none_before_start s None turns known = refl
   none_before_start s (Some b) turns known =
       none_by s b (starts_past_end order s b) refl
-      ((before_is order lawful b s (turned_known order lawful s b turns known) known).1
+      ((before_is order lawful b s (flipped_known order lawful s b turns known) known).1
       (eq_le (position_cmp order.cmp) (position_total order.cmp lawful.total)
       (past order (end_position order b)) (start_position order s)
-      (inverted_bound_is_past order lawful b s (turned_back order lawful s b turns))))
+      (flipped_bound_is_past order lawful b s (flipped_back order lawful s b turns))))
 
   -- nothing is free between the start after an end and that end
-  none_after_end : (e : Bound K) (s : Option (Bound K)) → inverted e ≡ s → IsKnownBound order e
+  none_after_end : (e : Bound K) (s : Option (Bound K)) → flipped e ≡ s → IsKnownBound order e
       → between order s (Some e) ≡ []
   none_after_end e None turns known = refl
   none_after_end e (Some b) turns known =
       none_by b e (starts_past_end order b e) refl
-      ((before_is order lawful e b known (turned_known order lawful e b turns known)).1
+      ((before_is order lawful e b known (flipped_known order lawful e b turns known)).1
       (eq_le (position_cmp order.cmp) (position_total order.cmp lawful.total)
       (past order (end_position order e)) (start_position order b)
-      (inverted_bound_is_past order lawful e b turns)))
+      (flipped_bound_is_past order lawful e b turns)))
 
   module _ {V : Type 0} (r : AnyRange K) where
     -- the piece that comes first
@@ -73,22 +73,22 @@ module _ {K : Type 0} (order : KeyOrder K) (lawful : IsLawful order) where
 
     pub gap_first : (s e : Option (Bound K)) (i : Item (AnyRange K) V)
         (rest : List (Item (AnyRange K) V)) (g : AnyRange K) → IsKnownRange order i.key
-        → g ∷ [] ≡ between order s (inverted i.key.start)
+        → g ∷ [] ≡ between order s (flipped i.key.start)
         → pieces_from order r s e (i ∷ rest)
         ≡ free_piece g ∷ pieces_from order r (Some i.key.start) e (i ∷ rest)
     gap_first s e i rest g known is =
-        let more = bound_piece order r i ∷ pieces_from order r (inverted i.key.end) e rest in
-        let none = none_before_start i.key.start (inverted i.key.start) refl known.0 in
+        let more = bound_piece order r i ∷ pieces_from order r (flipped i.key.end) e rest in
+        let none = none_before_start i.key.start (flipped i.key.start) refl known.0 in
         ap (λ gs. map free_piece gs ++ more) (sym is)
         ∙ ap (λ gs. free_piece g ∷ (map free_piece gs ++ more)) (sym none)
 
     pub item_first : (s e : Option (Bound K)) (i : Item (AnyRange K) V)
-        (rest : List (Item (AnyRange K) V)) → [] ≡ between order s (inverted i.key.start)
+        (rest : List (Item (AnyRange K) V)) → [] ≡ between order s (flipped i.key.start)
         → pieces_from order r s e (i ∷ rest)
-        ≡ bound_piece order r i ∷ pieces_from order r (inverted i.key.end) e rest
+        ≡ bound_piece order r i ∷ pieces_from order r (flipped i.key.end) e rest
     item_first s e i rest none =
         ap (λ gs. map free_piece gs
-        ++ bound_piece order r i ∷ pieces_from order r (inverted i.key.end) e rest) (sym none)
+        ++ bound_piece order r i ∷ pieces_from order r (flipped i.key.end) e rest) (sym none)
 
     -- the piece that comes last
     pub gap_alone_last : (s e : Option (Bound K)) (g : AnyRange K) → g ∷ [] ≡ between order s e
@@ -99,38 +99,38 @@ module _ {K : Type 0} (order : KeyOrder K) (lawful : IsLawful order) where
 
     pieces_end : (s e : Option (Bound K)) (init : List (Item (AnyRange K) V))
         (i : Item (AnyRange K) V) → pieces_from order r s e (init ++ i ∷ [])
-        ≡ pieces_from order r s (inverted i.key.start) init
-        ++ bound_piece order r i ∷ free_between order (inverted i.key.end) e
+        ≡ pieces_from order r s (flipped i.key.start) init
+        ++ bound_piece order r i ∷ free_between order (flipped i.key.end) e
     pieces_end s e [] i = refl
     pieces_end s e (j ∷ rest) i =
-        let gap = free_between order s (inverted j.key.start) in
+        let gap = free_between order s (flipped j.key.start) in
         let here = bound_piece order r j in
-        let more = pieces_from order r (inverted j.key.end) (inverted i.key.start) rest in
-        let end = bound_piece order r i ∷ free_between order (inverted i.key.end) e in
-        ap (λ ps. gap ++ here ∷ ps) (pieces_end (inverted j.key.end) e rest i)
+        let more = pieces_from order r (flipped j.key.end) (flipped i.key.start) rest in
+        let end = bound_piece order r i ∷ free_between order (flipped i.key.end) e in
+        ap (λ ps. gap ++ here ∷ ps) (pieces_end (flipped j.key.end) e rest i)
         ∙ sym (append_assoc gap (here ∷ more) end)
 
     pub gap_last : (s e : Option (Bound K)) (init : List (Item (AnyRange K) V))
         (i : Item (AnyRange K) V) (g : AnyRange K) → IsKnownRange order i.key
-        → g ∷ [] ≡ between order (inverted i.key.end) e
+        → g ∷ [] ≡ between order (flipped i.key.end) e
         → pieces_from order r s e (init ++ i ∷ [])
         ≡ pieces_from order r s (Some i.key.end) (init ++ i ∷ []) ++ free_piece g ∷ []
     gap_last s e init i g known is =
-        let more = pieces_from order r s (inverted i.key.start) init in
+        let more = pieces_from order r s (flipped i.key.start) init in
         let here = bound_piece order r i in
-        let none = none_after_end i.key.end (inverted i.key.end) refl known.1 in
+        let none = none_after_end i.key.end (flipped i.key.end) refl known.1 in
         pieces_end s e init i ∙ ap (λ gs. more ++ here ∷ map free_piece gs) (sym is)
         ∙ sym (append_assoc more (here ∷ []) (free_piece g ∷ []))
         ∙ ap (λ gs. (more ++ here ∷ map free_piece gs) ++ free_piece g ∷ []) (sym none)
         ∙ ap (λ ps. ps ++ free_piece g ∷ []) (sym (pieces_end s (Some i.key.end) init i))
 
     pub item_last : (s e : Option (Bound K)) (init : List (Item (AnyRange K) V))
-        (i : Item (AnyRange K) V) → [] ≡ between order (inverted i.key.end) e
+        (i : Item (AnyRange K) V) → [] ≡ between order (flipped i.key.end) e
         → pieces_from order r s e (init ++ i ∷ [])
-        ≡ pieces_from order r s (inverted i.key.start) init ++ bound_piece order r i ∷ []
+        ≡ pieces_from order r s (flipped i.key.start) init ++ bound_piece order r i ∷ []
     item_last s e init i none =
         pieces_end s e init i
-        ∙ ap (λ gs. pieces_from order r s (inverted i.key.start) init
+        ∙ ap (λ gs. pieces_from order r s (flipped i.key.start) init
         ++ bound_piece order r i ∷ map free_piece gs) (sym none)
 
 -- the free pieces of two lists
@@ -165,7 +165,8 @@ module _ {K : Type 0} (order : KeyOrder K) (lawful : IsLawful order) {V : Type 0
   -- where no range is shown, no piece is free
   pub none_free : (pieces : List (Item (AnyRange K) (Option V))) → free_ranges pieces ≡ []
       → Any (λ p. p.value ≡ None) pieces → ⊥
-  none_free pieces none h = none_of (free_ranges pieces) none (any_free (λ _. Unit {0}) pieces (some pieces h))
+  none_free pieces none h =
+      none_of (free_ranges pieces) none (any_free (λ _. Unit {0}) pieces (some pieces h))
     where
       none_of : (xs : List (AnyRange K)) → xs ≡ [] → Any (λ _. Unit {0}) xs → ⊥
       none_of [] e k = k

@@ -14,10 +14,10 @@ use Rattle.range_map.specs.Plans.{IsLeftPlan, IsRightPlan}
 use Rattle.range_map.specs.Window.{option_items, IsWindow}
 use Rattle.range_map.specs.declared.change.edges.Edge.{Edge}
 use Rattle.range_map.specs.declared.change.window.Window.{Window}
-use Rattle.range_map.proofs.Edging.{edges_insert}
-use Rattle.range_map.proofs.Framing.{gave_way}
+use Rattle.range_map.proofs.RangeSides.{edges_insert}
+use Rattle.range_map.proofs.InsertionFrames.{insertion_frame}
 use Rattle.range_map.proofs.Lengths.{one_item, changed_length, left_length, right_length}
-use Rattle.range_map.proofs.Openings.{left_kept, right_kept, left_good, right_good, upto_end}
+use Rattle.range_map.proofs.BoundEdits.{left_kept, right_kept, left_good, right_good, upto_end}
 
 -- the edges and the run are such that a container can be changed so
 pub record IsFit {K V P : Type 0} (is_good : P → Type 0) (rank : P → ℕ)
@@ -100,7 +100,7 @@ module _ {K : Type 0} {order : KeyOrder K} {lawful : IsLawful order} {V : Type 0
       let few : length (option_items left.rest) + length (option_items right.rest) ≤ w.count + 1 =
       omega (arith, left.few, right.few, apart) in
       let frame =
-      gave_way lawful equal window new v made_item left.at right.end left.rest right.rest
+      insertion_frame lawful equal window new v made_item left.at right.end left.rest right.rest
       left.start right.finish left.frame right.frame few refl refl (equal.refl v)
       (λ e. refl) made in
       edges_insert lawful equal window new v made_item left.at right.end left.rest right.rest

@@ -14,7 +14,7 @@ use Rattle.range_algebra.proofs.Lists.{list_is_take_and_drop, any_left, any_righ
 use Rattle.range_algebra.proofs.Places.{held_between}
 use Rattle.range_store.specs.declared.storage.Item.{Item}
 use Rattle.range_map.specs.declared.change.edges.Edge.{Edge}
-use Rattle.range_map.specs.Edits.{turned_bound}
+use Rattle.range_map.specs.Edits.{flipped_bound}
 use Rattle.range_map.specs.Frames.{HasValue}
 use Rattle.range_map.specs.Lookups.{Overlap}
 use Rattle.range_map.specs.Replaced.{AreWithin, IsReplaced}
@@ -23,13 +23,13 @@ use Rattle.range_map.specs.Seams.{with_first_start, with_last_end, IsLeftSeam, I
 use Rattle.range_map.specs.Stored.{IsStored}
 use Rattle.range_map.specs.Window.{option_items}
 use Rattle.range_map.proofs.CutParts.{known_turned, same_turned}
-use Rattle.range_map.proofs.Endings.{every_started, every_ended, any_ended, own_values}
-use Rattle.range_map.proofs.Cutting.{any_with}
+use Rattle.range_map.proofs.OuterBounds.{every_started, every_ended, any_ended, own_values}
+use Rattle.range_map.proofs.RangePieces.{any_with}
 use Rattle.range_map.proofs.Forms.{Known, nonempty_good, stored_known, chain_stored, same_binds, unheld_lies_outside}
-use Rattle.range_map.proofs.Framing.{parts_of, append_reassociates, reassociate_pieces}
-use Rattle.range_map.proofs.Merging.{crossing_meets}
-use Rattle.range_map.proofs.Openings.{upto_end}
-use Rattle.range_map.proofs.Seaming.{seam_count, Crosses, TakesStartOf, IsLeftFill, IsRightFill, left_fill, right_fill}
+use Rattle.range_map.proofs.InsertionFrames.{parts_of, append_reassociates, reassociate_pieces}
+use Rattle.range_map.proofs.MergedItems.{crossing_meets}
+use Rattle.range_map.proofs.BoundEdits.{upto_end}
+use Rattle.range_map.proofs.JoinedMiddle.{seam_count, Crosses, TakesStartOf, IsLeftFill, IsRightFill, left_fill, right_fill}
 
 module _ {K : Type 0} (order : KeyOrder K) (lawful : IsLawful order) {V : Type 0}
     (same : V → V → Bool) (equal : IsEquivalence same) {P : Type 0} (is_good : P → Type 0)
@@ -165,10 +165,10 @@ module _ {K : Type 0} (order : KeyOrder K) (lawful : IsLawful order) {V : Type 0
   pub record IsReplacement (middle : List (Item (AnyRange K) V))
       (first last joined other from : Option P) : Type 0 where
     pub left : IsLeftFill order lawful same equal is_good rank items r place count middle first
-        (seam_edge joined first (turned_bound r.start)) from
+        (seam_edge joined first (flipped_bound r.start)) from
     pub right : IsRightFill order lawful same equal is_good rank items r place count middle
         (take left.at items ++ option_items left.rest) left.start last
-        (seam_edge other last (turned_bound r.end))
+        (seam_edge other last (flipped_bound r.end))
     pub upto : left.begin + (length (option_items joined) +
         (count - (length (option_items first) + length (option_items last))) + length
         (option_items other)) ≡ right.upto
@@ -182,18 +182,18 @@ module _ {K : Type 0} (order : KeyOrder K) (lawful : IsLawful order) {V : Type 0
       next ≡ slice_get middle 0 → previous ≡ slice_get middle (length middle - 1)
       → IsRunStart is_good rank (length items) place first joined from →
       ((b : Bound K) (at : Option P) → IsKnownBound order b
-      → SameBound order (turned_bound r.start) b
+      → SameBound order (flipped_bound r.start) b
       → IsRunStart is_good rank (length items) place first joined at
       → IsLeftSeam order same lawful equal is_good rank items r place count next first
       (seam_edge joined first b) at) →
-      ((b : Bound K) → IsKnownBound order b → SameBound order (turned_bound r.end) b
+      ((b : Bound K) → IsKnownBound order b → SameBound order (flipped_bound r.end) b
       → IsRightSeam order same lawful equal is_good rank items r place count previous last
       (seam_edge other last b)) →
       IsReplacement middle first last joined other from
   plans_replacement middle first last joined other from next previous stored others within known
       full in_range apart is_first is_last begins on_left on_right =
-      let before = turned_bound r.start in
-      let behind = turned_bound r.end in
+      let before = flipped_bound r.start in
+      let behind = flipped_bound r.end in
       let good = (nonempty_good order lawful r known).0 full in
       let left =
       left_fill order lawful same equal is_good rank items r place count middle first

@@ -66,7 +66,8 @@ module _ {K : Type 0} (order : KeyOrder K) (lawful : IsLawful order) {V : Type 0
   kept_stored bs items form =
       chain_stored order lawful same equal (items_where_true bs items)
       (every_kept _ bs items (stored_known order lawful same equal items form))
-      (chain_kept (line_of order lawful same equal) bs items (stored_chain order lawful same equal items form))
+      (chain_kept (line_of order lawful same equal) bs items
+      (stored_chain order lawful same equal items form))
 
   kept_binds : (bs : List Bool) (items : List (Item (AnyRange K) V)) (k : K) (v : V)
       → BindsTo order same (items_where_true bs items) k v → BindsTo order same items k v
@@ -187,7 +188,8 @@ module _ {X F : Type 0} (R : F → X → Bool → F → Type 0) (old : List X) (
         rest = others;
         bs = was.bs ++ b ∷ [];
         whole =
-            was.whole ∙ ap (λ xs. was.done ++ xs) more ∙ sym (append_assoc was.done (x ∷ []) others);
+            was.whole ∙ ap (λ xs. was.done ++ xs) more
+            ∙ sym (append_assoc was.done (x ∷ []) others);
         left =
             is
             ∙ sym (append_assoc (items_where_true was.bs was.done)
@@ -245,12 +247,14 @@ module _ {X F : Type 0} (R : F → X → Bool → F → Type 0) (old : List X) (
       let kept = items_where_true was.bs was.done in
       let none = no_rest kept was.rest
       (omega (arith, end, was.size, ap length was.left)) in
-      let all : old ≡ was.done = was.whole ∙ ap (λ xs. was.done ++ xs) none ∙ append-nil was.done in (
+      let all : old ≡ was.done =
+      was.whole ∙ ap (λ xs. was.done ++ xs) none ∙ append-nil was.done in (
         was.bs,
         f,
         was.answers ∙ ap length (sym all),
         rw all was.told,
-        was.left ∙ ap (λ xs. kept ++ xs) none ∙ append-nil kept ∙ ap (items_where_true was.bs) (sym all),
+        was.left ∙ ap (λ xs. kept ++ xs) none ∙ append-nil kept
+            ∙ ap (items_where_true was.bs) (sym all),
       )
     where
       no_rest : (kept rest : List X) → length (kept ++ rest) ≡ length kept → rest ≡ []

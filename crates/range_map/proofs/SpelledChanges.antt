@@ -18,7 +18,7 @@ use Rattle.range_algebra.proofs.Places.{reaching_is_before_past}
 use Rattle.range_store.specs.declared.storage.Item.{Item}
 use Rattle.range_map.specs.Changes.{IsInserted, IsRemoved}
 use Rattle.range_map.specs.Edges.{IsLeftShape, IsRightShape, joined_count, seam_edge}
-use Rattle.range_map.specs.Edits.{turned_bound}
+use Rattle.range_map.specs.Edits.{flipped_bound}
 use Rattle.range_map.specs.Frames.{IsStartOf, IsEndOf, IsNewItem, IsPart}
 use Rattle.range_map.specs.Reach.{ReachesBefore, ReachesAfter, IsReach, IsSurrounded}
 use Rattle.range_map.specs.Seams.{with_first_start, with_last_end}
@@ -27,10 +27,10 @@ use Rattle.range_map.specs.Stored.{IsStored, item_lower, item_upper}
 use Rattle.range_map.specs.Window.{option_items}
 use Rattle.range_map.specs.declared.change.reach.Reach.{Reach}
 use Rattle.range_map.specs.declared.change.window.Window.{Window}
-use Rattle.range_map.proofs.Cutting.{any_use}
+use Rattle.range_map.proofs.RangePieces.{any_use}
 use Rattle.range_map.proofs.Extents.{past_le, end_le}
 use Rattle.range_map.proofs.Forms.{places, Known, Chained, stored_known, stored_chain, nonempty_good}
-use Rattle.range_map.proofs.Gathering.{listed_at, item_at}
+use Rattle.range_map.proofs.PieceAnswers.{listed_at, item_at}
 use Rattle.range_map.proofs.Spelling.{own_spelling, start_is_kept, end_is_kept, cut_end_is_kept, cut_start_is_kept}
 use Rattle.range_map.proofs.Surrounded.{reach_is_met}
 
@@ -77,9 +77,9 @@ module _ {K : Type 0} {order : KeyOrder K} (lawful : IsLawful order) {V : Type 0
       {place : ℕ} (found : IsReach order same is_good rank items r reach place) where
     left_is_spelled : (joined first : Option P) (at begin : ℕ)
         (rest : Option (Item (AnyRange K) V)) (start : Option (Bound K))
-        → IsLeftShape is_good rank items (seam_edge joined first (turned_bound r.start)) at begin
+        → IsLeftShape is_good rank items (seam_edge joined first (flipped_bound r.start)) at begin
         rest start
-        → begin + joined_count (seam_edge joined first (turned_bound r.start))
+        → begin + joined_count (seam_edge joined first (flipped_bound r.start))
         ≡ place + length (option_items first)
         → length (option_items first) ≤ reach.window.count
         → ReachesBefore order is_good rank items r place reach.window.count first
@@ -102,8 +102,8 @@ module _ {K : Type 0} {order : KeyOrder K} (lawful : IsLawful order) {V : Type 0
               spelled.0,
               cut_end_is_kept order lawful same equal items known chain (take place items)
                   (drop (place + 1) items) x (listed_at items place x within x_is) r
-                  found.window.known (before.3 x x_is) ends (turned_bound r.start)
-                  (same_itself order lawful (turned_bound r.start)),
+                  found.window.known (before.3 x x_is) ends (flipped_bound r.start)
+                  (same_itself order lawful (flipped_bound r.start)),
             ),
             tt,
           ),
@@ -121,7 +121,7 @@ module _ {K : Type 0} {order : KeyOrder K} (lawful : IsLawful order) {V : Type 0
 
     right_is_spelled : (joined last : Option P) (upto end : ℕ)
         (rest : Option (Item (AnyRange K) V)) (finish : Option (Bound K))
-        → IsRightShape is_good rank items (seam_edge joined last (turned_bound r.end)) upto end
+        → IsRightShape is_good rank items (seam_edge joined last (flipped_bound r.end)) upto end
         rest finish → end ≤ length items
         → ReachesAfter order is_good rank items r place reach.window.count last
         → KeepsSpelling order items (option_items rest)
@@ -143,8 +143,8 @@ module _ {K : Type 0} {order : KeyOrder K} (lawful : IsLawful order) {V : Type 0
             (
               cut_start_is_kept order lawful same equal items known chain (take upto items)
                   (drop (upto + 1) items) x (listed_at items upto x within read) r
-                  found.window.known starts (after.3 x x_is) (turned_bound r.end)
-                  (same_itself order lawful (turned_bound r.end)),
+                  found.window.known starts (after.3 x x_is) (flipped_bound r.end)
+                  (same_itself order lawful (flipped_bound r.end)),
               spelled.1,
             ),
             tt,
@@ -163,11 +163,12 @@ module _ {K : Type 0} {order : KeyOrder K} (lawful : IsLawful order) {V : Type 0
         (new middle : List (Item (AnyRange K) V)) (at begin upto end : ℕ)
         (rest beyond : Option (Item (AnyRange K) V))
         (start finish : Option (Bound K))
-        → IsLeftShape is_good rank items (seam_edge joined reach.first (turned_bound r.start)) at
+        → IsLeftShape is_good rank items (seam_edge joined reach.first (flipped_bound r.start)) at
         begin rest start
-        → begin + joined_count (seam_edge joined reach.first (turned_bound r.start))
+        → begin + joined_count (seam_edge joined reach.first (flipped_bound r.start))
         ≡ place + length (option_items reach.first)
-        → IsRightShape is_good rank items (seam_edge other reach.last (turned_bound r.end)) upto end
+        → IsRightShape is_good rank items
+        (seam_edge other reach.last (flipped_bound r.end)) upto end
         beyond finish → end ≤ length items
         → new ≡ take at items ++ option_items rest
         ++ with_last_end finish (with_first_start start middle)

@@ -21,13 +21,13 @@ use Rattle.range_algebra.proofs.Commons.{gt_le}
 use Rattle.range_algebra.proofs.Lists.{every_weaker, every_append, every_left, every_right, every_at}
 use Rattle.range_algebra.proofs.Places.{reaching_is_before_past}
 use Rattle.range_store.specs.declared.storage.Item.{Item}
-use Rattle.range_map.specs.Asking.{IsPut}
+use Rattle.range_map.specs.Questions.{IsPut}
 use Rattle.range_map.specs.Chains.{line_of}
-use Rattle.range_map.specs.Edits.{turned_bound, with_end}
+use Rattle.range_map.specs.Edits.{flipped_bound, with_end}
 use Rattle.range_map.specs.Spelling.{IsStartAsIn, IsEndAsIn, IsSpelledAsIn, KeepsSpelling}
 use Rattle.range_map.proofs.Chains.{chain_before, chain_right, follows_above}
 use Rattle.range_map.proofs.CutParts.{cut_end, cut_start, known_turned, same_turned}
-use Rattle.range_map.proofs.Cutting.{every_with}
+use Rattle.range_map.proofs.RangePieces.{every_with}
 use Rattle.range_map.proofs.Forms.{places, Known, Chained, before_is}
 
 every_set : {X : Type 0} (P : X → Type 0) (xs : List X) (k : ℕ) (y : X) → Every P xs → P y
@@ -272,11 +272,11 @@ module _ {K : Type 0} (order : KeyOrder K) (lawful : IsLawful order) where
         pub cut_end_is_kept : (r : AnyRange K) → IsKnownRange order r
             → Lt (places order lawful) (lower order x.key) (lower order r)
             → Lt (places order lawful) (lower order r) (upper order x.key) → (b : Bound K)
-            → SameBound order (turned_bound r.start) b → IsEndAsIn order items b
+            → SameBound order (flipped_bound r.start) b → IsEndAsIn order items b
         cut_end_is_kept r known_r starts ends b clone =
             let cmp = places order lawful in
             let total = position_total order.cmp lawful.total in
-            let a = turned_bound r.start in
+            let a = flipped_bound r.start in
             let known_a = known_turned order lawful r.start known_r.0 in
             let past_a = past order (end_position order a) in
             let at =
@@ -301,11 +301,11 @@ module _ {K : Type 0} (order : KeyOrder K) (lawful : IsLawful order) where
         pub cut_start_is_kept : (r : AnyRange K) → IsKnownRange order r
             → Lt (places order lawful) (lower order x.key) (upper order r)
             → Lt (places order lawful) (upper order r) (upper order x.key) → (b : Bound K)
-            → SameBound order (turned_bound r.end) b → IsStartAsIn order items b
+            → SameBound order (flipped_bound r.end) b → IsStartAsIn order items b
         cut_start_is_kept r known_r starts ends b clone =
             let cmp = places order lawful in
             let total = position_total order.cmp lawful.total in
-            let a = turned_bound r.end in
+            let a = flipped_bound r.end in
             let known_a = known_turned order lawful r.end known_r.1 in
             let p = start_position order a in
             let at =

@@ -20,7 +20,7 @@ use Rattle.range_store.specs.declared.storage.Item.{Item}
 use Rattle.range_map.specs.Bindings.{IsBound, BindsTo, Binds, BindAlike, IsCoarse, AreAlike, IsOnlyCoarse, IsLeastCount}
 use Rattle.range_map.specs.Stored.{IsStored}
 use Rattle.range_map.specs.ListOrder.{same_list, list_cmp, lists_tied, lists_order}
-use Rattle.range_map.proofs.Meeting.{binds_bound}
+use Rattle.range_map.proofs.Overlaps.{binds_bound}
 use Rattle.range_map.proofs.Coarse.{coarse_alike, coarse_shortest, Follows}
 use Rattle.range_algebra.proofs.Joined.{before_is, ends_below, joined_touch, is_before_of}
 
@@ -105,7 +105,8 @@ module _ {K : Type 0} (order : KeyOrder K) (lawful : IsLawful order) {V : Type 0
       first_so (eq_by_cmp (range_cmp order) i.key j.key)
       (same_value i.value j.value) here in (
         (
-          equal_is_same order lawful i.key j.key ((Equal-is (range_cmp order i.key j.key)).0 ranges),
+          equal_is_same order lawful i.key j.key
+              ((Equal-is (range_cmp order i.key j.key)).0 ranges),
           second_so (eq_by_cmp (range_cmp order) i.key j.key) (same_value i.value j.value) here,
         ),
         equal_alike items others there,

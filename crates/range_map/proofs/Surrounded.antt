@@ -14,7 +14,7 @@ use Rattle.range_store.specs.declared.storage.Item.{Item}
 use Rattle.range_map.specs.Answers.{AreAnswersTo}
 use Rattle.range_map.specs.Changes.{IsInserted, IsRemoved}
 use Rattle.range_map.specs.Edges.{IsDivided}
-use Rattle.range_map.specs.Edits.{turned_bound, with_end}
+use Rattle.range_map.specs.Edits.{flipped_bound, with_end}
 use Rattle.range_map.specs.Lookups.{Overlap, IsConnectedTo}
 use Rattle.range_map.specs.Pieces.{IsPiece}
 use Rattle.range_map.specs.Reach.{ReachesBefore, ReachesAfter, IsReach, IsSurrounded}
@@ -23,16 +23,16 @@ use Rattle.range_map.specs.Window.{option_items}
 use Rattle.range_map.specs.declared.change.cut.Parts.{Parts}
 use Rattle.range_map.specs.declared.change.reach.Reach.{Reach}
 use Rattle.range_map.specs.declared.change.window.Window.{Window}
-use Rattle.range_map.proofs.Cutting.{IsFull}
-use Rattle.range_map.proofs.Edging.{edges_insert, edges_remove, left_edge_inside, right_edge_inside, left_rest_cut, right_rest_cut, left_edge_rest, right_edge_rest}
+use Rattle.range_map.proofs.RangePieces.{IsFull}
+use Rattle.range_map.proofs.RangeSides.{edges_insert, edges_remove, left_edge_inside, right_edge_inside, left_rest_cut, right_rest_cut, left_edge_rest, right_edge_rest}
 use Rattle.range_map.proofs.Forms.{places, Chained, stored_known, stored_chain, nonempty_good}
-use Rattle.range_map.proofs.Framing.{gave_way, cut_way}
-use Rattle.range_map.proofs.Gathering.{all_full, item_at, listed_at}
+use Rattle.range_map.proofs.InsertionFrames.{insertion_frame, cut_way}
+use Rattle.range_map.proofs.PieceAnswers.{all_full, item_at, listed_at}
 use Rattle.range_map.proofs.Lengths.{changed_length}
-use Rattle.range_map.proofs.Merging.{surrounded_alone}
-use Rattle.range_map.proofs.Openings.{standing_item_splits_list}
-use Rattle.range_map.proofs.Planning.{left_frame_inside, left_frame_cut, right_frame_inside, right_frame_cut, left_part, right_part}
-use Rattle.range_map.proofs.Updating.{whole_piece, whole_answer}
+use Rattle.range_map.proofs.MergedItems.{surrounded_alone}
+use Rattle.range_map.proofs.BoundEdits.{standing_item_splits_list}
+use Rattle.range_map.proofs.InsertionPlans.{left_frame_inside, left_frame_cut, right_frame_inside, right_frame_cut, left_part, right_part}
+use Rattle.range_map.proofs.UpdatedLists.{whole_piece, whole_answer}
 
 none_of : {P : Type 0} (o : Option P) → length (option_items o) ≤ 0 → o ≡ None
 none_of None few = refl
@@ -133,7 +133,7 @@ module _ {K : Type 0} {order : KeyOrder K} (lawful : IsLawful order) {V : Type 0
       standing_item_splits_list items place (place + w.count) x
       (omega (arith, window.in_range, some)) here next in
       let frame =
-      gave_way lawful equal window items v x place (place + w.count) None None
+      insertion_frame lawful equal window items v x place (place + w.count) None None
       (Some x.key.start) (Some x.key.end)
       (left_frame_inside lawful equal window v x here some)
       (right_frame_inside lawful equal window v x here_end some)
@@ -143,8 +143,9 @@ module _ {K : Type 0} {order : KeyOrder K} (lawful : IsLawful order) {V : Type 0
 
   -- the range is cut out of it: what the copies are, and the list with the parts
   module _ (parts : Parts K V)
-      (end_is : IsKnownBound order parts.end × SameBound order (turned_bound r.start) parts.end)
-      (start_is : IsKnownBound order parts.start × SameBound order (turned_bound r.end) parts.start)
+      (end_is : IsKnownBound order parts.end × SameBound order (flipped_bound r.start) parts.end)
+      (start_is : IsKnownBound order parts.start
+      × SameBound order (flipped_bound r.end) parts.start)
       (alike : (d : Item (AnyRange K) V)
       → IsTrue (same (get_or items (rank p) d).value parts.value))
       (others new : List (Item (AnyRange K) V)) (at : ℕ) (same_list : others ≡ items)
@@ -199,7 +200,7 @@ module _ {K : Type 0} {order : KeyOrder K} (lawful : IsLawful order) {V : Type 0
         (within.ends x here) parts.start start_is.0 start_is.1 parts.value copied) other in
         let list = list_is (Some m) divided in
         let frame =
-        gave_way lawful equal window new v m place (place + w.count) (Some front)
+        insertion_frame lawful equal window new v m place (place + w.count) (Some front)
         (Some behind) None None (left_frame_cut lawful equal window v x here some parts.end
         end_is.1 differs) (right_frame_cut lawful equal window v x here_end some parts.start
         parts.value start_is.1 copied other) (omega (arith, within.one)) refl refl

@@ -16,7 +16,7 @@ use Rattle.range_algebra.specs.Relations.{LiesBefore}
 use Rattle.range_algebra.specs.declared.any.AnyRange.{AnyRange}
 use Rattle.range_algebra.proofs.Lists.{any_none, every_weaker}
 use Rattle.range_store.specs.declared.storage.Item.{Item}
-use Rattle.range_map.specs.Iterating.{shown_item}
+use Rattle.range_map.specs.Iteration.{shown_item}
 use Rattle.range_map.specs.Lookups.{Overlap, MeetsSome}
 use Rattle.range_map.specs.Pieces.{LiesIn}
 use Rattle.range_map.specs.Stored.{IsStored}
@@ -350,7 +350,8 @@ module _ {K : Type 0} (order : KeyOrder K) where
             → IsApartUnless items others (option_items (option_map shown_item result) ++ after)
             (option_items (option_map shown_item near) ++ rest)
         apart_goes_left pair other after result e f h steps =
-            let start : IsApartUnless items others (shown_item pair ∷ ranges) (shown_item other ∷ rest) =
+            let start : IsApartUnless items others (shown_item pair ∷ ranges)
+            (shown_item other ∷ rest) =
             rw (e, f) at was in
             rw (stepped ranges after result steps, f)
             (apart_past_left items others (shown_item pair) ranges (shown_item other) rest h start)
@@ -363,7 +364,8 @@ module _ {K : Type 0} (order : KeyOrder K) where
             → IsApartUnless items others (option_items (option_map shown_item next) ++ ranges)
             (option_items (option_map shown_item result) ++ after)
         apart_goes_right pair other after result e f h steps =
-            let start : IsApartUnless items others (shown_item pair ∷ ranges) (shown_item other ∷ rest) =
+            let start : IsApartUnless items others (shown_item pair ∷ ranges)
+            (shown_item other ∷ rest) =
             rw (e, f) at was in
             rw (stepped rest after result steps, e)
             (apart_past_right items others (shown_item pair) ranges (shown_item other) rest h start)
@@ -419,7 +421,8 @@ module _ {K : Type 0} (order : KeyOrder K) where
             → IsInsideUnless items others (option_items (option_map shown_item result) ++ after)
             (option_items (option_map shown_item near) ++ rest)
         inside_goes_left pair other after result e f h steps =
-            let start : IsInsideUnless items others (shown_item pair ∷ ranges) (shown_item other ∷ rest) =
+            let start : IsInsideUnless items others (shown_item pair ∷ ranges)
+            (shown_item other ∷ rest) =
             rw (e, f) at was in
             rw (stepped ranges after result steps, f)
             (inside_past_left items others (shown_item pair) ranges (shown_item other) rest h start)
@@ -432,10 +435,12 @@ module _ {K : Type 0} (order : KeyOrder K) where
             → IsInsideUnless items others (option_items (option_map shown_item next) ++ ranges)
             (option_items (option_map shown_item result) ++ after)
         inside_goes_right pair other after result e f h steps =
-            let start : IsInsideUnless items others (shown_item pair ∷ ranges) (shown_item other ∷ rest) =
+            let start : IsInsideUnless items others (shown_item pair ∷ ranges)
+            (shown_item other ∷ rest) =
             rw (e, f) at was in
             rw (stepped rest after result steps, e)
-            (inside_past_right items others (shown_item pair) ranges (shown_item other) rest h start)
+            (inside_past_right items others (shown_item pair) ranges
+            (shown_item other) rest h start)
 
         pub not_inside : (pair : Bor (AnyRange K) × Bor V) (other : Bor (AnyRange K) × Bor W)
             → next ≡ Some pair → near ≡ Some other → (¬ LiesIn order pair.0.now other.0.now)

@@ -9,7 +9,7 @@ use Rattle.range_algebra.specs.Range.{Holds}
 use Rattle.range_algebra.specs.declared.any.AnyRange.{AnyRange}
 use Rattle.range_store.specs.declared.storage.Item.{Item}
 use Rattle.range_map.specs.Bindings.{Binds}
-use Rattle.range_map.specs.Frames.{GaveWay}
+use Rattle.range_map.specs.Frames.{IsMergeFrame}
 use Rattle.range_map.specs.Pieces.{IsPiece, ArePieces, LiesIn}
 use Rattle.range_map.specs.Stored.{IsStored}
 
@@ -86,7 +86,7 @@ module _ {K : Type 0} (order : KeyOrder K) {V : Type 0} (same : V → V → Bool
     -- stands
     pub record IsUpdated (items new : List (Item (AnyRange K) V)) (r : AnyRange K) : Type 0 where
       pub answered : IsAnswered (MayAnswer calls f) items new r
-      pub frame : GaveWay order same items new r (IsGivenBy same answered.answers)
+      pub frame : IsMergeFrame order same items new r (IsGivenBy same answered.answers)
 
     -- f may answer an error to the value of a piece
     abbrev pub FailsAt : List (Item (AnyRange K) V) → AnyRange K → E → Type 0

@@ -6,7 +6,7 @@ use Rattle.range_store.specs.declared.storage.Item.{Item}
 use Rattle.range_map.specs.Stored.{IsStored}
 use Rattle.range_algebra.specs.Intervals.{Every}
 use Rattle.range_map.specs.Lookups.{Overlap, MeetAlso}
-use Rattle.range_map.specs.Frames.{GaveWayTo, WasCutOut}
+use Rattle.range_map.specs.Frames.{IsInsertionFrame, IsRemovalFrame}
 use Rattle.range_map.specs.Bindings.{IsBoundAfter, IsUnboundAfter}
 
 module _ {K : Type 0} (order : KeyOrder K) {V : Type 0} (same : V → V → Bool) where
@@ -14,11 +14,11 @@ module _ {K : Type 0} (order : KeyOrder K) {V : Type 0} (same : V → V → Bool
       (v : V) : Type 0 where
     pub stored : IsStored order same new
     pub bound : IsBoundAfter order same items new r v
-    pub frame : GaveWayTo order same items new r v
+    pub frame : IsInsertionFrame order same items new r v
     pub meets : MeetAlso order items new r
 
   pub record IsRemoved (items new : List (Item (AnyRange K) V)) (r : AnyRange K) : Type 0 where
     pub stored : IsStored order same new
     pub unbound : IsUnboundAfter order same items new r
     pub apart : Every (λ i. ¬ Overlap order i.key r) new
-    pub frame : WasCutOut order same items new r
+    pub frame : IsRemovalFrame order same items new r

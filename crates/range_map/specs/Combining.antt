@@ -36,7 +36,8 @@ IsAnsweredByBoth {F} {V} {W} {X} calls f left right P =
 abbrev pub MayBeAskedBoth : {F V W A : Type 0}
     → Shared F (Option (Bor V) × (Option (Bor W) × Unit {0})) A → F → Option V → Option W → Type 0
 MayBeAskedBoth {F} {V} {W} calls f left right = (shown : Option (Bor V))
-    → (other_shown : Option (Bor W)) → option_copied shown ≡ left → option_copied other_shown ≡ right
+    → (other_shown : Option (Bor W)) → option_copied shown ≡ left
+    → option_copied other_shown ≡ right
     → calls.pre f (shown, (other_shown, tt))
 
 -- f may be called where it is shown the value of an item of either list, or of both

@@ -13,7 +13,7 @@ use Rattle.range_map.specs.declared.change.edges.Edge.{Edge}
 use Rattle.range_map.specs.declared.change.edges.Edge.TheVariants.{Plain, Cut, Joined}
 use Rattle.range_map.specs.declared.change.edges.Joins.{Joins}
 use Rattle.range_map.specs.declared.change.reach.Reach.{Reach}
-use Rattle.range_map.specs.Edits.{turned_bound, with_start, with_end}
+use Rattle.range_map.specs.Edits.{flipped_bound, with_start, with_end}
 use Rattle.range_algebra.specs.Clones.{SameBound}
 use Rattle.range_algebra.specs.declared.any.AnyRange.{AnyRange}
 use Rattle.range_store.specs.Places.{place_before, IsAt}
@@ -133,7 +133,7 @@ module _ {K P : Type 0} where
     pub cut : Bound K
     pub at : edge ≡ seam_edge joined reaching cut
     pub known : IsKnownBound order cut
-    pub turned : SameBound order (turned_bound bound) cut
+    pub flipped : SameBound order (flipped_bound bound) cut
 
   abbrev pub IsGoodEdge : (P → Type 0) → Edge K P → Type 0
   IsGoodEdge is_good Plain = ⊤

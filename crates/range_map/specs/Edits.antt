@@ -7,10 +7,10 @@ use Rattle.range_algebra.specs.declared.any.AnyRange.{AnyRange}
 use Rattle.range_store.specs.declared.storage.Item.{Item}
 
 -- what the one includes the other excludes
-abbrev pub turned_bound : {K : Type 0} → Bound K → Bound K
-turned_bound (Included a) = Excluded a
-turned_bound (Excluded a) = Included a
-turned_bound Unbounded = Unbounded
+abbrev pub flipped_bound : {K : Type 0} → Bound K → Bound K
+flipped_bound (Included a) = Excluded a
+flipped_bound (Excluded a) = Included a
+flipped_bound Unbounded = Unbounded
 
 abbrev pub with_start : {K V : Type 0} → Item (AnyRange K) V → Bound K → Item (AnyRange K) V
 with_start i b = record i { key = record i.key { start = b } }

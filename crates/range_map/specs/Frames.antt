@@ -6,12 +6,12 @@ use Rattle.range_algebra.specs.Clones.{SameBound}
 use Rattle.range_algebra.specs.Intervals.{Any, Every}
 use Rattle.range_algebra.specs.declared.any.AnyRange.{AnyRange}
 use Rattle.range_store.specs.declared.storage.Item.{Item}
-use Rattle.range_map.specs.Edits.{turned_bound}
+use Rattle.range_map.specs.Edits.{flipped_bound}
 use Rattle.range_algebra.specs.Relations.{Touches}
 use Rattle.range_map.specs.Lookups.{Overlap}
 
 -- a run of the list gave way to others, as the relation says, and all else stands as before
-pub record RunGaveWay {T : Type 0} (items new : List T)
+pub record IsSpliceFrame {T : Type 0} (items new : List T)
     (AreSuch : List T → List T → Type 0) : Type 0 where
   pub front : List T
   pub run : List T
@@ -25,12 +25,12 @@ module _ {K : Type 0} (order : KeyOrder K) {V : Type 0} where
   -- the start is that of the range or of a run's item, or begins just after the range
   abbrev pub IsStartOf : List (Item (AnyRange K) V) → AnyRange K → Bound K → Type 0
   IsStartOf run r b =
-      (b ≡ r.start) ⊎ (Any (λ i. b ≡ i.key.start) run ⊎ SameBound order (turned_bound r.end) b)
+      (b ≡ r.start) ⊎ (Any (λ i. b ≡ i.key.start) run ⊎ SameBound order (flipped_bound r.end) b)
 
   -- the end is that of the range or of a run's item, or stops just before the range
   abbrev pub IsEndOf : List (Item (AnyRange K) V) → AnyRange K → Bound K → Type 0
   IsEndOf run r b =
-      (b ≡ r.end) ⊎ (Any (λ i. b ≡ i.key.end) run ⊎ SameBound order (turned_bound r.start) b)
+      (b ≡ r.end) ⊎ (Any (λ i. b ≡ i.key.end) run ⊎ SameBound order (flipped_bound r.start) b)
 
   module _ (same_value : V → V → Bool) where
     -- the item touches the range from one side, and one of the list that meets the range has its
@@ -46,9 +46,9 @@ module _ {K : Type 0} (order : KeyOrder K) {V : Type 0} where
 
     -- each item that the range does not meet stands as before, or is merged into one that now meets
     -- it
-    abbrev pub StandOrMerge : List (Item (AnyRange K) V) → List (Item (AnyRange K) V) → AnyRange K
+    abbrev pub IsUpdateFrame : List (Item (AnyRange K) V) → List (Item (AnyRange K) V) → AnyRange K
         → Type 0
-    StandOrMerge items new r =
+    IsUpdateFrame items new r =
         Every (λ i. ¬ Overlap order i.key r → Any (λ j. j ≡ i) new ⊎ IsMergedInto new r i) items
 
     -- some item of the run has an equal value
@@ -63,9 +63,9 @@ module _ {K : Type 0} (order : KeyOrder K) {V : Type 0} where
       pub valued : Every (λ j. HasValue run j.value ⊎ IsSuch j.value) others
 
     -- such a run gave way to others
-    abbrev pub GaveWay : List (Item (AnyRange K) V) → List (Item (AnyRange K) V) → AnyRange K
+    abbrev pub IsMergeFrame : List (Item (AnyRange K) V) → List (Item (AnyRange K) V) → AnyRange K
         → (V → Type 0) → Type 0
-    GaveWay items new r IsSuch = RunGaveWay items new (IsMergedRun r IsSuch)
+    IsMergeFrame items new r IsSuch = IsSpliceFrame items new (IsMergedRun r IsSuch)
 
     -- the item meets the range, or touches it with an equal value
     abbrev pub JoinsOrMeets : AnyRange K → V → Item (AnyRange K) V → Type 0
@@ -92,9 +92,10 @@ module _ {K : Type 0} (order : KeyOrder K) {V : Type 0} where
       pub made : Every (IsNewItem run r v) others
 
     -- such a run gave way to others
-    abbrev pub GaveWayTo : List (Item (AnyRange K) V) → List (Item (AnyRange K) V) → AnyRange K → V
+    abbrev pub IsInsertionFrame : List (Item (AnyRange K) V) → List (Item (AnyRange K) V)
+        → AnyRange K → V
         → Type 0
-    GaveWayTo items new r v = RunGaveWay items new (IsBoundRun r v)
+    IsInsertionFrame items new r v = IsSpliceFrame items new (IsBoundRun r v)
 
     -- the bounds and the value of what is left of an item that the range cuts
     pub record IsPart (run : List (Item (AnyRange K) V)) (r : AnyRange K)
@@ -111,6 +112,6 @@ module _ {K : Type 0} (order : KeyOrder K) {V : Type 0} where
       pub made : Every (IsPart run r) others
 
     -- such a run gave way to its parts
-    abbrev pub WasCutOut : List (Item (AnyRange K) V) → List (Item (AnyRange K) V) → AnyRange K
+    abbrev pub IsRemovalFrame : List (Item (AnyRange K) V) → List (Item (AnyRange K) V) → AnyRange K
         → Type 0
-    WasCutOut items new r = RunGaveWay items new (IsCutRun r)
+    IsRemovalFrame items new r = IsSpliceFrame items new (IsCutRun r)

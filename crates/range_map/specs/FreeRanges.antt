@@ -7,7 +7,7 @@ use Rattle.std.specs.declared.ops.Bound.{Bound}
 use Rattle.std.specs.declared.ops.Bound.TheVariants.{Unbounded}
 use Rattle.range_keys.specs.Order.{KeyOrder}
 use Rattle.range_keys.specs.Position.{bound_of}
-use Rattle.range_algebra.specs.Compared.{inverted, starts_past_end}
+use Rattle.range_algebra.specs.Compared.{flipped, starts_past_end}
 use Rattle.range_algebra.specs.Intervals.{Any, Every}
 use Rattle.range_algebra.specs.Range.{Holds, IsKnownRange}
 use Rattle.range_algebra.specs.RangeOrder.{range_cmp}
@@ -52,7 +52,7 @@ module _ {K : Type 0} (order : KeyOrder K) where
       → List (AnyRange K)
   free_from start [] = between start (Some Unbounded)
   free_from start (i ∷ rest) =
-      between start (inverted i.key.start) ++ free_from (inverted i.key.end) rest
+      between start (flipped i.key.start) ++ free_from (flipped i.key.end) rest
 
   -- the same, where the start refers to a key
   abbrev pub free_after : {V : Type 0} → Option (Bound (Bor K)) → List (Item (AnyRange K) V)

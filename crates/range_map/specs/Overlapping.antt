@@ -47,7 +47,8 @@ run_items rank items None = []
 run_items rank items (Some ends) = take (rank ends.1 + 1 - rank ends.0) (drop (rank ends.0) items)
 
 -- the range from the start of the first item to the end of the last
-pub record IsSpan {K V : Type 0} (items : List (Item (AnyRange K) V)) (s : AnyRange K) : Type 0 where
+pub record IsSpan {K V : Type 0} (items : List (Item (AnyRange K) V))
+    (s : AnyRange K) : Type 0 where
   pub first : Item (AnyRange K) V
   pub last : Item (AnyRange K) V
   pub starts : (rest : List (Item (AnyRange K) V)) × (items ≡ first ∷ rest)

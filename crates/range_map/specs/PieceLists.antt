@@ -6,7 +6,7 @@ use Rattle.std.specs.declared.cmp.Ordering.TheVariants.{Equal}
 use Rattle.std.specs.declared.ops.Bound.{Bound}
 use Rattle.range_keys.specs.Order.{KeyOrder}
 use Rattle.range_algebra.specs.Combined.{common}
-use Rattle.range_algebra.specs.Compared.{inverted}
+use Rattle.range_algebra.specs.Compared.{flipped}
 use Rattle.range_algebra.specs.Intervals.{Any, Every}
 use Rattle.range_algebra.specs.Range.{IsKnownRange}
 use Rattle.range_algebra.specs.RangeOrder.{range_cmp}
@@ -51,8 +51,8 @@ module _ {K : Type 0} (order : KeyOrder K) {V : Type 0} where
       → List (Item (AnyRange K) V) → List (Item (AnyRange K) (Option V))
   pieces_from r start end [] = free_between start end
   pieces_from r start end (i ∷ rest) =
-      free_between start (inverted i.key.start)
-      ++ bound_piece r i ∷ pieces_from r (inverted i.key.end) end rest
+      free_between start (flipped i.key.start)
+      ++ bound_piece r i ∷ pieces_from r (flipped i.key.end) end rest
 
   -- all free pieces of the range, each before the next
   pub record AreGapsWithin (items : List (Item (AnyRange K) V)) (r : AnyRange K)

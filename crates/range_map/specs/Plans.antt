@@ -16,7 +16,7 @@ use Rattle.range_map.specs.Frames.{IsStartOf, IsEndOf, IsNewItem}
 use Rattle.range_map.specs.Window.{option_items}
 use Rattle.range_map.specs.declared.change.reach.Reach.{Reach}
 use Rattle.range_map.specs.Edges.{IsLeftEdge, IsRightEdge, IsLeftShape, IsRightShape, IsRunStart, joined_count, seam_edge}
-use Rattle.range_map.specs.Edits.{turned_bound}
+use Rattle.range_map.specs.Edits.{flipped_bound}
 
 module _ {K : Type 0} (order : KeyOrder K) {V : Type 0} (same : V → V → Bool)
     (items : List (Item (AnyRange K) V)) (r : AnyRange K) (v : V) (place count : ℕ) where
@@ -86,7 +86,7 @@ module _ {K : Type 0} (order : KeyOrder K) {V : Type 0} (same : V → V → Bool
       place_before (rank stored)
       (length (items stored)) reach.window.from in (lawful : IsLawful order)
       → (equal : IsEquivalence same) → (b : Bound K) (at : Option P) → IsKnownBound order b
-      → SameBound order (turned_bound r.start) b
+      → SameBound order (flipped_bound r.start) b
       → IsRunStart (is_good stored) (rank stored) (length (items stored)) place reach.first found at
       → IsLeftPlan order same lawful equal (is_good stored) (rank stored)
       (items stored) r v place reach.window.count reach.first (seam_edge found reach.first b) at
@@ -94,7 +94,7 @@ module _ {K : Type 0} (order : KeyOrder K) {V : Type 0} (same : V → V → Bool
   -- the one that it joins where it ends
   abbrev pub JoinsAfter : Option P → Type 0
   JoinsAfter found = (lawful : IsLawful order) → (equal : IsEquivalence same) → (b : Bound K)
-      → IsKnownBound order b → SameBound order (turned_bound r.end) b
+      → IsKnownBound order b → SameBound order (flipped_bound r.end) b
       → IsRightPlan order same lawful equal (is_good stored) (rank stored) (items stored) r v
       (place_before (rank stored) (length (items stored)) reach.window.from) reach.window.count
       reach.last (seam_edge found reach.last b)

@@ -6,7 +6,7 @@ use Rattle.range_algebra.specs.Range.{Holds}
 use Rattle.range_algebra.specs.declared.any.AnyRange.{AnyRange}
 use Rattle.range_store.specs.declared.storage.Item.{Item}
 use Rattle.range_map.specs.Bindings.{Binds}
-use Rattle.range_map.specs.Frames.{GaveWay, HasValue}
+use Rattle.range_map.specs.Frames.{IsMergeFrame, HasValue}
 use Rattle.range_map.specs.Pieces.{LiesIn}
 use Rattle.range_map.specs.Stored.{IsStored}
 
@@ -24,4 +24,4 @@ module _ {K : Type 0} (order : KeyOrder K) {V : Type 0} where
           → Binds order same new k b ↔ Binds order same middle k b
       pub others : (k : K) → order.is_key k → ¬ Holds order r k → (b : Option V)
           → Binds order same new k b ↔ Binds order same items k b
-      pub frame : GaveWay order same items new r (HasValue order same middle)
+      pub frame : IsMergeFrame order same items new r (HasValue order same middle)

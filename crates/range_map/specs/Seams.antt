@@ -14,7 +14,7 @@ use Rattle.range_store.specs.declared.storage.Item.{Item}
 use Rattle.range_store.specs.Places.{IsAt, place_before}
 use Rattle.range_map.specs.declared.change.edges.Edge.{Edge}
 use Rattle.range_map.specs.Edges.{IsLeftRest, IsRightRest, IsLeftShape, IsRightShape, IsRunStart, seam_edge}
-use Rattle.range_map.specs.Edits.{turned_bound, with_start, with_end}
+use Rattle.range_map.specs.Edits.{flipped_bound, with_start, with_end}
 use Rattle.range_map.specs.Frames.{HasValue}
 use Rattle.range_map.specs.Stored.{item_lower, item_upper}
 use Rattle.range_map.specs.Plans.{IsLeftPlan, IsRightPlan}
@@ -89,7 +89,7 @@ module _ {K : Type 0} (order : KeyOrder K) {V : Type 0} (same : V → V → Bool
       place_before (rank stored)
       (length (items stored)) reach.window.from in (lawful : IsLawful order)
       → (equal : IsEquivalence same) → (b : Bound K) (at : Option P) → IsKnownBound order b
-      → SameBound order (turned_bound r.start) b
+      → SameBound order (flipped_bound r.start) b
       → IsRunStart (is_good stored) (rank stored) (length (items stored)) place reach.first found at
       → IsLeftSeam order same lawful equal (is_good stored) (rank stored)
       (items stored) r place reach.window.count next reach.first (seam_edge found reach.first b) at
@@ -100,6 +100,6 @@ module _ {K : Type 0} (order : KeyOrder K) {V : Type 0} (same : V → V → Bool
       place_before (rank stored)
       (length (items stored)) reach.window.from in (lawful : IsLawful order)
       → (equal : IsEquivalence same) → (b : Bound K) → IsKnownBound order b
-      → SameBound order (turned_bound r.end) b
+      → SameBound order (flipped_bound r.end) b
       → IsRightSeam order same lawful equal (is_good stored) (rank stored)
       (items stored) r place reach.window.count previous reach.last (seam_edge found reach.last b)

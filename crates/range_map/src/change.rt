@@ -1,6 +1,6 @@
 //! The one way of changing a map: find what a range meets, plan, reserve, commit.
 
-pub(crate) mod apart;
+pub(crate) mod append;
 pub(crate) mod bind;
 pub(crate) mod cut;
 pub(crate) mod edges;

@@ -5,7 +5,7 @@ ghost use Rattle.range_map.specs.Stored.{IsStored};
 ghost use Rattle.range_keys.specs.Order.{IsComplete};
 ghost use Rattle.range_store.specs.Counting.{AddsSteps};
 ghost use Rattle.range_map.specs.Bindings.{Binds, IsCoarse, IsItemFor, IsStoredFor, IsOnlyCoarse, IsLeastCount};
-ghost use Rattle.range_map.specs.Iterating.{shown_item};
+ghost use Rattle.range_map.specs.Iteration.{shown_item};
 
 mod clear;
 mod clone;

@@ -7,7 +7,7 @@ use Rattle.range_algebra.specs.Intervals.{Every}
 use Rattle.range_algebra.specs.Range.{IsEmptyRange}
 use Rattle.range_algebra.specs.declared.any.AnyRange.{AnyRange}
 use Rattle.range_store.specs.declared.storage.Item.{Item}
-use Rattle.range_map.specs.Frames.{GaveWayTo}
+use Rattle.range_map.specs.Frames.{IsInsertionFrame}
 use Rattle.range_map.specs.FreeRanges.{item_ranges}
 
 pub ranges_length : {K V : Type 0} (items : List (Item (AnyRange K) V))
@@ -24,7 +24,8 @@ module _ {K : Type 0} (order : KeyOrder K) where
   all_alike (i ∷ rest) = (refl, all_alike rest)
 
   -- one range takes the place of those that the range joins
-  one_for_all : (items new : Items) (r : AnyRange K) → GaveWayTo order (λ _ _. true) items new r tt
+  one_for_all : (items new : Items) (r : AnyRange K)
+      → IsInsertionFrame order (λ _ _. true) items new r tt
       → length new ≤ length items + 1
   one_for_all items new r h =
       omega (
@@ -39,7 +40,7 @@ module _ {K : Type 0} (order : KeyOrder K) where
       )
 
   pub one_more : {E : Type 0} (result : Result (Unit {0}) E) (items new : Items) (r : AnyRange K)
-      → OnOk result (¬ IsEmptyRange order r → GaveWayTo order (λ _ _. true) items new r tt)
+      → OnOk result (¬ IsEmptyRange order r → IsInsertionFrame order (λ _ _. true) items new r tt)
       → OnErr result (new ≡ items) → (IsEmptyRange order r → new ≡ items)
       → length new ≤ length items + 1
   one_more (Err e) items new r frame refused empty = omega (arith, ap length refused)

@@ -7,7 +7,7 @@ use Rattle.range_algebra.specs.Intervals.{Every}
 use Rattle.range_algebra.specs.Range.{IsEmptyRange}
 use Rattle.range_algebra.specs.declared.any.AnyRange.{AnyRange}
 use Rattle.range_store.specs.declared.storage.Item.{Item}
-use Rattle.range_map.specs.Frames.{GaveWayTo, IsNewItem}
+use Rattle.range_map.specs.Frames.{IsInsertionFrame, IsNewItem}
 use Rattle.range_sets.specs.Pairs.{HasNoEmptySet}
 use Rattle.range_keys.proofs.Orderings.{greater_or_not}
 
@@ -27,7 +27,7 @@ module _ {K : Type 0} (order : KeyOrder K) {S : Type 0} (same : S → S → Bool
 
   -- what gave way to a nonempty set has no empty one
   given_way_full : (items next : List (Item (AnyRange K) S)) (r : AnyRange K) (s : S) → ¬ is_void s
-      → HasNoEmptySet is_void items → GaveWayTo order same items next r s
+      → HasNoEmptySet is_void items → IsInsertionFrame order same items next r s
       → HasNoEmptySet is_void next
   given_way_full items next r s full before way =
       let all : Every IsFull (way.front ++ way.run ++ way.behind) =
@@ -48,7 +48,7 @@ module _ {K : Type 0} (order : KeyOrder K) {S : Type 0} (same : S → S → Bool
   pub inserted_full : {E : Type 0} (items next : List (Item (AnyRange K) S)) (r : AnyRange K)
       (s : S) (result : Result Bool E) → ¬ is_void s → HasNoEmptySet is_void items
       → (result ≡ Ok false → next ≡ items)
-      → (result ≡ Ok true → ¬ IsEmptyRange order r → GaveWayTo order same items next r s)
+      → (result ≡ Ok true → ¬ IsEmptyRange order r → IsInsertionFrame order same items next r s)
       → OnErr result (next ≡ items) → (IsEmptyRange order r → next ≡ items)
       → HasNoEmptySet is_void next
   inserted_full items next r s (Err e) full before met way refused empty =

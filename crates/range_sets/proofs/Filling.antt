@@ -15,7 +15,7 @@ use Rattle.range_algebra.proofs.Canonical.{equal_is_same}
 use Rattle.range_store.specs.declared.storage.Item.{Item}
 use Rattle.range_map.specs.ListOrder.{IsCopyOf}
 use Rattle.range_map.specs.FreeRanges.{item_ranges, IsHeldOnce}
-use Rattle.range_map.proofs.Copying.{copy_stored}
+use Rattle.range_map.proofs.CloneLists.{copy_stored}
 use Rattle.range_sets.specs.KeySets.{HoldsKey, HoldsTheOthers, IsStoredSet, SomeHolds}
 use Rattle.range_sets.proofs.Complementing.{set_items, front_stored}
 

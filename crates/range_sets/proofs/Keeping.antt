@@ -24,9 +24,9 @@ use Rattle.range_algebra.specs.declared.any.AnyRange.{AnyRange}
 use Rattle.range_algebra.proofs.Lists.{every_weaker}
 use Rattle.range_store.specs.declared.storage.Item.{Item}
 use Rattle.range_map.specs.Answers.{Answered, IsAsAnswered, IsGivenBy, MayAnswer, IsUpdated}
-use Rattle.range_map.specs.Frames.{GaveWay, HasValue}
-use Rattle.range_map.proofs.Cutting.{any_use}
-use Rattle.range_map.proofs.Merging.{way_follows}
+use Rattle.range_map.specs.Frames.{IsMergeFrame, HasValue}
+use Rattle.range_map.proofs.RangePieces.{any_use}
+use Rattle.range_map.proofs.MergedItems.{way_follows}
 use Rattle.range_sets.specs.Members.{HaveSame, HasAlso, HasAllBut, among}
 use Rattle.range_sets.proofs.Altered.{but_true}
 
@@ -61,7 +61,7 @@ module _ {K : Type 0} (order : KeyOrder K) {S : Type 0} (same : S → S → Bool
 
   -- each set that comes in the place of others equals one of them, or is such
   pub gave_way_to_such : (items next : List (Item (AnyRange K) S)) (r : AnyRange K)
-      → IsUpdated order same calls f items next r → GaveWay order same items next r IsSuch
+      → IsUpdated order same calls f items next r → IsMergeFrame order same items next r IsSuch
   gave_way_to_such items next r done = way_follows (λ run others way. record {
     concerned = way.concerned;
     valued = every_weaker (λ j. HasValue order same run j.value

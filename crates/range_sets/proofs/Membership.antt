@@ -6,7 +6,7 @@ use Rattle.range_algebra.specs.declared.any.AnyRange.{AnyRange}
 use Rattle.range_algebra.proofs.Meeting.{held_or_not}
 use Rattle.range_store.specs.declared.storage.Item.{Item}
 use Rattle.range_map.specs.Bindings.{IsBound, BindsTo, IsBoundAfter, IsUnboundAfter}
-use Rattle.range_map.proofs.Meeting.{binds_bound}
+use Rattle.range_map.proofs.Overlaps.{binds_bound}
 use Rattle.range_sets.specs.KeySets.{HoldsKey, SomeHolds, HoldsAlso, HoldsWithout, HoldsAllAlso, HoldsAllOf}
 
 module _ {K : Type 0} (order : KeyOrder K) where

@@ -15,7 +15,7 @@ use Rattle.range_store.specs.declared.storage.Item.{Item}
 use Rattle.range_map.specs.Answers.{IsAsAnswered, MayAnswer, IsUpdated}
 use Rattle.range_map.specs.Bindings.{IsBound, BindsTo, Binds}
 use Rattle.range_map.specs.ListOrder.{IsCopyOf}
-use Rattle.range_map.specs.Frames.{GaveWay, HasValue}
+use Rattle.range_map.specs.Frames.{IsMergeFrame, HasValue}
 use Rattle.range_map.specs.Rebinding.{AreRebound}
 use Rattle.range_sets.specs.Members.{HasNone, HaveSame, HasAlso, HasAllBut, among}
 use Rattle.range_sets.specs.Pairs.{HasNoEmptySet, HasPair, IsUnpaired, AreValuesAt, HasPairsAlso, HasPairsWithout, StayBound}
@@ -23,8 +23,8 @@ use Rattle.range_sets.proofs.Altered.{or_true, but_true}
 use Rattle.range_sets.proofs.Keeping.{gave_way_to_such}
 use Rattle.range_algebra.proofs.Lists.{every_weaker, every_append, every_left, every_right}
 use Rattle.range_algebra.proofs.Meeting.{held_or_not}
-use Rattle.range_map.proofs.Cutting.{any_use}
-use Rattle.range_map.proofs.Meeting.{binds_bound}
+use Rattle.range_map.proofs.RangePieces.{any_use}
+use Rattle.range_map.proofs.Overlaps.{binds_bound}
 
 module _ {K : Type 0} (order : KeyOrder K) {S V : Type 0} (same : S → S → Bool)
     (equal : IsEquivalence same) (has : S → V → Bool)
@@ -217,7 +217,7 @@ module _ {K : Type 0} (order : KeyOrder K) {S : Type 0} (same : S → S → Bool
 
   way_full : (items next : List (Item (AnyRange K) S)) (r : AnyRange K)
       → HasNoEmptySet is_void items
-      → GaveWay order same items next r (λ s. ¬ is_void s) → HasNoEmptySet is_void next
+      → IsMergeFrame order same items next r (λ s. ¬ is_void s) → HasNoEmptySet is_void next
   way_full items next r full way =
       let P : Item (AnyRange K) S → Type 0 = λ i. ¬ is_void i.value in
       let all = rw way.before at full in

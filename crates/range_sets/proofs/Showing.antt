@@ -7,7 +7,7 @@ use Rattle.std.specs.declared.fmt.Formatter.{Formatter}
 use Rattle.std.proofs.Output.{writes_in_calls_nil, has_written_append}
 use Rattle.range_algebra.specs.Texts.{range_text}
 use Rattle.range_algebra.specs.declared.any.AnyRange.{AnyRange}
-use Rattle.range_map.proofs.Writing.{both_known}
+use Rattle.range_map.proofs.WrittenItems.{both_known}
 use Rattle.range_sets.specs.SetTexts.{ranges_text}
 
 module _ {K : Type 0} (key_text : K → Option (List ℕ)) {W : Type 0}

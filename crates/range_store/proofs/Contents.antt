@@ -155,7 +155,8 @@ module _ {T : Type 0} (s t : Heap T) (d n r half : ℕ) (xs : List T) (ks : List
               occurrences-cons k n (flat_map (used s d) ks),
               ap (occurrences k) both,
               occurrences-append k (flat_map (used s d) us) (flat_map (used s d) vs),
-              occurrences-append k (n ∷ flat_map (used s d) us) (r ∷ (flat_map (used s d) vs ++ [])),
+              occurrences-append k (n ∷ flat_map (used s d) us)
+                  (r ∷ (flat_map (used s d) vs ++ [])),
               occurrences-cons k n (flat_map (used s d) us),
               occurrences-cons k r (flat_map (used s d) vs ++ []),
               ap (occurrences k) (append-nil (flat_map (used s d) vs)),

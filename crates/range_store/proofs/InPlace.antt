@@ -123,7 +123,8 @@ module _ {T : Type 0} (s t : Heap T) (d n : ℕ) (g : Edge) (items : List T)
           items_below_at 1 CAPACITY s (suc d) n (omega arith) shaped (turn g) low
           ∙ ap (λ zs. fore ++ (zs ++ behind)) below.was
           ∙ regroup fore below.front (items_of (node_of s g.leaf)) below.rest behind;
-      place_is = omega (arith, place_inside s d n g, below.place_is, length-append fore below.front);
+      place_is =
+          omega (arith, place_inside s d n g, below.place_is, length-append fore below.front);
       rewritten = record {
         listed =
             kid_listed s t (suc d) n
@@ -136,7 +137,8 @@ module _ {T : Type 0} (s t : Heap T) (d n : ℕ) (g : Edge) (items : List T)
           node = IsNode-same least CAPACITY s t (suc d) n kept old.node;
           children =
               kid_children s t (suc d) n
-              (turn g) _ inner shaped owned low below.rewritten.listed below.rewritten.moved kid_now;
+              (turn g) _ inner shaped owned low below.rewritten.listed below.rewritten.moved
+              kid_now;
         };
       };
       edges = λ h leaf way index.

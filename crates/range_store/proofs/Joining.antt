@@ -204,7 +204,8 @@ module _ {T : Type 0} (s : Heap T) (d l : ℕ) (x : T) (r : ℕ) (pair : IsPair 
           items_are = rw left_kept first.items_are;
           children_are = rw left_kept first.children_are;
           same =
-              same_children s u d (take (half + 1) ks) (part_agree s u d (half + 1) ks shared_agree).0;
+              same_children s u d (take (half + 1) ks)
+              (part_agree s u d (half + 1) ks shared_agree).0;
         }
 
     pub shared_right : Holds s u d r (drop (half + 1) xs) (drop (half + 1) ks)
@@ -214,7 +215,8 @@ module _ {T : Type 0} (s : Heap T) (d l : ℕ) (x : T) (r : ℕ) (pair : IsPair 
           items_are = second.items_are;
           children_are = second.children_are;
           same =
-              same_children s u d (drop (half + 1) ks) (part_agree s u d (half + 1) ks shared_agree).1;
+              same_children s u d (drop (half + 1) ks)
+              (part_agree s u d (half + 1) ks shared_agree).1;
         }
 
     pub shared_rejoins : (split : Split T) → split.right ≡ r

@@ -69,7 +69,12 @@ module _ {T : Type 0} (s : Heap T) (low n j : ℕ) (x : T) (levelled : IsLevelle
         owned = levelled.owned;
         children = ks_parts;
         moved =
-            record { owned = λ k. refl; outside = λ k unused present. refl; len = refl; capacity = refl };
+            record {
+              owned = λ k. refl;
+              outside = λ k unused present. refl;
+              len = refl;
+              capacity = refl;
+            };
       }
 
   pub pair_of : IsPair s low l r

@@ -10,8 +10,8 @@ ghost use Rattle.range_map.specs.Lookups.{MeetsSome};
 ghost use Rattle.range_map.specs.Costs.{TakesAtLeast, TakesAsChange};
 ghost use Rattle.range_map.specs.Changes.{IsInserted};
 
-use crate::change::apart::{bind_last, comes_last};
-use crate::change::cut::cut_parts;
+use crate::change::append::{bind_last, comes_last};
+use crate::change::cut::prepare_parts;
 use crate::change::edges::{Joins, Sides, joins_after, joins_before, run_length, seam_at};
 use crate::change::reach::{Reach, reaching, run_start, surrounding};
 use crate::change::splice::{change, divide};
@@ -32,7 +32,7 @@ fn growth(count: usize) -> usize
 
 /// Binds a range that lies within one stored range: with an equal value nothing changes, with
 /// another it stands between two parts.
-pub(crate) fn bind_within<K: PartialEnum + Clone, V: Eq + Clone, C: Storage<Item<AnyRange<K>, V>>>(
+pub(crate) fn bind_inside<K: PartialEnum + Clone, V: Eq + Clone, C: Storage<Item<AnyRange<K>, V>>>(
     stored: &mut C,
     window: &Window<C::Position>,
     p: C::Position,
@@ -54,14 +54,14 @@ pub(crate) fn bind_within<K: PartialEnum + Clone, V: Eq + Clone, C: Storage<Item
         return Ok(());
     }
     let (start, end) = (range.start_bound(), range.end_bound());
-    let parts = cut_parts::<K, V, C>(stored, p, start, end, 2)?;
+    let parts = prepare_parts::<K, V, C>(stored, p, start, end, 2)?;
     let middle = Item { key: range, value };
     divide::<K, V, C>(stored, p, parts, Some(middle), window.after);
     Ok(())
 }
 
 /// Stores an item between those beside its range, which meets no stored range and joins none.
-fn bind_between<K: PartialEnum, V: Eq + Drop, C: Storage<Item<AnyRange<K>, V>>>(
+fn bind_isolated<K: PartialEnum, V: Eq + Drop, C: Storage<Item<AnyRange<K>, V>>>(
     stored: &mut C,
     reach: &Reach<C::Position>,
     item: Item<AnyRange<K>, V>,
@@ -84,7 +84,7 @@ fn bind_between<K: PartialEnum, V: Eq + Drop, C: Storage<Item<AnyRange<K>, V>>>(
 
 /// Binds an item's range to its value, where it meets or joins a stored range and none surrounds
 /// it.
-fn bind_among<K: PartialEnum + Clone, V: Eq + Clone, C: Storage<Item<AnyRange<K>, V>>>(
+fn bind_merging<K: PartialEnum + Clone, V: Eq + Clone, C: Storage<Item<AnyRange<K>, V>>>(
     stored: &mut C,
     reach: &Reach<C::Position>,
     joins: &Joins<C::Position>,
@@ -116,7 +116,7 @@ fn bind_among<K: PartialEnum + Clone, V: Eq + Clone, C: Storage<Item<AnyRange<K>
 }
 
 /// Binds an item's range, which no stored range surrounds, to its value.
-fn bind_over<K: PartialEnum + Clone, V: Eq + Clone, C: Storage<Item<AnyRange<K>, V>>>(
+fn bind_outside<K: PartialEnum + Clone, V: Eq + Clone, C: Storage<Item<AnyRange<K>, V>>>(
     stored: &mut C,
     reach: &Reach<C::Position>,
     item: Item<AnyRange<K>, V>,
@@ -136,9 +136,9 @@ fn bind_over<K: PartialEnum + Clone, V: Eq + Clone, C: Storage<Item<AnyRange<K>,
     let before = joins_before::<K, V, C>(stored, reach, &item.key, &item.value, steps);
     let after = joins_after::<K, V, C>(stored, reach, &item.key, &item.value, steps);
     if reach.window.count == 0 && before.is_none() && after.is_none() {
-        return bind_between::<K, V, C>(stored, reach, item);
+        return bind_isolated::<K, V, C>(stored, reach, item);
     }
-    bind_among::<K, V, C>(stored, reach, &Joins { before, after }, item)
+    bind_merging::<K, V, C>(stored, reach, &Joins { before, after }, item)
 }
 
 /// Binds each key of a nonempty range to the value.
@@ -163,8 +163,8 @@ pub(crate) fn bind<K: Measure + Clone, V: Eq + Clone, C: Storage<Item<AnyRange<K
     let window = find_window::<K, V, C, AnyRange<K>>(stored, &range, steps);
     let reach = reaching::<K, V, C, AnyRange<K>>(stored, window, &range, steps);
     match surrounding(&reach) {
-        Some(p) => bind_within::<K, V, C>(stored, &reach.window, p, range, value),
-        None => bind_over::<K, V, C>(stored, &reach, Item { key: range, value }, steps),
+        Some(p) => bind_inside::<K, V, C>(stored, &reach.window, p, range, value),
+        None => bind_outside::<K, V, C>(stored, &reach, Item { key: range, value }, steps),
     }
 }
 
@@ -222,6 +222,6 @@ pub(crate) fn bind_disjoint<K: Measure + Clone, V: Eq + Clone, C: Storage<Item<A
         first: None,
         last: None,
     };
-    bind_over::<K, V, C>(stored, &reach, Item { key: range, value }, &mut steps)?;
+    bind_outside::<K, V, C>(stored, &reach, Item { key: range, value }, &mut steps)?;
     Ok(true)
 }

@@ -3,13 +3,13 @@ ghost use Rattle.std.specs.Prelude.{◌≡◌, ◌↔◌, ◌≤◌, IfOk, OnOk,
 ghost use Rattle.std.specs.Option.{option_map};
 ghost use Rattle.range_keys.specs.Position.{bound_of, position_cmp};
 ghost use Rattle.range_algebra.specs.Clones.{IsBoundClone, SameBound};
-ghost use Rattle.range_algebra.specs.Compared.{inverted};
+ghost use Rattle.range_algebra.specs.Compared.{flipped};
 ghost use Rattle.range_algebra.specs.Cuts.{lower, upper};
 ghost use Rattle.range_algebra.specs.Intervals.{Lt};
 ghost use Rattle.range_algebra.specs.Range.{ClonesAreEqual, IsKnownBound};
 ghost use Rattle.range_algebra.specs.declared.any.AnyRange.{AnyRange};
 ghost use Rattle.range_store.specs.declared.storage.Item.{Item};
-ghost use Rattle.range_map.specs.Edits.{turned_bound, KeepsPositions};
+ghost use Rattle.range_map.specs.Edits.{flipped_bound, KeepsPositions};
 
 use range_algebra::any::AnyRange;
 use range_algebra::inner;
@@ -21,8 +21,8 @@ use std::alloc::AllocError;
 use std::ops::{Bound, RangeBounds};
 
 /// The bound just past a bound, on its other side.
-pub(crate) fn invert<K>(bound: Bound<&K>) -> Option<Bound<&K>>
-    ensures { option_map bound_of result ≡ inverted (bound_of bound.entry) }
+pub(crate) fn flip<K>(bound: Bound<&K>) -> Option<Bound<&K>>
+    ensures { option_map bound_of result ≡ flipped (bound_of bound.entry) }
 {
     match bound {
         Bound::Included(key) => Some(Bound::Excluded(key)),
@@ -32,8 +32,8 @@ pub(crate) fn invert<K>(bound: Bound<&K>) -> Option<Bound<&K>>
 }
 
 /// The bound on the other side of a bound: what it includes is excluded, and the other way round.
-pub(crate) fn turned<K>(bound: Bound<K>) -> Bound<K>
-    ensures { result ≡ turned_bound bound }
+pub(crate) fn flip_bound<K>(bound: Bound<K>) -> Bound<K>
+    ensures { result ≡ flipped_bound bound }
 {
     match bound {
         Bound::Included(key) => Bound::Excluded(key),
@@ -43,9 +43,9 @@ pub(crate) fn turned<K>(bound: Bound<K>) -> Bound<K>
 }
 
 /// A clone of the bound on the other side of the one that is referred to.
-fn turned_clone<K: Clone>(bound: Bound<&K>) -> Result<Bound<K>, AllocError>
+fn flip_clone<K: Clone>(bound: Bound<&K>) -> Result<Bound<K>, AllocError>
     ensures { IfOk result
-        (λ copy. IsBoundClone K.is_clone (turned_bound (bound_of bound.entry)) copy) }
+        (λ copy. IsBoundClone K.is_clone (flipped_bound (bound_of bound.entry)) copy) }
 {
     Ok(match bound {
         Bound::Included(key) => Bound::Excluded(key.clone()?),
@@ -69,10 +69,10 @@ pub(crate) fn known_bound<K: PartialEnum>(bound: &Bound<K>)
 pub(crate) fn cut_bound<K: PartialEnum + Clone>(bound: Bound<&K>) -> Result<Bound<K>, AllocError>
     requires { ClonesAreEqual K.is_clone K.eq }
     ensures known { IfOk result (λ cut. IsKnownBound K.order cut) }
-    ensures turned { IfOk result
-        (λ cut. SameBound K.order (turned_bound (bound_of bound.entry)) cut) }
+    ensures flipped { IfOk result
+        (λ cut. SameBound K.order (flipped_bound (bound_of bound.entry)) cut) }
 {
-    let cut = turned_clone(bound)?;
+    let cut = flip_clone(bound)?;
     known_bound(&cut);
     Ok(cut)
 }
@@ -90,7 +90,11 @@ pub struct Parts<K, V> {
 
 /// Reserves capacity for more items, and clones what the parts of an item need where a range with
 /// these bounds is cut out of it.
-pub(crate) fn cut_parts<K: PartialEnum + Clone, V: Eq + Clone, C: Storage<Item<AnyRange<K>, V>>>(
+pub(crate) fn prepare_parts<
+    K: PartialEnum + Clone,
+    V: Eq + Clone,
+    C: Storage<Item<AnyRange<K>, V>>,
+>(
     stored: &mut C,
     p: C::Position,
     start: Bound<&K>,
@@ -102,10 +106,10 @@ pub(crate) fn cut_parts<K: PartialEnum + Clone, V: Eq + Clone, C: Storage<Item<A
     requires good { C.is_good stored.old p }
     ensures end { IfOk result
         (λ parts. IsKnownBound K.order parts.end
-        × SameBound K.order (turned_bound (bound_of start.entry)) parts.end) }
+        × SameBound K.order (flipped_bound (bound_of start.entry)) parts.end) }
     ensures start { IfOk result
         (λ parts. IsKnownBound K.order parts.start
-        × SameBound K.order (turned_bound (bound_of end.entry)) parts.start) }
+        × SameBound K.order (flipped_bound (bound_of end.entry)) parts.start) }
     ensures value { IfOk result
         (λ parts. (d : Item (AnyRange K) V)
         → IsTrue (V.eq (slice_index_or (C.items stored.old) (C.rank stored.old p) d).value
@@ -142,7 +146,7 @@ pub(crate) fn ends_after<K: Measure, R: AsRange<Item = K>>(first: &AnyRange<K>, 
 {
     inner::known(first);
     inner::known_range(second);
-    match invert(second.end()) {
+    match flip(second.end()) {
         None => false,
         Some(start) => Directed::Start(start) <= Directed::End(first.end_bound()),
     }

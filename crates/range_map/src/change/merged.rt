@@ -10,7 +10,7 @@ ghost use Rattle.range_algebra.specs.References.{range_of};
 ghost use Rattle.range_map.specs.Merged.{IsPlaced, IsPlacedIn, IsPartFrom, IsSplitAt, IsCutFrom, IsUsedUp, StartAlike, IsFirstPieceOf, part_item};
 ghost use Rattle.range_map.specs.Window.{option_items};
 
-use crate::change::cut::invert;
+use crate::change::cut::flip;
 use crate::map::Iter;
 use range_algebra::any::AnyRange;
 use range_algebra::inner::starts_past_end;
@@ -94,7 +94,7 @@ fn split_at<'a, K: PartialEnum>(
 {
     match part_from(range, Some(start)) {
         None => (range, None),
-        Some(rest) => match invert(start) {
+        Some(rest) => match flip(start) {
             Some(end) => (
                 AnyRange {
                     start: range.start,
@@ -148,7 +148,7 @@ fn first_of_both<'a, K: PartialEnum, V, W>(
     ensures { IsFirstPieceOf K.order (Some (part_item part.entry)) (Some (part_item other.entry))
         result }
 {
-    if let Some(rest) = part_from(part.0, invert(other.0.end)) {
+    if let Some(rest) = part_from(part.0, flip(other.0.end)) {
         return Piece {
             range: other.0,
             value: Some(part.1),
@@ -157,7 +157,7 @@ fn first_of_both<'a, K: PartialEnum, V, W>(
             right: None,
         };
     }
-    let rest = part_from(other.0, invert(part.0.end));
+    let rest = part_from(other.0, flip(part.0.end));
     Piece {
         range: part.0,
         value: Some(part.1),

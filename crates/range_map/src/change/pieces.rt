@@ -6,13 +6,13 @@ ghost use Rattle.range_algebra.specs.Intervals.{Every};
 ghost use Rattle.range_algebra.specs.Range.{ClonesAreEqual, IsEmptyRange};
 ghost use Rattle.range_algebra.specs.References.{range_of};
 ghost use Rattle.range_map.specs.Answers.{MayAnswer, MayBeAsked, IsAnsweredBy, FailsAt, IsGathered};
-ghost use Rattle.range_map.specs.Asking.{IsGapStart, IsGapEnd, IsGapBetween, JoinsLast, JoinsNoLast, IsPut, IsGapAsked, FailsAtGap, IsItemAsked, IsKeyAt};
+ghost use Rattle.range_map.specs.Questions.{IsGapStart, IsGapEnd, IsGapBetween, JoinsLast, JoinsNoLast, IsPut, IsGapAsked, FailsAtGap, IsItemAsked, IsKeyAt};
 ghost use Rattle.range_map.specs.Edits.{with_end, IsEditedAt};
 ghost use Rattle.range_map.specs.Spelling.{KeepsSpelling};
 ghost use Rattle.range_map.specs.Window.{IsWindowOf};
 ghost use Rattle.range_map.specs.declared.error.UpdateError.TheVariants.{Closure as ClosureError};
 
-use crate::change::cut::{invert, known_bound};
+use crate::change::cut::{flip, known_bound};
 use crate::change::window::Window;
 use crate::error::UpdateError;
 use range_algebra::any::AnyRange;
@@ -34,7 +34,7 @@ fn gap_start<'a, K: PartialEnum>(
     match before {
         Some(before) => {
             inner::known(before);
-            invert(before.end_bound())
+            flip(before.end_bound())
         }
         None => Some(range.start_bound()),
     }
@@ -50,7 +50,7 @@ fn gap_end<'a, K: PartialEnum>(
     match after {
         Some(after) => {
             inner::known(after);
-            invert(after.start_bound())
+            flip(after.start_bound())
         }
         None => Some(range.end_bound()),
     }

@@ -7,7 +7,7 @@ ghost use Rattle.range_map.specs.Seams.{IsJoiningFirst, IsJoiningLast};
 ghost use Rattle.range_map.specs.Spelling.{KeepsSpelling};
 ghost use Rattle.range_map.specs.Stored.{IsStored};
 
-use crate::change::cut::{ends_after, starts_before, turned};
+use crate::change::cut::{ends_after, flip_bound, starts_before};
 use crate::change::edges::{Joins, Sides, joins_after, joins_before, run_length, seam};
 use crate::change::reach::{Reach, run_start};
 use crate::change::splice::change_to;
@@ -93,8 +93,8 @@ pub(crate) fn replace<K: Measure, V: Eq + Drop, C: Storage<Item<AnyRange<K>, V>>
     };
     stored.reserve(middle.len().saturating_sub(run.left))?;
     let (start, end) = range.into_bounds();
-    let left = seam(before, reach.first, turned(start));
-    let right = seam(after, reach.last, turned(end));
+    let left = seam(before, reach.first, flip_bound(start));
+    let right = seam(after, reach.last, flip_bound(end));
     change_to::<K, V, C>(stored, Sides { left, right, run }, middle);
     Ok(())
 }

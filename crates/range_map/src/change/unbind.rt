@@ -10,7 +10,7 @@ ghost use Rattle.range_map.specs.Lookups.{Overlap};
 ghost use Rattle.range_map.specs.Costs.{TakesAtLeast, TakesAsChange};
 ghost use Rattle.range_map.specs.Changes.{IsRemoved};
 
-use crate::change::cut::cut_parts;
+use crate::change::cut::prepare_parts;
 use crate::change::edges::{Joins, Sides, run_length, seam_at};
 use crate::change::reach::{Reach, reaching, run_start, surrounding};
 use crate::change::splice::{change, divide};
@@ -23,7 +23,7 @@ use range_store::storage::{Item, Steps, Storage};
 use std::alloc::AllocError;
 
 /// Unbinds a range that lies within one stored range, which becomes two.
-pub(crate) fn unbind_within<
+pub(crate) fn unbind_inside<
     K: Measure + Clone,
     V: Eq + Clone,
     C: Storage<Item<AnyRange<K>, V>>,
@@ -38,7 +38,7 @@ pub(crate) fn unbind_within<
     ensures few { OnOk result (length (C.items stored.new) ≤ length (C.items stored.old) + 1) }
     ensures refused { OnErr result (C.items stored.new ≡ C.items stored.old) }
 {
-    let parts = cut_parts::<K, V, C>(stored, p, range.start(), range.end(), 1)?;
+    let parts = prepare_parts::<K, V, C>(stored, p, range.start(), range.end(), 1)?;
     divide::<K, V, C>(stored, p, parts, None, window.after);
     Ok(())
 }
@@ -67,7 +67,7 @@ fn unbind_whole<K: Measure, V: Eq + Drop, C: Storage<Item<AnyRange<K>, V>>, R: A
 }
 
 /// Unbinds a range that meets a stored range and is surrounded by none.
-fn unbind_over<
+fn unbind_cutting<
     K: Measure + Clone,
     V: Eq + Drop,
     C: Storage<Item<AnyRange<K>, V>>,
@@ -129,8 +129,8 @@ fn unbind_met<
         return Ok(());
     }
     match surrounding(&reach) {
-        Some(p) => unbind_within::<K, V, C, R>(stored, &reach.window, p, range),
-        None => unbind_over::<K, V, C, R>(stored, &reach, range),
+        Some(p) => unbind_inside::<K, V, C, R>(stored, &reach.window, p, range),
+        None => unbind_cutting::<K, V, C, R>(stored, &reach, range),
     }
 }
 

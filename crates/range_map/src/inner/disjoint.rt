@@ -2,7 +2,7 @@
 ghost use Rattle.std.specs.Prelude.{◌≡◌, ◌↔◌, OnErr, Ok, true, false};
 ghost use Rattle.range_algebra.specs.Range.{ClonesAreEqual, IsEmptyRange};
 ghost use Rattle.range_map.specs.Bindings.{IsBoundAfter};
-ghost use Rattle.range_map.specs.Frames.{GaveWayTo};
+ghost use Rattle.range_map.specs.Frames.{IsInsertionFrame};
 ghost use Rattle.range_map.specs.Lookups.{MeetsSome, MeetAlso};
 ghost use Rattle.range_map.specs.Stored.{IsStored};
 
@@ -34,7 +34,7 @@ pub fn insert_disjoint<K: Measure + Clone, V: Eq + Clone, C: Storage<Item<AnyRan
     ensures meets { result ≡ Ok true → ¬ IsEmptyRange K.order range
         → MeetAlso K.order (C.items map.old) (C.items map.new) range }
     ensures frame { result ≡ Ok true → ¬ IsEmptyRange K.order range
-        → GaveWayTo K.order V.eq (C.items map.old) (C.items map.new) range value }
+        → IsInsertionFrame K.order V.eq (C.items map.old) (C.items map.new) range value }
     ensures form { IsStored K.order V.eq (C.items map.new) }
     ensures refused { OnErr result (C.items map.new ≡ C.items map.old) }
     ensures empty { IsEmptyRange K.order range → result ≡ Ok true }

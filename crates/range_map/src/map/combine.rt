@@ -4,7 +4,7 @@ ghost use Rattle.std.specs.Option.{option_copied};
 ghost use Rattle.range_keys.specs.Order.{IsComplete};
 ghost use Rattle.range_algebra.specs.Range.{ClonesAreEqual};
 ghost use Rattle.range_algebra.specs.References.{range_of};
-ghost use Rattle.range_map.specs.Asking.{IsPut};
+ghost use Rattle.range_map.specs.Questions.{IsPut};
 ghost use Rattle.range_map.specs.Bindings.{IsCoarse, IsOnlyCoarse};
 ghost use Rattle.range_map.specs.Combining.{MayAnswerBoth, MayBeAskedBoth, MayBeAskedOfBoth, IsAnsweredByBoth, AreCombined, IsCombination, MayFailOnBoth};
 ghost use Rattle.range_map.specs.Stored.{IsStored};

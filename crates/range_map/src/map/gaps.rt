@@ -7,7 +7,7 @@ ghost use Rattle.range_algebra.specs.References.{range_of};
 ghost use Rattle.range_map.specs.FreeRanges.{between, free_after, item_ranges, AreGaps, IsHeldOnce};
 ghost use Rattle.range_map.specs.Window.{option_items};
 
-use crate::change::cut::invert;
+use crate::change::cut::flip;
 use crate::map::RangeMap;
 use crate::map::iter::Iter;
 use range_algebra::any::AnyRange;
@@ -67,8 +67,8 @@ fn next_gap<'a, K: PartialEnum, V, C: Storage<Item<AnyRange<K>, V>>>(
 {
     let mut from = start;
     while let Some((range, _)) = items.next() {
-        let gap = range_between(from, invert(range.start_bound()));
-        from = invert(range.end_bound());
+        let gap = range_between(from, flip(range.start_bound()));
+        from = flip(range.end_bound());
         if gap.is_some() {
             return (gap, from);
         }

@@ -4,7 +4,7 @@ ghost use Rattle.range_keys.specs.Order.{IsComplete};
 ghost use Rattle.range_algebra.specs.Range.{ClonesAreEqual, IsEmptyRange};
 ghost use Rattle.range_map.specs.Stored.{IsStored};
 ghost use Rattle.range_map.specs.Costs.{TakesAtLeast, TakesAsChange};
-ghost use Rattle.range_map.specs.Frames.{GaveWayTo};
+ghost use Rattle.range_map.specs.Frames.{IsInsertionFrame};
 ghost use Rattle.range_map.specs.Bindings.{IsBoundAfter, IsCoarse, IsOnlyCoarse};
 ghost use Rattle.range_map.specs.Lookups.{MeetAlso};
 
@@ -40,7 +40,7 @@ impl<K: Measure + Clone, V: Eq + Clone, C: Storage<Item<AnyRange<K>, V>>> RangeM
         ensures only { IsComplete K.order → IsOnlyCoarse K.order V.eq (C.items self.new) }
         ensures frame { OnOk result
             (¬ IsEmptyRange K.order (R.range range)
-            → GaveWayTo K.order V.eq (C.items self.old) (C.items self.new) (R.range range) value) }
+            → IsInsertionFrame K.order V.eq (C.items self.old) (C.items self.new) (R.range range) value) }
         ensures meets { OnOk result
             (¬ IsEmptyRange K.order (R.range range)
             → MeetAlso K.order (C.items self.old) (C.items self.new) (R.range range)) }
@@ -87,7 +87,7 @@ impl<K: Measure + Clone, V: Eq + Clone, C: Storage<Item<AnyRange<K>, V>>> RangeM
         ensures only { IsComplete K.order → IsOnlyCoarse K.order V.eq (C.items self.new) }
         ensures frame { OnOk result
             (¬ IsEmptyRange K.order (R.range range)
-            → GaveWayTo K.order V.eq (C.items self.old) (C.items self.new) (R.range range) value) }
+            → IsInsertionFrame K.order V.eq (C.items self.old) (C.items self.new) (R.range range) value) }
         ensures meets { OnOk result
             (¬ IsEmptyRange K.order (R.range range)
             → MeetAlso K.order (C.items self.old) (C.items self.new) (R.range range)) }

@@ -8,7 +8,7 @@ ghost use Rattle.range_map.specs.Bindings.{IsBoundAfter, IsCoarse, IsOnlyCoarse}
 ghost use Rattle.range_map.specs.Lookups.{IsConnectedToSome, IsPutInto, MeetAlso};
 ghost use Rattle.range_map.specs.Apart.{IsGap, IsConnectedError, handed_back};
 
-use crate::change::apart::{is_clear_after, is_clear_before};
+use crate::change::append::{is_clear_after, is_clear_before};
 use crate::change::window::find;
 use crate::error::NotInserted;
 use crate::map::RangeMap;

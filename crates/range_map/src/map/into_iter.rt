@@ -3,7 +3,7 @@ ghost use Rattle.std.specs.Prelude.{◌≡◌};
 ghost use Rattle.std.specs.Iterator.{YieldsFirstBy, YieldsLastBy, item_count};
 ghost use Rattle.range_keys.specs.Order.{IsComplete};
 ghost use Rattle.range_map.specs.Bindings.{IsCoarse, IsOnlyCoarse};
-ghost use Rattle.range_map.specs.Iterating.{pair_item};
+ghost use Rattle.range_map.specs.Iteration.{pair_item};
 ghost use Rattle.range_map.specs.Stored.{IsStored};
 
 use crate::map::RangeMap;

@@ -3,7 +3,7 @@ ghost use Rattle.std.specs.Prelude.{◌≡◌, ◌+◌, ◌≤◌, ◌<◌, leng
 ghost use Rattle.std.specs.Iterator.{YieldsFirstBy, YieldsLastBy, item_count};
 ghost use Rattle.range_algebra.specs.declared.any.AnyRange.{AnyRange};
 ghost use Rattle.range_store.specs.declared.storage.Item.{Item};
-ghost use Rattle.range_map.specs.Iterating.{shown_item};
+ghost use Rattle.range_map.specs.Iteration.{shown_item};
 
 use range_algebra::any::AnyRange;
 use range_store::storage::{Item, Storage};
@@ -25,7 +25,7 @@ impl<'a, K: 'a, V: 'a, C: Storage<Item<AnyRange<K>, V>> + 'a> Model for Iter<'a,
     ghost use Rattle.range_algebra.specs.declared.any.AnyRange.{AnyRange};
     ghost use Rattle.range_store.specs.declared.storage.Item.{Item};
     ghost use Rattle.range_store.specs.Places.{place_before};
-    ghost use Rattle.range_map.specs.Iterating.{IsWalkOver};
+    ghost use Rattle.range_map.specs.Iteration.{IsWalkOver};
 
     ghost Value = { List (Item (AnyRange K) V) };
 

@@ -8,7 +8,7 @@ ghost use Rattle.range_keys.specs.Order.{IsComplete};
 ghost use Rattle.range_keys.specs.Position.{position_cmp, start_position};
 ghost use Rattle.range_algebra.specs.Range.{IsEmptyRange, with_bounds};
 ghost use Rattle.range_store.specs.Places.{IsAt, place_before};
-ghost use Rattle.range_map.specs.Iterating.{shown_item};
+ghost use Rattle.range_map.specs.Iteration.{shown_item};
 ghost use Rattle.range_map.specs.Lookups.{BindsKeyOf};
 ghost use Rattle.range_map.specs.Overlapping.{AreOverlapping, IsLastStarting, IsRun, place_after, run_items};
 ghost use Rattle.range_map.specs.Stored.{IsStored};

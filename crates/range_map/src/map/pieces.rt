@@ -8,7 +8,7 @@ ghost use Rattle.range_algebra.specs.declared.any.AnyRange.{AnyRange};
 ghost use Rattle.range_map.specs.PieceLists.{shown_piece};
 ghost use Rattle.range_map.specs.Pieces.{ArePieces, IsFreePart};
 
-use crate::change::cut::invert;
+use crate::change::cut::flip;
 use crate::map::RangeMap;
 use crate::map::gaps::range_between;
 use crate::map::overlapping::Overlapping;
@@ -84,14 +84,14 @@ impl<'a, K: PartialEnum + 'a, V: Eq + 'a, C: Storage<Item<AnyRange<K>, V>> + 'a>
             }
             Some((stored, value)) => {
                 inner::known(stored);
-                match range_between(self.start, invert(stored.start_bound())) {
+                match range_between(self.start, flip(stored.start_bound())) {
                     Some(gap) => {
                         self.start = Some(stored.start_bound());
                         Some((gap, None))
                     }
                     None => {
                         self.items = rest;
-                        self.start = invert(stored.end_bound());
+                        self.start = flip(stored.end_bound());
                         Some((clipped(self.range, stored), Some(value)))
                     }
                 }
@@ -118,14 +118,14 @@ impl<'a, K: PartialEnum + 'a, V: Eq + 'a, C: Storage<Item<AnyRange<K>, V>> + 'a>
             }
             Some((stored, value)) => {
                 inner::known(stored);
-                match range_between(invert(stored.end_bound()), self.end) {
+                match range_between(flip(stored.end_bound()), self.end) {
                     Some(gap) => {
                         self.end = Some(stored.end_bound());
                         Some((gap, None))
                     }
                     None => {
                         self.items = rest;
-                        self.end = invert(stored.start_bound());
+                        self.end = flip(stored.start_bound());
                         Some((clipped(self.range, stored), Some(value)))
                     }
                 }

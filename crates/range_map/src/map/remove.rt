@@ -6,7 +6,7 @@ ghost use Rattle.range_map.specs.Stored.{IsStored};
 ghost use Rattle.range_algebra.specs.Intervals.{Every};
 ghost use Rattle.range_map.specs.Lookups.{Overlap};
 ghost use Rattle.range_map.specs.Costs.{TakesAtLeast, TakesAsChange};
-ghost use Rattle.range_map.specs.Frames.{WasCutOut};
+ghost use Rattle.range_map.specs.Frames.{IsRemovalFrame};
 ghost use Rattle.range_map.specs.Bindings.{IsUnboundAfter, IsCoarse, IsOnlyCoarse};
 
 use crate::change::unbind::unbind;
@@ -43,7 +43,7 @@ impl<K: Measure + Clone, V: Eq + Clone, C: Storage<Item<AnyRange<K>, V>>> RangeM
             → Every (λ i. ¬ Overlap K.order i.key (R.range range)) (C.items self.new)) }
         ensures frame { OnOk result
             (¬ IsEmptyRange K.order (R.range range)
-            → WasCutOut K.order V.eq (C.items self.old) (C.items self.new) (R.range range)) }
+            → IsRemovalFrame K.order V.eq (C.items self.old) (C.items self.new) (R.range range)) }
         ensures few { length (C.items self.new) ≤ length (C.items self.old) + 1 }
 
         ensures refused { OnErr result (C.items self.new ≡ C.items self.old) }
@@ -86,7 +86,7 @@ impl<K: Measure + Clone, V: Eq + Clone, C: Storage<Item<AnyRange<K>, V>>> RangeM
             → Every (λ i. ¬ Overlap K.order i.key (R.range range)) (C.items self.new)) }
         ensures frame { OnOk result
             (¬ IsEmptyRange K.order (R.range range)
-            → WasCutOut K.order V.eq (C.items self.old) (C.items self.new) (R.range range)) }
+            → IsRemovalFrame K.order V.eq (C.items self.old) (C.items self.new) (R.range range)) }
         ensures few { length (C.items self.new) ≤ length (C.items self.old) + 1 }
 
         ensures refused { OnErr result (C.items self.new ≡ C.items self.old) }

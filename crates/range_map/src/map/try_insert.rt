@@ -4,7 +4,7 @@ ghost use Rattle.range_keys.specs.Order.{IsComplete};
 ghost use Rattle.range_algebra.specs.Range.{IsEmptyRange};
 ghost use Rattle.range_map.specs.Bindings.{IsBoundAfter, IsCoarse, IsOnlyCoarse};
 ghost use Rattle.range_map.specs.Changes.{IsInserted};
-ghost use Rattle.range_map.specs.Frames.{GaveWayTo};
+ghost use Rattle.range_map.specs.Frames.{IsInsertionFrame};
 ghost use Rattle.range_map.specs.Freeing.{IsOccupied, given_back};
 ghost use Rattle.range_map.specs.Lookups.{MeetsSome, MeetAlso};
 ghost use Rattle.range_map.specs.Stored.{IsStored};
@@ -79,7 +79,7 @@ impl<K: Measure, V: Eq + Drop, C: Storage<Item<AnyRange<K>, V>>> RangeMap<K, V, 
             value) }
         ensures frame { OnOk result
             (¬ IsEmptyRange K.order (R.range range)
-            → GaveWayTo K.order V.eq (C.items self.old) (C.items self.new) (R.range range) value) }
+            → IsInsertionFrame K.order V.eq (C.items self.old) (C.items self.new) (R.range range) value) }
         ensures meets { OnOk result
             (¬ IsEmptyRange K.order (R.range range)
             → MeetAlso K.order (C.items self.old) (C.items self.new) (R.range range)) }

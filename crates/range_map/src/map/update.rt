@@ -7,18 +7,18 @@ ghost use Rattle.range_algebra.specs.Range.{ClonesAreEqual, IsEmptyRange};
 ghost use Rattle.range_map.specs.Answers.{MayAnswer, MayBeAsked, FailsAt, IsUpdated};
 ghost use Rattle.range_map.specs.Askable.{MayBeAskedOfEach};
 ghost use Rattle.range_map.specs.Bindings.{IsCoarse, IsOnlyCoarse};
-ghost use Rattle.range_map.specs.Frames.{StandOrMerge};
+ghost use Rattle.range_map.specs.Frames.{IsUpdateFrame};
 ghost use Rattle.range_map.specs.Reach.{IsSurroundedOf};
 ghost use Rattle.range_map.specs.Rebinding.{AreRebound};
 ghost use Rattle.range_map.specs.Spelling.{KeepsSpelling};
 ghost use Rattle.range_map.specs.Stored.{IsStored};
 ghost use Rattle.range_map.specs.declared.error.UpdateError.TheVariants.{Closure as ClosureError};
 
-use crate::change::bind::bind_within;
+use crate::change::bind::bind_inside;
 use crate::change::pieces::gather;
 use crate::change::reach::{reaching, surrounding};
 use crate::change::replace::replace;
-use crate::change::unbind::unbind_within;
+use crate::change::unbind::unbind_inside;
 use crate::change::window::{Window, find_window};
 use crate::error::UpdateError;
 use crate::map::RangeMap;
@@ -59,11 +59,11 @@ fn update_within<
 {
     match f(Some(&stored.get(p).value)) {
         Ok(Some(value)) => {
-            bind_within::<K, V, C>(stored, window, p, range, value)?;
+            bind_inside::<K, V, C>(stored, window, p, range, value)?;
             Ok(())
         }
         Ok(None) => {
-            unbind_within::<K, V, C, AnyRange<K>>(stored, window, p, &range)?;
+            unbind_inside::<K, V, C, AnyRange<K>>(stored, window, p, &range)?;
             drop(range);
             Ok(())
         }
@@ -161,7 +161,7 @@ impl<K: Measure + Clone, V: Eq + Clone, C: Storage<Item<AnyRange<K>, V>>> RangeM
             (AreRebound K.order V.eq (MayAnswer F.Fn f) (C.items self.old) (C.items self.new)
             (R.range range)) }
         ensures kept { OnOk result
-            (StandOrMerge K.order V.eq (C.items self.old) (C.items self.new) (R.range range)) }
+            (IsUpdateFrame K.order V.eq (C.items self.old) (C.items self.new) (R.range range)) }
         ensures spelled { OnOk result
             (KeepsSpelling K.order (C.items self.old) (C.items self.new)) }
         ensures form { IsStored K.order V.eq (C.items self.new) }

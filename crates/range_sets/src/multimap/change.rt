@@ -5,7 +5,7 @@ ghost use Rattle.range_keys.specs.Order.{IsComplete};
 ghost use Rattle.range_algebra.specs.Range.{ClonesAreEqual, Holds, IsEmptyRange};
 ghost use Rattle.range_map.specs.Answers.{IsAsAnswered};
 ghost use Rattle.range_map.specs.Bindings.{IsCoarse, IsOnlyCoarse};
-ghost use Rattle.range_map.specs.Frames.{GaveWay};
+ghost use Rattle.range_map.specs.Frames.{IsMergeFrame};
 ghost use Rattle.range_map.specs.Spelling.{KeepsSpelling};
 ghost use Rattle.range_map.specs.Stored.{IsStored};
 ghost use Rattle.range_sets.specs.Members.{HasAlso, HasAllBut, among};
@@ -114,7 +114,7 @@ impl<K: Measure + Clone, S: MaybeEmpty, C: Storage<Item<AnyRange<K>, S>>> RangeM
         ensures others { StayBound K.order S.eq (C.items self.old) (C.items self.new)
             (λ k. ¬ Holds K.order (R.range range) k) }
         ensures frame { OnOk result (¬ IsEmptyRange K.order (R.range range)
-            → GaveWay K.order S.eq (C.items self.old) (C.items self.new) (R.range range)
+            → IsMergeFrame K.order S.eq (C.items self.old) (C.items self.new) (R.range range)
             (λ s. IsTrue (S.has s value))) }
         ensures spelled { OnOk result
             (KeepsSpelling K.order (C.items self.old) (C.items self.new)) }
@@ -175,7 +175,7 @@ impl<K: Measure + Clone, S: MaybeEmpty, C: Storage<Item<AnyRange<K>, S>>> RangeM
         ensures others { StayBound K.order S.eq (C.items self.old) (C.items self.new)
             (λ k. ¬ Holds K.order (R.range range) k) }
         ensures frame { OnOk result (¬ IsEmptyRange K.order (R.range range)
-            → GaveWay K.order S.eq (C.items self.old) (C.items self.new) (R.range range)
+            → IsMergeFrame K.order S.eq (C.items self.old) (C.items self.new) (R.range range)
             (λ s. ¬ IsTrue (S.has s value.now))) }
         ensures spelled { OnOk result
             (KeepsSpelling K.order (C.items self.old) (C.items self.new)) }

@@ -2,7 +2,7 @@
 ghost use Rattle.std.specs.Prelude.{◌≡◌, ◌↔◌, OnErr, Ok, true, false};
 ghost use Rattle.range_algebra.specs.Range.{ClonesAreEqual, IsEmptyRange};
 ghost use Rattle.range_map.specs.Bindings.{IsBoundAfter};
-ghost use Rattle.range_map.specs.Frames.{GaveWayTo};
+ghost use Rattle.range_map.specs.Frames.{IsInsertionFrame};
 ghost use Rattle.range_map.specs.Lookups.{MeetsSome, MeetAlso};
 ghost use Rattle.range_map.specs.Stored.{IsStored};
 ghost use Rattle.range_sets.specs.Pairs.{HasNoEmptySet};
@@ -36,7 +36,7 @@ pub fn insert_set<K: Measure + Clone, S: MaybeEmpty, C: Storage<Item<AnyRange<K>
     ensures meets { result ≡ Ok true → ¬ IsEmptyRange K.order range
         → MeetAlso K.order (C.items multimap.old) (C.items multimap.new) range }
     ensures frame { result ≡ Ok true → ¬ IsEmptyRange K.order range
-        → GaveWayTo K.order S.eq (C.items multimap.old) (C.items multimap.new) range set }
+        → IsInsertionFrame K.order S.eq (C.items multimap.old) (C.items multimap.new) range set }
     ensures form { IsStored K.order S.eq (C.items multimap.new) }
     ensures nonempty { HasNoEmptySet S.is_void (C.items multimap.new) }
     ensures refused { OnErr result (C.items multimap.new ≡ C.items multimap.old) }

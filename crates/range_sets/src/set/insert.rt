@@ -2,7 +2,7 @@
 ghost use Rattle.std.specs.Prelude.{◌≡◌, ◌+◌, ◌≤◌, true, length, IsOk, OnOk, OnErr};
 ghost use Rattle.range_algebra.specs.Range.{ClonesAreEqual, IsEmptyRange};
 ghost use Rattle.range_map.specs.Costs.{TakesAtLeast, TakesAsChange};
-ghost use Rattle.range_map.specs.Frames.{GaveWayTo};
+ghost use Rattle.range_map.specs.Frames.{IsInsertionFrame};
 ghost use Rattle.range_map.specs.Lookups.{MeetAlso};
 ghost use Rattle.range_sets.specs.KeySets.{HoldsAlso, IsStoredSet};
 
@@ -30,7 +30,7 @@ impl<T: Measure + Clone, C: Storage<Item<AnyRange<T>, ()>>> RangeSet<T, C> {
             (HoldsAlso T.order (C.items self.old) (C.items self.new) (R.range range)) }
         ensures form { IsStoredSet T.order (C.items self.new) }
         ensures frame { OnOk result (¬ IsEmptyRange T.order (R.range range)
-            → GaveWayTo T.order (λ _ _. true) (C.items self.old) (C.items self.new)
+            → IsInsertionFrame T.order (λ _ _. true) (C.items self.old) (C.items self.new)
             (R.range range) tt) }
         ensures meets { OnOk result (¬ IsEmptyRange T.order (R.range range)
             → MeetAlso T.order (C.items self.old) (C.items self.new) (R.range range)) }
@@ -63,7 +63,7 @@ impl<T: Measure + Clone, C: Storage<Item<AnyRange<T>, ()>>> RangeSet<T, C> {
             (HoldsAlso T.order (C.items self.old) (C.items self.new) (R.range range)) }
         ensures form { IsStoredSet T.order (C.items self.new) }
         ensures frame { OnOk result (¬ IsEmptyRange T.order (R.range range)
-            → GaveWayTo T.order (λ _ _. true) (C.items self.old) (C.items self.new)
+            → IsInsertionFrame T.order (λ _ _. true) (C.items self.old) (C.items self.new)
             (R.range range) tt) }
         ensures meets { OnOk result (¬ IsEmptyRange T.order (R.range range)
             → MeetAlso T.order (C.items self.old) (C.items self.new) (R.range range)) }

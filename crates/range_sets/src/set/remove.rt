@@ -3,7 +3,7 @@ ghost use Rattle.std.specs.Prelude.{◌≡◌, ◌+◌, ◌≤◌, true, length,
 ghost use Rattle.range_algebra.specs.Range.{ClonesAreEqual, IsEmptyRange};
 ghost use Rattle.range_algebra.specs.Intervals.{Every};
 ghost use Rattle.range_map.specs.Costs.{TakesAtLeast, TakesAsChange};
-ghost use Rattle.range_map.specs.Frames.{WasCutOut};
+ghost use Rattle.range_map.specs.Frames.{IsRemovalFrame};
 ghost use Rattle.range_map.specs.Lookups.{Overlap};
 ghost use Rattle.range_sets.specs.KeySets.{HoldsWithout, IsStoredSet};
 
@@ -35,7 +35,7 @@ impl<T: Measure + Clone, C: Storage<Item<AnyRange<T>, ()>>> RangeSet<T, C> {
         ensures apart { OnOk result (¬ IsEmptyRange T.order (R.range range)
             → Every (λ i. ¬ Overlap T.order i.key (R.range range)) (C.items self.new)) }
         ensures frame { OnOk result (¬ IsEmptyRange T.order (R.range range)
-            → WasCutOut T.order (λ _ _. true) (C.items self.old) (C.items self.new)
+            → IsRemovalFrame T.order (λ _ _. true) (C.items self.old) (C.items self.new)
             (R.range range)) }
         ensures few { length (C.items self.new) ≤ length (C.items self.old) + 1 }
 
@@ -74,7 +74,7 @@ impl<T: Measure + Clone, C: Storage<Item<AnyRange<T>, ()>>> RangeSet<T, C> {
         ensures apart { OnOk result (¬ IsEmptyRange T.order (R.range range)
             → Every (λ i. ¬ Overlap T.order i.key (R.range range)) (C.items self.new)) }
         ensures frame { OnOk result (¬ IsEmptyRange T.order (R.range range)
-            → WasCutOut T.order (λ _ _. true) (C.items self.old) (C.items self.new)
+            → IsRemovalFrame T.order (λ _ _. true) (C.items self.old) (C.items self.new)
             (R.range range)) }
         ensures few { length (C.items self.new) ≤ length (C.items self.old) + 1 }
 

@@ -7,16 +7,16 @@ pub surrounding-requires : goal.surrounding-requires
 surrounding-requires g c = let met =
     reach_is_met c.reaching-reach.ensures.reach in record { first = met.0; last = met.1 }
 
-pub bind_within-requires : goal.bind_within-requires
-bind_within-requires g c =
+pub bind_inside-requires : goal.bind_inside-requires
+bind_inside-requires g c =
     record {
       keys = c.requires.keys;
       values = c.requires.values;
       within = surrounded_by c.reaching-reach.ensures.reach c.in-Some.ensures;
     }
 
-pub bind_over-requires : goal.bind_over-requires
-bind_over-requires g c =
+pub bind_outside-requires : goal.bind_outside-requires
+bind_outside-requires g c =
     record {
       keys = c.requires.keys;
       reach = c.reaching-reach.ensures.reach;
@@ -26,17 +26,17 @@ bind_over-requires g c =
 pub returns-in-Some : goal.returns-in-Some
 returns-in-Some g c =
     record {
-      ok = c.bind_within.ensures.ok;
+      ok = c.bind_inside.ensures.ok;
       most = grind (arith, common_steps);
       least = grind (arith, common_steps);
-      refused = c.bind_within.ensures.refused;
+      refused = c.bind_inside.ensures.refused;
     }
 
 pub returns-in-None : goal.returns-in-None
 returns-in-None g c =
     record {
-      ok = c.bind_over.ensures.ok;
+      ok = c.bind_outside.ensures.ok;
       most = grind (arith, common_steps);
       least = grind (arith, common_steps);
-      refused = c.bind_over.ensures.refused;
+      refused = c.bind_outside.ensures.refused;
     }

@@ -2,7 +2,7 @@ use Rattle.std.proofs.lemmas.Grind.{common_steps}
 use Rattle.std.proofs.Common.{◌≡◌, refl, arith, rules}
 use Rattle.range_algebra.proofs.Lists.{any_none}
 use Rattle.range_map.specs.Lookups.{Overlap}
-use Rattle.range_map.proofs.Framing.{meets_some, none_meets}
+use Rattle.range_map.proofs.InsertionFrames.{meets_some, none_meets}
 use Rattle.range_map.proofs.change.bind.bind_disjoint.Goals as goal
 
 pub returns-then-window-gt0-clause-met : goal.returns-then-window-gt0-clause-met
@@ -26,12 +26,12 @@ returns g c =
             (λ i no at. no at) met),
       );
       met_unchanged = λ e. absurd (cc);
-      bound = λ _. c.in_ok-bind_over.ensures.ok;
+      bound = λ _. c.in_ok-bind_outside.ensures.ok;
       refused = tt;
     }
 
-pub returns-in_err-bind_over : goal.returns-in_err-bind_over
-returns-in_err-bind_over g c =
+pub returns-in_err-bind_outside : goal.returns-in_err-bind_outside
+returns-in_err-bind_outside g c =
     let none : c.find_window-window.result.count ≡ 0 = omega (arith, c.if-window-gt0.false) in
     let unmet =
     none_meets g.met.K.PartialEnum.lawful g.met.V.Eq.laws
@@ -59,8 +59,8 @@ bind_last-requires g c =
       last = c.if-comes_last.ensures refl;
     }
 
-pub bind_over-requires : goal.bind_over-requires
-bind_over-requires g c =
+pub bind_outside-requires : goal.bind_outside-requires
+bind_outside-requires g c =
     let none : c.find_window-window.result.count ≡ 0 = omega (arith, c.if-window-gt0.false) in
     record {
       keys = c.requires.keys;

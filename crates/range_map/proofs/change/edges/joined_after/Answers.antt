@@ -17,6 +17,9 @@ returns-then-eq-clause-joined g c =
       after.0,
       after.1,
       λ d.
-          rw (sym after.1, ← get_or_read items rank c.get-item.result.now within c.get-item.ensures d)
+          rw (
+            sym after.1,
+            ← get_or_read items rank c.get-item.result.now within c.get-item.ensures d,
+          )
           (sym c.if-touching.ensures.touching, sym c.if-eq.ensures),
     )

@@ -1,6 +1,6 @@
 use Rattle.std.proofs.Common.{sym}
-use Rattle.range_map.proofs.Planning.{right_plan_inside, right_plan_cut}
-use Rattle.range_map.proofs.Seaming.{right_touched}
+use Rattle.range_map.proofs.InsertionPlans.{right_plan_inside, right_plan_cut}
+use Rattle.range_map.proofs.JoinedMiddle.{right_touched}
 use Rattle.range_map.proofs.change.edges.joins_after.Goals as goal
 
 pub returns-then-eq-clause-joins : goal.returns-then-eq-clause-joins

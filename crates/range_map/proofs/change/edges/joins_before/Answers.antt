@@ -1,6 +1,6 @@
 use Rattle.std.proofs.Common.{sym}
-use Rattle.range_map.proofs.Planning.{left_plan_inside, left_plan_cut}
-use Rattle.range_map.proofs.Seaming.{left_touched}
+use Rattle.range_map.proofs.InsertionPlans.{left_plan_inside, left_plan_cut}
+use Rattle.range_map.proofs.JoinedMiddle.{left_touched}
 use Rattle.range_map.proofs.change.edges.joins_before.Goals as goal
 
 pub returns-then-eq-clause-joins : goal.returns-then-eq-clause-joins

@@ -1,6 +1,6 @@
 use Rattle.std.proofs.Common.{refl}
 use Rattle.range_keys.specs.Position.{bound_of}
-use Rattle.range_map.specs.Edits.{turned_bound}
+use Rattle.range_map.specs.Edits.{flipped_bound}
 use Rattle.range_map.proofs.CutParts.{known_turned, same_turned}
 use Rattle.range_map.proofs.change.edges.seam_at.Goals as goal
 
@@ -10,10 +10,10 @@ returns-in-Some-default g c =
     let lawful = g.met.K.PartialEnum.lawful in
     let bound = bound_of c.args.bound in
     record {
-      cut = turned_bound bound;
+      cut = flipped_bound bound;
       at = rw c.in-Some-default.is-0 refl;
       known = known_turned order lawful bound c.known_bound.ensures;
-      turned =
+      flipped =
           same_turned order lawful bound;
     }
 
@@ -23,9 +23,9 @@ returns-in-None-None g c =
     let lawful = g.met.K.PartialEnum.lawful in
     let bound = bound_of c.args.bound in
     record {
-      cut = turned_bound bound;
+      cut = flipped_bound bound;
       at = rw (c.in-None-None.is-0, c.in-None-None.is-1) refl;
       known = known_turned order lawful bound c.known_bound.ensures;
-      turned =
+      flipped =
           same_turned order lawful bound;
     }

@@ -1,10 +1,10 @@
 use Rattle.std.proofs.Common.{◌≡◌, ◌+◌, ◌-◌, ◌≤◌, ap, ◌∙◌, arith, refl, None, length}
 use Rattle.range_map.specs.Edges.{joined_count, seam_edge}
-use Rattle.range_map.specs.Edits.{turned_bound}
+use Rattle.range_map.specs.Edits.{flipped_bound}
 use Rattle.range_map.proofs.CutParts.{known_turned, same_turned}
 use Rattle.range_map.proofs.Freeing.{seam_alike}
 use Rattle.range_map.proofs.Planned.{plan_fits, planned_count, planned_insert, planned_run}
-use Rattle.range_map.proofs.Seaming.{seam_count}
+use Rattle.range_map.proofs.JoinedMiddle.{seam_count}
 use Rattle.range_map.proofs.Surrounded.{run_can_start, none_reach}
 use Rattle.range_map.proofs.change.free.join_beside.Goals as goal
 
@@ -21,23 +21,23 @@ run_length-requires g c =
     let r = c.args.item.key in
     let window = c.requires.reach.window in
     let none = none_reach c.requires.reach c.requires.none in
-    let on_left : c.seam-left.result ≡ seam_edge joins.before None (turned_bound r.start) =
+    let on_left : c.seam-left.result ≡ seam_edge joins.before None (flipped_bound r.start) =
     c.seam-left.ensures ∙ seam_alike joins.before _ _ in
-    let on_right : c.seam-right.result ≡ seam_edge joins.after None (turned_bound r.end) =
+    let on_right : c.seam-right.result ≡ seam_edge joins.after None (flipped_bound r.end) =
     c.seam-right.ensures ∙ seam_alike joins.after _ _ in
     let left =
     rw (← on_left) at
-    (rw none.0 at (c.requires.before lawful equal (turned_bound r.start) c.run_start.result
+    (rw none.0 at (c.requires.before lawful equal (flipped_bound r.start) c.run_start.result
     (known_turned order lawful r.start window.known.0) (same_turned order lawful r.start)
     c.run_start.ensures)) in
     let right =
     rw (← on_right) at
-    (rw none.1 at (c.requires.after lawful equal (turned_bound r.end)
+    (rw none.1 at (c.requires.after lawful equal (flipped_bound r.end)
     (known_turned order lawful r.end window.known.1) (same_turned order lawful r.end))) in
     let left_joins =
-    ap joined_count on_left ∙ seam_count joins.before None (turned_bound r.start) in
+    ap joined_count on_left ∙ seam_count joins.before None (flipped_bound r.start) in
     let right_joins =
-    ap joined_count on_right ∙ seam_count joins.after None (turned_bound r.end) in
+    ap joined_count on_right ∙ seam_count joins.after None (flipped_bound r.end) in
     record {
       apart = rw (none.0, none.1) (omega arith);
       fits =
@@ -60,23 +60,23 @@ change-requires g c =
     let r = c.args.item.key in
     let window = c.requires.reach.window in
     let none = none_reach c.requires.reach c.requires.none in
-    let on_left : c.seam-left.result ≡ seam_edge joins.before None (turned_bound r.start) =
+    let on_left : c.seam-left.result ≡ seam_edge joins.before None (flipped_bound r.start) =
     c.seam-left.ensures ∙ seam_alike joins.before _ _ in
-    let on_right : c.seam-right.result ≡ seam_edge joins.after None (turned_bound r.end) =
+    let on_right : c.seam-right.result ≡ seam_edge joins.after None (flipped_bound r.end) =
     c.seam-right.ensures ∙ seam_alike joins.after _ _ in
     let left =
     rw (← on_left) at
-    (rw none.0 at (c.requires.before lawful equal (turned_bound r.start) c.run_start.result
+    (rw none.0 at (c.requires.before lawful equal (flipped_bound r.start) c.run_start.result
     (known_turned order lawful r.start window.known.0) (same_turned order lawful r.start)
     c.run_start.ensures)) in
     let right =
     rw (← on_right) at
-    (rw none.1 at (c.requires.after lawful equal (turned_bound r.end)
+    (rw none.1 at (c.requires.after lawful equal (flipped_bound r.end)
     (known_turned order lawful r.end window.known.1) (same_turned order lawful r.end))) in
     let left_joins =
-    ap joined_count on_left ∙ seam_count joins.before None (turned_bound r.start) in
+    ap joined_count on_left ∙ seam_count joins.before None (flipped_bound r.start) in
     let right_joins =
-    ap joined_count on_right ∙ seam_count joins.after None (turned_bound r.end) in
+    ap joined_count on_right ∙ seam_count joins.after None (flipped_bound r.end) in
     let length_is : c.run_length.result
     ≡ joined_count c.seam-left.result + (c.args.reach.now.window.count - 0)
     + joined_count c.seam-right.result =
@@ -104,23 +104,23 @@ returns g c =
     let r = c.args.item.key in
     let window = c.requires.reach.window in
     let none = none_reach c.requires.reach c.requires.none in
-    let on_left : c.seam-left.result ≡ seam_edge joins.before None (turned_bound r.start) =
+    let on_left : c.seam-left.result ≡ seam_edge joins.before None (flipped_bound r.start) =
     c.seam-left.ensures ∙ seam_alike joins.before _ _ in
-    let on_right : c.seam-right.result ≡ seam_edge joins.after None (turned_bound r.end) =
+    let on_right : c.seam-right.result ≡ seam_edge joins.after None (flipped_bound r.end) =
     c.seam-right.ensures ∙ seam_alike joins.after _ _ in
     let left =
     rw (← on_left) at
-    (rw none.0 at (c.requires.before lawful equal (turned_bound r.start) c.run_start.result
+    (rw none.0 at (c.requires.before lawful equal (flipped_bound r.start) c.run_start.result
     (known_turned order lawful r.start window.known.0) (same_turned order lawful r.start)
     c.run_start.ensures)) in
     let right =
     rw (← on_right) at
-    (rw none.1 at (c.requires.after lawful equal (turned_bound r.end)
+    (rw none.1 at (c.requires.after lawful equal (flipped_bound r.end)
     (known_turned order lawful r.end window.known.1) (same_turned order lawful r.end))) in
     let left_joins =
-    ap joined_count on_left ∙ seam_count joins.before None (turned_bound r.start) in
+    ap joined_count on_left ∙ seam_count joins.before None (flipped_bound r.start) in
     let right_joins =
-    ap joined_count on_right ∙ seam_count joins.after None (turned_bound r.end) in
+    ap joined_count on_right ∙ seam_count joins.after None (flipped_bound r.end) in
     let length_is : c.run_length.result
     ≡ joined_count c.seam-left.result + (c.args.reach.now.window.count - 0)
     + joined_count c.seam-right.result =

@@ -1,10 +1,10 @@
 use Rattle.std.proofs.Common.{◌≡◌, ◌+◌, length, arith, refl}
 use Rattle.std.specs.Prelude.{insert}
 use Rattle.range_store.specs.Places.{place_before}
-use Rattle.range_map.specs.Edits.{turned_bound}
+use Rattle.range_map.specs.Edits.{flipped_bound}
 use Rattle.range_map.proofs.Between.{put_between as stands_between}
 use Rattle.range_map.proofs.CutParts.{known_turned, same_turned}
-use Rattle.range_map.proofs.Separating.{put_at}
+use Rattle.range_map.proofs.ApartRanges.{put_at}
 use Rattle.range_map.proofs.Surrounded.{none_reach}
 use Rattle.range_map.proofs.change.free.put_between.Goals as goal
 
@@ -30,11 +30,11 @@ returns-in-Ok g c =
     let none = none_reach c.requires.reach c.requires.none in
     let plus : place + 0 ≡ place = omega arith in
     let left =
-    rw none.0 at (c.requires.before lawful equal (turned_bound r.start) w.from
+    rw none.0 at (c.requires.before lawful equal (flipped_bound r.start) w.from
     (known_turned order lawful r.start window.known.0) (same_turned order lawful r.start)
     (rw (none.0, plus) window.position)) in
     let right =
-    rw none.1 at (c.requires.after lawful equal (turned_bound r.end)
+    rw none.1 at (c.requires.after lawful equal (flipped_bound r.end)
     (known_turned order lawful r.end window.known.1) (same_turned order lawful r.end)) in
     record {
       ok = stands_between lawful equal window c.args.item.value c.requires.none left right new done;

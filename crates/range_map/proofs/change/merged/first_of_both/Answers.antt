@@ -7,12 +7,12 @@ pub returns-in-Some : goal.returns-in-Some
 returns-in-Some g c =
     second_first g.K.MaybeBounded.order g.met.K.PartialEnum.lawful (part_item c.args.part)
     (part_item c.args.other) c.requires.part c.requires.other c.requires.alike
-    (range_of c.in-Some.rest) (rw (c.in-Some.is, c.invert.ensures) at c.part_from.ensures)
+    (range_of c.in-Some.rest) (rw (c.in-Some.is, c.flip.ensures) at c.part_from.ensures)
 
 pub returns : goal.returns
 returns g c =
     rw c.with_value.ensures
     (first_first g.K.MaybeBounded.order g.met.K.PartialEnum.lawful (part_item c.args.part)
     (part_item c.args.other) c.requires.part c.requires.other c.requires.alike
-    c.part_from-rest.result (rw (c.in_default.is, c.invert.ensures) at c.part_from.ensures)
-    (rw c.invert-2.ensures at c.part_from-rest.ensures))
+    c.part_from-rest.result (rw (c.in_default.is, c.flip.ensures) at c.part_from.ensures)
+    (rw c.flip-2.ensures at c.part_from-rest.ensures))

@@ -1,7 +1,7 @@
 use Rattle.std.proofs.Common.{sym, ◌∙◌}
 use Rattle.std.specs.Option.{option_copied, option_map}
 use Rattle.range_keys.specs.Position.{bound_of}
-use Rattle.range_map.proofs.Gapping.{no_start, no_end, no_place_between, a_gap}
+use Rattle.range_map.proofs.GapBounds.{no_start, no_end, no_place_between, a_gap}
 use Rattle.range_map.proofs.change.pieces.gap_between.Goals as goal
 
 pub returns-in_err-start : goal.returns-in_err-start

@@ -8,7 +8,7 @@ use Rattle.range_store.specs.declared.storage.Item.{Item}
 use Rattle.range_store.specs.Places.{place_before}
 use Rattle.range_map.specs.Answers.{MayBeAsked}
 use Rattle.range_map.proofs.Asked.{asked_good, asked_key_full, met_holds, met_nonempty, met_fails, met_is_underway, met_keeps_spelling, last_fails, all_gathered, all_keep_spelling}
-use Rattle.range_map.proofs.Gathering.{underway_none}
+use Rattle.range_map.proofs.PieceAnswers.{underway_none}
 use Rattle.range_map.proofs.Results.{error_has_no_value}
 use Rattle.range_map.proofs.change.pieces.gather.Goals as goal
 

@@ -3,10 +3,10 @@ use Rattle.std.specs.Cmp.{IsEquivalence}
 use Rattle.range_keys.specs.Order.{IsLawful}
 use Rattle.range_algebra.specs.declared.any.AnyRange.{AnyRange}
 use Rattle.range_store.specs.Places.{place_before, IsAt}
-use Rattle.range_map.specs.Asking.{gap_lower, IsKeyAt}
+use Rattle.range_map.specs.Questions.{gap_lower, IsKeyAt}
 use Rattle.range_map.specs.Spelling.{KeepsSpelling}
 use Rattle.range_map.specs.Window.{IsLastOf}
-use Rattle.range_map.proofs.Gathering.{IsUnderway}
+use Rattle.range_map.proofs.PieceAnswers.{IsUnderway}
 use Rattle.range_map.proofs.change.pieces.gather.Given as goal
 
 abbrev pub invariant-loop-met : goal.invariant-loop-met

@@ -9,7 +9,7 @@ use Rattle.range_algebra.specs.declared.any.AnyRange.{AnyRange}
 use Rattle.range_store.specs.declared.storage.Item.{Item}
 use Rattle.range_map.specs.Stored.{item_lower}
 use Rattle.range_map.proofs.Forms.{places}
-use Rattle.range_map.proofs.Seaming.{got_only, got_none, left_cut_out}
+use Rattle.range_map.proofs.JoinedMiddle.{got_only, got_none, left_cut_out}
 use Rattle.range_map.proofs.change.replace.joined_left.Goals as goal
 
 pub returns-in_default : goal.returns-in_default

@@ -3,12 +3,12 @@ use Rattle.std.proofs.Common.{◌≡◌, ◌+◌, ◌-◌, length, ap, ◌∙◌
 use Rattle.std.specs.Prelude.{slice_get, option_copied}
 use Rattle.range_store.specs.Places.{place_before}
 use Rattle.range_map.specs.Edges.{joined_count, seam_edge}
-use Rattle.range_map.specs.Edits.{turned_bound}
-use Rattle.range_map.proofs.Framing.{all_meet}
+use Rattle.range_map.specs.Edits.{flipped_bound}
+use Rattle.range_map.proofs.InsertionFrames.{all_meet}
 use Rattle.range_map.proofs.Planned.{plan_fits}
 use Rattle.range_map.proofs.Replaced.{IsReplacement, plans_replacement, replacement_is_made}
 use Rattle.range_map.proofs.Results.{error_has_no_value, on_error}
-use Rattle.range_map.proofs.Seaming.{seam_count}
+use Rattle.range_map.proofs.JoinedMiddle.{seam_count}
 use Rattle.range_map.proofs.SpelledChanges.{replaced_keeps_spelling}
 use Rattle.range_map.proofs.Surrounded.{run_can_start}
 use Rattle.range_map.proofs.change.replace.replace.Given.{Over}
@@ -74,16 +74,16 @@ change_to-requires g c =
     let r = c.args.range in
     let joined = c.joined_left-before.result in
     let other = c.joined_right-after.result in
-    let edge = seam_edge joined reach.first (turned_bound r.start) in
-    let behind = seam_edge other reach.last (turned_bound r.end) in
+    let edge = seam_edge joined reach.first (flipped_bound r.start) in
+    let behind = seam_edge other reach.last (flipped_bound r.end) in
     let edge_is : c.seam-left.result ≡ edge =
     c.seam-left.ensures
     ∙ ap (seam_edge joined reach.first)
-    (c.turned.ensures ∙ ap turned_bound c.into_bounds-start.ensures.start) in
+    (c.flipped.ensures ∙ ap flipped_bound c.into_bounds-start.ensures.start) in
     let behind_is : c.seam-right.result ≡ behind =
     c.seam-right.ensures
     ∙ ap (seam_edge other reach.last)
-    (c.turned-2.ensures ∙ ap turned_bound c.into_bounds-start.ensures.end) in
+    (c.flipped-2.ensures ∙ ap flipped_bound c.into_bounds-start.ensures.end) in
     let left = plan.left in
     let right = plan.right in
     let sum : left.begin + c.run_length.result ≡ right.upto =
@@ -108,16 +108,16 @@ returns g c =
     let r = c.args.range in
     let joined = c.joined_left-before.result in
     let other = c.joined_right-after.result in
-    let edge = seam_edge joined reach.first (turned_bound r.start) in
-    let behind = seam_edge other reach.last (turned_bound r.end) in
+    let edge = seam_edge joined reach.first (flipped_bound r.start) in
+    let behind = seam_edge other reach.last (flipped_bound r.end) in
     let edge_is : c.seam-left.result ≡ edge =
     c.seam-left.ensures
     ∙ ap (seam_edge joined reach.first)
-    (c.turned.ensures ∙ ap turned_bound c.into_bounds-start.ensures.start) in
+    (c.flipped.ensures ∙ ap flipped_bound c.into_bounds-start.ensures.start) in
     let behind_is : c.seam-right.result ≡ behind =
     c.seam-right.ensures
     ∙ ap (seam_edge other reach.last)
-    (c.turned-2.ensures ∙ ap turned_bound c.into_bounds-start.ensures.end) in
+    (c.flipped-2.ensures ∙ ap flipped_bound c.into_bounds-start.ensures.end) in
     let left = plan.left in
     let right = plan.right in
     let sum : left.begin + c.run_length.result ≡ right.upto =
@@ -126,8 +126,8 @@ returns g c =
     plan_fits c.reserve.ensures.positions c.reserve.ensures.list edge behind
     c.run_start.result c.run_length.result left.at left.begin right.upto right.end left.rest
     right.rest left.start right.finish left.shape right.shape left.run sum right.in_range in
-    let joins = seam_count joined reach.first (turned_bound r.start) in
-    let joins_behind = seam_count other reach.last (turned_bound r.end) in
+    let joins = seam_count joined reach.first (flipped_bound r.start) in
+    let joins_behind = seam_count other reach.last (flipped_bound r.end) in
     let done =
     c.change_to.ensures left.at right.end left.rest right.rest left.start right.finish
     (rw edge_is fit.on_left) (rw behind_is fit.on_right)

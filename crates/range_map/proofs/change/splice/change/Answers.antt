@@ -4,7 +4,7 @@ use Rattle.range_algebra.specs.declared.any.AnyRange.{AnyRange}
 use Rattle.range_store.specs.declared.storage.Item.{Item}
 use Rattle.range_store.specs.Places.{place_before}
 use Rattle.range_map.specs.Window.{option_items}
-use Rattle.range_map.proofs.Openings.{kept_place, opening_regroups, regrouped_out}
+use Rattle.range_map.proofs.BoundEdits.{kept_place, opening_regroups, regrouped_out}
 use Rattle.range_map.proofs.change.splice.change.Goals as goal
 
 pub replace_run-requires-clause-in_range : goal.replace_run-requires-clause-in_range

@@ -3,8 +3,8 @@ use Rattle.std.proofs.Common.{◌≡◌, ◌+◌, ◌++◌, length, take, drop, 
 use Rattle.range_store.specs.Places.{place_before}
 use Rattle.range_map.specs.Seams.{with_first_start, with_last_end}
 use Rattle.range_map.specs.Window.{option_items}
-use Rattle.range_map.proofs.Endings.{length_started, length_ended}
-use Rattle.range_map.proofs.Openings.{kept_place}
+use Rattle.range_map.proofs.OuterBounds.{length_started, length_ended}
+use Rattle.range_map.proofs.BoundEdits.{kept_place}
 use Rattle.range_map.proofs.change.splice.change_to.Goals as goal
 
 pub replace_run_by-requires : goal.replace_run_by-requires

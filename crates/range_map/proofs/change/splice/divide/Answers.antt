@@ -4,7 +4,7 @@ use Rattle.range_store.specs.declared.storage.Item.{Item}
 use Rattle.range_store.specs.Places.{place_before}
 use Rattle.range_store.proofs.Places.{place_at, kept_at, good_at}
 use Rattle.range_map.specs.Edits.{with_end}
-use Rattle.range_map.proofs.Dividing.{parted_alone, parted_around}
+use Rattle.range_map.proofs.DividedItems.{parted_alone, parted_around}
 use Rattle.range_map.proofs.change.splice.divide.Goals as goal
 
 pub replace_end-old_end-requires : goal.replace_end-old_end-requires

@@ -1,5 +1,5 @@
 use Rattle.std.proofs.Common.{◌≡◌, ◌-◌, ◌<◌, length, get_or, ap, ◌∙◌, arith, refl}
-use Rattle.range_map.proofs.Endings.{set_last}
+use Rattle.range_map.proofs.OuterBounds.{set_last}
 use Rattle.range_map.proofs.change.splice.end_at.Goals as goal
 
 pub returns-in-Some-last_mut : goal.returns-in-Some-last_mut

@@ -1,6 +1,6 @@
 use Rattle.std.proofs.Common.{◌+◌, arith, ◌∙◌}
 use Rattle.range_map.specs.Edges.{joined_count}
-use Rattle.range_map.proofs.Openings.{left_opened, right_opened}
+use Rattle.range_map.proofs.BoundEdits.{left_opened, right_opened}
 use Rattle.range_map.proofs.change.splice.open_sides.Goals as goal
 
 pub returns-clause-opened : goal.returns-clause-opened

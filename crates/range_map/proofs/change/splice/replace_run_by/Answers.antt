@@ -4,7 +4,7 @@ use Rattle.std.proofs.lemmas.List.{append-nil}
 use Rattle.range_algebra.proofs.Lists.{list_is_take_and_drop}
 use Rattle.range_store.specs.Places.{place_before}
 use Rattle.range_store.proofs.Places.{place_at, at_place, good_at}
-use Rattle.range_map.proofs.Endings.{put_next, put_all, prefix_is_all}
+use Rattle.range_map.proofs.OuterBounds.{put_next, put_all, prefix_is_all}
 use Rattle.range_map.proofs.change.splice.replace_run_by.Goals as goal
 
 pub loop-item-init : goal.loop-item-init

@@ -1,7 +1,7 @@
 use Rattle.std.proofs.lemmas.Grind.{common_steps}
 use Rattle.std.proofs.Common.{refl, arith}
 use Rattle.range_map.proofs.CutOut.{unmet_is_unbound}
-use Rattle.range_map.proofs.Framing.{none_meets, some_meets, not_cut}
+use Rattle.range_map.proofs.InsertionFrames.{none_meets, some_meets, not_cut}
 use Rattle.range_map.proofs.change.unbind.unbind.Goals as goal
 
 pub returns-then-window-eq0 : goal.returns-then-window-eq0

@@ -16,16 +16,16 @@ unbind_whole-requires g c =
       last = grind (arith, common_steps);
     }
 
-pub unbind_within-requires : goal.unbind_within-requires
-unbind_within-requires g c =
+pub unbind_inside-requires : goal.unbind_inside-requires
+unbind_inside-requires g c =
     record {
       keys = c.requires.keys;
       values = c.requires.values;
       within = surrounded_by c.reaching-reach.ensures.reach c.in-Some.ensures;
     }
 
-pub unbind_over-requires : goal.unbind_over-requires
-unbind_over-requires g c =
+pub unbind_cutting-requires : goal.unbind_cutting-requires
+unbind_cutting-requires g c =
     record {
       keys = c.requires.keys;
       reach = c.reaching-reach.ensures.reach;

@@ -1,8 +1,8 @@
 use Rattle.std.proofs.Common.{◌≡◌, [], ◌+◌, ◌++◌, length, take, drop, arith, None}
 use Rattle.std.proofs.lemmas.List.{append-nil}
 use Rattle.range_store.specs.Places.{place_before}
-use Rattle.range_map.proofs.Edging.{edges_remove, left_rest_whole, right_rest_whole}
-use Rattle.range_map.proofs.Framing.{cut_way}
+use Rattle.range_map.proofs.RangeSides.{edges_remove, left_rest_whole, right_rest_whole}
+use Rattle.range_map.proofs.InsertionFrames.{cut_way}
 use Rattle.range_map.proofs.Lengths.{changed_length}
 use Rattle.range_map.proofs.change.unbind.unbind_whole.Goals as goal
 

@@ -7,7 +7,7 @@ use Rattle.range_algebra.specs.Intervals.{Lt}
 use Rattle.range_algebra.specs.Orders.{not_le}
 use Rattle.range_store.specs.Places.{place_before}
 use Rattle.range_store.proofs.Places.{at_place}
-use Rattle.range_map.proofs.Walking.{place_is_in_range}
+use Rattle.range_map.proofs.WalkStarts.{place_is_in_range}
 use Rattle.range_map.proofs.change.window.walk.Goals as goal
 
 pub loop-at-init : goal.loop-at-init

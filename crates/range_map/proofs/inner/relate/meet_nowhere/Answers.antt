@@ -89,7 +89,8 @@ returns-else-lies_before-2 g c =
     let order = g.K.MaybeBounded.order in
     let lawful = g.met.K.PartialEnum.lawful in
     let was = c.loop-next.invariant in
-    let not_first : ¬ LiesBefore order c.in-Some-Some.range.now c.in-Some-Some.other_range.now = λ h. let e = c.lies_before.ensures.1 h in let f = c.if-lies_before.false in cc in
+    let not_first : ¬ LiesBefore order c.in-Some-Some.range.now c.in-Some-Some.other_range.now =
+    λ h. let e = c.lies_before.ensures.1 h in let f = c.if-lies_before.false in cc in
     let not_second : ¬ LiesBefore order c.in-Some-Some.other_range.now c.in-Some-Some.range.now =
     λ h. let e = c.lies_before-else-lies_before.ensures.1 h in let f =
     c.if-lies_before-2.false in cc in (

@@ -1,6 +1,6 @@
 use Rattle.std.proofs.Common.{get_or, sym, ◌∙◌}
 use Rattle.std.specs.Cmp.{Equal-is}
-use Rattle.range_map.proofs.Copying.{equal_items_are_copy, copy_stored, item_clone}
+use Rattle.range_map.proofs.CloneLists.{equal_items_are_copy, copy_stored, item_clone}
 use Rattle.range_map.proofs.map.RangeMap.clone.Goals as goal
 
 pub clone-requires : goal.clone-requires

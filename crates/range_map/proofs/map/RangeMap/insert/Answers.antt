@@ -1,7 +1,7 @@
 use Rattle.std.proofs.lemmas.Grind.{common_steps}
 use Rattle.std.proofs.Common.{subst, refl, rules, arith}
 use Rattle.range_map.specs.Bindings.{IsBoundAfter}
-use Rattle.range_map.specs.Frames.{GaveWayTo}
+use Rattle.range_map.specs.Frames.{IsInsertionFrame}
 use Rattle.range_map.specs.Lookups.{MeetAlso}
 use Rattle.range_map.proofs.StoredLists.{stored_coarse, stored_only}
 use Rattle.range_map.proofs.Results.{error_has_no_value, on_error}
@@ -111,7 +111,7 @@ returns-clause-few g c = rw (← c.self.view_is) c.bind_in_order.ensures.few
 pub returns-clause-frame : goal.returns-clause-frame
 returns-clause-frame g c =
     λ full. rw (← c.self.view_is)
-    (subst (λ r. GaveWayTo g.K.MaybeBounded.order g.V.PartialEq.eq
+    (subst (λ r. IsInsertionFrame g.K.MaybeBounded.order g.V.PartialEq.eq
     (g.C.Storage.items c.self.inside.stored)
     (g.C.Storage.items c.bind_in_order.new.stored) r c.args.value) c.into_range-range.ensures
     c.in_ok-bind_in_order.ensures.ok.frame)

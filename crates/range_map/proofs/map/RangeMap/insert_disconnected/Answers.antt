@@ -4,7 +4,7 @@ use Rattle.std.proofs.lemmas.List.Edits.{length-insert}
 use Rattle.range_algebra.specs.Range.{IsEmptyRange}
 use Rattle.range_map.specs.Bindings.{IsBoundAfter}
 use Rattle.range_map.specs.Lookups.{IsPutInto, MeetAlso}
-use Rattle.range_map.proofs.Covering.{on_ok}
+use Rattle.range_map.proofs.CoveredPlaces.{on_ok}
 use Rattle.range_map.proofs.StoredLists.{stored_coarse, stored_only}
 use Rattle.range_map.proofs.map.RangeMap.insert_disconnected.Goals as goal
 

@@ -2,7 +2,7 @@ use Rattle.std.proofs.Common.{◌<◌, length, refl, ap, rules, arith}
 use Rattle.range_keys.specs.Position.{bound_of, start_position, end_position}
 use Rattle.range_algebra.specs.Range.{IsEmptyRange}
 use Rattle.range_map.specs.Lookups.{MeetsSome}
-use Rattle.range_map.proofs.Meeting.{binding_meets, meeting_binds, first_not_before_decides, none_decides}
+use Rattle.range_map.proofs.Overlaps.{binding_meets, meeting_binds, first_not_before_decides, none_decides}
 use Rattle.range_map.proofs.map.RangeMap.intersects_counted.Goals as goal
 
 pub returns-in-None : goal.returns-in-None
@@ -106,7 +106,11 @@ returns-clause-counted g c =
       at_most = omega
           (arith, c.find-from.ensures.counted.at_most, c.starts_past.ensures.counted.at_most);
       at_least =
-          omega (arith, c.find-from.ensures.counted.at_least, c.starts_past.ensures.counted.at_least);
+          omega (
+            arith,
+            c.find-from.ensures.counted.at_least,
+            c.starts_past.ensures.counted.at_least,
+          );
     })
 
 pub returns-clause-empty_uncounted : goal.returns-clause-empty_uncounted

@@ -1,4 +1,4 @@
-use Rattle.range_map.proofs.Adding.{told_some}
+use Rattle.range_map.proofs.MeasureTotals.{told_some}
 use Rattle.range_map.proofs.map.RangeMap.len.Goals as goal
 
 pub unwrap-requires : goal.unwrap-requires

@@ -1,4 +1,4 @@
-use Rattle.range_map.specs.Iterating.{shown_item}
+use Rattle.range_map.specs.Iteration.{shown_item}
 use Rattle.range_map.proofs.PieceSteps.{range_by}
 use Rattle.range_map.proofs.map.RangeMap.span.Goals as goal
 

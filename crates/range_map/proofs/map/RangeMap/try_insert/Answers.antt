@@ -3,9 +3,9 @@ use Rattle.std.proofs.Common.{OnOk, OnErr, ◌≡◌, refl, arith, subst}
 use Rattle.range_algebra.specs.Range.{IsEmptyRange}
 use Rattle.range_map.specs.Bindings.{IsBoundAfter}
 use Rattle.range_map.specs.Changes.{IsInserted}
-use Rattle.range_map.specs.Frames.{GaveWayTo}
+use Rattle.range_map.specs.Frames.{IsInsertionFrame}
 use Rattle.range_map.specs.Lookups.{MeetAlso}
-use Rattle.range_map.proofs.Covering.{on_ok}
+use Rattle.range_map.proofs.CoveredPlaces.{on_ok}
 use Rattle.range_map.proofs.Freeing.{form_after}
 use Rattle.range_map.proofs.StoredLists.{stored_coarse, stored_only}
 use Rattle.range_map.proofs.map.RangeMap.try_insert.Goals as goal
@@ -48,7 +48,8 @@ returns g c =
           (λ h. h.bound) done);
       frame =
           rw (← c.self.view_is) (on_ok (IsInserted order same items new range c.args.value)
-          ((IsEmptyRange order range → ⊥) → GaveWayTo order same items new range c.args.value)
+          ((IsEmptyRange order range → ⊥)
+          → IsInsertionFrame order same items new range c.args.value)
           c.bind_where_free.result (λ h full. h.frame) done);
       meets =
           rw (← c.self.view_is) (on_ok (IsInserted order same items new range c.args.value)

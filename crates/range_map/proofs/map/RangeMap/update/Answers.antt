@@ -4,14 +4,14 @@ use Rattle.std.specs.Cmp.{Equal-is}
 use Rattle.range_algebra.specs.Clones.{bound_clone}
 use Rattle.range_algebra.specs.Range.{IsEmptyRange}
 use Rattle.range_map.specs.Answers.{MayAnswer, IsUpdated}
-use Rattle.range_map.proofs.Covering.{on_ok}
+use Rattle.range_map.proofs.CoveredPlaces.{on_ok}
 use Rattle.range_map.proofs.Likeness.{clone_empty, updated_too, fails_too}
-use Rattle.range_map.specs.Frames.{StandOrMerge}
+use Rattle.range_map.specs.Frames.{IsUpdateFrame}
 use Rattle.range_map.specs.Rebinding.{AreRebound}
-use Rattle.range_map.proofs.Merging.{unchanged_stands}
+use Rattle.range_map.proofs.MergedItems.{unchanged_stands}
 use Rattle.range_map.proofs.SpelledChanges.{list_keeps_spelling}
-use Rattle.range_map.proofs.Updating.{updated_stands}
-use Rattle.range_map.proofs.Rebinding.{update_rebinds, none_rebound}
+use Rattle.range_map.proofs.UpdatedLists.{updated_stands}
+use Rattle.range_map.proofs.ReboundKeys.{update_rebinds, none_rebound}
 use Rattle.range_map.proofs.StoredLists.{stored_coarse, stored_only}
 use Rattle.range_map.proofs.Results.{error_has_no_value, on_error}
 use Rattle.range_map.proofs.map.RangeMap.update.Goals as goal
@@ -79,7 +79,7 @@ returns g c =
           c.update_pieces.ensures.ok);
       kept =
           rw (← c.self.view_is) (on_ok (IsUpdated order same g.F.Fn c.args.f items new s)
-          (StandOrMerge order same items new r) c.update_pieces.result
+          (IsUpdateFrame order same items new r) c.update_pieces.result
           (λ h. updated_stands order same g.met.V.Eq.laws g.F.Fn c.args.f items new r
           (updated_too order lawful r s start end same g.F.Fn c.args.f items new h))
           c.update_pieces.ensures.ok);

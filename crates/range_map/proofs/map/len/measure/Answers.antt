@@ -1,6 +1,6 @@
 use Rattle.std.proofs.Common.{◌≡◌, ◌∷◌, Some, None, ap, arith, rules, sym, subst, ◌∙◌}
 use Rattle.range_map.specs.FreeRanges.{item_ranges}
-use Rattle.range_map.proofs.Adding.{IsMeasured, measured_fits, measured_more, measured_untold}
+use Rattle.range_map.proofs.MeasureTotals.{IsMeasured, measured_fits, measured_more, measured_untold}
 use Rattle.range_map.proofs.map.len.measure.Goals as goal
 
 pub returns-in_err-total : goal.returns-in_err-total

@@ -1,6 +1,6 @@
 use Rattle.std.proofs.Common.{length}
 use Rattle.range_map.specs.FreeRanges.{item_ranges}
-use Rattle.range_map.proofs.Adding.{IsMeasured}
+use Rattle.range_map.proofs.MeasureTotals.{IsMeasured}
 use Rattle.range_map.proofs.map.len.measure.Given as goal
 
 abbrev pub invariant-loop-range : goal.invariant-loop-range

@@ -2,7 +2,7 @@ use Rattle.std.proofs.Common.{subst, rules, ◌≡◌, ◌∷◌}
 use Rattle.std.specs.Prelude.{IsOk}
 use Rattle.range_algebra.specs.declared.any.AnyRange.{AnyRange}
 use Rattle.range_store.specs.declared.storage.Item.{Item}
-use Rattle.range_map.proofs.Writing.{HasShown, shown_none, shown_more}
+use Rattle.range_map.proofs.WrittenItems.{HasShown, shown_none, shown_more}
 use Rattle.range_map.proofs.map.text.write_items.Goals as goal
 
 pub loop-range-init : goal.loop-range-init

@@ -1,5 +1,5 @@
 use Rattle.std.proofs.Common.{length}
-use Rattle.range_map.proofs.Writing.{HasShown}
+use Rattle.range_map.proofs.WrittenItems.{HasShown}
 use Rattle.range_map.proofs.map.text.write_items.Given as goal
 
 abbrev pub invariant-loop-range : goal.invariant-loop-range

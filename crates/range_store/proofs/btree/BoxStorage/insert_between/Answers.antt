@@ -110,7 +110,8 @@ pub returns-then-item_count-lt-CAPACITY-clause-place :
 returns-then-item_count-lt-CAPACITY-clause-place g c =
     omega (
       arith,
-      (put_here g (goal.at.returns-then-item_count-lt-CAPACITY-clause-place g c).After-put).place_is,
+      (put_here g (goal.at.returns-then-item_count-lt-CAPACITY-clause-place g
+          c).After-put).place_is,
     )
 
 -- below the root

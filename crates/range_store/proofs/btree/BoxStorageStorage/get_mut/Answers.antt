@@ -21,7 +21,8 @@ returns g c = (
   (
     refl,
     λ w.
-        same_storage c.args.self.now c.args.p c.requires c.home-home.result w c.home-home.ensures _ _
+        same_storage c.args.self.now c.args.p c.requires c.home-home.result w c.home-home.ensures _
+        _
         _,
   ),
   record {

@@ -320,7 +320,8 @@ put_or_cut-requires-in-Some g t c =
                 rw (c.first_turn-index.ensures, ← items, ← children) content,
                 (
                   (λ full.
-                      content_room s u c.args.below c.args.number _ _ moved content longer c.requires.room
+                      content_room s u c.args.below c.args.number _ _ moved content longer
+                      c.requires.room
                       (omega (arith, long, rw kept at full))),
                   (c.requires.deep, rw (c.first_turn-index.ensures, ← items, ← children) up),
                 ),

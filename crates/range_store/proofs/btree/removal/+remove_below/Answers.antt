@@ -108,8 +108,13 @@ remove_below-taken-requires g t c κs inside =
         inside,
         (
           search rules,
-          rw (c.child_at-child.ensures, c.first_turn-index.ensures, c.seen_inside.ensures)
-              (kid, (rw (← back) at owned, (omega (arith, c.requires.deep), (is, c.requires.in_leaf)))),
+          rw (c.child_at-child.ensures, c.first_turn-index.ensures, c.seen_inside.ensures) (
+            kid,
+            (
+              rw (← back) at owned,
+              (omega (arith, c.requires.deep), (is, c.requires.in_leaf)),
+            ),
+          ),
         ),
       ),
     )

@@ -205,7 +205,8 @@ returns g t c =
     let more =
     rw next at (before_next c.args.nodes.now c.args.below c.args.number c.if-below-eq0.false
     c.requires.shaped i low) in (
-      below_edge c.args.nodes.now c.args.below c.args.number c.if-below-eq0.false c.requires.shaped i
+      below_edge c.args.nodes.now c.args.below c.args.number c.if-below-eq0.false c.requires.shaped
+          i
           c.end_edge.result _ c.seen_above-2.ensures.turn c.seen_above-2.ensures.inside
           (omega arith) is,
       omega (

@@ -46,7 +46,8 @@ child_at-requires g t c =
       (
         c.requires.shaped.node.present,
         rw c.first_turn-index.ensures
-            (child_within s c.args.below c.args.number c.if-below-eq0.false c.requires.shaped _ low),
+            (child_within s c.args.below c.args.number c.if-below-eq0.false c.requires.shaped _
+            low),
       ),
     )
 

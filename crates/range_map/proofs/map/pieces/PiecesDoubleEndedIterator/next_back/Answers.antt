@@ -1,9 +1,9 @@
 use Rattle.std.proofs.Common.{◌≡◌, ◌∷◌, ◌++◌, [], Some, ap, arith, length, length-append, sym, ◌∙◌}
 use Rattle.std.specs.Option.{option_map}
 use Rattle.range_keys.specs.Position.{bound_of}
-use Rattle.range_algebra.specs.Compared.{inverted}
+use Rattle.range_algebra.specs.Compared.{flipped}
 use Rattle.range_algebra.specs.References.{range_of}
-use Rattle.range_map.specs.Iterating.{shown_item}
+use Rattle.range_map.specs.Iteration.{shown_item}
 use Rattle.range_map.specs.PieceLists.{bound_piece, free_piece, pieces_from}
 use Rattle.range_map.proofs.PieceSteps.{gap_last, item_last, last_is_less}
 use Rattle.range_map.proofs.map.pieces.PiecesDoubleEndedIterator.next_back.Goals as goal
@@ -20,7 +20,7 @@ returns-in-Some-range_between-clause-steps g c =
     let gap = range_of c.in-Some-range_between.gap in
     let list : items ≡ init ++ i ∷ [] = sym c.duplicate-rest.ensures ∙ c.in-Some.ensures.steps in
     let is =
-    rw (c.in-Some-range_between.is, c.invert.ensures, c.end_bound.ensures tt)
+    rw (c.in-Some-range_between.is, c.flip.ensures, c.end_bound.ensures tt)
     at c.range_between-in-Some.ensures in
     sym c.self.view_is
     ∙ (ap (λ xs. pieces_from order r s e xs) list
@@ -45,14 +45,14 @@ returns-in-None-range_between-clause-steps g c =
     let list : c.self.inside.items ≡ init ++ i ∷ [] =
     sym c.duplicate-rest.ensures ∙ c.in-Some.ensures.steps in
     let none =
-    rw (c.in-None-range_between.is, c.invert.ensures, c.end_bound.ensures tt)
+    rw (c.in-None-range_between.is, c.flip.ensures, c.end_bound.ensures tt)
     at c.range_between-in-Some.ensures in
     sym c.self.view_is
     ∙ (ap (λ xs. pieces_from order r s e xs) list
     ∙ item_last order g.met.K.PartialEnum.lawful r s e init i none
     ∙ ap (λ t. pieces_from order r s t init ++ bound_piece order r i ∷ [])
-    (sym (c.invert-self-inside.ensures ∙ ap inverted (c.start_bound.ensures tt)))
-    ∙ ap (λ k. pieces_from order r s (option_map bound_of c.invert-self-inside.result) init
+    (sym (c.flip-self-inside.ensures ∙ ap flipped (c.start_bound.ensures tt)))
+    ∙ ap (λ k. pieces_from order r s (option_map bound_of c.flip-self-inside.result) init
     ++ record { key = k; value = Some i.value } ∷ []) (sym c.clipped.ensures))
 
 pub returns-in-None-range_between-clause-goes : goal.returns-in-None-range_between-clause-goes

@@ -2,7 +2,7 @@ use Rattle.std.proofs.Common.{◌≡◌, ◌∷◌, [], Some, ap, arith, length,
 use Rattle.std.specs.Option.{option_map}
 use Rattle.range_keys.specs.Position.{bound_of}
 use Rattle.range_algebra.specs.References.{range_of}
-use Rattle.range_map.specs.Iterating.{shown_item}
+use Rattle.range_map.specs.Iteration.{shown_item}
 use Rattle.range_map.specs.PieceLists.{free_piece, pieces_from}
 use Rattle.range_map.proofs.PieceSteps.{gap_first}
 use Rattle.range_map.proofs.map.pieces.PiecesIterator.next.Goals as goal
@@ -19,7 +19,7 @@ returns-in-Some-range_between-clause-steps g c =
     let gap = range_of c.in-Some-range_between.gap in
     let list : items ≡ i ∷ rest = sym c.duplicate-rest.ensures ∙ c.in-Some.ensures.steps in
     let is =
-    rw (c.in-Some-range_between.is, c.invert.ensures, c.start_bound.ensures tt)
+    rw (c.in-Some-range_between.is, c.flip.ensures, c.start_bound.ensures tt)
     at c.range_between-in-Some.ensures in
     sym c.self.view_is
     ∙ (ap (λ xs. pieces_from order r s e xs) list
