@@ -73,7 +73,8 @@ pub(crate) fn insert_element<K: Measure + Clone, V: Eq + Clone, C: Storage<Item<
         → MeetAlso K.order (C.items map.old) (C.items map.new) element.key) }
     ensures frame { OnOk result
         ((¬ IsEmptyRange K.order element.key)
-        → IsInsertionFrame K.order V.eq (C.items map.old) (C.items map.new) element.key element.value) }
+        → IsInsertionFrame K.order V.eq (C.items map.old) (C.items map.new) element.key
+        element.value) }
     ensures form { IsStored K.order V.eq (C.items map.new) }
     ensures empty_unchanged { IsEmptyRange K.order element.key → C.items map.new ≡ C.items map.old }
     ensures met { IfErr result

@@ -1,7 +1,7 @@
 //! The examples of a map's calls, beside what the README shows, over any container.
 
 use btree_range_map::storage::{Item, Steps, Storage, VecStorage};
-use btree_range_map::{AnyRange, IntoRange, MapError, RangeMap, generic};
+use btree_range_map::{AnyRange, IntoRange, MapError, RangeMap, UpdateError, generic};
 use std::alloc::{AllocError, Global};
 use std::cmp::Ordering;
 use std::process::Abort;
@@ -87,6 +87,39 @@ fn tried<R: Abort, C: Storage<Entry>>(rt: &R, map: &mut Map<C>) {
     assert!(rt; map.try_insert(8..12, 3).is_err()); // 5..9 is in the way
 }
 
+fn extended<R: Abort, C: Storage<Entry>>(rt: &R, map: &mut Map<C>) -> Result<(), MapError> {
+    // of a map that binds no key
+    map.extend([(0..10, 1), (20..30, 2), (5..7, 3)])?;
+    assert!(rt; map.range_count() == 4);
+    Ok(())
+}
+
+fn made<R: Abort>(rt: &R, alloc: Global) -> Result<(), MapError> {
+    let map: RangeMap<i32, i64> = RangeMap::from_iter(alloc, [(0..2, 1), (4..6, 2)])?;
+    assert!(rt; map.range_count() == 2);
+    Ok(())
+}
+
+fn combined<R: Abort, C: Storage<Entry>, D: Storage<Entry>>(rt: &R, map: &Map<C>, other: &Map<D>) {
+    // of a map that binds 0..=5 to 1, and one that binds 4..9 to 10
+    let first = |one: Option<&i64>, other: Option<&i64>| -> Result<Option<i64>, u8> {
+        Ok(one.or(other).copied())
+    };
+    let both: Result<RangeMap<i32, i64>, UpdateError<u8>> = map.combine(other, first);
+    assert!(rt; both.is_ok()); // it binds 0..=5 to 1, and 6..9 to 10
+}
+
+fn put_together<R: Abort, C: Storage<Entry>>(
+    rt: &R,
+    alloc: Global,
+    map: &Map<C>,
+) -> Result<(), MapError> {
+    let mut other: RangeMap<i32, i64> = RangeMap::new(alloc);
+    other.insert(4..9, 10)?;
+    combined(rt, map, &other);
+    Ok(())
+}
+
 fn measured<R: Abort, C: Storage<Entry>>(rt: &R, map: &Map<C>) {
     // of a map that binds 0..=5 to 1
     assert!(rt; !map.is_empty());
@@ -168,6 +201,8 @@ fn changed<R: Abort, C: Storage<Entry>>(rt: &R, alloc: Global) -> Result<(), Map
     cleared(rt, &mut ones_over::<C>(alloc)?);
     retained(rt, &mut ones_over::<C>(alloc)?);
     tried(rt, &mut Map::<C>::new(alloc));
+    extended(rt, &mut Map::<C>::new(alloc))?;
+    made(rt, alloc)?;
     bound_apart::<R, C>(rt, &mut generic::RangeMap::new(alloc));
     counted::<R, C>(rt, &mut generic::RangeMap::new(alloc))
 }
@@ -188,6 +223,7 @@ fn played<R: Abort, C: Storage<Entry>>(
 ) -> Result<(), MapError> {
     looked_at(rt, map)?;
     changed::<R, C>(rt, alloc)?;
+    put_together(rt, alloc, map)?;
     compared_with_vector(rt, alloc, map)
 }
 

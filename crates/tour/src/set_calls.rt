@@ -45,6 +45,12 @@ fn met<R: Abort, C: Storage<Entry>>(rt: &R, set: &Set<C>) {
     assert!(rt; set.span().is_some()); // 0..=5
 }
 
+fn cleared<R: Abort, C: Storage<Entry>>(rt: &R, mut set: Set<C>) {
+    // of a set of the keys 0..=5
+    set.clear();
+    assert!(rt; set.is_empty());
+}
+
 fn popped<R: Abort, C: Storage<Entry>>(rt: &R, mut set: Set<C>) {
     // of a set of the keys 0..=5
     assert!(rt; set.pop_first().is_some() && set.is_empty());
@@ -56,6 +62,7 @@ fn popped_at_end<R: Abort, C: Storage<Entry>>(rt: &R, mut set: Set<C>) {
 }
 
 fn taken_apart<R: Abort, C: Storage<Entry>>(rt: &R, set: &Set<C>) -> Result<(), AllocError> {
+    cleared(rt, set.clone()?);
     popped(rt, set.clone()?);
     popped_at_end(rt, set.clone()?);
     Ok(())

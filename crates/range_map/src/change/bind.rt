@@ -41,8 +41,8 @@ pub(crate) fn bind_inside<K: PartialEnum + Clone, V: Eq + Clone, C: Storage<Item
 ) -> Result<(), AllocError>
     requires keys { ClonesAreEqual K.is_clone K.eq }
     requires values { ClonesAreEqual V.is_clone V.eq }
-    requires within { IsSurroundedOf K.order V.eq C.is_good C.rank C.items stored.old range window.now
-        p }
+    requires within { IsSurroundedOf K.order V.eq C.is_good C.rank C.items stored.old range
+        window.now p }
     ensures ok { OnOk result
         (IsInserted K.order V.eq (C.items stored.old) (C.items stored.new) range value) }
     ensures few { OnOk result (length (C.items stored.new) ≤ length (C.items stored.old) + 2) }

@@ -58,7 +58,8 @@ fn join_beside<K: PartialEnum, V: Eq + Drop, C: Storage<Item<AnyRange<K>, V>>>(
         reach.now joins.now.after }
     requires some { 1 ≤ length (option_items joins.now.before)
         + length (option_items joins.now.after) }
-    ensures { IsInserted K.order V.eq (C.items stored.old) (C.items stored.new) item.key item.value }
+    ensures { IsInserted K.order V.eq (C.items stored.old) (C.items stored.new) item.key
+        item.value }
 {
     let left = seam(joins.before, None, Bound::Unbounded);
     let right = seam(joins.after, None, Bound::Unbounded);

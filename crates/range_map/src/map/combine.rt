@@ -125,15 +125,13 @@ impl<K: PartialEnum + Clone, V: Eq + Drop, C: Storage<Item<AnyRange<K>, V>>> Ran
     /// Allocates a list of what the closure returns, clones of the bounds of its pieces, and the
     /// new map's ranges, all at once. Goes once over both maps, and searches neither.
     ///
-    /// ```text
+    /// ```
     /// // of a map that binds 0..=5 to 1, and one that binds 4..9 to 10
-    /// let sum = |a: Option<&i64>, b: Option<&i64>| -> Result<Option<i64>, u8> {
-    ///     match (a, b) {
-    ///         (Some(a), Some(b)) => Ok(a.checked_add(*b)),
-    ///         (_, _) => Ok(None),
-    ///     }
+    /// let first = |one: Option<&i64>, other: Option<&i64>| -> Result<Option<i64>, u8> {
+    ///     Ok(one.or(other).copied())
     /// };
-    /// let both: RangeMap<i32, i64> = map.combine(&other, sum)?; // 4..=5 is bound to 11
+    /// let both: Result<RangeMap<i32, i64>, UpdateError<u8>> = map.combine(other, first);
+    /// assert!(rt; both.is_ok()); // it binds 0..=5 to 1, and 6..9 to 10
     /// ```
     pub fn combine<
         W: Eq + Drop,

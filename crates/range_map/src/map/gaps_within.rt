@@ -121,9 +121,9 @@ impl<K: Measure, V: Eq + Drop, C: Storage<Item<AnyRange<K>, V>>> RangeMap<K, V, 
 
     /// Whether each key of the range is bound.
     ///
-    /// It is where no part of the range is free; over keys that leave no gap, nowhere else. An empty
-    /// range is bound. Costs two searches and two comparisons more, and then a few comparisons for
-    /// each stored range that meets the range, up to its first gap. Allocates nothing.
+    /// It is where no part of the range is free; over keys that leave no gap, nowhere else. An
+    /// empty range is bound. Costs two searches and two comparisons more, and then a few
+    /// comparisons for each stored range that meets the range, up to its first gap. Allocates nothing.
     ///
     /// ```
     /// // of a map that binds 0..=5 to 1

@@ -40,12 +40,12 @@ impl<K: Measure + Clone, V: Eq + Clone, C: Storage<Item<AnyRange<K>, V>>> RangeM
         ensures only { IsComplete K.order → IsOnlyCoarse K.order V.eq (C.items self.new) }
         ensures frame { OnOk result
             (¬ IsEmptyRange K.order (R.range range)
-            → IsInsertionFrame K.order V.eq (C.items self.old) (C.items self.new) (R.range range) value) }
+            → IsInsertionFrame K.order V.eq (C.items self.old) (C.items self.new) (R.range range)
+            value) }
         ensures meets { OnOk result
             (¬ IsEmptyRange K.order (R.range range)
             → MeetAlso K.order (C.items self.old) (C.items self.new) (R.range range)) }
         ensures few { length (C.items self.new) ≤ length (C.items self.old) + 2 }
-
         ensures refused { OnErr result (C.items self.new ≡ C.items self.old) }
         ensures empty { IsEmptyRange K.order (R.range range) → IsOk result }
         ensures empty_unchanged { IsEmptyRange K.order (R.range range)
@@ -87,12 +87,12 @@ impl<K: Measure + Clone, V: Eq + Clone, C: Storage<Item<AnyRange<K>, V>>> RangeM
         ensures only { IsComplete K.order → IsOnlyCoarse K.order V.eq (C.items self.new) }
         ensures frame { OnOk result
             (¬ IsEmptyRange K.order (R.range range)
-            → IsInsertionFrame K.order V.eq (C.items self.old) (C.items self.new) (R.range range) value) }
+            → IsInsertionFrame K.order V.eq (C.items self.old) (C.items self.new) (R.range range)
+            value) }
         ensures meets { OnOk result
             (¬ IsEmptyRange K.order (R.range range)
             → MeetAlso K.order (C.items self.old) (C.items self.new) (R.range range)) }
         ensures few { length (C.items self.new) ≤ length (C.items self.old) + 2 }
-
         ensures refused { OnErr result (C.items self.new ≡ C.items self.old) }
         ensures empty { IsEmptyRange K.order (R.range range) → IsOk result }
         ensures empty_unchanged { IsEmptyRange K.order (R.range range)

@@ -21,10 +21,11 @@ fn keeps<K, V, F: FnMut(&AnyRange<K>, &V) -> bool>(f: &mut F, item: &Item<AnyRan
 }
 
 impl<K: PartialEnum, V: Eq + Drop, C: Storage<Item<AnyRange<K>, V>>> RangeMap<K, V, C> {
-    /// Keeps the stored ranges at which the closure answers true, and unbinds the keys of all others.
+    /// Keeps the stored ranges at which the closure answers true, and unbinds the keys of all
+    /// others.
     ///
-    /// The closure is asked once of each stored range with its value, in ascending order. Those that
-    /// it keeps stand as they were. Allocates nothing. Costs a step for each stored range, and
+    /// The closure is asked once of each stored range with its value, in ascending order. Those
+    /// that it keeps stand as they were. Allocates nothing. Costs a step for each stored range, and
     /// changes nodes up to the tree's root for each that it takes out.
     ///
     /// ```

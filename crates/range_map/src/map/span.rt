@@ -13,8 +13,8 @@ impl<K: PartialEnum, V: Eq + Drop, C: Storage<Item<AnyRange<K>, V>>> RangeMap<K,
     /// The range from the start of the first stored range to the end of the last, or none where no
     /// range is stored.
     ///
-    /// It refers to their bounds: `AnyRange::cloned` makes one of its own of it. Costs two ways down
-    /// the tree. Allocates nothing.
+    /// It refers to their bounds: `AnyRange::cloned` makes one of its own of it. Costs two ways
+    /// down the tree. Allocates nothing.
     ///
     /// ```
     /// // of a map that binds 0..=5 to 1

@@ -79,7 +79,8 @@ impl<K: Measure, V: Eq + Drop, C: Storage<Item<AnyRange<K>, V>>> RangeMap<K, V, 
             value) }
         ensures frame { OnOk result
             (¬ IsEmptyRange K.order (R.range range)
-            → IsInsertionFrame K.order V.eq (C.items self.old) (C.items self.new) (R.range range) value) }
+            → IsInsertionFrame K.order V.eq (C.items self.old) (C.items self.new) (R.range range)
+            value) }
         ensures meets { OnOk result
             (¬ IsEmptyRange K.order (R.range range)
             → MeetAlso K.order (C.items self.old) (C.items self.new) (R.range range)) }

@@ -112,8 +112,8 @@ impl<T: PartialEnum, C: Storage<Item<AnyRange<T>, ()>>> RangeSet<T, C> {
     /// The range from the start of the first stored range to the end of the last, or none where no
     /// range is stored.
     ///
-    /// It refers to their bounds: `AnyRange::cloned` makes one of its own of it. Costs two ways down
-    /// the tree. Allocates nothing.
+    /// It refers to their bounds: `AnyRange::cloned` makes one of its own of it. Costs two ways
+    /// down the tree. Allocates nothing.
     ///
     /// ```
     /// // of a set of the keys 0..=5
@@ -172,9 +172,9 @@ impl<T: Measure, C: Storage<Item<AnyRange<T>, ()>>> RangeSet<T, C> {
 
     /// Whether each key of the range is in the set.
     ///
-    /// It is where no part of the range is free; over keys that leave no gap, nowhere else. An empty
-    /// range is covered. Costs two searches and two comparisons more, and then a few comparisons for
-    /// each stored range that meets the range, up to its first gap. Allocates nothing.
+    /// It is where no part of the range is free; over keys that leave no gap, nowhere else. An
+    /// empty range is covered. Costs two searches and two comparisons more, and then a few
+    /// comparisons for each stored range that meets the range, up to its first gap. Allocates nothing.
     ///
     /// ```
     /// // of a set of the keys 0..=5
