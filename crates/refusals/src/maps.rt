@@ -4,7 +4,9 @@ use crate::outcome::{Outcome, done, refused};
 use crate::ranges::{Size, built, is_spelled, key, part};
 use btree_range_map::btree::BoxStorage;
 use btree_range_map::generic::RangeMap;
-use btree_range_map::generic::map::{Command, MapError, NotInserted, Reply, UpdateError, run};
+use btree_range_map::generic::map::{
+    Command, MapError, NotFree, NotInserted, Reply, UpdateError, run,
+};
 use btree_range_map::storage::{Item, Storage, VecStorage};
 use btree_range_map::{AnyRange, json};
 use serde_json::Value;
@@ -28,6 +30,11 @@ pub enum MapCall {
     /// From inside a stored range to inside the next.
     InsertAcross,
     InsertDisconnected,
+    /// Between two stored ranges.
+    TryInsert,
+    /// Between stored ranges, and inside one.
+    Extend,
+    FromIter,
     /// Inside a stored range.
     Remove,
     /// Binds what is free from inside a stored range on to beyond the next.
@@ -144,6 +151,76 @@ fn disconnected<C: Storage<Entry>>(alloc: Global, map: &mut Map<C>, size: Size) 
             is_spelled(&given, range) && text.as_str() == NEW && is_filled(map, size.count, size),
         ),
         Err(NotInserted::Connected(_, _)) => Outcome::Wrong,
+    }
+}
+
+fn try_insert<C: Storage<Entry>>(
+    map: &mut Map<C>,
+    range: AnyRange<i32>,
+    text: String,
+) -> Result<(), NotFree<i32, String>> {
+    map.try_insert(range, text)
+}
+
+/// A refused insertion has to hand back the range and the text.
+fn trying<C: Storage<Entry>>(alloc: Global, map: &mut Map<C>, size: Size) -> Outcome {
+    let range = part(size.middle(), 6, 8);
+    let Ok(text) = String::from_str(alloc, NEW) else {
+        return Outcome::Early;
+    };
+    match try_insert(map, range, text) {
+        Ok(()) => changed(map, size, Ok(()), 1, (key(size.middle(), 6), NEW)),
+        Err(NotFree::Memory(given, text)) => refused(
+            is_spelled(&given, range) && text.as_str() == NEW && is_filled(map, size.count, size),
+        ),
+        Err(NotFree::Occupied(_, _)) => Outcome::Wrong,
+    }
+}
+
+/// A range between two stored ones, and one inside a stored one, each with a new text.
+fn pairs(alloc: Global, size: Size) -> Result<[(AnyRange<i32>, String); 2], AllocError> {
+    let middle = size.middle();
+    let first = String::from_str(alloc, NEW)?;
+    let second = String::from_str(alloc, NEW)?;
+    Ok([(part(middle, 6, 8), first), (part(middle, 1, 3), second)])
+}
+
+fn extend<C: Storage<Entry>>(
+    map: &mut Map<C>,
+    pairs: [(AnyRange<i32>, String); 2],
+) -> Result<(), MapError> {
+    map.extend(pairs)
+}
+
+/// A refused extension has to keep what the ranges before the one at which it was refused bind.
+fn extension<C: Storage<Entry>>(alloc: Global, map: &mut Map<C>, size: Size) -> Outcome {
+    let Ok(pairs) = pairs(alloc, size) else {
+        return Outcome::Early;
+    };
+    match extend(map, pairs) {
+        Ok(()) => changed(map, size, Ok(()), 3, (key(size.middle(), 1), NEW)),
+        Err(MapError::Memory) => refused(
+            is_filled(map, size.count, size)
+                || map.range_count() == usize::from(size.count) + 1
+                    && is_bound(map, key(size.middle(), 6), NEW),
+        ),
+    }
+}
+
+fn gathered<C: Storage<Entry>>(
+    alloc: Global,
+    pairs: [(AnyRange<i32>, String); 2],
+) -> Result<Map<C>, MapError> {
+    RangeMap::from_iter(alloc, pairs)
+}
+
+fn gathering<C: Storage<Entry>>(alloc: Global, size: Size) -> Outcome {
+    let Ok(pairs) = pairs(alloc, size) else {
+        return Outcome::Early;
+    };
+    match gathered::<C>(alloc, pairs) {
+        Ok(map) => done(map.range_count() == 2 && is_bound(&map, key(size.middle(), 6), NEW)),
+        Err(MapError::Memory) => Outcome::Kept,
     }
 }
 
@@ -292,6 +369,9 @@ fn call<C: Storage<Entry>>(alloc: Global, map: &mut Map<C>, size: Size, call: Ma
         MapCall::InsertInside => insertion(alloc, map, size, part(middle, 1, 3), 2, 1),
         MapCall::InsertAcross => insertion(alloc, map, size, part(middle, 3, 12), 1, 3),
         MapCall::InsertDisconnected => disconnected(alloc, map, size),
+        MapCall::TryInsert => trying(alloc, map, size),
+        MapCall::Extend => extension(alloc, map, size),
+        MapCall::FromIter => gathering::<C>(alloc, size),
         MapCall::Remove => removal(map, size),
         MapCall::Update => update(alloc, map, size),
         MapCall::Clone => cloning(map, size),
