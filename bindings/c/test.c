@@ -6,6 +6,24 @@
 
 static int failures = 0;
 
+/* How many allocations are still granted; all of them where it is negative. Linked with --wrap=malloc,--wrap=realloc. */
+static long granted = -1;
+
+void *__real_malloc(size_t size);
+void *__real_realloc(void *block, size_t size);
+void *__wrap_malloc(size_t size);
+void *__wrap_realloc(void *block, size_t size);
+
+static bool is_granted(void) {
+    if (granted > 0) granted--;
+    else if (granted == 0) return false;
+    return true;
+}
+
+void *__wrap_malloc(size_t size) { return is_granted() ? __real_malloc(size) : NULL; }
+
+void *__wrap_realloc(void *block, size_t size) { return is_granted() ? __real_realloc(block, size) : NULL; }
+
 #define EXPECT(holds)                                                       \
     do {                                                                    \
         if (!(holds)) {                                                     \
@@ -92,6 +110,33 @@ static void many(void) {
     range_handle_destroy(&map);
 }
 
+/* Makes a change with 0, 1, 2 .. allocations until it is done. Before that the map is as it was. */
+static uint64_t refusals(range_handle *map, bool inserts, range_u64 range, uint64_t value) {
+    size_t count = range_handle_count(map);
+    for (long allocations = 0;; allocations++) {
+        granted = allocations;
+        uint32_t status = inserts ? range_map_u64_insert(map, &range, value) : range_map_u64_remove(map, &range);
+        granted = -1;
+        if (status == RANGE_DONE) return (uint64_t)allocations;
+        EXPECT(status == RANGE_NO_MEMORY && range_handle_count(map) == count);
+        EXPECT(range_map_u64_intersects(map, &range) == (inserts ? RANGE_NONE : RANGE_DONE));
+    }
+}
+
+static void refused_memory(void) {
+    range_handle map = RANGE_HANDLE_CLOSED;
+    uint64_t refused = 0;
+    granted = 0;
+    EXPECT(range_map_u64_create(&map) == RANGE_NO_MEMORY && range_handle_count(&map) == 0);
+    granted = -1;
+    EXPECT(put(&map, upto(1, 2), 1) == RANGE_CLOSED);
+    EXPECT(range_map_u64_create(&map) == RANGE_DONE);
+    for (uint64_t i = 0; i < 500; i++) refused += refusals(&map, true, upto(10 * i, 10 * i + 5), i);
+    for (uint64_t i = 0; i < 500; i++) refused += refusals(&map, false, through(10 * i + 2, 10 * i + 2), 0);
+    EXPECT(range_handle_count(&map) == 1000 && refused > 10);
+    range_handle_destroy(&map);
+}
+
 static void signed_maps(void) {
     range_handle map = RANGE_HANDLE_CLOSED;
     range_entry_i64 e = {{0, 0, 0}, 0};
@@ -144,6 +189,7 @@ static void sets(void) {
 int main(void) {
     maps();
     many();
+    refused_memory();
     signed_maps();
     sets();
     printf("C: %s\n", failures ? "FAILED" : "passed");

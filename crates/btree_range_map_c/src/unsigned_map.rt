@@ -1,5 +1,5 @@
 //! Maps of `u64` keys to `u64` values, and the calls on a collection that may be one.
-ghost use Rattle.std.specs.Prelude.{◌≡◌, ◌≢◌, ◌⊎◌, ◌↔◌, ◌+◌, ◌*◌, ◌^◌, List, [], ◌∷◌, ◌++◌, Some, None, length, nat_eq};
+ghost use Rattle.std.specs.Prelude.{◌≡◌, ◌≢◌, ◌⊎◌, ◌↔◌, ◌+◌, ◌*◌, ◌^◌, List, [], ◌∷◌, ◌++◌, Some, None, length, IsTrue, nat_eq};
 ghost use Rattle.btree_range_map.specs.Apart.{IsConnectedError};
 ghost use Rattle.btree_range_map.specs.Bindings.{Binds, IsBound, IsItemFor, IsBoundAfter, IsUnboundAfter};
 ghost use Rattle.btree_range_map.specs.Holding.{box_items};
@@ -14,7 +14,7 @@ use crate::bounds::{Bounds, Entry, Length};
 use crate::collection::Collection;
 use crate::status::{CONNECTED, DONE, NO_MEMORY, NONE, OTHER_KIND, answer};
 use btree_range_map::range::traits::measure_counts_keys;
-use btree_range_map::{NotInserted, RangeMap};
+use btree_range_map::{AnyRange, NotInserted, RangeMap};
 use std::alloc::Global;
 use std::marker::Model;
 
@@ -52,6 +52,19 @@ impl UnsignedMap {
         ensures { result ≡ length self.now }
     {
         self.map.range_count()
+    }
+
+    fn intersects(&self, range: AnyRange<u64>) -> bool
+        ensures { IsTrue result ↔ BindsKeyOf unsigned_keys self.now range }
+    {
+        self.map.intersects(range)
+    }
+
+    fn len(&self) -> u128
+        ensures { IsNumberOfKeys unsigned_keys (IsBound unsigned_keys self.now) result }
+    {
+        measure_counts_keys::<u64>();
+        self.map.len()
     }
 }
 
@@ -167,7 +180,7 @@ pub fn intersects(collection: &Collection, range: &Bounds) -> u32
     ensures other { (¬ HoldsMap (Some collection.now)) → result ≡ OTHER_KIND }
 {
     match collection {
-        Collection::Unsigned(kept) => answer(kept.map.intersects(range.range())),
+        Collection::Unsigned(kept) => answer(kept.intersects(range.range())),
         _ => OTHER_KIND,
     }
 }
@@ -182,8 +195,7 @@ pub fn len(collection: &Collection, length: &mut Length) -> u32
 {
     match collection {
         Collection::Unsigned(kept) => {
-            measure_counts_keys::<u64>();
-            *length = Length::of(kept.map.len());
+            *length = Length::of(kept.len());
             DONE
         }
         _ => OTHER_KIND,

@@ -1,5 +1,5 @@
 //! Sets of `u64` keys, and the calls on a collection that may be one.
-ghost use Rattle.std.specs.Prelude.{◌≡◌, ◌≢◌, ◌⊎◌, ◌↔◌, ◌+◌, ◌*◌, ◌^◌, List, [], ◌∷◌, ◌++◌, Some, None, length};
+ghost use Rattle.std.specs.Prelude.{◌≡◌, ◌≢◌, ◌⊎◌, ◌↔◌, ◌+◌, ◌*◌, ◌^◌, List, [], ◌∷◌, ◌++◌, Some, None, length, IsTrue, OnOk, OnErr};
 ghost use Rattle.btree_range_map.specs.Bindings.{IsItemFor};
 ghost use Rattle.btree_range_map.specs.Holding.{box_items};
 ghost use Rattle.btree_range_map.specs.KeySets.{HoldsKey, HoldsAlso, HoldsWithout};
@@ -12,8 +12,8 @@ ghost use Rattle.btree_range_map_c.specs.Lists.{unsigned_keys, KeyRanges};
 use crate::bounds::{Bounds, Length};
 use crate::collection::Collection;
 use crate::status::{DONE, NO_MEMORY, NONE, OTHER_KIND, answer};
-use btree_range_map::RangeMap;
 use btree_range_map::range::traits::measure_counts_keys;
+use btree_range_map::{AnyRange, MapError, RangeMap};
 use std::alloc::Global;
 use std::marker::Model;
 
@@ -52,6 +52,33 @@ impl UnsignedSet {
     {
         self.set.range_count()
     }
+
+    fn insert(&mut self, range: AnyRange<u64>) -> Result<(), MapError>
+        ensures added { OnOk result (HoldsAlso unsigned_keys self.old self.new range) }
+        ensures refused { OnErr result (self.new ≡ self.old) }
+    {
+        self.set.insert(range, ())
+    }
+
+    fn remove(&mut self, range: AnyRange<u64>) -> Result<(), MapError>
+        ensures removed { OnOk result (HoldsWithout unsigned_keys self.old self.new range) }
+        ensures refused { OnErr result (self.new ≡ self.old) }
+    {
+        self.set.remove(range)
+    }
+
+    fn intersects(&self, range: AnyRange<u64>) -> bool
+        ensures { IsTrue result ↔ BindsKeyOf unsigned_keys self.now range }
+    {
+        self.set.intersects(range)
+    }
+
+    fn len(&self) -> u128
+        ensures { IsNumberOfKeys unsigned_keys (HoldsKey unsigned_keys self.now) result }
+    {
+        measure_counts_keys::<u64>();
+        self.set.len()
+    }
 }
 
 /// Adds each key of the range.
@@ -65,7 +92,7 @@ pub fn insert(collection: &mut Collection, range: &Bounds) -> u32
     ensures other { (¬ HoldsSet (Some collection.old)) → result ≡ OTHER_KIND }
 {
     match collection {
-        Collection::Set(kept) => match kept.set.insert(range.range(), ()) {
+        Collection::Set(kept) => match kept.insert(range.range()) {
             Ok(()) => DONE,
             Err(_) => NO_MEMORY,
         },
@@ -84,7 +111,7 @@ pub fn remove(collection: &mut Collection, range: &Bounds) -> u32
     ensures other { (¬ HoldsSet (Some collection.old)) → result ≡ OTHER_KIND }
 {
     match collection {
-        Collection::Set(kept) => match kept.set.remove(range.range()) {
+        Collection::Set(kept) => match kept.remove(range.range()) {
             Ok(()) => DONE,
             Err(_) => NO_MEMORY,
         },
@@ -136,7 +163,7 @@ pub fn intersects(collection: &Collection, range: &Bounds) -> u32
     ensures other { (¬ HoldsSet (Some collection.now)) → result ≡ OTHER_KIND }
 {
     match collection {
-        Collection::Set(kept) => answer(kept.set.intersects(range.range())),
+        Collection::Set(kept) => answer(kept.intersects(range.range())),
         _ => OTHER_KIND,
     }
 }
@@ -151,8 +178,7 @@ pub fn len(collection: &Collection, length: &mut Length) -> u32
 {
     match collection {
         Collection::Set(kept) => {
-            measure_counts_keys::<u64>();
-            *length = Length::of(kept.set.len());
+            *length = Length::of(kept.len());
             DONE
         }
         _ => OTHER_KIND,
