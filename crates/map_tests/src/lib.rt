@@ -22,6 +22,8 @@ mod keys;
 #[cfg(test)]
 mod lookups;
 #[cfg(test)]
+mod reads;
+#[cfg(test)]
 mod set_values;
 #[cfg(test)]
 mod support;

@@ -305,14 +305,14 @@ module _ {K : Type 0} (order : KeyOrder K) (lawful : IsLawful order) where
               (λ i a f. apart_not i.key key f.0 inside.0 a);
         }
 
-        free_apart : (key : AnyRange K) → IsFreePart order items r key
+        pub free_apart : (key : AnyRange K) → IsFreePart order items r key
             → Every (λ i. IsFull i × (PLe (Hi i.key) (Lo key) ⊎ PLe (Hi key) (Lo i.key))) items
         free_apart key h =
             every_with (λ i. Overlap order i.key key → ⊥) IsFull
             (λ i. IsFull i × (PLe (Hi i.key) (Lo key) ⊎ PLe (Hi key) (Lo i.key))) items h.free
             full (λ i n f. (f, apart_of i.key key f.0 h.known n))
 
-        free_inside : (key : AnyRange K) → IsFreePart order items r key → IsInside key
+        pub free_inside : (key : AnyRange K) → IsFreePart order items r key → IsInside key
         free_inside key h =
             let within = lies_places key r h.known known_r h.within in
             (h.known, within.0, (nonempty_good order lawful key h.known).0 h.nonempty, within.1)
@@ -457,7 +457,7 @@ module _ {K : Type 0} (order : KeyOrder K) (lawful : IsLawful order) where
                 ),
               ))
 
-          common_place_is_not_clear : (p : Position K) (key clear : AnyRange K) (v : V)
+          pub common_place_is_not_clear : (p : Position K) (key clear : AnyRange K) (v : V)
               → IsKnownRange order key
               → Any (λ i. IsCommonPart order r i.key key × (i.value ≡ v)) items → PLe (Lo key) p
               → PLt p (Hi key)

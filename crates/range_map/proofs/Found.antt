@@ -50,13 +50,13 @@ module _ {K : Type 0} (order : KeyOrder K) (lawful : IsLawful order) {V : Type 0
   stored_nonempty i [] h = h.1
   stored_nonempty i (j ∷ rest) h = h.1
 
-  stored_tail : (i : Item (AnyRange K) V) (rest : List (Item (AnyRange K) V))
+  pub stored_tail : (i : Item (AnyRange K) V) (rest : List (Item (AnyRange K) V))
       → IsListed order lawful same (i ∷ rest) → IsListed order lawful same rest
   stored_tail i [] h = tt
   stored_tail i (j ∷ rest) h = h.4
 
   -- what follows an item starts past its end
-  starts_rise : (i : Item (AnyRange K) V) (rest : List (Item (AnyRange K) V))
+  pub starts_rise : (i : Item (AnyRange K) V) (rest : List (Item (AnyRange K) V))
       → IsListed order lawful same (i ∷ rest)
       → Every (λ j. Lt (places order lawful) (End i) (Start j)) rest
   starts_rise i [] h = tt
@@ -70,7 +70,7 @@ module _ {K : Type 0} (order : KeyOrder K) (lawful : IsLawful order) {V : Type 0
             (lt_le_trans cmp total (End i) (Start j) (End j) h.2 own) l) (starts_rise j rest h.4),
       )
 
-  every_nonempty : (rest : List (Item (AnyRange K) V)) → IsListed order lawful same rest
+  pub every_nonempty : (rest : List (Item (AnyRange K) V)) → IsListed order lawful same rest
       → Every (λ j. Le (places order lawful) (Start j) (End j)) rest
   every_nonempty [] h = tt
   every_nonempty (i ∷ rest) h =
@@ -125,7 +125,7 @@ module _ {K : Type 0} (order : KeyOrder K) (lawful : IsLawful order) {V : Type 0
             (every_drop (λ i. is_lt (cmp (End i) p) ≡ false) items place front.0 front.1.1));
       }
 
-  stored_drop : (n : ℕ) (items : List (Item (AnyRange K) V)) → IsListed order lawful same items
+  pub stored_drop : (n : ℕ) (items : List (Item (AnyRange K) V)) → IsListed order lawful same items
       → IsListed order lawful same (drop n items)
   stored_drop zero items h = h
   stored_drop (suc n) [] h = tt

@@ -2,6 +2,7 @@ pub mod Adding
 pub mod Appending
 pub mod Asked
 pub mod Between
+pub mod BindingAll
 pub mod ChainJoins
 pub mod ChainSides
 pub mod Chains
@@ -32,6 +33,9 @@ pub mod Meeting
 pub mod Merging
 pub mod Once
 pub mod Openings
+pub mod Overlapping
+pub mod PieceLists
+pub mod PieceSteps
 pub mod Planned
 pub mod Planning
 pub mod Rebinding

@@ -14,6 +14,8 @@ pub mod Iterating
 pub mod ListOrder
 pub mod Lookups
 pub mod Neighbours
+pub mod Overlapping
+pub mod PieceLists
 pub mod Pieces
 pub mod Plans
 pub mod Reach

@@ -37,6 +37,10 @@ module _ {K : Type 0} (order : KeyOrder K) where
     abbrev pub BindsKeyOf : List (Item (AnyRange K) V) → AnyRange K → Type 0
     BindsKeyOf items r = (k : K) × order.is_key k × Holds order r k × IsBound order items k
 
+    -- each key of the range is bound
+    abbrev pub BindsAllOf : List (Item (AnyRange K) V) → AnyRange K → Type 0
+    BindsAllOf items r = (k : K) → order.is_key k → Holds order r k → IsBound order items k
+
 -- the one list with an item put in somewhere is the other
 abbrev pub IsPutInto : {T : Type 0} → List T → List T → T → Type 0
 IsPutInto before after x = (place : ℕ) × (place ≤ length before) × (after ≡ insert before place x)

@@ -7,5 +7,6 @@ pub mod ListedMembers
 pub mod Members
 pub mod Multimaps
 pub mod Pairs
+pub mod Reads
 pub mod SetOrder
 pub mod SetTexts

@@ -16,6 +16,7 @@ mod insert;
 mod into_iter;
 mod iter;
 mod len;
+mod reads;
 mod remove;
 mod text;
 
@@ -27,6 +28,7 @@ use range_algebra::range::AsRange;
 use range_keys::traits::{Measure, PartialEnum};
 use range_map::map::{self, RangeMap};
 use range_store::storage::{Item, Steps, Storage};
+pub use reads::{GapsWithin, Overlapping};
 use std::alloc::Global;
 use std::marker::Model;
 
@@ -152,7 +154,7 @@ impl<T: PartialEnum, C: Storage<Item<AnyRange<T>, ()>>> RangeSet<T, C> {
         self.map.contains_key_counted(key, steps)
     }
 
-    /// The stored ranges, in ascending order. Allocates nothing.
+    /// The stored ranges, in ascending order, from both ends. Allocates nothing.
     ///
     /// ```
     /// // of a set of the keys 0..=5

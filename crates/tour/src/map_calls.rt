@@ -45,6 +45,20 @@ fn shown<R: Abort, C: Storage<Entry>>(rt: &R, map: &Map<C>) {
     assert!(rt; map.last_range_value().is_some()); // 0..=5 with 1
 }
 
+fn met<R: Abort, C: Storage<Entry>>(rt: &R, map: &Map<C>) {
+    // of a map that binds 0..=5 to 1
+    assert!(rt; map.overlapping(3..8).next().is_some()); // 0..=5 with 1
+    assert!(rt; map.iter_from(5).next().is_some() && map.iter_from(6).next().is_none());
+    assert!(rt; map.binds_all(0..=5) && !map.binds_all(5..=6));
+}
+
+fn parted<R: Abort, C: Storage<Entry>>(rt: &R, map: &Map<C>) {
+    // of a map that binds 0..=5 to 1
+    assert!(rt; map.pieces(&(3..8)).next().is_some()); // 3..=5 with 1, and then 6..8 with none
+    assert!(rt; map.gaps_within(&(3..8)).next().is_some()); // 6..8
+    assert!(rt; map.span().is_some()); // 0..=5
+}
+
 fn popped<R: Abort, C: Storage<Entry>>(rt: &R, map: &mut Map<C>) {
     // of a map that binds 0..=5 to 1
     assert!(rt; map.pop_first().is_some() && map.is_empty());
@@ -121,6 +135,8 @@ fn counted<R: Abort, C: Storage<Entry>>(rt: &R, map: &mut Map<C>) -> Result<(), 
 fn looked_at<R: Abort, C: Storage<Entry>>(rt: &R, map: &Map<C>) -> Result<(), MapError> {
     looked_up(rt, map);
     shown(rt, map);
+    met(rt, map);
+    parted(rt, map);
     measured(rt, map);
     gone_over(rt, map);
     copied(rt, map)?;

@@ -36,6 +36,15 @@ fn shown<R: Abort, C: Storage<Entry>>(rt: &R, set: &Set<C>) {
     assert!(rt; set.last().is_some()); // 0..=5
 }
 
+fn met<R: Abort, C: Storage<Entry>>(rt: &R, set: &Set<C>) {
+    // of a set of the keys 0..=5
+    assert!(rt; set.overlapping(3..8).next().is_some()); // 0..=5
+    assert!(rt; set.iter_from(5).next().is_some() && set.iter_from(6).next().is_none());
+    assert!(rt; set.gaps_within(&(3..8)).next().is_some()); // 6..8
+    assert!(rt; set.covers(0..=5) && !set.covers(5..=6));
+    assert!(rt; set.span().is_some()); // 0..=5
+}
+
 fn popped<R: Abort, C: Storage<Entry>>(rt: &R, mut set: Set<C>) {
     // of a set of the keys 0..=5
     assert!(rt; set.pop_first().is_some() && set.is_empty());
@@ -98,6 +107,7 @@ fn played<R: Abort, C: Storage<Entry>>(
 ) -> Result<(), MapError> {
     looked_up(rt, set);
     shown(rt, set);
+    met(rt, set);
     measured(rt, set);
     gone_over(rt, set);
     copied(rt, set)?;

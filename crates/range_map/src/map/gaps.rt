@@ -36,7 +36,7 @@ impl<'a, K: PartialEnum + 'a, V: 'a, C: Storage<Item<AnyRange<K>, V>> + 'a> Mode
 }
 
 /// The range between two bounds, unless it is empty or one of them is missing.
-fn range_between<'a, K: PartialEnum>(
+pub(crate) fn range_between<'a, K: PartialEnum>(
     start: Option<Bound<&'a K>>,
     end: Option<Bound<&'a K>>,
 ) -> Option<AnyRange<&'a K>>

@@ -1,6 +1,6 @@
-//! The stored ranges, in ascending order.
+//! The stored ranges, in ascending order, from both ends.
 ghost use Rattle.std.specs.Prelude.{◌≡◌, List};
-ghost use Rattle.std.specs.Iterator.{YieldsFirstRef, item_count};
+ghost use Rattle.std.specs.Iterator.{YieldsFirstRef, YieldsLastBy, item_count};
 ghost use Rattle.range_map.specs.FreeRanges.{item_ranges};
 ghost use Rattle.range_sets.specs.KeySets.{IsStoredSet};
 
@@ -52,6 +52,17 @@ impl<'a, T: 'a, C: Storage<Item<AnyRange<T>, ()>> + 'a> Iterator for Iter<'a, T,
 
     fn size_hint(&self) -> (usize, Option<usize>) {
         self.items.size_hint()
+    }
+}
+
+impl<'a, T: 'a, C: Storage<Item<AnyRange<T>, ()>> + 'a> DoubleEndedIterator for Iter<'a, T, C> {
+    ghost next_back_gives = { YieldsLastBy (λ r. r.now) (λ rest. rest) };
+
+    fn next_back(&mut self) -> Option<&'a AnyRange<T>> {
+        match self.items.next_back() {
+            Some((range, _)) => Some(range),
+            None => None,
+        }
     }
 }
 
