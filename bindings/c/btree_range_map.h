@@ -81,6 +81,7 @@ uint32_t range_map_u64_intersects(range_handle *map, const range_u64 *range);
 uint32_t range_map_u64_len(range_handle *map, range_length *length);
 uint32_t range_map_u64_first(range_handle *map, range_entry_u64 *entry);
 uint32_t range_map_u64_last(range_handle *map, range_entry_u64 *entry);
+uint32_t range_map_u64_next(range_handle *map, uint64_t key, range_entry_u64 *entry);
 uint32_t range_map_u64_pop_first(range_handle *map, range_entry_u64 *entry);
 uint32_t range_map_u64_pop_last(range_handle *map, range_entry_u64 *entry);
 
@@ -95,6 +96,7 @@ uint32_t range_map_i64_intersects(range_handle *map, const range_i64 *range);
 uint32_t range_map_i64_len(range_handle *map, range_length *length);
 uint32_t range_map_i64_first(range_handle *map, range_entry_i64 *entry);
 uint32_t range_map_i64_last(range_handle *map, range_entry_i64 *entry);
+uint32_t range_map_i64_next(range_handle *map, int64_t key, range_entry_i64 *entry);
 uint32_t range_map_i64_pop_first(range_handle *map, range_entry_i64 *entry);
 uint32_t range_map_i64_pop_last(range_handle *map, range_entry_i64 *entry);
 
@@ -108,6 +110,7 @@ uint32_t range_set_u64_intersects(range_handle *set, const range_u64 *range);
 uint32_t range_set_u64_len(range_handle *set, range_length *length);
 uint32_t range_set_u64_first(range_handle *set, range_u64 *range);
 uint32_t range_set_u64_last(range_handle *set, range_u64 *range);
+uint32_t range_set_u64_next(range_handle *set, uint64_t key, range_u64 *range);
 uint32_t range_set_u64_pop_first(range_handle *set, range_u64 *range);
 uint32_t range_set_u64_pop_last(range_handle *set, range_u64 *range);
 

@@ -104,6 +104,10 @@ static void many(void) {
     }
     for (uint64_t i = 0; i < 5000; i++)
         EXPECT(range_map_u64_get(&map, 10 * i + 4, &e) == (i % 2 ? RANGE_DONE : RANGE_NONE));
+    for (uint64_t key = 0, i = 1; range_map_u64_next(&map, key, &e) == RANGE_DONE; key = e.range.end, i += 2)
+        EXPECT(is_entry(e, upto(10 * i, 10 * i + 5), i) && i < 5000);
+    EXPECT(range_map_u64_next(&map, 49994, &e) == RANGE_DONE && e.value == 4999);
+    EXPECT(range_map_u64_next(&map, 49995, &e) == RANGE_NONE && e.value == 4999);
     for (uint64_t i = 1; range_map_u64_pop_first(&map, &e) == RANGE_DONE; i += 2)
         EXPECT(is_entry(e, upto(10 * i, 10 * i + 5), i));
     EXPECT(range_handle_count(&map) == 0);
@@ -153,6 +157,8 @@ static void signed_maps(void) {
     EXPECT(e.range.flags == (RANGE_START_EXCLUDED | RANGE_END_EXCLUDED));
     EXPECT(range_map_i64_get(&map, 9, &e) == RANGE_DONE && e.range.end == 10 && e.value == 1);
     EXPECT(range_map_i64_intersects(&map, &low) == RANGE_NONE);
+    EXPECT(range_map_i64_next(&map, INT64_MIN, &e) == RANGE_DONE && e.range.start == -5);
+    EXPECT(range_map_i64_next(&map, 10, &e) == RANGE_NONE);
     EXPECT(range_map_i64_insert_disconnected(&map, &low, 2) == RANGE_CONNECTED);
     low.end = -6;
     EXPECT(range_map_i64_insert_disconnected(&map, &low, 2) == RANGE_DONE);
@@ -177,7 +183,10 @@ static void sets(void) {
     EXPECT(range_set_u64_len(&set, &n) == RANGE_DONE && n.low == 8 && n.high == 0);
     EXPECT(range_set_u64_first(&set, &found) == RANGE_DONE && found.end == 12);
     EXPECT(range_set_u64_last(&set, &found) == RANGE_DONE && found.start == 13);
+    EXPECT(range_set_u64_next(&set, 12, &found) == RANGE_DONE && found.start == 13);
+    EXPECT(range_set_u64_next(&set, 20, &found) == RANGE_NONE);
     EXPECT(range_map_u64_create(&map) == RANGE_DONE);
+    EXPECT(range_set_u64_next(&map, 0, &found) == RANGE_OTHER_KIND);
     EXPECT(range_set_u64_insert(&map, &r) == RANGE_OTHER_KIND && range_handle_count(&map) == 0);
     EXPECT(put(&set, r, 1) == RANGE_OTHER_KIND && range_handle_count(&set) == 2);
     EXPECT(range_set_u64_pop_first(&set, &found) == RANGE_DONE && range_set_u64_pop_last(&set, &found) == RANGE_DONE);

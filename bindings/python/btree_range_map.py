@@ -87,6 +87,7 @@ def _load():
         declare(prefix + "contains", _U32, key)
         declare(prefix + "intersects", _U32, bounds)
         declare(prefix + "len", _U32, length)
+        declare(prefix + "next", _U32, key, entry)
         for name in ("first", "last", "pop_first", "pop_last"):
             declare(prefix + name, _U32, entry)
         if value:
@@ -181,6 +182,18 @@ class _Collection:
         """The last stored range, `None` where there is none."""
         return self._found("last")
 
+    def next(self, key):
+        """The first stored range that ends at the key or after it, `None` where there is none."""
+        return self._found("next", self._key(key))
+
+    def _walk(self):
+        """What is stored, ascending. A step costs one search, and sees what was changed since the last."""
+        key = self._least
+        while key is not None and key <= self._most and (found := self.next(key)) is not None:
+            yield found
+            keys = found if isinstance(found, Range) else found[0]
+            key = None if keys.end is None else keys.end + keys.holds_end
+
     def pop_first(self):
         """Takes the first stored range out."""
         return self._found("pop_first")
@@ -227,6 +240,14 @@ class RangeMap(_Collection):
     def _told(self, entry):
         return self._range(entry.range), entry.value
 
+    def __iter__(self):
+        """The stored ranges, ascending."""
+        return (keys for keys, _ in self._walk())
+
+    def items(self):
+        """The stored ranges with their values, ascending."""
+        return self._walk()
+
     def update(self, items):
         """Binds each range to its value, in order."""
         for keys, value in items:
@@ -269,6 +290,10 @@ class RangeSet(_Collection):
 
     def _told(self, said):
         return self._range(said)
+
+    def __iter__(self):
+        """The stored ranges, ascending."""
+        return self._walk()
 
     def add(self, keys):
         """Adds each key of the range."""

@@ -12,6 +12,8 @@ class Maps(unittest.TestCase):
     def test_ranges_are_joined_and_cut(self):
         ports = RangeMap([(slice(0, 1024), 1), (80, 2)])
         self.assertEqual((ports[80], ports[81], len(ports), ports.key_count()), (2, 1, 3, 1024))
+        self.assertEqual(list(ports.items())[1:], [(Range(80, 80, True, True), 2), (Range(80, 1024, False), 1)])
+        self.assertEqual(list(ports)[0], Range(0, 80))
         ports[80] = 1
         self.assertEqual((len(ports), ports.entry(5)), (1, (Range(0, 1024), 1)))
         del ports[10:20]
@@ -28,6 +30,7 @@ class Maps(unittest.TestCase):
         self.assertEqual((keys.key_count(), keys.first()), (2**64, (Range(None, None, False, False), 1)))
         del keys[-5:5]
         self.assertEqual(keys.last(), (Range(5, None, True, False), 1))
+        self.assertEqual(list(keys), [Range(None, -5, False, False), Range(5, None, True, False)])
         keys[Range(-5, 5, False, True)] = 2
         self.assertEqual((keys[-4], keys[5], keys.get(-5), keys[-6]), (2, 2, None, 1))
         self.assertEqual([keys.pop_first()[1], keys.pop_last()[1], keys.pop_last()[1]], [1, 1, 2])
@@ -82,6 +85,7 @@ class Sets(unittest.TestCase):
     def test_keys_are_added_and_taken(self):
         keys = RangeSet([slice(0, 10), slice(20, 30), slice(10, 15)])
         self.assertEqual((len(keys), keys.key_count()), (2, 25))
+        self.assertEqual(list(keys), [Range(0, 15), Range(20, 30)])
         keys.discard(3)
         self.assertTrue(3 not in keys and 4 in keys and keys.intersects(slice(3, 5)))
         self.assertFalse(keys.intersects(slice(15, 20)))

@@ -28,7 +28,7 @@ impl RawLength {
 
 macro_rules! declare_map {
     ($key:ty, $create:ident, $insert:ident, $insert_disconnected:ident, $remove:ident, $get:ident, $contains:ident,
-     $intersects:ident, $len:ident, $first:ident, $last:ident, $pop_first:ident, $pop_last:ident) => {
+     $intersects:ident, $len:ident, $first:ident, $last:ident, $next:ident, $pop_first:ident, $pop_last:ident) => {
         unsafe extern "C" {
             pub fn $create(map: *mut RawHandle) -> u32;
             pub fn $insert(map: *mut RawHandle, range: &RawRange<$key>, value: u64) -> u32;
@@ -40,6 +40,7 @@ macro_rules! declare_map {
             pub fn $len(map: *mut RawHandle, length: &mut RawLength) -> u32;
             pub fn $first(map: *mut RawHandle, entry: &mut RawEntry<$key>) -> u32;
             pub fn $last(map: *mut RawHandle, entry: &mut RawEntry<$key>) -> u32;
+            pub fn $next(map: *mut RawHandle, key: $key, entry: &mut RawEntry<$key>) -> u32;
             pub fn $pop_first(map: *mut RawHandle, entry: &mut RawEntry<$key>) -> u32;
             pub fn $pop_last(map: *mut RawHandle, entry: &mut RawEntry<$key>) -> u32;
         }
@@ -58,6 +59,7 @@ declare_map!(
     range_map_u64_len,
     range_map_u64_first,
     range_map_u64_last,
+    range_map_u64_next,
     range_map_u64_pop_first,
     range_map_u64_pop_last
 );
@@ -73,6 +75,7 @@ declare_map!(
     range_map_i64_len,
     range_map_i64_first,
     range_map_i64_last,
+    range_map_i64_next,
     range_map_i64_pop_first,
     range_map_i64_pop_last
 );
@@ -90,6 +93,7 @@ unsafe extern "C" {
     pub fn range_set_u64_len(set: *mut RawHandle, length: &mut RawLength) -> u32;
     pub fn range_set_u64_first(set: *mut RawHandle, range: &mut RawRange<u64>) -> u32;
     pub fn range_set_u64_last(set: *mut RawHandle, range: &mut RawRange<u64>) -> u32;
+    pub fn range_set_u64_next(set: *mut RawHandle, key: u64, range: &mut RawRange<u64>) -> u32;
     pub fn range_set_u64_pop_first(set: *mut RawHandle, range: &mut RawRange<u64>) -> u32;
     pub fn range_set_u64_pop_last(set: *mut RawHandle, range: &mut RawRange<u64>) -> u32;
 }

@@ -18,7 +18,7 @@ mod map;
 mod range;
 mod set;
 
-pub use map::{IntoIter, RangeMap};
+pub use map::{IntoIter, Iter, RangeMap};
 pub use range::{Entry, Key, Range};
 pub use set::RangeSet;
 

@@ -96,6 +96,16 @@ impl<K: Key> RangeMap<K> {
         entry(|it| unsafe { K::last(self.handle.raw(), it) })
     }
 
+    /// The first stored range that ends at the key or after it, with its value.
+    pub fn next(&self, key: K) -> Option<Entry<K>> {
+        entry(|it| unsafe { K::next(self.handle.raw(), key, it) })
+    }
+
+    /// The stored ranges with their values, ascending. A step costs one search.
+    pub fn iter(&self) -> Iter<'_, K> {
+        Iter { map: self, from: Some(K::LEAST) }
+    }
+
     /// Takes the first stored range out.
     pub fn pop_first(&mut self) -> Option<Entry<K>> {
         entry(|it| unsafe { K::pop_first(self.handle.raw(), it) })
@@ -133,6 +143,32 @@ impl<K: Key, R: RangeBounds<K>> FromIterator<(R, u64)> for RangeMap<K> {
 impl<K: Key, R: RangeBounds<K>> Extend<(R, u64)> for RangeMap<K> {
     fn extend<I: IntoIterator<Item = (R, u64)>>(&mut self, ranges: I) {
         self.try_extend(ranges).expect("out of memory");
+    }
+}
+
+/// The stored ranges with their values, ascending.
+#[derive(Clone)]
+pub struct Iter<'a, K: Key> {
+    map: &'a RangeMap<K>,
+    from: Option<K>,
+}
+
+impl<K: Key> Iterator for Iter<'_, K> {
+    type Item = Entry<K>;
+
+    fn next(&mut self) -> Option<Entry<K>> {
+        let found = self.map.next(self.from?);
+        self.from = found.and_then(|entry| entry.range.past());
+        found
+    }
+}
+
+impl<'a, K: Key> IntoIterator for &'a RangeMap<K> {
+    type Item = Entry<K>;
+    type IntoIter = Iter<'a, K>;
+
+    fn into_iter(self) -> Iter<'a, K> {
+        self.iter()
     }
 }
 

@@ -87,10 +87,40 @@ fn bound<K>(key: K, excluded: bool, unbounded: bool) -> Bound<K> {
 }
 
 /// A type of keys that the library has maps for: `u64` and `i64`.
-pub trait Key: Copy + Default + sealed::Calls {}
+pub trait Key: Copy + Default + sealed::Calls {
+    /// The least key.
+    const LEAST: Self;
 
-impl Key for u64 {}
-impl Key for i64 {}
+    /// The next key, where there is one.
+    fn successor(self) -> Option<Self>;
+}
+
+impl Key for u64 {
+    const LEAST: u64 = 0;
+
+    fn successor(self) -> Option<u64> {
+        self.checked_add(1)
+    }
+}
+
+impl Key for i64 {
+    const LEAST: i64 = i64::MIN;
+
+    fn successor(self) -> Option<i64> {
+        self.checked_add(1)
+    }
+}
+
+impl<K: Key> Range<K> {
+    /// The key from which a walk goes on past the range.
+    pub(crate) fn past(&self) -> Option<K> {
+        match self.end {
+            Bound::Included(key) => key.successor(),
+            Bound::Excluded(key) => Some(key),
+            Bound::Unbounded => None,
+        }
+    }
+}
 
 pub(crate) mod sealed {
     use super::{RawEntry, RawRange};
@@ -112,13 +142,14 @@ pub(crate) mod sealed {
         unsafe fn len(map: *mut RawHandle, length: &mut RawLength) -> u32;
         unsafe fn first(map: *mut RawHandle, entry: &mut RawEntry<Self>) -> u32;
         unsafe fn last(map: *mut RawHandle, entry: &mut RawEntry<Self>) -> u32;
+        unsafe fn next(map: *mut RawHandle, key: Self, entry: &mut RawEntry<Self>) -> u32;
         unsafe fn pop_first(map: *mut RawHandle, entry: &mut RawEntry<Self>) -> u32;
         unsafe fn pop_last(map: *mut RawHandle, entry: &mut RawEntry<Self>) -> u32;
     }
 
     macro_rules! calls {
         ($key:ty, $create:ident, $insert:ident, $insert_disconnected:ident, $remove:ident, $get:ident,
-         $contains:ident, $intersects:ident, $len:ident, $first:ident, $last:ident, $pop_first:ident,
+         $contains:ident, $intersects:ident, $len:ident, $first:ident, $last:ident, $next:ident, $pop_first:ident,
          $pop_last:ident) => {
             impl Calls for $key {
                 unsafe fn create(map: *mut RawHandle) -> u32 {
@@ -155,6 +186,9 @@ pub(crate) mod sealed {
                 unsafe fn last(map: *mut RawHandle, entry: &mut RawEntry<$key>) -> u32 {
                     unsafe { ffi::$last(map, entry) }
                 }
+                unsafe fn next(map: *mut RawHandle, key: $key, entry: &mut RawEntry<$key>) -> u32 {
+                    unsafe { ffi::$next(map, key, entry) }
+                }
                 unsafe fn pop_first(map: *mut RawHandle, entry: &mut RawEntry<$key>) -> u32 {
                     unsafe { ffi::$pop_first(map, entry) }
                 }
@@ -177,6 +211,7 @@ pub(crate) mod sealed {
         range_map_u64_len,
         range_map_u64_first,
         range_map_u64_last,
+        range_map_u64_next,
         range_map_u64_pop_first,
         range_map_u64_pop_last
     );
@@ -192,6 +227,7 @@ pub(crate) mod sealed {
         range_map_i64_len,
         range_map_i64_first,
         range_map_i64_last,
+        range_map_i64_next,
         range_map_i64_pop_first,
         range_map_i64_pop_last
     );

@@ -85,6 +85,16 @@ impl RangeSet {
         found(|it| unsafe { ffi::range_set_u64_last(self.handle.raw(), it) })
     }
 
+    /// The first stored range that ends at the key or after it.
+    pub fn next(&self, key: u64) -> Option<Range<u64>> {
+        found(|it| unsafe { ffi::range_set_u64_next(self.handle.raw(), key, it) })
+    }
+
+    /// The stored ranges, ascending. A step costs one search.
+    pub fn iter(&self) -> impl Iterator<Item = Range<u64>> + '_ {
+        std::iter::successors(self.first(), |range| self.next(range.past()?))
+    }
+
     /// Takes the first stored range out.
     pub fn pop_first(&mut self) -> Option<Range<u64>> {
         found(|it| unsafe { ffi::range_set_u64_pop_first(self.handle.raw(), it) })

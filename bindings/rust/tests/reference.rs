@@ -130,6 +130,8 @@ fn random_changes_answer_as_the_reference() {
             reference.0.iter().map(|(first, (last, value))| (*first, *last, *value)).collect();
         assert_eq!(map.first().map(told), of_reference.first().copied());
         assert_eq!(map.last().map(told), of_reference.last().copied());
+        let shown: Vec<_> = map.iter().map(told).collect();
+        assert_eq!(shown, of_reference);
         let taken: Vec<_> = map.into_iter().map(told).collect();
         assert_eq!(taken, of_reference);
     }
@@ -145,6 +147,7 @@ fn ranges_keep_their_bounds() {
         Some(Entry { range: Range { start: Bound::Unbounded, end: Bound::Unbounded }, value: 7 })
     );
     map.remove(-5..5).unwrap();
+    assert_eq!(map.iter().map(|entry| entry.value).collect::<Vec<_>>(), [7, 7]);
     let low = Entry { range: Range { start: Bound::Unbounded, end: Bound::Excluded(-5) }, value: 7 };
     let high = Entry { range: Range { start: Bound::Included(5), end: Bound::Unbounded }, value: 7 };
     assert_eq!((map.get(-6), map.get(-5), map.get(4), map.get(5)), (Some(7), None, None, Some(7)));
@@ -167,6 +170,7 @@ fn maps_are_collected_and_cleared() {
 fn sets_add_and_take_keys() {
     let mut set: RangeSet = [0..10, 20..30, 10..15].into_iter().collect();
     assert_eq!((set.range_count(), set.len()), (2, 25));
+    assert_eq!(set.iter().map(first_and_last).collect::<Vec<_>>(), [(0, 14), (20, 29)]);
     set.remove(3..=3).unwrap();
     assert!(!set.contains(3) && set.contains(4) && set.intersects(3..5) && !set.intersects(15..20));
     assert_eq!(set.get(25).map(first_and_last), Some((20, 29)));

@@ -39,6 +39,7 @@ pub use Rattle.range_map.specs.Iterating
 pub use Rattle.range_map.specs.ListOrder
 pub use Rattle.range_map.specs.Lookups
 pub use Rattle.range_map.specs.Neighbours
+pub use Rattle.range_map.specs.Overlapping
 pub use Rattle.range_map.specs.Pieces
 pub use Rattle.range_map.specs.Rebinding
 pub use Rattle.range_map.specs.Replaced

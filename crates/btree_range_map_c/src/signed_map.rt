@@ -6,7 +6,8 @@ ghost use Rattle.btree_range_map.specs.Holding.{box_items};
 ghost use Rattle.btree_range_map.specs.Lookups.{BindsKeyOf, IsConnectedToSome};
 ghost use Rattle.btree_range_map.specs.Numbers.{IsNumberOfKeys};
 ghost use Rattle.btree_range_map.specs.Range.{IsEmptyRange};
-ghost use Rattle.btree_range_map_c.specs.Flags.{signed_range_of, signed_entry_item, number_of};
+ghost use Rattle.btree_range_map.specs.Overlapping.{AreOverlapping};
+ghost use Rattle.btree_range_map_c.specs.Flags.{signed_range_of, signed_entry_item, number_of, from_key};
 ghost use Rattle.btree_range_map_c.specs.Held.{HoldsSignedMap, signed_items};
 ghost use Rattle.btree_range_map_c.specs.Lists.{signed_keys, SignedRanges};
 
@@ -237,6 +238,32 @@ pub fn last(collection: &Collection, entry: &mut SignedEntry) -> u32
 {
     match collection {
         Collection::Signed(kept) => match kept.map.last_range_value() {
+            Some((range, value)) => {
+                *entry = SignedEntry {
+                    range: SignedBounds::of(range),
+                    value: *value,
+                };
+                DONE
+            }
+            None => NONE,
+        },
+        _ => OTHER_KIND,
+    }
+}
+
+/// Writes the first stored range that ends at the key or after it, with its value.
+pub fn next(collection: &Collection, key: i64, entry: &mut SignedEntry) -> u32
+    ensures next { result ≡ DONE → (rest : SignedRanges)
+        × AreOverlapping signed_keys (signed_items (Some collection.now)) (from_key key)
+        (signed_entry_item entry.new ∷ rest) }
+    ensures none { result ≡ NONE
+        → AreOverlapping signed_keys (signed_items (Some collection.now)) (from_key key) [] }
+    ensures unwritten { result ≢ DONE → entry.new ≡ entry.old }
+    ensures answer { HoldsSignedMap (Some collection.now) → (result ≡ DONE) ⊎ (result ≡ NONE) }
+    ensures other { (¬ HoldsSignedMap (Some collection.now)) → result ≡ OTHER_KIND }
+{
+    match collection {
+        Collection::Signed(kept) => match kept.map.iter_from(key).next() {
             Some((range, value)) => {
                 *entry = SignedEntry {
                     range: SignedBounds::of(range),

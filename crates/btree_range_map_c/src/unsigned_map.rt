@@ -6,7 +6,8 @@ ghost use Rattle.btree_range_map.specs.Holding.{box_items};
 ghost use Rattle.btree_range_map.specs.Lookups.{BindsKeyOf, IsConnectedToSome};
 ghost use Rattle.btree_range_map.specs.Numbers.{IsNumberOfKeys};
 ghost use Rattle.btree_range_map.specs.Range.{IsEmptyRange};
-ghost use Rattle.btree_range_map_c.specs.Flags.{range_of, entry_item, number_of};
+ghost use Rattle.btree_range_map.specs.Overlapping.{AreOverlapping};
+ghost use Rattle.btree_range_map_c.specs.Flags.{range_of, entry_item, number_of, from_key};
 ghost use Rattle.btree_range_map_c.specs.Held.{HoldsMap, map_items};
 ghost use Rattle.btree_range_map_c.specs.Lists.{unsigned_keys, Ranges};
 
@@ -237,6 +238,32 @@ pub fn last(collection: &Collection, entry: &mut Entry) -> u32
 {
     match collection {
         Collection::Unsigned(kept) => match kept.map.last_range_value() {
+            Some((range, value)) => {
+                *entry = Entry {
+                    range: Bounds::of(range),
+                    value: *value,
+                };
+                DONE
+            }
+            None => NONE,
+        },
+        _ => OTHER_KIND,
+    }
+}
+
+/// Writes the first stored range that ends at the key or after it, with its value.
+pub fn next(collection: &Collection, key: u64, entry: &mut Entry) -> u32
+    ensures next { result ≡ DONE → (rest : Ranges)
+        × AreOverlapping unsigned_keys (map_items (Some collection.now)) (from_key key)
+        (entry_item entry.new ∷ rest) }
+    ensures none { result ≡ NONE
+        → AreOverlapping unsigned_keys (map_items (Some collection.now)) (from_key key) [] }
+    ensures unwritten { result ≢ DONE → entry.new ≡ entry.old }
+    ensures answer { HoldsMap (Some collection.now) → (result ≡ DONE) ⊎ (result ≡ NONE) }
+    ensures other { (¬ HoldsMap (Some collection.now)) → result ≡ OTHER_KIND }
+{
+    match collection {
+        Collection::Unsigned(kept) => match kept.map.iter_from(key).next() {
             Some((range, value)) => {
                 *entry = Entry {
                     range: Bounds::of(range),

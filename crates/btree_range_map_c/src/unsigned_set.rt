@@ -5,7 +5,8 @@ ghost use Rattle.btree_range_map.specs.Holding.{box_items};
 ghost use Rattle.btree_range_map.specs.KeySets.{HoldsKey, HoldsAlso, HoldsWithout};
 ghost use Rattle.btree_range_map.specs.Lookups.{BindsKeyOf};
 ghost use Rattle.btree_range_map.specs.Numbers.{IsNumberOfKeys};
-ghost use Rattle.btree_range_map_c.specs.Flags.{range_of, key_item, number_of};
+ghost use Rattle.btree_range_map.specs.Overlapping.{AreOverlapping};
+ghost use Rattle.btree_range_map_c.specs.Flags.{range_of, key_item, number_of, from_key};
 ghost use Rattle.btree_range_map_c.specs.Held.{HoldsSet, set_items};
 ghost use Rattle.btree_range_map_c.specs.Lists.{unsigned_keys, KeyRanges};
 
@@ -217,6 +218,29 @@ pub fn last(collection: &Collection, entry: &mut Bounds) -> u32
 {
     match collection {
         Collection::Set(kept) => match kept.set.last_range_value() {
+            Some((range, _)) => {
+                *entry = Bounds::of(range);
+                DONE
+            }
+            None => NONE,
+        },
+        _ => OTHER_KIND,
+    }
+}
+
+/// Writes the first stored range that ends at the key or after it.
+pub fn next(collection: &Collection, key: u64, entry: &mut Bounds) -> u32
+    ensures next { result ≡ DONE → (rest : KeyRanges)
+        × AreOverlapping unsigned_keys (set_items (Some collection.now)) (from_key key)
+        (key_item entry.new ∷ rest) }
+    ensures none { result ≡ NONE
+        → AreOverlapping unsigned_keys (set_items (Some collection.now)) (from_key key) [] }
+    ensures unwritten { result ≢ DONE → entry.new ≡ entry.old }
+    ensures answer { HoldsSet (Some collection.now) → (result ≡ DONE) ⊎ (result ≡ NONE) }
+    ensures other { (¬ HoldsSet (Some collection.now)) → result ≡ OTHER_KIND }
+{
+    match collection {
+        Collection::Set(kept) => match kept.set.iter_from(key).next() {
             Some((range, _)) => {
                 *entry = Bounds::of(range);
                 DONE

@@ -4,7 +4,8 @@ ghost use Rattle.btree_range_map.specs.Bindings.{Binds, IsBound, IsItemFor, IsBo
 ghost use Rattle.btree_range_map.specs.Lookups.{BindsKeyOf, IsConnectedToSome};
 ghost use Rattle.btree_range_map.specs.Numbers.{IsNumberOfKeys};
 ghost use Rattle.btree_range_map.specs.Range.{IsEmptyRange};
-ghost use Rattle.btree_range_map_c.specs.Flags.{signed_range_of, signed_entry_item, number_of};
+ghost use Rattle.btree_range_map.specs.Overlapping.{AreOverlapping};
+ghost use Rattle.btree_range_map_c.specs.Flags.{signed_range_of, signed_entry_item, number_of, from_key};
 ghost use Rattle.btree_range_map_c.specs.Held.{HoldsSignedMap, signed_items};
 ghost use Rattle.btree_range_map_c.specs.Lists.{signed_keys, SignedRanges};
 
@@ -265,6 +266,37 @@ pub extern "C" fn range_map_i64_last(
     }
     let collection = handle.take(alloc);
     let status = signed_map::last(collection.as_ref(), entry);
+    *handle = Handle::open(collection);
+    status
+}
+
+/// Writes the first stored range that ends at the key or after it, with its value. Costs one search.
+///
+/// It is the first of those that meet the keys from this one on, and all before it end below the key.
+#[unsafe(no_mangle)]
+pub extern "C" fn range_map_i64_next(
+    alloc: Global,
+    handle: &mut Handle,
+    key: i64,
+    entry: &mut SignedEntry,
+) -> u32
+    ensures unchanged { handle.new.seal.held ≡ handle.old.seal.held }
+    ensures next { result ≡ DONE → (rest : SignedRanges)
+        × AreOverlapping signed_keys (signed_items handle.old.seal.held) (from_key key)
+        (signed_entry_item entry.new ∷ rest) }
+    ensures none { result ≡ NONE
+        → AreOverlapping signed_keys (signed_items handle.old.seal.held) (from_key key) [] }
+    ensures unwritten { result ≢ DONE → entry.new ≡ entry.old }
+    ensures answer { HoldsSignedMap handle.old.seal.held → (result ≡ DONE) ⊎ (result ≡ NONE) }
+    ensures closed { handle.old.is_open ≡ false → result ≡ CLOSED }
+    ensures other { handle.old.is_open ≡ true → (¬ HoldsSignedMap handle.old.seal.held)
+        → result ≡ OTHER_KIND }
+{
+    if !handle.is_open {
+        return CLOSED;
+    }
+    let collection = handle.take(alloc);
+    let status = signed_map::next(collection.as_ref(), key, entry);
     *handle = Handle::open(collection);
     status
 }

@@ -4,7 +4,8 @@ ghost use Rattle.btree_range_map.specs.Bindings.{Binds, IsBound, IsItemFor, IsBo
 ghost use Rattle.btree_range_map.specs.Lookups.{BindsKeyOf, IsConnectedToSome};
 ghost use Rattle.btree_range_map.specs.Numbers.{IsNumberOfKeys};
 ghost use Rattle.btree_range_map.specs.Range.{IsEmptyRange};
-ghost use Rattle.btree_range_map_c.specs.Flags.{range_of, entry_item, number_of};
+ghost use Rattle.btree_range_map.specs.Overlapping.{AreOverlapping};
+ghost use Rattle.btree_range_map_c.specs.Flags.{range_of, entry_item, number_of, from_key};
 ghost use Rattle.btree_range_map_c.specs.Held.{HoldsMap, map_items};
 ghost use Rattle.btree_range_map_c.specs.Lists.{unsigned_keys, Ranges};
 
@@ -253,6 +254,37 @@ pub extern "C" fn range_map_u64_last(alloc: Global, handle: &mut Handle, entry: 
     }
     let collection = handle.take(alloc);
     let status = unsigned_map::last(collection.as_ref(), entry);
+    *handle = Handle::open(collection);
+    status
+}
+
+/// Writes the first stored range that ends at the key or after it, with its value. Costs one search.
+///
+/// It is the first of those that meet the keys from this one on, and all before it end below the key.
+#[unsafe(no_mangle)]
+pub extern "C" fn range_map_u64_next(
+    alloc: Global,
+    handle: &mut Handle,
+    key: u64,
+    entry: &mut Entry,
+) -> u32
+    ensures unchanged { handle.new.seal.held ≡ handle.old.seal.held }
+    ensures next { result ≡ DONE → (rest : Ranges)
+        × AreOverlapping unsigned_keys (map_items handle.old.seal.held) (from_key key)
+        (entry_item entry.new ∷ rest) }
+    ensures none { result ≡ NONE
+        → AreOverlapping unsigned_keys (map_items handle.old.seal.held) (from_key key) [] }
+    ensures unwritten { result ≢ DONE → entry.new ≡ entry.old }
+    ensures answer { HoldsMap handle.old.seal.held → (result ≡ DONE) ⊎ (result ≡ NONE) }
+    ensures closed { handle.old.is_open ≡ false → result ≡ CLOSED }
+    ensures other { handle.old.is_open ≡ true → (¬ HoldsMap handle.old.seal.held)
+        → result ≡ OTHER_KIND }
+{
+    if !handle.is_open {
+        return CLOSED;
+    }
+    let collection = handle.take(alloc);
+    let status = unsigned_map::next(collection.as_ref(), key, entry);
     *handle = Handle::open(collection);
     status
 }
