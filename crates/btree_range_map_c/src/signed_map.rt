@@ -95,7 +95,8 @@ pub fn insert_disconnected(collection: &mut Collection, range: &SignedBounds, va
         (signed_items (Some collection.new)) (signed_range_of range.now) value }
     ensures connected { HoldsSignedMap (Some collection.old) → (result ≡ CONNECTED
         ↔ (¬ IsEmptyRange signed_keys (signed_range_of range.now))
-        × IsConnectedToSome signed_keys (signed_items (Some collection.old)) (signed_range_of range.now)) }
+        × IsConnectedToSome signed_keys (signed_items (Some collection.old))
+        (signed_range_of range.now)) }
     ensures kind { HoldsSignedMap (Some collection.old) → HoldsSignedMap (Some collection.new) }
     ensures refused { result ≢ DONE → collection.new ≡ collection.old }
     ensures answer { HoldsSignedMap (Some collection.old)
@@ -134,7 +135,8 @@ pub fn remove(collection: &mut Collection, range: &SignedBounds) -> u32
 /// Writes the stored range that holds the key, with its value.
 pub fn get(collection: &Collection, key: i64, entry: &mut SignedEntry) -> u32
     ensures found { result ≡ DONE
-        → IsItemFor signed_keys (signed_items (Some collection.now)) key (signed_entry_item entry.new) }
+        → IsItemFor signed_keys (signed_items (Some collection.now)) key
+        (signed_entry_item entry.new) }
     ensures bound { result ≡ DONE
         → Binds signed_keys nat_eq (signed_items (Some collection.now)) key (Some entry.new.value) }
     ensures free { result ≢ DONE
@@ -176,7 +178,8 @@ pub fn intersects(collection: &Collection, range: &SignedBounds) -> u32
     ensures yes { result ≡ DONE
         → BindsKeyOf signed_keys (signed_items (Some collection.now)) (signed_range_of range.now) }
     ensures no { result ≡ NONE
-        → ¬ BindsKeyOf signed_keys (signed_items (Some collection.now)) (signed_range_of range.now) }
+        → ¬ BindsKeyOf signed_keys (signed_items (Some collection.now))
+        (signed_range_of range.now) }
     ensures answer { HoldsSignedMap (Some collection.now) → (result ≡ DONE) ⊎ (result ≡ NONE) }
     ensures other { (¬ HoldsSignedMap (Some collection.now)) → result ≡ OTHER_KIND }
 {

@@ -77,7 +77,8 @@ pub extern "C" fn range_map_i64_insert_disconnected(
         (signed_items handle.new.seal.held) (signed_range_of range.now) value }
     ensures connected { HoldsSignedMap handle.old.seal.held → (result ≡ CONNECTED
         ↔ (¬ IsEmptyRange signed_keys (signed_range_of range.now))
-        × IsConnectedToSome signed_keys (signed_items handle.old.seal.held) (signed_range_of range.now)) }
+        × IsConnectedToSome signed_keys (signed_items handle.old.seal.held)
+        (signed_range_of range.now)) }
     ensures kind { HoldsSignedMap handle.old.seal.held → HoldsSignedMap handle.new.seal.held }
     ensures refused { result ≢ DONE → handle.new.seal.held ≡ handle.old.seal.held }
     ensures answer { HoldsSignedMap handle.old.seal.held
@@ -131,7 +132,8 @@ pub extern "C" fn range_map_i64_get(
 ) -> u32
     ensures unchanged { handle.new.seal.held ≡ handle.old.seal.held }
     ensures found { result ≡ DONE
-        → IsItemFor signed_keys (signed_items handle.old.seal.held) key (signed_entry_item entry.new) }
+        → IsItemFor signed_keys (signed_items handle.old.seal.held) key
+        (signed_entry_item entry.new) }
     ensures bound { result ≡ DONE
         → Binds signed_keys nat_eq (signed_items handle.old.seal.held) key (Some entry.new.value) }
     ensures free { result ≢ DONE

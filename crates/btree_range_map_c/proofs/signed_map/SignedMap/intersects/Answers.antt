@@ -8,6 +8,10 @@ use Rattle.btree_range_map_c.proofs.signed_map.SignedMap.intersects.Goals as goa
 -- the keys leave no gap
 pub returns : goal.returns
 returns c =
-    subst (λ (items : SignedRanges). IsTrue c.intersects.result ↔ BindsKeyOf signed_keys items c.args.range)
-    c.self.view_is
-    (c.intersects.ensures.complete (counted_complete (signed_counted 9223372036854775807)), c.intersects.ensures.bound)
+    subst (λ (items : SignedRanges). IsTrue c.intersects.result
+    ↔ BindsKeyOf signed_keys items c.args.range)
+    c.self.view_is (
+      c.intersects.ensures.complete
+          (counted_complete (signed_counted 9223372036854775807)),
+      c.intersects.ensures.bound,
+    )

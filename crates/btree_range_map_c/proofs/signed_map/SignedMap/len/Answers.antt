@@ -7,5 +7,6 @@ use Rattle.btree_range_map_c.proofs.signed_map.SignedMap.len.Goals as goal
 -- the keys are counted where each has length 1
 pub returns : goal.returns
 returns c =
-    subst (λ (items : SignedRanges). IsNumberOfKeys signed_keys (IsBound signed_keys items) c.len.result)
+    subst (λ (items : SignedRanges).
+    IsNumberOfKeys signed_keys (IsBound signed_keys items) c.len.result)
     c.self.view_is (c.len.ensures.counted c.measure_counts_keys.ensures)

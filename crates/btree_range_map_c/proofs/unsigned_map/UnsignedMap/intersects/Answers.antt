@@ -8,6 +8,10 @@ use Rattle.btree_range_map_c.proofs.unsigned_map.UnsignedMap.intersects.Goals as
 -- the keys leave no gap
 pub returns : goal.returns
 returns c =
-    subst (λ (items : Ranges). IsTrue c.intersects.result ↔ BindsKeyOf unsigned_keys items c.args.range)
-    c.self.view_is
-    (c.intersects.ensures.complete (counted_complete (unsigned_counted 18446744073709551615)), c.intersects.ensures.bound)
+    subst (λ (items : Ranges). IsTrue c.intersects.result
+    ↔ BindsKeyOf unsigned_keys items c.args.range)
+    c.self.view_is (
+      c.intersects.ensures.complete
+          (counted_complete (unsigned_counted 18446744073709551615)),
+      c.intersects.ensures.bound,
+    )
