@@ -1,5 +1,5 @@
 -- The bounds that a range is written as say that range.
-use Rattle.std.proofs.Common.{refl, ◌≡◌, ◌+◌, ℕ, sym, subst, ap, ◌∙◌}
+use Rattle.std.proofs.Common.{refl, ◌≡◌, ◌+◌, ℕ, ap, ◌∙◌}
 use Rattle.std.specs.declared.ops.Bound.{Bound}
 use Rattle.std.specs.declared.ops.Bound.TheVariants.{Included, Excluded, Unbounded}
 use Rattle.btree_range_map.specs.AnyRange.{AnyRange}
