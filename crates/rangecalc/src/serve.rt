@@ -1,0 +1,88 @@
+//! The whole program, over any reader and writers.
+
+use crate::maps::{Maps, answer_line};
+use crate::number::NumberKey;
+use std::alloc::Global;
+use std::io::{BufRead, Write};
+
+/// Why serving stopped before the end of the input.
+#[derive(Drop)]
+enum Stop {
+    Unreadable,
+    Unwritable,
+}
+
+/// The bytes of a line without the `\n` or `\r\n` at its end.
+fn without_line_end(line: &[u8]) -> &[u8] {
+    match line.strip_suffix(b"\n") {
+        Some(line) => line.strip_suffix(b"\r").unwrap_or(line),
+        None => line,
+    }
+}
+
+fn serve_lines<K: NumberKey, R: BufRead, W: Write>(
+    alloc: Global,
+    input: &mut R,
+    out: &mut W,
+) -> Result<(), Stop> {
+    let mut maps = Maps::<K>::new(alloc);
+    let mut line = Vec::new(alloc);
+    for _ in 0..u64::MAX {
+        line.clear();
+        let Ok(count) = input.read_until(b'\n', &mut line) else {
+            return Err(Stop::Unreadable);
+        };
+        if count == 0 {
+            return Ok(());
+        }
+        let Ok(text) = str::from_utf8(without_line_end(line.as_slice())) else {
+            return Err(Stop::Unreadable);
+        };
+        let Ok(()) = answer_line::<K, W>(&mut maps, text, out) else {
+            return Err(Stop::Unwritable);
+        };
+    }
+    Err(Stop::Unreadable)
+}
+
+fn serve_keys<K: NumberKey, R: BufRead + Drop, W: Write, E: Write>(
+    alloc: Global,
+    mut input: R,
+    out: &mut W,
+    err: &mut E,
+) -> u8 {
+    let served = serve_lines::<K, R, W>(alloc, &mut input, out);
+    let flushed = out.flush();
+    match served {
+        Ok(()) if flushed.is_ok() => 0,
+        Err(Stop::Unreadable) => {
+            let _ = err.write_all(b"read error\n");
+            1
+        }
+        _ => 1,
+    }
+}
+
+/// Serves lines over the keys that the words name, and answers the exit status.
+///
+/// `words` are the arguments without the program's name. One reply for each line goes to `out`,
+/// which is flushed before the call ends; the usage line and `read error` go to `err`. The status
+/// is 0 at the end of the input, 1 where a line cannot be read or a reply cannot be written, and 2
+/// where the words name no keys. A line that is no text in UTF-8 cannot be read.
+pub fn serve<R: BufRead + Drop, W: Write, E: Write>(
+    alloc: Global,
+    words: &[String],
+    input: R,
+    out: &mut W,
+    err: &mut E,
+) -> u8 {
+    if let [word] = words {
+        match word.as_str() {
+            "u8" => return serve_keys::<u8, R, W, E>(alloc, input, out, err),
+            "i32" => return serve_keys::<i32, R, W, E>(alloc, input, out, err),
+            _ => {}
+        }
+    }
+    let _ = err.write_all(b"usage: rangecalc u8|i32\n");
+    2
+}
