@@ -1,5 +1,8 @@
 //! What a line says.
 
+ghost use Rattle.std.specs.Prelude.{◌≡◌, ◌<◌, ◌∷◌, ◌++◌, [], IfSome};
+ghost use Rattle.rangecalc.specs.Lines.{Says, letter, words_of};
+
 use crate::number::{NumberKey, number};
 use btree_range_map::AnyRange;
 use std::ops::Bound;
@@ -51,6 +54,13 @@ pub enum Command<K> {
     List(Listing),
 }
 
+/// The text before and after the first space.
+fn split_at_space(text: &str) -> Option<(&str, &str)>
+    ensures { IfSome result (λ parts. text.now ≡ parts.0.now ++ 32 ∷ parts.1.now) }
+{
+    text.split_once(' ')
+}
+
 /// The text after such a character at its front.
 fn without_front(text: &str, front: char) -> Option<&str>
     requires { front < 128 }
@@ -94,12 +104,14 @@ pub fn range<K: NumberKey>(text: &str) -> Option<AnyRange<K>> {
 
 /// A range and a number with a space between them.
 fn binding<K: NumberKey>(text: &str) -> Option<(AnyRange<K>, i64)> {
-    let (spelled, value) = text.split_once(' ')?;
+    let (spelled, value) = split_at_space(text)?;
     let range = range(spelled)?;
     Some((range, number(value)?))
 }
 
-fn name_of(word: &str) -> Option<Name> {
+fn name_of(word: &str) -> Option<Name>
+    ensures { IfSome result (λ name. word.now ≡ letter name ∷ []) }
+{
     match word {
         "a" => Some(Name::A),
         "b" => Some(Name::B),
@@ -110,7 +122,9 @@ fn name_of(word: &str) -> Option<Name> {
 }
 
 /// A command of words alone.
-fn without_fields<K: NumberKey>(words: &str) -> Option<Command<K>> {
+fn without_fields<K: NumberKey>(words: &str) -> Option<Command<K>>
+    ensures { IfSome result (λ command. words.now ≡ words_of command) }
+{
     match words {
         "pop first" => Some(Command::Change(Change::PopFirst)),
         "pop last" => Some(Command::Change(Change::PopLast)),
@@ -126,7 +140,9 @@ fn without_fields<K: NumberKey>(words: &str) -> Option<Command<K>> {
 }
 
 /// A command of a word and fields.
-fn with_fields<K: NumberKey>(word: &str, fields: &str) -> Option<Command<K>> {
+fn with_fields<K: NumberKey>(word: &str, fields: &str) -> Option<Command<K>>
+    ensures { IfSome result (λ command. word.now ≡ words_of command) }
+{
     match word {
         "insert" => {
             let (range, value) = binding(fields)?;
@@ -142,12 +158,14 @@ fn with_fields<K: NumberKey>(word: &str, fields: &str) -> Option<Command<K>> {
 }
 
 /// The map that a line names and its command, `None` where the line has no known form.
-pub fn parse<K: NumberKey>(line: &str) -> Option<(Name, Command<K>)> {
-    let (word, rest) = line.split_once(' ')?;
+pub fn parse<K: NumberKey>(line: &str) -> Option<(Name, Command<K>)>
+    ensures { IfSome result (λ said. Says line.now said.0 said.1) }
+{
+    let (word, rest) = split_at_space(line)?;
     let name = name_of(word)?;
     if let Some(command) = without_fields(rest) {
         return Some((name, command));
     }
-    let (word, fields) = rest.split_once(' ')?;
+    let (word, fields) = split_at_space(rest)?;
     Some((name, with_fields(word, fields)?))
 }

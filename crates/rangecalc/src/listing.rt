@@ -1,47 +1,96 @@
 //! Replies of a line for each range.
 
+ghost use Rattle.std.specs.Prelude.{OnOk, codes};
+ghost use Rattle.btree_range_map.specs.Holding.{box_items};
+ghost use Rattle.btree_range_map.specs.References.{range_of};
+ghost use Rattle.rangecalc.specs.Answers.{IsListed};
+ghost use Rattle.rangecalc.specs.Ranges.{item_of};
+ghost use Rattle.rangecalc.specs.Replies.{SpellsEach, SpellsGap, SpellsItem, SpellsLines, Writes};
+ghost use Rattle.rangecalc.specs.declared.line.Listing.TheVariants.{Gaps as GapsListing, Show};
+
 use crate::line::Listing;
-use crate::number::{NumberKey, span_between, span_of};
-use crate::write::{write_item, write_span};
+use crate::number::{NumberKey, span_between};
+use crate::write::{write_gap_line, write_item};
+use btree_range_map::generic::map::{Gaps, Iter};
+use btree_range_map::storage::{Item, Storage};
 use btree_range_map::{AnyRange, RangeMap};
 use std::io::{self, Write};
 
-fn show<K: NumberKey, W: Write>(map: &RangeMap<K, i64>, out: &mut W) -> io::Result<()> {
-    let mut items = map.iter();
-    if map.is_empty() {
-        return out.write_all(b"empty\n");
-    }
+/// Writes the line of a free range.
+fn write_gap<K: NumberKey, W: Write>(gap: AnyRange<&K>, out: &mut W) -> io::Result<()>
+    ensures { OnOk result
+        (Writes (W.contents out.old) (W.contents out.new) (SpellsGap (range_of gap.entry))) }
+{
+    let AnyRange { start, end } = gap;
+    write_gap_line(span_between(start, end), out)
+}
+
+fn write_items<'a, K: NumberKey + 'a, C: Storage<Item<AnyRange<K>, i64>> + 'a, W: Write>(
+    mut items: Iter<'a, K, i64, C>,
+    out: &mut W,
+) -> io::Result<()>
+    ensures { OnOk result
+        (Writes (W.contents out.old) (W.contents out.new) (SpellsEach SpellsItem items.entry)) }
+{
     while let Some((range, value)) = items.next() {
-        write_item(span_of(range), *value, out)?;
+        write_item(range, *value, out)?;
     }
     Ok(())
 }
 
-fn write_gap<K: NumberKey, W: Write>(gap: AnyRange<&K>, out: &mut W) -> io::Result<()> {
-    let AnyRange { start, end } = gap;
-    write_span(span_between(start, end), out)?;
-    out.write_all(b"\n")
-}
-
-fn show_gaps<K: NumberKey, W: Write>(map: &RangeMap<K, i64>, out: &mut W) -> io::Result<()> {
-    let mut gaps = map.gaps();
-    let mut is_full = true;
+fn write_gaps<'a, K: NumberKey + 'a, C: Storage<Item<AnyRange<K>, i64>> + 'a, W: Write>(
+    mut gaps: Gaps<'a, K, i64, C>,
+    out: &mut W,
+) -> io::Result<()>
+    ensures { OnOk result
+        (Writes (W.contents out.old) (W.contents out.new) (SpellsEach SpellsGap gaps.entry)) }
+{
     while let Some(gap) = gaps.next() {
-        is_full = false;
         write_gap::<K, W>(gap, out)?;
     }
-    if is_full {
-        out.write_all(b"full\n")?;
-    }
     Ok(())
 }
 
-/// Writes what is asked of a map.
+fn show<K: NumberKey, W: Write>(map: &RangeMap<K, i64>, out: &mut W) -> io::Result<()>
+    ensures { OnOk result
+        (Writes (W.contents out.old) (W.contents out.new)
+        (IsListed K.order Show (box_items map.now))) }
+{
+    let mut items = map.iter();
+    match items.next() {
+        None => out.write_all(b"empty\n"),
+        Some((range, value)) => {
+            write_item(range, *value, out)?;
+            write_items(items, out)
+        }
+    }
+}
+
+fn show_gaps<K: NumberKey, W: Write>(map: &RangeMap<K, i64>, out: &mut W) -> io::Result<()>
+    ensures { OnOk result
+        (Writes (W.contents out.old) (W.contents out.new)
+        (IsListed K.order GapsListing (box_items map.now))) }
+{
+    let mut gaps = map.gaps();
+    match gaps.next() {
+        None => out.write_all(b"full\n"),
+        Some(gap) => {
+            write_gap::<K, W>(gap, out)?;
+            write_gaps(gaps, out)
+        }
+    }
+}
+
+/// Writes the ranges that a listing names, each on a line.
 pub fn list<K: NumberKey, W: Write>(
     map: &RangeMap<K, i64>,
     listing: Listing,
     out: &mut W,
-) -> io::Result<()> {
+) -> io::Result<()>
+    ensures { OnOk result
+        (Writes (W.contents out.old) (W.contents out.new)
+        (IsListed K.order listing (box_items map.now))) }
+{
     match listing {
         Listing::Show => show(map, out),
         Listing::Gaps => show_gaps(map, out),

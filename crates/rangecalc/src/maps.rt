@@ -1,5 +1,10 @@
 //! The four maps, and what they answer to a line.
 
+ghost use Rattle.std.specs.Prelude.{◌≡◌, OnOk};
+ghost use Rattle.btree_range_map.specs.Holding.{box_items};
+ghost use Rattle.rangecalc.specs.Conversation.{AnswersLine, IsDone, IsDoneTo, none_stored, stored_in};
+ghost use Rattle.rangecalc.specs.Replies.{Writes};
+
 use crate::answer::{ask, change};
 use crate::line::{Command, Name, parse};
 use crate::listing::list;
@@ -19,7 +24,9 @@ pub struct Maps<K: NumberKey> {
 }
 
 impl<K: NumberKey> Maps<K> {
-    pub fn new(alloc: Global) -> Maps<K> {
+    pub fn new(alloc: Global) -> Maps<K>
+        ensures { stored_in result ≡ none_stored }
+    {
         Maps {
             a: RangeMap::new(alloc),
             b: RangeMap::new(alloc),
@@ -35,7 +42,12 @@ fn answer<K: NumberKey, W: Write>(
     _next: &mut RangeMap<K, i64>,
     command: Command<K>,
     out: &mut W,
-) -> io::Result<()> {
+) -> io::Result<()>
+    ensures { OnOk result
+        (Writes (W.contents out.old) (W.contents out.new)
+        (λ text. IsDone K.order command text (box_items map.old) (box_items map.new)
+        (box_items _next.old) (box_items _next.new))) }
+{
     match command {
         Command::Change(wanted) => write_reply(change(map, wanted), out),
         Command::Ask(question) => write_reply(ask(map, question), out),
@@ -43,19 +55,40 @@ fn answer<K: NumberKey, W: Write>(
     }
 }
 
-/// Does what a line says and writes its reply.
-pub fn answer_line<K: NumberKey, W: Write>(
+/// Answers a command to the map with a name.
+fn answer_named<K: NumberKey, W: Write>(
     maps: &mut Maps<K>,
-    line: &str,
+    name: Name,
+    command: Command<K>,
     out: &mut W,
-) -> io::Result<()> {
-    let Some((name, command)) = parse(line) else {
-        return out.write_all(b"bad line\n");
-    };
+) -> io::Result<()>
+    ensures { OnOk result
+        (Writes (W.contents out.old) (W.contents out.new)
+        (λ text. IsDoneTo K.order name command text (stored_in maps.old) (stored_in maps.new))) }
+{
     match name {
         Name::A => answer(&mut maps.a, &mut maps.b, command, out),
         Name::B => answer(&mut maps.b, &mut maps.c, command, out),
         Name::C => answer(&mut maps.c, &mut maps.d, command, out),
         Name::D => answer(&mut maps.d, &mut maps.a, command, out),
+    }
+}
+
+/// Does what a line says and writes its reply: one line, or one for each range that is listed.
+///
+/// A line of no known form is answered by `bad line`, a call that fails to allocate by `memory`,
+/// and then the maps are as before.
+pub fn answer_line<K: NumberKey, W: Write>(
+    maps: &mut Maps<K>,
+    line: &str,
+    out: &mut W,
+) -> io::Result<()>
+    ensures { OnOk result
+        (Writes (W.contents out.old) (W.contents out.new)
+        (λ text. AnswersLine K.order line.now text (stored_in maps.old) (stored_in maps.new))) }
+{
+    match parse(line) {
+        None => out.write_all(b"bad line\n"),
+        Some((name, command)) => answer_named(maps, name, command, out),
     }
 }

@@ -6,7 +6,7 @@ ghost use Rattle.std.proofs.lemmas.Bool.Decides.{nat_tests};
 ghost use Rattle.btree_range_map.specs.Range.{ClonesAreEqual};
 
 use btree_range_map::AnyRange;
-use btree_range_map::range::traits::{Bounded, Measure};
+use btree_range_map::range::traits::{Bounded, Counted};
 use std::ops::{Bound, RangeBounds};
 
 /// An optional `-` and one or more decimal digits, of a number that an `i64` holds.
@@ -18,7 +18,7 @@ pub fn number(text: &str) -> Option<i64> {
 }
 
 /// A key that a line writes as a number.
-pub trait NumberKey: Measure + Bounded + Copy {
+pub trait NumberKey: Counted + Bounded + Copy {
     ghost as_number: { Self → ℤ };
 
     /// The key of a number, `None` where the type has none.

@@ -1,5 +1,12 @@
 //! The whole program, over any reader and writers.
 
+ghost use Rattle.std.specs.Prelude.{◌≡◌, ◌≤◌, ◌↔◌, ◌⊎◌, ℕ, List, Err, OnOk, OnSome, IfSome, Some, [], map, string_bytes};
+ghost use Rattle.rangecalc.specs.Conversation.{Conversation, none_stored};
+ghost use Rattle.rangecalc.specs.Replies.{Writes};
+ghost use Rattle.rangecalc.specs.Serving.{IsServed, IsStopped, NamesKeys};
+ghost use Rattle.rangecalc.specs.Text.{line_content};
+ghost use Rattle.rangecalc.specs.declared.serve.Stop.TheVariants.{Unreadable};
+
 use crate::maps::{Maps, answer_line};
 use crate::number::NumberKey;
 use std::alloc::Global;
@@ -13,7 +20,9 @@ enum Stop {
 }
 
 /// The bytes of a line without the `\n` or `\r\n` at its end.
-fn without_line_end(line: &[u8]) -> &[u8] {
+fn without_line_end(line: &[u8]) -> &[u8]
+    ensures { result.now ≡ line_content line.now }
+{
     match line.strip_suffix(b"\n") {
         Some(line) => line.strip_suffix(b"\r").unwrap_or(line),
         None => line,
@@ -24,7 +33,18 @@ fn serve_lines<K: NumberKey, R: BufRead, W: Write>(
     alloc: Global,
     input: &mut R,
     out: &mut W,
-) -> Result<(), Stop> {
+) -> Result<(), Stop>
+    ensures ended { OnOk result (OnSome (R.remaining input.old) (R.remaining input.new ≡ Some [])) }
+    ensures answered { OnOk result
+        (IfSome (R.remaining input.old)
+        (λ bytes. Writes (W.contents out.old) (W.contents out.new)
+        (λ text. Conversation K.order none_stored bytes text []))) }
+    ensures unread { result ≡ Err Unreadable
+        → IfSome (R.remaining input.old)
+        (λ bytes. (rest : List ℕ)
+        × Writes (W.contents out.old) (W.contents out.new)
+        (λ text. Conversation K.order none_stored bytes text rest)) }
+{
     let mut maps = Maps::<K>::new(alloc);
     let mut line = Vec::new(alloc);
     for _ in 0..u64::MAX {
@@ -50,7 +70,20 @@ fn serve_keys<K: NumberKey, R: BufRead + Drop, W: Write, E: Write>(
     mut input: R,
     out: &mut W,
     err: &mut E,
-) -> u8 {
+) -> u8
+    ensures status { result ≤ 1 }
+    ensures silent { result ≡ 0 → err.new ≡ err.old }
+    ensures answered { result ≡ 0
+        → IfSome (R.remaining input)
+        (λ bytes. Writes (W.contents out.old) (W.contents out.new)
+        (λ text. Conversation K.order none_stored bytes text [])) }
+    ensures unread { result ≡ 1
+        → (err.new ≡ err.old)
+        ⊎ IfSome (R.remaining input)
+        (λ bytes. (rest : List ℕ)
+        × Writes (W.contents out.old) (W.contents out.new)
+        (λ text. Conversation K.order none_stored bytes text rest)) }
+{
     let served = serve_lines::<K, R, W>(alloc, &mut input, out);
     let flushed = out.flush();
     match served {
@@ -75,7 +108,19 @@ pub fn serve<R: BufRead + Drop, W: Write, E: Write>(
     input: R,
     out: &mut W,
     err: &mut E,
-) -> u8 {
+) -> u8
+    ensures status { result ≤ 2 }
+    ensures usage { result ≡ 2 ↔ ¬ (NamesKeys (map string_bytes words.now)) }
+    ensures quiet { result ≡ 2 → out.new ≡ out.old }
+    ensures silent { result ≡ 0 → err.new ≡ err.old }
+    ensures unread { result ≡ 1
+        → (err.new ≡ err.old)
+        ⊎ IsStopped (map string_bytes words.now) (R.remaining input) (W.contents out.old)
+        (W.contents out.new) }
+    ensures served { result ≡ 0
+        → IsServed (map string_bytes words.now) (R.remaining input) (W.contents out.old)
+        (W.contents out.new) }
+{
     if let [word] = words {
         match word.as_str() {
             "u8" => return serve_keys::<u8, R, W, E>(alloc, input, out, err),

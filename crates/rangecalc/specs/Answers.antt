@@ -1,0 +1,61 @@
+-- What the call of a command makes of the list of a map, and what it answers.
+use Rattle.std.specs.Prelude.{◌≡◌, ◌↔◌, ℕ, ℤ, Some, None, IsTrue, List, [], ◌∷◌, ◌++◌, length, codes}
+use Rattle.std.specs.Ordering.{int_eq}
+use Rattle.btree_range_map.specs.AnyRange.{AnyRange}
+use Rattle.btree_range_map.specs.Bindings.{Binds, IsBound, IsBoundAfter, IsItemFor, IsUnboundAfter}
+use Rattle.btree_range_map.specs.FreeRanges.{AreGaps}
+use Rattle.btree_range_map.specs.Lookups.{MeetsSome}
+use Rattle.btree_range_map.specs.Numbers.{IsNumberOfKeys}
+use Rattle.btree_range_map.specs.Order.{KeyOrder}
+use Rattle.btree_range_map.specs.Range.{IsEmptyRange}
+use Rattle.rangecalc.specs.Ranges.{Ranges, item_of}
+use Rattle.rangecalc.specs.Replies.{SpellsGap, SpellsItem, SpellsLines}
+use Rattle.rangecalc.specs.declared.answer.Reply.{Reply}
+use Rattle.rangecalc.specs.declared.answer.Reply.TheVariants.{Done, Memory, Nothing, Value, Stored, Truth, Number}
+use Rattle.rangecalc.specs.declared.line.Change.{Change}
+use Rattle.rangecalc.specs.declared.line.Change.TheVariants.{Insert, Remove, PopFirst, PopLast}
+use Rattle.rangecalc.specs.declared.line.Listing.{Listing}
+use Rattle.rangecalc.specs.declared.line.Listing.TheVariants.{Show, Gaps}
+use Rattle.rangecalc.specs.declared.line.Question.{Question}
+use Rattle.rangecalc.specs.declared.line.Question.TheVariants.{Get, At, Has, Meets, First, Last, Count, Len, Levels}
+
+module _ {K : Type 0} (order : KeyOrder K) where
+  -- what a change makes of a list, with its reply; no memory leaves it as it was
+  abbrev pub IsChanged : Change K → Reply K → Ranges K → Ranges K → Type 0
+  IsChanged (Insert range value) Done before after =
+      IsBoundAfter order int_eq before after range value
+  IsChanged (Insert range value) Memory before after = after ≡ before
+  IsChanged (Remove range) Done before after = IsUnboundAfter order int_eq before after range
+  IsChanged (Remove range) Memory before after = after ≡ before
+  IsChanged PopFirst (Stored range value) before after = before ≡ item_of range value ∷ after
+  IsChanged PopFirst Nothing before after = (before ≡ []) × (after ≡ [])
+  IsChanged PopLast (Stored range value) before after = before ≡ after ++ item_of range value ∷ []
+  IsChanged PopLast Nothing before after = (before ≡ []) × (after ≡ [])
+  IsChanged change reply before after = ⊥
+
+  -- what is replied to a question over a list, kept in a tree of so many levels
+  abbrev pub IsAnswer : Question K → Reply K → Ranges K → ℕ → Type 0
+  IsAnswer (Get key) (Value value) items levels = Binds order int_eq items key (Some value)
+  IsAnswer (Get key) Nothing items levels = Binds order int_eq items key None
+  IsAnswer (At key) (Stored range value) items levels = IsItemFor order items key (item_of range value)
+  IsAnswer (At key) Nothing items levels = ¬ IsBound order items key
+  IsAnswer (Has key) (Truth answer) items levels = IsTrue answer ↔ IsBound order items key
+  IsAnswer (Meets range) (Truth answer) items levels =
+      IsTrue answer ↔ (¬ IsEmptyRange order range) × MeetsSome order items range
+  IsAnswer First (Stored range value) items levels =
+      (rest : Ranges K) × (items ≡ item_of range value ∷ rest)
+  IsAnswer First Nothing items levels = items ≡ []
+  IsAnswer Last (Stored range value) items levels =
+      (front : Ranges K) × (items ≡ front ++ item_of range value ∷ [])
+  IsAnswer Last Nothing items levels = items ≡ []
+  IsAnswer Count (Number number) items levels = number ≡ length items
+  IsAnswer Len (Number number) items levels = IsNumberOfKeys order (IsBound order items) number
+  IsAnswer Levels (Number number) items levels = number ≡ levels
+  IsAnswer question reply items levels = ⊥
+
+  -- the lines that list some of the stored or of the free ranges
+  abbrev pub IsListed : Listing → Ranges K → List ℕ → Type 0
+  IsListed Show items text = SpellsLines SpellsItem (codes "empty\n") items text
+  IsListed Gaps items text =
+      (gaps : List (AnyRange K)) × AreGaps order items gaps
+      × SpellsLines SpellsGap (codes "full\n") gaps text
