@@ -41,6 +41,14 @@ pub on_ok_as : {A E : Type 0} (r : Result A E) (P Q : Type 0) → (P → Q) → 
 on_ok_as (Ok x) P Q follows p = follows p
 on_ok_as (Err e) P Q follows p = tt
 
+-- what is written where all goes well fits what follows too
+pub writes_as : {A E : Type 0} (r : Result A E) (before now : Option (List ℕ))
+    (Fits Follows : List ℕ → Type 0) → ((text : List ℕ) → Fits text → Follows text)
+    → OnOk r (Writes before now Fits) → OnOk r (Writes before now Follows)
+writes_as r before now Fits Follows follows =
+    on_ok_as r (Writes before now Fits) (Writes before now Follows)
+    (λ (text, fits, appended). (text, follows text fits, appended))
+
 module _ {X : Type 0} (SpellsOne : X → List ℕ → Type 0) where
   -- the lines of those before the ones that are left are written
   pub record HasShown (all left : List X) (before now : Option (List ℕ)) : Type 0 where

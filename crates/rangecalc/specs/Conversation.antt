@@ -34,27 +34,26 @@ abbrev pub none_stored : {K : Type 0} → Stored K
 none_stored = record { a = []; b = []; c = []; d = [] }
 
 module _ {K : Type 0} (order : KeyOrder K) where
-  -- what a command makes of its map and of the next one, with the text that answers it
-  abbrev pub IsDone : Command K → List ℕ → Ranges K → Ranges K → Ranges K → Ranges K → Type 0
-  IsDone (Change change) text map map_then next next_then =
-      (reply : Reply K) × IsChanged order change reply map map_then × SpellsReply reply text
-      × (next_then ≡ next)
-  IsDone (Ask question) text map map_then next next_then =
-      (reply : Reply K) × (levels : ℕ) × IsAnswer order question reply map levels
-      × SpellsReply reply text × (map_then ≡ map) × (next_then ≡ next)
-  IsDone (Lists listing) text map map_then next next_then =
-      IsListed order listing map text × (map_then ≡ map) × (next_then ≡ next)
+  -- what a command makes of a list, with the text that answers it
+  abbrev pub IsDone : Command K → List ℕ → Ranges K → Ranges K → Type 0
+  IsDone (Change change) text before after =
+      (reply : Reply K) × IsChanged order change reply before after × SpellsReply reply text
+  IsDone (Ask question) text before after =
+      (reply : Reply K) × (levels : ℕ) × IsAnswer order question reply before levels
+      × SpellsReply reply text × (after ≡ before)
+  IsDone (Lists listing) text before after =
+      IsListed order listing before text × (after ≡ before)
 
-  -- the same of the map with a name; the two others stay
+  -- the same of the map with a name; the others stay
   abbrev pub IsDoneTo : Name → Command K → List ℕ → Stored K → Stored K → Type 0
   IsDoneTo A command text old new =
-      IsDone command text old.a new.a old.b new.b × (new.c ≡ old.c) × (new.d ≡ old.d)
+      IsDone command text old.a new.a × (new.b ≡ old.b) × (new.c ≡ old.c) × (new.d ≡ old.d)
   IsDoneTo B command text old new =
-      IsDone command text old.b new.b old.c new.c × (new.d ≡ old.d) × (new.a ≡ old.a)
+      IsDone command text old.b new.b × (new.a ≡ old.a) × (new.c ≡ old.c) × (new.d ≡ old.d)
   IsDoneTo C command text old new =
-      IsDone command text old.c new.c old.d new.d × (new.a ≡ old.a) × (new.b ≡ old.b)
+      IsDone command text old.c new.c × (new.a ≡ old.a) × (new.b ≡ old.b) × (new.d ≡ old.d)
   IsDoneTo D command text old new =
-      IsDone command text old.d new.d old.a new.a × (new.b ≡ old.b) × (new.c ≡ old.c)
+      IsDone command text old.d new.d × (new.a ≡ old.a) × (new.b ≡ old.b) × (new.c ≡ old.c)
 
   -- the text that answers a line: of the command that the line says, or `bad line`
   abbrev pub AnswersLine : List ℕ → List ℕ → Stored K → Stored K → Type 0

@@ -36,17 +36,15 @@ impl<K: NumberKey> Maps<K> {
     }
 }
 
-/// Answers a command to a map; `next` is the map with the next letter.
+/// Answers a command to a map.
 fn answer<K: NumberKey, W: Write>(
     map: &mut RangeMap<K, i64>,
-    _next: &mut RangeMap<K, i64>,
     command: Command<K>,
     out: &mut W,
 ) -> io::Result<()>
     ensures { OnOk result
         (Writes (W.contents out.old) (W.contents out.new)
-        (λ text. IsDone K.order command text (box_items map.old) (box_items map.new)
-        (box_items _next.old) (box_items _next.new))) }
+        (λ text. IsDone K.order command text (box_items map.old) (box_items map.new))) }
 {
     match command {
         Command::Change(wanted) => write_reply(change(map, wanted), out),
@@ -67,10 +65,10 @@ fn answer_named<K: NumberKey, W: Write>(
         (λ text. IsDoneTo K.order name command text (stored_in maps.old) (stored_in maps.new))) }
 {
     match name {
-        Name::A => answer(&mut maps.a, &mut maps.b, command, out),
-        Name::B => answer(&mut maps.b, &mut maps.c, command, out),
-        Name::C => answer(&mut maps.c, &mut maps.d, command, out),
-        Name::D => answer(&mut maps.d, &mut maps.a, command, out),
+        Name::A => answer(&mut maps.a, command, out),
+        Name::B => answer(&mut maps.b, command, out),
+        Name::C => answer(&mut maps.c, command, out),
+        Name::D => answer(&mut maps.d, command, out),
     }
 }
 
