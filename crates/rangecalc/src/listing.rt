@@ -33,7 +33,7 @@ fn write_items<'a, K: NumberKey + 'a, C: Storage<Item<AnyRange<K>, i64>> + 'a, W
         (Writes (W.contents out.old) (W.contents out.new) (SpellsEach SpellsItem items.entry)) }
 {
     while let Some((range, value)) = items.next() {
-        write_item(range, *value, out)?;
+        write_item(range, value, out)?;
     }
     Ok(())
 }
@@ -60,7 +60,7 @@ fn show<K: NumberKey, W: Write>(map: &RangeMap<K, i64>, out: &mut W) -> io::Resu
     match items.next() {
         None => out.write_all(b"empty\n"),
         Some((range, value)) => {
-            write_item(range, *value, out)?;
+            write_item(range, value, out)?;
             write_items(items, out)
         }
     }

@@ -21,25 +21,25 @@ pub fn write_gap_line<W: Write>(span: Span, out: &mut W) -> io::Result<()>
     writeln!(out, "{first}..={last}")
 }
 
-fn write_item_line<W: Write>(span: Span, value: i64, out: &mut W) -> io::Result<()>
+fn write_item_line<W: Write>(span: &Span, value: &i64, out: &mut W) -> io::Result<()>
     ensures { OnOk result
         (Appends (W.contents out.old) (W.contents out.new)
-        (span_text span.first span.last ++ codes " " ++ signed_decimal value ++ 10 ∷ [])) }
+        (span_text span.now.first span.now.last ++ codes " " ++ signed_decimal value.now ++ 10 ∷ [])) }
 {
-    let Span { first, last } = span;
+    let Span { first, last } = *span;
     writeln!(out, "{first}..={last} {value}")
 }
 
 /// Writes the line of a stored range.
 pub fn write_item<K: NumberKey, W: Write>(
     range: &AnyRange<K>,
-    value: i64,
+    value: &i64,
     out: &mut W,
 ) -> io::Result<()>
     ensures { OnOk result
-        (Writes (W.contents out.old) (W.contents out.new) (SpellsItem (item_of range.now value))) }
+        (Writes (W.contents out.old) (W.contents out.new) (SpellsItem (item_of range.now value.now))) }
 {
-    write_item_line(span_of(range), value, out)
+    write_item_line(&span_of(range), value, out)
 }
 
 /// Writes the line of a reply.
@@ -52,7 +52,7 @@ pub fn write_reply<K: NumberKey, W: Write>(reply: Reply<K>, out: &mut W) -> io::
         Reply::Memory => out.write_all(b"memory\n"),
         Reply::Nothing => out.write_all(b"none\n"),
         Reply::Value(value) => writeln!(out, "{value}"),
-        Reply::Stored(range, value) => write_item(&range, value, out),
+        Reply::Stored(range, value) => write_item(&range, &value, out),
         Reply::Truth(true) => out.write_all(b"true\n"),
         Reply::Truth(false) => out.write_all(b"false\n"),
         Reply::Number(number) => writeln!(out, "{number}"),

@@ -1,4 +1,5 @@
-use Rattle.std.proofs.Common.{◌≡◌, ◌∷◌, subst}
+use Rattle.std.proofs.Common.{◌≡◌, ◌∷◌, [], refl, subst}
+use Rattle.std.specs.Prelude.{codes}
 use Rattle.btree_range_map.specs.FreeRanges.{AreGaps}
 use Rattle.btree_range_map.specs.Holding.{box_items}
 use Rattle.btree_range_map.specs.References.{range_of}
@@ -26,3 +27,17 @@ returns-in_ok-write_gap-in-Some g c =
       ),
       appended,
     )) c.write_gaps.ensures
+
+pub returns-in-None : goal.returns-in-None
+returns-in-None g c =
+    let none : c.gaps-gaps.result ≡ [] = c.in-None.ensures.steps.0 in
+    on_ok_as c.write_all.result _ _ (λ appended. (
+      codes "full\n",
+      (
+        [],
+        subst (AreGaps g.K.MaybeBounded.order (box_items c.args.map.now)) none
+            c.gaps-gaps.ensures.gaps,
+        refl,
+      ),
+      appended,
+    )) c.write_all.ensures
