@@ -4,11 +4,12 @@ use Rattle.std.specs.Ordering.{int_eq}
 use Rattle.btree_range_map.specs.AnyRange.{AnyRange}
 use Rattle.btree_range_map.specs.Bindings.{Binds, IsBound, IsBoundAfter, IsItemFor, IsUnboundAfter}
 use Rattle.btree_range_map.specs.FreeRanges.{AreGaps}
+use Rattle.btree_range_map.specs.Iterating.{pair_item}
 use Rattle.btree_range_map.specs.Lookups.{MeetsSome}
 use Rattle.btree_range_map.specs.Numbers.{IsNumberOfKeys}
 use Rattle.btree_range_map.specs.Order.{KeyOrder}
 use Rattle.btree_range_map.specs.Range.{IsEmptyRange}
-use Rattle.rangecalc.specs.Ranges.{Ranges, item_of}
+use Rattle.rangecalc.specs.Ranges.{Ranges}
 use Rattle.rangecalc.specs.Replies.{SpellsGap, SpellsItem, SpellsLines}
 use Rattle.rangecalc.specs.declared.answer.Reply.{Reply}
 use Rattle.rangecalc.specs.declared.answer.Reply.TheVariants.{Done, Memory, Nothing, Value, Stored, Truth, Number}
@@ -27,9 +28,9 @@ module _ {K : Type 0} (order : KeyOrder K) where
   IsChanged (Insert range value) Memory before after = after ≡ before
   IsChanged (Remove range) Done before after = IsUnboundAfter order int_eq before after range
   IsChanged (Remove range) Memory before after = after ≡ before
-  IsChanged PopFirst (Stored range value) before after = before ≡ item_of range value ∷ after
+  IsChanged PopFirst (Stored stored) before after = before ≡ pair_item stored ∷ after
   IsChanged PopFirst Nothing before after = (before ≡ []) × (after ≡ [])
-  IsChanged PopLast (Stored range value) before after = before ≡ after ++ item_of range value ∷ []
+  IsChanged PopLast (Stored stored) before after = before ≡ after ++ pair_item stored ∷ []
   IsChanged PopLast Nothing before after = (before ≡ []) × (after ≡ [])
   IsChanged change reply before after = ⊥
 
@@ -37,16 +38,16 @@ module _ {K : Type 0} (order : KeyOrder K) where
   abbrev pub IsAnswer : Question K → Reply K → Ranges K → ℕ → Type 0
   IsAnswer (Get key) (Value value) items levels = Binds order int_eq items key (Some value)
   IsAnswer (Get key) Nothing items levels = Binds order int_eq items key None
-  IsAnswer (At key) (Stored range value) items levels = IsItemFor order items key (item_of range value)
+  IsAnswer (At key) (Stored stored) items levels = IsItemFor order items key (pair_item stored)
   IsAnswer (At key) Nothing items levels = ¬ IsBound order items key
   IsAnswer (Has key) (Truth answer) items levels = IsTrue answer ↔ IsBound order items key
   IsAnswer (Meets range) (Truth answer) items levels =
       IsTrue answer ↔ (¬ IsEmptyRange order range) × MeetsSome order items range
-  IsAnswer First (Stored range value) items levels =
-      (rest : Ranges K) × (items ≡ item_of range value ∷ rest)
+  IsAnswer First (Stored stored) items levels =
+      (rest : Ranges K) × (items ≡ pair_item stored ∷ rest)
   IsAnswer First Nothing items levels = items ≡ []
-  IsAnswer Last (Stored range value) items levels =
-      (front : Ranges K) × (items ≡ front ++ item_of range value ∷ [])
+  IsAnswer Last (Stored stored) items levels =
+      (front : Ranges K) × (items ≡ front ++ pair_item stored ∷ [])
   IsAnswer Last Nothing items levels = items ≡ []
   IsAnswer Count (Number number) items levels = number ≡ length items
   IsAnswer Len (Number number) items levels = IsNumberOfKeys order (IsBound order items) number

@@ -4,7 +4,7 @@ use Rattle.std.specs.Fmt.{signed_decimal}
 use Rattle.std.specs.Io.KnownBytes.{Appends}
 use Rattle.btree_range_map.specs.AnyRange.{AnyRange}
 use Rattle.btree_range_map.specs.Item.{Item}
-use Rattle.rangecalc.specs.Ranges.{item_of}
+use Rattle.btree_range_map.specs.Iterating.{pair_item}
 use Rattle.rangecalc.specs.declared.answer.Reply.{Reply}
 use Rattle.rangecalc.specs.declared.answer.Reply.TheVariants.{Done, Memory, Nothing, Value, Stored, Truth, Number}
 
@@ -40,7 +40,7 @@ SpellsReply Done text = text ≡ codes "ok\n"
 SpellsReply Memory text = text ≡ codes "memory\n"
 SpellsReply Nothing text = text ≡ codes "none\n"
 SpellsReply (Value value) text = text ≡ signed_decimal value ++ 10 ∷ []
-SpellsReply (Stored range value) text = SpellsItem (item_of range value) text
+SpellsReply (Stored stored) text = SpellsItem (pair_item stored) text
 SpellsReply (Truth true) text = text ≡ codes "true\n"
 SpellsReply (Truth false) text = text ≡ codes "false\n"
 SpellsReply (Number number) text = text ≡ decimal number ++ 10 ∷ []

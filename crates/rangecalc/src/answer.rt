@@ -16,7 +16,7 @@ pub enum Reply<K> {
     Memory,
     Nothing,
     Value(i64),
-    Stored(AnyRange<K>, i64),
+    Stored((AnyRange<K>, i64)),
     Truth(bool),
     Number(u128),
 }
@@ -35,11 +35,11 @@ pub fn change<K: NumberKey>(map: &mut RangeMap<K, i64>, change: Change<K>) -> Re
             Err(_) => Reply::Memory,
         },
         Change::PopFirst => match map.pop_first() {
-            Some((range, value)) => Reply::Stored(range, value),
+            Some(stored) => Reply::Stored(stored),
             None => Reply::Nothing,
         },
         Change::PopLast => match map.pop_last() {
-            Some((range, value)) => Reply::Stored(range, value),
+            Some(stored) => Reply::Stored(stored),
             None => Reply::Nothing,
         },
     }
@@ -47,10 +47,10 @@ pub fn change<K: NumberKey>(map: &mut RangeMap<K, i64>, change: Change<K>) -> Re
 
 fn stored<K: NumberKey>(found: Option<(&AnyRange<K>, &i64)>) -> Reply<K>
     ensures { MatchOption found.entry (result ≡ Nothing)
-        (λ pair. result ≡ Stored pair.0.now pair.1.now) }
+        (λ pair. result ≡ Stored (pair.0.now, pair.1.now)) }
 {
     match found {
-        Some((range, value)) => Reply::Stored(*range, *value),
+        Some((range, value)) => Reply::Stored((*range, *value)),
         None => Reply::Nothing,
     }
 }

@@ -52,7 +52,7 @@ pub fn write_reply<K: NumberKey, W: Write>(reply: Reply<K>, out: &mut W) -> io::
         Reply::Memory => out.write_all(b"memory\n"),
         Reply::Nothing => out.write_all(b"none\n"),
         Reply::Value(value) => writeln!(out, "{value}"),
-        Reply::Stored(range, value) => write_item(&range, &value, out),
+        Reply::Stored(stored) => write_item(&stored.0, &stored.1, out),
         Reply::Truth(true) => out.write_all(b"true\n"),
         Reply::Truth(false) => out.write_all(b"false\n"),
         Reply::Number(number) => writeln!(out, "{number}"),
