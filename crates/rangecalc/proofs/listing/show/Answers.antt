@@ -1,4 +1,4 @@
-use Rattle.std.proofs.Common.{◌≡◌, ◌∷◌, ◌∙◌, sym, subst}
+use Rattle.std.proofs.Common.{◌≡◌, ◌∷◌, ◌∙◌, [], refl, sym, subst}
 use Rattle.std.specs.Prelude.{List, ℕ, codes}
 use Rattle.btree_range_map.specs.Holding.{box_items}
 use Rattle.rangecalc.specs.Ranges.{item_of}
@@ -22,3 +22,14 @@ returns-in_ok-write_item-in-Some g c =
       subst (λ items. SpellsLines SpellsItem (codes "empty\n") items text) (sym all) spelled,
       appended,
     )) c.write_items.ensures
+
+pub returns-in-None : goal.returns-in-None
+returns-in-None g c =
+    let none : box_items c.args.map.now ≡ [] =
+    sym c.iter-items.ensures.items ∙ c.in-None.ensures.steps.0 in
+    on_ok_as c.write_all.result _ _ (λ appended. (
+      codes "empty\n",
+      subst (λ items. SpellsLines SpellsItem (codes "empty\n") items (codes "empty\n"))
+          (sym none) refl,
+      appended,
+    )) c.write_all.ensures.bytes

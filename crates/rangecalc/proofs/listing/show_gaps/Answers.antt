@@ -40,4 +40,4 @@ returns-in-None g c =
         refl,
       ),
       appended,
-    )) c.write_all.ensures
+    )) c.write_all.ensures.bytes
