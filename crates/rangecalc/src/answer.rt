@@ -7,6 +7,7 @@ ghost use Rattle.rangecalc.specs.Answers.{IsAnswer, IsChanged};
 
 use crate::line::{Change, Question};
 use crate::number::NumberKey;
+use btree_range_map::generic::map::NotFree;
 use btree_range_map::{AnyRange, RangeMap};
 
 /// An answer of one line.
@@ -15,6 +16,7 @@ pub enum Reply<K> {
     Done,
     Memory,
     Nothing,
+    Taken(AnyRange<K>),
     Value(i64),
     Stored(AnyRange<K>, i64),
     Truth(bool),
@@ -42,6 +44,19 @@ pub fn change<K: NumberKey>(map: &mut RangeMap<K, i64>, change: Change<K>) -> Re
             Some((range, value)) => Reply::Stored(range, value),
             None => Reply::Nothing,
         },
+        Change::Clear => {
+            map.clear();
+            Reply::Done
+        }
+        Change::Try(range, value) => match map.try_insert(range, value) {
+            Ok(()) => Reply::Done,
+            Err(NotFree::Occupied(_, _, by)) => Reply::Taken(*by),
+            Err(NotFree::Memory(_, _)) => Reply::Memory,
+        },
+        Change::Drop(value) => {
+            map.retain(|_range: &AnyRange<K>, bound: &i64| -> bool { *bound != value });
+            Reply::Done
+        }
     }
 }
 
@@ -69,6 +84,7 @@ pub fn ask<K: NumberKey>(map: &RangeMap<K, i64>, question: Question<K>) -> Reply
         Question::Last => stored(map.last_range_value()),
         Question::Has(key) => Reply::Truth(map.contains_key(key)),
         Question::Meets(range) => Reply::Truth(map.intersects(range)),
+        Question::All(range) => Reply::Truth(map.binds_all(range)),
         Question::Count => Reply::Number(map.range_count() as u128),
         Question::Len => Reply::Number(map.len()),
         Question::Levels => Reply::Number(map.levels() as u128),

@@ -23,6 +23,9 @@ pub enum Change<K> {
     Remove(AnyRange<K>),
     PopFirst,
     PopLast,
+    Clear,
+    Try(AnyRange<K>, i64),
+    Drop(i64),
 }
 
 /// What is asked of a map, with an answer of one line.
@@ -32,6 +35,7 @@ pub enum Question<K> {
     At(K),
     Has(K),
     Meets(AnyRange<K>),
+    All(AnyRange<K>),
     First,
     Last,
     Count,
@@ -41,9 +45,12 @@ pub enum Question<K> {
 
 /// What is asked of a map, with a line for each range.
 #[derive(Drop)]
-pub enum Listing {
+pub enum Listing<K> {
     Show,
     Gaps,
+    Over(AnyRange<K>),
+    Free(AnyRange<K>),
+    Pieces(AnyRange<K>),
 }
 
 /// A line after its name.
@@ -51,7 +58,7 @@ pub enum Listing {
 pub enum Command<K> {
     Change(Change<K>),
     Ask(Question<K>),
-    List(Listing),
+    List(Listing<K>),
 }
 
 /// The text before and after the first space.
@@ -128,6 +135,7 @@ fn without_fields<K: NumberKey>(words: &str) -> Option<Command<K>>
     match words {
         "pop first" => Some(Command::Change(Change::PopFirst)),
         "pop last" => Some(Command::Change(Change::PopLast)),
+        "clear" => Some(Command::Change(Change::Clear)),
         "first" => Some(Command::Ask(Question::First)),
         "last" => Some(Command::Ask(Question::Last)),
         "count" => Some(Command::Ask(Question::Count)),
@@ -148,11 +156,20 @@ fn with_fields<K: NumberKey>(word: &str, fields: &str) -> Option<Command<K>>
             let (range, value) = binding(fields)?;
             Some(Command::Change(Change::Insert(range, value)))
         }
+        "try" => {
+            let (range, value) = binding(fields)?;
+            Some(Command::Change(Change::Try(range, value)))
+        }
+        "drop" => Some(Command::Change(Change::Drop(number(fields)?))),
         "remove" => Some(Command::Change(Change::Remove(range(fields)?))),
         "get" => Some(Command::Ask(Question::Get(key(fields)?))),
         "at" => Some(Command::Ask(Question::At(key(fields)?))),
         "has" => Some(Command::Ask(Question::Has(key(fields)?))),
         "meets" => Some(Command::Ask(Question::Meets(range(fields)?))),
+        "all" => Some(Command::Ask(Question::All(range(fields)?))),
+        "over" => Some(Command::List(Listing::Over(range(fields)?))),
+        "free" => Some(Command::List(Listing::Free(range(fields)?))),
+        "pieces" => Some(Command::List(Listing::Pieces(range(fields)?))),
         _ => None,
     }
 }

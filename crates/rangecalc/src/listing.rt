@@ -10,7 +10,7 @@ ghost use Rattle.rangecalc.specs.declared.line.Listing.TheVariants.{Gaps as Gaps
 
 use crate::line::Listing;
 use crate::number::{NumberKey, span_between};
-use crate::write::{write_gap_line, write_item};
+use crate::write::{write_free_line, write_gap_line, write_item, write_item_line};
 use btree_range_map::generic::map::{Gaps, Iter};
 use btree_range_map::storage::{Item, Storage};
 use btree_range_map::{AnyRange, RangeMap};
@@ -81,10 +81,82 @@ fn show_gaps<K: NumberKey, W: Write>(map: &RangeMap<K, i64>, out: &mut W) -> io:
     }
 }
 
+/// Writes the line of a piece.
+fn write_piece<K: NumberKey, W: Write>(
+    piece: AnyRange<&K>,
+    value: Option<&i64>,
+    out: &mut W,
+) -> io::Result<()>
+{
+    let AnyRange { start, end } = piece;
+    let span = span_between(start, end);
+    match value {
+        Some(value) => write_item_line(span, *value, out),
+        None => write_free_line(span, out),
+    }
+}
+
+fn show_over<K: NumberKey, W: Write>(
+    map: &RangeMap<K, i64>,
+    range: AnyRange<K>,
+    out: &mut W,
+) -> io::Result<()>
+{
+    let mut items = map.overlapping(range);
+    match items.next() {
+        None => out.write_all(b"empty\n"),
+        Some((range, value)) => {
+            write_item(range, *value, out)?;
+            while let Some((range, value)) = items.next() {
+                write_item(range, *value, out)?;
+            }
+            Ok(())
+        }
+    }
+}
+
+fn show_free<K: NumberKey, W: Write>(
+    map: &RangeMap<K, i64>,
+    range: &AnyRange<K>,
+    out: &mut W,
+) -> io::Result<()>
+{
+    let mut gaps = map.gaps_within(range);
+    match gaps.next() {
+        None => out.write_all(b"full\n"),
+        Some(gap) => {
+            write_gap::<K, W>(gap, out)?;
+            while let Some(gap) = gaps.next() {
+                write_gap::<K, W>(gap, out)?;
+            }
+            Ok(())
+        }
+    }
+}
+
+fn show_pieces<K: NumberKey, W: Write>(
+    map: &RangeMap<K, i64>,
+    range: &AnyRange<K>,
+    out: &mut W,
+) -> io::Result<()>
+{
+    let mut pieces = map.pieces(range);
+    match pieces.next() {
+        None => out.write_all(b"empty\n"),
+        Some((piece, value)) => {
+            write_piece::<K, W>(piece, value, out)?;
+            while let Some((piece, value)) = pieces.next() {
+                write_piece::<K, W>(piece, value, out)?;
+            }
+            Ok(())
+        }
+    }
+}
+
 /// Writes the ranges that a listing names, each on a line.
 pub fn list<K: NumberKey, W: Write>(
     map: &RangeMap<K, i64>,
-    listing: Listing,
+    listing: Listing<K>,
     out: &mut W,
 ) -> io::Result<()>
     ensures { OnOk result
@@ -94,5 +166,8 @@ pub fn list<K: NumberKey, W: Write>(
     match listing {
         Listing::Show => show(map, out),
         Listing::Gaps => show_gaps(map, out),
+        Listing::Over(range) => show_over(map, range, out),
+        Listing::Free(range) => show_free(map, &range, out),
+        Listing::Pieces(range) => show_pieces(map, &range, out),
     }
 }

@@ -21,7 +21,17 @@ pub fn write_gap_line<W: Write>(span: Span, out: &mut W) -> io::Result<()>
     writeln!(out, "{first}..={last}")
 }
 
-fn write_item_line<W: Write>(span: Span, value: i64, out: &mut W) -> io::Result<()>
+/// Writes a line of a range that is free.
+pub fn write_free_line<W: Write>(span: Span, out: &mut W) -> io::Result<()>
+    ensures { OnOk result
+        (Appends (W.contents out.old) (W.contents out.new)
+        (span_text span.first span.last ++ codes " free" ++ 10 ∷ [])) }
+{
+    let Span { first, last } = span;
+    writeln!(out, "{first}..={last} free")
+}
+
+pub fn write_item_line<W: Write>(span: Span, value: i64, out: &mut W) -> io::Result<()>
     ensures { OnOk result
         (Appends (W.contents out.old) (W.contents out.new)
         (span_text span.first span.last ++ codes " " ++ signed_decimal value ++ 10 ∷ [])) }
@@ -51,6 +61,10 @@ pub fn write_reply<K: NumberKey, W: Write>(reply: Reply<K>, out: &mut W) -> io::
         Reply::Done => out.write_all(b"ok\n"),
         Reply::Memory => out.write_all(b"memory\n"),
         Reply::Nothing => out.write_all(b"none\n"),
+        Reply::Taken(by) => {
+            out.write_all(b"taken ")?;
+            write_gap_line(span_of(&by), out)
+        }
         Reply::Value(value) => writeln!(out, "{value}"),
         Reply::Stored(range, value) => write_item(&range, value, out),
         Reply::Truth(true) => out.write_all(b"true\n"),
