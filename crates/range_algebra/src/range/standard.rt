@@ -132,3 +132,18 @@ impl<T: Measure> IntoRange for AnyRange<T> {
         self
     }
 }
+
+/// The range that is referred to. It cannot be moved out, so there is no `IntoRange` of it.
+impl<'a, R: AsRange> AsRange for &'a R {
+    type Item = R::Item;
+
+    ghost range = { λ r. R.range r.now };
+
+    fn start(&self) -> Bound<&R::Item> {
+        R::start(*self)
+    }
+
+    fn end(&self) -> Bound<&R::Item> {
+        R::end(*self)
+    }
+}
