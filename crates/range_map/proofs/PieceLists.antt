@@ -30,7 +30,7 @@ use Rattle.range_map.specs.Overlapping.{AreOverlapping}
 use Rattle.range_map.specs.Pieces.{IsCommonPart, IsFreePart, ArePieces}
 use Rattle.range_map.specs.Stored.{item_lower, IsStored}
 use Rattle.range_map.proofs.Chains.{chain_before, chain_right, follows_above}
-use Rattle.range_map.proofs.RangePieces.{PLe, PLt, Lo, Hi, IsFull, IsOpenPart, IsRight, IsInside, IsCutUpTo, cut_none, cut_more, cut_all, common_is, common_within, any_end, any_with, any_use, every_with, free_apart, free_inside, common_place_is_not_clear}
+use Rattle.range_map.proofs.RangePieces.{PLe, PLt, Lo, Hi, IsFull, IsOpenPart, IsRight, IsInside, IsCutUpTo, cut_none, cut_more, cut_all, shared_is, common_within, any_end, any_with, any_use, every_with, free_apart, free_inside, common_place_is_not_clear}
 use Rattle.range_map.proofs.Forms.{Chained, before_is, stored_chain, stored_known, nonempty_good}
 use Rattle.range_map.proofs.PieceAnswers.{all_full}
 
@@ -277,7 +277,7 @@ module _ {K : Type 0} (order : KeyOrder K) (lawful : IsLawful order) {V : Type 0
         × Le' (High Part) (High x.key)
     part_within =
         common_within order lawful r x.key Part known good_at.0 part_known
-        (common_is order lawful r x.key)
+        (shared_is order lawful r x.key)
 
     part_inside : IsInside order lawful items r Part
     part_inside =
@@ -297,7 +297,7 @@ module _ {K : Type 0} (order : KeyOrder K) (lawful : IsLawful order) {V : Type 0
     part_right =
         rw list
         (any_right (λ i. IsCommonPart order r i.key Part × (i.value ≡ x.value)) done (x ∷ rest)
-        (inl (common_is order lawful r x.key, refl)))
+        (inl (shared_is order lawful r x.key, refl)))
 
     add_part : (m : Position K) (answers : List (Answered K V))
         → IsCutUpTo order lawful items r m answers → Le' (Low x.key) m → Le' m (Low Part)

@@ -153,6 +153,35 @@ module _ {K : Type 0} (order : KeyOrder K) (lawful : IsLawful order) where
             (λ b. PLe (earlier order u v) (end_position order b)) first.1 first.0);
       }
 
+  -- likewise with the bounds of the range where they lie at the same place
+  pub shared_is : (r i : AnyRange K) → IsCommonPart order r i (common order r i)
+  shared_is r i =
+      let cmp = position_cmp order.cmp in
+      let total = position_total order.cmp lawful.total in
+      let c = common order r i in
+      let s = start_position order c.start in
+      let e = end_position order c.end in
+      let over = starts_over order lawful r.start i.start in
+      let under = ends_under order lawful r.end i.end in
+      let p = start_position order r.start in
+      let q = start_position order i.start in
+      let u = end_position order r.end in
+      let v = end_position order i.end in
+      let latest = later_over p q in
+      let first = earlier_under u v in
+      record {
+        starts =
+            both cmp total s (later order p q)
+            (later_is order lawful r.start i.start
+            (λ b. PLe (start_position order b) (later order p q)) latest.0 latest.1)
+            (either_choice_holds (λ x. PLe x s) (is_gt (cmp p q)) p q over.0 over.1);
+        ends =
+            both cmp total e (earlier order u v)
+            (either_choice_holds (λ x. PLe e x) (is_gt (cmp u v)) v u under.1 under.0)
+            (earlier_is order lawful r.end i.end
+            (λ b. PLe (earlier order u v) (end_position order b)) first.0 first.1);
+      }
+
   -- a common part lies in both
   pub common_within : (r i part : AnyRange K) → IsKnownRange order r → IsKnownRange order i
       → IsKnownRange order part → IsCommonPart order r i part

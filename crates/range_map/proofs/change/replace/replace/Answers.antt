@@ -79,11 +79,11 @@ change_to-requires g c =
     let edge_is : c.seam-left.result ≡ edge =
     c.seam-left.ensures
     ∙ ap (seam_edge joined reach.first)
-    (c.flipped.ensures ∙ ap flipped_bound c.into_bounds-start.ensures.start) in
+    (c.flip_bound.ensures ∙ ap flipped_bound c.into_bounds-start.ensures.start) in
     let behind_is : c.seam-right.result ≡ behind =
     c.seam-right.ensures
     ∙ ap (seam_edge other reach.last)
-    (c.flipped-2.ensures ∙ ap flipped_bound c.into_bounds-start.ensures.end) in
+    (c.flip_bound-2.ensures ∙ ap flipped_bound c.into_bounds-start.ensures.end) in
     let left = plan.left in
     let right = plan.right in
     let sum : left.begin + c.run_length.result ≡ right.upto =
@@ -113,11 +113,11 @@ returns g c =
     let edge_is : c.seam-left.result ≡ edge =
     c.seam-left.ensures
     ∙ ap (seam_edge joined reach.first)
-    (c.flipped.ensures ∙ ap flipped_bound c.into_bounds-start.ensures.start) in
+    (c.flip_bound.ensures ∙ ap flipped_bound c.into_bounds-start.ensures.start) in
     let behind_is : c.seam-right.result ≡ behind =
     c.seam-right.ensures
     ∙ ap (seam_edge other reach.last)
-    (c.flipped-2.ensures ∙ ap flipped_bound c.into_bounds-start.ensures.end) in
+    (c.flip_bound-2.ensures ∙ ap flipped_bound c.into_bounds-start.ensures.end) in
     let left = plan.left in
     let right = plan.right in
     let sum : left.begin + c.run_length.result ≡ right.upto =
