@@ -152,7 +152,7 @@ impl Table<NumberItem> for Many {
             insert(&mut map, first_half(number), i64::from(number))?;
         }
         let range = closed(0, 10 * i32::from(self.0) - 6);
-        let done = update(&mut map, range, &[], &Cell::new((0, 0)));
+        let done = update(&mut map, range, &[], &Cell::new((0, 0))).is_ok();
         let mut stored = map.iter();
         for number in 0..self.0 {
             match stored.next() {
@@ -160,7 +160,7 @@ impl Table<NumberItem> for Many {
                 _ => return Ok(Some(usize::from(number))),
             }
         }
-        Ok(if done.is_ok() && stored.next().is_none() {
+        Ok(if done && stored.next().is_none() {
             None
         } else {
             Some(0)
