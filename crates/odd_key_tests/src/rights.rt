@@ -1,4 +1,4 @@
-//! A multimap whose sets are of a type of one's own.
+//! A multimap whose sets are of a custom type.
 
 use btree_range_map::{MapError, RangeMultiMap};
 use odd_keys::rights::{Right, Rights};

@@ -1,4 +1,4 @@
-//! A type of sets of one's own, for the values of a multimap.
+//! A custom type of sets, for the values of a multimap.
 
 ghost use Rattle.std.specs.Prelude.{refl, ⊤};
 ghost use Rattle.odd_keys.specs.RightSets.{HasNoRight, clones_are_equal, equal_are_void, equal_have_same, equal_rights, has_right, same_are_equal, void_has_none};
