@@ -8,6 +8,8 @@ mod calls;
 #[cfg(test)]
 mod characters;
 #[cfg(test)]
+mod combining;
+#[cfg(test)]
 mod commands;
 #[cfg(test)]
 mod comparing;

@@ -1,0 +1,92 @@
+//! Two maps put together by a closure.
+
+use crate::support::{NumberItem, Row, Table, check, closed, insert, new_map, stores};
+use range_map::map::{MapError, RangeMap, UpdateError};
+use range_store::storage::Storage;
+use std::alloc::Global;
+use std::test::Fail;
+
+/// The sum where both are there, the first where it is alone, and an error where the sum does not
+/// fit.
+fn added(one: Option<&i64>, other: Option<&i64>) -> Result<Option<i64>, u8> {
+    match (one.copied(), other.copied()) {
+        (Some(a), Some(b)) => match a.checked_add(b) {
+            Some(sum) => Ok(Some(sum)),
+            None => Err(1),
+        },
+        (Some(a), None) => Ok(Some(a)),
+        (None, _) => Ok(None),
+    }
+}
+
+fn sum<C: Storage<NumberItem>>(
+    map: &RangeMap<i32, i64, C>,
+    other: &RangeMap<i32, i64, C>,
+) -> Result<RangeMap<i32, i64, C>, UpdateError<u8>> {
+    map.combine(other, |one, two| added(one, two))
+}
+
+fn filled<C: Storage<NumberItem>>(
+    alloc: Global,
+    rows: &[Row],
+) -> Result<RangeMap<i32, i64, C>, MapError> {
+    let mut map = new_map(alloc);
+    for (first, last, value) in rows {
+        insert(&mut map, closed(*first, *last), *value)?;
+    }
+    Ok(map)
+}
+
+/// What two maps store, and what the map of their sums stores, or `None` where a sum does not fit.
+#[derive(Clone, Copy)]
+struct Sums<'a> {
+    one: &'a [Row],
+    other: &'a [Row],
+    both: Option<&'a [Row]>,
+}
+
+impl<'a> Table<NumberItem> for Sums<'a> {
+    fn first_wrong<C: Storage<NumberItem>>(
+        &self,
+        alloc: Global,
+    ) -> Result<Option<usize>, MapError> {
+        let one = filled::<C>(alloc, self.one)?;
+        let other = filled::<C>(alloc, self.other)?;
+        let right = match (sum(&one, &other), self.both) {
+            (Ok(both), Some(rows)) => stores(&both, rows),
+            (Err(UpdateError::Closure(1)), None) => true,
+            (_, _) => false,
+        };
+        Ok(if right { None } else { Some(0) })
+    }
+}
+
+#[test]
+fn sums_of_two_maps(rt: HostRuntime) -> Result<(), Fail> {
+    let rows = [
+        Sums {
+            one: &[(0, 9, 1), (20, 29, 5)],
+            other: &[(5, 24, 2)],
+            both: Some(&[(0, 4, 1), (5, 9, 3), (20, 24, 7), (25, 29, 5)]),
+        },
+        Sums {
+            one: &[(0, 4, 1), (5, 9, 2)],
+            other: &[(0, 4, 2), (5, 9, 1)],
+            both: Some(&[(0, 9, 3)]),
+        },
+        Sums {
+            one: &[(0, 4, i64::MAX)],
+            other: &[(3, 3, 1)],
+            both: None,
+        },
+        Sums {
+            one: &[],
+            other: &[(3, 3, 1)],
+            both: Some(&[]),
+        },
+    ];
+    for row in &rows {
+        check(&rt, rt.alloc(), row)?;
+    }
+    Ok(())
+}
