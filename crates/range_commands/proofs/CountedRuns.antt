@@ -7,7 +7,7 @@ use Rattle.range_algebra.specs.declared.any.AnyRange.{AnyRange}
 use Rattle.range_algebra.proofs.Pieces.{empty_or_not}
 use Rattle.range_store.specs.Holding.{box_items, box_levels}
 use Rattle.range_store.specs.declared.btree.BoxStorage.{BoxStorage}
-use Rattle.range_store.specs.declared.btree.node.TheConstants.{CAPACITY}
+use Rattle.range_store.specs.declared.btree.nodes.TheConstants.{CAPACITY}
 use Rattle.range_store.specs.declared.btree.searching.TheConstants.{HALVINGS}
 use Rattle.range_store.specs.declared.storage.Item.{Item}
 use Rattle.range_map.specs.Costs.{TakesAtLeast, TakesAsChange, IsGreatestLevel}

@@ -1,12 +1,15 @@
+pub mod Cells
 pub mod Contents
 pub mod Counting
 pub mod Depth
 pub mod Edges
 pub mod Falling
+pub mod Frame
+pub mod Heap
 pub mod Holding
 pub mod Lending
-pub mod Listed
 pub mod Nodes
 pub mod Occurrences
 pub mod Places
-pub mod Trees
+pub mod Weave
+pub mod Written

@@ -1,12 +1,10 @@
 //! Edges between the items of the tree, each with the way to it, and the steps from one to the
 //! next.
-ghost use Rattle.std.specs.Prelude.{◌≡◌, ℕ, suc, ◌+◌, ◌-◌, ◌*◌, ◌%◌, ◌/◌, ◌^◌, ◌<◌, ◌≤◌, length, slice_index, MatchOption};
-ghost use Rattle.slab.specs.Slab.{get};
-ghost use Rattle.range_store.specs.Nodes.{numbers, items_of, ShapedBut};
-ghost use Rattle.range_store.specs.Edges.{turn, inside, seat_of, IsEdge, place, IsFound, IsLast};
+ghost use Rattle.std.specs.Prelude.{◌≡◌, ℕ, suc, ◌+◌, ◌-◌, ◌*◌, ◌%◌, ◌/◌, ◌^◌, ◌<◌, ◌≤◌, length, MatchOption};
+ghost use Rattle.range_store.specs.Nodes.{items_below, ShapedBut};
+ghost use Rattle.range_store.specs.Edges.{turn, inside, seat_of, is_start, IsEdge, place, home_of};
 
-use crate::btree::node::{CAPACITY, Node, child_at, item_at, item_count, last_of};
-use slab::Slab;
+use crate::btree::nodes::{CAPACITY, Nodes};
 
 // A way has a digit for each level: the child through which it goes, from the lowest digit on.
 pub const WIDTH: u128 = 16;
@@ -14,19 +12,20 @@ pub const WIDTH: u128 = 16;
 // No tree has more levels: not so many items fit in memory.
 pub const DEEPEST: usize = 32;
 
-// A place between two items: an index in a leaf, and the way to that.
+/// A place between two items of a `BoxStorage`: an index in a leaf, and the way to that. It stands
+/// for the item before it.
 #[derive(Clone, Copy)]
 pub struct Edge {
-    pub way: u128,
-    pub leaf: usize,
-    pub index: usize,
+    pub(crate) way: u128,
+    pub(crate) leaf: usize,
+    pub(crate) index: usize,
 }
 
-// A number of the tree, and the edge after it.
+// Where an item stands: its node, and its index there.
 #[derive(Clone, Copy)]
-pub struct Found {
-    pub edge: Edge,
-    pub number: usize,
+pub struct Home {
+    pub node: usize,
+    pub index: usize,
 }
 
 // The child through which the way goes first.
@@ -90,8 +89,15 @@ pub fn seat(below: usize, edge: Edge) -> usize
     }
 }
 
+// Whether the edge stands before all items below the node that it is seen from.
+pub fn stands_first(edge: Edge) -> bool
+    ensures { result ≡ is_start edge }
+{
+    edge.way == 0 && edge.index == 0
+}
+
 // The edge before all items below a node.
-pub fn first_edge(nodes: &Slab<Node>, below: usize, number: usize) -> Edge
+pub fn first_edge<T: Drop>(nodes: &Nodes<T>, below: usize, number: usize) -> Edge
     requires shaped { ShapedBut 1 CAPACITY nodes.now below number }
     requires deep { below < DEEPEST }
     ensures edge { IsEdge nodes.now below number result }
@@ -104,19 +110,19 @@ pub fn first_edge(nodes: &Slab<Node>, below: usize, number: usize) -> Edge
             index: 0,
         };
     }
-    let child = child_at(nodes, number, 0);
+    let child = nodes.child_at(number, 0);
     seen_above(first_edge(nodes, below - 1, child), 0)
 }
 
 // The edge after all items below a node.
-pub fn end_edge(nodes: &Slab<Node>, below: usize, number: usize) -> Edge
+pub fn end_edge<T: Drop>(nodes: &Nodes<T>, below: usize, number: usize) -> Edge
     requires shaped { ShapedBut 1 CAPACITY nodes.now below number }
     requires deep { below < DEEPEST }
     ensures edge { IsEdge nodes.now below number result }
     ensures place { place nodes.now below number result
-        ≡ length (numbers nodes.now (suc below) number) }
+        ≡ length (items_below nodes.now (suc below) number) }
 {
-    let many = item_count(nodes, number);
+    let many = nodes.item_count(number);
     if below == 0 {
         return Edge {
             leaf: number,
@@ -124,82 +130,49 @@ pub fn end_edge(nodes: &Slab<Node>, below: usize, number: usize) -> Edge
             index: many,
         };
     }
-    let child = child_at(nodes, number, many);
+    let child = nodes.child_at(number, many);
     seen_above(end_edge(nodes, below - 1, child), many)
 }
 
-// What stands after an edge in its leaf.
-pub fn following_in_leaf(nodes: &Slab<Node>, number: usize, edge: Edge) -> Option<Found>
-    requires shaped { ShapedBut 1 CAPACITY nodes.now 0 number }
-    requires edge { IsEdge nodes.now 0 number edge }
-    ensures { MatchOption result
-        (place nodes.now 0 number edge ≡ length (numbers nodes.now 1 number))
-        (IsFound nodes.now 0 number (place nodes.now 0 number edge)) }
-{
-    if edge.index < item_count(nodes, number) {
-        return Some(Found {
-            number: item_at(nodes, number, edge.index),
-            edge: Edge {
-                leaf: number,
-                way: 0,
-                index: edge.index + 1,
-            },
-        });
-    }
-    None
-}
-
-// What stands after an edge below a node.
-pub fn following(nodes: &Slab<Node>, below: usize, number: usize, edge: Edge) -> Option<Found>
+// The edge after the item after an edge below a node.
+pub fn following<T: Drop>(nodes: &Nodes<T>, below: usize, number: usize, edge: Edge) -> Option<Edge>
     requires shaped { ShapedBut 1 CAPACITY nodes.now below number }
     requires deep { below < DEEPEST }
     requires edge { IsEdge nodes.now below number edge }
     ensures { MatchOption result
-        (place nodes.now below number edge ≡ length (numbers nodes.now (suc below) number))
-        (IsFound nodes.now below number (place nodes.now below number edge)) }
+        (place nodes.now below number edge ≡ length (items_below nodes.now (suc below) number))
+        (λ h. IsEdge nodes.now below number h
+        × (place nodes.now below number h ≡ place nodes.now below number edge + 1)) }
 {
     if below == 0 {
-        return following_in_leaf(nodes, number, edge);
-    }
-    let index = first_turn(edge);
-    let child = child_at(nodes, number, index);
-    if let Some(found) = following(nodes, below - 1, child, seen_inside(edge)) {
-        return Some(Found {
-            number: found.number,
-            edge: seen_above(found.edge, index),
+        if edge.index == nodes.item_count(number) {
+            return None;
+        }
+        return Some(Edge {
+            leaf: number,
+            way: 0,
+            index: edge.index + 1,
         });
     }
-    if index < item_count(nodes, number) {
-        let next = child_at(nodes, number, index + 1);
-        return Some(Found {
-            number: item_at(nodes, number, index),
-            edge: seen_above(first_edge(nodes, below - 1, next), index + 1),
-        });
-    }
-    None
-}
-
-// The number before an edge below a node.
-pub fn item_before(nodes: &Slab<Node>, below: usize, number: usize, edge: Edge) -> Option<usize>
-    requires shaped { ShapedBut 1 CAPACITY nodes.now below number }
-    requires edge { IsEdge nodes.now below number edge }
-    ensures { IsLast (numbers nodes.now (suc below) number) (place nodes.now below number edge)
-        result }
-{
-    if below == 0 {
-        return last_of(nodes[number].items.as_slice(), edge.index);
-    }
     let index = first_turn(edge);
-    let child = child_at(nodes, number, index);
-    let inner = item_before(nodes, below - 1, child, seen_inside(edge));
-    if inner.is_some() {
-        return inner;
+    let child = nodes.child_at(number, index);
+    if let Some(later) = following(nodes, below - 1, child, seen_inside(edge)) {
+        return Some(seen_above(later, index));
     }
-    last_of(nodes[number].items.as_slice(), index)
+    if index == nodes.item_count(number) {
+        return None;
+    }
+    let next = nodes.child_at(number, index + 1);
+    Some(seen_above(first_edge(nodes, below - 1, next), index + 1))
 }
 
 // The edge before the item before an edge below a node.
-pub fn edge_before(nodes: &Slab<Node>, below: usize, number: usize, edge: Edge) -> Option<Edge>
+pub fn edge_before<T: Drop>(
+    nodes: &Nodes<T>,
+    below: usize,
+    number: usize,
+    edge: Edge,
+) -> Option<Edge>
     requires shaped { ShapedBut 1 CAPACITY nodes.now below number }
     requires deep { below < DEEPEST }
     requires edge { IsEdge nodes.now below number edge }
@@ -218,13 +191,37 @@ pub fn edge_before(nodes: &Slab<Node>, below: usize, number: usize, edge: Edge) 
         });
     }
     let index = first_turn(edge);
-    let child = child_at(nodes, number, index);
+    let child = nodes.child_at(number, index);
     if let Some(earlier) = edge_before(nodes, below - 1, child, seen_inside(edge)) {
         return Some(seen_above(earlier, index));
     }
     if index == 0 {
         return None;
     }
-    let last = child_at(nodes, number, index - 1);
+    let last = nodes.child_at(number, index - 1);
     Some(seen_above(end_edge(nodes, below - 1, last), index - 1))
+}
+
+// Where the item before an edge stands, of which there is one below the node.
+pub fn find_home<T: Drop>(nodes: &Nodes<T>, below: usize, number: usize, edge: Edge) -> Home
+    requires shaped { ShapedBut 1 CAPACITY nodes.now below number }
+    requires edge { IsEdge nodes.now below number edge }
+    requires some { 0 < place nodes.now below number edge }
+    ensures { result ≡ home_of nodes.now below number edge }
+{
+    if below == 0 {
+        return Home {
+            node: number,
+            index: edge.index - 1,
+        };
+    }
+    let index = first_turn(edge);
+    let inner = seen_inside(edge);
+    if stands_first(inner) {
+        return Home {
+            node: number,
+            index: index - 1,
+        };
+    }
+    find_home(nodes, below - 1, nodes.child_at(number, index), inner)
 }
