@@ -41,7 +41,7 @@ pub struct Nodes<T> {
     nodes: Slab<Node<T>>,
     lists: Slab<ArrayVec<usize, CHILD_PLACES>>,
     // It holds nothing: by it the proof knows that a node fits in memory.
-    spare: ArrayVec<Option<T>, CAPACITY>,
+    spare: Node<T>,
 }
 
 impl<T> Model for Nodes<T> {
@@ -76,7 +76,10 @@ impl<T: Drop> Nodes<T> {
         Nodes {
             nodes: Slab::new(alloc),
             lists: Slab::new(alloc),
-            spare: ArrayVec::new(),
+            spare: Node {
+                cells: ArrayVec::new(),
+                list: NO_LIST,
+            },
         }
     }
 
