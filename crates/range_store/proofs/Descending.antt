@@ -65,6 +65,22 @@ module _ {T : Type 0} (p : T → Bool) (s : Heap T) where
         count = omega (arith, below_place s b n inner shaped i e h at within, found, step);
       }
 
+  -- it begins at the node itself
+  pub begins : (below number : ℕ) → ShapedBut 1 CAPACITY s below number
+      → Falls p (items_below s (suc below) number) → Descent below number below number 0 1
+  begins below number shaped falls =
+      let none : below - below ≡ 0 = omega arith in
+      record {
+        low = omega arith;
+        weight_is = rw none refl;
+        small = omega arith;
+        shaped = shaped;
+        falls = falls;
+        outcome = λ e o.
+            let same : 0 + 1 * e.way ≡ e.way = omega arith in
+            rw same o;
+      }
+
   pub descends : (below number left at way weight : ℕ) → left ≢ 0
       → Descent below number left at way weight → (i : ℕ) → i ≡ count_by p (items_of (node_of s at))
       → Descent below number (left - 1) (get_or (children_of (node_of s at)) i 0) (way + weight * i)
@@ -118,6 +134,12 @@ module _ {T : Type 0} (p : T → Bool) (s : Heap T) where
       } in
       let way_is : way + weight * 0 ≡ way = omega arith in
       rw (← way_is) (d.outcome e (rw bottom found))
+
+-- no node, no step
+pub adds_none : (count below : ℕ) → AddsSteps count count (below - below) (HALVINGS * (below - below))
+adds_none count below =
+    let none : below - below ≡ 0 = omega arith in
+    rw none (record { at_most = omega arith; at_least = omega arith })
 
 -- the steps of a node come to those of the nodes above
 pub adds_more : (first before after below left : ℕ) → left ≢ 0 → left ≤ below

@@ -7,7 +7,7 @@ use Rattle.std.proofs.lemmas.List.{set_past}
 use Rattle.range_store.specs.Heap.{Heap, node_of, items_of, children_of, with_item}
 use Rattle.range_store.specs.Nodes.{items_below, IsRoomy}
 use Rattle.range_store.specs.Edges.{turn, inside, IsEdge, place, home_of}
-use Rattle.range_store.specs.Places.{place_before}
+use Rattle.range_store.specs.Places.{place_before, IsAt}
 use Rattle.range_store.specs.Written.{SameShape, turned, length_same, tree_same, edge_same, place_same, IsHome, home_is, home_item, home_set, home_within, written_shape, item_written, tree_once, root_shaped}
 use Rattle.range_store.specs.declared.btree.BoxStorage.{BoxStorage}
 use Rattle.range_store.specs.declared.btree.nodes.TheConstants.{CAPACITY, MIN_LEN}
@@ -54,6 +54,13 @@ module _ {T : Type 0} where
   pub record IsGood (s : BoxStorage T) (edge : Edge) : Type 0 where
     pub is : IsBoxEdge s edge
     pub some : 0 < box_place s edge
+
+  -- the items below the root of a tree that has one
+  pub box_levels : (s : BoxStorage T) → 0 < s.levels
+      → items_below s.nodes (suc (s.levels - 1)) s.root ≡ box_items s
+  box_levels s some =
+      let level : suc (s.levels - 1) ≡ s.levels = omega (arith, some) in
+      ap (λ levels. items_below s.nodes levels s.root) level
 
   edge_or_not : (s : Heap T) (d n : ℕ) (g : Edge) → IsEdge s d n g ⊎ (IsEdge s d n g → ⊥)
   unfolding IsEdge
@@ -120,6 +127,14 @@ module _ {T : Type 0} where
   pub rank_is : (s : BoxStorage T) (edge : Edge) → IsGood s edge
       → box_rank s edge ≡ box_place s edge - 1
   rank_is s edge good = rank_when s edge (good_or_not s edge) good
+
+  -- the edge after the item of a rank is a position of that rank
+  pub next_at : (s : BoxStorage T) (edge : Option Edge) (rank : ℕ) → IsNextEdge s edge rank
+      → IsAt (IsGood s) (box_rank s) (length (box_items s)) edge rank
+  next_at s None rank is = is
+  next_at s (Some edge) rank is =
+      let good : IsGood s edge = record { is = is.0; some = omega (arith, is.1) } in
+      (good, omega (arith, rank_is s edge good, is.1))
 
   -- the item before a good edge has a home
   pub good_home : (s : BoxStorage T) (edge : Edge) → IsGood s edge

@@ -1,4 +1,5 @@
-use Rattle.std.proofs.Common.{rules, arith}
+use Rattle.std.proofs.Common.{◌<◌, length, ap, rules, ◌∙◌, arith}
+use Rattle.range_store.specs.Holding.{box_levels}
 use Rattle.range_store.specs.Written.{root_shaped}
 use Rattle.range_store.proofs.Rank.{items_below_none}
 use Rattle.range_store.proofs.Whole.{tree_is_not_too_deep}
@@ -16,4 +17,11 @@ end_edge-requires g c =
         root_shaped s.nodes s.levels s.root (omega (arith, c.if-self-eq0.false)) s.whole.tree,
         tree_is_not_too_deep s.nodes s.levels s.root s.whole,
       ),
+    )
+
+pub returns : goal.returns
+returns g c =
+    let some : 0 < c.args.self.now.levels = omega (arith, c.if-self-eq0.false) in (
+      record { some = some; edge = c.end_edge.ensures.edge },
+      c.end_edge.ensures.place ∙ ap length (box_levels c.args.self.now some),
     )

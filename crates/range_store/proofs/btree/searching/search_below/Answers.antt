@@ -1,11 +1,12 @@
-use Rattle.std.proofs.Common.{◌≡◌, ◌≤◌, ◌∙◌, arith, count_by}
+use Rattle.std.proofs.Common.{◌≡◌, ◌≤◌, length, refl, ap, ◌∙◌, arith, count_by}
 use Rattle.std.proofs.Math.Nat.{mul-le-mul_left}
 use Rattle.std.proofs.lemmas.List.Sums.{count_by-le-length}
 use Rattle.range_store.specs.Heap.{items_of, node_of}
 use Rattle.range_store.specs.declared.btree.nodes.TheConstants.{CAPACITY}
-use Rattle.range_store.proofs.Descending.{adds_more, descends, descent_ends, weight_fits}
+use Rattle.range_store.proofs.Descending.{adds_more, adds_none, begins, descends, descent_ends, weight_fits}
 use Rattle.range_store.proofs.Front.{cells_full, count_cells, falls_cells}
 use Rattle.range_store.proofs.Searching.{node_falls}
+use Rattle.range_store.proofs.Ways.{child_within}
 use Rattle.range_store.proofs.btree.searching.search_below.Goals as goal
 use Rattle.range_store.proofs.btree.searching.search_below.Given.{Over}
 use Rattle.range_store.proofs.btree.searching.search_below.Goals.{After-halve-index}
@@ -106,3 +107,24 @@ down-preserved g c =
       adds_more _ _ _ c.args.below c.down.left c.if-left-eq0.false d.low c.down.invariant.2
           c.halve-index.ensures.asked,
     )
+
+pub down-init : goal.down-init
+down-init g c =
+    let p = g.P.Probe.test c.args.probe.now in (
+      begins p c.args.nodes.now c.args.below c.args.number c.requires.shaped c.requires.falls,
+      refl,
+      adds_none (g.P.Probe.steps_taken c.args.probe.now) c.args.below,
+    )
+
+pub bounds-children-index : goal.bounds-children-index
+bounds-children-index g c =
+    let a = (goal.at.bounds-children-index g c).After-halve-index in
+    let s = c.args.nodes.now in
+    let low : c.halve-index.result ≤ length (items_of (node_of s c.down.at)) =
+    omega (
+      arith,
+      counted g a,
+      count_by-le-length (g.P.Probe.test c.args.probe.now) (items_of (node_of s c.down.at)),
+    ) in
+    rw c.children-children.ensures (child_within s c.down.left c.down.at
+    (omega (arith, c.if-left-eq0.false)) c.down.invariant.0.shaped c.halve-index.result low)
