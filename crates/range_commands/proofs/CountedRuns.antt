@@ -8,7 +8,7 @@ use Rattle.range_algebra.proofs.Pieces.{empty_or_not}
 use Rattle.range_store.specs.Holding.{box_items, box_levels}
 use Rattle.range_store.specs.declared.btree.BoxStorage.{BoxStorage}
 use Rattle.range_store.specs.declared.btree.nodes.TheConstants.{CAPACITY}
-use Rattle.range_store.specs.declared.btree.searching.TheConstants.{HALVINGS}
+use Rattle.range_store.specs.declared.btree.searching.TheConstants.{MAX_ASKS}
 use Rattle.range_store.specs.declared.storage.Item.{Item}
 use Rattle.range_map.specs.Costs.{TakesAtLeast, TakesAsChange, IsGreatestLevel}
 use Rattle.range_commands.specs.CountedRuns.{least_if, HasNoMemory, IsDone, ChangeTakes, LookupTakes, TakesFor, IsDue, IsRunOfDue, IsCountedRun}
@@ -281,13 +281,13 @@ module _ {K : Type 0} (order : KeyOrder K) {V : Type 0} where
       -- at most so many steps: what each adds, beside what it leaves fewer, is bounded by the
       -- greatest search
       pub run_most : (level many : ℕ)
-          → ((s : S) → length (items s) ≤ many → most s ≤ HALVINGS * level)
+          → ((s : S) → length (items s) ≤ many → most s ≤ MAX_ASKS * level)
           → (s last : S) (commands : List (Command K V T)) (replies : List (Reply K V E))
           (before after : ℕ) → length (items s) + 2 * length commands ≤ many → HasNoUpdate commands
           → HasNoMemory replies
           → IsCountedRun order same may items least most s commands replies last before after
           → after + 2 * length (items last)
-          ≤ before + length commands * (2 * HALVINGS * level + 10) + 2 * length (items s)
+          ≤ before + length commands * (2 * MAX_ASKS * level + 10) + 2 * length (items s)
       run_most level many few s last [] [] before after within none memory run =
           omega (arith, ap (λ t. length (items t)) run.0, run.1)
       run_most level many few s last [] (r ∷ replies) before after within none memory run =
@@ -350,7 +350,7 @@ module _ {K : Type 0} (order : KeyOrder K) {V : Type 0} where
 module _ {X : Type 0} where
   -- how often a search of a tree asks that has at most so many items
   pub few_asks : (many level : ℕ) → IsGreatestLevel (many + 1) level → (s : BoxStorage X)
-      → length (box_items s) ≤ many → HALVINGS * s.tree.levels ≤ HALVINGS * level
+      → length (box_items s) ≤ many → MAX_ASKS * s.tree.levels ≤ MAX_ASKS * level
   few_asks many level greatest s within =
       elim (some_or_none (length (box_items s))) [
         | inl some ↦ elim (some_or_none s.tree.levels) [

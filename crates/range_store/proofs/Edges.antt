@@ -1,12 +1,12 @@
--- The ways to edges, and what stands at one.
+-- The paths to edges, and what stands at one.
 use Rattle.std.proofs.Common.{◌≡◌, ℕ, zero, suc, ◌+◌, ◌^◌, ◌<◌, ◌≤◌, [], ◌∷◌, ◌++◌, length, get_or, map, refl, ap, arith}
 use Rattle.std.proofs.Math.Nat.{pow-suc, pow-le-pow_right}
 use Rattle.std.proofs.lemmas.List.{length-append}
 use Rattle.std.specs.List.{flat_map}
 use Rattle.range_store.specs.Heap.{Heap, node_of, items_of, children_of}
 use Rattle.range_store.specs.declared.btree.nodes.TheConstants.{CAPACITY, MIN_LEN}
-use Rattle.range_store.specs.declared.btree.way.Edge.{Edge}
-use Rattle.range_store.specs.declared.btree.way.TheConstants.{WIDTH, DEEPEST}
+use Rattle.range_store.specs.declared.btree.path.Edge.{Edge}
+use Rattle.range_store.specs.declared.btree.path.TheConstants.{PATH_BASE, MAX_LEVELS}
 use Rattle.range_store.specs.Nodes.{items_below, used, before, after, ShapedBut}
 use Rattle.range_store.specs.Edges.{turn, inside, IsEdge, place}
 use Rattle.range_store.specs.Frame.{AgreeAt, AgreeAt-right, agree_kid, same_children}
@@ -14,34 +14,34 @@ use Rattle.range_store.proofs.Below.{items_below_at, items_below_leaf}
 use Rattle.range_store.proofs.Rank.{kid_shaped}
 use Rattle.range_store.specs.Occurrences.{occurrences_here}
 
--- the digits of a way are no more than the levels
-way_fits : {T : Type 0} (s : Heap T) (d n : ℕ) (g : Edge) → IsEdge s d n g → g.way < WIDTH ^ d
+-- the digits of a path are no more than the levels
+path_fits : {T : Type 0} (s : Heap T) (d n : ℕ) (g : Edge) → IsEdge s d n g → g.path < PATH_BASE ^ d
 unfolding IsEdge
-way_fits s zero n g is = omega (arith, is.1)
-way_fits s (suc d) n g is = omega (arith, pow-suc WIDTH d, way_fits s d _ (inside g) is.1)
+path_fits s zero n g is = omega (arith, is.1)
+path_fits s (suc d) n g is = omega (arith, pow-suc PATH_BASE d, path_fits s d _ (inside g) is.1)
 
-pub way_small : {T : Type 0} (s : Heap T) (d n : ℕ) (g : Edge) → d < DEEPEST → IsEdge s d n g
-    → g.way < 2 ^ 124
-way_small s d n g deep is =
+pub path_small : {T : Type 0} (s : Heap T) (d n : ℕ) (g : Edge) → d < MAX_LEVELS → IsEdge s d n g
+    → g.path < 2 ^ 124
+path_small s d n g deep is =
     let low : d ≤ 31 = omega arith in
-    let some : 0 < WIDTH = omega arith in
-    let most : WIDTH ^ d ≤ WIDTH ^ 31 = pow-le-pow_right some low in
-    let width : ◌≡◌ {A = ℕ} (WIDTH ^ 31) (2 ^ 124) = refl in
-    omega (arith, way_fits s d n g is, most, width)
+    let some : 0 < PATH_BASE = omega arith in
+    let most : PATH_BASE ^ d ≤ PATH_BASE ^ 31 = pow-le-pow_right some low in
+    let width : ◌≡◌ {A = ℕ} (PATH_BASE ^ 31) (2 ^ 124) = refl in
+    omega (arith, path_fits s d n g is, most, width)
 
-pub way_low : {T : Type 0} (s : Heap T) (d n : ℕ) (g : Edge) → d + 1 < DEEPEST → IsEdge s d n g
-    → g.way < 2 ^ 120
-way_low s d n g deep is =
+pub path_low : {T : Type 0} (s : Heap T) (d n : ℕ) (g : Edge) → d + 1 < MAX_LEVELS → IsEdge s d n g
+    → g.path < 2 ^ 120
+path_low s d n g deep is =
     let low : d ≤ 30 = omega arith in
-    let some : 0 < WIDTH = omega arith in
-    let most : WIDTH ^ d ≤ WIDTH ^ 30 = pow-le-pow_right some low in
-    let width : ◌≡◌ {A = ℕ} (WIDTH ^ 30) (2 ^ 120) = refl in
-    omega (arith, way_fits s d n g is, most, width)
+    let some : 0 < PATH_BASE = omega arith in
+    let most : PATH_BASE ^ d ≤ PATH_BASE ^ 30 = pow-le-pow_right some low in
+    let width : ◌≡◌ {A = ℕ} (PATH_BASE ^ 30) (2 ^ 120) = refl in
+    omega (arith, path_fits s d n g is, most, width)
 
-pub leaf_edge : {T : Type 0} (s : Heap T) (n : ℕ) (g : Edge) → g.leaf ≡ n → g.way ≡ 0
+pub leaf_edge : {T : Type 0} (s : Heap T) (n : ℕ) (g : Edge) → g.leaf ≡ n → g.path ≡ 0
     → g.index ≤ length (items_of (node_of s n)) → IsEdge s zero n g
 unfolding IsEdge
-leaf_edge s n g leaf way index = (leaf, way, index)
+leaf_edge s n g leaf path index = (leaf, path, index)
 
 pub leaf_is : {T : Type 0} (s : Heap T) (n : ℕ) (g : Edge) → IsEdge s zero n g → g.leaf ≡ n
 unfolding IsEdge

@@ -6,7 +6,7 @@ use Rattle.std.specs.List.Sorted.{IsPartitionedBy}
 use Rattle.std.proofs.lemmas.Bool.{false_from_ne_true, both_ways}
 use Rattle.std.proofs.lemmas.List.Sums.{sum_by-cons, sum_by-append, count_by-le-length}
 use Rattle.range_store.specs.declared.btree.nodes.TheConstants.{CAPACITY}
-use Rattle.range_store.specs.declared.btree.searching.TheConstants.{HALVINGS}
+use Rattle.range_store.specs.declared.btree.searching.TheConstants.{MAX_ASKS}
 use Rattle.range_store.specs.Counting.{one_step_after, greatest_count}
 use Rattle.range_store.specs.Heap.{full_cells}
 use Rattle.range_store.specs.Places.{IsFrontOf}
@@ -156,7 +156,7 @@ module _ {X : Type 0} where
     pub within : high ≤ length xs
     pub at_least : low ≤ count_by p xs
     pub at_most : count_by p xs ≤ high
-    pub left : (r : ℕ) × (high - low < 2 ^ r) × (now + r ≤ first + HALVINGS)
+    pub left : (r : ℕ) × (high - low < 2 ^ r) × (now + r ≤ first + MAX_ASKS)
     pub later : min first greatest_count ≤ now
     pub begun : (min (first + 1) greatest_count ≤ now) ⊎ (high - low ≡ length xs)
 
@@ -167,7 +167,7 @@ halving_starts p xs first small count = record {
   within = omega arith;
   at_least = omega arith;
   at_most = count;
-  left = (HALVINGS, omega arith, omega arith);
+  left = (MAX_ASKS, omega arith, omega arith);
   later = omega arith;
   begun = inr (omega arith);
 }

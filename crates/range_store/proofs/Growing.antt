@@ -18,7 +18,7 @@ use Rattle.range_store.proofs.Moves.{Moves-like, Moves-then, Moves-beside, Moves
 use Rattle.range_store.proofs.Room.{children_le}
 use Rattle.range_store.proofs.Seats.{seat_run, seat_side, seat_written}
 use Rattle.range_store.proofs.Contents.{written_settles, written_holds, written_agree}
-use Rattle.range_store.specs.declared.btree.way.Edge.{Edge}
+use Rattle.range_store.specs.declared.btree.path.Edge.{Edge}
 use Rattle.range_store.specs.Edges.{turn, inside, IsEdge, place, IsSeat, seat_place}
 
 module _ {T : Type 0} where

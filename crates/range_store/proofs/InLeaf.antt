@@ -5,8 +5,8 @@ use Rattle.std.proofs.Math.ListN.{set}
 use Rattle.std.proofs.lemmas.Bool.{and_right, ne_eqb}
 use Rattle.range_store.specs.Heap.{Heap, node_of, items_of, children_of}
 use Rattle.range_store.specs.declared.btree.nodes.TheConstants.{CAPACITY, MIN_LEN}
-use Rattle.range_store.specs.declared.btree.way.TheConstants.{WIDTH}
-use Rattle.range_store.specs.declared.btree.way.Edge.{Edge}
+use Rattle.range_store.specs.declared.btree.path.TheConstants.{PATH_BASE}
+use Rattle.range_store.specs.declared.btree.path.Edge.{Edge}
 use Rattle.range_store.specs.Nodes.{ShapedBut}
 use Rattle.range_store.specs.Edges.{turn, inside, is_start, IsEdge, place, home_of}
 use Rattle.range_store.proofs.Below.{shaped_within_wider}
@@ -55,18 +55,18 @@ leaf_of_edge s (suc d) n g shaped is =
     }
 
 -- another edge in it
-pub leaf_beside : {T : Type 0} (s : Heap T) (d n : ℕ) (g h : Edge) → h.leaf ≡ g.leaf → h.way ≡ g.way
-    → h.index ≤ length (items_of (node_of s g.leaf)) → IsEdge s d n g
+pub leaf_beside : {T : Type 0} (s : Heap T) (d n : ℕ) (g h : Edge) → h.leaf ≡ g.leaf
+    → h.path ≡ g.path → h.index ≤ length (items_of (node_of s g.leaf)) → IsEdge s d n g
     → IsEdge s d n h × (place s d n h + g.index ≡ place s d n g + h.index)
 unfolding IsEdge place
-leaf_beside s zero n g h leaf way index is =
+leaf_beside s zero n g h leaf path index is =
     let within : h.index ≤ length (items_of (node_of s n)) = rw is.0 at index in
-    ((leaf ∙ is.0, way ∙ is.1, within), omega arith)
-leaf_beside s (suc d) n g h leaf way index is =
-    let first : turn h ≡ turn g = ap (λ w. w % WIDTH) way in
+    ((leaf ∙ is.0, path ∙ is.1, within), omega arith)
+leaf_beside s (suc d) n g h leaf path index is =
+    let first : turn h ≡ turn g = ap (λ w. w % PATH_BASE) path in
     let rest =
     leaf_beside s d (get_or (children_of (node_of s n)) (turn g) 0) (inside g)
-    (inside h) leaf (ap (λ w. w / WIDTH) way) index is.1 in
+    (inside h) leaf (ap (λ w. w / PATH_BASE) path) index is.1 in
     rw first ((is.0, rest.0), omega (arith, rest.1))
 
 -- the item before it

@@ -6,8 +6,8 @@ use Rattle.std.proofs.lemmas.List.Edits.{length-insert, length-remove}
 use Rattle.range_store.specs.Heap.{Heap, node_of, items_of, children_of, Writes}
 use Rattle.range_store.specs.declared.btree.nodes.TheConstants.{CAPACITY, MIN_LEN}
 use Rattle.range_store.specs.declared.btree.BoxStorage.{BoxStorage}
-use Rattle.range_store.specs.declared.btree.way.Edge.{Edge}
-use Rattle.range_store.specs.declared.btree.way.TheConstants.{WIDTH}
+use Rattle.range_store.specs.declared.btree.path.Edge.{Edge}
+use Rattle.range_store.specs.declared.btree.path.TheConstants.{PATH_BASE}
 use Rattle.range_store.specs.Nodes.{weave, before, after, items_below, used, Shaped, ShapedBut, Owned, IsTree}
 use Rattle.range_store.specs.Edges.{turn, inside, IsEdge, place}
 use Rattle.range_store.specs.Contents.{IsContent, IsRewritten}
@@ -23,7 +23,7 @@ use Rattle.range_store.proofs.Rank.{kid_shaped}
 use Rattle.range_store.specs.Written.{root_shaped}
 use Rattle.range_store.proofs.Shortening.{kid_kept, kid_moved, kid_listed, kid_front, kid_children, remove_middle}
 use Rattle.range_store.proofs.InLeaf.{IsLeafOf, leaf_of_edge}
-use Rattle.range_store.proofs.Settling.{tree_owned, rewritten_tree}
+use Rattle.range_store.proofs.Roots.{tree_owned, rewritten_tree}
 use Rattle.range_store.specs.Weave.{insert_middle, regroup}
 
 module _ {T : Type 0} where
@@ -35,7 +35,7 @@ module _ {T : Type 0} where
     pub was : items_below s (suc d) n ≡ front ++ (items_of (node_of s g.leaf) ++ rest)
     pub place_is : place s d n g ≡ length front + g.index
     pub rewritten : IsRewritten s t d n (front ++ (items ++ rest))
-    pub edges : (h : Edge) → h.leaf ≡ g.leaf → h.way ≡ g.way → h.index ≤ length items
+    pub edges : (h : Edge) → h.leaf ≡ g.leaf → h.path ≡ g.path → h.index ≤ length items
         → IsEdge t d n h × (place t d n h ≡ length front + h.index)
 
 -- of a leaf itself
@@ -55,7 +55,7 @@ module _ {T : Type 0} (s t : Heap T) (n : ℕ) (g : Edge) (items : List T)
   holds : Holds s t zero n items (children_of (node_of s n))
   holds = written_holds s t zero n items (children_of (node_of s n)) content written
 
-  edited_here : g.leaf ≡ n → g.way ≡ 0 → IsLeafEdit s t zero n g items
+  edited_here : g.leaf ≡ n → g.path ≡ 0 → IsLeafEdit s t zero n g items
   edited_here at first =
       let childless = nil_from_length (children_of (node_of s n)) shaped.node.branches in
       record {
@@ -78,14 +78,14 @@ module _ {T : Type 0} (s t : Heap T) (n : ℕ) (g : Edge) (items : List T)
               (enough least small old.node.enough) fits shaped.node.branches shaped.children;
         };
         edges =
-            λ h leaf way index. (
-              leaf_edge t n h (leaf ∙ at) (way ∙ first)
+            λ h leaf path index. (
+              leaf_edge t n h (leaf ∙ at) (path ∙ first)
                   (omega (arith, index, ap length holds.items_are)),
               omega (arith, leaf_place t n h),
             );
       }
 
--- of a leaf below the child through which the way goes
+-- of a leaf below the child through which the path goes
 module _ {T : Type 0} (s t : Heap T) (d n : ℕ) (g : Edge) (items : List T)
     (shaped : ShapedBut 1 CAPACITY s (suc d) n) (owned : Owned s (suc (suc d)) n)
     (low : turn g ≤ length (items_of (node_of s n)))
@@ -141,9 +141,9 @@ module _ {T : Type 0} (s t : Heap T) (d n : ℕ) (g : Edge) (items : List T)
               kid_now;
         };
       };
-      edges = λ h leaf way index.
-          let first : turn h ≡ turn g = ap (λ w. w % WIDTH) way in
-          let further = below.edges (inside h) leaf (ap (λ w. w / WIDTH) way) index in
+      edges = λ h leaf path index.
+          let first : turn h ≡ turn g = ap (λ w. w % PATH_BASE) path in
+          let further = below.edges (inside h) leaf (ap (λ w. w / PATH_BASE) path) index in
           let now = rw (kept, first) at (place_inside t d n h) in
           let fronts =
           rw kept at (kid_front s t (suc d) n
@@ -227,12 +227,12 @@ module _ {T : Type 0} (t : BoxStorage T) (new : Heap T) (g : Edge) (is : IsBoxEd
 
   leaf_change_lists : (now list : List T) (h : Edge)
       (edit : IsLeafEdit t.nodes new (t.levels - 1) t.root g now)
-      → edit.front ++ (now ++ edit.rest) ≡ list → h.leaf ≡ g.leaf → h.way ≡ g.way
+      → edit.front ++ (now ++ edit.rest) ≡ list → h.leaf ≡ g.leaf → h.path ≡ g.path
       → h.index ≤ length now → IsLeafChange list h h.index
-  leaf_change_lists now list h edit same at way within =
+  leaf_change_lists now list h edit same at path within =
       let whole =
       rewritten_tree t.nodes new t.levels t.root _ is.some t.whole.tree edit.rewritten in
-      let edge = edit.edges h at way within in
+      let edge = edit.edges h at path within in
       record {
         tree = whole.0;
         items_are = whole.1 ∙ same;
@@ -243,9 +243,9 @@ module _ {T : Type 0} (t : BoxStorage T) (new : Heap T) (g : Edge) (is : IsBoxEd
 
   pub put_in_leaf : (item : T) (h : Edge) → length items < CAPACITY
       → Writes t.nodes new g.leaf (insert items g.index item) (children_of (node_of t.nodes g.leaf))
-      → h.leaf ≡ g.leaf → h.way ≡ g.way → h.index ≡ g.index + 1
+      → h.leaf ≡ g.leaf → h.path ≡ g.path → h.index ≡ g.index + 1
       → IsLeafChange (insert (box_items t) (box_place t g) item) h h.index
-  put_in_leaf item h room written at way next =
+  put_in_leaf item h room written at path next =
       let within = leaf.within in
       let more = length-insert items g.index item within in
       let edit =
@@ -254,13 +254,13 @@ module _ {T : Type 0} (t : BoxStorage T) (new : Heap T) (g : Edge) (is : IsBoxEd
       (λ least small old. omega (arith, more, old)) shaped owned is.edge written in
       leaf_change_lists (insert items g.index item) _ h edit
       (rw level at (inserted_in_leaf t.nodes new (t.levels - 1) t.root item g edit within)) at
-      way (omega (arith, more, next, within))
+      path (omega (arith, more, next, within))
 
   pub take_from_leaf : (h : Edge) → MIN_LEN < length items → 0 < g.index
       → Writes t.nodes new g.leaf (remove items (g.index - 1))
-      (children_of (node_of t.nodes g.leaf)) → h.leaf ≡ g.leaf → h.way ≡ g.way
+      (children_of (node_of t.nodes g.leaf)) → h.leaf ≡ g.leaf → h.path ≡ g.path
       → h.index ≡ g.index - 1 → IsLeafChange (remove (box_items t) (box_place t g - 1)) h h.index
-  take_from_leaf h spare some written at way back =
+  take_from_leaf h spare some written at path back =
       let within = leaf.within in
       let less = length-remove items (g.index - 1) (omega (arith, within, some)) in
       let edit =
@@ -269,4 +269,4 @@ module _ {T : Type 0} (t : BoxStorage T) (new : Heap T) (g : Edge) (is : IsBoxEd
       (λ least small old. omega (arith, less, spare, small)) shaped owned is.edge written in
       leaf_change_lists (remove items (g.index - 1)) _ h edit
       (rw level at (removed_in_leaf t.nodes new (t.levels - 1) t.root g edit some within)) at
-      way (omega (arith, less, back, within))
+      path (omega (arith, less, back, within))

@@ -5,7 +5,7 @@ use Rattle.std.proofs.lemmas.List.{nil_from_length}
 use Rattle.std.proofs.lemmas.List.Edits.{length-insert}
 use Rattle.range_store.specs.Heap.{Heap, node_of, items_of, children_of}
 use Rattle.range_store.specs.declared.btree.nodes.TheConstants.{CAPACITY}
-use Rattle.range_store.specs.declared.btree.way.Edge.{Edge}
+use Rattle.range_store.specs.declared.btree.path.Edge.{Edge}
 use Rattle.range_store.specs.Nodes.{weave, items_below, used, ShapedBut, Owned, Moves}
 use Rattle.range_store.specs.Edges.{IsSeat, seat_place}
 use Rattle.range_store.specs.Contents.{IsContent}

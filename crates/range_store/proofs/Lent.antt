@@ -9,8 +9,8 @@ use Rattle.range_store.specs.Holding.{box_home, box_items, box_place, box_rank, 
 use Rattle.range_store.specs.Nodes.{items_below, IsRoomy, IsRoomy-prop}
 use Rattle.range_store.specs.Written.{SameShape, edge_same, place_same}
 use Rattle.range_store.specs.declared.btree.BoxStorage.{BoxStorage}
-use Rattle.range_store.specs.declared.btree.way.Edge.{Edge}
-use Rattle.range_store.specs.declared.btree.way.Home.{Home}
+use Rattle.range_store.specs.declared.btree.path.Edge.{Edge}
+use Rattle.range_store.specs.declared.btree.path.Home.{Home}
 
 has_levels_prop : (many levels : ℕ) (first second : HasLevels many levels) → first ≡ second
 has_levels_prop many levels = hlevel (le_prop, ℕ_set)

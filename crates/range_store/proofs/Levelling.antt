@@ -4,7 +4,7 @@ use Rattle.std.specs.List.{flat_map, sum_by}
 use Rattle.std.proofs.lemmas.List.{append-nil, append_assoc, length-append, length-map, length-take-le, length-drop, take_more, take-map, drop_more}
 use Rattle.range_store.specs.Heap.{Heap, node_of, items_of, children_of, Writes}
 use Rattle.range_store.specs.declared.btree.nodes.Split.{Split}
-use Rattle.range_store.specs.declared.btree.way.Edge.{Edge}
+use Rattle.range_store.specs.declared.btree.path.Edge.{Edge}
 use Rattle.range_store.specs.Nodes.{weave, rest_of, front_of, before, items_below, used, Moves, tops, separators, rights, Shrinks, IsLevelled}
 use Rattle.range_store.specs.Edges.{turn, inside, IsEdge, place, IsSeat, seat_place}
 use Rattle.range_store.specs.Contents.{IsContent, IsPair, Rejoins}

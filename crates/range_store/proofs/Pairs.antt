@@ -3,7 +3,7 @@ use Rattle.std.proofs.Common.{◌≡◌, ◌⊎◌, ℕ, zero, suc, ◌+◌, ◌
 use Rattle.std.proofs.lemmas.List.{length-map, get_or-map}
 use Rattle.range_store.specs.Heap.{Heap, node_of, items_of, children_of}
 use Rattle.range_store.specs.declared.btree.nodes.TheConstants.{CAPACITY, MIN_LEN}
-use Rattle.range_store.specs.declared.btree.way.Edge.{Edge}
+use Rattle.range_store.specs.declared.btree.path.Edge.{Edge}
 use Rattle.range_store.specs.Nodes.{items_below, before, ShapedBut, IsLevelled, child_size}
 use Rattle.range_store.specs.Edges.{inside, seat_of, IsEdge, IsSeat, seat_place}
 use Rattle.range_store.proofs.Edges.{leaf_index, turn_within}

@@ -8,7 +8,7 @@ use Rattle.range_store.specs.Holding.{box_items, box_place, box_rank, edge_or_en
 use Rattle.range_store.specs.Falling.{Falls}
 use Rattle.range_store.specs.Places.{IsAt, IsFrontOf}
 use Rattle.range_store.specs.declared.btree.BoxStorage.{BoxStorage}
-use Rattle.range_store.specs.declared.btree.way.Edge.{Edge}
+use Rattle.range_store.specs.declared.btree.path.Edge.{Edge}
 use Rattle.range_store.proofs.Front.{falling_front}
 
 module _ {X : Type 0} where

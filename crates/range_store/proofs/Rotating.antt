@@ -7,7 +7,7 @@ use Rattle.std.proofs.lemmas.List.{length-append, length-take-le, append-nil, ge
 use Rattle.range_store.specs.Heap.{Heap, node_of, items_of, children_of, child_count, HasPair, RotatesLeft, RotatesRight, Merges, Writes, Removes}
 use Rattle.range_store.specs.declared.btree.nodes.Split.{Split}
 use Rattle.range_store.specs.declared.btree.nodes.TheConstants.{CAPACITY, MIN_LEN}
-use Rattle.range_store.specs.declared.btree.way.Edge.{Edge}
+use Rattle.range_store.specs.declared.btree.path.Edge.{Edge}
 use Rattle.range_store.specs.Nodes.{before, items_below, used, Shrinks, IsLevelled, child_size}
 use Rattle.range_store.specs.Edges.{turn, inside, seat_of, IsEdge, place, IsSeat, seat_place}
 use Rattle.range_store.specs.Contents.{IsPair, Rejoins}
@@ -51,12 +51,12 @@ drop_fewer zero a b ks (l ∷ ls) many many' = absurd (omega arith)
 drop_fewer (suc d) a b ks ls many many' = drop-append-le a ks ls (omega arith)
 
 -- an edge that lies at another index of its leaf, or goes through another child first
-pub moved_way : (low leaf index : ℕ) (g e : Edge)
-    → (low ≡ 0 → g ≡ record { leaf = leaf; way = 0; index = index })
-    → (0 < low → inside g ≡ inside e) → e.way < 2 ^ 120 → g.way < 2 ^ 124
-moved_way zero leaf index g e at into small = rw (at refl) (omega arith)
-moved_way (suc low) leaf index g e at into small =
-    let same = ap (λ (x : Edge). x.way) (into (omega arith)) in
+pub moved_path : (low leaf index : ℕ) (g e : Edge)
+    → (low ≡ 0 → g ≡ record { leaf = leaf; path = 0; index = index })
+    → (0 < low → inside g ≡ inside e) → e.path < 2 ^ 120 → g.path < 2 ^ 124
+moved_path zero leaf index g e at into small = rw (at refl) (omega arith)
+moved_path (suc low) leaf index g e at into small =
+    let same = ap (λ (x : Edge). x.path) (into (omega arith)) in
     omega (arith, same, small)
 
 module _ {T : Type 0} (s : Heap T) (low n j : ℕ) (levelled : IsLevelled s low n j) where
@@ -120,7 +120,7 @@ module _ {T : Type 0} (s : Heap T) (low n j : ℕ) (levelled : IsLevelled s low 
       still = ap length parent.items_are ∙ length-set xs j y
 
       stays_left : (q : ℕ) (g e h : Edge) → q ≤ half → IsSeat s low X K q g
-          → (low ≡ 0 → e ≡ record { leaf = l; way = 0; index = q }) → (0 < low → turn e ≡ q)
+          → (low ≡ 0 → e ≡ record { leaf = l; path = 0; index = q }) → (0 < low → turn e ≡ q)
           → (0 < low → inside e ≡ g) → turn h ≡ j → inside h ≡ e
           → IsEdge u (suc low) n h
           × (place u (suc low) n h
@@ -143,7 +143,7 @@ module _ {T : Type 0} (s : Heap T) (low n j : ℕ) (levelled : IsLevelled s low 
           (up.0, omega (arith, up.1, alone.1, edge.1, left.1))
 
       moves_right : (q : ℕ) (g e h : Edge) → half < q → IsSeat s low X K q g
-          → (low ≡ 0 → e ≡ record { leaf = r; way = 0; index = q - half - 1 })
+          → (low ≡ 0 → e ≡ record { leaf = r; path = 0; index = q - half - 1 })
           → (0 < low → turn e ≡ q - half - 1) → (0 < low → inside e ≡ g) → turn h ≡ j + 1
           → inside h ≡ e
           → IsEdge u (suc low) n h
@@ -190,7 +190,7 @@ module _ {T : Type 0} (s : Heap T) (low n j : ℕ) (levelled : IsLevelled s low 
       merged_shrinks = levelled_shrinks s low n j x levelled here t None joined u detached
 
       merged_edge : (q : ℕ) (g e h : Edge) → IsSeat s low X K q g
-          → (low ≡ 0 → e ≡ record { leaf = l; way = 0; index = q }) → (0 < low → turn e ≡ q)
+          → (low ≡ 0 → e ≡ record { leaf = l; path = 0; index = q }) → (0 < low → turn e ≡ q)
           → (0 < low → inside e ≡ g) → turn h ≡ j → inside h ≡ e
           → IsEdge u (suc low) n h
           × (place u (suc low) n h
@@ -247,12 +247,12 @@ module _ {T : Type 0} (s : Heap T) (low n j : ℕ) (levelled : IsLevelled s low 
 
   -- the edges below the two
   edge_itself : (d k : ℕ) (e : Edge) → IsEdge s d k e
-      → (d ≡ 0 → e ≡ record { leaf = k; way = 0; index = seat_of d e })
+      → (d ≡ 0 → e ≡ record { leaf = k; path = 0; index = seat_of d e })
       × (0 < d → turn e ≡ seat_of d e)
   unfolding IsEdge
   edge_itself zero k e is = (
-    (λ _. let at : e ≡ record { leaf = k; way = e.way; index = e.index } = rw (← is.0) refl in at
-        ∙ ap (λ w. record { leaf = k; way = w; index = e.index }) is.1),
+    (λ _. let at : e ≡ record { leaf = k; path = e.path; index = e.index } = rw (← is.0) refl in at
+        ∙ ap (λ w. record { leaf = k; path = w; index = e.index }) is.1),
     (λ some. absurd (omega arith)),
   )
   edge_itself (suc d) k e is = ((λ none. absurd (omega arith)), (λ _. refl))
@@ -337,7 +337,7 @@ module _ {T : Type 0} (s : Heap T) (low n j : ℕ) (levelled : IsLevelled s low 
     next_kept = ap length rotates.rotates.parent.items_are ∙ length-set xs j rotates.up
 
     pub next_edge : (e g h : Edge) → IsEdge s low r e
-        → (low ≡ 0 → g ≡ record { leaf = r; way = 0; index = seat_of low e + 1 })
+        → (low ≡ 0 → g ≡ record { leaf = r; path = 0; index = seat_of low e + 1 })
         → (0 < low → turn g ≡ seat_of low e + 1) → (0 < low → inside g ≡ inside e) → turn h ≡ j + 1
         → inside h ≡ g
         → IsEdge u (suc low) n h × (place u (suc low) n h ≡ seat_place s (suc low) xs ks (j + 1) e)
@@ -456,7 +456,7 @@ module _ {T : Type 0} (s : Heap T) (low n j : ℕ) (levelled : IsLevelled s low 
     pub joined_edge : (i : ℕ) (e g h : Edge) (q : ℕ) → (i ≡ j) ⊎ (i ≡ j + 1)
         → IsEdge s low (get_or ks i 0) e → (i - j ≡ 0 → q ≡ seat_of low e)
         → (0 < i - j → q ≡ length (items_of (node_of s l)) + 1 + seat_of low e)
-        → (low ≡ 0 → g ≡ record { leaf = l; way = 0; index = q }) → (0 < low → turn g ≡ q)
+        → (low ≡ 0 → g ≡ record { leaf = l; path = 0; index = q }) → (0 < low → turn g ≡ q)
         → (0 < low → inside g ≡ inside e) → turn h ≡ j → inside h ≡ g
         → IsEdge u (suc low) n h × (place u (suc low) n h ≡ seat_place s (suc low) xs ks i e)
     joined_edge i e g h q near is first second leaf at into turned inner =

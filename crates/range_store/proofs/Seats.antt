@@ -5,11 +5,11 @@ use Rattle.std.proofs.lemmas.List.{length-append, length-map, length-take-le, le
 use Rattle.std.proofs.lemmas.List.Sums.{sum_by-append}
 use Rattle.range_store.specs.Heap.{Heap, child_count}
 use Rattle.range_store.specs.declared.btree.nodes.Split.{Split}
-use Rattle.range_store.specs.declared.btree.way.Edge.{Edge}
-use Rattle.range_store.specs.declared.btree.way.TheConstants.{DEEPEST}
+use Rattle.range_store.specs.declared.btree.path.Edge.{Edge}
+use Rattle.range_store.specs.declared.btree.path.TheConstants.{MAX_LEVELS}
 use Rattle.range_store.specs.Nodes.{weave, before, items_below, used, tops, separators}
 use Rattle.range_store.specs.Edges.{turn, inside, IsEdge, place, IsSeat, seat_place}
-use Rattle.range_store.proofs.Edges.{same_edge, way_small}
+use Rattle.range_store.proofs.Edges.{same_edge, path_small}
 use Rattle.range_store.proofs.Edits.{take-append-add}
 use Rattle.range_store.specs.Frame.{agree_kid, AgreeAt}
 use Rattle.range_store.proofs.Contents.{Holds}
@@ -18,7 +18,7 @@ use Rattle.range_store.specs.Weave.{length-before, length-weave}
 -- an edge at a seat of a node that was written
 module _ {T : Type 0} (s t : Heap T) (n : ℕ) (xs : List T) (ks : List ℕ) (i : ℕ) (g h : Edge) where
   pub seat_written : (d : ℕ) → Holds s t d n xs ks → AgreeAt s t (flat_map (used s d) ks)
-      → (d ≡ 0 → h ≡ record { leaf = n; way = 0; index = i }) → (0 < d → turn h ≡ i)
+      → (d ≡ 0 → h ≡ record { leaf = n; path = 0; index = i }) → (0 < d → turn h ≡ i)
       → (0 < d → inside h ≡ g) → IsSeat s d xs ks i g
       → IsEdge t d n h × (place t d n h ≡ seat_place s d xs ks i g)
   unfolding IsEdge place IsSeat seat_place
@@ -44,11 +44,11 @@ unfolding IsSeat
 seat_small s zero xs ks i g branches seat = seat
 seat_small s (suc d) xs ks i g branches seat = omega (arith, seat.0, branches)
 
-pub seat_way : {T : Type 0} (s : Heap T) (d : ℕ) (xs : List T) (ks : List ℕ) (i : ℕ) (g : Edge)
-    → d < DEEPEST → 0 < d → IsSeat s d xs ks i g → g.way < 2 ^ 124
+pub seat_path : {T : Type 0} (s : Heap T) (d : ℕ) (xs : List T) (ks : List ℕ) (i : ℕ) (g : Edge)
+    → d < MAX_LEVELS → 0 < d → IsSeat s d xs ks i g → g.path < 2 ^ 124
 unfolding IsSeat
-seat_way s zero xs ks i g deep some seat = absurd (omega arith)
-seat_way s (suc d) xs ks i g deep some seat = way_small s d _ g (omega (arith, deep)) seat.1
+seat_path s zero xs ks i g deep some seat = absurd (omega arith)
+seat_path s (suc d) xs ks i g deep some seat = path_small s d _ g (omega (arith, deep)) seat.1
 
 -- a cut at `half` leaves an edge in the first part, at the same seat
 module _ {T : Type 0} (s : Heap T) (half : ℕ) (xs : List T) (ks : List ℕ) (i : ℕ) (g : Edge)

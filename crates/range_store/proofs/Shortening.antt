@@ -6,7 +6,7 @@ use Rattle.std.proofs.lemmas.List.Edits.{remove-append_left, remove-append_right
 use Rattle.std.proofs.lemmas.List.Elements.{All-append, All-cons, All-take, All-drop}
 use Rattle.range_store.specs.Heap.{Heap, node_of, items_of, children_of, Writes}
 use Rattle.range_store.specs.declared.btree.nodes.TheConstants.{CAPACITY, MIN_LEN}
-use Rattle.range_store.specs.Nodes.{weave, rest_of, front_of, before, after, items_below, used, Shaped, ShapedBut, Owned, Moves, Shrinks, IsMendable}
+use Rattle.range_store.specs.Nodes.{weave, rest_of, front_of, before, after, items_below, used, Shaped, ShapedBut, Owned, Moves, Shrinks, MayBeRebalanced}
 use Rattle.range_store.specs.Contents.{IsContent}
 use Rattle.range_store.specs.Occurrences.{occurrences}
 use Rattle.range_store.proofs.Contents.{written_holds, held_items_below, held_used, held_shape}
@@ -141,8 +141,9 @@ module _ {T : Type 0} (s t : Heap T) (b n i : ℕ) (list : List T) (inner : b �
   level : suc (b - 1) ≡ b
   level = omega arith
 
-  pub kid_mendable : ShapedBut (MIN_LEN - 1) CAPACITY t (b - 1) kid → IsMendable t (b - 1) n i
-  kid_mendable short =
+  pub kid_may_be_rebalanced : ShapedBut (MIN_LEN - 1) CAPACITY t (b - 1) kid
+      → MayBeRebalanced t (b - 1) n i
+  kid_may_be_rebalanced short =
       let node = IsNode-same 1 CAPACITY s t b n kid_kept shaped.node in
       let before =
       (same_before s t b n us (kid ∷ []) vs (kid ∷ []) kid_run).shaped_same
@@ -191,14 +192,14 @@ leaf_shrinks s t n q shaped owned within written =
           (omega (arith, less, shaped.node.fits)) shaped.node.branches shaped.children;
     }
 
--- an item below a child went, and the child was mended
+-- an item below a child went, and the child was rebalanced
 module _ {T : Type 0} (s t u : Heap T) (b n i q : ℕ) (inner : b ≢ 0)
     (shaped : ShapedBut 1 CAPACITY s b n) (owned : Owned s (suc b) n)
     (low : i ≤ length (items_of (node_of s n)))
     (within : q < length (items_below s b (get_or (children_of (node_of s n)) i 0)))
     (child : Shrinks s t (b - 1) (get_or (children_of (node_of s n)) i 0)
     (remove (items_below s (suc (b - 1)) (get_or (children_of (node_of s n)) i 0)) q))
-    (mended : Shrinks t u (suc (b - 1)) n (items_below t (suc (suc (b - 1))) n)) where
+    (rebalanced : Shrinks t u (suc (b - 1)) n (items_below t (suc (suc (b - 1))) n)) where
   back : suc (b - 1) ≡ b
   back = omega arith
 
@@ -218,7 +219,7 @@ module _ {T : Type 0} (s t u : Heap T) (b n i q : ℕ) (inner : b ≢ 0)
       let kept = kid_kept s t b n i _ inner shaped owned low listed' moved' in
       record {
         listed =
-            (rw back at mended.listed)
+            (rw back at rebalanced.listed)
             ∙ kid_listed s t b n i _ inner shaped owned low listed' moved'
             ∙ sym
             (remove_middle (before (items_of (node_of s n))
@@ -233,6 +234,7 @@ module _ {T : Type 0} (s t u : Heap T) (b n i q : ℕ) (inner : b ≢ 0)
             (sym (items_below_at 1 CAPACITY s b n (omega arith) shaped i low));
         moved =
             Moves-then s t u (used s (suc b) n) (used t (suc b) n) (used u (suc b) n)
-            (kid_moved s t b n i _ inner shaped owned low listed' moved') (rw back at mended.moved);
-        shape = λ least more. rw back at (mended.shape least (rw kept more));
+            (kid_moved s t b n i _ inner shaped owned low listed' moved')
+            (rw back at rebalanced.moved);
+        shape = λ least more. rw back at (rebalanced.shape least (rw kept more));
       }

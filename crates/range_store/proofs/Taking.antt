@@ -10,8 +10,8 @@ use Rattle.range_store.specs.Holding.{box_items, box_room, IsBoxEdge, box_place,
 use Rattle.range_store.specs.Nodes.{items_below, IsRoomy}
 use Rattle.range_store.specs.declared.btree.BoxStorage.{BoxStorage}
 use Rattle.range_store.specs.declared.btree.nodes.TheConstants.{MIN_LEN}
-use Rattle.range_store.specs.declared.btree.way.Edge.{Edge}
-use Rattle.range_store.specs.declared.btree.way.Home.{Home}
+use Rattle.range_store.specs.declared.btree.path.Edge.{Edge}
+use Rattle.range_store.specs.declared.btree.path.Home.{Home}
 use Rattle.range_store.proofs.InLeaf.{moved_down}
 
 -- one less

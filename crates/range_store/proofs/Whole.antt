@@ -4,9 +4,9 @@ use Rattle.std.proofs.Math.Nat.{pow-le-pow_right}
 use Rattle.std.proofs.lemmas.Bool.{cases_lt}
 use Rattle.range_store.specs.Heap.{Heap, node_of, items_of}
 use Rattle.range_store.specs.declared.btree.nodes.TheConstants.{CAPACITY, MIN_LEN}
-use Rattle.range_store.specs.declared.btree.way.TheConstants.{DEEPEST}
+use Rattle.range_store.specs.declared.btree.path.TheConstants.{MAX_LEVELS}
 use Rattle.range_store.specs.declared.btree.BoxStorage.{BoxStorage}
-use Rattle.range_store.specs.declared.btree.way.Edge.{Edge}
+use Rattle.range_store.specs.declared.btree.path.Edge.{Edge}
 use Rattle.range_store.specs.Holding.{box_items, IsBoxEdge, box_place, IsGood, good_item}
 use Rattle.range_store.specs.Nodes.{IsRoomy, ShapedBut}
 use Rattle.range_store.proofs.Edges.{place_within}
@@ -14,17 +14,17 @@ use Rattle.range_store.proofs.InLeaf.{IsLeafOf, leaf_of_edge, leaf_beside, leaf_
 use Rattle.range_store.proofs.Levels.{tree_lower}
 use Rattle.range_store.specs.Written.{root_shaped}
 
--- so many levels as a way has digits are enough for all items that a `usize` counts
+-- so many levels as a path has digits are enough for all items that a `usize` counts
 pub tree_is_not_too_deep : {T : Type 0} (s : Heap T) (levels root : ℕ) → IsRoomy s levels root
-    → levels - 1 < DEEPEST
+    → levels - 1 < MAX_LEVELS
 tree_is_not_too_deep s zero root roomy = omega arith
 tree_is_not_too_deep s (suc d) root roomy =
-    elim (cases_lt d DEEPEST) [
+    elim (cases_lt d MAX_LEVELS) [
       | inl low ↦ omega (arith, low)
       | inr high ↦
           let some : 0 < MIN_LEN + 1 = omega arith in
-          let more : (MIN_LEN + 1) ^ DEEPEST ≤ (MIN_LEN + 1) ^ d = pow-le-pow_right some high in
-          let limit : 2 ^ 64 ≤ (MIN_LEN + 1) ^ DEEPEST = omega arith in
+          let more : (MIN_LEN + 1) ^ MAX_LEVELS ≤ (MIN_LEN + 1) ^ d = pow-le-pow_right some high in
+          let limit : 2 ^ 64 ≤ (MIN_LEN + 1) ^ MAX_LEVELS = omega arith in
           absurd (omega (arith, tree_lower s d root roomy.tree, more, limit, roomy.counted))
     ]
 
@@ -47,20 +47,20 @@ module _ {T : Type 0} (t : BoxStorage T) (g : Edge) (is : IsBoxEdge t g) where
   pub tree_leaf : IsLeafOf t.nodes g
   tree_leaf = leaf_of_edge t.nodes (t.levels - 1) t.root g shaped is.edge
 
-  pub tree_beside : (h : Edge) → h.leaf ≡ g.leaf → h.way ≡ g.way
+  pub tree_beside : (h : Edge) → h.leaf ≡ g.leaf → h.path ≡ g.path
       → h.index ≤ length (items_of (node_of t.nodes g.leaf))
       → IsBoxEdge t h × (box_place t h + g.index ≡ box_place t g + h.index)
-  tree_beside h leaf way index =
-      let other = leaf_beside t.nodes (t.levels - 1) t.root g h leaf way index is.edge in
+  tree_beside h leaf path index =
+      let other = leaf_beside t.nodes (t.levels - 1) t.root g h leaf path index is.edge in
       (record { some = is.some; edge = other.0 }, other.1)
 
   -- the edge after the first item of the leaf
   pub tree_behind : g.index ≡ 0
-      → IsBoxEdge t (record { leaf = g.leaf; way = g.way; index = 1 })
-      × (box_place t (record { leaf = g.leaf; way = g.way; index = 1 }) ≡ box_place t g + 1)
+      → IsBoxEdge t (record { leaf = g.leaf; path = g.path; index = 1 })
+      × (box_place t (record { leaf = g.leaf; path = g.path; index = 1 }) ≡ box_place t g + 1)
   tree_behind first =
       let beside =
-      tree_beside (record { leaf = g.leaf; way = g.way; index = 1 }) refl refl
+      tree_beside (record { leaf = g.leaf; path = g.path; index = 1 }) refl refl
       tree_leaf.some in
       (beside.0, omega (arith, beside.1, first))
 

@@ -2,17 +2,17 @@
 -- stands.
 use Rattle.std.specs.Prelude.{◌≡◌, ℕ, zero, suc, ◌+◌, ◌-◌, ◌/◌, ◌%◌, ◌<◌, ◌≤◌, ◌==◌, ◌&&◌, if◌then◌else◌, Bool, List, length, map, slice_index}
 use Rattle.range_store.specs.Heap.{Heap, node_of, items_of, children_of}
-use Rattle.range_store.specs.declared.btree.way.Edge.{Edge}
-use Rattle.range_store.specs.declared.btree.way.Home.{Home}
-use Rattle.range_store.specs.declared.btree.way.TheConstants.{WIDTH}
+use Rattle.range_store.specs.declared.btree.path.Edge.{Edge}
+use Rattle.range_store.specs.declared.btree.path.Home.{Home}
+use Rattle.range_store.specs.declared.btree.path.TheConstants.{PATH_BASE}
 use Rattle.range_store.specs.Nodes.{items_below, before}
 
--- the child through which the way to an edge goes first, and the edge as that child sees it
+-- the child through which the path to an edge goes first, and the edge as that child sees it
 abbrev pub turn : Edge → ℕ
-turn edge = edge.way % WIDTH
+turn edge = edge.path % PATH_BASE
 
 abbrev pub inside : Edge → Edge
-inside edge = record edge { way = edge.way / WIDTH }
+inside edge = record edge { path = edge.path / PATH_BASE }
 
 -- where an edge lies in the node that it is seen from: in the list of a leaf, or below the child at
 -- this index
@@ -22,13 +22,13 @@ seat_of (suc d) edge = turn edge
 
 -- whether nothing stands before the edge, below the node that it is seen from
 abbrev pub is_start : Edge → Bool
-is_start edge = (edge.way == 0) && (edge.index == 0)
+is_start edge = (edge.path == 0) && (edge.index == 0)
 
 module _ {T : Type 0} where
-  -- the way leads from the node n, over d levels, to a leaf with such an edge
+  -- the path leads from the node n, over d levels, to a leaf with such an edge
   unfoldable pub IsEdge : Heap T → ℕ → ℕ → Edge → Type 0
   IsEdge s zero n edge =
-      (edge.leaf ≡ n) × (edge.way ≡ 0) × (edge.index ≤ length (items_of (node_of s n)))
+      (edge.leaf ≡ n) × (edge.path ≡ 0) × (edge.index ≤ length (items_of (node_of s n)))
   IsEdge s (suc d) n edge =
       (turn edge < length (children_of (node_of s n)))
       × IsEdge s d (slice_index (children_of (node_of s n)) (turn edge)) (inside edge)

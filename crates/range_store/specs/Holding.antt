@@ -11,9 +11,9 @@ use Rattle.range_store.specs.Places.{place_before, IsAt}
 use Rattle.range_store.specs.Written.{SameShape, turned, length_same, tree_same, edge_same, place_same, IsHome, home_is, home_item, home_set, home_within, written_shape, item_written, tree_once, root_shaped}
 use Rattle.range_store.specs.declared.btree.BoxStorage.{BoxStorage}
 use Rattle.range_store.specs.declared.btree.nodes.TheConstants.{CAPACITY, MIN_LEN}
-use Rattle.range_store.specs.declared.btree.searching.TheConstants.{HALVINGS}
-use Rattle.range_store.specs.declared.btree.way.Edge.{Edge}
-use Rattle.range_store.specs.declared.btree.way.Home.{Home}
+use Rattle.range_store.specs.declared.btree.searching.TheConstants.{MAX_ASKS}
+use Rattle.range_store.specs.declared.btree.path.Edge.{Edge}
+use Rattle.range_store.specs.declared.btree.path.Home.{Home}
 
 module _ {T : Type 0} where
   -- the items in order
@@ -68,12 +68,12 @@ module _ {T : Type 0} where
       elim (cases_eq g.leaf n) [
         | inr other ↦ inr (λ is. other is.0)
         | inl leaf ↦
-            elim (cases_eq g.way 0) [
+            elim (cases_eq g.path 0) [
               | inr other ↦ inr (λ is. other is.1)
-              | inl way ↦
+              | inl path ↦
                   elim (cases_lt (length (items_of (node_of s n))) g.index) [
                     | inl past ↦ inr (λ is. omega (arith, past, is.2))
-                    | inr within ↦ inl (leaf, way, within)
+                    | inr within ↦ inl (leaf, path, within)
                   ]
             ]
       ]
@@ -288,6 +288,6 @@ module _ {T : Type 0} where
   pub items_fit : (s : BoxStorage T) → length (box_items s) < 2 ^ 64
   items_fit s = s.whole.counted
 
-  pub none_asked_of_empty : (s : BoxStorage T) → length (box_items s) ≡ 0 → HALVINGS * s.levels ≡ 0
+  pub none_asked_of_empty : (s : BoxStorage T) → length (box_items s) ≡ 0 → MAX_ASKS * s.levels ≡ 0
   none_asked_of_empty s none = let levels : s.levels ≡ 0 =
       s.levelled.empty (s.counted ∙ none) in rw levels refl

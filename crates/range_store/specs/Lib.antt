@@ -7,7 +7,7 @@ pub mod Falling
 pub mod Frame
 pub mod Heap
 pub mod Holding
-pub mod Lending
+pub mod Rewriting
 pub mod Nodes
 pub mod Occurrences
 pub mod Places

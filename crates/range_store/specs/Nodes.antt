@@ -145,7 +145,7 @@ module _ {T : Type 0} where
     pub len : node_count s ≡ length (used s levels root)
 
   -- a node over `suc low` levels, of whose children the one at i may lack an item
-  pub record IsMendable (s : Heap T) (low n i : ℕ) : Type 0 where
+  pub record MayBeRebalanced (s : Heap T) (low n i : ℕ) : Type 0 where
     pub node : IsNode 1 CAPACITY s (suc low) n
     pub owned : Owned s (suc (suc low)) n
     pub within : i ≤ length (items_of (node_of s n))

@@ -10,8 +10,8 @@ use Rattle.std.proofs.lemmas.List.Sums.{sum_by-set}
 use mathlib.Core.Path.{fun_ext}
 use Rattle.range_store.specs.Heap.{Heap, HasNode, node_of, node_count, items_of, children_of, with_item, Writes}
 use Rattle.range_store.specs.Occurrences.{occurrences, occurrences-append, occurrences-cons, occurrences_itself, occurrences_here}
-use Rattle.range_store.specs.declared.btree.way.Edge.{Edge}
-use Rattle.range_store.specs.declared.btree.way.Home.{Home}
+use Rattle.range_store.specs.declared.btree.path.Edge.{Edge}
+use Rattle.range_store.specs.declared.btree.path.Home.{Home}
 use Rattle.range_store.specs.declared.btree.nodes.TheConstants.{CAPACITY, MIN_LEN}
 use Rattle.range_store.specs.Nodes.{weave, rest_of, before, after, items_below, used, IsNode, Shaped, ShapedBut, IsRoot, IsTree, here}
 use Rattle.range_store.specs.Edges.{turn, inside, is_start, IsEdge, place, home_of}
@@ -235,18 +235,18 @@ module _ {T : Type 0} (s : Heap T) where
       record { node = kid.0; children = kid.1 }
 
   -- the edge that a start is has nothing before it
-  pub place_of_start : (d n : ℕ) (g : Edge) → g.way ≡ 0 → g.index ≡ 0 → place s d n g ≡ 0
+  pub place_of_start : (d n : ℕ) (g : Edge) → g.path ≡ 0 → g.index ≡ 0 → place s d n g ≡ 0
   unfolding place
-  place_of_start zero n g way index = index
-  place_of_start (suc d) n g way index =
-      let first : turn g ≡ 0 = omega (arith, way) in
+  place_of_start zero n g path index = index
+  place_of_start (suc d) n g path index =
+      let first : turn g ≡ 0 = omega (arith, path) in
       let below =
       place_of_start d (get_or (children_of (node_of s n)) 0 0) (inside g)
-      (omega (arith, way)) index in
+      (omega (arith, path)) index in
       rw first (omega (arith, below))
 
   pub start_of_place : (least most d n : ℕ) (g : Edge) → ShapedBut least most s d n → IsEdge s d n g
-      → place s d n g ≡ 0 → (g.way ≡ 0) × (g.index ≡ 0)
+      → place s d n g ≡ 0 → (g.path ≡ 0) × (g.index ≡ 0)
   unfolding IsEdge place
   start_of_place least most zero n g shaped is none = (is.1, none)
   start_of_place least most (suc d) n g shaped is none =
@@ -341,7 +341,7 @@ module _ {T : Type 0} (s : Heap T) where
             absurd (omega (arith, some, place_is, first, none))
         above_start (suc t) at = omega arith
 
-    -- or below the child through which the way goes
+    -- or below the child through which the path goes
     home_below : (m q : ℕ) → 0 < place s d kid (inside g)
         → IsHome s d kid m q (place s d kid (inside g) - 1)
         → IsHome s (suc d) n m q (place s (suc d) n g - 1)
@@ -450,7 +450,7 @@ module _ {T : Type 0} (s : Heap T) where
           (home_of s d (get_or (children_of (node_of s n)) (turn g) 0) (inside g))
           → IsHome s (suc d) n h.node h.index (place s (suc d) n g - 1)
       pick further true start h at =
-          let none = and_parts ((inside g).way == 0) ((inside g).index == 0) start in
+          let none = and_parts ((inside g).path == 0) ((inside g).index == 0) start in
           let first =
           place_of_start d (get_or (children_of (node_of s n)) (turn g) 0) (inside g)
           (eqb-true _ _ none.0) (eqb-true _ _ none.1) in

@@ -7,16 +7,16 @@ ghost use Rattle.range_store.specs.Nodes.{items_below, IsRoomy, IsRoomy-prop};
 mod cells;
 mod insertion;
 mod nodes;
+mod path;
 mod removal;
 mod searching;
 mod tree;
-mod way;
 
 use crate::btree::nodes::Nodes;
 pub use crate::btree::nodes::{CAPACITY, MIN_LEN};
-use crate::btree::searching::HALVINGS;
-pub use crate::btree::way::Edge;
-use crate::btree::way::stands_first;
+pub use crate::btree::path::Edge;
+use crate::btree::path::stands_first;
+use crate::btree::searching::MAX_ASKS;
 use crate::storage::{Probe, Storage};
 use std::alloc::{AllocError, Global};
 
@@ -67,7 +67,7 @@ impl<T: Drop> BoxStorage<T> {
 }
 
 impl<T: Drop> Storage<T> for BoxStorage<T> {
-    ghost use Rattle.range_store.specs.declared.btree.searching.TheConstants.{HALVINGS};
+    ghost use Rattle.range_store.specs.declared.btree.searching.TheConstants.{MAX_ASKS};
     ghost use Rattle.range_store.specs.Holding.{box_items, box_rank, box_room, box_place_before, IsGood, with_box_item, items_with_box_item, room_with_box_item, good_with_box_item, rank_with_box_item, good_in_range, items_fit, none_asked_of_empty};
 
     type Position = Edge;
@@ -84,7 +84,7 @@ impl<T: Drop> Storage<T> for BoxStorage<T> {
 
     ghost least_asks = { λ s. s.levels };
 
-    ghost most_asks = { λ s. HALVINGS * s.levels };
+    ghost most_asks = { λ s. MAX_ASKS * s.levels };
 
     fn new(alloc: Global) -> Self {
         BoxStorage {

@@ -202,7 +202,7 @@ pub trait Storage<T>: Drop {
     /// Puts the item before the one at the position, or after all others, and returns its position.
     ///
     /// Takes from the capacity, and never fails. A vector moves all items after it, a B-tree
-    /// changes nodes on the way to its root.
+    /// changes nodes on the path to its root.
     fn insert_at(&mut self, before: Option<Self::Position>, item: T) -> Self::Position
         requires good { ForSome before (λ p. is_good self.old p) }
         requires has_room { 1 ≤ room self.old }

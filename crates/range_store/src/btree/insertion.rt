@@ -6,7 +6,7 @@ ghost use Rattle.range_store.specs.Edges.{IsEdge, place, IsSeat, seat_place};
 ghost use Rattle.range_store.specs.Contents.{IsContent, Settles};
 
 use crate::btree::nodes::{CAPACITY, HALF, Nodes, Split};
-use crate::btree::way::{DEEPEST, Edge, edge_at, first_turn, seen_above, seen_inside};
+use crate::btree::path::{Edge, MAX_LEVELS, edge_at, first_turn, seen_above, seen_inside};
 
 // What became of a node: it stands alone, or is the first of two; and an edge below it (`side` is
 // 0) or below the second (1).
@@ -39,7 +39,7 @@ pub fn put_or_cut<T: Drop>(
         (with_child (children_of (node_of nodes.old number)) (index + 1) child) }
     requires room { CAPACITY ≤ length (items_of (node_of nodes.old number))
         → HasRoomFor nodes.old 1 }
-    requires deep { below < DEEPEST }
+    requires deep { below < MAX_LEVELS }
     requires seat { IsSeat nodes.old below
         (insert (items_of (node_of nodes.old number)) index item)
         (with_child (children_of (node_of nodes.old number)) (index + 1) child) seat inner }
@@ -90,7 +90,7 @@ pub fn insert_below<T: Drop>(
     requires shaped { ShapedBut 1 CAPACITY nodes.old below number }
     requires owned { Owned nodes.old (suc below) number }
     requires edge { IsEdge nodes.old below number edge }
-    requires deep { below < DEEPEST }
+    requires deep { below < MAX_LEVELS }
     requires room { HasTreeRoom nodes.old (suc below) number 1 }
     ensures replaces { Replaces nodes.old nodes.new below number result.split
         (insert (items_below nodes.old (suc below) number) (place nodes.old below number edge)

@@ -1,11 +1,11 @@
-//! The removal of an item below a node, with the mending of nodes that it leaves short.
+//! The removal of an item below a node, with the rebalancing of nodes that it leaves short.
 ghost use Rattle.std.specs.Prelude.{◌≡◌, ◌⊎◌, ℕ, suc, ◌+◌, ◌-◌, ◌*◌, ◌<◌, ◌≤◌, ◌^◌, length, slice_index, slice_index_or, remove};
 ghost use Rattle.range_store.specs.Heap.{node_of, items_of, children_of};
-ghost use Rattle.range_store.specs.Nodes.{items_below, ShapedBut, Owned, Shrinks, IsMendable, IsLevelled, IsTree, IsLooseTree, IsLender, child_size};
+ghost use Rattle.range_store.specs.Nodes.{items_below, ShapedBut, Owned, Shrinks, MayBeRebalanced, IsLevelled, IsTree, IsLooseTree, IsLender, child_size};
 ghost use Rattle.range_store.specs.Edges.{IsEdge, place, seat_of, seat_place};
 
 use crate::btree::nodes::{CAPACITY, MIN_LEN, Nodes};
-use crate::btree::way::{DEEPEST, Edge, edge_at, first_turn, seat, seen_above, seen_inside};
+use crate::btree::path::{Edge, MAX_LEVELS, edge_at, first_turn, seat, seen_above, seen_inside};
 
 // An item that was taken out, and where the edge after it then lies.
 #[derive(Drop)]
@@ -16,7 +16,7 @@ pub struct Taken<T> {
 
 // Moves an item from the child at `index` to the one after it. Tells where an edge below that one
 // comes to lie.
-pub fn lend_to_next<T: Drop>(
+pub fn borrow_from_left<T: Drop>(
     nodes: &mut Nodes<T>,
     low: usize,
     number: usize,
@@ -25,7 +25,7 @@ pub fn lend_to_next<T: Drop>(
 ) -> Edge
     requires levelled { IsLevelled nodes.old low number index }
     requires spare { MIN_LEN < child_size nodes.old number index }
-    requires deep { low + 1 < DEEPEST }
+    requires deep { low + 1 < MAX_LEVELS }
     requires edge { IsEdge nodes.old low
         (slice_index (children_of (node_of nodes.old number)) (index + 1)) edge }
     ensures shrinks { Shrinks nodes.old nodes.new (suc low) number
@@ -45,7 +45,7 @@ pub fn lend_to_next<T: Drop>(
 
 // Moves an item from the child after `index` to the one there. Tells where an edge below that one
 // comes to lie.
-pub fn lend_to_previous<T: Drop>(
+pub fn borrow_from_right<T: Drop>(
     nodes: &mut Nodes<T>,
     low: usize,
     number: usize,
@@ -54,7 +54,7 @@ pub fn lend_to_previous<T: Drop>(
 ) -> Edge
     requires levelled { IsLevelled nodes.old low number index }
     requires spare { MIN_LEN < child_size nodes.old number (index + 1) }
-    requires deep { low + 1 < DEEPEST }
+    requires deep { low + 1 < MAX_LEVELS }
     requires edge { IsEdge nodes.old low (slice_index (children_of (node_of nodes.old number)) index)
         edge }
     ensures shrinks { Shrinks nodes.old nodes.new (suc low) number
@@ -97,7 +97,7 @@ pub fn join<T: Drop>(
     requires levelled { IsLevelled nodes.old low number index }
     requires few { child_size nodes.old number index + 1 + child_size nodes.old number (index + 1)
         ≤ CAPACITY }
-    requires deep { low + 1 < DEEPEST }
+    requires deep { low + 1 < MAX_LEVELS }
     requires near { (turn ≡ index) ⊎ (turn ≡ index + 1) }
     requires edge { IsEdge nodes.old low (slice_index (children_of (node_of nodes.old number)) turn)
         edge }
@@ -118,15 +118,15 @@ pub fn join<T: Drop>(
 
 // Gives the child at `index` an item if it is short: from a neighbour that has one to spare, the
 // one before it first, else by joining the two. Tells where an edge below that child comes to lie.
-pub fn mend<T: Drop>(
+pub fn rebalance<T: Drop>(
     nodes: &mut Nodes<T>,
     low: usize,
     number: usize,
     index: usize,
     edge: Edge,
 ) -> Edge
-    requires mendable { IsMendable nodes.old low number index }
-    requires deep { low + 1 < DEEPEST }
+    requires short { MayBeRebalanced nodes.old low number index }
+    requires deep { low + 1 < MAX_LEVELS }
     requires edge { IsEdge nodes.old low (slice_index (children_of (node_of nodes.old number)) index)
         edge }
     ensures shrinks { Shrinks nodes.old nodes.new (suc low) number
@@ -146,13 +146,13 @@ pub fn mend<T: Drop>(
     if index > 0 {
         let before = nodes.child_at(number, index - 1);
         if nodes.item_count(before) > MIN_LEN {
-            return lend_to_next(nodes, low, number, index - 1, edge);
+            return borrow_from_left(nodes, low, number, index - 1, edge);
         }
     }
     if index < nodes.item_count(number) {
         let behind = nodes.child_at(number, index + 1);
         if nodes.item_count(behind) > MIN_LEN {
-            return lend_to_previous(nodes, low, number, index, edge);
+            return borrow_from_right(nodes, low, number, index, edge);
         }
     }
     join(nodes, low, number, index.saturating_sub(1), index, edge)
@@ -168,7 +168,7 @@ pub fn remove_below<T: Drop>(
 ) -> Taken<T>
     requires shaped { ShapedBut 1 CAPACITY nodes.old below number }
     requires owned { Owned nodes.old (suc below) number }
-    requires deep { below < DEEPEST }
+    requires deep { below < MAX_LEVELS }
     requires edge { IsEdge nodes.old below number edge }
     requires in_leaf { 0 < edge.index }
     ensures item { result.item ≡ slice_index_or (items_of (node_of nodes.old edge.leaf))
@@ -186,7 +186,7 @@ pub fn remove_below<T: Drop>(
             item,
             edge: Edge {
                 leaf: number,
-                way: 0,
+                path: 0,
                 index: edge.index - 1,
             },
         };
@@ -194,7 +194,7 @@ pub fn remove_below<T: Drop>(
     let index = first_turn(edge);
     let child = nodes.child_at(number, index);
     let taken = remove_below(nodes, below - 1, child, seen_inside(edge));
-    let edge = mend(nodes, below - 1, number, index, taken.edge);
+    let edge = rebalance(nodes, below - 1, number, index, taken.edge);
     Taken {
         item: taken.item,
         edge,
@@ -210,14 +210,14 @@ pub struct Root {
 
 // A tree after a removal, and where an edge then lies, if it has a level.
 #[derive(Clone, Copy)]
-pub struct Settled {
+pub struct Shrunk {
     pub root: Root,
     pub edge: Edge,
 }
 
 // The tree after a removal: a root with no item goes, and its only child takes its place, if it has
 // one.
-pub fn settle<T: Drop>(nodes: &mut Nodes<T>, levels: usize, root: usize, edge: Edge) -> Settled
+pub fn shrink_root<T: Drop>(nodes: &mut Nodes<T>, levels: usize, root: usize, edge: Edge) -> Shrunk
     requires tree { IsLooseTree nodes.old levels root }
     requires edge { IsEdge nodes.old (levels - 1) root edge }
     ensures tree { IsTree nodes.new result.root.levels result.root.number }
@@ -231,7 +231,7 @@ pub fn settle<T: Drop>(nodes: &mut Nodes<T>, levels: usize, root: usize, edge: E
         ≡ place nodes.old (levels - 1) root edge }
 {
     if nodes.item_count(root) > 0 {
-        return Settled {
+        return Shrunk {
             root: Root {
                 number: root,
                 levels,
@@ -241,7 +241,7 @@ pub fn settle<T: Drop>(nodes: &mut Nodes<T>, levels: usize, root: usize, edge: E
     }
     if levels == 1 {
         nodes.remove_node(root);
-        return Settled {
+        return Shrunk {
             root: Root {
                 number: 0,
                 levels: 0,
@@ -251,7 +251,7 @@ pub fn settle<T: Drop>(nodes: &mut Nodes<T>, levels: usize, root: usize, edge: E
     }
     let child = nodes.child_at(root, 0);
     nodes.remove_node(root);
-    Settled {
+    Shrunk {
         root: Root {
             number: child,
             levels: levels - 1,

@@ -1,4 +1,4 @@
-//! A search below a node: one way down to a leaf, which halves within each node.
+//! A search below a node: one path down to a leaf, which halves within each node.
 ghost use Rattle.std.specs.Prelude.{◌≡◌, ℕ, suc, ◌+◌, ◌-◌, ◌*◌, ◌<◌, ◌≤◌, length, count_by, IsSome};
 ghost use Rattle.std.specs.List.{All};
 ghost use Rattle.range_store.specs.Counting.{AddsSteps};
@@ -7,11 +7,11 @@ ghost use Rattle.range_store.specs.Nodes.{items_below, ShapedBut};
 ghost use Rattle.range_store.specs.Edges.{IsEdge, place};
 
 use crate::btree::nodes::{CAPACITY, Nodes};
-use crate::btree::way::{DEEPEST, Edge, WIDTH};
+use crate::btree::path::{Edge, MAX_LEVELS, PATH_BASE};
 use crate::storage::Probe;
 
 // How often a node is asked at most.
-pub const HALVINGS: usize = 4;
+pub const MAX_ASKS: usize = 4;
 
 // Reads each second cell, so that the lines of memory in which the cells lie come together, and not
 // one after the other as they are asked.
@@ -36,7 +36,7 @@ pub fn halve<T, P: Probe<T>>(cells: &[Option<T>], probe: &mut P) -> usize
     requires fits { length cells.now ≤ CAPACITY }
     ensures count { result ≡ count_by (at_item (P.test probe.old)) cells.now }
     ensures kept { P.test probe.new ≡ P.test probe.old }
-    ensures asked { AddsSteps (P.steps_taken probe.old) (P.steps_taken probe.new) 1 HALVINGS }
+    ensures asked { AddsSteps (P.steps_taken probe.old) (P.steps_taken probe.new) 1 MAX_ASKS }
 {
     let mut low = 0;
     let mut high = cells.len();
@@ -55,7 +55,7 @@ pub fn halve<T, P: Probe<T>>(cells: &[Option<T>], probe: &mut P) -> usize
     low
 }
 
-// The edge after the items below a node that pass, by one way down to a leaf.
+// The edge after the items below a node that pass, by one path down to a leaf.
 pub fn search_below<T: Drop, P: Probe<T>>(
     nodes: &Nodes<T>,
     below: usize,
@@ -63,18 +63,18 @@ pub fn search_below<T: Drop, P: Probe<T>>(
     probe: &mut P,
 ) -> Edge
     requires shaped { ShapedBut 1 CAPACITY nodes.now below number }
-    requires deep { below < DEEPEST }
+    requires deep { below < MAX_LEVELS }
     requires falls { Falls (P.test probe.old) (items_below nodes.now (suc below) number) }
     ensures edge { IsEdge nodes.now below number result }
     ensures count { place nodes.now below number result
         ≡ count_by (P.test probe.old) (items_below nodes.now (suc below) number) }
     ensures kept { P.test probe.new ≡ P.test probe.old }
     ensures asked { AddsSteps (P.steps_taken probe.old) (P.steps_taken probe.new) (suc below)
-        (HALVINGS * suc below) }
+        (MAX_ASKS * suc below) }
 {
     let mut at = number;
     let mut left = below;
-    let mut way: u128 = 0;
+    let mut path: u128 = 0;
     let mut weight: u128 = 1;
     'down: loop {
         let cells = nodes.cells(at);
@@ -83,13 +83,13 @@ pub fn search_below<T: Drop, P: Probe<T>>(
         let index = halve(cells, probe);
         if left == 0 {
             return Edge {
-                way,
+                path,
                 leaf: at,
                 index,
             };
         }
-        way += weight * (index as u128);
-        weight *= WIDTH;
+        path += weight * (index as u128);
+        weight *= PATH_BASE;
         at = children[index];
         left -= 1;
     }

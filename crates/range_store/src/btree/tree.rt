@@ -8,11 +8,11 @@ ghost use Rattle.range_store.specs.Holding.{box_items, box_room, IsBoxEdge, box_
 use crate::btree::BoxStorage;
 use crate::btree::insertion::{Parts, insert_below};
 use crate::btree::nodes::{CAPACITY, MIN_LEN};
-use crate::btree::removal::{Settled, remove_below, settle};
-use crate::btree::searching::{HALVINGS, search_below};
-use crate::btree::way::{
+use crate::btree::path::{
     Edge, Home, edge_before, end_edge, find_home, first_edge, following, seen_above, stands_first,
 };
+use crate::btree::removal::{Shrunk, remove_below, shrink_root};
+use crate::btree::searching::{MAX_ASKS, search_below};
 use crate::storage::Probe;
 
 impl<T: Drop> BoxStorage<T> {
@@ -46,7 +46,7 @@ impl<T: Drop> BoxStorage<T> {
         if edge.index < self.nodes.item_count(edge.leaf) {
             return Some(Edge {
                 leaf: edge.leaf,
-                way: edge.way,
+                path: edge.path,
                 index: edge.index + 1,
             });
         }
@@ -62,7 +62,7 @@ impl<T: Drop> BoxStorage<T> {
         if edge.index > 0 {
             return Some(Edge {
                 leaf: edge.leaf,
-                way: edge.way,
+                path: edge.path,
                 index: edge.index - 1,
             });
         }
@@ -93,7 +93,7 @@ impl<T: Drop> BoxStorage<T> {
             × (box_place self.now g ≡ count_by (P.test probe.old) (box_items self.now))) }
         ensures kept { P.test probe.new ≡ P.test probe.old }
         ensures asked { AddsSteps (P.steps_taken probe.old) (P.steps_taken probe.new)
-            self.now.levels (HALVINGS * self.now.levels) }
+            self.now.levels (MAX_ASKS * self.now.levels) }
     {
         if self.levels == 0 {
             return None;
@@ -117,12 +117,12 @@ impl<T: Drop> BoxStorage<T> {
     {
         match edge {
             Some(edge) => self.insert_between(edge, item),
-            None => self.plant(item),
+            None => self.insert_into_empty(item),
         }
     }
 
     // Puts an item into an empty tree, and tells the edge after it.
-    fn plant(&mut self, item: T) -> Edge
+    fn insert_into_empty(&mut self, item: T) -> Edge
         requires empty { box_items self.old ≡ [] }
         requires room { 1 ≤ box_room self.old }
         ensures list { box_items self.new ≡ item ∷ [] }
@@ -135,7 +135,7 @@ impl<T: Drop> BoxStorage<T> {
         self.len = 1;
         Edge {
             leaf: self.root,
-            way: 0,
+            path: 0,
             index: 1,
         }
     }
@@ -155,7 +155,7 @@ impl<T: Drop> BoxStorage<T> {
             self.nodes.put(edge.leaf, edge.index, item, None);
             return Edge {
                 leaf: edge.leaf,
-                way: edge.way,
+                path: edge.path,
                 index: edge.index + 1,
             };
         }
@@ -191,13 +191,18 @@ impl<T: Drop> BoxStorage<T> {
             let item = self.nodes.take_item(edge.leaf, edge.index - 1);
             let before = Edge {
                 leaf: edge.leaf,
-                way: edge.way,
+                path: edge.path,
                 index: edge.index - 1,
             };
             return (item, Some(before));
         }
         let taken = remove_below(&mut self.nodes, self.levels - 1, self.root, edge);
-        let Settled { root, edge } = settle(&mut self.nodes, self.levels, self.root, taken.edge);
+        let Shrunk { root, edge } = shrink_root(
+            &mut self.nodes,
+            self.levels,
+            self.root,
+            taken.edge,
+        );
         self.root = root.number;
         self.levels = root.levels;
         if self.levels == 0 {
@@ -227,7 +232,7 @@ impl<T: Drop> BoxStorage<T> {
         // The item stands above the leaves: the one after it takes its place.
         let behind = Edge {
             leaf: edge.leaf,
-            way: edge.way,
+            path: edge.path,
             index: 1,
         };
         let (next, left) = self.take_in_leaf(behind);

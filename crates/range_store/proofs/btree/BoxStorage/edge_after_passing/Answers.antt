@@ -1,7 +1,7 @@
 use Rattle.std.proofs.Common.{◌≡◌, suc, ◌-◌, ◌<◌, sym, ap, ◌∙◌, rules, arith, count_by}
 use Rattle.range_store.specs.Written.{root_shaped}
 use Rattle.range_store.proofs.Rank.{items_below_none}
-use Rattle.range_store.proofs.Ways.{not_start, stands_first}
+use Rattle.range_store.proofs.Paths.{not_start, stands_first}
 use Rattle.range_store.proofs.Whole.{tree_is_not_too_deep}
 use Rattle.range_store.proofs.btree.BoxStorage.edge_after_passing.Goals as goal
 

@@ -2,7 +2,7 @@ use Rattle.std.proofs.Common.{◌≡◌, ℕ, ◌+◌, ◌-◌, ◌<◌, Option,
 use Rattle.range_store.specs.Edges.{IsEdge}
 use Rattle.range_store.specs.Holding.{IsBoxEdge, box_place}
 use Rattle.range_store.specs.declared.btree.BoxStorage.{BoxStorage}
-use Rattle.range_store.specs.declared.btree.way.Edge.{Edge}
+use Rattle.range_store.specs.declared.btree.path.Edge.{Edge}
 use Rattle.range_store.specs.Written.{root_shaped}
 use Rattle.range_store.proofs.Whole.{tree_is_not_too_deep, tree_leaf, tree_beside}
 use Rattle.range_store.proofs.btree.BoxStorage.edge_before.Goals as goal
@@ -13,7 +13,7 @@ returns-then-edge-gt0 g c =
     tree_beside c.args.self.now c.args.edge c.requires
     (record {
       leaf = c.args.edge.leaf;
-      way = c.args.edge.way;
+      path = c.args.edge.path;
       index = c.args.edge.index - 1;
     }) refl refl
     (omega (arith, (tree_leaf c.args.self.now c.args.edge c.requires).within)) in

@@ -18,7 +18,7 @@ returns-then-edge-item_count g c =
     tree_beside c.args.self.now c.args.edge c.requires
     (record {
       leaf = c.args.edge.leaf;
-      way = c.args.edge.way;
+      path = c.args.edge.path;
       index = c.args.edge.index + 1;
     }) refl refl (omega (arith, low)) in
     (next.0, omega (arith, next.1))

@@ -5,12 +5,12 @@ use Rattle.range_store.specs.Edges.{IsEdge, place, seat_place}
 use Rattle.range_store.specs.Holding.{box_items, box_place}
 use Rattle.range_store.specs.Nodes.{items_below}
 use Rattle.range_store.specs.Written.{root_shaped}
-use Rattle.range_store.proofs.Edges.{way_small}
+use Rattle.range_store.proofs.Edges.{path_small}
 use Rattle.range_store.proofs.InPlace.{IsLeafChange, put_in_leaf}
 use Rattle.range_store.proofs.Levels.{has_levels, levels_le}
-use Rattle.range_store.proofs.Planting.{IsPlanted, kept_edge, kept_root, one_more, planted_roomy, taller_edge, taller_room, taller_root}
+use Rattle.range_store.proofs.RootGrowth.{IsGrown, kept_edge, kept_root, one_more, grown_roomy, taller_edge, taller_room, taller_root}
 use Rattle.range_store.proofs.Seats.{seat_inside, seat_side}
-use Rattle.range_store.proofs.Settling.{tree_owned}
+use Rattle.range_store.proofs.Roots.{tree_owned}
 use Rattle.range_store.proofs.Whole.{edge_within, tree_is_not_too_deep, tree_leaf}
 use Rattle.range_store.proofs.btree.BoxStorage.insert_between.Goals as goal
 use Rattle.range_store.proofs.btree.BoxStorage.insert_between.Given.{Over}
@@ -40,7 +40,7 @@ put-requires g c =
 put_here : (g : Over) (c : After-put g)
     → IsLeafChange c.args.self.now c.put.new.self c.args.edge c.requires.edge
     (insert (box_items c.args.self.now) (box_place c.args.self.now c.args.edge) c.args.item)
-    (record { leaf = c.args.edge.leaf; way = c.args.edge.way; index = c.args.edge.index + 1 })
+    (record { leaf = c.args.edge.leaf; path = c.args.edge.path; index = c.args.edge.index + 1 })
     (c.args.edge.index + 1)
 put_here g c =
     put_in_leaf c.args.self.now c.put.new.self c.args.edge c.requires.edge c.args.item _
@@ -164,7 +164,7 @@ insert_below-inserted-requires g c =
 
 -- with no cut of the root
 kept : (g : Over) (c : In-None g)
-    → IsPlanted c.insert_below-inserted.new.nodes c.args.self.now.levels c.args.self.now.root
+    → IsGrown c.insert_below-inserted.new.nodes c.args.self.now.levels c.args.self.now.root
     (insert (items_below c.args.self.now.nodes
     (suc (c.args.self.now.levels - 1)) c.args.self.now.root)
     (box_place c.args.self.now c.args.edge) c.args.item)
@@ -182,7 +182,7 @@ invariant_of-self-in-None g c =
     let tree = kept g at.In-None in
     record {
       whole =
-          planted_roomy c.insert_below-inserted.new.nodes s.levels s.root _ tree
+          grown_roomy c.insert_below-inserted.new.nodes s.levels s.root _ tree
           (omega (arith, more, c.requires.room, capacity)) (omega (arith, more, c.requires.room));
       counted = omega (arith, ap length tree.items_are, more, s.counted);
       levelled =
@@ -246,7 +246,7 @@ overflow_add-self-in-Some g c =
     )
 
 taller : (g : Over) (c : After-store_branch-self g)
-    → IsPlanted c.store_branch-self.new.self (c.args.self.now.levels + 1) c.store_branch-self.result
+    → IsGrown c.store_branch-self.new.self (c.args.self.now.levels + 1) c.store_branch-self.result
     (insert (items_below c.args.self.now.nodes
     (suc (c.args.self.now.levels - 1)) c.args.self.now.root)
     (box_place c.args.self.now c.args.edge) c.args.item)
@@ -267,7 +267,7 @@ invariant_of-self-in-Some g c =
     let tree = taller g at.After-store_branch-self in
     record {
       whole =
-          planted_roomy c.store_branch-self.new.self
+          grown_roomy c.store_branch-self.new.self
           (s.levels + 1) c.store_branch-self.result _ tree
           (omega (arith, more, c.requires.room, capacity)) (omega (arith, more, c.requires.room));
       counted = omega (arith, ap length tree.items_are, more, s.counted);
@@ -287,14 +287,14 @@ seen_above-requires-clause-index g c =
           (rw c.in-Some.is at c.insert_below-inserted.ensures.edge),
     )
 
-pub seen_above-requires-clause-way : goal.seen_above-requires-clause-way
-seen_above-requires-clause-way g c =
+pub seen_above-requires-clause-path : goal.seen_above-requires-clause-path
+seen_above-requires-clause-path g c =
     let below =
     seat_inside c.insert_below-inserted.new.nodes
     (c.args.self.now.levels - 1) _ _ c.insert_below-inserted.result.side
     c.insert_below-inserted.result.edge
     (rw c.in-Some.is at c.insert_below-inserted.ensures.edge) in
-    way_small c.insert_below-inserted.new.nodes
+    path_small c.insert_below-inserted.new.nodes
     (c.args.self.now.levels - 1) _ c.insert_below-inserted.result.edge
     (tree_is_not_too_deep c.args.self.now.nodes c.args.self.now.levels c.args.self.now.root
     c.args.self.now.whole) below

@@ -95,7 +95,7 @@ home-home-requires g c =
     let left : IsBoxEdge c.take_in_leaf-next.new.self c.in-Some-left.left
     × (box_place c.take_in_leaf-next.new.self c.in-Some-left.left + 1
     ≡ box_place c.args.self.now
-    (record { leaf = c.args.edge.leaf; way = c.args.edge.way; index = 1 })) =
+    (record { leaf = c.args.edge.leaf; path = c.args.edge.path; index = 1 })) =
     rw c.in-Some-left.is at c.take_in_leaf-next.ensures.edge in
     (search rules, (left.0, omega (arith, left.1, behind.1, c.requires.some)))
 
@@ -109,7 +109,7 @@ replace_item-item-requires g c =
     let left : IsBoxEdge c.take_in_leaf-next.new.self c.in-Some-left.left
     × (box_place c.take_in_leaf-next.new.self c.in-Some-left.left + 1
     ≡ box_place c.args.self.now
-    (record { leaf = c.args.edge.leaf; way = c.args.edge.way; index = 1 })) =
+    (record { leaf = c.args.edge.leaf; path = c.args.edge.path; index = 1 })) =
     rw c.in-Some-left.is at c.take_in_leaf-next.ensures.edge in
     let good : IsGood t c.in-Some-left.left =
     record { is = left.0; some = omega (arith, left.1, behind.1, c.requires.some) } in
@@ -126,10 +126,10 @@ replaced_so g c =
     let left : IsBoxEdge c.take_in_leaf-next.new.self c.in-Some-left.left
     × (box_place c.take_in_leaf-next.new.self c.in-Some-left.left + 1
     ≡ box_place c.args.self.now
-    (record { leaf = c.args.edge.leaf; way = c.args.edge.way; index = 1 })) =
+    (record { leaf = c.args.edge.leaf; path = c.args.edge.path; index = 1 })) =
     rw c.in-Some-left.is at c.take_in_leaf-next.ensures.edge in
     replaced c.args.self.now c.take_in_leaf-next.new.self c.args.edge
-    (record { leaf = c.args.edge.leaf; way = c.args.edge.way; index = 1 }) c.in-Some-left.left
+    (record { leaf = c.args.edge.leaf; path = c.args.edge.path; index = 1 }) c.in-Some-left.left
     c.requires.some (edge_within c.args.self.now _ behind.0) behind.1
     c.take_in_leaf-next.ensures.list left.0 left.1 c.take_in_leaf-next.result.0
     c.replace_item-item.new.self c.home-home.result c.home-home.ensures
@@ -149,10 +149,10 @@ returns-clause-removed g c =
     let left : IsBoxEdge c.take_in_leaf-next.new.self c.in-Some-left.left
     × (box_place c.take_in_leaf-next.new.self c.in-Some-left.left + 1
     ≡ box_place c.args.self.now
-    (record { leaf = c.args.edge.leaf; way = c.args.edge.way; index = 1 })) =
+    (record { leaf = c.args.edge.leaf; path = c.args.edge.path; index = 1 })) =
     rw c.in-Some-left.is at c.take_in_leaf-next.ensures.edge in
     replaced_item c.args.self.now c.take_in_leaf-next.new.self c.args.edge
-    (record { leaf = c.args.edge.leaf; way = c.args.edge.way; index = 1 }) c.in-Some-left.left
+    (record { leaf = c.args.edge.leaf; path = c.args.edge.path; index = 1 }) c.in-Some-left.left
     c.requires.some (edge_within c.args.self.now _ behind.0) behind.1
     c.take_in_leaf-next.ensures.list left.0 left.1 c.replace_item-item.result c.home-home.result
     c.home-home.ensures c.replace_item-item.ensures.before
@@ -176,6 +176,6 @@ returns-clause-following g c =
     let left : IsBoxEdge c.take_in_leaf-next.new.self c.in-Some-left.left
     × (box_place c.take_in_leaf-next.new.self c.in-Some-left.left + 1
     ≡ box_place c.args.self.now
-    (record { leaf = c.args.edge.leaf; way = c.args.edge.way; index = 1 })) =
+    (record { leaf = c.args.edge.leaf; path = c.args.edge.path; index = 1 })) =
     rw c.in-Some-left.is at c.take_in_leaf-next.ensures.edge in
     (record { some = left.0.some; edge = so.edge }, so.place_is)

@@ -8,11 +8,11 @@ use Rattle.range_store.proofs.InLeaf.{place_index}
 use Rattle.range_store.proofs.InPlace.{IsLeafChange, take_from_leaf}
 use Rattle.range_store.proofs.Levels.{has_levels}
 use Rattle.range_store.proofs.Rank.{items_below_none}
-use Rattle.range_store.proofs.Settling.{loosened_items, loosened_tree, tree_owned}
+use Rattle.range_store.proofs.Roots.{loosened_items, loosened_tree, tree_owned}
 use Rattle.range_store.proofs.Whole.{edge_within, leaf_item, tree_is_not_too_deep, tree_leaf}
 use Rattle.range_store.proofs.btree.BoxStorage.take_in_leaf.Goals as goal
 use Rattle.range_store.proofs.btree.BoxStorage.take_in_leaf.Given.{Over}
-use Rattle.range_store.proofs.btree.BoxStorage.take_in_leaf.Goals.{Start, After-take_item-item, After-settle}
+use Rattle.range_store.proofs.btree.BoxStorage.take_in_leaf.Goals.{Start, After-take_item-item, After-shrink_root}
 
 some_before : (g : Over) (c : Start g) → 0 < box_place c.args.self.now c.args.edge
 some_before g c =
@@ -57,7 +57,7 @@ take_item-item-requires g c =
 taken : (g : Over) (c : After-take_item-item g)
     → IsLeafChange c.args.self.now c.take_item-item.new.self c.args.edge c.requires.edge
     (remove (box_items c.args.self.now) (box_place c.args.self.now c.args.edge - 1))
-    (record { leaf = c.args.edge.leaf; way = c.args.edge.way; index = c.args.edge.index - 1 })
+    (record { leaf = c.args.edge.leaf; path = c.args.edge.path; index = c.args.edge.index - 1 })
     (c.args.edge.index - 1)
 taken g c =
     take_from_leaf c.args.self.now c.take_item-item.new.self c.args.edge c.requires.edge _
@@ -134,8 +134,8 @@ remove_below-taken-requires g c =
       ),
     )
 
-pub settle-requires : goal.settle-requires
-settle-requires g c =
+pub shrink_root-requires : goal.shrink_root-requires
+shrink_root-requires g c =
     let s = c.args.self.now in (
       search rules,
       (
@@ -145,14 +145,15 @@ settle-requires g c =
       ),
     )
 
-settled : (g : Over) (c : After-settle g)
-    → items_below c.settle.new.nodes c.settle.result.root.levels c.settle.result.root.number
+shrunk : (g : Over) (c : After-shrink_root g)
+    → items_below c.shrink_root.new.nodes c.shrink_root.result.root.levels
+    c.shrink_root.result.root.number
     ≡ remove (box_items c.args.self.now) (box_place c.args.self.now c.args.edge - 1)
-settled g c =
+shrunk g c =
     let s = c.args.self.now in
     let some = c.requires.edge.some in
     let level : suc (s.levels - 1) ≡ s.levels = omega (arith, some) in
-    c.settle.ensures.items
+    c.shrink_root.ensures.items
     ∙ loosened_items s.nodes c.remove_below-taken.new.nodes s.levels s.root _ some
     c.remove_below-taken.ensures.shrinks
     ∙ ap (λ m. remove (items_below s.nodes m s.root) (box_place s c.args.edge - 1)) level
@@ -161,25 +162,25 @@ pub invariant_of-self-2 : goal.invariant_of-self-2
 invariant_of-self-2 g c =
     let s = c.args.self.now in
     let at = goal.at.invariant_of-self-2 g c in
-    let less = ap length (settled g at.After-settle) in
+    let less = ap length (shrunk g at.After-shrink_root) in
     let back = fewer g at.Start in
     let capacity =
-    c.settle.ensures.capacity ∙ c.remove_below-taken.ensures.shrinks.moved.capacity in
+    c.shrink_root.ensures.capacity ∙ c.remove_below-taken.ensures.shrinks.moved.capacity in
     let many : c.args.self.now.len - 1
-    ≡ length (items_below c.settle.new.nodes c.settle.result.root.levels
-    c.settle.result.root.number) = omega (arith, less, back, s.counted) in
+    ≡ length (items_below c.shrink_root.new.nodes c.shrink_root.result.root.levels
+    c.shrink_root.result.root.number) = omega (arith, less, back, s.counted) in
     record {
       whole =
           record {
-            tree = c.settle.ensures.tree;
+            tree = c.shrink_root.ensures.tree;
             fits = omega (arith, less, back, s.whole.fits, capacity);
             counted =
                 omega (arith, less, back, s.whole.counted);
           };
       counted = many;
       levelled =
-          rw (← many) at (has_levels c.settle.new.nodes c.settle.result.root.levels
-          c.settle.result.root.number c.settle.ensures.tree);
+          rw (← many) at (has_levels c.shrink_root.new.nodes c.shrink_root.result.root.levels
+          c.shrink_root.result.root.number c.shrink_root.ensures.tree);
     }
 
 pub returns-then-self-eq0-clause-removed : goal.returns-then-self-eq0-clause-removed
@@ -190,15 +191,16 @@ returns-then-self-eq0-clause-removed g c =
 
 pub returns-then-self-eq0-clause-list : goal.returns-then-self-eq0-clause-list
 returns-then-self-eq0-clause-list g c =
-    settled g (goal.at.returns-then-self-eq0-clause-list g c).After-settle
+    shrunk g (goal.at.returns-then-self-eq0-clause-list g c).After-shrink_root
 
 pub returns-then-self-eq0-clause-capacity : goal.returns-then-self-eq0-clause-capacity
 returns-then-self-eq0-clause-capacity g c =
-    c.settle.ensures.capacity ∙ c.remove_below-taken.ensures.shrinks.moved.capacity
+    c.shrink_root.ensures.capacity ∙ c.remove_below-taken.ensures.shrinks.moved.capacity
 
 pub returns-then-self-eq0-clause-edge : goal.returns-then-self-eq0-clause-edge
 returns-then-self-eq0-clause-edge g c =
-    rw c.if-self-eq0.true (items_below_none c.settle.new.nodes c.settle.result.root.number)
+    rw c.if-self-eq0.true
+    (items_below_none c.shrink_root.new.nodes c.shrink_root.result.root.number)
 
 pub returns-clause-removed : goal.returns-clause-removed
 returns-clause-removed g c =
@@ -207,16 +209,16 @@ returns-clause-removed g c =
     c.remove_below-taken.result.item c.requires.in_leaf)
 
 pub returns-clause-list : goal.returns-clause-list
-returns-clause-list g c = settled g (goal.at.returns-clause-list g c).After-settle
+returns-clause-list g c = shrunk g (goal.at.returns-clause-list g c).After-shrink_root
 
 pub returns-clause-capacity : goal.returns-clause-capacity
 returns-clause-capacity g c =
-    c.settle.ensures.capacity ∙ c.remove_below-taken.ensures.shrinks.moved.capacity
+    c.shrink_root.ensures.capacity ∙ c.remove_below-taken.ensures.shrinks.moved.capacity
 
 pub returns-clause-edge : goal.returns-clause-edge
 returns-clause-edge g c =
     let s = c.args.self.now in
-    let some : 0 < c.settle.result.root.levels = omega (arith, c.if-self-eq0.false) in (
-      record { some = some; edge = c.settle.ensures.edge some },
-      omega (arith, c.settle.ensures.place some, c.remove_below-taken.ensures.place),
+    let some : 0 < c.shrink_root.result.root.levels = omega (arith, c.if-self-eq0.false) in (
+      record { some = some; edge = c.shrink_root.ensures.edge some },
+      omega (arith, c.shrink_root.ensures.place some, c.remove_below-taken.ensures.place),
     )

@@ -1,7 +1,7 @@
 use Rattle.std.proofs.Common.{◌-◌, ◌∙◌, sym, arith}
 use Rattle.range_store.specs.Holding.{rank_is}
 use Rattle.range_store.proofs.Positions.{good_from}
-use Rattle.range_store.proofs.Ways.{not_start, stands_first}
+use Rattle.range_store.proofs.Paths.{not_start, stands_first}
 use Rattle.range_store.specs.Written.{root_shaped}
 use Rattle.range_store.proofs.btree.BoxStorageStorage.prev.Goals as goal
 

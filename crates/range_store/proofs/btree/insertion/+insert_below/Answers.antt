@@ -4,11 +4,11 @@ use Rattle.std.proofs.lemmas.List.Edits.{length-insert}
 use Rattle.range_store.specs.Heap.{node_of, items_of, children_of}
 use Rattle.range_store.specs.declared.btree.nodes.TheConstants.{CAPACITY}
 use Rattle.range_store.specs.Edges.{turn, inside, place}
-use Rattle.range_store.proofs.Edges.{way_small, leaf_index, leaf_place}
+use Rattle.range_store.proofs.Edges.{path_small, leaf_index, leaf_place}
 use Rattle.range_store.proofs.Below.{children_length}
 use Rattle.range_store.proofs.Room.{HasTreeRoom-child}
 use Rattle.range_store.proofs.Seats.{seat_alone, seat_inside, seat_side}
-use Rattle.range_store.proofs.Ways.{level_of_children, child_within, below_kid, below_turn, below_inside, below_here, below_most}
+use Rattle.range_store.proofs.Paths.{level_of_children, child_within, below_kid, below_turn, below_inside, below_here, below_most}
 use Rattle.range_store.proofs.Leaves.{leaf_content, leaf_moved, leaf_listed, leaf_longer, leaf_seat, leaf_seat_place}
 use Rattle.range_store.proofs.Growing.{kid_owned, none_replaces, none_edge, some_items, some_children, grown_kept, grown_moved, grown_content, grown_listed, grown_longer, grown_seat, content_room, settled_replaces}
 use Rattle.range_store.proofs.btree.insertion.+insert_below.Goals as goal
@@ -235,9 +235,9 @@ returns-in-None-clause-place g t c =
           c.requires.shaped c.args.edge,
     )
 
-pub seen_above-requires-clause-way : goal.seen_above-requires-clause-way
-seen_above-requires-clause-way g t c =
-    way_small c.insert_below-inserted.new.nodes
+pub seen_above-requires-clause-path : goal.seen_above-requires-clause-path
+seen_above-requires-clause-path g t c =
+    path_small c.insert_below-inserted.new.nodes
     (c.args.below - 1) _ c.insert_below-inserted.result.edge (omega (arith, c.requires.deep))
     (seat_inside c.insert_below-inserted.new.nodes
     (c.args.below - 1) _ _ _ c.insert_below-inserted.result.edge

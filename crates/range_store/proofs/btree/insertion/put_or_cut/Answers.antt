@@ -4,7 +4,7 @@ use Rattle.std.proofs.lemmas.List.Edits.{length-insert}
 use Rattle.range_store.specs.Heap.{node_of, items_of, children_of, with_child}
 use Rattle.range_store.specs.declared.btree.nodes.TheConstants.{CAPACITY, HALF}
 use Rattle.range_store.proofs.Contents.{left_items_below, written_settles, written_holds, written_agree, cut_settles, left_holds, right_holds, cut_agree, part_agree}
-use Rattle.range_store.proofs.Seats.{seat_written, seat_left, seat_right, seat_small, seat_way, seat_alone, seat_beside}
+use Rattle.range_store.proofs.Seats.{seat_written, seat_left, seat_right, seat_small, seat_path, seat_alone, seat_beside}
 use Rattle.range_store.proofs.btree.insertion.put_or_cut.Goals as goal
 
 pub edge_at-requires-clause-seat : goal.edge_at-requires-clause-seat
@@ -22,9 +22,9 @@ edge_at-requires-clause-seat g c =
       c.if-item_count-lt-CAPACITY.true,
     )
 
-pub edge_at-requires-clause-way : goal.edge_at-requires-clause-way
-edge_at-requires-clause-way g c =
-    λ some. seat_way c.args.nodes.now c.args.below
+pub edge_at-requires-clause-path : goal.edge_at-requires-clause-path
+edge_at-requires-clause-path g c =
+    λ some. seat_path c.args.nodes.now c.args.below
     (insert (items_of (node_of c.args.nodes.now c.args.number)) c.args.index c.args.item)
     (with_child (children_of (node_of c.args.nodes.now c.args.number))
     (c.args.index + 1) c.args.child) c.args.seat c.args.inner c.requires.deep some c.requires.seat
@@ -94,10 +94,10 @@ returns-then-item_count-lt-CAPACITY-clause-place g c =
     let alone = seat_alone t c.args.below c.args.number c.edge_at.result None edge.0 in
     alone.1 ∙ edge.1
 
-pub edge_at-requires-then-seat-le-HALF-clause-way :
-    goal.edge_at-requires-then-seat-le-HALF-clause-way
-edge_at-requires-then-seat-le-HALF-clause-way g c =
-    λ some. seat_way c.args.nodes.now c.args.below
+pub edge_at-requires-then-seat-le-HALF-clause-path :
+    goal.edge_at-requires-then-seat-le-HALF-clause-path
+edge_at-requires-then-seat-le-HALF-clause-path g c =
+    λ some. seat_path c.args.nodes.now c.args.below
     (insert (items_of (node_of c.args.nodes.now c.args.number)) c.args.index c.args.item)
     (with_child (children_of (node_of c.args.nodes.now c.args.number))
     (c.args.index + 1) c.args.child) c.args.seat c.args.inner c.requires.deep some c.requires.seat
@@ -236,9 +236,9 @@ edge_at-edge-requires-clause-seat g c =
       c.requires.fits,
     )
 
-pub edge_at-edge-requires-clause-way : goal.edge_at-edge-requires-clause-way
-edge_at-edge-requires-clause-way g c =
-    λ some. seat_way c.args.nodes.now c.args.below
+pub edge_at-edge-requires-clause-path : goal.edge_at-edge-requires-clause-path
+edge_at-edge-requires-clause-path g c =
+    λ some. seat_path c.args.nodes.now c.args.below
     (insert (items_of (node_of c.args.nodes.now c.args.number)) c.args.index c.args.item)
     (with_child (children_of (node_of c.args.nodes.now c.args.number))
     (c.args.index + 1) c.args.child) c.args.seat c.args.inner c.requires.deep some c.requires.seat

@@ -8,8 +8,8 @@ use Rattle.range_store.proofs.Edges.{leaf_is, leaf_edge, leaf_index, leaf_place}
 use Rattle.range_store.proofs.Growing.{kid_owned}
 use Rattle.range_store.proofs.Rank.{kid_shaped}
 use Rattle.range_store.proofs.Seats.{seat_place_inner}
-use Rattle.range_store.proofs.Shortening.{leaf_shrinks, kid_kept, kid_front, kid_mendable, shorter_child_shrinks_node}
-use Rattle.range_store.proofs.Ways.{level_of_children, child_within, below_kid, below_turn, below_inside, below_here, below_most}
+use Rattle.range_store.proofs.Shortening.{leaf_shrinks, kid_kept, kid_front, kid_may_be_rebalanced, shorter_child_shrinks_node}
+use Rattle.range_store.proofs.Paths.{level_of_children, child_within, below_kid, below_turn, below_inside, below_here, below_most}
 use Rattle.range_store.proofs.btree.removal.+remove_below.Goals as goal
 
 pub take_item-item-requires : goal.take_item-item-requires
@@ -68,7 +68,7 @@ returns-then-below-eq0-clause-place g t c =
       arith,
       leaf_place c.args.nodes.now c.args.number c.args.edge,
       leaf_place c.take_item-item.new.self c.args.number
-          (record { leaf = c.args.number; way = 0; index = c.args.edge.index - 1 }),
+          (record { leaf = c.args.number; path = 0; index = c.args.edge.index - 1 }),
       c.requires.in_leaf,
     ))
 
@@ -119,8 +119,8 @@ remove_below-taken-requires g t c κs inside =
       ),
     )
 
-pub mend-edge-requires : goal.mend-edge-requires
-mend-edge-requires g t c =
+pub rebalance-edge-requires : goal.rebalance-edge-requires
+rebalance-edge-requires g t c =
     let s = c.args.nodes.now in
     let i = turn c.args.edge in
     let low =
@@ -136,8 +136,8 @@ mend-edge-requires g t c =
     let enough =
     (kid_shaped 1 CAPACITY s (c.args.below - 1) c.args.number i
     (rw (← back) at c.requires.shaped) low).node.enough in
-    let mendable =
-    kid_mendable s c.remove_below-taken.new.nodes c.args.below c.args.number i _
+    let short =
+    kid_may_be_rebalanced s c.remove_below-taken.new.nodes c.args.below c.args.number i _
     c.if-below-eq0.false c.requires.shaped c.requires.owned low listed moved
     (child.shape (MIN_LEN - 1) (omega (arith, enough))) in
     let edge =
@@ -145,7 +145,7 @@ mend-edge-requires g t c =
     c.remove_below-taken.ensures.edge in (
       search rules,
       (
-        rw c.first_turn-index.ensures mendable,
+        rw c.first_turn-index.ensures short,
         (
           omega (arith, c.requires.deep, c.if-below-eq0.false),
           rw (
@@ -194,14 +194,14 @@ returns-clause-shrinks g t c =
       at,
     ) in
     rw (← same) (shorter_child_shrinks_node c.args.nodes.now c.remove_below-taken.new.nodes
-    c.mend-edge.new.nodes c.args.below c.args.number i
+    c.rebalance-edge.new.nodes c.args.below c.args.number i
     (q - 1) c.if-below-eq0.false c.requires.shaped c.requires.owned low
-    (omega (arith, within, at)) child c.mend-edge.ensures.shrinks)
+    (omega (arith, within, at)) child c.rebalance-edge.ensures.shrinks)
 
 pub returns-clause-edge : goal.returns-clause-edge
 returns-clause-edge g t c =
     rw (level_of_children c.args.nodes.now c.args.below c.args.number c.if-below-eq0.false
-    c.requires.shaped) at c.mend-edge.ensures.edge
+    c.requires.shaped) at c.rebalance-edge.ensures.edge
 
 pub returns-clause-place : goal.returns-clause-place
 returns-clause-place g t c =
@@ -229,7 +229,7 @@ returns-clause-place g t c =
     c.requires.shaped i (inside c.args.edge) low
     (below_inside c.args.nodes.now c.args.below c.args.number c.if-below-eq0.false
     c.requires.shaped c.args.edge c.requires.edge) in
-    let place' = rw c.first_turn-index.ensures at c.mend-edge.ensures.place in
+    let place' = rw c.first_turn-index.ensures at c.rebalance-edge.ensures.place in
     let seat =
     rw back at (place'
     ∙ seat_place_inner c.remove_below-taken.new.nodes

@@ -1,7 +1,7 @@
 use Rattle.std.proofs.Common.{rules, arith}
-use Rattle.range_store.proofs.Edges.{way_low}
+use Rattle.range_store.proofs.Edges.{path_low}
 use Rattle.range_store.proofs.Pairs.{near_seat}
-use Rattle.range_store.proofs.Rotating.{has_pair, joined_edge, joined_shrinks, moved_way}
+use Rattle.range_store.proofs.Rotating.{has_pair, joined_edge, joined_shrinks, moved_path}
 use Rattle.range_store.proofs.btree.removal.join.Goals as goal
 
 pub child_at-left-requires : goal.child_at-left-requires
@@ -43,23 +43,23 @@ edge_at-inner-requires-clause-seat g c =
     (rw (c.item_count-many.ensures, c.child_at-left.ensures) at
     c.joined_seat-seat.ensures.second)
 
-pub edge_at-inner-requires-clause-way : goal.edge_at-inner-requires-clause-way
-edge_at-inner-requires-clause-way g c =
+pub edge_at-inner-requires-clause-path : goal.edge_at-inner-requires-clause-path
+edge_at-inner-requires-clause-path g c =
     λ some. rw c.seen_inside.ensures
     (omega (
       arith,
-      way_low c.args.nodes.now c.args.low _ c.args.edge c.requires.deep c.requires.edge,
+      path_low c.args.nodes.now c.args.low _ c.args.edge c.requires.deep c.requires.edge,
     ))
 
 pub seen_above-requires-clause-index : goal.seen_above-requires-clause-index
 seen_above-requires-clause-index g c =
     omega (arith, c.requires.levelled.within, c.requires.levelled.node.fits)
 
-pub seen_above-requires-clause-way : goal.seen_above-requires-clause-way
-seen_above-requires-clause-way g c =
-    moved_way c.args.low _ _ c.edge_at-inner.result c.args.edge c.edge_at-inner.ensures.leaf
+pub seen_above-requires-clause-path : goal.seen_above-requires-clause-path
+seen_above-requires-clause-path g c =
+    moved_path c.args.low _ _ c.edge_at-inner.result c.args.edge c.edge_at-inner.ensures.leaf
     (rw c.seen_inside.ensures at c.edge_at-inner.ensures.inside)
-    (way_low c.args.nodes.now c.args.low _ c.args.edge c.requires.deep c.requires.edge)
+    (path_low c.args.nodes.now c.args.low _ c.args.edge c.requires.deep c.requires.edge)
 
 pub returns-clause-shrinks : goal.returns-clause-shrinks
 returns-clause-shrinks g c =

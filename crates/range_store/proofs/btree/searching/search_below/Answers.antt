@@ -6,7 +6,7 @@ use Rattle.range_store.specs.declared.btree.nodes.TheConstants.{CAPACITY}
 use Rattle.range_store.proofs.Descending.{adds_more, adds_none, begins, descends, descent_ends, weight_fits}
 use Rattle.range_store.proofs.Front.{cells_full, count_cells, falls_cells}
 use Rattle.range_store.proofs.Searching.{node_falls}
-use Rattle.range_store.proofs.Ways.{child_within}
+use Rattle.range_store.proofs.Paths.{child_within}
 use Rattle.range_store.proofs.btree.searching.search_below.Goals as goal
 use Rattle.range_store.proofs.btree.searching.search_below.Given.{Over}
 use Rattle.range_store.proofs.btree.searching.search_below.Goals.{After-halve-index}
@@ -51,19 +51,19 @@ pub returns-then-left-eq0-clause-edge : goal.returns-then-left-eq0-clause-edge
 returns-then-left-eq0-clause-edge g c =
     let a = (goal.at.returns-then-left-eq0-clause-edge g c).After-halve-index in
     (descent_ends (g.P.Probe.test c.args.probe.now) c.args.nodes.now c.args.below c.args.number
-    c.down.left c.down.at c.down.way c.down.weight c.if-left-eq0.true c.down.invariant.0
+    c.down.left c.down.at c.down.path c.down.weight c.if-left-eq0.true c.down.invariant.0
     c.halve-index.result (counted g a)).edge
 
 pub returns-then-left-eq0-clause-count : goal.returns-then-left-eq0-clause-count
 returns-then-left-eq0-clause-count g c =
     let a = (goal.at.returns-then-left-eq0-clause-count g c).After-halve-index in
     (descent_ends (g.P.Probe.test c.args.probe.now) c.args.nodes.now c.args.below c.args.number
-    c.down.left c.down.at c.down.way c.down.weight c.if-left-eq0.true c.down.invariant.0
+    c.down.left c.down.at c.down.path c.down.weight c.if-left-eq0.true c.down.invariant.0
     c.halve-index.result (counted g a)).count
 
-pub overflow_mul-way : goal.overflow_mul-way
-overflow_mul-way g c =
-    let a = (goal.at.overflow_mul-way g c).After-halve-index in
+pub overflow_mul-path : goal.overflow_mul-path
+overflow_mul-path g c =
+    let a = (goal.at.overflow_mul-path g c).After-halve-index in
     let d = c.down.invariant.0 in
     omega (
       arith,
@@ -73,9 +73,9 @@ overflow_mul-way g c =
       mul-le-mul_left c.down.weight (few g a),
     )
 
-pub overflow_add-way : goal.overflow_add-way
-overflow_add-way g c =
-    let a = (goal.at.overflow_add-way g c).After-halve-index in
+pub overflow_add-path : goal.overflow_add-path
+overflow_add-path g c =
+    let a = (goal.at.overflow_add-path g c).After-halve-index in
     let d = c.down.invariant.0 in
     omega (
       arith,
@@ -100,7 +100,7 @@ down-preserved g c =
     let d = c.down.invariant.0 in
     let down =
     descends (g.P.Probe.test c.args.probe.now) c.args.nodes.now c.args.below c.args.number
-    c.down.left c.down.at c.down.way c.down.weight c.if-left-eq0.false d
+    c.down.left c.down.at c.down.path c.down.weight c.if-left-eq0.false d
     c.halve-index.result (counted g a) in (
       rw c.children-children.ensures down,
       c.halve-index.ensures.kept ∙ c.down.invariant.1,

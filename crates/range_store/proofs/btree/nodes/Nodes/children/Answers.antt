@@ -12,7 +12,8 @@ pub returns-then-list : goal.returns-then-list
 returns-then-list g c =
     rw (← c.self.view_is) (sym (node_children c.self.inside.nodes c.self.inside.lists
     c.self.invariant c.args.number c.index.result.now c.index.ensures
-    ∙ ap numbers_of (ap (λ key. get c.self.inside.lists key) c.if-list.true ∙ c.self.invariant.none)))
+    ∙ ap numbers_of
+    (ap (λ key. get c.self.inside.lists key) c.if-list.true ∙ c.self.invariant.none)))
 
 pub index-requires-2 : goal.index-requires-2
 index-requires-2 g c =

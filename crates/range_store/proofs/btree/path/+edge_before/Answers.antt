@@ -2,9 +2,9 @@ use Rattle.std.proofs.Common.{◌≡◌, ◌+◌, ◌-◌, ◌<◌, length, map,
 use Rattle.range_store.specs.Heap.{node_of, items_of, children_of}
 use Rattle.range_store.specs.Nodes.{before, items_below}
 use Rattle.range_store.specs.Edges.{turn}
-use Rattle.range_store.proofs.Edges.{leaf_edge, leaf_place, leaf_index, way_small}
-use Rattle.range_store.proofs.Ways.{level_of_children, child_within, below_kid, below_turn, below_inside, below_edge, below_place, below_here, before_next}
-use Rattle.range_store.proofs.btree.way.+edge_before.Goals as goal
+use Rattle.range_store.proofs.Edges.{leaf_edge, leaf_place, leaf_index, path_small}
+use Rattle.range_store.proofs.Paths.{level_of_children, child_within, below_kid, below_turn, below_inside, below_edge, below_place, below_here, before_next}
+use Rattle.range_store.proofs.btree.path.+edge_before.Goals as goal
 
 pub child_at-child-requires : goal.child_at-child-requires
 child_at-child-requires g t c = (
@@ -50,10 +50,10 @@ seen_above-requires-clause-index g t c =
       c.requires.shaped.node.fits,
     )
 
-pub seen_above-requires-clause-way : goal.seen_above-requires-clause-way
-seen_above-requires-clause-way g t c =
+pub seen_above-requires-clause-path : goal.seen_above-requires-clause-path
+seen_above-requires-clause-path g t c =
     let found = rw c.in-Some.is at c.edge_before.ensures in
-    way_small c.args.nodes.now (c.args.below - 1) _ _ (omega (arith, c.requires.deep)) found.0
+    path_small c.args.nodes.now (c.args.below - 1) _ _ (omega (arith, c.requires.deep)) found.0
 
 pub returns-in-Some : goal.returns-in-Some
 returns-in-Some g t c =
@@ -99,7 +99,7 @@ returns-then-below-eq0 g t c =
         arith,
         leaf_place s c.args.number c.args.edge,
         leaf_place s c.args.number
-            (record { leaf = c.args.number; way = 0; index = c.args.edge.index - 1 }),
+            (record { leaf = c.args.number; path = 0; index = c.args.edge.index - 1 }),
         c.if-edge-eq0.false,
       ),
     )
@@ -169,9 +169,9 @@ seen_above-requires-2-clause-index g t c =
       c.requires.shaped.node.fits,
     )
 
-pub seen_above-requires-2-clause-way : goal.seen_above-requires-2-clause-way
-seen_above-requires-2-clause-way g t c =
-    way_small c.args.nodes.now (c.args.below - 1) _ _
+pub seen_above-requires-2-clause-path : goal.seen_above-requires-2-clause-path
+seen_above-requires-2-clause-path g t c =
+    path_small c.args.nodes.now (c.args.below - 1) _ _
     (omega (arith, c.requires.deep)) c.end_edge.ensures.edge
 
 pub returns : goal.returns

@@ -1,9 +1,9 @@
 use Rattle.std.proofs.Common.{◌-◌, rules, arith}
-use Rattle.range_store.proofs.Edges.{way_low}
+use Rattle.range_store.proofs.Edges.{path_low}
 use Rattle.range_store.proofs.Pairs.{seat_low}
 use Rattle.range_store.specs.declared.btree.nodes.TheConstants.{MIN_LEN}
-use Rattle.range_store.proofs.Rotating.{has_pair, moved_way, next_edge, next_kept, next_shrinks}
-use Rattle.range_store.proofs.btree.removal.lend_to_next.Goals as goal
+use Rattle.range_store.proofs.Rotating.{has_pair, moved_path, next_edge, next_kept, next_shrinks}
+use Rattle.range_store.proofs.btree.removal.borrow_from_left.Goals as goal
 
 pub child_at-right-requires : goal.child_at-right-requires
 child_at-right-requires g c = (
@@ -50,23 +50,23 @@ edge_at-inner-requires-clause-seat g c =
       c.requires.spare,
     )
 
-pub edge_at-inner-requires-clause-way : goal.edge_at-inner-requires-clause-way
-edge_at-inner-requires-clause-way g c =
+pub edge_at-inner-requires-clause-path : goal.edge_at-inner-requires-clause-path
+edge_at-inner-requires-clause-path g c =
     λ some. rw c.seen_inside.ensures
     (omega (
       arith,
-      way_low c.args.nodes.now c.args.low _ c.args.edge c.requires.deep c.requires.edge,
+      path_low c.args.nodes.now c.args.low _ c.args.edge c.requires.deep c.requires.edge,
     ))
 
 pub seen_above-requires-clause-index : goal.seen_above-requires-clause-index
 seen_above-requires-clause-index g c =
     omega (arith, c.requires.levelled.within, c.requires.levelled.node.fits)
 
-pub seen_above-requires-clause-way : goal.seen_above-requires-clause-way
-seen_above-requires-clause-way g c =
-    moved_way c.args.low _ _ c.edge_at-inner.result c.args.edge c.edge_at-inner.ensures.leaf
+pub seen_above-requires-clause-path : goal.seen_above-requires-clause-path
+seen_above-requires-clause-path g c =
+    moved_path c.args.low _ _ c.edge_at-inner.result c.args.edge c.edge_at-inner.ensures.leaf
     (rw c.seen_inside.ensures at c.edge_at-inner.ensures.inside)
-    (way_low c.args.nodes.now c.args.low _ c.args.edge c.requires.deep c.requires.edge)
+    (path_low c.args.nodes.now c.args.low _ c.args.edge c.requires.deep c.requires.edge)
 
 pub returns-clause-shrinks : goal.returns-clause-shrinks
 returns-clause-shrinks g c =

@@ -2,9 +2,9 @@ use Rattle.std.proofs.Common.{◌+◌, ◌-◌, ◌<◌, length, refl, rules, ap
 use Rattle.range_store.specs.Heap.{items_of, node_of}
 use Rattle.range_store.specs.Edges.{turn}
 use Rattle.range_store.proofs.Below.{items_below_leaf}
-use Rattle.range_store.proofs.Edges.{leaf_edge, leaf_index, leaf_place, way_small}
-use Rattle.range_store.proofs.Ways.{before_next, below_edge, below_here, below_inside, below_kid, below_place, below_turn, child_within, level_of_children, past_last}
-use Rattle.range_store.proofs.btree.way.+following.Goals as goal
+use Rattle.range_store.proofs.Edges.{leaf_edge, leaf_index, leaf_place, path_small}
+use Rattle.range_store.proofs.Paths.{before_next, below_edge, below_here, below_inside, below_kid, below_place, below_turn, child_within, level_of_children, past_last}
+use Rattle.range_store.proofs.btree.path.+following.Goals as goal
 
 pub overflow_add-result : goal.overflow_add-result
 overflow_add-result g t c =
@@ -43,7 +43,7 @@ returns-then-below-eq0 g t c =
         arith,
         leaf_place s c.args.number c.args.edge,
         leaf_place s c.args.number
-            (record { leaf = c.args.number; way = 0; index = c.args.edge.index + 1 }),
+            (record { leaf = c.args.number; path = 0; index = c.args.edge.index + 1 }),
       ),
     )
 
@@ -95,10 +95,10 @@ seen_above-requires-clause-index g t c =
       c.requires.shaped.node.fits,
     )
 
-pub seen_above-requires-clause-way : goal.seen_above-requires-clause-way
-seen_above-requires-clause-way g t c =
+pub seen_above-requires-clause-path : goal.seen_above-requires-clause-path
+seen_above-requires-clause-path g t c =
     let later = rw c.in-Some.is at c.following.ensures in
-    way_small c.args.nodes.now (c.args.below - 1) _ _ (omega (arith, c.requires.deep)) later.0
+    path_small c.args.nodes.now (c.args.below - 1) _ _ (omega (arith, c.requires.deep)) later.0
 
 pub returns-in-Some : goal.returns-in-Some
 returns-in-Some g t c =
@@ -206,9 +206,9 @@ seen_above-requires-2-clause-index g t c =
       c.item_count-2.ensures,
     )
 
-pub seen_above-requires-2-clause-way : goal.seen_above-requires-2-clause-way
-seen_above-requires-2-clause-way g t c =
-    way_small c.args.nodes.now (c.args.below - 1) _ _
+pub seen_above-requires-2-clause-path : goal.seen_above-requires-2-clause-path
+seen_above-requires-2-clause-path g t c =
+    path_small c.args.nodes.now (c.args.below - 1) _ _
     (omega (arith, c.requires.deep)) c.first_edge.ensures.edge
 
 pub returns : goal.returns

@@ -2,11 +2,11 @@ use Rattle.std.proofs.Common.{◌≡◌, ◌∷◌, [], refl, length, ap, sym, r
 use Rattle.range_store.specs.Nodes.{items_below, IsTree}
 use Rattle.range_store.proofs.Edges.{leaf_edge, leaf_place}
 use Rattle.range_store.proofs.Levels.{empty_levels, has_levels}
-use Rattle.range_store.proofs.Planting.{first_tree}
+use Rattle.range_store.proofs.RootGrowth.{first_tree}
 use Rattle.range_store.proofs.Rank.{first_room}
-use Rattle.range_store.proofs.btree.BoxStorage.plant.Goals as goal
-use Rattle.range_store.proofs.btree.BoxStorage.plant.Given.{Over}
-use Rattle.range_store.proofs.btree.BoxStorage.plant.Goals.{After-store_leaf-self}
+use Rattle.range_store.proofs.btree.BoxStorage.insert_into_empty.Goals as goal
+use Rattle.range_store.proofs.btree.BoxStorage.insert_into_empty.Given.{Over}
+use Rattle.range_store.proofs.btree.BoxStorage.insert_into_empty.Goals.{After-store_leaf-self}
 
 pub store_leaf-self-requires : goal.store_leaf-self-requires
 store_leaf-self-requires g c =

@@ -12,7 +12,7 @@ use Rattle.range_store.specs.Frame.{same_below, SameBelow}
 use Rattle.range_store.proofs.Edges.{SameEdge, same_edge, edge_inside, turn_within, place_inside}
 use Rattle.range_store.proofs.Moves.{here_some}
 use Rattle.range_store.proofs.Rank.{items_below_none, used_none}
-use Rattle.range_store.specs.declared.btree.way.Edge.{Edge}
+use Rattle.range_store.specs.declared.btree.path.Edge.{Edge}
 use Rattle.range_store.specs.Edges.{turn, inside, IsEdge, place}
 use Rattle.range_store.specs.Contents.{IsRewritten}
 

@@ -1,8 +1,8 @@
 use Rattle.std.proofs.Common.{◌-◌, length, refl, rules, sym, ap, ◌∙◌, arith}
 use Rattle.range_store.proofs.Below.{items_below_leaf}
-use Rattle.range_store.proofs.Edges.{leaf_edge, leaf_place, way_small}
-use Rattle.range_store.proofs.Ways.{level_of_children, below_kid, below_edge, below_place, past_last}
-use Rattle.range_store.proofs.btree.way.+end_edge.Goals as goal
+use Rattle.range_store.proofs.Edges.{leaf_edge, leaf_place, path_small}
+use Rattle.range_store.proofs.Paths.{level_of_children, below_kid, below_edge, below_place, past_last}
+use Rattle.range_store.proofs.btree.path.+end_edge.Goals as goal
 
 pub returns-then-below-eq0-clause-edge : goal.returns-then-below-eq0-clause-edge
 returns-then-below-eq0-clause-edge g t c =
@@ -32,9 +32,9 @@ end_edge-requires g t c κs within = (
   ),
 )
 
-pub seen_above-requires-clause-way : goal.seen_above-requires-clause-way
-seen_above-requires-clause-way g t c =
-    way_small c.args.nodes.now (c.args.below - 1) _ _
+pub seen_above-requires-clause-path : goal.seen_above-requires-clause-path
+seen_above-requires-clause-path g t c =
+    path_small c.args.nodes.now (c.args.below - 1) _ _
     (omega (arith, c.requires.deep)) c.end_edge.ensures.edge
 
 pub returns-clause-edge : goal.returns-clause-edge

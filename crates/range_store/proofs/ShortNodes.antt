@@ -5,7 +5,7 @@ use Rattle.std.proofs.lemmas.List.{drop_more, take_more, length-append, get_or_a
 use Rattle.std.proofs.lemmas.List.Elements.{All-cons, All-head, All-tail, All-append, All-weaker}
 use Rattle.range_store.specs.Heap.{Heap, node_of, items_of, children_of}
 use Rattle.range_store.specs.declared.btree.nodes.TheConstants.{CAPACITY, MIN_LEN}
-use Rattle.range_store.specs.Nodes.{items_below, used, Shaped, ShapedBut, Shrinks, IsMendable, IsLevelled}
+use Rattle.range_store.specs.Nodes.{items_below, used, Shaped, ShapedBut, Shrinks, MayBeRebalanced, IsLevelled}
 use Rattle.range_store.proofs.Below.{Shaped-from_but, Shaped-but, shaped_within_wider}
 use Rattle.range_store.proofs.Moves.{Moves-none}
 use Rattle.range_store.specs.Weave.{list_splits_at}
@@ -20,7 +20,7 @@ module _ {X : Type 0} (P : X → Type 0) where
   All-right [] ys all = all
   All-right (x ∷ xs) ys all = All-right xs ys (All-tail P x (xs ++ ys) all)
 
-module _ {T : Type 0} (s : Heap T) (low n i : ℕ) (m : IsMendable s low n i) where
+module _ {T : Type 0} (s : Heap T) (low n i : ℕ) (m : MayBeRebalanced s low n i) where
   abbrev xs : List T
   xs = items_of (node_of s n)
 
@@ -53,9 +53,9 @@ module _ {T : Type 0} (s : Heap T) (low n i : ℕ) (m : IsMendable s low n i) wh
       (All-cons Present kid (drop (i + 1) ks) m.child.node.present
       (All-weaker P Present present_of (drop (i + 1) ks) m.behind)))
 
-  pub stays_mended : MIN_LEN ≤ length (items_of (node_of s kid))
+  pub stays_balanced : MIN_LEN ≤ length (items_of (node_of s kid))
       → Shrinks s s (suc low) n (items_below s (suc (suc low)) n)
-  stays_mended enough =
+  stays_balanced enough =
       let here = Shaped-from_but s low kid (record {
         node =
             record {

@@ -1,6 +1,6 @@
 use Rattle.std.proofs.Common.{arith}
-use Rattle.range_store.proofs.Settling.{stays_root, empty_root_leaves_nothing, only_child_is_root, lowered_edge}
-use Rattle.range_store.proofs.btree.removal.settle.Goals as goal
+use Rattle.range_store.proofs.Roots.{stays_root, empty_root_leaves_nothing, only_child_is_root, lowered_edge}
+use Rattle.range_store.proofs.btree.removal.shrink_root.Goals as goal
 
 pub returns-then-item_count-gt0-clause-tree : goal.returns-then-item_count-gt0-clause-tree
 returns-then-item_count-gt0-clause-tree g c =

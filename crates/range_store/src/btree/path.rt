@@ -1,4 +1,4 @@
-//! Edges between the items of the tree, each with the way to it, and the steps from one to the
+//! Edges between the items of the tree, each with the path to it, and the steps from one to the
 //! next.
 ghost use Rattle.std.specs.Prelude.{◌≡◌, ℕ, suc, ◌+◌, ◌-◌, ◌*◌, ◌%◌, ◌/◌, ◌^◌, ◌<◌, ◌≤◌, length, MatchOption};
 ghost use Rattle.range_store.specs.Nodes.{items_below, ShapedBut};
@@ -6,17 +6,17 @@ ghost use Rattle.range_store.specs.Edges.{turn, inside, seat_of, is_start, IsEdg
 
 use crate::btree::nodes::{CAPACITY, Nodes};
 
-// A way has a digit for each level: the child through which it goes, from the lowest digit on.
-pub const WIDTH: u128 = 16;
+// A path has a digit for each level: the child through which it goes, from the lowest digit on.
+pub const PATH_BASE: u128 = 16;
 
 // No tree has more levels: not so many items fit in memory.
-pub const DEEPEST: usize = 32;
+pub const MAX_LEVELS: usize = 32;
 
-/// A place between two items of a `BoxStorage`: an index in a leaf, and the way to that. It stands
+/// A place between two items of a `BoxStorage`: an index in a leaf, and the path to that. It stands
 /// for the item before it.
 #[derive(Clone, Copy)]
 pub struct Edge {
-    pub(crate) way: u128,
+    pub(crate) path: u128,
     pub(crate) leaf: usize,
     pub(crate) index: usize,
 }
@@ -28,11 +28,11 @@ pub struct Home {
     pub index: usize,
 }
 
-// The child through which the way goes first.
+// The child through which the path goes first.
 pub fn first_turn(edge: Edge) -> usize
     ensures { result ≡ turn edge }
 {
-    (edge.way % WIDTH) as usize
+    (edge.path % PATH_BASE) as usize
 }
 
 // The edge as that child sees it.
@@ -41,7 +41,7 @@ pub fn seen_inside(edge: Edge) -> Edge
 {
     Edge {
         leaf: edge.leaf,
-        way: edge.way / WIDTH,
+        path: edge.path / PATH_BASE,
         index: edge.index,
     }
 }
@@ -49,13 +49,13 @@ pub fn seen_inside(edge: Edge) -> Edge
 // The edge as the node above sees it, of which it is below the child at `index`.
 pub fn seen_above(edge: Edge, index: usize) -> Edge
     requires index { index ≤ CAPACITY }
-    requires way { edge.way < 2 ^ 124 }
+    requires path { edge.path < 2 ^ 124 }
     ensures turn { turn result ≡ index }
     ensures inside { inside result ≡ edge }
 {
     Edge {
         leaf: edge.leaf,
-        way: edge.way * WIDTH + index as u128,
+        path: edge.path * PATH_BASE + index as u128,
         index: edge.index,
     }
 }
@@ -63,15 +63,15 @@ pub fn seen_above(edge: Edge, index: usize) -> Edge
 // The edge at a seat of a node: between the items of a leaf, or below the child at that index.
 pub fn edge_at(below: usize, number: usize, seat: usize, inner: Edge) -> Edge
     requires seat { seat ≤ CAPACITY }
-    requires way { 0 < below → inner.way < 2 ^ 124 }
-    ensures leaf { below ≡ 0 → result ≡ record { leaf = number; way = 0; index = seat } }
+    requires path { 0 < below → inner.path < 2 ^ 124 }
+    ensures leaf { below ≡ 0 → result ≡ record { leaf = number; path = 0; index = seat } }
     ensures turn { 0 < below → turn result ≡ seat }
     ensures inside { 0 < below → inside result ≡ inner }
 {
     if below == 0 {
         return Edge {
             leaf: number,
-            way: 0,
+            path: 0,
             index: seat,
         };
     }
@@ -93,20 +93,20 @@ pub fn seat(below: usize, edge: Edge) -> usize
 pub fn stands_first(edge: Edge) -> bool
     ensures { result ≡ is_start edge }
 {
-    edge.way == 0 && edge.index == 0
+    edge.path == 0 && edge.index == 0
 }
 
 // The edge before all items below a node.
 pub fn first_edge<T: Drop>(nodes: &Nodes<T>, below: usize, number: usize) -> Edge
     requires shaped { ShapedBut 1 CAPACITY nodes.now below number }
-    requires deep { below < DEEPEST }
+    requires deep { below < MAX_LEVELS }
     ensures edge { IsEdge nodes.now below number result }
     ensures place { place nodes.now below number result ≡ 0 }
 {
     if below == 0 {
         return Edge {
             leaf: number,
-            way: 0,
+            path: 0,
             index: 0,
         };
     }
@@ -117,7 +117,7 @@ pub fn first_edge<T: Drop>(nodes: &Nodes<T>, below: usize, number: usize) -> Edg
 // The edge after all items below a node.
 pub fn end_edge<T: Drop>(nodes: &Nodes<T>, below: usize, number: usize) -> Edge
     requires shaped { ShapedBut 1 CAPACITY nodes.now below number }
-    requires deep { below < DEEPEST }
+    requires deep { below < MAX_LEVELS }
     ensures edge { IsEdge nodes.now below number result }
     ensures place { place nodes.now below number result
         ≡ length (items_below nodes.now (suc below) number) }
@@ -126,7 +126,7 @@ pub fn end_edge<T: Drop>(nodes: &Nodes<T>, below: usize, number: usize) -> Edge
     if below == 0 {
         return Edge {
             leaf: number,
-            way: 0,
+            path: 0,
             index: many,
         };
     }
@@ -137,7 +137,7 @@ pub fn end_edge<T: Drop>(nodes: &Nodes<T>, below: usize, number: usize) -> Edge
 // The edge after the item after an edge below a node.
 pub fn following<T: Drop>(nodes: &Nodes<T>, below: usize, number: usize, edge: Edge) -> Option<Edge>
     requires shaped { ShapedBut 1 CAPACITY nodes.now below number }
-    requires deep { below < DEEPEST }
+    requires deep { below < MAX_LEVELS }
     requires edge { IsEdge nodes.now below number edge }
     ensures { MatchOption result
         (place nodes.now below number edge ≡ length (items_below nodes.now (suc below) number))
@@ -150,7 +150,7 @@ pub fn following<T: Drop>(nodes: &Nodes<T>, below: usize, number: usize, edge: E
         }
         return Some(Edge {
             leaf: number,
-            way: 0,
+            path: 0,
             index: edge.index + 1,
         });
     }
@@ -174,7 +174,7 @@ pub fn edge_before<T: Drop>(
     edge: Edge,
 ) -> Option<Edge>
     requires shaped { ShapedBut 1 CAPACITY nodes.now below number }
-    requires deep { below < DEEPEST }
+    requires deep { below < MAX_LEVELS }
     requires edge { IsEdge nodes.now below number edge }
     ensures { MatchOption result (place nodes.now below number edge ≡ 0)
         (λ h. IsEdge nodes.now below number h
@@ -186,7 +186,7 @@ pub fn edge_before<T: Drop>(
         }
         return Some(Edge {
             leaf: number,
-            way: 0,
+            path: 0,
             index: edge.index - 1,
         });
     }

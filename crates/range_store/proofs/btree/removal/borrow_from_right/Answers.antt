@@ -1,7 +1,7 @@
 use Rattle.std.proofs.Common.{rules, arith}
-use Rattle.range_store.proofs.Edges.{way_small}
+use Rattle.range_store.proofs.Edges.{path_small}
 use Rattle.range_store.proofs.Rotating.{has_pair, previous_edge, previous_kept, previous_shrinks}
-use Rattle.range_store.proofs.btree.removal.lend_to_previous.Goals as goal
+use Rattle.range_store.proofs.btree.removal.borrow_from_right.Goals as goal
 
 pub rotate_left-requires : goal.rotate_left-requires
 rotate_left-requires g c = (
@@ -19,9 +19,9 @@ pub seen_above-requires-clause-index : goal.seen_above-requires-clause-index
 seen_above-requires-clause-index g c =
     omega (arith, c.requires.levelled.within, c.requires.levelled.node.fits)
 
-pub seen_above-requires-clause-way : goal.seen_above-requires-clause-way
-seen_above-requires-clause-way g c =
-    way_small c.args.nodes.now c.args.low _ c.args.edge
+pub seen_above-requires-clause-path : goal.seen_above-requires-clause-path
+seen_above-requires-clause-path g c =
+    path_small c.args.nodes.now c.args.low _ c.args.edge
     (omega (arith, c.requires.deep)) c.requires.edge
 
 pub returns-clause-shrinks : goal.returns-clause-shrinks

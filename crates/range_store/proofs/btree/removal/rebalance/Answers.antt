@@ -3,20 +3,20 @@ use Rattle.std.proofs.lemmas.Bool.{cases_lt}
 use Rattle.range_store.specs.Nodes.{child_size}
 use Rattle.range_store.specs.Heap.{node_of, items_of}
 use Rattle.range_store.specs.declared.btree.nodes.TheConstants.{MIN_LEN}
-use Rattle.range_store.proofs.Edges.{way_small, edge_above, place_above}
+use Rattle.range_store.proofs.Edges.{path_small, edge_above, place_above}
 use Rattle.range_store.proofs.Seats.{seat_place_inner}
-use Rattle.range_store.proofs.Mending.{all_present, pair_levelled, stays_mended}
-use Rattle.range_store.proofs.btree.removal.mend.Given.{Over}
-use Rattle.range_store.proofs.btree.removal.mend.Goals as goal
-use Rattle.range_store.proofs.btree.removal.mend.Goals.{After-saturating_sub, Else-item_count-ge-MIN_LEN, then-index-gt0+else-item_count-gt-MIN_LEN, else-index-gt0, then-index-item_count+else-item_count-gt-MIN_LEN-2, else-index-item_count}
+use Rattle.range_store.proofs.ShortNodes.{all_present, pair_levelled, stays_balanced}
+use Rattle.range_store.proofs.btree.removal.rebalance.Given.{Over}
+use Rattle.range_store.proofs.btree.removal.rebalance.Goals as goal
+use Rattle.range_store.proofs.btree.removal.rebalance.Goals.{After-saturating_sub, Else-item_count-ge-MIN_LEN, then-index-gt0+else-item_count-gt-MIN_LEN, else-index-gt0, then-index-item_count+else-item_count-gt-MIN_LEN-2, else-index-item_count}
 
 pub seen_above-requires-clause-index : goal.seen_above-requires-clause-index
 seen_above-requires-clause-index g c =
-    omega (arith, c.requires.mendable.within, c.requires.mendable.node.fits)
+    omega (arith, c.requires.short.within, c.requires.short.node.fits)
 
-pub seen_above-requires-clause-way : goal.seen_above-requires-clause-way
-seen_above-requires-clause-way g c =
-    way_small c.args.nodes.now c.args.low _ c.args.edge
+pub seen_above-requires-clause-path : goal.seen_above-requires-clause-path
+seen_above-requires-clause-path g c =
+    path_small c.args.nodes.now c.args.low _ c.args.edge
     (omega (arith, c.requires.deep)) c.requires.edge
 
 pub returns-then-item_count-ge-MIN_LEN-clause-shrinks :
@@ -24,7 +24,7 @@ pub returns-then-item_count-ge-MIN_LEN-clause-shrinks :
 returns-then-item_count-ge-MIN_LEN-clause-shrinks g c =
     let enough : MIN_LEN ≤ length (items_of (node_of c.args.nodes.now c.child_at-child.result)) =
     omega (arith, c.item_count.ensures) in
-    stays_mended c.args.nodes.now c.args.low c.args.number c.args.index c.requires.mendable
+    stays_balanced c.args.nodes.now c.args.low c.args.number c.args.index c.requires.short
     (rw c.child_at-child.ensures at enough)
 
 pub returns-then-item_count-ge-MIN_LEN-clause-edge :
@@ -32,7 +32,7 @@ pub returns-then-item_count-ge-MIN_LEN-clause-edge :
 returns-then-item_count-ge-MIN_LEN-clause-edge g c =
     edge_above c.args.nodes.now c.args.low c.args.number c.args.index c.args.edge
     c.seen_above.result c.seen_above.ensures.turn c.seen_above.ensures.inside
-    (omega (arith, c.requires.mendable.within, c.requires.mendable.node.branches))
+    (omega (arith, c.requires.short.within, c.requires.short.node.branches))
     c.requires.edge
 
 pub returns-then-item_count-ge-MIN_LEN-clause-place :
@@ -57,31 +57,31 @@ pub item_count-requires-then-index-gt0 : goal.item_count-requires-then-index-gt0
 item_count-requires-then-index-gt0 g c = (
   search rules,
   rw c.child_at-before.ensures
-      (all_present c.args.nodes.now c.args.low c.args.number c.args.index c.requires.mendable
+      (all_present c.args.nodes.now c.args.low c.args.number c.args.index c.requires.short
       (c.args.index - 1) 0 (omega
-      (arith, c.requires.mendable.within, c.requires.mendable.node.branches))),
+      (arith, c.requires.short.within, c.requires.short.node.branches))),
 )
 
 pub item_count-requires-then-index-item_count : goal.item_count-requires-then-index-item_count
 item_count-requires-then-index-item_count g c = (
   search rules,
   rw c.child_at-behind.ensures
-      (all_present c.args.nodes.now c.args.low c.args.number c.args.index c.requires.mendable
+      (all_present c.args.nodes.now c.args.low c.args.number c.args.index c.requires.short
       (c.args.index + 1) 0 (omega (
         arith,
-        c.requires.mendable.within,
-        c.requires.mendable.node.branches,
+        c.requires.short.within,
+        c.requires.short.node.branches,
         c.if-index-item_count.true,
       ))),
 )
 
-pub lend_to_next-requires : goal.lend_to_next-requires
-lend_to_next-requires g c =
-    let short = short_child g (goal.at.lend_to_next-requires g c).Else-item_count-ge-MIN_LEN in
+pub borrow_from_left-requires : goal.borrow_from_left-requires
+borrow_from_left-requires g c =
+    let short = short_child g (goal.at.borrow_from_left-requires g c).Else-item_count-ge-MIN_LEN in
     let next : c.args.index - 1 + 1 ≡ c.args.index = omega (arith, c.if-index-gt0.true) in
     let levelled =
-    pair_levelled c.args.nodes.now c.args.low c.args.number c.args.index c.requires.mendable
-    (c.args.index - 1) (omega (arith, c.if-index-gt0.true, c.requires.mendable.within))
+    pair_levelled c.args.nodes.now c.args.low c.args.number c.args.index c.requires.short
+    (c.args.index - 1) (omega (arith, c.if-index-gt0.true, c.requires.short.within))
     (inr next) short in (
       search rules,
       (
@@ -98,11 +98,11 @@ lend_to_next-requires g c =
       ),
     )
 
-pub lend_to_previous-requires : goal.lend_to_previous-requires
-lend_to_previous-requires g c =
-    let short = short_child g (goal.at.lend_to_previous-requires g c).Else-item_count-ge-MIN_LEN in
+pub borrow_from_right-requires : goal.borrow_from_right-requires
+borrow_from_right-requires g c =
+    let short = short_child g (goal.at.borrow_from_right-requires g c).Else-item_count-ge-MIN_LEN in
     let levelled =
-    pair_levelled c.args.nodes.now c.args.low c.args.number c.args.index c.requires.mendable
+    pair_levelled c.args.nodes.now c.args.low c.args.number c.args.index c.requires.short
     c.args.index (omega (arith, c.if-index-item_count.true, c.item_count-2.ensures))
     (inl refl) short in (
       search rules,
@@ -154,7 +154,7 @@ none_behind g c low =
 pub join-requires : goal.join-requires
 join-requires g c =
     let a = (goal.at.join-requires g c).After-saturating_sub in
-    let m = c.requires.mendable in
+    let m = c.requires.short in
     let short = short_child g (goal.at.join-requires g c).Else-item_count-ge-MIN_LEN in
     let less : c.saturating_sub.result ≡ c.args.index - 1 =
     omega (arith, c.saturating_sub.ensures) in

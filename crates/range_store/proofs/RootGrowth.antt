@@ -7,7 +7,7 @@ use Rattle.std.proofs.lemmas.Bool.{cases_eq}
 use Rattle.range_store.specs.Heap.{Heap, node_of, HasRoomFor, children_of, Stores}
 use Rattle.range_store.specs.declared.btree.nodes.Split.{Split}
 use Rattle.range_store.specs.declared.btree.nodes.TheConstants.{CAPACITY, MIN_LEN}
-use Rattle.range_store.specs.declared.btree.way.Edge.{Edge}
+use Rattle.range_store.specs.declared.btree.path.Edge.{Edge}
 use Rattle.range_store.specs.Nodes.{items_below, used, Shaped, ShapedBut, IsTree, IsRoomy, HasTreeRoom, here, Replaces}
 use Rattle.range_store.specs.Edges.{turn, inside, IsEdge, place, IsSeat, seat_place}
 use Rattle.range_store.specs.Occurrences.{occurrences, occurrences-cons, occurrences-nil, occurrences_itself, occurrences_other}
@@ -86,17 +86,17 @@ one_more s (suc d) root some tree room =
 
 module _ {T : Type 0} where
   -- a tree with this list
-  pub record IsPlanted (s : Heap T) (levels root : ℕ) (list : List T) : Type 0 where
+  pub record IsGrown (s : Heap T) (levels root : ℕ) (list : List T) : Type 0 where
     pub tree : IsTree s levels root
     pub items_are : items_below s levels root ≡ list
 
-pub planted_roomy : {T : Type 0} (s : Heap T) (levels root : ℕ) (list : List T)
-    → IsPlanted s levels root list → length list ≤ MIN_LEN * s.capacity → length list < 2 ^ 64
+pub grown_roomy : {T : Type 0} (s : Heap T) (levels root : ℕ) (list : List T)
+    → IsGrown s levels root list → length list ≤ MIN_LEN * s.capacity → length list < 2 ^ 64
     → IsRoomy s levels root
-planted_roomy s levels root list planted fits counted = record {
-  tree = planted.tree;
-  fits = omega (arith, ap length planted.items_are, fits);
-  counted = omega (arith, ap length planted.items_are, counted);
+grown_roomy s levels root list grown fits counted = record {
+  tree = grown.tree;
+  fits = omega (arith, ap length grown.items_are, fits);
+  counted = omega (arith, ap length grown.items_are, counted);
 }
 
 module _ {T : Type 0} (s t : Heap T) (d root : ℕ) (list : List T) (tree : IsTree s (suc d) root)
@@ -114,7 +114,7 @@ module _ {T : Type 0} (s t : Heap T) (d root : ℕ) (list : List T) (tree : IsTr
   }
 
 pub kept_root : {T : Type 0} (s t : Heap T) (levels root : ℕ) (list : List T) → 0 < levels
-    → IsTree s levels root → Replaces s t (levels - 1) root None list → IsPlanted t levels root list
+    → IsTree s levels root → Replaces s t (levels - 1) root None list → IsGrown t levels root list
 kept_root s t zero root list some tree step = absurd (omega arith)
 kept_root s t (suc d) root list some tree step' =
     let level : suc d - 1 ≡ d = omega arith in
@@ -194,7 +194,7 @@ module _ {T : Type 0} (s t u : Heap T) (d root n : ℕ) (split : Split T) (list 
 pub taller_root : {T : Type 0} (s t u : Heap T) (levels root n : ℕ) (split : Split T)
     (list : List T) → 0 < levels → IsTree s levels root
     → Replaces s t (levels - 1) root (Some split) list
-    → Stores t u n (split.middle ∷ []) (root ∷ split.right ∷ []) → IsPlanted u (levels + 1) n list
+    → Stores t u n (split.middle ∷ []) (root ∷ split.right ∷ []) → IsGrown u (levels + 1) n list
 taller_root s t u zero root n split list some tree step stored = absurd (omega arith)
 taller_root s t u (suc d) root n split list some tree step' stored =
     let level : suc d - 1 ≡ d = omega arith in

@@ -2,8 +2,8 @@
 use Rattle.std.proofs.Common.{◌≡◌, ◌≢◌, ℕ, zero, suc, ◌+◌, ◌-◌, ◌<◌, ◌≤◌, ◌++◌, length, get_or, map, refl, ap, ◌∙◌, arith, cond, true, false, ◌==◌, inl, inr}
 use Rattle.range_store.specs.Heap.{Heap, node_of, items_of, children_of}
 use Rattle.range_store.specs.declared.btree.nodes.TheConstants.{CAPACITY, MIN_LEN}
-use Rattle.range_store.specs.declared.btree.way.Edge.{Edge}
-use Rattle.range_store.specs.declared.btree.way.Home.{Home}
+use Rattle.range_store.specs.declared.btree.path.Edge.{Edge}
+use Rattle.range_store.specs.declared.btree.path.Home.{Home}
 use Rattle.range_store.specs.Nodes.{items_below, before, after, ShapedBut}
 use Rattle.range_store.specs.Edges.{turn, inside, is_start, IsEdge, place, home_of}
 use Rattle.range_store.specs.Written.{place_of_start, start_of_place}
@@ -24,9 +24,9 @@ home_step : {T : Type 0} (s : Heap T) (d n : ℕ) (g : Edge)
 unfolding home_of
 home_step s d n g = refl
 
-start_parts : (g : Edge) → is_start g ≡ true → (g.way ≡ 0) × (g.index ≡ 0)
+start_parts : (g : Edge) → is_start g ≡ true → (g.path ≡ 0) × (g.index ≡ 0)
 start_parts g start =
-    let both = and_parts (g.way == 0) (g.index == 0) start in
+    let both = and_parts (g.path == 0) (g.index == 0) start in
     (eqb-true _ _ both.0, eqb-true _ _ both.1)
 
 -- nothing stands before an edge just where it is a start

@@ -1,8 +1,8 @@
 use Rattle.std.proofs.Common.{rules, sym, ◌∙◌, arith}
 use Rattle.range_store.specs.Edges.{turn}
 use Rattle.range_store.proofs.Edges.{leaf_place}
-use Rattle.range_store.proofs.Ways.{below_inside, below_kid, below_turn, child_within, home_above, home_inside, home_leaf, inside_is_later, turn_is_later}
-use Rattle.range_store.proofs.btree.way.+find_home.Goals as goal
+use Rattle.range_store.proofs.Paths.{below_inside, below_kid, below_turn, child_within, home_above, home_inside, home_leaf, inside_is_later, turn_is_later}
+use Rattle.range_store.proofs.btree.path.+find_home.Goals as goal
 
 pub overflow_sub-result : goal.overflow_sub-result
 overflow_sub-result g t c =
