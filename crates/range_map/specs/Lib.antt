@@ -1,7 +1,6 @@
 pub mod Answers
 pub mod Apart
 pub mod Askable
-pub mod Asking
 pub mod Bindings
 pub mod Chains
 pub mod Changes
@@ -13,7 +12,7 @@ pub mod Extending
 pub mod Frames
 pub mod FreeRanges
 pub mod Freeing
-pub mod Iterating
+pub mod Iteration
 pub mod ListOrder
 pub mod Lookups
 pub mod Merged
@@ -22,6 +21,7 @@ pub mod Overlapping
 pub mod PieceLists
 pub mod Pieces
 pub mod Plans
+pub mod Questions
 pub mod Reach
 pub mod Rebinding
 pub mod Replaced

@@ -7,9 +7,9 @@ pub mod Falling
 pub mod Frame
 pub mod Heap
 pub mod Holding
-pub mod Rewriting
 pub mod Nodes
 pub mod Occurrences
 pub mod Places
+pub mod Rewriting
 pub mod Weave
 pub mod Written
