@@ -1,9 +1,9 @@
 -- A test that falls once along a list.
-use Rattle.std.proofs.Common.{◌≡◌, ◌⊎◌, ℕ, zero, suc, ◌+◌, ◌-◌, ◌/◌, ◌^◌, ◌<◌, ◌≤◌, Bool, true, false, cond, List, [], ◌∷◌, ◌++◌, length, get_or, refl, ◌∙◌, inl, inr, arith, count_by, Some, IsSome, min}
+use Rattle.std.proofs.Common.{◌≡◌, ◌⊎◌, ℕ, zero, suc, ◌+◌, ◌-◌, ◌/◌, ◌^◌, ◌<◌, ◌≤◌, Bool, true, false, cond, List, [], ◌∷◌, ◌++◌, length, get_or, refl, sym, ◌∙◌, inl, inr, arith, count_by, Some, IsSome, min}
 use Rattle.std.proofs.Math.Nat.{pow-suc}
 use Rattle.std.specs.List.{All}
 use Rattle.std.specs.List.Sorted.{IsPartitionedBy}
-use Rattle.std.proofs.lemmas.Bool.{false_from_ne_true, both_ways}
+use Rattle.std.proofs.lemmas.Bool.{false_from_ne_true, false≢true, both_ways}
 use Rattle.std.proofs.lemmas.List.Sums.{sum_by-cons, sum_by-append, count_by-le-length}
 use Rattle.range_store.specs.declared.btree.nodes.TheConstants.{CAPACITY}
 use Rattle.range_store.specs.declared.btree.searching.TheConstants.{MAX_ASKS}
@@ -213,3 +213,22 @@ halving_fails p xs low high first now d falls less fails h =
       later = omega (arith, h.later);
       begun = inl (omega (arith, h.later));
     }
+
+-- a test that all items pass, and one that none does
+pub count_all : {X : Type 0} (xs : List X) → count_by (λ _. true) xs ≡ length xs
+count_all [] = refl
+count_all (x ∷ xs) = omega (arith, sum_by-cons (λ _. 1) x xs, count_all xs)
+
+pub count_none : {X : Type 0} (xs : List X) → count_by (λ _. false) xs ≡ 0
+count_none [] = refl
+count_none (x ∷ xs) = count_none xs
+
+pub falls_all : {X : Type 0} (xs : List X) → Falls (λ _. true) xs
+unfolding Falls
+falls_all [] = tt
+falls_all (x ∷ xs) = (λ fails. absurd (false≢true (sym fails)), falls_all xs)
+
+pub falls_none : {X : Type 0} (xs : List X) → Falls (λ _. false) xs
+unfolding Falls
+falls_none [] = tt
+falls_none (x ∷ xs) = (λ fails. count_none xs, falls_none xs)

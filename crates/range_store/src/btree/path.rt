@@ -103,15 +103,17 @@ pub fn first_edge<T: Drop>(nodes: &Nodes<T>, below: usize, number: usize) -> Edg
     ensures edge { IsEdge nodes.now below number result }
     ensures place { place nodes.now below number result ≡ 0 }
 {
-    if below == 0 {
-        return Edge {
-            leaf: number,
-            path: 0,
-            index: 0,
-        };
+    let mut leaf = number;
+    let mut left = below;
+    'down: while left > 0 {
+        leaf = nodes.child_at(leaf, 0);
+        left -= 1;
     }
-    let child = nodes.child_at(number, 0);
-    seen_above(first_edge(nodes, below - 1, child), 0)
+    Edge {
+        leaf,
+        path: 0,
+        index: 0,
+    }
 }
 
 // The edge after all items below a node.
@@ -122,16 +124,22 @@ pub fn end_edge<T: Drop>(nodes: &Nodes<T>, below: usize, number: usize) -> Edge
     ensures place { place nodes.now below number result
         ≡ length (items_below nodes.now (suc below) number) }
 {
-    let many = nodes.item_count(number);
-    if below == 0 {
-        return Edge {
-            leaf: number,
-            path: 0,
-            index: many,
-        };
+    let mut leaf = number;
+    let mut left = below;
+    let mut path: u128 = 0;
+    let mut weight: u128 = 1;
+    'down: while left > 0 {
+        let last = nodes.item_count(leaf);
+        path += weight * (last as u128);
+        weight *= PATH_BASE;
+        leaf = nodes.child_at(leaf, last);
+        left -= 1;
     }
-    let child = nodes.child_at(number, many);
-    seen_above(end_edge(nodes, below - 1, child), many)
+    Edge {
+        leaf,
+        path,
+        index: nodes.item_count(leaf),
+    }
 }
 
 // The edge after the item after an edge below a node.
