@@ -2,7 +2,7 @@
 ghost use Rattle.std.specs.Prelude.{◌≡◌, ◌↔◌, ◌+◌, ◌≤◌, ◌++◌, ◌∷◌, [], length, IsTrue, IsErrAnd, OnOk, OnErr};
 ghost use Rattle.range_algebra.specs.Relations.{LiesBefore};
 ghost use Rattle.range_keys.specs.Order.{IsComplete};
-ghost use Rattle.range_map.specs.Appending.{IsOutOfOrder, LieBefore, appended, are_one, as_one};
+ghost use Rattle.range_map.specs.Appending.{IsOutOfOrder, LieBefore, appended, are_one, as_one, joined};
 ghost use Rattle.range_map.specs.Bindings.{BindAlike, IsCoarse, IsOnlyCoarse};
 ghost use Rattle.range_map.specs.Stored.{IsStored};
 
@@ -32,6 +32,24 @@ fn are_one<K: PartialEnum, V: Eq>(
     starts_at_end(first.key.end_bound(), second.key.start_bound()) && first.value == second.value
 }
 
+/// One item from the start of the first to the end of the second, with the value of the first.
+fn joined<K: PartialEnum, V: Drop>(
+    first: Item<AnyRange<K>, V>,
+    second: Item<AnyRange<K>, V>,
+) -> Item<AnyRange<K>, V>
+    ensures { result ≡ joined first second }
+{
+    let (front, value) = first.into_pair();
+    let (back, _value) = second.into_pair();
+    Item {
+        key: AnyRange {
+            start: front.start,
+            end: back.end,
+        },
+        value,
+    }
+}
+
 /// Puts two items after all others, or one in their place where they are to be one.
 fn put_last<K: PartialEnum, V: Eq + Drop, C: Storage<Item<AnyRange<K>, V>>>(
     stored: &mut C,
@@ -39,22 +57,11 @@ fn put_last<K: PartialEnum, V: Eq + Drop, C: Storage<Item<AnyRange<K>, V>>>(
     second: Item<AnyRange<K>, V>,
 )
     requires { 2 ≤ C.room stored.old }
-    ensures list { C.items stored.new
-        ≡ C.items stored.old ++ as_one K.order V.eq first second }
+    ensures list { C.items stored.new ≡ C.items stored.old ++ as_one K.order V.eq first second }
     ensures room { C.room stored.old ≤ C.room stored.new + 2 }
 {
     if are_one(&first, &second) {
-        let range = AnyRange {
-            start: first.key.start,
-            end: second.key.end,
-        };
-        let _position = stored.insert_at(
-            None,
-            Item {
-                key: range,
-                value: first.value,
-            },
-        );
+        let _position = stored.insert_at(None, joined(first, second));
     } else {
         let _first = stored.insert_at(None, first);
         let _second = stored.insert_at(None, second);
@@ -102,10 +109,13 @@ impl<K: PartialEnum, V: Eq + Drop, C: Storage<Item<AnyRange<K>, V>>> RangeMap<K,
     {
         self.in_form();
         other.in_form();
-        match (self.last_range_value(), other.first_range_value()) {
-            (Some((last, _)), Some((first, _))) => ends_before(last, first),
-            _ => true,
-        }
+        let Some((last, _)) = self.last_range_value() else {
+            return true;
+        };
+        let Some((first, _)) = other.first_range_value() else {
+            return true;
+        };
+        ends_before(last, first)
     }
 
     /// Moves all ranges of the other map, with their values, to the end of this one, and leaves the
