@@ -129,7 +129,7 @@ impl<K: PartialEnum, V: Eq + Drop, C: Storage<Item<AnyRange<K>, V>>> RangeMap<K,
     ///
     /// ```
     /// // of a map that binds 0..=5 to 1, and one that binds 6..9 to 1
-    /// assert!(rt; map.append(&mut other).is_ok());
+    /// assert!(rt; map.append(other).is_ok());
     /// assert!(rt; map.range_count() == 1 && other.is_empty()); // 0..9
     /// ```
     pub fn append<D: Storage<Item<AnyRange<K>, V>>>(
