@@ -133,13 +133,13 @@ module _ {K : Type 0} (order : KeyOrder K) (lawful : IsLawful order) {V : Type 0
         let hi = item_upper order i in (
           λ h. elim h [
             | inl own ↦ elim (cases (places order lawful) total p hi) [
-                | inl below ↦ inl ((own.0.0, below), own.1)
-                | inr from ↦
-                    inr (inl (
-                      (le_trans (places order lawful) total lo hi p (meets one) from, own.0.1),
-                      respects i.value j.value (alike one) own.1,
-                    ))
-              ]
+              | inl below ↦ inl ((own.0.0, below), own.1)
+              | inr from ↦
+                  inr (inl (
+                    (le_trans (places order lawful) total lo hi p (meets one) from, own.0.1),
+                    respects i.value j.value (alike one) own.1,
+                  ))
+            ]
             | inr other ↦ inr (inr other)
           ],
           λ h. elim h [
@@ -154,20 +154,20 @@ module _ {K : Type 0} (order : KeyOrder K) (lawful : IsLawful order) {V : Type 0
                   own.1,
                 )
             | inr others ↦ elim others [
-                | inl own ↦
-                    inl (
-                      (
-                        le_trans (places order lawful) total (item_lower order i) lo p
-                            (le_trans (places order lawful) total (item_lower order i) hi lo
-                            (lt_le (places order lawful) total (item_lower order i) hi good) upto)
-                            own.0.0,
-                        own.0.1,
-                      ),
-                      respects j.value i.value
-                          (same_is_symmetric line i.value j.value (alike one)) own.1,
-                    )
-                | inr other ↦ inr other
-              ]
+              | inl own ↦
+                  inl (
+                    (
+                      le_trans (places order lawful) total (item_lower order i) lo p
+                          (le_trans (places order lawful) total (item_lower order i) hi lo
+                          (lt_le (places order lawful) total (item_lower order i) hi good) upto)
+                          own.0.0,
+                      own.0.1,
+                    ),
+                    respects j.value i.value
+                        (same_is_symmetric line i.value j.value (alike one)) own.1,
+                  )
+              | inr other ↦ inr other
+            ]
           ],
         )
     one_holds false apart rest W p respects = (λ h. h, λ h. h)

@@ -32,6 +32,6 @@ impl<T: PartialEnum, C: Storage<Item<AnyRange<T>, ()>>> RangeSet<T, C> {
         ensures form { IsStoredSet T.order (C.items self.new) }
         ensures few { length (C.items self.new) ≤ length (C.items self.old) }
     {
-        self.map.retain(|range, _unit| f(range));
+        self.map.retain(move |range, _unit| f(range));
     }
 }
