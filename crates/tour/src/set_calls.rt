@@ -4,6 +4,7 @@ use btree_range_map::storage::{Item, Steps, Storage};
 use btree_range_map::{AnyRange, MapError, RangeSet, generic};
 use std::alloc::{AllocError, Global};
 use std::cmp::Ordering;
+use std::ops::RangeBounds;
 use std::process::Abort;
 use std::test::Fail;
 
