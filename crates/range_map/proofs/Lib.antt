@@ -1,5 +1,6 @@
 pub mod AnswerLists
 pub mod ApartRanges
+pub mod Appending
 pub mod Asked
 pub mod Between
 pub mod BindingAll

@@ -1,5 +1,6 @@
 pub mod Answers
 pub mod Apart
+pub mod Appending
 pub mod Askable
 pub mod Bindings
 pub mod Chains

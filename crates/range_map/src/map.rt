@@ -7,6 +7,7 @@ ghost use Rattle.range_store.specs.Counting.{AddsSteps};
 ghost use Rattle.range_map.specs.Bindings.{Binds, IsCoarse, IsItemFor, IsStoredFor, IsOnlyCoarse, IsLeastCount};
 ghost use Rattle.range_map.specs.Iteration.{shown_item};
 
+mod append;
 mod clear;
 mod clone;
 mod combine;
@@ -32,7 +33,7 @@ mod try_insert;
 mod update;
 
 use crate::change::window::{find, starts_past};
-pub use crate::error::{MapError, NotInserted, UpdateError};
+pub use crate::error::{MapError, NotAppended, NotInserted, UpdateError};
 pub use crate::laws::{
     coarse_lists_are_shortest, coarse_lists_are_unique, stored_lists_are_coarse,
     stored_lists_bind_once,

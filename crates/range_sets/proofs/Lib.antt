@@ -12,4 +12,5 @@ pub mod Likeness
 pub mod Matching
 pub mod Membership
 pub mod Pairing
+pub mod Retained
 pub mod Showing

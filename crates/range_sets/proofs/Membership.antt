@@ -6,6 +6,8 @@ use Rattle.range_algebra.specs.declared.any.AnyRange.{AnyRange}
 use Rattle.range_algebra.proofs.Meeting.{held_or_not}
 use Rattle.range_store.specs.declared.storage.Item.{Item}
 use Rattle.range_map.specs.Bindings.{IsBound, BindsTo, IsBoundAfter, IsUnboundAfter}
+use Rattle.range_map.specs.Retaining.{BindOnlyAsBefore}
+use Rattle.range_map.specs.Together.{BindKeysOf}
 use Rattle.range_map.proofs.Overlaps.{binds_bound}
 use Rattle.range_sets.specs.KeySets.{HoldsKey, SomeHolds, HoldsAlso, HoldsWithout, HoldsAllAlso, HoldsAllOf}
 
@@ -48,6 +50,13 @@ module _ {K : Type 0} (order : KeyOrder K) where
                   | inr out ↦ elim b [ inl was ↦ (old out).1 was | inr held ↦ absurd (out held) ]
                 ],
           )
+
+      -- what is bound only as before holds no other keys
+      pub still_held : (before after : Items) → BindOnlyAsBefore order same before after
+          → BindKeysOf order after before
+      still_held before after kept k key held =
+          binds_bound order same before k tt
+          ((kept k key held (Some tt)).0 (bound_to after k held))
 
       pub removed : (before after : Items) (r : AnyRange K)
           → IsUnboundAfter order same before after r → HoldsWithout order before after r

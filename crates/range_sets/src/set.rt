@@ -20,7 +20,9 @@ mod len;
 mod reads;
 mod relations;
 mod remove;
+mod retain;
 mod text;
+mod try_insert;
 
 pub use crate::laws::complementing_twice_restores;
 pub use into_iter::IntoIter;
@@ -33,6 +35,7 @@ use range_store::storage::{Item, Steps, Storage};
 pub use reads::{GapsWithin, Overlapping};
 use std::alloc::Global;
 use std::marker::Model;
+pub use try_insert::NotAdded;
 
 /// The gaps of a set that are left, in order: ranges over references to the keys that bound them.
 pub type Gaps<'a, T, C> = map::Gaps<'a, T, (), C>;

@@ -5,12 +5,13 @@ use crate::ranges::{Size, built, is_spelled, key, part};
 use btree_range_map::btree::BoxStorage;
 use btree_range_map::generic::RangeMap;
 use btree_range_map::generic::map::{
-    Command, MapError, NotFree, NotInserted, Reply, UpdateError, run,
+    Command, MapError, NotAppended, NotFree, NotInserted, Reply, UpdateError, run,
 };
 use btree_range_map::storage::{Item, Storage, VecStorage};
 use btree_range_map::{AnyRange, json};
 use serde_json::Value;
 use std::alloc::{AllocError, Global};
+use std::ops::Range;
 
 pub type Entry = Item<AnyRange<i32>, String>;
 
@@ -35,6 +36,8 @@ pub enum MapCall {
     /// Between stored ranges, and inside one.
     Extend,
     FromIter,
+    /// By as many ranges as are stored.
+    Append,
     /// Inside a stored range.
     Remove,
     /// Binds what is free from inside a stored range on to beyond the next.
@@ -71,9 +74,15 @@ fn bind<C: Storage<Entry>>(
     insert(map, range, String::from_str(alloc, text)?)
 }
 
-/// Stores the ranges one after the other. Returns the index of the first that was refused.
-fn fill<C: Storage<Entry>>(alloc: Global, map: &mut Map<C>, size: Size) -> Result<(), u16> {
-    for place in 0..size.count {
+/// Stores the ranges of these indices one after the other. Returns the index of the first that was
+/// refused.
+fn fill<C: Storage<Entry>>(
+    alloc: Global,
+    map: &mut Map<C>,
+    places: Range<u16>,
+    size: Size,
+) -> Result<(), u16> {
+    for place in places {
         let Ok(()) = bind(alloc, map, built(place), text(place, size)) else {
             return Err(place);
         };
@@ -83,8 +92,13 @@ fn fill<C: Storage<Entry>>(alloc: Global, map: &mut Map<C>, size: Size) -> Resul
 
 /// Whether the map stores just the ranges of the first indices.
 fn is_filled<C: Storage<Entry>>(map: &Map<C>, places: u16, size: Size) -> bool {
+    stores(map, 0..places, size)
+}
+
+/// Whether the map stores just the ranges of these indices.
+fn stores<C: Storage<Entry>>(map: &Map<C>, places: Range<u16>, size: Size) -> bool {
     let mut stored = map.iter();
-    for place in 0..places {
+    for place in places {
         let Some((range, value)) = stored.next() else {
             return false;
         };
@@ -221,6 +235,26 @@ fn gathering<C: Storage<Entry>>(alloc: Global, size: Size) -> Outcome {
     match gathered::<C>(alloc, pairs) {
         Ok(map) => done(map.range_count() == 2 && is_bound(&map, key(size.middle(), 6), NEW)),
         Err(MapError::Memory) => Outcome::Kept,
+    }
+}
+
+fn append<C: Storage<Entry>>(map: &mut Map<C>, other: &mut Map<C>) -> Result<(), NotAppended> {
+    map.append(other)
+}
+
+/// A refused call has to leave both maps as they were.
+fn appending<C: Storage<Entry>>(alloc: Global, map: &mut Map<C>, size: Size) -> Outcome {
+    let twice = 2 * size.count;
+    let mut other: Map<C> = RangeMap::new(alloc);
+    let Ok(()) = fill(alloc, &mut other, size.count..twice, size) else {
+        return Outcome::Early;
+    };
+    match append(map, &mut other) {
+        Ok(()) => done(is_filled(map, twice, size) && other.is_empty()),
+        Err(NotAppended::Memory) => refused(
+            is_filled(map, size.count, size) && stores(&other, size.count..twice, size),
+        ),
+        Err(NotAppended::OutOfOrder) => Outcome::Wrong,
     }
 }
 
@@ -372,6 +406,7 @@ fn call<C: Storage<Entry>>(alloc: Global, map: &mut Map<C>, size: Size, call: Ma
         MapCall::TryInsert => trying(alloc, map, size),
         MapCall::Extend => extension(alloc, map, size),
         MapCall::FromIter => gathering::<C>(alloc, size),
+        MapCall::Append => appending(alloc, map, size),
         MapCall::Remove => removal(map, size),
         MapCall::Update => update(alloc, map, size),
         MapCall::Clone => cloning(map, size),
@@ -384,7 +419,7 @@ fn call<C: Storage<Entry>>(alloc: Global, map: &mut Map<C>, size: Size, call: Ma
 /// Builds a map and makes the call.
 pub fn outcome<C: Storage<Entry>>(alloc: Global, size: Size, what: MapCall) -> Outcome {
     let mut map: Map<C> = RangeMap::new(alloc);
-    match fill(alloc, &mut map, size) {
+    match fill(alloc, &mut map, 0..size.count, size) {
         Ok(()) => call(alloc, &mut map, size, what),
         Err(place) if is_filled(&map, place, size) => Outcome::Early,
         Err(_) => Outcome::Wrong,

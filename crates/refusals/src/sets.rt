@@ -6,6 +6,7 @@ use btree_range_map::AnyRange;
 use btree_range_map::btree::BoxStorage;
 use btree_range_map::generic::RangeSet;
 use btree_range_map::generic::map::MapError;
+use btree_range_map::generic::set::NotAdded;
 use btree_range_map::json::{self, JsonError};
 use btree_range_map::storage::{Item, Storage, VecStorage};
 use serde_json::Value;
@@ -24,6 +25,8 @@ type Set<C> = RangeSet<i32, C>;
 pub enum SetCall {
     /// Between two stored ranges.
     Insert,
+    /// Between two stored ranges.
+    TryInsert,
     /// Inside a stored range.
     Remove,
     /// By three ranges, each between two stored ones.
@@ -92,6 +95,25 @@ fn changed<C: Storage<Entry>>(
             done(set.range_count() == count && set.contains(held.0) == held.1)
         }
         Err(MapError::Memory) => refused(is_filled(set, size.count, 0)),
+    }
+}
+
+fn try_insert<C: Storage<Entry>>(
+    set: &mut Set<C>,
+    range: AnyRange<i32>,
+) -> Result<(), NotAdded<i32>> {
+    set.try_insert(range)
+}
+
+/// A refused insertion has to hand back the range.
+fn trying<C: Storage<Entry>>(set: &mut Set<C>, size: Size) -> Outcome {
+    let range = between(size.middle());
+    match try_insert(set, range) {
+        Ok(()) => changed(set, size, Ok(()), (key(size.middle(), 6), true)),
+        Err(NotAdded::Memory(given)) => {
+            refused(is_spelled(&given, range) && is_filled(set, size.count, 0))
+        }
+        Err(NotAdded::Occupied(_)) => Outcome::Wrong,
     }
 }
 
@@ -210,6 +232,7 @@ fn call<C: Storage<Entry>>(alloc: Global, set: &mut Set<C>, size: Size, call: Se
             let outcome = insert(set, between(middle));
             changed(set, size, outcome, (key(middle, 6), true))
         }
+        SetCall::TryInsert => trying(set, size),
         SetCall::Remove => {
             let outcome = remove(set, part(middle, 1, 3));
             changed(set, size, outcome, (key(middle, 1), false))

@@ -1,3 +1,4 @@
+mod bulk;
 mod calls;
 mod comparing;
 mod counted;

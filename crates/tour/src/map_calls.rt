@@ -87,6 +87,19 @@ fn tried<R: Abort, C: Storage<Entry>>(rt: &R, map: &mut Map<C>) {
     assert!(rt; map.try_insert(8..12, 3).is_err()); // 5..9 is in the way
 }
 
+fn appended<R: Abort, C: Storage<Entry>>(rt: &R, map: &mut Map<C>, other: &mut Map<C>) {
+    // of a map that binds 0..=5 to 1, and one that binds 6..9 to 1
+    assert!(rt; map.append(other).is_ok());
+    assert!(rt; map.range_count() == 1 && other.is_empty()); // 0..9
+}
+
+fn put_together<R: Abort, C: Storage<Entry>>(rt: &R, alloc: Global) -> Result<(), MapError> {
+    let mut other: Map<C> = generic::RangeMap::new(alloc);
+    bind_ones(&mut other, 6..9)?;
+    appended(rt, &mut ones_over::<C>(alloc)?, &mut other);
+    Ok(())
+}
+
 fn extended<R: Abort, C: Storage<Entry>>(rt: &R, map: &mut Map<C>) -> Result<(), MapError> {
     // of a map that binds no key
     map.extend([(0..10, 1), (20..30, 2), (5..7, 3)])?;
@@ -183,6 +196,7 @@ fn changed<R: Abort, C: Storage<Entry>>(rt: &R, alloc: Global) -> Result<(), Map
     tried(rt, &mut Map::<C>::new(alloc));
     extended(rt, &mut Map::<C>::new(alloc))?;
     made(rt, alloc)?;
+    put_together::<R, C>(rt, alloc)?;
     bound_apart::<R, C>(rt, &mut generic::RangeMap::new(alloc));
     counted::<R, C>(rt, &mut generic::RangeMap::new(alloc))
 }

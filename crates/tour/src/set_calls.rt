@@ -4,6 +4,7 @@ use btree_range_map::storage::{Item, Steps, Storage};
 use btree_range_map::{AnyRange, MapError, RangeSet, generic};
 use std::alloc::{AllocError, Global};
 use std::cmp::Ordering;
+use std::ops::RangeBounds;
 use std::process::Abort;
 use std::test::Fail;
 
@@ -51,6 +52,19 @@ fn cleared<R: Abort, C: Storage<Entry>>(rt: &R, mut set: Set<C>) {
     assert!(rt; set.is_empty());
 }
 
+fn retained<R: Abort, C: Storage<Entry>>(rt: &R, mut set: Set<C>) {
+    // of a set of the keys 0..=5
+    set.retain(|range| !range.contains(&3));
+    assert!(rt; set.is_empty());
+}
+
+fn tried<R: Abort, C: Storage<Entry>>(rt: &R, mut set: Set<C>) {
+    // of a set that has no key
+    assert!(rt; set.try_insert(0..5).is_ok());
+    assert!(rt; set.try_insert(5..9).is_ok()); // it only touches 0..5
+    assert!(rt; set.try_insert(8..12).is_err()); // 0..9 is in the way
+}
+
 fn popped<R: Abort, C: Storage<Entry>>(rt: &R, mut set: Set<C>) {
     // of a set of the keys 0..=5
     assert!(rt; set.pop_first().is_some() && set.is_empty());
@@ -63,6 +77,7 @@ fn popped_at_end<R: Abort, C: Storage<Entry>>(rt: &R, mut set: Set<C>) {
 
 fn taken_apart<R: Abort, C: Storage<Entry>>(rt: &R, set: &Set<C>) -> Result<(), AllocError> {
     cleared(rt, set.clone()?);
+    retained(rt, set.clone()?);
     popped(rt, set.clone()?);
     popped_at_end(rt, set.clone()?);
     Ok(())
@@ -137,6 +152,7 @@ fn played<R: Abort, C: Storage<Entry>>(
     copied(rt, set)?;
     taken_apart(rt, set)?;
     beside(rt, alloc, set)?;
+    tried::<R, C>(rt, generic::RangeSet::new(alloc));
     gathered::<R, C>(rt, alloc)
 }
 

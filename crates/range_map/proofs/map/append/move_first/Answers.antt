@@ -1,0 +1,29 @@
+use Rattle.std.proofs.Common.{◌≡◌, ◌∙◌, sym, ◌++◌, ◌∷◌, []}
+use Rattle.std.proofs.lemmas.List.{append_assoc, append-nil}
+use Rattle.std.proofs.lemmas.List.Edits.{insert_end}
+use Rattle.range_map.specs.Appending.{appended, as_one}
+use Rattle.range_map.proofs.Appending.{appended_last, appended_none}
+use Rattle.range_map.proofs.map.append.move_first.Goals as goal
+
+pub returns-in-Some-pop_first-clause-list : goal.returns-in-Some-pop_first-clause-list
+returns-in-Some-pop_first-clause-list g c =
+    let order = g.K.MaybeBounded.order in
+    let same = g.V.PartialEq.eq in
+    let front = g.C.Storage.items c.pop_last.new.self in
+    let rest = g.D.Storage.items c.pop_first.new.self in
+    let last = c.in-Some.last in
+    let first = c.in-Some-pop_first.first in
+    rw (c.in-Some.ensures.list, c.in-Some-pop_first.ensures.list, c.put_last.ensures.list)
+    (append_assoc front (as_one order same last first) rest
+    ∙ sym (appended_last order same front last first rest))
+
+pub returns-in-None-clause-list : goal.returns-in-None-clause-list
+returns-in-None-clause-list g c =
+    let order = g.K.MaybeBounded.order in
+    let same = g.V.PartialEq.eq in
+    let front = g.C.Storage.items c.pop_last.new.self in
+    let last = c.in-Some.last in
+    let whole : g.C.Storage.items c.insert_at-position.new.self ≡ front ++ last ∷ [] =
+    c.insert_at-position.ensures.list ∙ insert_end front last in
+    rw (c.in-Some.ensures.list, c.in-None.ensures.list.0, c.in-None.ensures.list.1, whole)
+    (append-nil (front ++ last ∷ []) ∙ sym (appended_none order same (front ++ last ∷ [])))

@@ -1,0 +1,49 @@
+-- One stored list after another, and the last range of the one joined with the first of the other.
+use Rattle.std.specs.Prelude.{◌≡◌, Bool, ◌&&◌, List, [], ◌∷◌, ◌++◌, ⊤, if◌then◌else◌}
+use Rattle.range_keys.specs.Order.{KeyOrder}
+use Rattle.range_keys.specs.Position.{start_position}
+use Rattle.range_algebra.specs.Compared.{starts_at_end}
+use Rattle.range_algebra.specs.Intervals.{Every}
+use Rattle.range_algebra.specs.Relations.{LiesBefore}
+use Rattle.range_algebra.specs.declared.any.AnyRange.{AnyRange}
+use Rattle.range_store.specs.declared.storage.Item.{Item}
+use Rattle.range_map.specs.declared.error.NotAppended.{NotAppended}
+use Rattle.range_map.specs.declared.error.NotAppended.TheVariants.{OutOfOrder, Memory}
+
+-- refused since some range of the one does not lie before all of the other
+abbrev pub IsOutOfOrder : NotAppended → Type 0
+IsOutOfOrder OutOfOrder = ⊤
+IsOutOfOrder Memory = ⊥
+
+-- from the start of the one to the end of the other, with the value of the one
+abbrev pub joined : {K V : Type 0} → Item (AnyRange K) V → Item (AnyRange K) V
+    → Item (AnyRange K) V
+joined i j = record {
+  key = record { start = i.key.start; end = j.key.end };
+  value = i.value;
+}
+
+module _ {K : Type 0} (order : KeyOrder K) {V : Type 0} where
+  -- each range of the one list lies before each of the other
+  abbrev pub LieBefore : List (Item (AnyRange K) V) → List (Item (AnyRange K) V) → Type 0
+  LieBefore items others = Every (λ i. Every (λ j. LiesBefore order i.key j.key) others) items
+
+  module _ (same_value : V → V → Bool) where
+    -- the one range touches the other, and their values are equal
+    abbrev pub are_one : Item (AnyRange K) V → Item (AnyRange K) V → Bool
+    are_one i j =
+        starts_at_end order i.key.end (start_position order j.key.start)
+        && same_value i.value j.value
+
+    -- the two items, or one in their place where they are joined
+    abbrev pub as_one : Item (AnyRange K) V → Item (AnyRange K) V → List (Item (AnyRange K) V)
+    as_one i j = if are_one i j then joined i j ∷ [] else i ∷ j ∷ []
+
+    -- the one list after the other, and the two items between which they meet as one where they
+    -- are joined
+    abbrev pub appended : List (Item (AnyRange K) V) → List (Item (AnyRange K) V)
+        → List (Item (AnyRange K) V)
+    appended [] others = others
+    appended (i ∷ []) [] = i ∷ []
+    appended (i ∷ []) (j ∷ others) = as_one i j ++ others
+    appended (i ∷ k ∷ items) others = i ∷ appended (k ∷ items) others
