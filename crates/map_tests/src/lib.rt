@@ -34,6 +34,8 @@ mod set_values;
 #[cfg(test)]
 mod spelling;
 #[cfg(test)]
+mod splitting;
+#[cfg(test)]
 mod support;
 #[cfg(test)]
 mod tallied;

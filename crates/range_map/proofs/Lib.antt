@@ -56,6 +56,7 @@ pub mod Scans
 pub mod SpelledChanges
 pub mod Spelling
 pub mod Splices
+pub mod Splitting
 pub mod StoredLists
 pub mod Surrounded
 pub mod Together

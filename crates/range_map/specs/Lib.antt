@@ -31,6 +31,7 @@ pub mod Seams
 pub mod Searches
 pub mod SimpleUpdates
 pub mod Spelling
+pub mod Splitting
 pub mod Stored
 pub mod Texts
 pub mod Together

@@ -28,6 +28,7 @@ mod pieces;
 mod remove;
 mod retain;
 mod span;
+mod split_off;
 mod text;
 mod try_insert;
 mod update;

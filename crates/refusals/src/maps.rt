@@ -39,6 +39,8 @@ pub enum MapCall {
     /// By as many ranges as are stored.
     Append,
     /// Inside a stored range.
+    SplitOff,
+    /// Inside a stored range.
     Remove,
     /// Binds what is free from inside a stored range on to beyond the next.
     Update,
@@ -258,6 +260,23 @@ fn appending<C: Storage<Entry>>(alloc: Global, map: &mut Map<C>, size: Size) -> 
     }
 }
 
+fn split_off<C: Storage<Entry>>(map: &mut Map<C>, key: i32) -> Result<Map<C>, MapError> {
+    map.split_off(key)
+}
+
+fn splitting<C: Storage<Entry>>(map: &mut Map<C>, size: Size) -> Outcome {
+    let middle = size.middle();
+    match split_off(map, key(middle, 2)) {
+        Ok(rest) => done(
+            map.range_count() == usize::from(middle) + 1
+                && map.range_count() + rest.range_count() == usize::from(size.count) + 1
+                && is_bound(map, key(middle, 1), "middle")
+                && is_bound(&rest, key(middle, 2), "middle"),
+        ),
+        Err(MapError::Memory) => refused(is_filled(map, size.count, size)),
+    }
+}
+
 fn remove<C: Storage<Entry>>(map: &mut Map<C>, range: AnyRange<i32>) -> Result<(), MapError> {
     map.remove(range)
 }
@@ -407,6 +426,7 @@ fn call<C: Storage<Entry>>(alloc: Global, map: &mut Map<C>, size: Size, call: Ma
         MapCall::Extend => extension(alloc, map, size),
         MapCall::FromIter => gathering::<C>(alloc, size),
         MapCall::Append => appending(alloc, map, size),
+        MapCall::SplitOff => splitting(map, size),
         MapCall::Remove => removal(map, size),
         MapCall::Update => update(alloc, map, size),
         MapCall::Clone => cloning(map, size),

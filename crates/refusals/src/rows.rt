@@ -37,6 +37,7 @@ pub static CALLS: &[(&str, Call)] = &[
     ("map: extend", Call::Map(MapCall::Extend)),
     ("map: from_iter", Call::Map(MapCall::FromIter)),
     ("map: append", Call::Map(MapCall::Append)),
+    ("map: split_off", Call::Map(MapCall::SplitOff)),
     ("map: remove", Call::Map(MapCall::Remove)),
     ("map: update", Call::Map(MapCall::Update)),
     ("map: clone", Call::Map(MapCall::Clone)),

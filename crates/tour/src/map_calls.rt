@@ -100,6 +100,13 @@ fn put_together<R: Abort, C: Storage<Entry>>(rt: &R, alloc: Global) -> Result<()
     Ok(())
 }
 
+fn split<R: Abort, C: Storage<Entry>>(rt: &R, map: &mut Map<C>) -> Result<(), MapError> {
+    // of a map that binds 0..=5 to 1
+    let rest = map.split_off(4)?;
+    assert!(rt; map.len() == 4 && rest.len() == 2); // 0..4, and 4..=5
+    Ok(())
+}
+
 fn extended<R: Abort, C: Storage<Entry>>(rt: &R, map: &mut Map<C>) -> Result<(), MapError> {
     // of a map that binds no key
     map.extend([(0..10, 1), (20..30, 2), (5..7, 3)])?;
@@ -197,6 +204,7 @@ fn changed<R: Abort, C: Storage<Entry>>(rt: &R, alloc: Global) -> Result<(), Map
     extended(rt, &mut Map::<C>::new(alloc))?;
     made(rt, alloc)?;
     put_together::<R, C>(rt, alloc)?;
+    split(rt, &mut ones_over::<C>(alloc)?)?;
     bound_apart::<R, C>(rt, &mut generic::RangeMap::new(alloc));
     counted::<R, C>(rt, &mut generic::RangeMap::new(alloc))
 }

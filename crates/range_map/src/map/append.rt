@@ -92,7 +92,7 @@ fn move_first<
 }
 
 /// Moves all other items, in order, after those that are stored.
-fn move_all<T, C: Storage<T>, D: Storage<T>>(stored: &mut C, others: &mut D)
+pub(crate) fn move_all<T, C: Storage<T>, D: Storage<T>>(stored: &mut C, others: &mut D)
     requires { length (D.items others.old) ≤ C.room stored.old }
     ensures list { C.items stored.new ≡ C.items stored.old ++ D.items others.old }
     ensures empty { D.items others.new ≡ [] }
