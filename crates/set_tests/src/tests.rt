@@ -1,3 +1,4 @@
+mod algebra;
 mod calls;
 mod comparing;
 mod counted;
