@@ -1,5 +1,5 @@
 -- A merged pass over two lists: what the answers so far make of both.
-use Rattle.std.proofs.Common.{◌≡◌, refl, sym, ap, subst, ◌∙◌, ◌↔◌, ◌⊎◌, inl, inr, Bool, true, Option, Some, None, Result, Ok, List, [], ◌∷◌, ◌++◌, map}
+use Rattle.std.proofs.Common.{◌≡◌, refl, sym, ap, ◌∙◌, ◌↔◌, ◌⊎◌, inl, inr, Bool, true, Option, Some, None, Result, Ok, List, [], ◌∷◌, ◌++◌, map}
 use Rattle.std.specs.Cmp.{IsEquivalence}
 use Rattle.std.specs.Fn.{Shared}
 use denote.Ref.{Bor}
@@ -21,7 +21,7 @@ use Rattle.range_store.specs.declared.storage.Item.{Item}
 use Rattle.range_map.specs.Answers.{Answered, IsAsAnswered}
 use Rattle.range_map.specs.Questions.{IsPut}
 use Rattle.range_map.specs.Bindings.{IsBound, Binds, BindsTo}
-use Rattle.range_map.specs.Combining.{IsValueOf, AreValuesOf, MayBeAskedBoth, MayBeAskedOfBoth, Combined, IsConstantOn, IsSharedPart, AreCombined, IsCombination}
+use Rattle.range_map.specs.Combining.{IsValueOf, MayBeAskedBoth, MayBeAskedOfBoth, Combined, IsConstantOn, IsSharedPart, AreCombined, IsCombination}
 use Rattle.range_map.specs.FreeRanges.{full_range}
 use Rattle.range_map.specs.Merged.{IsCutFrom, IsFirstPiece}
 use Rattle.range_map.specs.Neighbours.{EachNext}

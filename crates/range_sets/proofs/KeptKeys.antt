@@ -1,7 +1,9 @@
 -- What becomes of the keys of two sets, by what a test says of which of them holds a key.
-use Rattle.std.proofs.Common.{◌≡◌, refl, sym, subst, ◌∙◌, ◌↔◌, ◌⊎◌, inl, inr, Bool, true, false, not, ◌&&◌, ◌||◌, IsTrue, List, [], ◌∷◌, Option, Some, None, Result, Ok}
+use Rattle.std.proofs.Common.{◌≡◌, refl, sym, ap, subst, ◌∙◌, ◌↔◌, ◌⊎◌, inl, inr, Bool, true, false, not, ◌&&◌, ◌||◌, IsTrue, List, [], ◌∷◌, Option, Some, None, Result, Ok}
 use Rattle.std.specs.Prelude.{is_some}
 use Rattle.std.specs.Bool.{beq}
+use Rattle.std.specs.Option.{option_copied}
+use denote.Ref.{Bor}
 use Rattle.range_keys.specs.Order.{KeyOrder, IsLawful}
 use Rattle.range_algebra.specs.declared.any.AnyRange.{AnyRange}
 use Rattle.range_algebra.proofs.Meeting.{held_or_not}
@@ -23,7 +25,7 @@ same_test false false f g = refl
 -- a test of whether it is so, or not
 decided : {P : Type 0} → P ⊎ (¬ P) → (b : Bool) × (IsTrue b ↔ P)
 decided (inl is) = (true, (λ e. is, λ h. refl))
-decided (inr no) = (false, (λ e. absurd (cc), λ h. absurd (no h)))
+decided (inr other) = (false, (λ e. absurd (cc), λ h. absurd (other h)))
 
 -- by truth values: of an or, an and, an and with not, and a difference of two facts
 module _ {A B N : Type 0} where
@@ -77,6 +79,12 @@ module _ {A B N : Type 0} where
     λ h. let e : false ≡ true = n.1 h in absurd (cc),
     λ h. elim h [ inl one ↦ n.0 (f.1 one.0) | inr one ↦ n.0 (g.1 one.1) ],
   )
+
+-- a value is shown where there is one
+pub shown_is : {V : Type 0} (shown : Option (Bor V)) (v : Option V) → option_copied shown ≡ v
+    → is_some shown ≡ is_some v
+shown_is None v is = ap is_some is
+shown_is (Some x) v is = ap is_some is
 
 module _ {K : Type 0} (order : KeyOrder K) where
   abbrev Items : Type 0
@@ -155,9 +163,9 @@ module _ {K : Type 0} (order : KeyOrder K) where
       kept_as k key true b f g = kept_at k key true b f g (inl (f.0 refl))
       kept_as k key false true f g = kept_at k key false true f g (inr (g.0 refl))
       kept_as k key false false f g = (
-        λ e. let no : false ≡ true = sym none ∙ e in absurd (cc),
-        λ is. absurd (kept.free k key (λ h. let no : false ≡ true = f.1 h in cc)
-            (λ h. let no : false ≡ true = g.1 h in cc) is),
+        λ h. let e : false ≡ true = sym none ∙ h in absurd (cc),
+        λ is. absurd (kept.free k key (λ h. let e : false ≡ true = f.1 h in cc)
+            (λ h. let e : false ≡ true = g.1 h in cc) is),
       )
 
       -- what follows for a key, whichever of the lists hold it

@@ -18,7 +18,8 @@ fn answer<F: Fn(bool, bool) -> bool>(
 ) -> Result<Option<()>, MapError>
     requires { F.IsAlwaysCallable keeps.now }
     ensures { IfOk result
-        (λ answer. MayTell F.Fn keeps.now (is_some first) (is_some second) (is_some answer)) }
+        (λ answer. MayTell F.Fn keeps.now (is_some first.entry) (is_some second.entry)
+        (is_some answer)) }
 {
     if keeps(first.is_some(), second.is_some()) {
         Ok(Some(()))
