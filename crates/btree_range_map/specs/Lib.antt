@@ -33,6 +33,7 @@ pub use Rattle.range_store.specs.Places
 pub use Rattle.range_map.specs.Answers
 pub use Rattle.range_map.specs.Askable
 pub use Rattle.range_map.specs.Bindings
+pub use Rattle.range_map.specs.Combining
 pub use Rattle.range_map.specs.Costs
 pub use Rattle.range_map.specs.Frames
 pub use Rattle.range_map.specs.FreeRanges
@@ -62,6 +63,7 @@ pub use Rattle.range_sets.specs.Pairs
 pub use Rattle.range_commands.specs.Runs
 pub use Rattle.range_sets.specs.SetOrder
 pub use Rattle.range_sets.specs.SetTexts
+pub use Rattle.range_sets.specs.TwoSets
 pub use Rattle.range_commands.specs.Tagged
 pub use Rattle.range_json.specs.Faults
 pub use Rattle.range_json.specs.Keys

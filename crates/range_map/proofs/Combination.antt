@@ -1,5 +1,5 @@
 -- A merged pass over two lists: what the answers so far make of both.
-use Rattle.std.proofs.Common.{◌≡◌, refl, sym, ap, subst, ◌∙◌, ◌↔◌, ◌⊎◌, inl, inr, Bool, true, Option, Some, None, Result, Ok, List, [], ◌∷◌, ◌++◌, map}
+use Rattle.std.proofs.Common.{◌≡◌, refl, sym, ap, ◌∙◌, ◌↔◌, ◌⊎◌, inl, inr, Bool, true, Option, Some, None, Result, Ok, List, [], ◌∷◌, ◌++◌, map}
 use Rattle.std.specs.Cmp.{IsEquivalence}
 use Rattle.std.specs.Fn.{Shared}
 use denote.Ref.{Bor}
@@ -21,7 +21,7 @@ use Rattle.range_store.specs.declared.storage.Item.{Item}
 use Rattle.range_map.specs.Answers.{Answered, IsAsAnswered}
 use Rattle.range_map.specs.Questions.{IsPut}
 use Rattle.range_map.specs.Bindings.{IsBound, Binds, BindsTo}
-use Rattle.range_map.specs.Combining.{MayBeAskedBoth, MayBeAskedOfBoth, Combined, IsConstantOn, IsSharedPart, AreCombined, IsCombination}
+use Rattle.range_map.specs.Combining.{IsValueOf, MayBeAskedBoth, MayBeAskedOfBoth, Combined, IsConstantOn, IsSharedPart, AreCombined, IsCombination}
 use Rattle.range_map.specs.FreeRanges.{full_range}
 use Rattle.range_map.specs.Merged.{IsCutFrom, IsFirstPiece}
 use Rattle.range_map.specs.Neighbours.{EachNext}
@@ -513,37 +513,29 @@ module _ {K : Type 0} (order : KeyOrder K) (lawful : IsLawful order) {V W X : Ty
       )
 
 -- what may be asked of the items of both lists may be asked of a part on which both are constant
-module _ {K F V W A : Type 0} (order : KeyOrder K)
-    (calls : Shared F (Option (Bor V) × (Option (Bor W) × Unit {0})) A) (f : F)
-    (items : List (Item (AnyRange K) V)) (others : List (Item (AnyRange K) W))
-    (asked : MayBeAskedOfBoth calls f items others) (part : AnyRange K) where
-  second_asked : (i : Item (AnyRange K) V) (w : W)
-      → Every (λ j. MayBeAskedBoth calls f (Some i.value) (Some j.value)) others
-      → Any (λ j. LiesIn order part j.key × (j.value ≡ w)) others
-      → MayBeAskedBoth calls f (Some i.value) (Some w)
-  second_asked i w each inside =
-      any_use (λ j. LiesIn order part j.key × (j.value ≡ w))
-      (λ j. MayBeAskedBoth calls f (Some i.value) (Some j.value)) others inside each
-      (λ j h may. subst (λ u. MayBeAskedBoth calls f (Some i.value) (Some u)) h.1 may)
+module _ {K : Type 0} (order : KeyOrder K) where
+  constant_value : {V : Type 0} (items : List (Item (AnyRange K) V)) (part : AnyRange K)
+      (v : Option V) → IsConstantOn order items part v → IsValueOf items v
+  constant_value items part None h = tt
+  constant_value items part (Some v) h =
+      any_over (λ i. LiesIn order part i.key × (i.value ≡ v)) (λ i. i.value ≡ v) items
+      (λ i inside. inside.1) h
 
-  pub asked_of_part : (left : Option V) (right : Option W) → IsConstantOn order items part left
+  pub asked_of_part : {F V W A : Type 0}
+      (calls : Shared F (Option (Bor V) × (Option (Bor W) × Unit {0})) A) (f : F)
+      (items : List (Item (AnyRange K) V)) (others : List (Item (AnyRange K) W))
+      → MayBeAskedOfBoth calls f items others → (part : AnyRange K) (left : Option V)
+      (right : Option W) → IsConstantOn order items part left
       → IsConstantOn order others part right → (left ≡ None → right ≡ None → ⊥)
       → MayBeAskedBoth calls f left right
-  asked_of_part None None first second some = absurd (some refl refl)
-  asked_of_part (Some v) None first second some =
-      any_use (λ i. LiesIn order part i.key × (i.value ≡ v))
-      (λ i. MayBeAskedBoth calls f (Some i.value) None) items first asked.left
-      (λ i h may. subst (λ u. MayBeAskedBoth calls f (Some u) None) h.1 may)
-  asked_of_part None (Some w) first second some =
-      any_use (λ j. LiesIn order part j.key × (j.value ≡ w))
-      (λ j. MayBeAskedBoth calls f None (Some j.value)) others second asked.right
-      (λ j h may. subst (λ u. MayBeAskedBoth calls f None (Some u)) h.1 may)
-  asked_of_part (Some v) (Some w) first second some =
-      any_use (λ i. LiesIn order part i.key × (i.value ≡ v))
-      (λ i. Every (λ j. MayBeAskedBoth calls f (Some i.value) (Some j.value)) others) items first
-      asked.both
-      (λ i h each. subst (λ u. MayBeAskedBoth calls f (Some u) (Some w)) h.1
-      (second_asked i w each second))
+  asked_of_part calls f items others asked part left right first second some shown other_shown is
+      other_is =
+      asked shown other_shown
+      (rw (is, other_is) (record {
+        first = constant_value items part left first;
+        second = constant_value others part right second;
+        some = some;
+      }))
 
 any_use_both : {K V W X E R : Type 0} (order : KeyOrder K) (same : X → X → Bool)
     (may : Option V → Option W → Result (Option X) E → Type 0) (items : List (Item (AnyRange K) V))

@@ -40,14 +40,26 @@ MayBeAskedBoth {F} {V} {W} calls f left right = (shown : Option (Bor V))
     → option_copied other_shown ≡ right
     → calls.pre f (shown, (other_shown, tt))
 
+-- none, or the value of an item of the list
+abbrev pub IsValueOf : {K V : Type 0} → List (Item (AnyRange K) V) → Option V → Type 0
+IsValueOf items None = Unit {0}
+IsValueOf items (Some v) = Any (λ i. i.value ≡ v) items
+
+-- the values of an item of either list, or of both, with none in place of the one that is missing
+pub record AreValuesOf {K V W : Type 0} (items : List (Item (AnyRange K) V))
+    (others : List (Item (AnyRange K) W)) (left : Option V) (right : Option W) : Type 0 where
+  pub first : IsValueOf items left
+  pub second : IsValueOf others right
+  pub some : left ≡ None → right ≡ None → ⊥
+
 -- f may be called where it is shown the value of an item of either list, or of both
-pub record MayBeAskedOfBoth {K F V W A : Type 0}
-    (calls : Shared F (Option (Bor V) × (Option (Bor W) × Unit {0})) A) (f : F)
-    (items : List (Item (AnyRange K) V)) (others : List (Item (AnyRange K) W)) : Type 0 where
-  pub left : Every (λ i. MayBeAskedBoth calls f (Some i.value) None) items
-  pub right : Every (λ j. MayBeAskedBoth calls f None (Some j.value)) others
-  pub both : Every (λ i. Every (λ j. MayBeAskedBoth calls f (Some i.value) (Some j.value)) others)
-      items
+abbrev pub MayBeAskedOfBoth : {K F V W A : Type 0}
+    → Shared F (Option (Bor V) × (Option (Bor W) × Unit {0})) A → F → List (Item (AnyRange K) V)
+    → List (Item (AnyRange K) W) → Type 0
+MayBeAskedOfBoth {K} {F} {V} {W} calls f items others = (shown : Option (Bor V))
+    → (other_shown : Option (Bor W))
+    → AreValuesOf items others (option_copied shown) (option_copied other_shown)
+    → calls.pre f (shown, (other_shown, tt))
 
 -- a range, what binds its keys in either list, if anything does, and the answer to that
 pub record Combined (K V W X : Type 0) : Type 0 where

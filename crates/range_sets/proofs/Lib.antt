@@ -8,6 +8,7 @@ pub mod EndRanges
 pub mod Filled
 pub mod Filling
 pub mod Keeping
+pub mod KeptKeys
 pub mod Likeness
 pub mod Matching
 pub mod Membership

@@ -11,3 +11,4 @@ pub mod Pairs
 pub mod Reads
 pub mod SetOrder
 pub mod SetTexts
+pub mod TwoSets

@@ -7,6 +7,7 @@ ghost use Rattle.range_store.specs.Counting.{AddsSteps};
 ghost use Rattle.range_map.specs.Lookups.{MeetsSome, BindsKeyOf};
 ghost use Rattle.range_sets.specs.KeySets.{HoldsKey, IsLeastCount, IsStoredSet};
 
+mod algebra;
 mod clear;
 mod clone;
 mod compare;

@@ -50,6 +50,13 @@ pub static CALLS: &[(&str, Call)] = &[
     ("set: extend", Call::Set(SetCall::Extend)),
     ("set: from_iter", Call::Set(SetCall::FromIter)),
     ("set: complement", Call::Set(SetCall::Complement)),
+    ("set: union", Call::Set(SetCall::Union)),
+    ("set: intersection", Call::Set(SetCall::Intersection)),
+    ("set: difference", Call::Set(SetCall::Difference)),
+    (
+        "set: symmetric_difference",
+        Call::Set(SetCall::SymmetricDifference),
+    ),
     ("set: clone", Call::Set(SetCall::Clone)),
     ("set: set_to_json", Call::Set(SetCall::Write)),
     ("set: set_from_json", Call::Set(SetCall::Read)),

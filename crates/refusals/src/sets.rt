@@ -33,6 +33,11 @@ pub enum SetCall {
     Extend,
     FromIter,
     Complement,
+    /// With a set that cuts each stored range.
+    Union,
+    Intersection,
+    Difference,
+    SymmetricDifference,
     Clone,
     Write,
     Read,
@@ -165,6 +170,61 @@ fn complementing<C: Storage<Entry>>(set: &Set<C>, size: Size) -> Outcome {
     }
 }
 
+/// The ranges that cut each of the stored ones, and reach out of it.
+fn across(place: u16) -> AnyRange<i32> {
+    part(place, 3, 8)
+}
+
+fn crossing(alloc: Global, count: u16) -> Result<Set<Vector>, MapError> {
+    RangeSet::from_iter(alloc, (0..count).map(|place| across(place)))
+}
+
+fn put_together<C: Storage<Entry>>(
+    set: &Set<C>,
+    other: &Set<Vector>,
+    call: SetCall,
+) -> Result<Set<C>, MapError> {
+    match call {
+        SetCall::Union => set.union(other),
+        SetCall::Intersection => set.intersection(other),
+        SetCall::Difference => set.difference(other),
+        _ => set.symmetric_difference(other),
+    }
+}
+
+/// Whether a set has a range for each place, or two, from and to these keys.
+fn is_put_together<C: Storage<Entry>>(set: &Set<C>, size: Size, call: SetCall) -> bool {
+    let (ranges, first, last) = match call {
+        SetCall::Union => (1, 0, 7),
+        SetCall::Intersection => (1, 3, 4),
+        SetCall::Difference => (1, 0, 2),
+        _ => (2, 0, 7),
+    };
+    set.range_count() == usize::from(size.count) * ranges
+        && set.contains(key(size.middle(), first))
+        && set.contains(key(size.middle(), last))
+}
+
+/// The outcome of a set that is made of two, by what becomes of the first.
+fn putting_together<C: Storage<Entry>>(
+    set: &Set<C>,
+    other: &Set<Vector>,
+    size: Size,
+    call: SetCall,
+) -> Outcome {
+    match put_together(set, other, call) {
+        Ok(made) => done(is_put_together(&made, size, call)),
+        Err(MapError::Memory) => refused(is_filled(set, size.count, 0)),
+    }
+}
+
+fn crossed<C: Storage<Entry>>(alloc: Global, set: &Set<C>, size: Size, call: SetCall) -> Outcome {
+    match crossing(alloc, size.count) {
+        Ok(other) => putting_together(set, &other, size, call),
+        Err(MapError::Memory) => Outcome::Early,
+    }
+}
+
 fn cloning<C: Storage<Entry>>(set: &Set<C>, size: Size) -> Outcome {
     match set.clone() {
         Ok(other) => done(is_filled(&other, size.count, 0)),
@@ -240,6 +300,10 @@ fn call<C: Storage<Entry>>(alloc: Global, set: &mut Set<C>, size: Size, call: Se
         SetCall::Extend => extension(set, size),
         SetCall::FromIter => gathering::<C>(alloc),
         SetCall::Complement => complementing(set, size),
+        SetCall::Union
+        | SetCall::Intersection
+        | SetCall::Difference
+        | SetCall::SymmetricDifference => crossed(alloc, set, size, call),
         SetCall::Clone => cloning(set, size),
         SetCall::Write => writing(alloc, set, size),
         SetCall::Read => reading(alloc, set, size),

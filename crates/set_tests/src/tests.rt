@@ -1,3 +1,4 @@
+mod algebra;
 mod bulk;
 mod calls;
 mod comparing;

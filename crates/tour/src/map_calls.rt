@@ -1,7 +1,7 @@
 //! The examples of a map's calls, beside what the README shows, over any container.
 
 use btree_range_map::storage::{Item, Steps, Storage, VecStorage};
-use btree_range_map::{AnyRange, IntoRange, MapError, RangeMap, generic};
+use btree_range_map::{AnyRange, IntoRange, MapError, RangeMap, UpdateError, generic};
 use std::alloc::{AllocError, Global};
 use std::cmp::Ordering;
 use std::process::Abort;
@@ -120,6 +120,26 @@ fn made<R: Abort>(rt: &R, alloc: Global) -> Result<(), MapError> {
     Ok(())
 }
 
+fn combined<R: Abort, C: Storage<Entry>, D: Storage<Entry>>(rt: &R, map: &Map<C>, other: &Map<D>) {
+    // of a map that binds 0..=5 to 1, and one that binds 4..9 to 10
+    let first = |one: Option<&i64>, other: Option<&i64>| -> Result<Option<i64>, u8> {
+        Ok(one.or(other).copied())
+    };
+    let both: Result<RangeMap<i32, i64>, UpdateError<u8>> = map.combine(other, first);
+    assert!(rt; both.is_ok()); // it binds 0..=5 to 1, and 6..9 to 10
+}
+
+fn put_together<R: Abort, C: Storage<Entry>>(
+    rt: &R,
+    alloc: Global,
+    map: &Map<C>,
+) -> Result<(), MapError> {
+    let mut other: RangeMap<i32, i64> = RangeMap::new(alloc);
+    other.insert(4..9, 10)?;
+    combined(rt, map, &other);
+    Ok(())
+}
+
 fn measured<R: Abort, C: Storage<Entry>>(rt: &R, map: &Map<C>) {
     // of a map that binds 0..=5 to 1
     assert!(rt; !map.is_empty());
@@ -225,6 +245,7 @@ fn played<R: Abort, C: Storage<Entry>>(
 ) -> Result<(), MapError> {
     looked_at(rt, map)?;
     changed::<R, C>(rt, alloc)?;
+    put_together(rt, alloc, map)?;
     compared_with_vector(rt, alloc, map)
 }
 

@@ -125,6 +125,62 @@ fn beside<R: Abort, C: Storage<Entry>>(
     Ok(())
 }
 
+fn united<R: Abort, C: Storage<Entry>, D: Storage<Entry>>(
+    rt: &R,
+    set: &Set<C>,
+    other: &Set<D>,
+) -> Result<(), MapError> {
+    // of a set of the keys 0..=5, and one of the keys 4..9
+    let either = set.union(other)?;
+    assert!(rt; either.len() == 9); // 0..9
+    Ok(())
+}
+
+fn intersected<R: Abort, C: Storage<Entry>, D: Storage<Entry>>(
+    rt: &R,
+    set: &Set<C>,
+    other: &Set<D>,
+) -> Result<(), MapError> {
+    // of a set of the keys 0..=5, and one of the keys 4..9
+    let both = set.intersection(other)?;
+    assert!(rt; both.len() == 2); // 4..=5
+    Ok(())
+}
+
+fn parted<R: Abort, C: Storage<Entry>, D: Storage<Entry>>(
+    rt: &R,
+    set: &Set<C>,
+    other: &Set<D>,
+) -> Result<(), MapError> {
+    // of a set of the keys 0..=5, and one of the keys 4..9
+    let first = set.difference(other)?;
+    assert!(rt; first.len() == 4); // 0..4
+    Ok(())
+}
+
+fn parted_both_ways<R: Abort, C: Storage<Entry>, D: Storage<Entry>>(
+    rt: &R,
+    set: &Set<C>,
+    other: &Set<D>,
+) -> Result<(), MapError> {
+    // of a set of the keys 0..=5, and one of the keys 4..9
+    let just_one = set.symmetric_difference(other)?;
+    assert!(rt; just_one.len() == 7); // 0..4 and 6..9
+    Ok(())
+}
+
+fn put_together<R: Abort, C: Storage<Entry>>(
+    rt: &R,
+    alloc: Global,
+    set: &Set<C>,
+) -> Result<(), MapError> {
+    let other: Set<C> = generic::RangeSet::from_iter(alloc, [4..9])?;
+    united(rt, set, &other)?;
+    intersected(rt, set, &other)?;
+    parted(rt, set, &other)?;
+    parted_both_ways(rt, set, &other)
+}
+
 fn counted<R: Abort, C: Storage<Entry>>(rt: &R, set: &mut Set<C>) -> Result<(), MapError> {
     // of a set of the keys 0..2 and 4..6
     let mut steps = Steps::new();
@@ -153,6 +209,7 @@ fn played<R: Abort, C: Storage<Entry>>(
     taken_apart(rt, set)?;
     beside(rt, alloc, set)?;
     tried::<R, C>(rt, generic::RangeSet::new(alloc));
+    put_together(rt, alloc, set)?;
     gathered::<R, C>(rt, alloc)
 }
 

@@ -125,7 +125,7 @@ impl<K: PartialEnum + Clone, V: Eq + Drop, C: Storage<Item<AnyRange<K>, V>>> Ran
     /// Allocates a list of what the closure returns, clones of the bounds of its pieces, and the
     /// new map's ranges, all at once. Goes once over both maps, and searches neither.
     ///
-    /// ```text
+    /// ```
     /// // of a map that binds 0..=5 to 1, and one that binds 4..9 to 10
     /// let first = |one: Option<&i64>, other: Option<&i64>| -> Result<Option<i64>, u8> {
     ///     Ok(one.or(other).copied())

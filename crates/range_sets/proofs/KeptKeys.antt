@@ -1,0 +1,202 @@
+-- What becomes of the keys of two sets, by what a test says of which of them holds a key.
+use Rattle.std.proofs.Common.{◌≡◌, refl, sym, ap, subst, ◌∙◌, ◌↔◌, ◌⊎◌, inl, inr, Bool, true, false, not, ◌&&◌, ◌||◌, IsTrue, List, [], ◌∷◌, Option, Some, None, Result, Ok}
+use Rattle.std.specs.Prelude.{is_some}
+use Rattle.std.specs.Bool.{beq}
+use Rattle.std.specs.Option.{option_copied}
+use denote.Ref.{Bor}
+use Rattle.range_keys.specs.Order.{KeyOrder, IsLawful}
+use Rattle.range_algebra.specs.declared.any.AnyRange.{AnyRange}
+use Rattle.range_algebra.proofs.Meeting.{held_or_not}
+use Rattle.range_store.specs.declared.storage.Item.{Item}
+use Rattle.range_map.specs.Answers.{IsAsAnswered}
+use Rattle.range_map.specs.Bindings.{Binds}
+use Rattle.range_map.specs.Combining.{AreCombined, IsCombinedAt}
+use Rattle.range_map.proofs.Overlaps.{binds_bound}
+use Rattle.range_sets.specs.KeySets.{HoldsKey}
+use Rattle.range_sets.specs.TwoSets.{HoldsEither, HoldsBoth, HoldsFirstAlone, HoldsJustOne, IsKeptAt, AreKept}
+
+-- two tests that are true in one case are one
+same_test : {P : Type 0} (a b : Bool) → (IsTrue a ↔ P) → (IsTrue b ↔ P) → a ≡ b
+same_test true true f g = refl
+same_test true false f g = sym (g.1 (f.0 refl))
+same_test false true f g = f.1 (g.0 refl)
+same_test false false f g = refl
+
+-- a test of whether it is so, or not
+decided : {P : Type 0} → P ⊎ (¬ P) → (b : Bool) × (IsTrue b ↔ P)
+decided (inl is) = (true, (λ e. is, λ h. refl))
+decided (inr other) = (false, (λ e. absurd (cc), λ h. absurd (other h)))
+
+-- by truth values: of an or, an and, an and with not, and a difference of two facts
+module _ {A B N : Type 0} where
+  either_is : (a b : Bool) → (IsTrue a ↔ A) → (IsTrue b ↔ B) → (IsTrue (a || b) ↔ N)
+      → N ↔ (A ⊎ B)
+  either_is true b f g n = (λ h. inl (f.0 refl), λ h. n.0 refl)
+  either_is false true f g n = (λ h. inr (g.0 refl), λ h. n.0 refl)
+  either_is false false f g n = (
+    λ h. inl (f.0 (n.1 h)),
+    λ h. elim h [ inl is ↦ n.0 (f.1 is) | inr is ↦ n.0 (g.1 is) ],
+  )
+
+  both_are : (a b : Bool) → (IsTrue a ↔ A) → (IsTrue b ↔ B) → (IsTrue (a && b) ↔ N)
+      → N ↔ (A × B)
+  both_are true b f g n = (λ h. (f.0 refl, g.0 (n.1 h)), λ h. n.0 (g.1 h.1))
+  both_are false b f g n = (
+    λ h. let e : false ≡ true = n.1 h in absurd (cc),
+    λ h. n.0 (f.1 h.0),
+  )
+
+  first_alone_is : (a b : Bool) → (IsTrue a ↔ A) → (IsTrue b ↔ B) → (IsTrue (a && not b) ↔ N)
+      → N ↔ (A × (¬ B))
+  first_alone_is true true f g n = (
+    λ h. let e : false ≡ true = n.1 h in absurd (cc),
+    λ h. absurd (h.1 (g.0 refl)),
+  )
+  first_alone_is true false f g n = (
+    λ h. (f.0 refl, λ is. let e : false ≡ true = g.1 is in absurd (cc)),
+    λ h. n.0 refl,
+  )
+  first_alone_is false b f g n = (
+    λ h. let e : false ≡ true = n.1 h in absurd (cc),
+    λ h. n.0 (f.1 h.0),
+  )
+
+  just_one_is : (a b : Bool) → (IsTrue a ↔ A) → (IsTrue b ↔ B) → (IsTrue (not (beq a b)) ↔ N)
+      → N ↔ ((A × (¬ B)) ⊎ ((¬ A) × B))
+  just_one_is true true f g n = (
+    λ h. let e : false ≡ true = n.1 h in absurd (cc),
+    λ h. elim h [ inl one ↦ absurd (one.1 (g.0 refl)) | inr one ↦ absurd (one.0 (f.0 refl)) ],
+  )
+  just_one_is true false f g n = (
+    λ h. inl (f.0 refl, λ is. let e : false ≡ true = g.1 is in absurd (cc)),
+    λ h. n.0 refl,
+  )
+  just_one_is false true f g n = (
+    λ h. inr (λ is. let e : false ≡ true = f.1 is in absurd (cc), g.0 refl),
+    λ h. n.0 refl,
+  )
+  just_one_is false false f g n = (
+    λ h. let e : false ≡ true = n.1 h in absurd (cc),
+    λ h. elim h [ inl one ↦ n.0 (f.1 one.0) | inr one ↦ n.0 (g.1 one.1) ],
+  )
+
+-- a value is shown where there is one
+pub shown_is : {V : Type 0} (shown : Option (Bor V)) (v : Option V) → option_copied shown ≡ v
+    → is_some shown ≡ is_some v
+shown_is None v is = ap is_some is
+shown_is (Some x) v is = ap is_some is
+
+module _ {K : Type 0} (order : KeyOrder K) where
+  abbrev Items : Type 0
+  Items = List (Item (AnyRange K) (Unit {0}))
+
+  -- what a key is bound to tells whether it is held
+  bound_is : (same : Unit {0} → Unit {0} → Bool) (items : Items) (k : K) (b : Option (Unit {0}))
+      → Binds order same items k b → IsTrue (is_some b) ↔ HoldsKey order items k
+  bound_is same items k None h =
+      (λ e. absurd (cc), λ is. absurd (h is))
+  bound_is same items k (Some v) h = (λ e. binds_bound order same items k v h, λ is. refl)
+
+  answered_is : (same : Unit {0} → Unit {0} → Bool)
+      → ((v : Unit {0}) → IsTrue (same v v)) → (new : Items) (k : K) (answer : Option (Unit {0}))
+      → ((b : Option (Unit {0})) → Binds order same new k b ↔ IsAsAnswered same answer b)
+      → IsTrue (is_some answer) ↔ HoldsKey order new k
+  answered_is same equal new k None is = bound_is same new k None ((is None).1 refl)
+  answered_is same equal new k (Some v) is = bound_is same new k (Some v) ((is (Some v)).1 (equal v))
+
+  -- a closure that answers as a test says keeps the keys as the test says
+  pub combined_kept : {E : Type 0} (same : Unit {0} → Unit {0} → Bool)
+      → ((v : Unit {0}) → IsTrue (same v v)) → (answers : Option (Unit {0}) → Option (Unit {0})
+      → Result (Option (Unit {0})) E → Type 0) (may : Bool → Bool → Bool → Type 0)
+      → ((left right answer : Option (Unit {0})) → answers left right (Ok answer)
+      → may (is_some left) (is_some right) (is_some answer)) → (items others new : Items)
+      → AreCombined order same same same answers items others new
+      → AreKept order items others new may
+  combined_kept same equal answers may told items others new combined =
+      record {
+        held = λ k key some.
+            let at = combined.held k key some in
+            record {
+              first = is_some at.left;
+              second = is_some at.right;
+              kept = is_some at.answer;
+              in_first = bound_is same items k at.left at.first;
+              in_second = bound_is same others k at.right at.second;
+              given = told at.left at.right at.answer at.given;
+              is = answered_is same equal new k at.answer at.is;
+            };
+        free = combined.free;
+      }
+
+  module _ (lawful : IsLawful order) where
+    holds_or_not : (items : Items) (k : K) → HoldsKey order items k ⊎ (¬ HoldsKey order items k)
+    holds_or_not [] k = inr (λ none. none)
+    holds_or_not (i ∷ rest) k =
+        elim (held_or_not order lawful i.key k) [
+          | inl here ↦ inl (inl here)
+          | inr out ↦
+              elim (holds_or_not rest k) [
+                | inl later ↦ inl (inr later)
+                | inr none ↦
+                    inr (λ h. elim h [ inl here ↦ out here | inr later ↦ none later ])
+              ]
+        ]
+
+    -- a test that answers by op
+    module _ (may : Bool → Bool → Bool → Type 0) (op : Bool → Bool → Bool)
+        (none : op false false ≡ false)
+        (told : (first second kept : Bool) → may first second kept → kept ≡ op first second)
+        (items others new : Items) (kept : AreKept order items others new may) where
+      kept_at : (k : K) → order.is_key k → (a b : Bool) → (IsTrue a ↔ HoldsKey order items k)
+          → (IsTrue b ↔ HoldsKey order others k) → HoldsKey order items k ⊎ HoldsKey order others k
+          → IsTrue (op a b) ↔ HoldsKey order new k
+      kept_at k key a b f g some =
+          let at = kept.held k key some in
+          let first = same_test at.first a at.in_first f in
+          let second = same_test at.second b at.in_second g in
+          let is : at.kept ≡ op a b = rw (← first, ← second)
+          (told at.first at.second at.kept at.given) in
+          subst (λ x. IsTrue x ↔ HoldsKey order new k) is at.is
+
+      kept_as : (k : K) → order.is_key k → (a b : Bool) → (IsTrue a ↔ HoldsKey order items k)
+          → (IsTrue b ↔ HoldsKey order others k) → IsTrue (op a b) ↔ HoldsKey order new k
+      kept_as k key true b f g = kept_at k key true b f g (inl (f.0 refl))
+      kept_as k key false true f g = kept_at k key false true f g (inr (g.0 refl))
+      kept_as k key false false f g = (
+        λ h. let e : false ≡ true = sym none ∙ h in absurd (cc),
+        λ is. absurd (kept.free k key (λ h. let e : false ≡ true = f.1 h in cc)
+            (λ h. let e : false ≡ true = g.1 h in cc) is),
+      )
+
+      -- what follows for a key, whichever of the lists hold it
+      pub by_test : {P : Type 0} (k : K) → order.is_key k
+          → ((a b : Bool) → (IsTrue a ↔ HoldsKey order items k)
+          → (IsTrue b ↔ HoldsKey order others k) → (IsTrue (op a b) ↔ HoldsKey order new k) → P)
+          → P
+      by_test k key then =
+          let first = decided (holds_or_not items k) in
+          let second = decided (holds_or_not others k) in
+          then first.0 second.0 first.1 second.1
+          (kept_as k key first.0 second.0 first.1 second.1)
+
+    module _ (may : Bool → Bool → Bool → Type 0) (items others new : Items)
+        (kept : AreKept order items others new may) where
+      pub kept_either : ((a b r : Bool) → may a b r → r ≡ (a || b))
+          → HoldsEither order items others new
+      kept_either told k key =
+          by_test may (λ a b. a || b) refl told items others new kept k key either_is
+
+      pub kept_both : ((a b r : Bool) → may a b r → r ≡ (a && b))
+          → HoldsBoth order items others new
+      kept_both told k key =
+          by_test may (λ a b. a && b) refl told items others new kept k key both_are
+
+      pub kept_first_alone : ((a b r : Bool) → may a b r → r ≡ (a && not b))
+          → HoldsFirstAlone order items others new
+      kept_first_alone told k key =
+          by_test may (λ a b. a && not b) refl told items others new kept k key first_alone_is
+
+      pub kept_just_one : ((a b r : Bool) → may a b r → r ≡ not (beq a b))
+          → HoldsJustOne order items others new
+      kept_just_one told k key =
+          by_test may (λ a b. not (beq a b)) refl told items others new kept k key just_one_is
