@@ -1,93 +1,94 @@
 //! Maps over characters.
-ghost use Rattle.range_algebra.specs.Range.{ClonesAreEqual};
 
-use crate::support::{Asked, answer};
+use crate::support::{Answers, Asked, Table, answer, check};
 use range_algebra::any::AnyRange;
-use range_algebra::range::IntoRange;
-use range_keys::traits::{Bounded, Measure};
 use range_map::map::{MapError, RangeMap, UpdateError};
-use range_store::btree::BoxStorage;
 use range_store::storage::{Item, Storage};
-use range_store::vec_storage::VecStorage;
 use std::alloc::Global;
 use std::cell::Cell;
 use std::test::Fail;
 
 type CharacterItem = Item<AnyRange<char>, i64>;
 
-/// Keys from a first one to a last one, and their value.
-type Row<K> = (K, K, i64);
+type Map<C> = RangeMap<char, i64, C>;
 
-fn bind<K: Measure + Copy, C: Storage<Item<AnyRange<K>, i64>>>(
-    map: &mut RangeMap<K, i64, C>,
-    rows: &[Row<K>],
-) -> Result<(), MapError>
-    requires { ClonesAreEqual K.is_clone K.eq }
-{
-    for (first, last, value) in rows {
-        map.insert(*first..=*last, *value)?;
-    }
-    Ok(())
+/// A call on a map, or what has to hold of the map then.
+#[derive(Clone, Copy)]
+enum Step {
+    /// Binds the keys from a first one to a last one.
+    Insert(char, char, i64),
+    /// Binds one key.
+    InsertKey(char, i64),
+    /// Updates one key, for which the closure is asked so often. It binds what is free to 3.
+    UpdateKey(char, Asked),
+    /// How many ranges are stored, and how many keys they hold.
+    Size(usize, u128),
+    /// What a key is bound to.
+    Get(char, Option<i64>),
 }
 
-fn update_at<K: Measure + Copy + IntoRange<Item = K>, C: Storage<Item<AnyRange<K>, i64>>>(
-    map: &mut RangeMap<K, i64, C>,
-    key: K,
+fn update_key<C: Storage<CharacterItem>>(
+    map: &mut Map<C>,
+    key: char,
     asked: &Cell<Asked>,
-) -> Result<(), UpdateError<i64>>
-    requires { ClonesAreEqual K.is_clone K.eq }
-{
-    map.update(
-        key,
-        |shown| answer(&[(None, Ok(Some(3)))], asked, shown.copied()),
-    )
+) -> Result<(), UpdateError<i64>> {
+    let answers: Answers<'_> = &[(None, Ok(Some(3)))];
+    map.update(key, |shown| answer(answers, asked, shown.copied()))
 }
 
-/// Whether the update of a key is done, how often its closure is asked, how many ranges there are
-/// then, and what the key is bound to.
-type Updated = (bool, Asked, usize, Option<i64>);
+/// Makes the call, or tells whether it is so.
+fn holds<C: Storage<CharacterItem>>(map: &mut Map<C>, step: Step) -> Result<bool, MapError> {
+    match step {
+        Step::Insert(first, last, value) => map.insert(first..=last, value)?,
+        Step::InsertKey(key, value) => map.insert(key, value)?,
+        Step::UpdateKey(key, times) => {
+            let asked = Cell::new((0, 0));
+            return Ok(update_key(map, key, &asked).is_ok() && asked.get() == times);
+        }
+        Step::Size(count, len) => return Ok(map.range_count() == count && map.len() == len),
+        Step::Get(key, value) => return Ok(map.get(key).copied() == value),
+    }
+    Ok(true)
+}
 
-/// Updates a key of a new map that binds the rows.
-fn updated_at<K: Measure + Copy + IntoRange<Item = K>, C: Storage<Item<AnyRange<K>, i64>>>(
-    alloc: Global,
-    rows: &[Row<K>],
-    key: K,
-) -> Result<Updated, MapError>
-    requires { ClonesAreEqual K.is_clone K.eq }
-{
-    let mut map: RangeMap<K, i64, C> = RangeMap::new(alloc);
-    bind(&mut map, rows)?;
-    let asked = Cell::new((0, 0));
-    let done = update_at(&mut map, key, &asked).is_ok();
-    Ok((done, asked.get(), map.range_count(), map.get(key).copied()))
+/// Steps that are taken in turn on a new map.
+#[derive(Clone, Copy)]
+struct Steps<'a>(&'a [Step]);
+
+impl<'a> Table<CharacterItem> for Steps<'a> {
+    fn first_wrong<C: Storage<CharacterItem>>(
+        &self,
+        alloc: Global,
+    ) -> Result<Option<usize>, MapError> {
+        let mut map: Map<C> = RangeMap::new(alloc);
+        for (index, step) in self.0.iter().enumerate() {
+            if !holds(&mut map, *step)? {
+                return Ok(Some(index));
+            }
+        }
+        Ok(None)
+    }
 }
 
 #[test]
 fn a_gap_of_one_key_is_asked_about_once(rt: HostRuntime) -> Result<(), Fail> {
-    let rows = [('+', '+', 0), ('.', '.', 1), ('0', '9', 2)];
-    let found = updated_at::<char, VecStorage<CharacterItem>>(rt.alloc(), &rows, '-')?;
-    assert!(rt; found == (true, (0, 1), 4, Some(3)), "{found:?}");
-    Ok(())
-}
-
-/// How many ranges and how many keys a map has that binds these keys, each by itself.
-fn sizes<K: Measure + Bounded + Copy + IntoRange<Item = K>, C: Storage<Item<AnyRange<K>, i64>>>(
-    alloc: Global,
-    keys: &[K],
-) -> Result<(usize, u128), MapError>
-    requires { ClonesAreEqual K.is_clone K.eq }
-{
-    let mut map: RangeMap<K, i64, C> = RangeMap::new(alloc);
-    for key in keys {
-        map.insert(*key, 1)?;
-    }
-    Ok((map.range_count(), map.len()))
+    let steps = [
+        Step::Insert('+', '+', 0),
+        Step::Insert('.', '.', 1),
+        Step::Insert('0', '9', 2),
+        Step::UpdateKey('-', (0, 1)),
+        Step::Size(4, 13),
+        Step::Get('-', Some(3)),
+    ];
+    check(&rt, rt.alloc(), &Steps(&steps))
 }
 
 #[test]
 fn characters_beside_those_that_are_none(rt: HostRuntime) -> Result<(), Fail> {
-    let keys = ['\u{D7FF}', '\u{E000}'];
-    let found = sizes::<char, BoxStorage<CharacterItem>>(rt.alloc(), &keys)?;
-    assert_eq!(rt; found, (1, 2));
-    Ok(())
+    let steps = [
+        Step::InsertKey('\u{D7FF}', 1),
+        Step::InsertKey('\u{E000}', 1),
+        Step::Size(1, 2),
+    ];
+    check(&rt, rt.alloc(), &Steps(&steps))
 }

@@ -1,6 +1,6 @@
 use crate::support::{
-    InTree, NumberItem, Range, Row, Table, between, check, closed, first_false, insert, is_empty,
-    new_map, range_count, value_at,
+    NumberItem, Range, Row, Table, between, check, closed, first_false, is_empty, map_of,
+    range_count, value_at,
 };
 use range_algebra::any::AnyRange;
 use range_keys::traits::Measure;
@@ -13,10 +13,7 @@ use std::test::Fail;
 
 /// The map of `0..=5` bound to 1 and then `4` to 0.
 fn nested<C: Storage<NumberItem>>(alloc: Global) -> Result<RangeMap<i32, i64, C>, MapError> {
-    let mut map: RangeMap<i32, i64, C> = new_map(alloc);
-    insert(&mut map, closed(0, 5), 1)?;
-    insert(&mut map, closed(4, 4), 0)?;
-    Ok(map)
+    map_of(alloc, &[(0, 5, 1), (4, 4, 0)])
 }
 
 /// Whether an iterator returned this.
@@ -96,14 +93,19 @@ fn loops_forward<C: Storage<NumberItem>>(map: &RangeMap<i32, i64, C>, rows: &[Ro
     left.next().is_none()
 }
 
-fn loops_back(map: &RangeMap<i32, i64, InTree>, rows: &[Row]) -> bool {
-    let mut left = rows.iter();
-    for (range, value) in map.iter().rev() {
-        if !is_row(Some((range, value)), left.next_back().copied()) {
+fn shows_back<C: Storage<NumberItem>>(map: &RangeMap<i32, i64, C>, rows: &[Row]) -> bool {
+    let mut left = rows;
+    let mut stored = map.iter().rev();
+    while let Some(shown) = stored.next() {
+        let Some((row, rest)) = left.split_last() else {
+            return false;
+        };
+        if !is_row(Some(shown), Some(*row)) {
             return false;
         }
+        left = rest;
     }
-    left.next().is_none()
+    left.is_empty()
 }
 
 /// The number of gaps, where none is empty.
@@ -131,6 +133,7 @@ impl Table<NumberItem> for BothEnds {
         let rows = [(0, 3, 1), (4, 4, 0), (5, 5, 1)];
         Ok(first_false(&[
             loops_forward(&map, &rows),
+            shows_back(&map, &rows),
             gap_count(&map) == Some(2),
             iterates_from_both_ends(&map)?,
         ]))
@@ -286,13 +289,6 @@ impl Table<NumberItem> for Free {
 #[test]
 fn iterators_give_each_range_from_both_ends(rt: HostRuntime) -> Result<(), Fail> {
     check(&rt, rt.alloc(), &BothEnds)
-}
-
-#[test]
-fn a_loop_from_the_back(rt: HostRuntime) -> Result<(), MapError> {
-    let map: RangeMap<i32, i64, InTree> = nested(rt.alloc())?;
-    assert!(rt; loops_back(&map, &[(0, 3, 1), (4, 4, 0), (5, 5, 1)]));
-    Ok(())
 }
 
 #[test]

@@ -32,6 +32,25 @@ pub fn half_open(first: i32, end: i32) -> Range {
     AnyRange::new(Bound::Included(first), Bound::Excluded(end))
 }
 
+/// The keys so far after the start of the range with a number.
+pub fn stretch(number: u16, from: i32, to: i32) -> Range {
+    let start = 4 * i32::from(number);
+    half_open(start.wrapping_add(from), start.wrapping_add(to))
+}
+
+/// The range with this number: two keys, and two free ones after them.
+pub fn numbered(number: u16) -> Range {
+    stretch(number, 0, 2)
+}
+
+/// Whether just the range with the number is shown, with its value.
+pub fn is_numbered(shown: Option<(&Range, &i64)>, number: u16) -> bool {
+    match shown {
+        Some((range, value)) => *range == numbered(number) && *value == i64::from(number),
+        None => false,
+    }
+}
+
 pub fn new_map<C: Storage<NumberItem>>(alloc: Global) -> RangeMap<i32, i64, C> {
     RangeMap::new(alloc)
 }
@@ -97,6 +116,30 @@ pub fn update<C: Storage<NumberItem>>(
     asked: &Cell<Asked>,
 ) -> Result<(), UpdateError<i64>> {
     map.update(range, |shown| answer(answers, asked, shown.copied()))
+}
+
+/// A map of the first so many numbered ranges, each bound to its number.
+pub fn filled<C: Storage<NumberItem>>(
+    alloc: Global,
+    count: u16,
+) -> Result<RangeMap<i32, i64, C>, MapError> {
+    let mut map = new_map(alloc);
+    for number in 0..count {
+        insert(&mut map, numbered(number), i64::from(number))?;
+    }
+    Ok(map)
+}
+
+/// A map that binds the rows.
+pub fn map_of<C: Storage<NumberItem>>(
+    alloc: Global,
+    rows: &[Row],
+) -> Result<RangeMap<i32, i64, C>, MapError> {
+    let mut map = new_map(alloc);
+    for (first, last, value) in rows {
+        insert(&mut map, closed(*first, *last), *value)?;
+    }
+    Ok(map)
 }
 
 pub fn intersects<C: Storage<NumberItem>>(map: &RangeMap<i32, i64, C>, range: Range) -> bool {
@@ -244,6 +287,23 @@ pub fn check<R: Abort, S: Drop, T: Table<S>>(rt: &R, alloc: Global, table: &T) -
     let wrong = first_wrong_over_tree(alloc, table)?;
     assert_eq!(rt; wrong, None, "the index of a row, over a tree");
     Ok(())
+}
+
+/// Each row of each table has to hold over either container.
+pub fn check_each<R: Abort, S: Drop, T: Table<S>>(
+    rt: &R,
+    alloc: Global,
+    tables: &[T],
+) -> Result<(), Fail> {
+    for table in tables {
+        check(rt, alloc, table)?;
+    }
+    Ok(())
+}
+
+/// The place of a row that does not hold.
+pub fn wrong_unless(holds: bool) -> Option<usize> {
+    if holds { None } else { Some(0) }
 }
 
 /// What comes of two maps over a vector and a tree.
