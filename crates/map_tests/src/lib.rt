@@ -28,6 +28,8 @@ mod lookups;
 #[cfg(test)]
 mod reads;
 #[cfg(test)]
+mod refused;
+#[cfg(test)]
 mod set_values;
 #[cfg(test)]
 mod spelling;
