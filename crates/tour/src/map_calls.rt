@@ -174,17 +174,43 @@ fn looked_at<R: Abort, C: Storage<Entry>>(rt: &R, map: &Map<C>) -> Result<(), Ma
     Ok(())
 }
 
-fn changed<R: Abort, C: Storage<Entry>>(rt: &R, alloc: Global) -> Result<(), MapError> {
-    updated(rt, &mut ones_over::<C>(alloc)?);
-    popped(rt, &mut ones_over::<C>(alloc)?);
-    popped_at_end(rt, &mut ones_over::<C>(alloc)?);
-    cleared(rt, &mut ones_over::<C>(alloc)?);
-    retained(rt, &mut ones_over::<C>(alloc)?);
-    tried(rt, &mut Map::<C>::new(alloc));
-    extended(rt, &mut Map::<C>::new(alloc))?;
-    made(rt, alloc)?;
-    bound_apart::<R, C>(rt, &mut generic::RangeMap::new(alloc));
-    counted::<R, C>(rt, &mut generic::RangeMap::new(alloc))
+fn clear<C: Storage<Entry>>(map: &mut Map<C>) {
+    map.clear();
+}
+
+/// Makes a map bind just 0..=5, to 1.
+fn rebind<C: Storage<Entry>>(map: &mut Map<C>) -> Result<(), MapError> {
+    clear(map);
+    bind_ones(map, 0..6)
+}
+
+fn emptied<R: Abort, C: Storage<Entry>>(rt: &R, map: &mut Map<C>) -> Result<(), MapError> {
+    rebind(map)?;
+    popped(rt, map);
+    rebind(map)?;
+    popped_at_end(rt, map);
+    rebind(map)?;
+    cleared(rt, map);
+    rebind(map)?;
+    retained(rt, map);
+    Ok(())
+}
+
+fn filled<R: Abort, C: Storage<Entry>>(rt: &R, map: &mut Map<C>) -> Result<(), MapError> {
+    clear(map);
+    tried(rt, map);
+    clear(map);
+    extended(rt, map)?;
+    clear(map);
+    bound_apart(rt, map);
+    clear(map);
+    counted(rt, map)
+}
+
+fn changed<R: Abort, C: Storage<Entry>>(rt: &R, map: &mut Map<C>) -> Result<(), MapError> {
+    updated(rt, map);
+    emptied(rt, map)?;
+    filled(rt, map)
 }
 
 fn compared_with_vector<R: Abort, C: Storage<Entry>>(
@@ -199,18 +225,19 @@ fn compared_with_vector<R: Abort, C: Storage<Entry>>(
 fn played<R: Abort, C: Storage<Entry>>(
     rt: &R,
     alloc: Global,
-    map: &Map<C>,
+    map: &mut Map<C>,
 ) -> Result<(), MapError> {
     looked_at(rt, map)?;
-    changed::<R, C>(rt, alloc)?;
-    compared_with_vector(rt, alloc, map)
+    compared_with_vector(rt, alloc, map)?;
+    changed(rt, map)
 }
 
 #[test]
 fn calls_of_a_map(rt: HostRuntime) -> Result<(), Fail> {
-    let map = ones(rt.alloc())?;
+    let mut map = ones(rt.alloc())?;
     // of a map that binds 0..=5 to 1
     assert!(rt; map.levels() == 1);
-    played(&rt, rt.alloc(), &map)?;
+    played(&rt, rt.alloc(), &mut map)?;
+    made(&rt, rt.alloc())?;
     Ok(())
 }
