@@ -1,5 +1,5 @@
 use crate::support::{
-    NumberItem, Range, Row, Table, between, check, closed, first_false, is_empty, map_of,
+    InTree, NumberItem, Range, Row, Table, between, check, closed, first_false, is_empty, map_of,
     range_count, value_at,
 };
 use range_algebra::any::AnyRange;
@@ -93,7 +93,7 @@ fn loops_forward<C: Storage<NumberItem>>(map: &RangeMap<i32, i64, C>, rows: &[Ro
     left.next().is_none()
 }
 
-fn shows_back<C: Storage<NumberItem>>(map: &RangeMap<i32, i64, C>, rows: &[Row]) -> bool {
+fn shows_back(map: &RangeMap<i32, i64, InTree>, rows: &[Row]) -> bool {
     let mut left = rows;
     let mut stored = map.iter().rev();
     while let Some(shown) = stored.next() {
@@ -133,7 +133,6 @@ impl Table<NumberItem> for BothEnds {
         let rows = [(0, 3, 1), (4, 4, 0), (5, 5, 1)];
         Ok(first_false(&[
             loops_forward(&map, &rows),
-            shows_back(&map, &rows),
             gap_count(&map) == Some(2),
             iterates_from_both_ends(&map)?,
         ]))
@@ -289,6 +288,13 @@ impl Table<NumberItem> for Free {
 #[test]
 fn iterators_give_each_range_from_both_ends(rt: HostRuntime) -> Result<(), Fail> {
     check(&rt, rt.alloc(), &BothEnds)
+}
+
+#[test]
+fn a_map_is_shown_from_the_back(rt: HostRuntime) -> Result<(), Fail> {
+    let map = nested(rt.alloc())?;
+    assert!(rt; shows_back(&map, &[(0, 3, 1), (4, 4, 0), (5, 5, 1)]));
+    Ok(())
 }
 
 #[test]

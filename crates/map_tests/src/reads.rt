@@ -8,7 +8,7 @@ use range_algebra::any::AnyRange;
 use range_map::map::{MapError, Overlapping, RangeMap};
 use range_store::storage::Storage;
 use std::alloc::{AllocError, Global};
-use std::ops::Bound::{Excluded, Included, Unbounded};
+use std::ops::Bound::{self, Excluded, Included, Unbounded};
 use std::test::Fail;
 
 type Map<C> = RangeMap<i32, i64, C>;
@@ -61,21 +61,33 @@ fn shows_from_both_ends<C: Storage<NumberItem>>(
     Ok(forward && backward && met)
 }
 
+fn bound_at(bound: Bound<&i32>) -> Bound<i32> {
+    match bound {
+        Included(key) => Included(*key),
+        Excluded(key) => Excluded(*key),
+        Unbounded => Unbounded,
+    }
+}
+
+fn is_range(part: AnyRange<&i32>, range: Range) -> bool {
+    between(bound_at(part.start), bound_at(part.end)) == range
+}
+
 /// Whether the next piece is this part with this value.
 fn is_piece(
     given: Option<(AnyRange<&i32>, Option<&i64>)>,
     (range, value): (Range, Option<i64>),
-) -> Result<bool, AllocError> {
+) -> bool {
     match given {
-        Some((part, shown)) => Ok(part.cloned()? == range && shown.copied() == value),
-        None => Ok(false),
+        Some((part, shown)) => is_range(part, range) && shown.copied() == value,
+        None => false,
     }
 }
 
-fn is_gap(given: Option<AnyRange<&i32>>, range: Range) -> Result<bool, AllocError> {
+fn is_gap(given: Option<AnyRange<&i32>>, range: Range) -> bool {
     match given {
-        Some(part) => Ok(part.cloned()? == range),
-        None => Ok(false),
+        Some(part) => is_range(part, range),
+        None => false,
     }
 }
 
@@ -101,42 +113,30 @@ fn piece_count(first: u16, last: u16) -> u16 {
     last.wrapping_sub(first).wrapping_mul(2).wrapping_add(1)
 }
 
-fn shows_pieces<C: Storage<NumberItem>>(
-    map: &Map<C>,
-    first: u16,
-    last: u16,
-) -> Result<bool, AllocError> {
+fn shows_pieces<C: Storage<NumberItem>>(map: &Map<C>, first: u16, last: u16) -> bool {
     let range = inside(first, last);
     let mut pieces = map.pieces(&range);
     for place in 0..piece_count(first, last) {
-        if !is_piece(pieces.next(), piece(first, last, place))? {
-            return Ok(false);
+        if !is_piece(pieces.next(), piece(first, last, place)) {
+            return false;
         }
     }
-    Ok(pieces.next().is_none() && pieces.next_back().is_none())
+    pieces.next().is_none() && pieces.next_back().is_none()
 }
 
-fn shows_pieces_back<C: Storage<NumberItem>>(
-    map: &Map<C>,
-    first: u16,
-    last: u16,
-) -> Result<bool, AllocError> {
+fn shows_pieces_back<C: Storage<NumberItem>>(map: &Map<C>, first: u16, last: u16) -> bool {
     let range = inside(first, last);
     let mut pieces = map.pieces(&range);
     for place in (0..piece_count(first, last)).rev() {
-        if !is_piece(pieces.next_back(), piece(first, last, place))? {
-            return Ok(false);
+        if !is_piece(pieces.next_back(), piece(first, last, place)) {
+            return false;
         }
     }
-    Ok(pieces.next().is_none())
+    pieces.next().is_none()
 }
 
 /// Whether their gaps are shown from both ends.
-fn shows_gaps<C: Storage<NumberItem>>(
-    map: &Map<C>,
-    first: u16,
-    last: u16,
-) -> Result<bool, AllocError> {
+fn shows_gaps<C: Storage<NumberItem>>(map: &Map<C>, first: u16, last: u16) -> bool {
     let range = inside(first, last);
     let mut gaps = map.gaps_within(&range);
     let mut back = map.gaps_within(&range);
@@ -145,12 +145,12 @@ fn shows_gaps<C: Storage<NumberItem>>(
             first.wrapping_add(place),
             last.wrapping_sub(place).wrapping_sub(1),
         );
-        let forward = is_gap(gaps.next(), stretch(from, 2, 4))?;
-        if !(forward && is_gap(back.next_back(), stretch(to, 2, 4))?) {
-            return Ok(false);
+        let forward = is_gap(gaps.next(), stretch(from, 2, 4));
+        if !(forward && is_gap(back.next_back(), stretch(to, 2, 4))) {
+            return false;
         }
     }
-    Ok(gaps.next().is_none() && back.next().is_none())
+    gaps.next().is_none() && back.next().is_none()
 }
 
 /// Whether the first free piece or gap of a range is the one range, and the last gap the other.
@@ -159,9 +159,9 @@ fn has_gap_ends<C: Storage<NumberItem>>(
     range: Range,
     first: Range,
     last: Range,
-) -> Result<bool, AllocError> {
-    let front = is_gap(map.gaps_within(&range).next(), first)?;
-    Ok(front && is_gap(map.gaps_within(&range).next_back(), last)?)
+) -> bool {
+    let front = is_gap(map.gaps_within(&range).next(), first);
+    front && is_gap(map.gaps_within(&range).next_back(), last)
 }
 
 /// What is looked up in a map of numbered ranges, and what is shown.
@@ -185,11 +185,11 @@ fn begins<C: Storage<NumberItem>>(
     map: &Map<C>,
     range: Range,
     first: Option<(Range, Option<i64>)>,
-) -> Result<bool, AllocError> {
+) -> bool {
     let given = map.pieces(&range).next();
     match first {
         Some(piece) => is_piece(given, piece),
-        None => Ok(given.is_none()),
+        None => given.is_none(),
     }
 }
 
@@ -201,11 +201,11 @@ fn finds<C: Storage<NumberItem>>(map: &Map<C>, look: Look) -> Result<bool, Alloc
         }
         Look::From(key, first, end) => shows_from_both_ends(&mut map.iter_from(key), first, end),
         Look::Within(first, last) => {
-            let pieces = shows_pieces(map, first, last)? && shows_pieces_back(map, first, last)?;
-            Ok(pieces && shows_gaps(map, first, last)?)
+            let pieces = shows_pieces(map, first, last) && shows_pieces_back(map, first, last);
+            Ok(pieces && shows_gaps(map, first, last))
         }
-        Look::Piece(range, first) => begins(map, range, first),
-        Look::Gaps(range, first, last) => has_gap_ends(map, range, first, last),
+        Look::Piece(range, first) => Ok(begins(map, range, first)),
+        Look::Gaps(range, first, last) => Ok(has_gap_ends(map, range, first, last)),
         Look::BindsAll(range, all) => Ok(map.binds_all(range) == all),
     }
 }

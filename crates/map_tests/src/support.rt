@@ -197,6 +197,33 @@ pub enum Step<'a> {
     Stores(&'a [Row]),
 }
 
+/// Whether the range and the value are handed back just where that is told.
+fn inserts_apart<C: Storage<NumberItem>>(
+    map: &mut RangeMap<i32, i64, C>,
+    range: Range,
+    value: i64,
+    refused: bool,
+) -> bool {
+    let given = insert_disconnected(map, range, value);
+    given == if refused { Some((range, value)) } else { None }
+}
+
+/// Whether an update ends so, and its closure is asked so often.
+fn updates_so<C: Storage<NumberItem>>(
+    map: &mut RangeMap<i32, i64, C>,
+    range: Range,
+    answers: Answers<'_>,
+    error: Option<i64>,
+    times: Asked,
+) -> bool {
+    let asked = Cell::new((0, 0));
+    let outcome = match error {
+        Some(error) => Err(UpdateError::Closure(error)),
+        None => Ok(()),
+    };
+    update(map, range, answers, &asked) == outcome && asked.get() == times
+}
+
 /// Makes the call, or tells whether it is so.
 pub fn holds<C: Storage<NumberItem>>(
     map: &mut RangeMap<i32, i64, C>,
@@ -206,16 +233,10 @@ pub fn holds<C: Storage<NumberItem>>(
         Step::Insert(range, value) => insert(map, range, value)?,
         Step::Remove(range) => remove(map, range)?,
         Step::InsertDisconnected(range, value, refused) => {
-            let given = insert_disconnected(map, range, value);
-            return Ok(given == if refused { Some((range, value)) } else { None });
+            return Ok(inserts_apart(map, range, value, refused));
         }
         Step::Update(range, answers, error, times) => {
-            let asked = Cell::new((0, 0));
-            let outcome = match error {
-                Some(error) => Err(UpdateError::Closure(error)),
-                None => Ok(()),
-            };
-            return Ok(update(map, range, answers, &asked) == outcome && asked.get() == times);
+            return Ok(updates_so(map, range, answers, error, times));
         }
         Step::Intersects(range, meets) => return Ok(intersects(map, range) == meets),
         Step::Count(count) => {
