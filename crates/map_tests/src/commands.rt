@@ -67,7 +67,11 @@ fn first_other(rows: &[Row], replies: &[NumberReply]) -> Option<usize> {
             _ => return Some(index),
         }
     }
-    if left.is_empty() { None } else { Some(rows.len()) }
+    if left.is_empty() {
+        None
+    } else {
+        Some(rows.len())
+    }
 }
 
 /// The index of the first command to which another reply is given, each by itself.

@@ -6,8 +6,6 @@ mod bulk;
 #[cfg(test)]
 mod calls;
 #[cfg(test)]
-mod characters;
-#[cfg(test)]
 mod combining;
 #[cfg(test)]
 mod commands;
@@ -21,6 +19,8 @@ mod drawn;
 mod ends;
 #[cfg(test)]
 mod iterators;
+#[cfg(test)]
+mod key_types;
 #[cfg(test)]
 mod keys;
 #[cfg(test)]

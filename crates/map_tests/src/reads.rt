@@ -2,13 +2,13 @@
 
 use crate::support::{
     NumberItem, Range, Table, between, check_each, filled, half_open, is_numbered, numbered,
-    stretch,
+    range_of, stretch,
 };
 use range_algebra::any::AnyRange;
 use range_map::map::{MapError, Overlapping, RangeMap};
 use range_store::storage::Storage;
 use std::alloc::{AllocError, Global};
-use std::ops::Bound::{self, Excluded, Included, Unbounded};
+use std::ops::Bound::{Excluded, Included, Unbounded};
 use std::test::Fail;
 
 type Map<C> = RangeMap<i32, i64, C>;
@@ -61,32 +61,20 @@ fn shows_from_both_ends<C: Storage<NumberItem>>(
     Ok(forward && backward && met)
 }
 
-fn bound_at(bound: Bound<&i32>) -> Bound<i32> {
-    match bound {
-        Included(key) => Included(*key),
-        Excluded(key) => Excluded(*key),
-        Unbounded => Unbounded,
-    }
-}
-
-fn is_range(part: AnyRange<&i32>, range: Range) -> bool {
-    between(bound_at(part.start), bound_at(part.end)) == range
-}
-
 /// Whether the next piece is this part with this value.
 fn is_piece(
     given: Option<(AnyRange<&i32>, Option<&i64>)>,
     (range, value): (Range, Option<i64>),
 ) -> bool {
     match given {
-        Some((part, shown)) => is_range(part, range) && shown.copied() == value,
+        Some((part, shown)) => range_of(part) == range && shown.copied() == value,
         None => false,
     }
 }
 
 fn is_gap(given: Option<AnyRange<&i32>>, range: Range) -> bool {
     match given {
-        Some(part) => is_range(part, range),
+        Some(part) => range_of(part) == range,
         None => false,
     }
 }

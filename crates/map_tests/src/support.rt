@@ -32,6 +32,19 @@ pub fn half_open(first: i32, end: i32) -> Range {
     AnyRange::new(Bound::Included(first), Bound::Excluded(end))
 }
 
+fn bound_of<K: Copy>(bound: Bound<&K>) -> Bound<K> {
+    match bound {
+        Bound::Included(key) => Bound::Included(*key),
+        Bound::Excluded(key) => Bound::Excluded(*key),
+        Bound::Unbounded => Bound::Unbounded,
+    }
+}
+
+/// The same part of a range, over keys of its own.
+pub fn range_of<K: Copy>(part: AnyRange<&K>) -> AnyRange<K> {
+    AnyRange::new(bound_of(part.start), bound_of(part.end))
+}
+
 /// The keys so far after the start of the range with a number.
 pub fn stretch(number: u16, from: i32, to: i32) -> Range {
     let start = 4 * i32::from(number);
