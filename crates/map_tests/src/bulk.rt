@@ -1,6 +1,9 @@
 //! Changes of many stored ranges at once, and insertions where nothing is in the way.
 
-use crate::support::{NumberItem, Range, Table, check, half_open, insert, new_map};
+use crate::support::{
+    NumberItem, Range, Table, check_each, filled, half_open, is_empty, range_count, stretch,
+    value_at, wrong_unless,
+};
 use range_map::map::{MapError, NotFree, RangeMap};
 use range_store::storage::Storage;
 use std::alloc::Global;
@@ -8,34 +11,37 @@ use std::test::Fail;
 
 type Map<C> = RangeMap<i32, i64, C>;
 
-/// The range with this number: two keys, and two free ones after them.
-fn numbered(number: i32) -> Range {
-    let start = number.wrapping_mul(4);
-    half_open(start, start.wrapping_add(2))
+fn keep_even<C: Storage<NumberItem>>(map: &mut Map<C>) {
+    map.retain(|_range, value| *value & 1 == 0);
 }
 
-/// The free keys after the range with this number.
-fn free_after(number: i32) -> Range {
-    let start = number.wrapping_mul(4).wrapping_add(2);
-    half_open(start, start.wrapping_add(2))
+fn clear<C: Storage<NumberItem>>(map: &mut Map<C>) {
+    map.clear();
 }
 
-fn filled<C: Storage<NumberItem>>(alloc: Global, count: i32) -> Result<Map<C>, MapError> {
-    let mut map = new_map(alloc);
+/// Whether the range with the number is bound where that is even, and free where it is odd.
+fn is_kept_if_even<C: Storage<NumberItem>>(map: &Map<C>, number: u16) -> bool {
+    let kept = if number & 1 == 0 {
+        Some(i64::from(number))
+    } else {
+        None
+    };
+    value_at(map, 4 * i32::from(number)) == kept
+}
+
+/// The first of so many ranges that is not kept or taken out as it should.
+fn first_other<C: Storage<NumberItem>>(map: &Map<C>, count: u16) -> Option<usize> {
     for number in 0..count {
-        insert(&mut map, numbered(number), i64::from(number))?;
+        if !is_kept_if_even(map, number) {
+            return Some(usize::from(number));
+        }
     }
-    Ok(map)
-}
-
-/// Whether the key is bound to the value, or to none.
-fn binds<C: Storage<NumberItem>>(map: &Map<C>, key: i32, value: Option<i64>) -> bool {
-    map.get(key).copied() == value
+    None
 }
 
 /// A map of so many ranges, of which those with an odd value are taken out, and then all.
 struct Retained {
-    count: i32,
+    count: u16,
 }
 
 impl Table<NumberItem> for Retained {
@@ -44,42 +50,42 @@ impl Table<NumberItem> for Retained {
         alloc: Global,
     ) -> Result<Option<usize>, MapError> {
         let mut map = filled::<C>(alloc, self.count)?;
-        map.retain(|_range, value| *value & 1 == 0);
-        for (index, number) in (0..self.count).enumerate() {
-            let value = if number & 1 == 0 {
-                Some(i64::from(number))
-            } else {
-                None
-            };
-            if !binds(&map, number.wrapping_mul(4), value) {
-                return Ok(Some(index));
-            }
-        }
-        map.clear();
-        Ok(if map.is_empty() {
-            None
-        } else {
-            Some(usize::MAX)
-        })
+        keep_even(&mut map);
+        let other = first_other(&map, self.count);
+        clear(&mut map);
+        Ok(other.or(wrong_unless(is_empty(&map))))
     }
 }
 
 /// Whether the range is not inserted, and is handed back.
-fn is_hindered<C: Storage<NumberItem>>(map: &mut Map<C>, range: Range, same: &Range) -> bool {
+fn is_hindered<C: Storage<NumberItem>>(map: &mut Map<C>, range: Range) -> bool {
     match map.try_insert(range, -1) {
-        Err(NotFree::Occupied(range, value)) => range == *same && value == -1,
+        Err(NotFree::Occupied(given, value)) => given == range && value == -1,
         Err(NotFree::Memory(_range, _value)) => false,
         Ok(()) => false,
     }
 }
 
-fn is_inserted<C: Storage<NumberItem>>(map: &mut Map<C>, range: Range, value: i64) -> bool {
-    map.try_insert(range, value).is_ok()
+/// Whether the free keys after the range with the number are bound as it is.
+fn grows<C: Storage<NumberItem>>(map: &mut Map<C>, number: u16) -> bool {
+    map.try_insert(stretch(number, 2, 4), i64::from(number))
+        .is_ok()
+}
+
+/// The first of so many ranges that does not hinder one across it, or does not grow.
+fn first_still<C: Storage<NumberItem>>(map: &mut Map<C>, count: u16) -> Option<usize> {
+    for number in 0..count {
+        let across = half_open(4 * i32::from(number) + 1, i32::MAX);
+        if !(is_hindered(map, across) && grows(map, number)) {
+            return Some(usize::from(number));
+        }
+    }
+    None
 }
 
 /// A map of so many ranges, each of which hinders one, and then grows by the free keys after it.
 struct Tried {
-    count: i32,
+    count: u16,
 }
 
 impl Table<NumberItem> for Tried {
@@ -88,30 +94,25 @@ impl Table<NumberItem> for Tried {
         alloc: Global,
     ) -> Result<Option<usize>, MapError> {
         let mut map = filled::<C>(alloc, self.count)?;
-        for (index, number) in (0..self.count).enumerate() {
-            let start = number.wrapping_mul(4).wrapping_add(1);
-            let across = half_open(start, i32::MAX);
-            let hindered = is_hindered(&mut map, across, &half_open(start, i32::MAX));
-            if !(hindered && is_inserted(&mut map, free_after(number), i64::from(number))) {
-                return Ok(Some(index));
-            }
-        }
-        let joined = map.range_count() == usize::try_from(self.count).unwrap_or(0);
-        Ok(if joined { None } else { Some(usize::MAX) })
+        let still = first_still(&mut map, self.count);
+        Ok(still.or(wrong_unless(range_count(&map) == usize::from(self.count))))
     }
 }
 
+static RETAINED: &[Retained] = &[
+    Retained { count: 0 },
+    Retained { count: 3 },
+    Retained { count: 300 },
+];
+
 #[test]
 fn ranges_are_retained_and_cleared(rt: HostRuntime) -> Result<(), Fail> {
-    check(&rt, rt.alloc(), &Retained { count: 0 })?;
-    check(&rt, rt.alloc(), &Retained { count: 3 })?;
-    check(&rt, rt.alloc(), &Retained { count: 300 })?;
-    Ok(())
+    check_each(&rt, rt.alloc(), RETAINED)
 }
+
+static TRIED: &[Tried] = &[Tried { count: 1 }, Tried { count: 300 }];
 
 #[test]
 fn ranges_are_inserted_where_nothing_is_in_the_way(rt: HostRuntime) -> Result<(), Fail> {
-    check(&rt, rt.alloc(), &Tried { count: 1 })?;
-    check(&rt, rt.alloc(), &Tried { count: 300 })?;
-    Ok(())
+    check_each(&rt, rt.alloc(), TRIED)
 }

@@ -1,6 +1,5 @@
 use crate::support::{
-    NumberItem, Step, Table, between, check, closed, first_wrong, half_open, holds, insert,
-    new_map, play, range_count, remove, value_at,
+    NumberItem, Step, Table, between, check, closed, first_wrong, half_open, holds, new_map, play,
 };
 use range_map::map::{MapError, RangeMap};
 use range_store::storage::Storage;
@@ -162,53 +161,4 @@ impl Table<NumberItem> for Many {
 #[test]
 fn many_ranges_stand_apart(rt: HostRuntime) -> Result<(), Fail> {
     check(&rt, rt.alloc(), &Many)
-}
-
-/// Binds ranges with gaps and touching ones, as far as there is memory.
-fn bind_several<C: Storage<NumberItem>>(map: &mut RangeMap<i32, i64, C>) {
-    for (first, end, value) in &[(0, 20, 1), (20, 30, 2), (40, 50, 3), (60, 70, 4)] {
-        let _ = insert(map, half_open(*first, *end), *value);
-    }
-}
-
-/// Whether a range is bound to the value, or unbound where there is none, or else nothing is
-/// changed.
-fn is_done_or_refused<C: Storage<NumberItem>>(
-    map: &mut RangeMap<i32, i64, C>,
-    value: Option<i64>,
-) -> bool {
-    let before = (range_count(map), value_at(map, 7));
-    let changed = match value {
-        Some(value) => insert(map, half_open(5, 15), value),
-        None => remove(map, half_open(5, 15)),
-    };
-    match changed {
-        Ok(()) => value_at(map, 7) == value,
-        Err(MapError::Memory) => (range_count(map), value_at(map, 7)) == before,
-    }
-}
-
-/// What is bound over a part of a stored range, or unbound where there is none.
-#[derive(Clone, Copy)]
-struct Refusals<'a>(&'a [Option<i64>]);
-
-impl<'a> Table<NumberItem> for Refusals<'a> {
-    fn first_wrong<C: Storage<NumberItem>>(
-        &self,
-        alloc: Global,
-    ) -> Result<Option<usize>, MapError> {
-        for (index, value) in self.0.iter().enumerate() {
-            let mut map = new_map::<C>(alloc);
-            bind_several(&mut map);
-            if !is_done_or_refused(&mut map, *value) {
-                return Ok(Some(index));
-            }
-        }
-        Ok(None)
-    }
-}
-
-#[test]
-fn a_refused_call_changes_nothing(rt: HostRuntime) -> Result<(), Fail> {
-    check(&rt, rt.alloc(), &Refusals(&[Some(0), None]))
 }

@@ -1,6 +1,6 @@
 //! Two maps put together by a closure.
 
-use crate::support::{NumberItem, Row, Table, check, closed, insert, new_map, stores};
+use crate::support::{NumberItem, Row, Table, check_each, map_of, stores, wrong_unless};
 use range_map::map::{MapError, RangeMap, UpdateError};
 use range_store::storage::Storage;
 use std::alloc::Global;
@@ -26,15 +26,17 @@ fn sum<C: Storage<NumberItem>>(
     map.combine(other, |one, two| added(one, two))
 }
 
-fn filled<C: Storage<NumberItem>>(
-    alloc: Global,
-    rows: &[Row],
-) -> Result<RangeMap<i32, i64, C>, MapError> {
-    let mut map = new_map(alloc);
-    for (first, last, value) in rows {
-        insert(&mut map, closed(*first, *last), *value)?;
+/// Whether the map of the sums stores the rows, or a sum does not fit where there are none.
+fn adds_up<C: Storage<NumberItem>>(
+    one: &RangeMap<i32, i64, C>,
+    other: &RangeMap<i32, i64, C>,
+    rows: Option<&[Row]>,
+) -> bool {
+    match (sum(one, other), rows) {
+        (Ok(both), Some(rows)) => stores(&both, rows),
+        (Err(UpdateError::Closure(1)), None) => true,
+        (_, _) => false,
     }
-    Ok(map)
 }
 
 /// What two maps store, and what the map of their sums stores, or `None` where a sum does not fit.
@@ -50,14 +52,9 @@ impl<'a> Table<NumberItem> for Sums<'a> {
         &self,
         alloc: Global,
     ) -> Result<Option<usize>, MapError> {
-        let one = filled::<C>(alloc, self.one)?;
-        let other = filled::<C>(alloc, self.other)?;
-        let right = match (sum(&one, &other), self.both) {
-            (Ok(both), Some(rows)) => stores(&both, rows),
-            (Err(UpdateError::Closure(1)), None) => true,
-            (_, _) => false,
-        };
-        Ok(if right { None } else { Some(0) })
+        let one = map_of::<C>(alloc, self.one)?;
+        let other = map_of::<C>(alloc, self.other)?;
+        Ok(wrong_unless(adds_up(&one, &other, self.both)))
     }
 }
 
@@ -85,8 +82,5 @@ fn sums_of_two_maps(rt: HostRuntime) -> Result<(), Fail> {
             both: Some(&[]),
         },
     ];
-    for row in &rows {
-        check(&rt, rt.alloc(), row)?;
-    }
-    Ok(())
+    check_each(&rt, rt.alloc(), &rows)
 }

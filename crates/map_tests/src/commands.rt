@@ -57,18 +57,21 @@ fn commands_of(alloc: Global, rows: &[Row]) -> Result<Vec<NumberCommand>, AllocE
     Ok(commands)
 }
 
-/// The index of the first row that has another reply, or the number of the replies where it is
-/// not that of the rows.
+/// The index of the first row that has another reply, or the number of the rows where there are
+/// more replies.
 fn first_other(rows: &[Row], replies: &[NumberReply]) -> Option<usize> {
-    if replies.len() != rows.len() {
-        return Some(replies.len());
-    }
-    for (index, ((_, expected), given)) in rows.iter().zip(replies).enumerate() {
-        if expected != given {
-            return Some(index);
+    let mut left = replies;
+    for (index, (_, expected)) in rows.iter().enumerate() {
+        match left.split_first() {
+            Some((given, rest)) if given == expected => left = rest,
+            _ => return Some(index),
         }
     }
-    None
+    if left.is_empty() {
+        None
+    } else {
+        Some(rows.len())
+    }
 }
 
 /// The index of the first command to which another reply is given, each by itself.

@@ -8,8 +8,6 @@ mod bulk;
 #[cfg(test)]
 mod calls;
 #[cfg(test)]
-mod characters;
-#[cfg(test)]
 mod combining;
 #[cfg(test)]
 mod commands;
@@ -24,11 +22,15 @@ mod ends;
 #[cfg(test)]
 mod iterators;
 #[cfg(test)]
+mod key_types;
+#[cfg(test)]
 mod keys;
 #[cfg(test)]
 mod lookups;
 #[cfg(test)]
 mod reads;
+#[cfg(test)]
+mod refused;
 #[cfg(test)]
 mod set_values;
 #[cfg(test)]

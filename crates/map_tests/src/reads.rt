@@ -1,51 +1,23 @@
 //! Look-ups over a range: what meets it, its pieces, its gaps, and whether all of it is bound.
 
-use crate::support::{NumberItem, Range, Table, check, first_false, half_open, insert, new_map};
+use crate::support::{
+    NumberItem, Range, Table, between, check_each, filled, half_open, is_numbered, numbered,
+    range_of, stretch,
+};
 use range_algebra::any::AnyRange;
-use range_map::map::{MapError, Overlapping, Pieces, RangeMap};
+use range_map::map::{MapError, Overlapping, RangeMap};
 use range_store::storage::Storage;
 use std::alloc::{AllocError, Global};
 use std::ops::Bound::{Excluded, Included, Unbounded};
 use std::test::Fail;
 
-fn at(number: i32) -> i32 {
-    number.wrapping_mul(4)
-}
-
-/// The keys so far after the start of the range with a number.
-fn stretch(number: i32, from: i32, to: i32) -> Range {
-    half_open(at(number).wrapping_add(from), at(number).wrapping_add(to))
-}
-
-/// The range with this number: two keys, and two free ones after them.
-fn numbered(number: i32) -> Range {
-    stretch(number, 0, 2)
-}
-
-fn filled<C: Storage<NumberItem>>(
-    alloc: Global,
-    count: i32,
-) -> Result<RangeMap<i32, i64, C>, MapError> {
-    let mut map = new_map(alloc);
-    for number in 0..count {
-        insert(&mut map, numbered(number), i64::from(number))?;
-    }
-    Ok(map)
-}
-
-/// Whether just the range with the number is shown, with its value.
-fn is_numbered(shown: Option<(&Range, &i64)>, number: i32) -> bool {
-    match shown {
-        Some((range, value)) => *range == numbered(number) && *value == i64::from(number),
-        None => false,
-    }
-}
+type Map<C> = RangeMap<i32, i64, C>;
 
 /// Whether the ranges from one number up to another are shown from the front.
 fn shows<C: Storage<NumberItem>>(
     shown: &mut Overlapping<'_, i32, i64, C>,
-    first: i32,
-    end: i32,
+    first: u16,
+    end: u16,
 ) -> bool {
     for number in first..end {
         if !is_numbered(shown.next(), number) {
@@ -58,8 +30,8 @@ fn shows<C: Storage<NumberItem>>(
 /// Whether they are shown from the back.
 fn shows_back<C: Storage<NumberItem>>(
     shown: &mut Overlapping<'_, i32, i64, C>,
-    first: i32,
-    end: i32,
+    first: u16,
+    end: u16,
 ) -> bool {
     for number in (first..end).rev() {
         if !is_numbered(shown.next_back(), number) {
@@ -73,195 +45,255 @@ fn is_done<C: Storage<NumberItem>>(shown: &mut Overlapping<'_, i32, i64, C>) -> 
     shown.next().is_none() && shown.next_back().is_none()
 }
 
-/// Whether just these are shown, from the front, from the back, and until both ends meet.
+/// Whether just these are shown until both ends meet, and by copies from the front and from the
+/// back.
 fn shows_from_both_ends<C: Storage<NumberItem>>(
     shown: &mut Overlapping<'_, i32, i64, C>,
-    first: i32,
-    end: i32,
+    first: u16,
+    end: u16,
 ) -> Result<bool, AllocError> {
     let middle = first.wrapping_add(end.wrapping_sub(first) / 2);
     let mut front = shown.clone()?;
     let mut back = shown.clone()?;
-    Ok(first_false(&[
-        shows(&mut front, first, end) && is_done(&mut front),
-        shows_back(&mut back, first, end) && is_done(&mut back),
-        shows(shown, first, middle) && shows_back(shown, middle, end) && is_done(shown),
-    ])
-    .is_none())
+    let forward = shows(&mut front, first, end) && is_done(&mut front);
+    let backward = shows_back(&mut back, first, end) && is_done(&mut back);
+    let met = shows(shown, first, middle) && shows_back(shown, middle, end) && is_done(shown);
+    Ok(forward && backward && met)
 }
 
-/// Whether a piece is this part with this value.
+/// Whether the next piece is this part with this value.
 fn is_piece(
     given: Option<(AnyRange<&i32>, Option<&i64>)>,
-    range: &Range,
-    value: Option<i64>,
-) -> Result<bool, AllocError> {
+    (range, value): (Range, Option<i64>),
+) -> bool {
     match given {
-        Some((part, shown)) => Ok(part.cloned()? == *range && shown.copied() == value),
-        None => Ok(false),
+        Some((part, shown)) => range_of(part) == range && shown.copied() == value,
+        None => false,
     }
 }
 
-fn is_gap(given: Option<AnyRange<&i32>>, range: &Range) -> Result<bool, AllocError> {
+fn is_gap(given: Option<AnyRange<&i32>>, range: Range) -> bool {
     match given {
-        Some(part) => Ok(part.cloned()? == *range),
-        None => Ok(false),
+        Some(part) => range_of(part) == range,
+        None => false,
     }
 }
 
-/// Whether the pieces from within one range to within another are shown, from the front.
-fn shows_pieces<C: Storage<NumberItem>>(
-    pieces: &mut Pieces<'_, i32, i64, C>,
-    first: i32,
-    last: i32,
-) -> Result<bool, AllocError> {
-    for number in first..last {
-        let from = if number == first { 1 } else { 0 };
-        let bound = is_piece(
-            pieces.next(),
-            &stretch(number, from, 2),
-            Some(i64::from(number)),
-        )?;
-        if !(bound && is_piece(pieces.next(), &stretch(number, 2, 4), None)?) {
-            return Ok(false);
+/// The keys from within the range with one number to within that with another: neither the first
+/// key nor the last one.
+fn inside(first: u16, last: u16) -> Range {
+    half_open(4 * i32::from(first) + 1, 4 * i32::from(last) + 1)
+}
+
+/// What stands at a place of their pieces.
+fn piece(first: u16, last: u16, place: u16) -> (Range, Option<i64>) {
+    let number = first.wrapping_add(place / 2);
+    if place % 2 == 1 {
+        return (stretch(number, 2, 4), None);
+    }
+    let from = if place == 0 { 1 } else { 0 };
+    let to = if number == last { 1 } else { 2 };
+    (stretch(number, from, to), Some(i64::from(number)))
+}
+
+/// The number of their pieces.
+fn piece_count(first: u16, last: u16) -> u16 {
+    last.wrapping_sub(first).wrapping_mul(2).wrapping_add(1)
+}
+
+fn shows_pieces<C: Storage<NumberItem>>(map: &Map<C>, first: u16, last: u16) -> bool {
+    let range = inside(first, last);
+    let mut pieces = map.pieces(&range);
+    for place in 0..piece_count(first, last) {
+        if !is_piece(pieces.next(), piece(first, last, place)) {
+            return false;
         }
     }
-    Ok(true)
+    pieces.next().is_none() && pieces.next_back().is_none()
 }
 
-/// Whether they are shown from the back, after the last one.
-fn shows_pieces_back<C: Storage<NumberItem>>(
-    pieces: &mut Pieces<'_, i32, i64, C>,
-    first: i32,
-    last: i32,
-) -> Result<bool, AllocError> {
-    for number in (first..last).rev() {
-        let from = if number == first { 1 } else { 0 };
-        let free = is_piece(pieces.next_back(), &stretch(number, 2, 4), None)?;
-        let range = stretch(number, from, 2);
-        if !(free && is_piece(pieces.next_back(), &range, Some(i64::from(number)))?) {
-            return Ok(false);
+fn shows_pieces_back<C: Storage<NumberItem>>(map: &Map<C>, first: u16, last: u16) -> bool {
+    let range = inside(first, last);
+    let mut pieces = map.pieces(&range);
+    for place in (0..piece_count(first, last)).rev() {
+        if !is_piece(pieces.next_back(), piece(first, last, place)) {
+            return false;
         }
     }
-    Ok(true)
+    pieces.next().is_none()
 }
 
-fn has_pieces<C: Storage<NumberItem>>(
-    map: &RangeMap<i32, i64, C>,
-    range: &Range,
-    first: i32,
-    last: i32,
-) -> Result<bool, AllocError> {
-    let value = Some(i64::from(last));
-    let mut pieces = map.pieces(range);
-    let mut back = map.pieces(range);
-    let forward = shows_pieces(&mut pieces, first, last)?
-        && is_piece(pieces.next(), &stretch(last, 0, 1), value)?;
-    let backward = is_piece(back.next_back(), &stretch(last, 0, 1), value)?
-        && shows_pieces_back(&mut back, first, last)?;
-    let done = pieces.next().is_none() && pieces.next_back().is_none() && back.next().is_none();
-    Ok(forward && backward && done)
-}
-
-fn has_gaps<C: Storage<NumberItem>>(
-    map: &RangeMap<i32, i64, C>,
-    range: &Range,
-    first: i32,
-    last: i32,
-) -> Result<bool, AllocError> {
-    let mut gaps = map.gaps_within(range);
-    let mut back = map.gaps_within(range);
-    for number in first..last {
-        let other = last
-            .wrapping_sub(1)
-            .wrapping_sub(number.wrapping_sub(first));
-        if !(is_gap(gaps.next(), &stretch(number, 2, 4))?
-            && is_gap(back.next_back(), &stretch(other, 2, 4))?)
-        {
-            return Ok(false);
+/// Whether their gaps are shown from both ends.
+fn shows_gaps<C: Storage<NumberItem>>(map: &Map<C>, first: u16, last: u16) -> bool {
+    let range = inside(first, last);
+    let mut gaps = map.gaps_within(&range);
+    let mut back = map.gaps_within(&range);
+    for place in 0..last.wrapping_sub(first) {
+        let (from, to) = (
+            first.wrapping_add(place),
+            last.wrapping_sub(place).wrapping_sub(1),
+        );
+        let forward = is_gap(gaps.next(), stretch(from, 2, 4));
+        if !(forward && is_gap(back.next_back(), stretch(to, 2, 4))) {
+            return false;
         }
     }
-    Ok(gaps.next().is_none() && back.next().is_none())
+    gaps.next().is_none() && back.next().is_none()
 }
 
-/// Look-ups from within one range to within another, of a map of so many ranges.
+/// Whether the first free piece or gap of a range is the one range, and the last gap the other.
+fn has_gap_ends<C: Storage<NumberItem>>(
+    map: &Map<C>,
+    range: Range,
+    first: Range,
+    last: Range,
+) -> bool {
+    let front = is_gap(map.gaps_within(&range).next(), first);
+    front && is_gap(map.gaps_within(&range).next_back(), last)
+}
+
+/// What is looked up in a map of numbered ranges, and what is shown.
 #[derive(Clone, Copy)]
-struct Within {
-    count: i32,
-    first: i32,
-    last: i32,
+enum Look {
+    /// What meets a range is that from one number to before another.
+    Overlapping(Range, u16, u16),
+    /// What stands from a key on is that from one number to before another.
+    From(i32, u16, u16),
+    /// The pieces and the gaps from within the range with one number to within that with another.
+    Within(u16, u16),
+    /// The first piece of a range, with its value, where there is one.
+    Piece(Range, Option<(Range, Option<i64>)>),
+    /// The first and the last gap of a range.
+    Gaps(Range, Range, Range),
+    /// All of a range is bound.
+    BindsAll(Range, bool),
 }
 
-impl Table<NumberItem> for Within {
+fn begins<C: Storage<NumberItem>>(
+    map: &Map<C>,
+    range: Range,
+    first: Option<(Range, Option<i64>)>,
+) -> bool {
+    let given = map.pieces(&range).next();
+    match first {
+        Some(piece) => is_piece(given, piece),
+        None => given.is_none(),
+    }
+}
+
+/// Whether what is looked up is shown.
+fn finds<C: Storage<NumberItem>>(map: &Map<C>, look: Look) -> Result<bool, AllocError> {
+    match look {
+        Look::Overlapping(range, first, end) => {
+            shows_from_both_ends(&mut map.overlapping(range), first, end)
+        }
+        Look::From(key, first, end) => shows_from_both_ends(&mut map.iter_from(key), first, end),
+        Look::Within(first, last) => {
+            let pieces = shows_pieces(map, first, last) && shows_pieces_back(map, first, last);
+            Ok(pieces && shows_gaps(map, first, last))
+        }
+        Look::Piece(range, first) => Ok(begins(map, range, first)),
+        Look::Gaps(range, first, last) => Ok(has_gap_ends(map, range, first, last)),
+        Look::BindsAll(range, all) => Ok(map.binds_all(range) == all),
+    }
+}
+
+/// What is looked up in a map of so many ranges.
+#[derive(Clone, Copy)]
+struct Looks<'a> {
+    count: u16,
+    looks: &'a [Look],
+}
+
+impl<'a> Table<NumberItem> for Looks<'a> {
     fn first_wrong<C: Storage<NumberItem>>(
         &self,
         alloc: Global,
     ) -> Result<Option<usize>, MapError> {
         let map = filled::<C>(alloc, self.count)?;
-        let (first, last) = (self.first, self.last);
-        let range = half_open(at(first).wrapping_add(1), at(last).wrapping_add(1));
-        let end = last.wrapping_add(1);
-        Ok(first_false(&[
-            shows(&mut map.overlapping(range), first, end),
-            shows_back(&mut map.overlapping(range), first, end),
-            shows_from_both_ends(&mut map.overlapping(range), first, end)?,
-            shows_from_both_ends(
-                &mut map.iter_from(at(first).wrapping_add(1)),
-                first,
-                self.count,
-            )?,
-            has_pieces(&map, &range, first, last)?,
-            has_gaps(&map, &range, first, last)?,
-            !map.binds_all(range),
-        ]))
+        for (index, look) in self.looks.iter().enumerate() {
+            if !finds(&map, *look)? {
+                return Ok(Some(index));
+            }
+        }
+        Ok(None)
     }
 }
 
-/// Look-ups that find nothing, or all.
-struct Edges;
-
-impl Table<NumberItem> for Edges {
-    fn first_wrong<C: Storage<NumberItem>>(
-        &self,
-        alloc: Global,
-    ) -> Result<Option<usize>, MapError> {
-        let map = filled::<C>(alloc, 60)?;
-        let none = new_map::<C>(alloc);
-        let full = AnyRange::new(Unbounded, Unbounded);
-        let empty = half_open(8, 4);
-        let gap = AnyRange::new(Excluded(1), Excluded(4));
-        Ok(first_false(&[
-            is_done(&mut none.overlapping(full)) && is_done(&mut none.iter_from(0)),
-            is_done(&mut map.overlapping(empty)) && map.pieces(&empty).next().is_none(),
-            is_done(&mut map.overlapping(gap)) && is_done(&mut map.iter_from(240)),
-            is_piece(map.pieces(&gap).next(), &gap, None)?,
-            is_gap(map.gaps_within(&gap).next_back(), &gap)?,
-            is_gap(none.gaps_within(&full).next(), &full)?,
-            is_gap(
-                map.gaps_within(&full).next(),
-                &AnyRange::new(Unbounded, Excluded(0)),
-            )?,
-            is_gap(
-                map.gaps_within(&full).next_back(),
-                &AnyRange::new(Included(238), Unbounded),
-            )?,
-            map.binds_all(empty) && !none.binds_all(full) && map.binds_all(numbered(59)),
-            shows_from_both_ends(&mut map.iter_from(-1), 0, 60)?,
-            shows_from_both_ends(&mut map.overlapping(full), 0, 60)?,
-        ]))
-    }
+/// All that is looked up from within one range to within another of so many.
+fn looks_within(first: u16, last: u16, count: u16) -> [Look; 4] {
+    [
+        Look::Overlapping(inside(first, last), first, last.wrapping_add(1)),
+        Look::From(4 * i32::from(first) + 1, first, count),
+        Look::Within(first, last),
+        Look::BindsAll(inside(first, last), false),
+    ]
 }
 
 #[test]
 fn a_range_shows_what_it_meets(rt: HostRuntime) -> Result<(), Fail> {
-    for (count, first, last) in [
-        (3, 1, 2),
-        (2, 0, 1),
-        (60, 0, 59),
-        (400, 7, 391),
-        (400, 200, 201),
-    ] {
-        check(&rt, rt.alloc(), &Within { count, first, last })?;
-    }
-    check(&rt, rt.alloc(), &Edges)
+    let tables = [
+        Looks {
+            count: 3,
+            looks: &looks_within(1, 2, 3),
+        },
+        Looks {
+            count: 2,
+            looks: &looks_within(0, 1, 2),
+        },
+        Looks {
+            count: 60,
+            looks: &looks_within(0, 59, 60),
+        },
+        Looks {
+            count: 400,
+            looks: &looks_within(7, 391, 400),
+        },
+        Looks {
+            count: 400,
+            looks: &looks_within(200, 201, 400),
+        },
+    ];
+    check_each(&rt, rt.alloc(), &tables)
+}
+
+#[test]
+fn a_range_shows_nothing_or_all(rt: HostRuntime) -> Result<(), Fail> {
+    let full = between(Unbounded, Unbounded);
+    let empty = half_open(8, 4);
+    let gap = between(Excluded(1), Excluded(4));
+    let of_none = [
+        Look::Overlapping(full, 0, 0),
+        Look::From(0, 0, 0),
+        Look::Gaps(full, full, full),
+        Look::BindsAll(full, false),
+    ];
+    let of_sixty = [
+        Look::Overlapping(empty, 0, 0),
+        Look::Piece(empty, None),
+        Look::Overlapping(gap, 0, 0),
+        Look::From(240, 60, 60),
+        Look::Piece(gap, Some((gap, None))),
+        Look::Gaps(gap, gap, gap),
+        Look::Gaps(
+            full,
+            between(Unbounded, Excluded(0)),
+            between(Included(238), Unbounded),
+        ),
+        Look::BindsAll(empty, true),
+        Look::BindsAll(numbered(59), true),
+        Look::From(-1, 0, 60),
+        Look::Overlapping(full, 0, 60),
+    ];
+    let tables = [
+        Looks {
+            count: 0,
+            looks: &of_none,
+        },
+        Looks {
+            count: 60,
+            looks: &of_sixty,
+        },
+    ];
+    check_each(&rt, rt.alloc(), &tables)
 }

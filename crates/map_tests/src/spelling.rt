@@ -1,7 +1,8 @@
 //! How an update leaves bounds written.
 
 use crate::support::{
-    Answers, NumberItem, Range, Table, between, check, closed, half_open, insert, new_map, update,
+    Answers, NumberItem, Range, Table, between, check, check_each, closed, half_open, insert,
+    new_map, update,
 };
 use range_map::map::{MapError, RangeMap};
 use range_store::storage::Storage;
@@ -171,8 +172,5 @@ impl Table<NumberItem> for Many {
 /// Over trees of one, of two and of three levels.
 #[test]
 fn many_ranges_keep_their_bounds(rt: HostRuntime) -> Result<(), Fail> {
-    let alloc = rt.alloc();
-    check(&rt, alloc, &Many(3))?;
-    check(&rt, alloc, &Many(30))?;
-    check(&rt, alloc, &Many(120))
+    check_each(&rt, rt.alloc(), &[Many(3), Many(30), Many(120)])
 }

@@ -32,6 +32,38 @@ pub fn half_open(first: i32, end: i32) -> Range {
     AnyRange::new(Bound::Included(first), Bound::Excluded(end))
 }
 
+fn bound_of<K: Copy>(bound: Bound<&K>) -> Bound<K> {
+    match bound {
+        Bound::Included(key) => Bound::Included(*key),
+        Bound::Excluded(key) => Bound::Excluded(*key),
+        Bound::Unbounded => Bound::Unbounded,
+    }
+}
+
+/// The same part of a range, over keys of its own.
+pub fn range_of<K: Copy>(part: AnyRange<&K>) -> AnyRange<K> {
+    AnyRange::new(bound_of(part.start), bound_of(part.end))
+}
+
+/// The keys so far after the start of the range with a number.
+pub fn stretch(number: u16, from: i32, to: i32) -> Range {
+    let start = 4 * i32::from(number);
+    half_open(start.wrapping_add(from), start.wrapping_add(to))
+}
+
+/// The range with this number: two keys, and two free ones after them.
+pub fn numbered(number: u16) -> Range {
+    stretch(number, 0, 2)
+}
+
+/// Whether just the range with the number is shown, with its value.
+pub fn is_numbered(shown: Option<(&Range, &i64)>, number: u16) -> bool {
+    match shown {
+        Some((range, value)) => *range == numbered(number) && *value == i64::from(number),
+        None => false,
+    }
+}
+
 pub fn new_map<C: Storage<NumberItem>>(alloc: Global) -> RangeMap<i32, i64, C> {
     RangeMap::new(alloc)
 }
@@ -99,6 +131,30 @@ pub fn update<C: Storage<NumberItem>>(
     map.update(range, |shown| answer(answers, asked, shown.copied()))
 }
 
+/// A map of the first so many numbered ranges, each bound to its number.
+pub fn filled<C: Storage<NumberItem>>(
+    alloc: Global,
+    count: u16,
+) -> Result<RangeMap<i32, i64, C>, MapError> {
+    let mut map = new_map(alloc);
+    for number in 0..count {
+        insert(&mut map, numbered(number), i64::from(number))?;
+    }
+    Ok(map)
+}
+
+/// A map that binds the rows.
+pub fn map_of<C: Storage<NumberItem>>(
+    alloc: Global,
+    rows: &[Row],
+) -> Result<RangeMap<i32, i64, C>, MapError> {
+    let mut map = new_map(alloc);
+    for (first, last, value) in rows {
+        insert(&mut map, closed(*first, *last), *value)?;
+    }
+    Ok(map)
+}
+
 pub fn intersects<C: Storage<NumberItem>>(map: &RangeMap<i32, i64, C>, range: Range) -> bool {
     map.intersects(range)
 }
@@ -154,6 +210,33 @@ pub enum Step<'a> {
     Stores(&'a [Row]),
 }
 
+/// Whether the range and the value are handed back just where that is told.
+fn inserts_apart<C: Storage<NumberItem>>(
+    map: &mut RangeMap<i32, i64, C>,
+    range: Range,
+    value: i64,
+    refused: bool,
+) -> bool {
+    let given = insert_disconnected(map, range, value);
+    given == if refused { Some((range, value)) } else { None }
+}
+
+/// Whether an update ends so, and its closure is asked so often.
+fn updates_so<C: Storage<NumberItem>>(
+    map: &mut RangeMap<i32, i64, C>,
+    range: Range,
+    answers: Answers<'_>,
+    error: Option<i64>,
+    times: Asked,
+) -> bool {
+    let asked = Cell::new((0, 0));
+    let outcome = match error {
+        Some(error) => Err(UpdateError::Closure(error)),
+        None => Ok(()),
+    };
+    update(map, range, answers, &asked) == outcome && asked.get() == times
+}
+
 /// Makes the call, or tells whether it is so.
 pub fn holds<C: Storage<NumberItem>>(
     map: &mut RangeMap<i32, i64, C>,
@@ -163,16 +246,10 @@ pub fn holds<C: Storage<NumberItem>>(
         Step::Insert(range, value) => insert(map, range, value)?,
         Step::Remove(range) => remove(map, range)?,
         Step::InsertDisconnected(range, value, refused) => {
-            let given = insert_disconnected(map, range, value);
-            return Ok(given == if refused { Some((range, value)) } else { None });
+            return Ok(inserts_apart(map, range, value, refused));
         }
         Step::Update(range, answers, error, times) => {
-            let asked = Cell::new((0, 0));
-            let outcome = match error {
-                Some(error) => Err(UpdateError::Closure(error)),
-                None => Ok(()),
-            };
-            return Ok(update(map, range, answers, &asked) == outcome && asked.get() == times);
+            return Ok(updates_so(map, range, answers, error, times));
         }
         Step::Intersects(range, meets) => return Ok(intersects(map, range) == meets),
         Step::Count(count) => {
@@ -244,6 +321,23 @@ pub fn check<R: Abort, S: Drop, T: Table<S>>(rt: &R, alloc: Global, table: &T) -
     let wrong = first_wrong_over_tree(alloc, table)?;
     assert_eq!(rt; wrong, None, "the index of a row, over a tree");
     Ok(())
+}
+
+/// Each row of each table has to hold over either container.
+pub fn check_each<R: Abort, S: Drop, T: Table<S>>(
+    rt: &R,
+    alloc: Global,
+    tables: &[T],
+) -> Result<(), Fail> {
+    for table in tables {
+        check(rt, alloc, table)?;
+    }
+    Ok(())
+}
+
+/// The place of a row that does not hold.
+pub fn wrong_unless(holds: bool) -> Option<usize> {
+    if holds { None } else { Some(0) }
 }
 
 /// What comes of two maps over a vector and a tree.

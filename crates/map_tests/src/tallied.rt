@@ -6,7 +6,7 @@ ghost use Rattle.std.specs.Cmp.{int_cmp_total, on_total, eq_by_cmp_equiv, partia
 ghost use Rattle.range_keys.specs.Untold.{untold_order, untold_lawful, untold_measured};
 ghost use Rattle.map_tests.specs.declared.tallied.Tallied.{Tallied};
 
-use crate::support::{Table, check};
+use crate::support::{Table, check_each};
 use range_algebra::any::AnyRange;
 use range_keys::traits::{MaybeBounded, Measure, PartialEnum};
 use range_map::map::{MapError, RangeMap};
@@ -387,8 +387,15 @@ impl Table<Entry> for Calls {
 
 #[test]
 fn each_comparison_of_keys_is_a_step(rt: HostRuntime) -> Result<(), Fail> {
-    for (count, calls) in [(40, AMONG_FORTY), (4000, AMONG_MANY)] {
-        check(&rt, rt.alloc(), &Calls { count, calls })?;
-    }
-    Ok(())
+    let tables = [
+        Calls {
+            count: 40,
+            calls: AMONG_FORTY,
+        },
+        Calls {
+            count: 4000,
+            calls: AMONG_MANY,
+        },
+    ];
+    check_each(&rt, rt.alloc(), &tables)
 }

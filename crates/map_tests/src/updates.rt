@@ -1,11 +1,4 @@
-use crate::support::{
-    Answers, NumberItem, Row, Step, Table, check, closed, half_open, insert, new_map, play,
-    range_count, stores, update, value_at,
-};
-use range_map::map::{MapError, RangeMap};
-use range_store::storage::Storage;
-use std::alloc::Global;
-use std::cell::Cell;
+use crate::support::{Answers, Step, closed, half_open, play};
 use std::test::Fail;
 
 #[test]
@@ -95,51 +88,4 @@ fn an_empty_range_asks_nothing(rt: HostRuntime) -> Result<(), Fail> {
         Step::Stores(&[(0, 4, 1), (10, 14, 2)]),
     ];
     play(&rt, rt.alloc(), &steps)
-}
-
-/// Binds what there is memory for, and updates it from one key to before another. Returns whether
-/// all of that is done, or nothing.
-fn all_or_nothing<C: Storage<NumberItem>>(
-    map: &mut RangeMap<i32, i64, C>,
-    first: i32,
-    end: i32,
-) -> bool {
-    let rows: &[Row] = &[(0, 4, 1), (10, 14, 2), (15, 19, 3), (30, 39, 4)];
-    for (first, last, value) in rows {
-        let _ = insert(map, closed(*first, *last), *value);
-    }
-    if range_count(map) < 4 {
-        return true;
-    }
-    let seven: Answers<'_> = &[(None, Ok(Some(7)))];
-    match update(map, half_open(first, end), seven, &Cell::new((0, 0))) {
-        Ok(()) => value_at(map, first).is_some(),
-        Err(_) => stores(map, rows),
-    }
-}
-
-/// Ranges of which each is updated as a whole or, where an allocation fails, not at all.
-#[derive(Clone, Copy)]
-struct Untorn<'a>(&'a [(i32, i32)]);
-
-impl<'a> Table<NumberItem> for Untorn<'a> {
-    fn first_wrong<C: Storage<NumberItem>>(
-        &self,
-        alloc: Global,
-    ) -> Result<Option<usize>, MapError> {
-        for (index, (first, end)) in self.0.iter().enumerate() {
-            let mut map = new_map::<C>(alloc);
-            if !all_or_nothing(&mut map, *first, *end) {
-                return Ok(Some(index));
-            }
-        }
-        Ok(None)
-    }
-}
-
-/// Four ranges of bound pieces and their gaps.
-#[test]
-fn a_refused_update_changes_nothing(rt: HostRuntime) -> Result<(), Fail> {
-    let ranges = [(-5, 45), (2, 33), (11, 13), (21, 28)];
-    check(&rt, rt.alloc(), &Untorn(&ranges))
 }

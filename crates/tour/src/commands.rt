@@ -1,7 +1,6 @@
 //! The examples of the calls that take commands, and of a search in a list that is no map.
 
-use crate::map_calls::{Entry, Map, ones, ones_over};
-use btree_range_map::btree::BoxStorage;
+use crate::map_calls::{Entry, Map, ones};
 use btree_range_map::generic::map::{Command, Reply, answer, binary_search, run, run_counted};
 use btree_range_map::storage::{Item, Steps, Storage};
 use btree_range_map::{AnyRange, IntoRange, RangeMap};
@@ -44,9 +43,13 @@ fn are_done_and_seven(replies: &[Reply<i32, i64, u8>]) -> bool {
     matches!(replies, [Reply::Done, Reply::Value(Some(7))])
 }
 
-fn played<R: Abort, C: Storage<Entry>>(rt: &R, alloc: Global) -> Result<(), Fail> {
-    answered(rt, &mut ones_over::<C>(alloc)?);
-    let replies = answered_in_turn(alloc, &mut ones_over::<C>(alloc)?)?;
+fn played<R: Abort, C: Storage<Entry>>(
+    rt: &R,
+    alloc: Global,
+    map: &mut Map<C>,
+) -> Result<(), Fail> {
+    answered(rt, map);
+    let replies = answered_in_turn(alloc, map)?;
     assert!(rt; are_done_and_seven(replies.as_slice()));
     Ok(())
 }
@@ -62,7 +65,8 @@ fn given_and_counted(rt: HostRuntime) -> Result<(), Fail> {
 
 #[test]
 fn given(rt: HostRuntime) -> Result<(), Fail> {
-    played::<_, BoxStorage<Entry>>(&rt, rt.alloc())
+    let mut map = ones(rt.alloc())?;
+    played(&rt, rt.alloc(), &mut map)
 }
 
 /// An item of one key.

@@ -87,16 +87,24 @@ fn tried<R: Abort, C: Storage<Entry>>(rt: &R, map: &mut Map<C>) {
     assert!(rt; map.try_insert(8..12, 3).is_err()); // 5..9 is in the way
 }
 
-fn appended<R: Abort, C: Storage<Entry>>(rt: &R, map: &mut Map<C>, other: &mut Map<C>) {
+fn appended<R: Abort, C: Storage<Entry>, D: Storage<Entry>>(
+    rt: &R,
+    map: &mut Map<C>,
+    other: &mut Map<D>,
+) {
     // of a map that binds 0..=5 to 1, and one that binds 6..9 to 1
     assert!(rt; map.append(other).is_ok());
     assert!(rt; map.range_count() == 1 && other.is_empty()); // 0..9
 }
 
-fn put_together<R: Abort, C: Storage<Entry>>(rt: &R, alloc: Global) -> Result<(), MapError> {
-    let mut other: Map<C> = generic::RangeMap::new(alloc);
-    bind_ones(&mut other, 6..9)?;
-    appended(rt, &mut ones_over::<C>(alloc)?, &mut other);
+fn put_after<R: Abort, C: Storage<Entry>>(
+    rt: &R,
+    alloc: Global,
+    map: &mut Map<C>,
+) -> Result<(), MapError> {
+    let mut other: RangeMap<i32, i64> = RangeMap::new(alloc);
+    other.insert(6..9, 1)?;
+    appended(rt, map, &mut other);
     Ok(())
 }
 
@@ -214,19 +222,59 @@ fn looked_at<R: Abort, C: Storage<Entry>>(rt: &R, map: &Map<C>) -> Result<(), Ma
     Ok(())
 }
 
-fn changed<R: Abort, C: Storage<Entry>>(rt: &R, alloc: Global) -> Result<(), MapError> {
-    updated(rt, &mut ones_over::<C>(alloc)?);
-    popped(rt, &mut ones_over::<C>(alloc)?);
-    popped_at_end(rt, &mut ones_over::<C>(alloc)?);
-    cleared(rt, &mut ones_over::<C>(alloc)?);
-    retained(rt, &mut ones_over::<C>(alloc)?);
-    tried(rt, &mut Map::<C>::new(alloc));
-    extended(rt, &mut Map::<C>::new(alloc))?;
-    made(rt, alloc)?;
-    put_together::<R, C>(rt, alloc)?;
-    split(rt, &mut ones_over::<C>(alloc)?)?;
-    bound_apart::<R, C>(rt, &mut generic::RangeMap::new(alloc));
-    counted::<R, C>(rt, &mut generic::RangeMap::new(alloc))
+fn clear<C: Storage<Entry>>(map: &mut Map<C>) {
+    map.clear();
+}
+
+/// Makes a map bind just 0..=5, to 1.
+fn rebind<C: Storage<Entry>>(map: &mut Map<C>) -> Result<(), MapError> {
+    clear(map);
+    bind_ones(map, 0..6)
+}
+
+fn emptied<R: Abort, C: Storage<Entry>>(rt: &R, map: &mut Map<C>) -> Result<(), MapError> {
+    rebind(map)?;
+    popped(rt, map);
+    rebind(map)?;
+    popped_at_end(rt, map);
+    rebind(map)?;
+    cleared(rt, map);
+    rebind(map)?;
+    retained(rt, map);
+    Ok(())
+}
+
+fn filled<R: Abort, C: Storage<Entry>>(rt: &R, map: &mut Map<C>) -> Result<(), MapError> {
+    clear(map);
+    tried(rt, map);
+    clear(map);
+    extended(rt, map)?;
+    clear(map);
+    bound_apart(rt, map);
+    clear(map);
+    counted(rt, map)
+}
+
+fn moved<R: Abort, C: Storage<Entry>>(
+    rt: &R,
+    alloc: Global,
+    map: &mut Map<C>,
+) -> Result<(), MapError> {
+    rebind(map)?;
+    split(rt, map)?;
+    rebind(map)?;
+    put_after(rt, alloc, map)
+}
+
+fn changed<R: Abort, C: Storage<Entry>>(
+    rt: &R,
+    alloc: Global,
+    map: &mut Map<C>,
+) -> Result<(), MapError> {
+    updated(rt, map);
+    emptied(rt, map)?;
+    moved(rt, alloc, map)?;
+    filled(rt, map)
 }
 
 fn compared_with_vector<R: Abort, C: Storage<Entry>>(
@@ -241,19 +289,20 @@ fn compared_with_vector<R: Abort, C: Storage<Entry>>(
 fn played<R: Abort, C: Storage<Entry>>(
     rt: &R,
     alloc: Global,
-    map: &Map<C>,
+    map: &mut Map<C>,
 ) -> Result<(), MapError> {
     looked_at(rt, map)?;
-    changed::<R, C>(rt, alloc)?;
     put_together(rt, alloc, map)?;
-    compared_with_vector(rt, alloc, map)
+    compared_with_vector(rt, alloc, map)?;
+    changed(rt, alloc, map)
 }
 
 #[test]
 fn calls_of_a_map(rt: HostRuntime) -> Result<(), Fail> {
-    let map = ones(rt.alloc())?;
+    let mut map = ones(rt.alloc())?;
     // of a map that binds 0..=5 to 1
     assert!(rt; map.levels() == 1);
-    played(&rt, rt.alloc(), &map)?;
+    played(&rt, rt.alloc(), &mut map)?;
+    made(&rt, rt.alloc())?;
     Ok(())
 }

@@ -300,6 +300,16 @@ pub trait Played<T: Copy + PartialEq> {
     fn shows(&self, alloc: Global, text: &str) -> Result<bool, MapError>;
 }
 
+/// A new set of the keys of these ranges.
+pub fn set_of<T: Measure + Copy, C: Storage<Entry<T>>>(
+    alloc: Global,
+    rows: &[Keys<T>],
+) -> Result<RangeSet<T, C>, MapError>
+    requires { ClonesAreEqual T.is_clone T.eq }
+{
+    RangeSet::from_iter(alloc, rows.iter().map(|keys| range_of(*keys)))
+}
+
 impl<T: Key, C: Storage<Entry<T>>> Played<T> for RangeSet<T, C> {
     fn call(&mut self, keys: Keys<T>, what: Call) -> Result<bool, MapError>
         requires { ClonesAreEqual T.is_clone T.eq }
@@ -316,7 +326,7 @@ impl<T: Key, C: Storage<Entry<T>>> Played<T> for RangeSet<T, C> {
     fn gather(&mut self, alloc: Global, rows: &[Keys<T>]) -> Result<bool, MapError>
         requires { ClonesAreEqual T.is_clone T.eq }
     {
-        *self = RangeSet::from_iter(alloc, rows.iter().map(|keys| range_of(*keys)))?;
+        *self = set_of(alloc, rows)?;
         Ok(true)
     }
 

@@ -1,8 +1,7 @@
 //! Two sets at once, over either container each: how they lie to one another, and what they make
 //! together.
 use crate::tests::support::Keys::{self, Closed, HalfOpen, Starting, UpTo};
-use crate::tests::support::{Entry, Tree, Vector, range_of};
-use btree_range_map::AnyRange;
+use crate::tests::support::{Entry, Tree, Vector, set_of};
 use btree_range_map::generic::map::MapError;
 use btree_range_map::generic::set::RangeSet;
 use btree_range_map::storage::Storage;
@@ -90,50 +89,34 @@ static ROWS: &[Row<'static>] = &[
 
 /// Whether the two sets lie to one another as the row tells.
 fn lie_so<C: Storage<Entry<u8>>, D: Storage<Entry<u8>>>(
-    alloc: Global,
+    first: &RangeSet<u8, C>,
+    second: &RangeSet<u8, D>,
     row: &Row<'static>,
-) -> Result<bool, MapError> {
-    let first: RangeSet<u8, C> = RangeSet::from_iter(
-        alloc,
-        row.first.iter().map(|keys| range_of(*keys)),
-    )?;
-    let second: RangeSet<u8, D> = RangeSet::from_iter(
-        alloc,
-        row.second.iter().map(|keys| range_of(*keys)),
-    )?;
-    Ok(
-        first.is_disjoint(&second) == row.disjoint
-            && first.is_subset(&second) == row.subset
-            && first.is_superset(&second) == row.superset,
-    )
+) -> bool {
+    first.is_disjoint(second) == row.disjoint
+        && first.is_subset(second) == row.subset
+        && first.is_superset(second) == row.superset
 }
 
-/// Whether all rows agree, over these two containers.
-fn all_lie_so<C: Storage<Entry<u8>>, D: Storage<Entry<u8>>>(
+/// The index of the first row of which the sets lie otherwise, over these two containers.
+fn first_other<C: Storage<Entry<u8>>, D: Storage<Entry<u8>>>(
     alloc: Global,
-) -> Result<bool, MapError> {
-    for row in ROWS.iter() {
-        if !lie_so::<C, D>(alloc, row)? {
-            return Ok(false);
+) -> Result<Option<usize>, MapError> {
+    for (place, row) in ROWS.iter().enumerate() {
+        let first: RangeSet<u8, C> = set_of(alloc, row.first)?;
+        let second: RangeSet<u8, D> = set_of(alloc, row.second)?;
+        if !lie_so(&first, &second, row) {
+            return Ok(Some(place));
         }
     }
-    Ok(true)
+    Ok(None)
 }
 
 #[test]
-fn vectors_lie_to_vectors(rt: HostRuntime) -> Result<(), Fail> {
-    assert!(rt; all_lie_so::<Vector<u8>, Vector<u8>>(rt.alloc())?);
-    Ok(())
-}
-
-#[test]
-fn trees_lie_to_vectors(rt: HostRuntime) -> Result<(), Fail> {
-    assert!(rt; all_lie_so::<Tree<u8>, Vector<u8>>(rt.alloc())?);
-    Ok(())
-}
-
-#[test]
-fn vectors_lie_to_trees(rt: HostRuntime) -> Result<(), Fail> {
-    assert!(rt; all_lie_so::<Vector<u8>, Tree<u8>>(rt.alloc())?);
+fn sets_lie_so_to_one_another(rt: HostRuntime) -> Result<(), Fail> {
+    let vectors = first_other::<Vector<u8>, Vector<u8>>(rt.alloc())?;
+    let to_vectors = first_other::<Tree<u8>, Vector<u8>>(rt.alloc())?;
+    let to_trees = first_other::<Vector<u8>, Tree<u8>>(rt.alloc())?;
+    assert_eq!(rt; [vectors, to_vectors, to_trees], [None; 3]);
     Ok(())
 }

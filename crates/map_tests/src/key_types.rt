@@ -1,0 +1,266 @@
+//! Maps over bytes, wide numbers and characters: their gaps and lengths, and neighbours.
+ghost use Rattle.range_algebra.specs.Range.{ClonesAreEqual};
+
+use crate::support::{Answers, Asked, answer, range_of};
+use range_algebra::any::AnyRange;
+use range_algebra::range::IntoRange;
+use range_keys::traits::{Bounded, Measure};
+use range_map::map::{MapError, RangeMap, UpdateError};
+use range_store::btree::BoxStorage;
+use range_store::storage::{Item, Storage};
+use range_store::vec_storage::VecStorage;
+use std::alloc::{AllocError, Global};
+use std::cell::Cell;
+use std::ops::Bound::{self, Excluded, Included, Unbounded};
+use std::process::Abort;
+use std::test::Fail;
+
+type Entry<K> = Item<AnyRange<K>, i64>;
+
+/// A call on a map, or what has to hold of the map then.
+enum Step<'a, K> {
+    /// Binds the keys from the one bound to the other.
+    Insert(Bound<K>, Bound<K>, i64),
+    /// Binds one key.
+    InsertKey(K, i64),
+    /// Updates one key, for which the closure is asked so often. It binds what is free to 3.
+    UpdateKey(K, Asked),
+    /// How many ranges are stored, and how many keys they hold.
+    Size(usize, u128),
+    /// Each gap.
+    Gaps(&'a [(Bound<K>, Bound<K>)]),
+    /// The first key of the first gap, and how many keys that holds.
+    FirstGap(K, u128),
+    /// What a key is bound to.
+    Get(K, Option<i64>),
+}
+
+/// What a type of keys needs here.
+trait Key: Measure + Bounded + Copy + IntoRange<Item = Self> {}
+
+impl Key for u8 {}
+
+impl Key for u32 {}
+
+impl Key for u64 {}
+
+impl Key for char {}
+
+fn update_key<K: Key, C: Storage<Entry<K>>>(
+    map: &mut RangeMap<K, i64, C>,
+    key: K,
+    asked: &Cell<Asked>,
+) -> Result<(), UpdateError<i64>>
+    requires { ClonesAreEqual K.is_clone K.eq }
+{
+    let answers: Answers<'_> = &[(None, Ok(Some(3)))];
+    map.update(key, |shown| answer(answers, asked, shown.copied()))
+}
+
+/// Whether the update of a key is done, and its closure is asked so often.
+fn updates_so<K: Key, C: Storage<Entry<K>>>(
+    map: &mut RangeMap<K, i64, C>,
+    key: K,
+    times: Asked,
+) -> bool
+    requires { ClonesAreEqual K.is_clone K.eq }
+{
+    let asked = Cell::new((0, 0));
+    update_key(map, key, &asked).is_ok() && asked.get() == times
+}
+
+fn has_size<K: Key, C: Storage<Entry<K>>>(
+    map: &RangeMap<K, i64, C>,
+    count: usize,
+    len: u128,
+) -> bool {
+    map.range_count() == count
+        && map.len() == len
+        && map.bounded_len() == Some(len)
+        && map.is_empty() == (len == 0)
+}
+
+/// Whether these are the gaps, after which there is none.
+fn has_gaps<K: Key, C: Storage<Entry<K>>>(
+    map: &RangeMap<K, i64, C>,
+    rows: &[(Bound<K>, Bound<K>)],
+) -> bool {
+    let mut gaps = map.gaps();
+    for (start, end) in rows {
+        match gaps.next() {
+            Some(gap) if range_of(gap) == AnyRange::new(*start, *end) => (),
+            _ => return false,
+        }
+    }
+    gaps.next().is_none() && gaps.next().is_none()
+}
+
+fn has_first_gap<K: Key, C: Storage<Entry<K>>>(
+    map: &RangeMap<K, i64, C>,
+    first: K,
+    len: u128,
+) -> Result<bool, AllocError> {
+    match map.gaps().next() {
+        Some(gap) => {
+            let gap = range_of(gap);
+            Ok(gap.len() == len && gap.first()? == Some(first))
+        }
+        None => Ok(false),
+    }
+}
+
+/// Makes the call, or tells whether it is so.
+fn holds<K: Key, C: Storage<Entry<K>>>(
+    map: &mut RangeMap<K, i64, C>,
+    step: &Step<'_, K>,
+) -> Result<bool, MapError>
+    requires { ClonesAreEqual K.is_clone K.eq }
+{
+    match step {
+        Step::Insert(start, end, value) => map.insert(AnyRange::new(*start, *end), *value)?,
+        Step::InsertKey(key, value) => map.insert(*key, *value)?,
+        Step::UpdateKey(key, times) => return Ok(updates_so(map, *key, *times)),
+        Step::Size(count, len) => return Ok(has_size(map, *count, *len)),
+        Step::Gaps(rows) => return Ok(has_gaps(map, rows)),
+        Step::FirstGap(first, len) => return Ok(has_first_gap(map, *first, *len)?),
+        Step::Get(key, value) => return Ok(map.get(*key).copied() == *value),
+    }
+    Ok(true)
+}
+
+/// Takes the steps in turn on a new map. Returns the index of the first that does not hold.
+fn first_wrong<K: Key, C: Storage<Entry<K>>>(
+    alloc: Global,
+    steps: &[Step<'_, K>],
+) -> Result<Option<usize>, MapError>
+    requires { ClonesAreEqual K.is_clone K.eq }
+{
+    let mut map: RangeMap<K, i64, C> = RangeMap::default(alloc);
+    for (index, step) in steps.iter().enumerate() {
+        if !holds(&mut map, step)? {
+            return Ok(Some(index));
+        }
+    }
+    Ok(None)
+}
+
+/// Each step of each list has to hold, over either container.
+fn play<K: Key>(rt: &impl Abort, alloc: Global, lists: &[&[Step<'_, K>]]) -> Result<(), Fail>
+    requires { ClonesAreEqual K.is_clone K.eq }
+{
+    for (place, steps) in lists.iter().enumerate() {
+        let over_vector = first_wrong::<K, VecStorage<Entry<K>>>(alloc, steps)?;
+        let over_tree = first_wrong::<K, BoxStorage<Entry<K>>>(alloc, steps)?;
+        assert_eq!(rt;
+            (over_vector, over_tree),
+            (None, None),
+            "steps of list {place}"
+        );
+    }
+    Ok(())
+}
+
+/// Bytes at the edges of their type, and ranges that touch.
+static BYTES: &[&[Step<'static, u8>]] = &[
+    &[
+        Step::Gaps(&[(Unbounded, Unbounded)]),
+        Step::Size(0, 0),
+        Step::Get(0, None),
+    ],
+    &[
+        Step::Insert(Unbounded, Unbounded, 1),
+        Step::Gaps(&[]),
+        Step::Size(1, 256),
+    ],
+    &[
+        Step::Insert(Included(0), Included(255), 1),
+        Step::Gaps(&[]),
+        Step::Size(1, 256),
+    ],
+    &[
+        Step::Insert(Included(0), Unbounded, 1),
+        Step::Gaps(&[]),
+        Step::Size(1, 256),
+    ],
+    &[
+        Step::Insert(Unbounded, Included(255), 1),
+        Step::Gaps(&[]),
+        Step::Size(1, 256),
+    ],
+    &[
+        Step::Insert(Included(255), Unbounded, 1),
+        Step::Gaps(&[(Unbounded, Excluded(255))]),
+        Step::Size(1, 1),
+    ],
+    &[
+        Step::Insert(Unbounded, Excluded(10), 1),
+        Step::Insert(Included(20), Unbounded, 1),
+        Step::Gaps(&[(Included(10), Excluded(20))]),
+        Step::Size(2, 246),
+    ],
+    &[
+        Step::Insert(Included(3), Excluded(5), 1),
+        Step::Insert(Included(5), Unbounded, 2),
+        Step::Gaps(&[(Unbounded, Excluded(3))]),
+        Step::Size(2, 253),
+    ],
+    &[
+        Step::Insert(Excluded(3), Excluded(5), 1),
+        Step::Insert(Excluded(6), Included(8), 1),
+        Step::Gaps(&[
+            (Unbounded, Included(3)),
+            (Included(5), Included(6)),
+            (Excluded(8), Unbounded),
+        ]),
+        Step::Size(2, 3),
+    ],
+];
+
+#[test]
+fn gaps_and_lengths_of_bytes(rt: HostRuntime) -> Result<(), Fail> {
+    play(&rt, rt.alloc(), BYTES)
+}
+
+static WIDEST: &[&[Step<'static, u64>]] = &[&[
+    Step::Insert(Unbounded, Unbounded, 1),
+    Step::Size(1, 18_446_744_073_709_551_616),
+]];
+
+#[test]
+fn the_widest_range_is_counted(rt: HostRuntime) -> Result<(), Fail> {
+    play(&rt, rt.alloc(), WIDEST)
+}
+
+static BEHIND_ZERO: &[&[Step<'static, u32>]] = &[&[
+    Step::Insert(Included(0), Included(0), 1),
+    Step::Gaps(&[(Included(1), Unbounded)]),
+    Step::Gaps(&[(Excluded(0), Unbounded)]),
+    Step::FirstGap(1, 4_294_967_295),
+]];
+
+#[test]
+fn the_gap_behind_the_first_key(rt: HostRuntime) -> Result<(), Fail> {
+    play(&rt, rt.alloc(), BEHIND_ZERO)
+}
+
+/// A gap of one key, and keys beside those that are no characters.
+static CHARACTERS: &[&[Step<'static, char>]] = &[
+    &[
+        Step::Insert(Included('+'), Included('+'), 0),
+        Step::Insert(Included('.'), Included('.'), 1),
+        Step::Insert(Included('0'), Included('9'), 2),
+        Step::UpdateKey('-', (0, 1)),
+        Step::Size(4, 13),
+        Step::Get('-', Some(3)),
+    ],
+    &[
+        Step::InsertKey('\u{D7FF}', 1),
+        Step::InsertKey('\u{E000}', 1),
+        Step::Size(1, 2),
+    ],
+];
+
+#[test]
+fn gaps_and_neighbours_of_characters(rt: HostRuntime) -> Result<(), Fail> {
+    play(&rt, rt.alloc(), CHARACTERS)
+}
