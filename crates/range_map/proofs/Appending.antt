@@ -314,6 +314,7 @@ module _ {K : Type 0} (order : KeyOrder K) (lawful : IsLawful order) {V : Type 0
       (le_refl (places order lawful) total hi, tt) in (
         λ before. lie_before_from hi (front ++ i ∷ []) (j ∷ rest) known others_known ends
             (chain_above line hi j rest others_chain
-            ((before_is order lawful i.key.end j.key.start last_known.1 others_known.0.0).0 before)),
+            ((before_is order lawful i.key.end j.key.start last_known.1 others_known.0.0).0
+            before)),
         λ all. (every_right _ front (i ∷ []) all).0.0,
       )

@@ -102,7 +102,8 @@ module _ {K : Type 0} (order : KeyOrder K) where
       → ((b : Option (Unit {0})) → Binds order same new k b ↔ IsAsAnswered same answer b)
       → IsTrue (is_some answer) ↔ HoldsKey order new k
   answered_is same equal new k None is = bound_is same new k None ((is None).1 refl)
-  answered_is same equal new k (Some v) is = bound_is same new k (Some v) ((is (Some v)).1 (equal v))
+  answered_is same equal new k (Some v) is =
+      bound_is same new k (Some v) ((is (Some v)).1 (equal v))
 
   -- a closure that answers as a test says keeps the keys as the test says
   pub combined_kept : {E : Type 0} (same : Unit {0} → Unit {0} → Bool)

@@ -28,8 +28,8 @@ module _ {K V : Type 0} where
         (state h.0, asks s i b h.0 h.1, asked_in_turn bs items h.0 t h.2)
 
     -- a closure that asks another of each range keeps just those that the other does
-    pub ranges_filtered : (s : S) (items new : List (Item (AnyRange K) V)) → IsFiltered R s items new
-        → IsFiltered Q (state s) (item_ranges items) (item_ranges new)
+    pub ranges_filtered : (s : S) (items new : List (Item (AnyRange K) V))
+        → IsFiltered R s items new → IsFiltered Q (state s) (item_ranges items) (item_ranges new)
     ranges_filtered s items new h = (
       h.0,
       state h.1,

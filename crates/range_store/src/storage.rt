@@ -216,8 +216,8 @@ pub trait Storage<T>: Drop {
 
     /// Takes the item at the position out, and returns it with the position of the one after it.
     ///
-    /// Never fails, and leaves room for one more item than there was. A vector moves all items after
-    /// it, a B-tree changes nodes up to its root.
+    /// Never fails, and leaves room for one more item than there was. A vector moves all items
+    /// after it, a B-tree changes nodes up to its root.
     fn remove_at(&mut self, p: Self::Position) -> (T, Option<Self::Position>)
         requires { is_good self.old p }
         ensures removed { result.0 ≡ slice_index_or (items self.old) (rank self.old p) result.0 }

@@ -68,7 +68,8 @@ fn put_last<K: PartialEnum, V: Eq + Drop, C: Storage<Item<AnyRange<K>, V>>>(
     }
 }
 
-/// Moves the first of the other items after the last, or makes the two one where they are to be one.
+/// Moves the first of the other items after the last, or makes the two one where they are to be
+/// one.
 fn move_first<
     K: PartialEnum,
     V: Eq + Drop,

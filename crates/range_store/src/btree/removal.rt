@@ -55,8 +55,8 @@ pub fn borrow_from_right<T: Drop>(
     requires levelled { IsLevelled nodes.old low number index }
     requires spare { MIN_LEN < child_size nodes.old number (index + 1) }
     requires deep { low + 1 < MAX_LEVELS }
-    requires edge { IsEdge nodes.old low (slice_index (children_of (node_of nodes.old number)) index)
-        edge }
+    requires edge { IsEdge nodes.old low
+        (slice_index (children_of (node_of nodes.old number)) index) edge }
     ensures shrinks { Shrinks nodes.old nodes.new (suc low) number
         (items_below nodes.old (suc (suc low)) number) }
     ensures kept { length (items_of (node_of nodes.new number))
@@ -127,8 +127,8 @@ pub fn rebalance<T: Drop>(
 ) -> Edge
     requires short { MayBeRebalanced nodes.old low number index }
     requires deep { low + 1 < MAX_LEVELS }
-    requires edge { IsEdge nodes.old low (slice_index (children_of (node_of nodes.old number)) index)
-        edge }
+    requires edge { IsEdge nodes.old low
+        (slice_index (children_of (node_of nodes.old number)) index) edge }
     ensures shrinks { Shrinks nodes.old nodes.new (suc low) number
         (items_below nodes.old (suc (suc low)) number) }
     ensures lent { (k : ℕ) → IsLender nodes.old number index k

@@ -260,7 +260,10 @@ fn drawn_agree(alloc: Global, number: u32) -> Result<bool, MapError> {
 #[test]
 fn bytes_are_held_by_which_set_holds_them(rt: HostRuntime) -> Result<(), Fail> {
     for seed in 0u32..12 {
-        assert!(rt; drawn_agree(rt.alloc(), seed.wrapping_mul(77777))?, "{seed}");
+        assert!(rt;
+            drawn_agree(rt.alloc(), seed.wrapping_mul(77777))?,
+            "{seed}"
+        );
     }
     Ok(())
 }

@@ -9,5 +9,5 @@ returns-clause-held g c =
     let order = g.T.MaybeBounded.order in
     let items = g.C.Storage.items c.args.self.now in
     let others = g.D.Storage.items c.args.other.now in
-    IfOk-weaker c.kept.result _ _ (λ new kept. kept_first_alone order g.met.T.PartialEnum.lawful _ items
-    others (g.C.Storage.items new) kept (λ a b r is. search rules)) c.kept.ensures.kept
+    IfOk-weaker c.kept.result _ _ (λ new kept. kept_first_alone order g.met.T.PartialEnum.lawful _
+    items others (g.C.Storage.items new) kept (λ a b r is. search rules)) c.kept.ensures.kept

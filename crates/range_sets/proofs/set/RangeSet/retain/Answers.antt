@@ -25,5 +25,5 @@ returns-clause-filtered g c =
 pub returns-clause-kept : goal.returns-clause-kept
 returns-clause-kept g c =
     let items = g.C.Storage.items in
-    rw (← c.self.view_is) (still_held g.T.MaybeBounded.order g.met.T.PartialEnum.lawful (λ _ _. true)
-    (λ _ _. refl) (items c.self.inside.map) (items c.retain.new.self) c.retain.ensures.kept)
+    rw (← c.self.view_is) (still_held g.T.MaybeBounded.order g.met.T.PartialEnum.lawful
+    (λ _ _. true) (λ _ _. refl) (items c.self.inside.map) (items c.retain.new.self) c.retain.ensures.kept)
