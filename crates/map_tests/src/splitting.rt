@@ -122,7 +122,11 @@ impl Table<NumberItem> for Long {
         let mut map: Map<C> = new_map(alloc);
         for number in 0..self.count {
             let first = number.wrapping_mul(3);
-            insert(&mut map, closed(first, first.wrapping_add(1)), i64::from(number))?;
+            insert(
+                &mut map,
+                closed(first, first.wrapping_add(1)),
+                i64::from(number),
+            )?;
         }
         let count = map.range_count();
         for key in 0..self.count.wrapping_mul(3) {
