@@ -185,10 +185,10 @@ fn divide<K: PartialEnum + Clone, V: Eq + Clone, C: Storage<Item<AnyRange<K>, V>
 impl<K: PartialEnum + Clone, V: Eq + Clone, C: Storage<Item<AnyRange<K>, V>>> RangeMap<K, V, C> {
     /// Moves what lies from the key on, the key with it, to a map of its own, which is returned.
     ///
-    /// A stored range that holds the key is cut there, unless it starts there; all others stand as
-    /// they were. Allocates what the new map needs, and a clone of the key and of the value of the
-    /// range that is cut; after an error the map is as it was. Costs a step for each range that is
-    /// moved.
+    /// A stored range that holds the key is cut there, unless it starts there. Allocates what the
+    /// new map needs, and a clone of the key and of the value of the range that is cut; after an
+    /// error the map is as it was. Costs a step for each range that is moved, and one more; over a
+    /// vector each step moves all that were moved before.
     ///
     /// ```
     /// // of a map that binds 0..=5 to 1
