@@ -10,10 +10,10 @@ use Rattle.range_algebra.proofs.Meeting.{held_or_not}
 use Rattle.range_store.specs.declared.storage.Item.{Item}
 use Rattle.range_map.specs.Answers.{IsAsAnswered}
 use Rattle.range_map.specs.Bindings.{Binds}
-use Rattle.range_map.specs.Combining.{AreCombined, IsCombinedAt}
+use Rattle.range_map.specs.Combining.{AreCombined}
 use Rattle.range_map.proofs.Overlaps.{binds_bound}
 use Rattle.range_sets.specs.KeySets.{HoldsKey}
-use Rattle.range_sets.specs.TwoSets.{HoldsEither, HoldsBoth, HoldsFirstAlone, HoldsJustOne, IsKeptAt, AreKept}
+use Rattle.range_sets.specs.TwoSets.{HoldsEither, HoldsBoth, HoldsFirstAlone, HoldsJustOne, AreKept}
 
 -- two tests that are true in one case are one
 same_test : {P : Type 0} (a b : Bool) → (IsTrue a ↔ P) → (IsTrue b ↔ P) → a ≡ b

@@ -1,7 +1,6 @@
 use Rattle.std.proofs.Common.{rules}
 use Rattle.std.proofs.lemmas.Result.{IfOk-weaker}
 use Rattle.range_sets.proofs.KeptKeys.{kept_first_alone}
-use Rattle.range_sets.specs.TwoSets.{HoldsFirstAlone, AreKept}
 use Rattle.range_sets.proofs.set.RangeSet.difference.Goals as goal
 
 pub returns-clause-held : goal.returns-clause-held

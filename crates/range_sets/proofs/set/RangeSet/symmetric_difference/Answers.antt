@@ -1,7 +1,6 @@
 use Rattle.std.proofs.Common.{rules}
 use Rattle.std.proofs.lemmas.Result.{IfOk-weaker}
 use Rattle.range_sets.proofs.KeptKeys.{kept_just_one}
-use Rattle.range_sets.specs.TwoSets.{HoldsJustOne, AreKept}
 use Rattle.range_sets.proofs.set.RangeSet.symmetric_difference.Goals as goal
 
 pub returns-clause-held : goal.returns-clause-held

@@ -1,7 +1,6 @@
 use Rattle.std.proofs.Common.{rules}
 use Rattle.std.proofs.lemmas.Result.{IfOk-weaker}
 use Rattle.range_sets.proofs.KeptKeys.{kept_either}
-use Rattle.range_sets.specs.TwoSets.{HoldsEither, AreKept}
 use Rattle.range_sets.proofs.set.RangeSet.union.Goals as goal
 
 pub returns-clause-held : goal.returns-clause-held
