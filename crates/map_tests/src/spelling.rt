@@ -1,8 +1,8 @@
 //! How an update leaves bounds written.
 
 use crate::support::{
-    Answers, NumberItem, Range, Table, between, check, check_each, closed, half_open, insert,
-    new_map, update,
+    Answers, NumberItem, Range, Table, between, check, check_each, closed, filled, half_open,
+    insert, new_map, numbered, update, wrong_unless,
 };
 use range_map::map::{MapError, RangeMap};
 use range_store::storage::Storage;
@@ -39,6 +39,21 @@ fn writes<C: Storage<NumberItem>>(map: &RangeMap<i32, i64, C>, rows: &[Written])
     stored.next().is_none()
 }
 
+fn insert_all<C: Storage<NumberItem>>(
+    map: &mut RangeMap<i32, i64, C>,
+    rows: &[Written],
+) -> Result<(), MapError> {
+    for (range, value) in rows {
+        insert(map, *range, *value)?;
+    }
+    Ok(())
+}
+
+/// Whether the update is done, and leaves what it should.
+fn leaves<C: Storage<NumberItem>>(map: &mut RangeMap<i32, i64, C>, row: &Row<'_>) -> bool {
+    update(map, row.range, row.answers, &Cell::new((0, 0))).is_ok() && writes(map, row.left)
+}
+
 /// Updates that are each played on a new map.
 #[derive(Clone, Copy)]
 struct Updates<'a>(&'a [Row<'a>]);
@@ -50,11 +65,8 @@ impl<'a> Table<NumberItem> for Updates<'a> {
     ) -> Result<Option<usize>, MapError> {
         for (index, row) in self.0.iter().enumerate() {
             let mut map = new_map::<C>(alloc);
-            for (range, value) in row.stored {
-                insert(&mut map, *range, *value)?;
-            }
-            let done = update(&mut map, row.range, row.answers, &Cell::new((0, 0)));
-            if done.is_err() || !writes(&map, row.left) {
+            insert_all(&mut map, row.stored)?;
+            if !leaves(&mut map, row) {
                 return Ok(Some(index));
             }
         }
@@ -133,39 +145,35 @@ fn what_is_bound_anew_keeps_its_bounds(rt: HostRuntime) -> Result<(), Fail> {
     check(&rt, rt.alloc(), &Updates(&rows))
 }
 
-/// The first half of ten keys.
-fn first_half(number: u8) -> Range {
-    let first = 10 * i32::from(number);
-    half_open(first, first + 5)
+/// Updates all of so many ranges with the values that are shown. Returns the number of the first
+/// that is rewritten.
+fn first_rewritten<C: Storage<NumberItem>>(
+    map: &mut RangeMap<i32, i64, C>,
+    count: u16,
+) -> Option<usize> {
+    let range = closed(0, (4 * i32::from(count)).wrapping_sub(3));
+    let done = update(map, range, &[], &Cell::new((0, 0))).is_ok();
+    let mut stored = map.iter();
+    for number in 0..count {
+        match stored.next() {
+            Some((range, _)) if is_written(range, numbered(number)) => (),
+            _ => return Some(usize::from(number)),
+        }
+    }
+    wrong_unless(done && stored.next().is_none())
 }
 
-/// So many ranges, of which an update of all with the values that it is shown rewrites none.
+/// A map of so many ranges.
 #[derive(Clone, Copy)]
-struct Many(u8);
+struct Many(u16);
 
 impl Table<NumberItem> for Many {
     fn first_wrong<C: Storage<NumberItem>>(
         &self,
         alloc: Global,
     ) -> Result<Option<usize>, MapError> {
-        let mut map = new_map::<C>(alloc);
-        for number in 0..self.0 {
-            insert(&mut map, first_half(number), i64::from(number))?;
-        }
-        let range = closed(0, 10 * i32::from(self.0) - 6);
-        let done = update(&mut map, range, &[], &Cell::new((0, 0))).is_ok();
-        let mut stored = map.iter();
-        for number in 0..self.0 {
-            match stored.next() {
-                Some((range, _)) if is_written(range, first_half(number)) => (),
-                _ => return Ok(Some(usize::from(number))),
-            }
-        }
-        Ok(if done && stored.next().is_none() {
-            None
-        } else {
-            Some(0)
-        })
+        let mut map = filled::<C>(alloc, self.0)?;
+        Ok(first_rewritten(&mut map, self.0))
     }
 }
 
