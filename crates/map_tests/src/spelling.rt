@@ -1,9 +1,6 @@
 //! How an update leaves bounds written.
 
-use crate::support::{
-    Answers, NumberItem, Range, Table, between, check, check_each, closed, filled, half_open,
-    insert, new_map, numbered, update, wrong_unless,
-};
+use crate::support::{Answers, NumberItem, Range, Table, check, check_each, closed, filled, insert, new_map, numbered, update, wrong_unless};
 use range_map::map::{MapError, RangeMap};
 use range_store::storage::Storage;
 use std::alloc::Global;
@@ -74,75 +71,80 @@ impl<'a> Table<NumberItem> for Updates<'a> {
     }
 }
 
+const OPEN_AT_MINUS_ONE: Range = between!(Bound::Excluded(-1), Bound::Included(9));
+
+const UP_TO_TEN: Range = between!(Bound::Unbounded, Bound::Excluded(10));
+
+static WHAT_STANDS_KEEPS_ITS_BOUNDS: &[Row<'static>] = &[
+    Row {
+        stored: &[(half_open!(0, 10), 1)],
+        range: closed!(0, 9),
+        answers: &[],
+        left: &[(half_open!(0, 10), 1)],
+    },
+    Row {
+        stored: &[(half_open!(0, 10), 1), (closed!(12, 14), 2)],
+        range: closed!(-5, 20),
+        answers: &[],
+        left: &[(half_open!(0, 10), 1), (closed!(12, 14), 2)],
+    },
+    Row {
+        stored: &[(OPEN_AT_MINUS_ONE, 1)],
+        range: half_open!(0, 10),
+        answers: &[],
+        left: &[(OPEN_AT_MINUS_ONE, 1)],
+    },
+    Row {
+        stored: &[(UP_TO_TEN, 1)],
+        range: closed!(i32::MIN, 9),
+        answers: &[],
+        left: &[(UP_TO_TEN, 1)],
+    },
+];
+
 #[test]
 fn what_stands_keeps_its_bounds(rt: HostRuntime) -> Result<(), Fail> {
-    let open_at_minus_one = between(Bound::Excluded(-1), Bound::Included(9));
-    let up_to_ten = between(Bound::Unbounded, Bound::Excluded(10));
-    let rows = [
-        Row {
-            stored: &[(half_open(0, 10), 1)],
-            range: closed(0, 9),
-            answers: &[],
-            left: &[(half_open(0, 10), 1)],
-        },
-        Row {
-            stored: &[(half_open(0, 10), 1), (closed(12, 14), 2)],
-            range: closed(-5, 20),
-            answers: &[],
-            left: &[(half_open(0, 10), 1), (closed(12, 14), 2)],
-        },
-        Row {
-            stored: &[(open_at_minus_one, 1)],
-            range: half_open(0, 10),
-            answers: &[],
-            left: &[(open_at_minus_one, 1)],
-        },
-        Row {
-            stored: &[(up_to_ten, 1)],
-            range: closed(i32::MIN, 9),
-            answers: &[],
-            left: &[(up_to_ten, 1)],
-        },
-    ];
-    check(&rt, rt.alloc(), &Updates(&rows))
+    check(&rt, rt.alloc(), &Updates(WHAT_STANDS_KEEPS_ITS_BOUNDS))
 }
+
+const BEHIND_FIVE: Range = between!(Bound::Excluded(5), Bound::Excluded(10));
+
+static WHAT_IS_BOUND_ANEW_KEEPS_ITS_BOUNDS: &[Row<'static>] = &[
+    Row {
+        stored: &[(closed!(0, 9), 1)],
+        range: half_open!(0, 10),
+        answers: &[(Some(1), Ok(Some(2)))],
+        left: &[(closed!(0, 9), 2)],
+    },
+    Row {
+        stored: &[(half_open!(0, 10), 1)],
+        range: closed!(5, 9),
+        answers: &[(Some(1), Ok(Some(2)))],
+        left: &[(half_open!(0, 5), 1), (half_open!(5, 10), 2)],
+    },
+    Row {
+        stored: &[(half_open!(0, 10), 1)],
+        range: closed!(3, 5),
+        answers: &[(Some(1), Ok(Some(2)))],
+        left: &[(half_open!(0, 3), 1), (closed!(3, 5), 2), (BEHIND_FIVE, 1)],
+    },
+    Row {
+        stored: &[(half_open!(0, 10), 1), (closed!(10, 19), 2)],
+        range: half_open!(10, 20),
+        answers: &[(Some(2), Ok(Some(1)))],
+        left: &[(closed!(0, 19), 1)],
+    },
+    Row {
+        stored: &[(half_open!(0, 10), 1), (half_open!(20, 30), 2)],
+        range: closed!(0, 29),
+        answers: &[(None, Ok(Some(1)))],
+        left: &[(half_open!(0, 20), 1), (half_open!(20, 30), 2)],
+    },
+];
 
 #[test]
 fn what_is_bound_anew_keeps_its_bounds(rt: HostRuntime) -> Result<(), Fail> {
-    let behind_five = between(Bound::Excluded(5), Bound::Excluded(10));
-    let rows = [
-        Row {
-            stored: &[(closed(0, 9), 1)],
-            range: half_open(0, 10),
-            answers: &[(Some(1), Ok(Some(2)))],
-            left: &[(closed(0, 9), 2)],
-        },
-        Row {
-            stored: &[(half_open(0, 10), 1)],
-            range: closed(5, 9),
-            answers: &[(Some(1), Ok(Some(2)))],
-            left: &[(half_open(0, 5), 1), (half_open(5, 10), 2)],
-        },
-        Row {
-            stored: &[(half_open(0, 10), 1)],
-            range: closed(3, 5),
-            answers: &[(Some(1), Ok(Some(2)))],
-            left: &[(half_open(0, 3), 1), (closed(3, 5), 2), (behind_five, 1)],
-        },
-        Row {
-            stored: &[(half_open(0, 10), 1), (closed(10, 19), 2)],
-            range: half_open(10, 20),
-            answers: &[(Some(2), Ok(Some(1)))],
-            left: &[(closed(0, 19), 1)],
-        },
-        Row {
-            stored: &[(half_open(0, 10), 1), (half_open(20, 30), 2)],
-            range: closed(0, 29),
-            answers: &[(None, Ok(Some(1)))],
-            left: &[(half_open(0, 20), 1), (half_open(20, 30), 2)],
-        },
-    ];
-    check(&rt, rt.alloc(), &Updates(&rows))
+    check(&rt, rt.alloc(), &Updates(WHAT_IS_BOUND_ANEW_KEEPS_ITS_BOUNDS))
 }
 
 /// Updates all of so many ranges with the values that are shown. Returns the number of the first
