@@ -1,117 +1,121 @@
-use crate::support::{
-    NumberItem, Step, Table, between, check, closed, first_wrong, half_open, holds, new_map, play,
-};
+use crate::support::{NumberItem, Step, Table, check, closed, first_wrong, half_open, holds, new_map, play};
 use range_map::map::{MapError, RangeMap};
 use range_store::storage::Storage;
 use std::alloc::Global;
 use std::ops::Bound::{Excluded, Included, Unbounded};
 use std::test::Fail;
 
+static A_VALUE_WITHIN_ANOTHER_STANDS_BETWEEN_TWO_PARTS: &[Step<'static>] = &[
+    Step::Insert(closed!(0, 5), 1),
+    Step::Insert(closed!(4, 4), 0),
+    Step::Count(3),
+    Step::Stores(&[(0, 3, 1), (4, 4, 0), (5, 5, 1)]),
+    Step::Get(-1, None),
+    Step::Get(0, Some(1)),
+    Step::Get(3, Some(1)),
+    Step::Get(4, Some(0)),
+    Step::Get(5, Some(1)),
+    Step::Get(6, None),
+];
+
 #[test]
 fn a_value_within_another_stands_between_two_parts(rt: HostRuntime) -> Result<(), Fail> {
-    let steps = [
-        Step::Insert(closed(0, 5), 1),
-        Step::Insert(closed(4, 4), 0),
-        Step::Count(3),
-        Step::Stores(&[(0, 3, 1), (4, 4, 0), (5, 5, 1)]),
-        Step::Get(-1, None),
-        Step::Get(0, Some(1)),
-        Step::Get(3, Some(1)),
-        Step::Get(4, Some(0)),
-        Step::Get(5, Some(1)),
-        Step::Get(6, None),
-    ];
-    play(&rt, rt.alloc(), &steps)
+    play(&rt, rt.alloc(), A_VALUE_WITHIN_ANOTHER_STANDS_BETWEEN_TWO_PARTS)
 }
+
+static A_REMOVAL_LEAVES_BOTH_SIDES: &[Step<'static>] = &[
+    Step::Insert(half_open!(0, 10), 1),
+    Step::Remove(half_open!(1, 9)),
+    Step::Count(2),
+    Step::Get(0, Some(1)),
+    Step::Get(1, None),
+    Step::Get(8, None),
+    Step::Get(9, Some(1)),
+    Step::Get(10, None),
+    Step::Insert(half_open!(1, 9), 1),
+    Step::Count(1),
+];
 
 #[test]
 fn a_removal_leaves_both_sides(rt: HostRuntime) -> Result<(), Fail> {
-    let steps = [
-        Step::Insert(half_open(0, 10), 1),
-        Step::Remove(half_open(1, 9)),
-        Step::Count(2),
-        Step::Get(0, Some(1)),
-        Step::Get(1, None),
-        Step::Get(8, None),
-        Step::Get(9, Some(1)),
-        Step::Get(10, None),
-        Step::Insert(half_open(1, 9), 1),
-        Step::Count(1),
-    ];
-    play(&rt, rt.alloc(), &steps)
+    play(&rt, rt.alloc(), A_REMOVAL_LEAVES_BOTH_SIDES)
 }
+
+static ONE_RANGE_TAKES_THE_PLACE_OF_SEVERAL: &[Step<'static>] = &[
+    Step::Insert(half_open!(10, 15), 1),
+    Step::Insert(half_open!(20, 25), 1),
+    Step::Insert(half_open!(30, 35), 1),
+    Step::Insert(half_open!(10, 35), 0),
+    Step::Count(1),
+    Step::Get(17, Some(0)),
+    Step::Get(34, Some(0)),
+    Step::Get(35, None),
+];
 
 #[test]
 fn one_range_takes_the_place_of_several(rt: HostRuntime) -> Result<(), Fail> {
-    let steps = [
-        Step::Insert(half_open(10, 15), 1),
-        Step::Insert(half_open(20, 25), 1),
-        Step::Insert(half_open(30, 35), 1),
-        Step::Insert(half_open(10, 35), 0),
-        Step::Count(1),
-        Step::Get(17, Some(0)),
-        Step::Get(34, Some(0)),
-        Step::Get(35, None),
-    ];
-    play(&rt, rt.alloc(), &steps)
+    play(&rt, rt.alloc(), ONE_RANGE_TAKES_THE_PLACE_OF_SEVERAL)
 }
+
+static EMPTY_RANGES_CHANGE_NOTHING: &[Step<'static>] = &[
+    Step::Insert(half_open!(0, 10), 1),
+    Step::Remove(half_open!(8, 3)),
+    Step::Remove(half_open!(5, 5)),
+    Step::Count(1),
+    Step::Get(5, Some(1)),
+    Step::Insert(half_open!(8, 3), 2),
+    Step::Count(1),
+    Step::Get(5, Some(1)),
+    Step::Insert(half_open!(5, 5), 2),
+    Step::Count(1),
+    Step::Get(5, Some(1)),
+    Step::InsertDisconnected(half_open!(8, 3), 1, false),
+    Step::Count(1),
+];
 
 #[test]
 fn empty_ranges_change_nothing(rt: HostRuntime) -> Result<(), Fail> {
-    let steps = [
-        Step::Insert(half_open(0, 10), 1),
-        Step::Remove(half_open(8, 3)),
-        Step::Remove(half_open(5, 5)),
-        Step::Count(1),
-        Step::Get(5, Some(1)),
-        Step::Insert(half_open(8, 3), 2),
-        Step::Count(1),
-        Step::Get(5, Some(1)),
-        Step::Insert(half_open(5, 5), 2),
-        Step::Count(1),
-        Step::Get(5, Some(1)),
-        Step::InsertDisconnected(half_open(8, 3), 1, false),
-        Step::Count(1),
-    ];
-    play(&rt, rt.alloc(), &steps)
+    play(&rt, rt.alloc(), EMPTY_RANGES_CHANGE_NOTHING)
 }
+
+static EXCLUDED_STARTS_JOIN: &[Step<'static>] = &[
+    Step::Insert(between!(Excluded(3), Unbounded), 1),
+    Step::Insert(between!(Excluded(2), Excluded(4)), 1),
+    Step::Insert(between!(Excluded(0), Included(2)), 1),
+    Step::Count(1),
+    Step::Stores(&[(1, i32::MAX, 1)]),
+    Step::Get(0, None),
+    Step::Get(1, Some(1)),
+    Step::Get(i32::MAX, Some(1)),
+];
 
 #[test]
 fn excluded_starts_join(rt: HostRuntime) -> Result<(), Fail> {
-    let steps = [
-        Step::Insert(between(Excluded(3), Unbounded), 1),
-        Step::Insert(between(Excluded(2), Excluded(4)), 1),
-        Step::Insert(between(Excluded(0), Included(2)), 1),
-        Step::Count(1),
-        Step::Stores(&[(1, i32::MAX, 1)]),
-        Step::Get(0, None),
-        Step::Get(1, Some(1)),
-        Step::Get(i32::MAX, Some(1)),
-    ];
-    play(&rt, rt.alloc(), &steps)
+    play(&rt, rt.alloc(), EXCLUDED_STARTS_JOIN)
 }
+
+static TOUCHING_RANGES_WITH_EQUAL_VALUES_JOIN: &[Step<'static>] = &[
+    Step::Insert(between!(Unbounded, Excluded(1)), 1),
+    Step::Count(1),
+    Step::Insert(between!(Unbounded, Included(1)), 1),
+    Step::Count(1),
+    Step::Insert(closed!(2, 2), 1),
+    Step::Count(1),
+    Step::Insert(half_open!(3, 5), 1),
+    Step::Count(1),
+    Step::Insert(closed!(5, 7), 1),
+    Step::Count(1),
+    Step::Insert(between!(Included(7), Unbounded), 1),
+    Step::Count(1),
+    Step::Stores(&[(i32::MIN, i32::MAX, 1)]),
+    Step::Get(i32::MIN, Some(1)),
+    Step::Get(4, Some(1)),
+    Step::Get(i32::MAX, Some(1)),
+];
 
 #[test]
 fn touching_ranges_with_equal_values_join(rt: HostRuntime) -> Result<(), Fail> {
-    let steps = [
-        Step::Insert(between(Unbounded, Excluded(1)), 1),
-        Step::Count(1),
-        Step::Insert(between(Unbounded, Included(1)), 1),
-        Step::Count(1),
-        Step::Insert(closed(2, 2), 1),
-        Step::Count(1),
-        Step::Insert(half_open(3, 5), 1),
-        Step::Count(1),
-        Step::Insert(closed(5, 7), 1),
-        Step::Count(1),
-        Step::Insert(between(Included(7), Unbounded), 1),
-        Step::Count(1),
-        Step::Stores(&[(i32::MIN, i32::MAX, 1)]),
-        Step::Get(i32::MIN, Some(1)),
-        Step::Get(4, Some(1)),
-        Step::Get(i32::MAX, Some(1)),
-    ];
-    play(&rt, rt.alloc(), &steps)
+    play(&rt, rt.alloc(), TOUCHING_RANGES_WITH_EQUAL_VALUES_JOIN)
 }
 
 /// Binds every second key to itself, then asks for each, then for each one after.

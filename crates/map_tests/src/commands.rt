@@ -1,4 +1,4 @@
-use crate::support::{NumberItem, Table, check, closed, half_open, new_map, range_count};
+use crate::support::{NumberItem, Table, check, half_open, new_map, range_count};
 use range_commands::command::{Command, Reply, answer, run};
 use range_map::map::{MapError, RangeMap};
 use range_store::storage::Storage;
@@ -101,58 +101,61 @@ impl<'a> Table<NumberItem> for Rows<'a> {
     }
 }
 
+static A_RUN_ANSWERS_EACH_COMMAND: &[Row] = &[
+    (Command::Insert(closed!(0, 5), 1), Reply::Done),
+    (Command::Insert(closed!(4, 4), 0), Reply::Done),
+    (Command::Remove(closed!(1, 1)), Reply::Done),
+    (Command::Count, Reply::Count(4)),
+    (Command::Get(4), Reply::Value(Some(0))),
+    (Command::Get(1), Reply::Value(None)),
+    (Command::Get(5), Reply::Value(Some(1))),
+];
+
 #[test]
 fn a_run_answers_each_command(rt: HostRuntime) -> Result<(), Fail> {
-    let rows = [
-        (Command::Insert(closed(0, 5), 1), Reply::Done),
-        (Command::Insert(closed(4, 4), 0), Reply::Done),
-        (Command::Remove(closed(1, 1)), Reply::Done),
-        (Command::Count, Reply::Count(4)),
-        (Command::Get(4), Reply::Value(Some(0))),
-        (Command::Get(1), Reply::Value(None)),
-        (Command::Get(5), Reply::Value(Some(1))),
-    ];
-    check(&rt, rt.alloc(), &Rows(&rows))
+    check(&rt, rt.alloc(), &Rows(A_RUN_ANSWERS_EACH_COMMAND))
 }
+
+static A_RUN_TELLS_WHAT_IS_IN_THE_WAY: &[Row] = &[
+    (
+        Command::InsertDisconnected(half_open!(0, 10), 1),
+        Reply::Done,
+    ),
+    (
+        Command::InsertDisconnected(half_open!(10, 20), 2),
+        Reply::Connected(half_open!(10, 20), 2),
+    ),
+    (Command::InsertDisconnected(half_open!(5, 5), 2), Reply::Done),
+    (
+        Command::InsertDisconnected(half_open!(11, 20), 2),
+        Reply::Done,
+    ),
+    (Command::Count, Reply::Count(2)),
+    (Command::Contains(10), Reply::Truth(false)),
+    (Command::Contains(11), Reply::Truth(true)),
+    (Command::Intersects(half_open!(10, 11)), Reply::Truth(false)),
+    (Command::Intersects(half_open!(10, 12)), Reply::Truth(true)),
+    (Command::Intersects(half_open!(12, 10)), Reply::Truth(false)),
+];
 
 #[test]
 fn a_run_tells_what_is_in_the_way(rt: HostRuntime) -> Result<(), Fail> {
-    let rows = [
-        (
-            Command::InsertDisconnected(half_open(0, 10), 1),
-            Reply::Done,
-        ),
-        (
-            Command::InsertDisconnected(half_open(10, 20), 2),
-            Reply::Connected(half_open(10, 20), 2),
-        ),
-        (Command::InsertDisconnected(half_open(5, 5), 2), Reply::Done),
-        (
-            Command::InsertDisconnected(half_open(11, 20), 2),
-            Reply::Done,
-        ),
-        (Command::Count, Reply::Count(2)),
-        (Command::Contains(10), Reply::Truth(false)),
-        (Command::Contains(11), Reply::Truth(true)),
-        (Command::Intersects(half_open(10, 11)), Reply::Truth(false)),
-        (Command::Intersects(half_open(10, 12)), Reply::Truth(true)),
-        (Command::Intersects(half_open(12, 10)), Reply::Truth(false)),
-    ];
-    check(&rt, rt.alloc(), &Rows(&rows))
+    check(&rt, rt.alloc(), &Rows(A_RUN_TELLS_WHAT_IS_IN_THE_WAY))
 }
+
+static UPDATES_ARE_TOLD_APART_BY_THEIR_TAGS: &[Row] = &[
+    (Command::Insert(half_open!(0, 5), 1), Reply::Done),
+    (Command::Update(half_open!(0, 10), 1), Reply::Closure(7)),
+    (Command::Count, Reply::Count(1)),
+    (Command::Update(half_open!(0, 10), 9), Reply::Done),
+    (Command::Get(4), Reply::Value(Some(1))),
+    (Command::Get(7), Reply::Value(Some(9))),
+    (Command::Count, Reply::Count(2)),
+];
 
 #[test]
 fn updates_are_told_apart_by_their_tags(rt: HostRuntime) -> Result<(), Fail> {
-    let rows = [
-        (Command::Insert(half_open(0, 5), 1), Reply::Done),
-        (Command::Update(half_open(0, 10), 1), Reply::Closure(7)),
-        (Command::Count, Reply::Count(1)),
-        (Command::Update(half_open(0, 10), 9), Reply::Done),
-        (Command::Get(4), Reply::Value(Some(1))),
-        (Command::Get(7), Reply::Value(Some(9))),
-        (Command::Count, Reply::Count(2)),
-    ];
-    check(&rt, rt.alloc(), &Rows(&rows))
+    check(&rt, rt.alloc(), &Rows(UPDATES_ARE_TOLD_APART_BY_THEIR_TAGS))
 }
 
 /// Whether a command is done on a new map, or else an allocation fails and nothing is changed.

@@ -1,7 +1,4 @@
-use crate::support::{
-    NumberItem, PairTable, Range, between, closed, find_over_pair, half_open, insert, new_map,
-    remove,
-};
+use crate::support::{NumberItem, PairTable, Range, find_over_pair, insert, new_map, remove};
 use range_algebra::any::AnyRange;
 use range_keys::traits::PartialEnum;
 use range_map::map::{MapError, RangeMap};
@@ -142,31 +139,36 @@ impl<'a> PairTable<NumberItem> for Ranking<'a> {
     }
 }
 
+const HOLED: &[Call] = &[(half_open!(0, 10), Some(1)), (half_open!(3, 5), None)];
+
+const MENDED: &[Call] = &[
+    (half_open!(0, 10), Some(1)),
+    (half_open!(3, 5), None),
+    (half_open!(3, 5), Some(1)),
+];
+
+const PARTED: &[Call] = &[(half_open!(0, 10), Some(1)), (half_open!(5, 6), Some(2))];
+
+const TWO: &[Call] = &[(half_open!(0, 10), Some(1)), (half_open!(20, 30), Some(0))];
+
 /// Maps are in dictionary order, and those of one rank bind alike.
+static MAPS: &[Ranked<'static>] = &[
+    (0, &[]),
+    (1, HOLED),
+    (2, PARTED),
+    (3, &[(half_open!(0, 5), Some(2))]),
+    (4, &[(half_open!(0, 10), Some(1))]),
+    (4, &[(closed!(0, 9), Some(1))]),
+    (4, &[(between!(Excluded(-1), Excluded(10)), Some(1))]),
+    (4, MENDED),
+    (5, TWO),
+    (6, &[(half_open!(0, 10), Some(2))]),
+    (7, &[(half_open!(1, 2), Some(0))]),
+];
+
 #[test]
 fn maps_compare_by_what_they_bind(rt: HostRuntime) -> Result<(), Fail> {
-    let holed = [(half_open(0, 10), Some(1)), (half_open(3, 5), None)];
-    let mended = [
-        (half_open(0, 10), Some(1)),
-        (half_open(3, 5), None),
-        (half_open(3, 5), Some(1)),
-    ];
-    let parted = [(half_open(0, 10), Some(1)), (half_open(5, 6), Some(2))];
-    let two = [(half_open(0, 10), Some(1)), (half_open(20, 30), Some(0))];
-    let maps: [Ranked<'_>; 11] = [
-        (0, &[]),
-        (1, &holed),
-        (2, &parted),
-        (3, &[(half_open(0, 5), Some(2))]),
-        (4, &[(half_open(0, 10), Some(1))]),
-        (4, &[(closed(0, 9), Some(1))]),
-        (4, &[(between(Excluded(-1), Excluded(10)), Some(1))]),
-        (4, &mended),
-        (5, &two),
-        (6, &[(half_open(0, 10), Some(2))]),
-        (7, &[(half_open(1, 2), Some(0))]),
-    ];
-    let unlike = find_over_pair(rt.alloc(), &Ranking(&maps))?;
+    let unlike = find_over_pair(rt.alloc(), &Ranking(MAPS))?;
     assert_eq!(rt; unlike, None, "two of the maps");
     Ok(())
 }

@@ -1,8 +1,6 @@
 //! How many steps counted calls take.
 
-use crate::support::{
-    InTree, NumberItem, Range, Table, check_over_vector, closed, half_open, new_map,
-};
+use crate::support::{InTree, NumberItem, Range, Table, check_over_vector, closed, new_map};
 use range_commands::command::{Command, Reply, run_counted};
 use range_map::map::{MapError, RangeMap};
 use range_store::storage::{Steps, Storage};
@@ -222,73 +220,76 @@ impl<'a> Table<NumberItem> for Calls<'a> {
     }
 }
 
+static LOOK_UPS_TAKE_FEW_STEPS: &[Step] = &[
+    Step::Levels(0),
+    Step::LookUps(0, 0),
+    Step::InsertSingles(0, 11),
+    Step::Levels(1),
+    Step::LookUps(1, 5),
+    Step::InsertSingles(11, 12),
+    Step::Levels(2),
+    Step::LookUps(2, 9),
+    Step::InsertSingles(12, 144),
+    Step::Levels(3),
+    Step::LookUps(3, 13),
+    Step::RemoveSingles(0, 74),
+    Step::Count(70),
+    Step::Levels(2),
+    Step::LookUps(2, 9),
+    Step::RemoveSingles(74, 133),
+    Step::Count(11),
+    Step::Levels(2),
+    Step::LookUps(2, 9),
+    Step::RemoveSingles(133, 144),
+    Step::Levels(0),
+    Step::LookUps(0, 0),
+];
+
 #[test]
 fn look_ups_take_few_steps(rt: HostRuntime) -> Result<(), Fail> {
-    let steps = [
-        Step::Levels(0),
-        Step::LookUps(0, 0),
-        Step::InsertSingles(0, 11),
-        Step::Levels(1),
-        Step::LookUps(1, 5),
-        Step::InsertSingles(11, 12),
-        Step::Levels(2),
-        Step::LookUps(2, 9),
-        Step::InsertSingles(12, 144),
-        Step::Levels(3),
-        Step::LookUps(3, 13),
-        Step::RemoveSingles(0, 74),
-        Step::Count(70),
-        Step::Levels(2),
-        Step::LookUps(2, 9),
-        Step::RemoveSingles(74, 133),
-        Step::Count(11),
-        Step::Levels(2),
-        Step::LookUps(2, 9),
-        Step::RemoveSingles(133, 144),
-        Step::Levels(0),
-        Step::LookUps(0, 0),
-    ];
-    assert_eq!(rt; first_wrong_in_tree(rt.alloc(), &steps)?, None);
+    assert_eq!(rt; first_wrong_in_tree(rt.alloc(), LOOK_UPS_TAKE_FEW_STEPS)?, None);
     Ok(())
 }
+
+static CHANGES_TAKE_FEW_STEPS: &[Step] = &[
+    Step::InsertSingles(0, 64),
+    Step::Insert(closed!(0, 126), 1, 152),
+    Step::Count(1),
+    Step::Insert(half_open!(5, 6), 0, 14),
+    Step::Count(3),
+    Step::Remove(half_open!(5, 6), 20),
+    Step::Count(2),
+    Step::Insert(half_open!(8, 3), 9, 0),
+    Step::Remove(half_open!(8, 3), 0),
+    Step::Count(2),
+    Step::Insert(closed!(-9, 999), 1, 20),
+    Step::Count(1),
+];
 
 #[test]
 fn changes_take_few_steps(rt: HostRuntime) -> Result<(), Fail> {
-    let steps = [
-        Step::InsertSingles(0, 64),
-        Step::Insert(closed(0, 126), 1, 152),
-        Step::Count(1),
-        Step::Insert(half_open(5, 6), 0, 14),
-        Step::Count(3),
-        Step::Remove(half_open(5, 6), 20),
-        Step::Count(2),
-        Step::Insert(half_open(8, 3), 9, 0),
-        Step::Remove(half_open(8, 3), 0),
-        Step::Count(2),
-        Step::Insert(closed(-9, 999), 1, 20),
-        Step::Count(1),
-    ];
-    assert_eq!(rt; first_wrong_in_tree(rt.alloc(), &steps)?, None);
+    assert_eq!(rt; first_wrong_in_tree(rt.alloc(), CHANGES_TAKE_FEW_STEPS)?, None);
     Ok(())
 }
 
+static COUNTED_CALLS_ANSWER_OVER_A_VECTOR: &[Step] = &[
+    Step::LookUps(0, 0),
+    Step::InsertSingles(0, 64),
+    Step::LookUps(0, 65),
+    Step::Insert(closed!(0, 126), 1, 264),
+    Step::Count(1),
+    Step::Insert(half_open!(5, 6), 0, 8),
+    Step::Count(3),
+    Step::Remove(half_open!(5, 6), 18),
+    Step::Count(2),
+    Step::Insert(half_open!(8, 3), 9, 0),
+    Step::Remove(half_open!(8, 3), 0),
+    Step::Count(2),
+];
+
 #[test]
 fn counted_calls_answer_over_a_vector(rt: HostRuntime) -> Result<(), Fail> {
-    let steps = [
-        Step::LookUps(0, 0),
-        Step::InsertSingles(0, 64),
-        Step::LookUps(0, 65),
-        Step::Insert(closed(0, 126), 1, 264),
-        Step::Count(1),
-        Step::Insert(half_open(5, 6), 0, 8),
-        Step::Count(3),
-        Step::Remove(half_open(5, 6), 18),
-        Step::Count(2),
-        Step::Insert(half_open(8, 3), 9, 0),
-        Step::Remove(half_open(8, 3), 0),
-        Step::Count(2),
-    ];
-    check_over_vector(&rt, rt.alloc(), &Calls(&steps))
+    check_over_vector(&rt, rt.alloc(), &Calls(COUNTED_CALLS_ANSWER_OVER_A_VECTOR))
 }
 
 #[test]

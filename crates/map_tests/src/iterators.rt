@@ -1,14 +1,7 @@
-use crate::support::{
-    InTree, NumberItem, Range, Row, Table, between, check, closed, first_false, is_empty, map_of,
-    range_count, value_at,
-};
-use range_algebra::any::AnyRange;
-use range_keys::traits::Measure;
-use range_map::map::{Gaps, Iter, MapError, RangeMap};
-use range_store::storage::{Item, Storage};
+use crate::support::{InTree, NumberItem, Range, Row, Table, check, closed, first_false, map_of};
+use range_map::map::{Iter, MapError, RangeMap};
+use range_store::storage::Storage;
 use std::alloc::{AllocError, Global};
-use std::ops::Bound;
-use std::ops::Bound::{Excluded, Included, Unbounded};
 use std::test::Fail;
 
 /// The map of `0..=5` bound to 1 and then `4` to 0.

@@ -19,6 +19,8 @@ type Entry<K> = Item<AnyRange<K>, i64>;
 
 /// A call on a map, or what has to hold of the map then.
 enum Step<'a, K> {
+    /// Unbinds all keys.
+    Clear,
     /// Binds the keys from the one bound to the other.
     Insert(Bound<K>, Bound<K>, i64),
     /// Binds one key.
@@ -99,7 +101,9 @@ fn has_first_gap<K: Key, C: Storage<Entry<K>>>(
     map: &RangeMap<K, i64, C>,
     first: K,
     len: u128,
-) -> Result<bool, AllocError> {
+) -> Result<bool, AllocError>
+    requires { ClonesAreEqual K.is_clone K.eq }
+{
     match map.gaps().next() {
         Some(gap) => {
             let gap = range_of(gap);
@@ -117,6 +121,7 @@ fn holds<K: Key, C: Storage<Entry<K>>>(
     requires { ClonesAreEqual K.is_clone K.eq }
 {
     match step {
+        Step::Clear => map.clear(),
         Step::Insert(start, end, value) => map.insert(AnyRange::new(*start, *end), *value)?,
         Step::InsertKey(key, value) => map.insert(*key, *value)?,
         Step::UpdateKey(key, times) => return Ok(updates_so(map, *key, *times)),
@@ -144,76 +149,64 @@ fn first_wrong<K: Key, C: Storage<Entry<K>>>(
     Ok(None)
 }
 
-/// Each step of each list has to hold, over either container.
-fn play<K: Key>(rt: &impl Abort, alloc: Global, lists: &[&[Step<'_, K>]]) -> Result<(), Fail>
+/// Each step has to hold, over either container.
+fn play<K: Key>(rt: &impl Abort, alloc: Global, steps: &[Step<'_, K>]) -> Result<(), Fail>
     requires { ClonesAreEqual K.is_clone K.eq }
 {
-    for (place, steps) in lists.iter().enumerate() {
-        let over_vector = first_wrong::<K, VecStorage<Entry<K>>>(alloc, steps)?;
-        let over_tree = first_wrong::<K, BoxStorage<Entry<K>>>(alloc, steps)?;
-        assert_eq!(rt;
-            (over_vector, over_tree),
-            (None, None),
-            "steps of list {place}"
-        );
-    }
+    let over_vector = first_wrong::<K, VecStorage<Entry<K>>>(alloc, steps)?;
+    let over_tree = first_wrong::<K, BoxStorage<Entry<K>>>(alloc, steps)?;
+    assert_eq!(rt;
+        (over_vector, over_tree),
+        (None, None),
+        "over a vector and a tree"
+    );
     Ok(())
 }
 
 /// Bytes at the edges of their type, and ranges that touch.
-static BYTES: &[&[Step<'static, u8>]] = &[
-    &[
-        Step::Gaps(&[(Unbounded, Unbounded)]),
-        Step::Size(0, 0),
-        Step::Get(0, None),
-    ],
-    &[
-        Step::Insert(Unbounded, Unbounded, 1),
-        Step::Gaps(&[]),
-        Step::Size(1, 256),
-    ],
-    &[
-        Step::Insert(Included(0), Included(255), 1),
-        Step::Gaps(&[]),
-        Step::Size(1, 256),
-    ],
-    &[
-        Step::Insert(Included(0), Unbounded, 1),
-        Step::Gaps(&[]),
-        Step::Size(1, 256),
-    ],
-    &[
-        Step::Insert(Unbounded, Included(255), 1),
-        Step::Gaps(&[]),
-        Step::Size(1, 256),
-    ],
-    &[
-        Step::Insert(Included(255), Unbounded, 1),
-        Step::Gaps(&[(Unbounded, Excluded(255))]),
-        Step::Size(1, 1),
-    ],
-    &[
-        Step::Insert(Unbounded, Excluded(10), 1),
-        Step::Insert(Included(20), Unbounded, 1),
-        Step::Gaps(&[(Included(10), Excluded(20))]),
-        Step::Size(2, 246),
-    ],
-    &[
-        Step::Insert(Included(3), Excluded(5), 1),
-        Step::Insert(Included(5), Unbounded, 2),
-        Step::Gaps(&[(Unbounded, Excluded(3))]),
-        Step::Size(2, 253),
-    ],
-    &[
-        Step::Insert(Excluded(3), Excluded(5), 1),
-        Step::Insert(Excluded(6), Included(8), 1),
-        Step::Gaps(&[
-            (Unbounded, Included(3)),
-            (Included(5), Included(6)),
-            (Excluded(8), Unbounded),
-        ]),
-        Step::Size(2, 3),
-    ],
+static BYTES: &[Step<'static, u8>] = &[
+    Step::Gaps(&[(Unbounded, Unbounded)]),
+    Step::Size(0, 0),
+    Step::Get(0, None),
+    Step::Clear,
+    Step::Insert(Unbounded, Unbounded, 1),
+    Step::Gaps(&[]),
+    Step::Size(1, 256),
+    Step::Clear,
+    Step::Insert(Included(0), Included(255), 1),
+    Step::Gaps(&[]),
+    Step::Size(1, 256),
+    Step::Clear,
+    Step::Insert(Included(0), Unbounded, 1),
+    Step::Gaps(&[]),
+    Step::Size(1, 256),
+    Step::Clear,
+    Step::Insert(Unbounded, Included(255), 1),
+    Step::Gaps(&[]),
+    Step::Size(1, 256),
+    Step::Clear,
+    Step::Insert(Included(255), Unbounded, 1),
+    Step::Gaps(&[(Unbounded, Excluded(255))]),
+    Step::Size(1, 1),
+    Step::Clear,
+    Step::Insert(Unbounded, Excluded(10), 1),
+    Step::Insert(Included(20), Unbounded, 1),
+    Step::Gaps(&[(Included(10), Excluded(20))]),
+    Step::Size(2, 246),
+    Step::Clear,
+    Step::Insert(Included(3), Excluded(5), 1),
+    Step::Insert(Included(5), Unbounded, 2),
+    Step::Gaps(&[(Unbounded, Excluded(3))]),
+    Step::Size(2, 253),
+    Step::Clear,
+    Step::Insert(Excluded(3), Excluded(5), 1),
+    Step::Insert(Excluded(6), Included(8), 1),
+    Step::Gaps(&[
+        (Unbounded, Included(3)),
+        (Included(5), Included(6)),
+        (Excluded(8), Unbounded),
+    ]),
+    Step::Size(2, 3),
 ];
 
 #[test]
@@ -221,22 +214,22 @@ fn gaps_and_lengths_of_bytes(rt: HostRuntime) -> Result<(), Fail> {
     play(&rt, rt.alloc(), BYTES)
 }
 
-static WIDEST: &[&[Step<'static, u64>]] = &[&[
+static WIDEST: &[Step<'static, u64>] = &[
     Step::Insert(Unbounded, Unbounded, 1),
     Step::Size(1, 18_446_744_073_709_551_616),
-]];
+];
 
 #[test]
 fn the_widest_range_is_counted(rt: HostRuntime) -> Result<(), Fail> {
     play(&rt, rt.alloc(), WIDEST)
 }
 
-static BEHIND_ZERO: &[&[Step<'static, u32>]] = &[&[
+static BEHIND_ZERO: &[Step<'static, u32>] = &[
     Step::Insert(Included(0), Included(0), 1),
     Step::Gaps(&[(Included(1), Unbounded)]),
     Step::Gaps(&[(Excluded(0), Unbounded)]),
     Step::FirstGap(1, 4_294_967_295),
-]];
+];
 
 #[test]
 fn the_gap_behind_the_first_key(rt: HostRuntime) -> Result<(), Fail> {
@@ -244,20 +237,17 @@ fn the_gap_behind_the_first_key(rt: HostRuntime) -> Result<(), Fail> {
 }
 
 /// A gap of one key, and keys beside those that are no characters.
-static CHARACTERS: &[&[Step<'static, char>]] = &[
-    &[
-        Step::Insert(Included('+'), Included('+'), 0),
-        Step::Insert(Included('.'), Included('.'), 1),
-        Step::Insert(Included('0'), Included('9'), 2),
-        Step::UpdateKey('-', (0, 1)),
-        Step::Size(4, 13),
-        Step::Get('-', Some(3)),
-    ],
-    &[
-        Step::InsertKey('\u{D7FF}', 1),
-        Step::InsertKey('\u{E000}', 1),
-        Step::Size(1, 2),
-    ],
+static CHARACTERS: &[Step<'static, char>] = &[
+    Step::Insert(Included('+'), Included('+'), 0),
+    Step::Insert(Included('.'), Included('.'), 1),
+    Step::Insert(Included('0'), Included('9'), 2),
+    Step::UpdateKey('-', (0, 1)),
+    Step::Size(4, 13),
+    Step::Get('-', Some(3)),
+    Step::Clear,
+    Step::InsertKey('\u{D7FF}', 1),
+    Step::InsertKey('\u{E000}', 1),
+    Step::Size(1, 2),
 ];
 
 #[test]

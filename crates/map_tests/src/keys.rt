@@ -135,36 +135,38 @@ impl<'a> Table<SeatItem> for Calls<'a> {
     }
 }
 
+static A_CALL_THAT_CUTS_NOTHING_CLONES_NO_KEY: &[Call] = &[
+    Call::Bind(10, Excluded(20), Some(1), Ok(())),
+    Call::Bind(30, Excluded(40), Some(2), Ok(())),
+    Call::Bind(38, Excluded(33), None, Ok(())),
+    Call::Bind(20, Excluded(30), None, Ok(())),
+    Call::Bind(25, Included(50), None, Ok(())),
+    Call::Bind(15, Excluded(25), Some(1), Ok(())),
+    Call::Count(1),
+    Call::Bind(5, Excluded(30), Some(3), Ok(())),
+    Call::Get(24, Some(3)),
+    Call::Count(1),
+];
+
 #[test]
 fn a_call_that_cuts_nothing_clones_no_key(rt: HostRuntime) -> Result<(), Fail> {
-    let calls = [
-        Call::Bind(10, Excluded(20), Some(1), Ok(())),
-        Call::Bind(30, Excluded(40), Some(2), Ok(())),
-        Call::Bind(38, Excluded(33), None, Ok(())),
-        Call::Bind(20, Excluded(30), None, Ok(())),
-        Call::Bind(25, Included(50), None, Ok(())),
-        Call::Bind(15, Excluded(25), Some(1), Ok(())),
-        Call::Count(1),
-        Call::Bind(5, Excluded(30), Some(3), Ok(())),
-        Call::Get(24, Some(3)),
-        Call::Count(1),
-    ];
-    check(&rt, rt.alloc(), &Calls(&calls))
+    check(&rt, rt.alloc(), &Calls(A_CALL_THAT_CUTS_NOTHING_CLONES_NO_KEY))
 }
+
+static A_CALL_THAT_CUTS_CLONES_THE_BOUND: &[Call] = &[
+    Call::Bind(10, Excluded(20), Some(1), Ok(())),
+    Call::Bind(5, Excluded(11), None, Err(MapError::Memory)),
+    Call::Bind(5, Excluded(11), Some(2), Err(MapError::Memory)),
+    Call::Bind(12, Excluded(18), None, Err(MapError::Memory)),
+    Call::Bind(12, Excluded(18), Some(2), Err(MapError::Memory)),
+    Call::Bind(15, Excluded(21), None, Err(MapError::Memory)),
+    Call::Bind(15, Excluded(21), Some(2), Err(MapError::Memory)),
+    Call::Count(1),
+    Call::Intersects(10, 11),
+    Call::Get(19, Some(1)),
+];
 
 #[test]
 fn a_call_that_cuts_clones_the_bound(rt: HostRuntime) -> Result<(), Fail> {
-    let calls = [
-        Call::Bind(10, Excluded(20), Some(1), Ok(())),
-        Call::Bind(5, Excluded(11), None, Err(MapError::Memory)),
-        Call::Bind(5, Excluded(11), Some(2), Err(MapError::Memory)),
-        Call::Bind(12, Excluded(18), None, Err(MapError::Memory)),
-        Call::Bind(12, Excluded(18), Some(2), Err(MapError::Memory)),
-        Call::Bind(15, Excluded(21), None, Err(MapError::Memory)),
-        Call::Bind(15, Excluded(21), Some(2), Err(MapError::Memory)),
-        Call::Count(1),
-        Call::Intersects(10, 11),
-        Call::Get(19, Some(1)),
-    ];
-    check(&rt, rt.alloc(), &Calls(&calls))
+    check(&rt, rt.alloc(), &Calls(A_CALL_THAT_CUTS_CLONES_THE_BOUND))
 }

@@ -1,6 +1,33 @@
 //! Tests of maps, over either container.
 #![tactic(auto)]
 
+/// A range between two bounds, as a constant.
+#[cfg(test)]
+macro_rules! between {
+    ($start:expr, $end:expr) => {
+        range_algebra::any::AnyRange {
+            start: $start,
+            end: $end,
+        }
+    };
+}
+
+/// A range from its first key to its last, as a constant.
+#[cfg(test)]
+macro_rules! closed {
+    ($first:expr, $last:expr) => {
+        between!(std::ops::Bound::Included($first), std::ops::Bound::Included($last))
+    };
+}
+
+/// A range from its first key to before its end, as a constant.
+#[cfg(test)]
+macro_rules! half_open {
+    ($first:expr, $end:expr) => {
+        between!(std::ops::Bound::Included($first), std::ops::Bound::Excluded($end))
+    };
+}
+
 #[cfg(test)]
 mod appending;
 #[cfg(test)]

@@ -1,7 +1,4 @@
-use crate::support::{
-    NumberItem, Range, Step, Table, check, closed, first_wrong, half_open, insert_disconnected,
-    is_empty, new_map, play, range_count,
-};
+use crate::support::{NumberItem, Range, Step, Table, check, closed, first_wrong, half_open, insert_disconnected, is_empty, new_map, play, range_count};
 use range_algebra::any::AnyRange;
 use range_map::map::{MapError, RangeMap, binary_search};
 use range_store::storage::{Item, Storage};
@@ -9,24 +6,25 @@ use std::alloc::Global;
 use std::ops::Bound::Included;
 use std::test::Fail;
 
+static A_RANGE_THAT_TOUCHES_IS_REFUSED: &[Step<'static>] = &[
+    Step::Count(0),
+    Step::Insert(half_open!(0, 10), 1),
+    Step::InsertDisconnected(half_open!(10, 20), 2, true),
+    Step::InsertDisconnected(half_open!(-5, 0), 1, true),
+    Step::InsertDisconnected(half_open!(5, 5), 3, false),
+    Step::Count(1),
+    Step::InsertDisconnected(half_open!(11, 20), 2, false),
+    Step::Count(2),
+    Step::Get(9, Some(1)),
+    Step::Get(10, None),
+    Step::Get(11, Some(2)),
+    Step::Get(19, Some(2)),
+    Step::Get(20, None),
+];
+
 #[test]
 fn a_range_that_touches_is_refused(rt: HostRuntime) -> Result<(), Fail> {
-    let steps = [
-        Step::Count(0),
-        Step::Insert(half_open(0, 10), 1),
-        Step::InsertDisconnected(half_open(10, 20), 2, true),
-        Step::InsertDisconnected(half_open(-5, 0), 1, true),
-        Step::InsertDisconnected(half_open(5, 5), 3, false),
-        Step::Count(1),
-        Step::InsertDisconnected(half_open(11, 20), 2, false),
-        Step::Count(2),
-        Step::Get(9, Some(1)),
-        Step::Get(10, None),
-        Step::Get(11, Some(2)),
-        Step::Get(19, Some(2)),
-        Step::Get(20, None),
-    ];
-    play(&rt, rt.alloc(), &steps)
+    play(&rt, rt.alloc(), A_RANGE_THAT_TOUCHES_IS_REFUSED)
 }
 
 /// Whether a range is bound in a new map or, where an allocation fails, handed back.
@@ -59,22 +57,23 @@ fn a_refusal_for_memory_hands_back(rt: HostRuntime) -> Result<(), Fail> {
     check(&rt, rt.alloc(), &Refusal)
 }
 
+static A_RANGE_INTERSECTS_WHAT_IT_SHARES_A_KEY_WITH: &[Step<'static>] = &[
+    Step::Insert(half_open!(0, 10), 1),
+    Step::Insert(half_open!(20, 30), 2),
+    Step::Intersects(half_open!(8, 3), false),
+    Step::Intersects(half_open!(5, 5), false),
+    Step::Intersects(half_open!(10, 20), false),
+    Step::Intersects(half_open!(30, 40), false),
+    Step::Intersects(half_open!(-5, 0), false),
+    Step::Intersects(half_open!(9, 20), true),
+    Step::Intersects(half_open!(10, 21), true),
+    Step::Intersects(half_open!(3, 8), true),
+    Step::Intersects(half_open!(-5, 40), true),
+];
+
 #[test]
 fn a_range_intersects_what_it_shares_a_key_with(rt: HostRuntime) -> Result<(), Fail> {
-    let steps = [
-        Step::Insert(half_open(0, 10), 1),
-        Step::Insert(half_open(20, 30), 2),
-        Step::Intersects(half_open(8, 3), false),
-        Step::Intersects(half_open(5, 5), false),
-        Step::Intersects(half_open(10, 20), false),
-        Step::Intersects(half_open(30, 40), false),
-        Step::Intersects(half_open(-5, 0), false),
-        Step::Intersects(half_open(9, 20), true),
-        Step::Intersects(half_open(10, 21), true),
-        Step::Intersects(half_open(3, 8), true),
-        Step::Intersects(half_open(-5, 40), true),
-    ];
-    play(&rt, rt.alloc(), &steps)
+    play(&rt, rt.alloc(), A_RANGE_INTERSECTS_WHAT_IT_SHARES_A_KEY_WITH)
 }
 
 fn first_wrong_in_clone<C: Storage<NumberItem>>(
@@ -106,29 +105,27 @@ impl<'a> Table<NumberItem> for Cloned<'a> {
     }
 }
 
-#[test]
-fn a_clone_is_equal_and_independent(rt: HostRuntime) -> Result<(), Fail> {
-    let before = [
-        Step::Insert(half_open(0, 10), 1),
-        Step::Insert(half_open(20, 30), 2),
-    ];
-    let on_the_clone = [
+static CLONED: Cloned<'static> = Cloned {
+    before: &[
+        Step::Insert(half_open!(0, 10), 1),
+        Step::Insert(half_open!(20, 30), 2),
+    ],
+    on_the_clone: &[
         Step::Count(2),
         Step::Get(0, Some(1)),
         Step::Get(9, Some(1)),
         Step::Get(10, None),
         Step::Get(20, Some(2)),
         Step::Get(30, None),
-        Step::Remove(half_open(0, 30)),
+        Step::Remove(half_open!(0, 30)),
         Step::Count(0),
-    ];
-    let after = [Step::Count(2)];
-    let cloned = Cloned {
-        before: &before,
-        on_the_clone: &on_the_clone,
-        after: &after,
-    };
-    check(&rt, rt.alloc(), &cloned)
+    ],
+    after: &[Step::Count(2)],
+};
+
+#[test]
+fn a_clone_is_equal_and_independent(rt: HostRuntime) -> Result<(), Fail> {
+    check(&rt, rt.alloc(), &CLONED)
 }
 
 /// An item of one key.

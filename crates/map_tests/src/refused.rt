@@ -1,7 +1,7 @@
 //! Calls of which each is done as a whole or, where an allocation fails, not at all.
 
 use crate::support::{
-    Answers, NumberItem, Row, Step, Table, check, closed, half_open, holds, insert, new_map,
+    Answers, NumberItem, Row, Step, Table, check, closed, holds, insert, new_map,
     range_count, stores, value_at,
 };
 use range_map::map::{MapError, RangeMap};
@@ -53,35 +53,23 @@ impl<'a> Table<NumberItem> for Refusals<'a> {
     }
 }
 
-/// Over a part of a stored range, and from four ranges of bound pieces and their gaps.
+const APART: &[Row] = &[(0, 19, 1), (20, 29, 2), (40, 49, 3), (60, 69, 4)];
+
+const NEAR: &[Row] = &[(0, 4, 1), (10, 14, 2), (15, 19, 3), (30, 39, 4)];
+
+const SEVEN: Answers<'static> = &[(None, Ok(Some(7)))];
+
+/// Over a part of a stored range, and over bound pieces and their gaps.
+static CALLS: &[Refusal<'static>] = &[
+    (APART, Step::Insert(half_open!(5, 15), 0), (7, Some(0))),
+    (APART, Step::Remove(half_open!(5, 15)), (7, None)),
+    (NEAR, Step::Update(half_open!(-5, 45), SEVEN, None, (4, 4)), (-5, Some(7))),
+    (NEAR, Step::Update(half_open!(2, 33), SEVEN, None, (4, 2)), (2, Some(1))),
+    (NEAR, Step::Update(half_open!(11, 13), SEVEN, None, (1, 0)), (11, Some(2))),
+    (NEAR, Step::Update(half_open!(21, 28), SEVEN, None, (0, 1)), (21, Some(7))),
+];
+
 #[test]
 fn a_refused_call_changes_nothing(rt: HostRuntime) -> Result<(), Fail> {
-    let apart: &[Row] = &[(0, 19, 1), (20, 29, 2), (40, 49, 3), (60, 69, 4)];
-    let near: &[Row] = &[(0, 4, 1), (10, 14, 2), (15, 19, 3), (30, 39, 4)];
-    let seven: Answers<'_> = &[(None, Ok(Some(7)))];
-    let calls: [Refusal<'_>; 6] = [
-        (apart, Step::Insert(half_open(5, 15), 0), (7, Some(0))),
-        (apart, Step::Remove(half_open(5, 15)), (7, None)),
-        (
-            near,
-            Step::Update(half_open(-5, 45), seven, None, (4, 4)),
-            (-5, Some(7)),
-        ),
-        (
-            near,
-            Step::Update(half_open(2, 33), seven, None, (4, 2)),
-            (2, Some(1)),
-        ),
-        (
-            near,
-            Step::Update(half_open(11, 13), seven, None, (1, 0)),
-            (11, Some(2)),
-        ),
-        (
-            near,
-            Step::Update(half_open(21, 28), seven, None, (0, 1)),
-            (21, Some(7)),
-        ),
-    ];
-    check(&rt, rt.alloc(), &Refusals(&calls))
+    check(&rt, rt.alloc(), &Refusals(CALLS))
 }

@@ -1,9 +1,6 @@
 //! How an update leaves bounds written.
 
-use crate::support::{
-    Answers, NumberItem, Range, Table, between, check, check_each, closed, half_open, insert,
-    new_map, update,
-};
+use crate::support::{Answers, NumberItem, Range, Table, check, check_each, closed, filled, insert, new_map, numbered, update, wrong_unless};
 use range_map::map::{MapError, RangeMap};
 use range_store::storage::Storage;
 use std::alloc::Global;
@@ -39,6 +36,21 @@ fn writes<C: Storage<NumberItem>>(map: &RangeMap<i32, i64, C>, rows: &[Written])
     stored.next().is_none()
 }
 
+fn insert_all<C: Storage<NumberItem>>(
+    map: &mut RangeMap<i32, i64, C>,
+    rows: &[Written],
+) -> Result<(), MapError> {
+    for (range, value) in rows {
+        insert(map, *range, *value)?;
+    }
+    Ok(())
+}
+
+/// Whether the update is done, and leaves what it should.
+fn leaves<C: Storage<NumberItem>>(map: &mut RangeMap<i32, i64, C>, row: &Row<'_>) -> bool {
+    update(map, row.range, row.answers, &Cell::new((0, 0))).is_ok() && writes(map, row.left)
+}
+
 /// Updates that are each played on a new map.
 #[derive(Clone, Copy)]
 struct Updates<'a>(&'a [Row<'a>]);
@@ -50,11 +62,8 @@ impl<'a> Table<NumberItem> for Updates<'a> {
     ) -> Result<Option<usize>, MapError> {
         for (index, row) in self.0.iter().enumerate() {
             let mut map = new_map::<C>(alloc);
-            for (range, value) in row.stored {
-                insert(&mut map, *range, *value)?;
-            }
-            let done = update(&mut map, row.range, row.answers, &Cell::new((0, 0)));
-            if done.is_err() || !writes(&map, row.left) {
+            insert_all(&mut map, row.stored)?;
+            if !leaves(&mut map, row) {
                 return Ok(Some(index));
             }
         }
@@ -62,110 +71,111 @@ impl<'a> Table<NumberItem> for Updates<'a> {
     }
 }
 
+const OPEN_AT_MINUS_ONE: Range = between!(Bound::Excluded(-1), Bound::Included(9));
+
+const UP_TO_TEN: Range = between!(Bound::Unbounded, Bound::Excluded(10));
+
+static WHAT_STANDS_KEEPS_ITS_BOUNDS: &[Row<'static>] = &[
+    Row {
+        stored: &[(half_open!(0, 10), 1)],
+        range: closed!(0, 9),
+        answers: &[],
+        left: &[(half_open!(0, 10), 1)],
+    },
+    Row {
+        stored: &[(half_open!(0, 10), 1), (closed!(12, 14), 2)],
+        range: closed!(-5, 20),
+        answers: &[],
+        left: &[(half_open!(0, 10), 1), (closed!(12, 14), 2)],
+    },
+    Row {
+        stored: &[(OPEN_AT_MINUS_ONE, 1)],
+        range: half_open!(0, 10),
+        answers: &[],
+        left: &[(OPEN_AT_MINUS_ONE, 1)],
+    },
+    Row {
+        stored: &[(UP_TO_TEN, 1)],
+        range: closed!(i32::MIN, 9),
+        answers: &[],
+        left: &[(UP_TO_TEN, 1)],
+    },
+];
+
 #[test]
 fn what_stands_keeps_its_bounds(rt: HostRuntime) -> Result<(), Fail> {
-    let open_at_minus_one = between(Bound::Excluded(-1), Bound::Included(9));
-    let up_to_ten = between(Bound::Unbounded, Bound::Excluded(10));
-    let rows = [
-        Row {
-            stored: &[(half_open(0, 10), 1)],
-            range: closed(0, 9),
-            answers: &[],
-            left: &[(half_open(0, 10), 1)],
-        },
-        Row {
-            stored: &[(half_open(0, 10), 1), (closed(12, 14), 2)],
-            range: closed(-5, 20),
-            answers: &[],
-            left: &[(half_open(0, 10), 1), (closed(12, 14), 2)],
-        },
-        Row {
-            stored: &[(open_at_minus_one, 1)],
-            range: half_open(0, 10),
-            answers: &[],
-            left: &[(open_at_minus_one, 1)],
-        },
-        Row {
-            stored: &[(up_to_ten, 1)],
-            range: closed(i32::MIN, 9),
-            answers: &[],
-            left: &[(up_to_ten, 1)],
-        },
-    ];
-    check(&rt, rt.alloc(), &Updates(&rows))
+    check(&rt, rt.alloc(), &Updates(WHAT_STANDS_KEEPS_ITS_BOUNDS))
 }
+
+const BEHIND_FIVE: Range = between!(Bound::Excluded(5), Bound::Excluded(10));
+
+static WHAT_IS_BOUND_ANEW_KEEPS_ITS_BOUNDS: &[Row<'static>] = &[
+    Row {
+        stored: &[(closed!(0, 9), 1)],
+        range: half_open!(0, 10),
+        answers: &[(Some(1), Ok(Some(2)))],
+        left: &[(closed!(0, 9), 2)],
+    },
+    Row {
+        stored: &[(half_open!(0, 10), 1)],
+        range: closed!(5, 9),
+        answers: &[(Some(1), Ok(Some(2)))],
+        left: &[(half_open!(0, 5), 1), (half_open!(5, 10), 2)],
+    },
+    Row {
+        stored: &[(half_open!(0, 10), 1)],
+        range: closed!(3, 5),
+        answers: &[(Some(1), Ok(Some(2)))],
+        left: &[(half_open!(0, 3), 1), (closed!(3, 5), 2), (BEHIND_FIVE, 1)],
+    },
+    Row {
+        stored: &[(half_open!(0, 10), 1), (closed!(10, 19), 2)],
+        range: half_open!(10, 20),
+        answers: &[(Some(2), Ok(Some(1)))],
+        left: &[(closed!(0, 19), 1)],
+    },
+    Row {
+        stored: &[(half_open!(0, 10), 1), (half_open!(20, 30), 2)],
+        range: closed!(0, 29),
+        answers: &[(None, Ok(Some(1)))],
+        left: &[(half_open!(0, 20), 1), (half_open!(20, 30), 2)],
+    },
+];
 
 #[test]
 fn what_is_bound_anew_keeps_its_bounds(rt: HostRuntime) -> Result<(), Fail> {
-    let behind_five = between(Bound::Excluded(5), Bound::Excluded(10));
-    let rows = [
-        Row {
-            stored: &[(closed(0, 9), 1)],
-            range: half_open(0, 10),
-            answers: &[(Some(1), Ok(Some(2)))],
-            left: &[(closed(0, 9), 2)],
-        },
-        Row {
-            stored: &[(half_open(0, 10), 1)],
-            range: closed(5, 9),
-            answers: &[(Some(1), Ok(Some(2)))],
-            left: &[(half_open(0, 5), 1), (half_open(5, 10), 2)],
-        },
-        Row {
-            stored: &[(half_open(0, 10), 1)],
-            range: closed(3, 5),
-            answers: &[(Some(1), Ok(Some(2)))],
-            left: &[(half_open(0, 3), 1), (closed(3, 5), 2), (behind_five, 1)],
-        },
-        Row {
-            stored: &[(half_open(0, 10), 1), (closed(10, 19), 2)],
-            range: half_open(10, 20),
-            answers: &[(Some(2), Ok(Some(1)))],
-            left: &[(closed(0, 19), 1)],
-        },
-        Row {
-            stored: &[(half_open(0, 10), 1), (half_open(20, 30), 2)],
-            range: closed(0, 29),
-            answers: &[(None, Ok(Some(1)))],
-            left: &[(half_open(0, 20), 1), (half_open(20, 30), 2)],
-        },
-    ];
-    check(&rt, rt.alloc(), &Updates(&rows))
+    check(&rt, rt.alloc(), &Updates(WHAT_IS_BOUND_ANEW_KEEPS_ITS_BOUNDS))
 }
 
-/// The first half of ten keys.
-fn first_half(number: u8) -> Range {
-    let first = 10 * i32::from(number);
-    half_open(first, first + 5)
+/// Updates all of so many ranges with the values that are shown. Returns the number of the first
+/// that is rewritten.
+fn first_rewritten<C: Storage<NumberItem>>(
+    map: &mut RangeMap<i32, i64, C>,
+    count: u16,
+) -> Option<usize> {
+    let range = closed(0, (4 * i32::from(count)).wrapping_sub(3));
+    let done = update(map, range, &[], &Cell::new((0, 0))).is_ok();
+    let mut stored = map.iter();
+    for number in 0..count {
+        match stored.next() {
+            Some((range, _)) if is_written(range, numbered(number)) => (),
+            _ => return Some(usize::from(number)),
+        }
+    }
+    wrong_unless(done && stored.next().is_none())
 }
 
-/// So many ranges, of which an update of all with the values that it is shown rewrites none.
+/// A map of so many ranges.
 #[derive(Clone, Copy)]
-struct Many(u8);
+struct Many(u16);
 
 impl Table<NumberItem> for Many {
     fn first_wrong<C: Storage<NumberItem>>(
         &self,
         alloc: Global,
     ) -> Result<Option<usize>, MapError> {
-        let mut map = new_map::<C>(alloc);
-        for number in 0..self.0 {
-            insert(&mut map, first_half(number), i64::from(number))?;
-        }
-        let range = closed(0, 10 * i32::from(self.0) - 6);
-        let done = update(&mut map, range, &[], &Cell::new((0, 0))).is_ok();
-        let mut stored = map.iter();
-        for number in 0..self.0 {
-            match stored.next() {
-                Some((range, _)) if is_written(range, first_half(number)) => (),
-                _ => return Ok(Some(usize::from(number))),
-            }
-        }
-        Ok(if done && stored.next().is_none() {
-            None
-        } else {
-            Some(0)
-        })
+        let mut map = filled::<C>(alloc, self.0)?;
+        Ok(first_rewritten(&mut map, self.0))
     }
 }
 

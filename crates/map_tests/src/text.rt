@@ -1,6 +1,4 @@
-use crate::support::{
-    NumberItem, Step, Table, between, check, closed, first_wrong, half_open, new_map,
-};
+use crate::support::{NumberItem, Step, Table, between, check, first_wrong, new_map};
 use range_map::map::{MapError, RangeMap};
 use range_store::storage::Storage;
 use std::alloc::{AllocError, Global};
@@ -42,19 +40,28 @@ impl<'a> Table<NumberItem> for Shown<'a> {
     }
 }
 
+static MAPS: &[(&[Step<'static>], &str)] = &[
+    (&[], "{}"),
+    (
+        &[
+            Step::Insert(half_open!(0, 5), 1),
+            Step::Insert(closed!(10, 12), 2),
+        ],
+        "{0..5=>110..=12=>2}",
+    ),
+    (
+        &[
+            Step::Insert(half_open!(0, 5), 1),
+            Step::Insert(closed!(10, 12), 2),
+            Step::Remove(half_open!(-1, 4)),
+        ],
+        "{4..5=>110..=12=>2}",
+    ),
+];
+
 #[test]
 fn a_map_is_shown(rt: HostRuntime) -> Result<(), Fail> {
-    let steps = [
-        Step::Insert(half_open(0, 5), 1),
-        Step::Insert(closed(10, 12), 2),
-        Step::Remove(half_open(-1, 4)),
-    ];
-    let shown: [(&[Step<'_>], &str); 3] = [
-        (&[], "{}"),
-        (&steps[..2], "{0..5=>110..=12=>2}"),
-        (&steps, "{4..5=>110..=12=>2}"),
-    ];
-    check(&rt, rt.alloc(), &Shown(&shown))
+    check(&rt, rt.alloc(), &Shown(MAPS))
 }
 
 /// Bounds, and how the range from the one to the other is shown.
@@ -70,19 +77,20 @@ fn first_other(alloc: Global, rows: &[Row]) -> Result<Option<&'static str>, Allo
     Ok(None)
 }
 
+static RANGES: &[Row] = &[
+    (Included(0), Excluded(5), "0..5"),
+    (Included(0), Included(5), "0..=5"),
+    (Included(0), Unbounded, "0.."),
+    (Excluded(0), Excluded(5), "0...5"),
+    (Excluded(0), Included(-5), "0...=-5"),
+    (Excluded(0), Unbounded, "0..."),
+    (Unbounded, Excluded(5), "...5"),
+    (Unbounded, Included(5), "...=5"),
+    (Unbounded, Unbounded, "..."),
+];
+
 #[test]
 fn a_range_is_shown(rt: HostRuntime) -> Result<(), Fail> {
-    let rows = [
-        (Included(0), Excluded(5), "0..5"),
-        (Included(0), Included(5), "0..=5"),
-        (Included(0), Unbounded, "0.."),
-        (Excluded(0), Excluded(5), "0...5"),
-        (Excluded(0), Included(-5), "0...=-5"),
-        (Excluded(0), Unbounded, "0..."),
-        (Unbounded, Excluded(5), "...5"),
-        (Unbounded, Included(5), "...=5"),
-        (Unbounded, Unbounded, "..."),
-    ];
-    assert_eq!(rt; first_other(rt.alloc(), &rows)?, None);
+    assert_eq!(rt; first_other(rt.alloc(), RANGES)?, None);
     Ok(())
 }

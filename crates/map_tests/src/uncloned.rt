@@ -1,6 +1,6 @@
 //! Which calls clone a value: those that make two ranges of a stored one, and no others.
 
-use crate::support::{Range, Table, check, half_open};
+use crate::support::{Range, Table, check};
 use range_map::map::{MapError, RangeMap, UpdateError};
 use range_store::storage::{Item, Storage};
 use std::alloc::{AllocError, Global};
@@ -85,48 +85,50 @@ impl<'a> Table<OnlyItem> for Steps<'a> {
     }
 }
 
+static VALUES_ARE_CLONED_ONLY_WHERE_A_RANGE_BECOMES_TWO: &[Step] = &[
+    Step::Insert(half_open!(0, 20), 1, Ok(())),
+    Step::Count(1),
+    Step::Get(7, Some(1)),
+    Step::Insert(half_open!(5, 15), 0, Err(MapError::Memory)),
+    Step::Count(1),
+    Step::Get(7, Some(1)),
+    Step::Remove(half_open!(5, 15), Err(MapError::Memory)),
+    Step::Count(1),
+    Step::Get(7, Some(1)),
+    Step::Insert(half_open!(15, 25), 0, Ok(())),
+    Step::Count(2),
+    Step::Get(7, Some(1)),
+    Step::Remove(half_open!(0, 3), Ok(())),
+    Step::Count(2),
+    Step::Get(7, Some(1)),
+    Step::Insert(half_open!(5, 15), 1, Ok(())),
+    Step::Count(2),
+    Step::Get(7, Some(1)),
+    Step::Get(2, None),
+    Step::Get(15, Some(0)),
+];
+
 #[test]
 fn values_are_cloned_only_where_a_range_becomes_two(rt: HostRuntime) -> Result<(), Fail> {
-    let steps = [
-        Step::Insert(half_open(0, 20), 1, Ok(())),
-        Step::Count(1),
-        Step::Get(7, Some(1)),
-        Step::Insert(half_open(5, 15), 0, Err(MapError::Memory)),
-        Step::Count(1),
-        Step::Get(7, Some(1)),
-        Step::Remove(half_open(5, 15), Err(MapError::Memory)),
-        Step::Count(1),
-        Step::Get(7, Some(1)),
-        Step::Insert(half_open(15, 25), 0, Ok(())),
-        Step::Count(2),
-        Step::Get(7, Some(1)),
-        Step::Remove(half_open(0, 3), Ok(())),
-        Step::Count(2),
-        Step::Get(7, Some(1)),
-        Step::Insert(half_open(5, 15), 1, Ok(())),
-        Step::Count(2),
-        Step::Get(7, Some(1)),
-        Step::Get(2, None),
-        Step::Get(15, Some(0)),
-    ];
-    check(&rt, rt.alloc(), &Steps(&steps))
+    check(&rt, rt.alloc(), &Steps(VALUES_ARE_CLONED_ONLY_WHERE_A_RANGE_BECOMES_TWO))
 }
+
+static UPDATES_CLONE_VALUES_ONLY_WITHIN_A_STORED_RANGE: &[Step] = &[
+    Step::Insert(half_open!(0, 20), 1, Ok(())),
+    Step::Update(half_open!(5, 15), Some(0), Err(UpdateError::Memory)),
+    Step::Count(1),
+    Step::Get(7, Some(1)),
+    Step::Update(half_open!(5, 15), None, Err(UpdateError::Memory)),
+    Step::Count(1),
+    Step::Get(7, Some(1)),
+    Step::Update(half_open!(15, 25), Some(0), Ok(())),
+    Step::Count(2),
+    Step::Get(7, Some(1)),
+    Step::Get(14, Some(1)),
+    Step::Get(24, Some(0)),
+];
 
 #[test]
 fn updates_clone_values_only_within_a_stored_range(rt: HostRuntime) -> Result<(), Fail> {
-    let steps = [
-        Step::Insert(half_open(0, 20), 1, Ok(())),
-        Step::Update(half_open(5, 15), Some(0), Err(UpdateError::Memory)),
-        Step::Count(1),
-        Step::Get(7, Some(1)),
-        Step::Update(half_open(5, 15), None, Err(UpdateError::Memory)),
-        Step::Count(1),
-        Step::Get(7, Some(1)),
-        Step::Update(half_open(15, 25), Some(0), Ok(())),
-        Step::Count(2),
-        Step::Get(7, Some(1)),
-        Step::Get(14, Some(1)),
-        Step::Get(24, Some(0)),
-    ];
-    check(&rt, rt.alloc(), &Steps(&steps))
+    check(&rt, rt.alloc(), &Steps(UPDATES_CLONE_VALUES_ONLY_WITHIN_A_STORED_RANGE))
 }
