@@ -1,4 +1,6 @@
-use crate::support::{NumberItem, Step, Table, check, closed, first_wrong, half_open, holds, new_map, play};
+use crate::support::{
+    NumberItem, Step, Table, check, closed, first_wrong, half_open, holds, new_map, play,
+};
 use range_map::map::{MapError, RangeMap};
 use range_store::storage::Storage;
 use std::alloc::Global;
@@ -20,7 +22,11 @@ static A_VALUE_WITHIN_ANOTHER_STANDS_BETWEEN_TWO_PARTS: &[Step<'static>] = &[
 
 #[test]
 fn a_value_within_another_stands_between_two_parts(rt: HostRuntime) -> Result<(), Fail> {
-    play(&rt, rt.alloc(), A_VALUE_WITHIN_ANOTHER_STANDS_BETWEEN_TWO_PARTS)
+    play(
+        &rt,
+        rt.alloc(),
+        A_VALUE_WITHIN_ANOTHER_STANDS_BETWEEN_TWO_PARTS,
+    )
 }
 
 static A_REMOVAL_LEAVES_BOTH_SIDES: &[Step<'static>] = &[

@@ -125,7 +125,10 @@ static A_RUN_TELLS_WHAT_IS_IN_THE_WAY: &[Row] = &[
         Command::InsertDisconnected(half_open!(10, 20), 2),
         Reply::Connected(half_open!(10, 20), 2),
     ),
-    (Command::InsertDisconnected(half_open!(5, 5), 2), Reply::Done),
+    (
+        Command::InsertDisconnected(half_open!(5, 5), 2),
+        Reply::Done,
+    ),
     (
         Command::InsertDisconnected(half_open!(11, 20), 2),
         Reply::Done,

@@ -247,7 +247,10 @@ static LOOK_UPS_TAKE_FEW_STEPS: &[Step] = &[
 
 #[test]
 fn look_ups_take_few_steps(rt: HostRuntime) -> Result<(), Fail> {
-    assert_eq!(rt; first_wrong_in_tree(rt.alloc(), LOOK_UPS_TAKE_FEW_STEPS)?, None);
+    assert_eq!(rt;
+        first_wrong_in_tree(rt.alloc(), LOOK_UPS_TAKE_FEW_STEPS)?,
+        None
+    );
     Ok(())
 }
 
@@ -268,7 +271,10 @@ static CHANGES_TAKE_FEW_STEPS: &[Step] = &[
 
 #[test]
 fn changes_take_few_steps(rt: HostRuntime) -> Result<(), Fail> {
-    assert_eq!(rt; first_wrong_in_tree(rt.alloc(), CHANGES_TAKE_FEW_STEPS)?, None);
+    assert_eq!(rt;
+        first_wrong_in_tree(rt.alloc(), CHANGES_TAKE_FEW_STEPS)?,
+        None
+    );
     Ok(())
 }
 

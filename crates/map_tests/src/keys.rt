@@ -150,7 +150,11 @@ static A_CALL_THAT_CUTS_NOTHING_CLONES_NO_KEY: &[Call] = &[
 
 #[test]
 fn a_call_that_cuts_nothing_clones_no_key(rt: HostRuntime) -> Result<(), Fail> {
-    check(&rt, rt.alloc(), &Calls(A_CALL_THAT_CUTS_NOTHING_CLONES_NO_KEY))
+    check(
+        &rt,
+        rt.alloc(),
+        &Calls(A_CALL_THAT_CUTS_NOTHING_CLONES_NO_KEY),
+    )
 }
 
 static A_CALL_THAT_CUTS_CLONES_THE_BOUND: &[Call] = &[

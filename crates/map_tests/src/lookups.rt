@@ -1,4 +1,7 @@
-use crate::support::{NumberItem, Range, Step, Table, check, closed, first_wrong, half_open, insert_disconnected, is_empty, new_map, play, range_count};
+use crate::support::{
+    NumberItem, Range, Step, Table, check, closed, first_wrong, half_open, insert_disconnected,
+    is_empty, new_map, play, range_count,
+};
 use range_algebra::any::AnyRange;
 use range_map::map::{MapError, RangeMap, binary_search};
 use range_store::storage::{Item, Storage};
@@ -73,7 +76,11 @@ static A_RANGE_INTERSECTS_WHAT_IT_SHARES_A_KEY_WITH: &[Step<'static>] = &[
 
 #[test]
 fn a_range_intersects_what_it_shares_a_key_with(rt: HostRuntime) -> Result<(), Fail> {
-    play(&rt, rt.alloc(), A_RANGE_INTERSECTS_WHAT_IT_SHARES_A_KEY_WITH)
+    play(
+        &rt,
+        rt.alloc(),
+        A_RANGE_INTERSECTS_WHAT_IT_SHARES_A_KEY_WITH,
+    )
 }
 
 fn first_wrong_in_clone<C: Storage<NumberItem>>(

@@ -1,8 +1,8 @@
 //! Calls of which each is done as a whole or, where an allocation fails, not at all.
 
 use crate::support::{
-    Answers, NumberItem, Row, Step, Table, check, closed, holds, insert, new_map,
-    range_count, stores, value_at,
+    Answers, NumberItem, Row, Step, Table, check, closed, holds, insert, new_map, range_count,
+    stores, value_at,
 };
 use range_map::map::{MapError, RangeMap};
 use range_store::storage::Storage;
@@ -63,10 +63,26 @@ const SEVEN: Answers<'static> = &[(None, Ok(Some(7)))];
 static CALLS: &[Refusal<'static>] = &[
     (APART, Step::Insert(half_open!(5, 15), 0), (7, Some(0))),
     (APART, Step::Remove(half_open!(5, 15)), (7, None)),
-    (NEAR, Step::Update(half_open!(-5, 45), SEVEN, None, (4, 4)), (-5, Some(7))),
-    (NEAR, Step::Update(half_open!(2, 33), SEVEN, None, (4, 2)), (2, Some(1))),
-    (NEAR, Step::Update(half_open!(11, 13), SEVEN, None, (1, 0)), (11, Some(2))),
-    (NEAR, Step::Update(half_open!(21, 28), SEVEN, None, (0, 1)), (21, Some(7))),
+    (
+        NEAR,
+        Step::Update(half_open!(-5, 45), SEVEN, None, (4, 4)),
+        (-5, Some(7)),
+    ),
+    (
+        NEAR,
+        Step::Update(half_open!(2, 33), SEVEN, None, (4, 2)),
+        (2, Some(1)),
+    ),
+    (
+        NEAR,
+        Step::Update(half_open!(11, 13), SEVEN, None, (1, 0)),
+        (11, Some(2)),
+    ),
+    (
+        NEAR,
+        Step::Update(half_open!(21, 28), SEVEN, None, (0, 1)),
+        (21, Some(7)),
+    ),
 ];
 
 #[test]

@@ -1,6 +1,9 @@
 //! How an update leaves bounds written.
 
-use crate::support::{Answers, NumberItem, Range, Table, check, check_each, closed, filled, insert, new_map, numbered, update, wrong_unless};
+use crate::support::{
+    Answers, NumberItem, Range, Table, check, check_each, closed, filled, insert, new_map,
+    numbered, update, wrong_unless,
+};
 use range_map::map::{MapError, RangeMap};
 use range_store::storage::Storage;
 use std::alloc::Global;
@@ -144,7 +147,11 @@ static WHAT_IS_BOUND_ANEW_KEEPS_ITS_BOUNDS: &[Row<'static>] = &[
 
 #[test]
 fn what_is_bound_anew_keeps_its_bounds(rt: HostRuntime) -> Result<(), Fail> {
-    check(&rt, rt.alloc(), &Updates(WHAT_IS_BOUND_ANEW_KEEPS_ITS_BOUNDS))
+    check(
+        &rt,
+        rt.alloc(),
+        &Updates(WHAT_IS_BOUND_ANEW_KEEPS_ITS_BOUNDS),
+    )
 }
 
 /// Updates all of so many ranges with the values that are shown. Returns the number of the first

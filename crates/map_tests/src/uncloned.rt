@@ -110,7 +110,11 @@ static VALUES_ARE_CLONED_ONLY_WHERE_A_RANGE_BECOMES_TWO: &[Step] = &[
 
 #[test]
 fn values_are_cloned_only_where_a_range_becomes_two(rt: HostRuntime) -> Result<(), Fail> {
-    check(&rt, rt.alloc(), &Steps(VALUES_ARE_CLONED_ONLY_WHERE_A_RANGE_BECOMES_TWO))
+    check(
+        &rt,
+        rt.alloc(),
+        &Steps(VALUES_ARE_CLONED_ONLY_WHERE_A_RANGE_BECOMES_TWO),
+    )
 }
 
 static UPDATES_CLONE_VALUES_ONLY_WITHIN_A_STORED_RANGE: &[Step] = &[
@@ -130,5 +134,9 @@ static UPDATES_CLONE_VALUES_ONLY_WITHIN_A_STORED_RANGE: &[Step] = &[
 
 #[test]
 fn updates_clone_values_only_within_a_stored_range(rt: HostRuntime) -> Result<(), Fail> {
-    check(&rt, rt.alloc(), &Steps(UPDATES_CLONE_VALUES_ONLY_WITHIN_A_STORED_RANGE))
+    check(
+        &rt,
+        rt.alloc(),
+        &Steps(UPDATES_CLONE_VALUES_ONLY_WITHIN_A_STORED_RANGE),
+    )
 }

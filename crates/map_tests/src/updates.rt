@@ -64,10 +64,10 @@ fn each_piece_is_asked_about_once(rt: HostRuntime) -> Result<(), Fail> {
 }
 
 const UNBOUND: Answers<'static> = &[
-        (Some(1), Ok(None)),
-        (Some(2), Ok(None)),
-        (Some(9), Ok(None)),
-    ];
+    (Some(1), Ok(None)),
+    (Some(2), Ok(None)),
+    (Some(9), Ok(None)),
+];
 
 static GAPS_ARE_FILLED_AND_PIECES_UNBOUND: &[Step<'static>] = &[
     Step::Insert(half_open!(0, 5), 1),
