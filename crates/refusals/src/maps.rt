@@ -246,7 +246,7 @@ fn append<C: Storage<Entry>>(map: &mut Map<C>, other: &mut Map<C>) -> Result<(),
 
 /// A refused call has to leave both maps as they were.
 fn appending<C: Storage<Entry>>(alloc: Global, map: &mut Map<C>, size: Size) -> Outcome {
-    let twice = 2 * size.count;
+    let twice = size.count.wrapping_mul(2);
     let mut other: Map<C> = RangeMap::new(alloc);
     let Ok(()) = fill(alloc, &mut other, size.count..twice, size) else {
         return Outcome::Early;
@@ -269,7 +269,7 @@ fn splitting<C: Storage<Entry>>(map: &mut Map<C>, size: Size) -> Outcome {
     match split_off(map, key(middle, 2)) {
         Ok(rest) => done(
             map.range_count() == usize::from(middle) + 1
-                && map.range_count() + rest.range_count() == usize::from(size.count) + 1
+                && rest.range_count() == usize::from(size.count.wrapping_sub(middle))
                 && is_bound(map, key(middle, 1), "middle")
                 && is_bound(&rest, key(middle, 2), "middle"),
         ),
