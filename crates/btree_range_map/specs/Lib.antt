@@ -31,24 +31,34 @@ pub use Rattle.range_store.specs.Depth
 pub use Rattle.range_store.specs.Holding
 pub use Rattle.range_store.specs.Places
 pub use Rattle.range_map.specs.Answers
+pub use Rattle.range_map.specs.Appending
 pub use Rattle.range_map.specs.Askable
 pub use Rattle.range_map.specs.Bindings
 pub use Rattle.range_map.specs.Combining
 pub use Rattle.range_map.specs.Costs
+pub use Rattle.range_map.specs.Extending as MapExtending
 pub use Rattle.range_map.specs.Frames
 pub use Rattle.range_map.specs.FreeRanges
+pub use Rattle.range_map.specs.Freeing
 pub use Rattle.range_map.specs.Apart
 pub use Rattle.range_map.specs.Iteration
 pub use Rattle.range_map.specs.ListOrder
 pub use Rattle.range_map.specs.Lookups
 pub use Rattle.range_map.specs.Neighbours
+pub use Rattle.range_map.specs.Overlapping
+pub use Rattle.range_map.specs.PieceLists
 pub use Rattle.range_map.specs.Pieces
 pub use Rattle.range_map.specs.Rebinding
 pub use Rattle.range_map.specs.Replaced
+pub use Rattle.range_map.specs.Retaining
 pub use Rattle.range_map.specs.Searches
 pub use Rattle.range_map.specs.SimpleUpdates
+pub use Rattle.range_map.specs.Spelling
+pub use Rattle.range_map.specs.Splitting
 pub use Rattle.range_map.specs.Stored
 pub use Rattle.range_map.specs.Texts as MapTexts
+pub use Rattle.range_map.specs.Together
+pub use Rattle.range_sets.specs.Adding
 pub use Rattle.range_sets.specs.Calls
 pub use Rattle.range_sets.specs.Complements
 pub use Rattle.range_commands.specs.CountedRuns
@@ -60,6 +70,7 @@ pub use Rattle.range_commands.specs.LastCommands
 pub use Rattle.range_sets.specs.Members
 pub use Rattle.range_sets.specs.Multimaps
 pub use Rattle.range_sets.specs.Pairs
+pub use Rattle.range_sets.specs.Reads as SetReads
 pub use Rattle.range_commands.specs.Runs
 pub use Rattle.range_sets.specs.SetOrder
 pub use Rattle.range_sets.specs.SetTexts
@@ -84,8 +95,11 @@ pub use Rattle.range_algebra.specs.declared.range.parts.ProductArg
 pub use Rattle.range_store.specs.declared.btree.BoxStorage
 pub use Rattle.range_store.specs.declared.storage.Item
 pub use Rattle.range_map.specs.declared.error.MapError
+pub use Rattle.range_map.specs.declared.error.NotAppended
 pub use Rattle.range_map.specs.declared.error.NotInserted
 pub use Rattle.range_map.specs.declared.error.UpdateError
+pub use Rattle.range_map.specs.declared.map.try_insert.NotFree
+pub use Rattle.range_sets.specs.declared.set.try_insert.NotAdded
 pub use Rattle.range_commands.specs.declared.command.Command
 pub use Rattle.range_commands.specs.declared.command.Reply
 pub use Rattle.range_json.specs.declared.error.JsonError
