@@ -38,6 +38,6 @@ module _ {K : Type 0} (order : KeyOrder K) {V : Type 0} where
       let met = some (λ empty. absurd (omega (arith, ap length (none empty)))) in
       each_among (λ i. Overlap order i.key r) items (x ∷ rest)
       (λ i among. subst (Any (λ j. j ≡ i)) (sym met.split)
-      (is_among_earlier i (met.before ++ (x ∷ rest)) met.after
-      (is_among_later i met.before (x ∷ rest) among)))
+      (is_among_later i met.before ((x ∷ rest) ++ met.after)
+      (is_among_earlier i (x ∷ rest) met.after among)))
       met.meet
