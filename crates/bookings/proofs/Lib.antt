@@ -1,0 +1,2 @@
+-- Bookings among those of a calendar.
+pub mod Meeting

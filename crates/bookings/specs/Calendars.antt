@@ -1,0 +1,54 @@
+-- Which minutes are booked, and what is in the way of a booking.
+use Rattle.std.specs.Prelude.{◌≡◌, ℕ, ◌+◌, ◌≤◌, List, String, ⊤}
+use Rattle.std.specs.String.{string_eq}
+use Rattle.std.specs.declared.alloc.Global.{Global}
+use Rattle.std.specs.declared.ops.Range.{Range}
+use Rattle.btree_range_map.specs.AnyRange.{AnyRange}
+use Rattle.btree_range_map.specs.Bindings.{IsBoundAfter, IsUnboundAfter}
+use Rattle.btree_range_map.specs.Intervals.{Any}
+use Rattle.btree_range_map.specs.Item.{Item}
+use Rattle.btree_range_map.specs.Lookups.{BindsKeyOf, Overlap}
+use Rattle.btree_range_map.specs.Names.{range_from_to, u32_order}
+use Rattle.bookings.specs.declared.calendar.NotBooked.{NotBooked}
+use Rattle.bookings.specs.declared.calendar.NotBooked.TheVariants.{Taken, Memory}
+
+-- a range that is booked, with the name of who booked it
+abbrev pub Booking : Type 0
+Booking = Item (AnyRange ℕ) (String Global)
+
+abbrev pub Bookings : Type 0
+Bookings = List Booking
+
+-- the minutes of a range, of which the last is not meant
+abbrev pub minutes_of : Range ℕ → AnyRange ℕ
+minutes_of range = range_from_to range.start range.end
+
+-- none of the minutes is booked
+abbrev pub AreFree : Bookings → AnyRange ℕ → Type 0
+AreFree bookings minutes = ¬ BindsKeyOf u32_order bookings minutes
+
+-- the minutes are booked under the name, and all others as before
+abbrev pub AreBooked : Bookings → Bookings → AnyRange ℕ → String Global → Type 0
+AreBooked before after minutes name =
+    IsBoundAfter u32_order string_eq before after minutes name
+
+-- none of the minutes is booked, and all others are as before
+abbrev pub AreCancelled : Bookings → Bookings → AnyRange ℕ → Type 0
+AreCancelled before after minutes = IsUnboundAfter u32_order string_eq before after minutes
+
+-- the booking is one of the calendar, and meets the minutes
+abbrev pub IsInTheWay : Bookings → AnyRange ℕ → Booking → Type 0
+IsInTheWay bookings minutes booking =
+    Any (λ i. i ≡ booking) bookings × Overlap u32_order booking.key minutes
+
+-- why minutes are not booked: this range is, and is in their way, or there is no memory
+abbrev pub IsReason : Bookings → AnyRange ℕ → NotBooked → Type 0
+IsReason bookings minutes (Taken booked) =
+    (name : String Global) × IsInTheWay bookings minutes (record { key = booked; value = name })
+IsReason bookings minutes Memory = ⊤
+
+-- so many minutes from a start on are free, and lie within others
+abbrev pub IsRoom : Bookings → Range ℕ → ℕ → ℕ → Type 0
+IsRoom bookings within length start =
+    (within.start ≤ start) × (start + length ≤ within.end)
+    × AreFree bookings (range_from_to start (start + length))

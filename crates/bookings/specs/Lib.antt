@@ -1,0 +1,2 @@
+-- What a calendar of minutes says.
+pub mod Calendars

@@ -1,0 +1,44 @@
+//! Reads lines about the minutes of a calendar, and prints the replies.
+//!
+//! `book 540..600 NAME` books these minutes, or replies what is in the way; `cancel 540..600` frees
+//! them; `free 540..1020 30` replies the first 30 free minutes among these; `who 540..600` lists
+//! the bookings that have some of them.
+#![tactic(auto)]
+
+use std::alloc::Global;
+use std::io::{self, BufRead, BufReader, LineWriter, Write};
+
+mod calendar;
+mod line;
+mod reply;
+
+use calendar::Calendar;
+use reply::answer_line;
+
+const BUFFER_BYTES: usize = 4096;
+
+/// Answers each line of the input.
+fn serve<R: BufRead, W: Write>(alloc: Global, input: &mut R, out: &mut W) -> io::Result<()> {
+    let mut calendar = Calendar::new(alloc);
+    let mut line = Vec::new(alloc);
+    for _ in 0..u64::MAX {
+        line.clear();
+        if input.read_until(b'\n', &mut line)? == 0 {
+            break;
+        }
+        let text = line.as_slice();
+        let text = text.strip_suffix(b"\n").unwrap_or(text);
+        match str::from_utf8(text) {
+            Ok(text) => answer_line(alloc, &mut calendar, text, out)?,
+            Err(_) => out.write_all(b"bad line\n")?,
+        }
+    }
+    out.flush()
+}
+
+fn main(rt: HostRuntime) -> io::Result<()> {
+    let alloc = rt.alloc();
+    let mut input = BufReader::with_capacity(alloc, BUFFER_BYTES, rt.reader())?;
+    let mut out = LineWriter::with_capacity(alloc, BUFFER_BYTES, rt.stdout())?;
+    serve(alloc, &mut input, &mut out)
+}

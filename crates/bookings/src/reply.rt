@@ -1,0 +1,88 @@
+//! What is replied to a line.
+
+use crate::calendar::{Calendar, NotBooked};
+use crate::line::{Line, parse};
+use btree_range_map::AnyRange;
+use std::alloc::Global;
+use std::io::{self, Write};
+use std::ops::{Bound, Range};
+
+/// Writes booked minutes as `540..600`, of which the last is not meant.
+fn write_minutes<W: Write>(booked: &AnyRange<u32>, out: &mut W) -> io::Result<()> {
+    let start = match booked.start {
+        Bound::Included(first) => u64::from(first),
+        Bound::Excluded(before) => u64::from(before) + 1,
+        Bound::Unbounded => 0,
+    };
+    let end = match booked.end {
+        Bound::Included(last) => u64::from(last) + 1,
+        Bound::Excluded(end) => u64::from(end),
+        Bound::Unbounded => u64::from(u32::MAX) + 1,
+    };
+    write!(out, "{start}..{end}")
+}
+
+fn book<W: Write>(
+    alloc: Global,
+    calendar: &mut Calendar,
+    minutes: Range<u32>,
+    name: &str,
+    out: &mut W,
+) -> io::Result<()> {
+    let Ok(name) = String::from_str(alloc, name) else {
+        return out.write_all(b"memory\n");
+    };
+    match calendar.book(minutes, name) {
+        Ok(()) => out.write_all(b"ok\n"),
+        Err(NotBooked::Taken(booked)) => {
+            out.write_all(b"taken ")?;
+            write_minutes(&booked, out)?;
+            out.write_all(b"\n")
+        }
+        Err(NotBooked::Memory) => out.write_all(b"memory\n"),
+    }
+}
+
+fn free<W: Write>(
+    calendar: &Calendar,
+    within: &Range<u32>,
+    length: u32,
+    out: &mut W,
+) -> io::Result<()> {
+    match calendar.free(within, length) {
+        Some(start) => writeln!(out, "{start}..{}", u64::from(start) + u64::from(length)),
+        None => out.write_all(b"none\n"),
+    }
+}
+
+fn who<W: Write>(calendar: &Calendar, minutes: &Range<u32>, out: &mut W) -> io::Result<()> {
+    let mut is_free = true;
+    for (booked, name) in calendar.bookings_in(minutes) {
+        is_free = false;
+        write_minutes(booked, out)?;
+        writeln!(out, " {name}")?;
+    }
+    if is_free {
+        out.write_all(b"none\n")?;
+    }
+    Ok(())
+}
+
+/// Does what a line says and writes its reply.
+pub fn answer_line<W: Write>(
+    alloc: Global,
+    calendar: &mut Calendar,
+    line: &str,
+    out: &mut W,
+) -> io::Result<()> {
+    match parse(line) {
+        Some(Line::Book(minutes, name)) => book(alloc, calendar, minutes, name, out),
+        Some(Line::Cancel(minutes)) => match calendar.cancel(minutes) {
+            Ok(()) => out.write_all(b"ok\n"),
+            Err(_) => out.write_all(b"memory\n"),
+        },
+        Some(Line::Free(within, length)) => free(calendar, &within, length, out),
+        Some(Line::Who(minutes)) => who(calendar, &minutes, out),
+        None => out.write_all(b"bad line\n"),
+    }
+}
