@@ -1,0 +1,2 @@
+-- How far the loops have come.
+pub mod Progress

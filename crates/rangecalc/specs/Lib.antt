@@ -1,0 +1,8 @@
+-- What lines say, and what four maps answer to them.
+pub mod Answers
+pub mod Conversation
+pub mod Lines
+pub mod Ranges
+pub mod Replies
+pub mod Serving
+pub mod Text

@@ -1,0 +1,61 @@
+-- The lines of replies, as their bytes.
+use Rattle.std.specs.Prelude.{◌≡◌, ℕ, ℤ, true, false, Option, Some, None, List, [], ◌∷◌, ◌++◌, codes, decimal}
+use Rattle.std.specs.Fmt.{signed_decimal}
+use Rattle.std.specs.Io.KnownBytes.{Appends}
+use Rattle.btree_range_map.specs.AnyRange.{AnyRange}
+use Rattle.btree_range_map.specs.Item.{Item}
+use Rattle.btree_range_map.specs.Iteration.{pair_item}
+use Rattle.rangecalc.specs.declared.answer.Reply.{Reply}
+use Rattle.rangecalc.specs.declared.answer.Reply.TheVariants.{Done, Memory, Nothing, Value, Stored, Truth, Number}
+
+-- a range by its first and its last key
+abbrev pub span_text : ℤ → ℤ → List ℕ
+span_text first last = signed_decimal first ++ codes "..=" ++ signed_decimal last
+
+-- the line of a stored range: its first and its last key, and its value
+abbrev pub SpellsItem : {K : Type 0} → Item (AnyRange K) ℤ → List ℕ → Type 0
+SpellsItem item text =
+    (first : ℤ) × (last : ℤ)
+    × (text ≡ span_text first last ++ codes " " ++ signed_decimal item.value ++ 10 ∷ [])
+
+-- the line of a free range: its first and its last key
+abbrev pub SpellsGap : {K : Type 0} → AnyRange K → List ℕ → Type 0
+SpellsGap gap text = (first : ℤ) × (last : ℤ) × (text ≡ span_text first last ++ 10 ∷ [])
+
+-- a value, or the word for a free piece
+abbrev pub binding_text : Option ℤ → List ℕ
+binding_text (Some value) = signed_decimal value
+binding_text None = codes "free"
+
+-- the line of a piece: its first and its last key, and what it is bound to
+abbrev pub SpellsPiece : {K : Type 0} → Item (AnyRange K) (Option ℤ) → List ℕ → Type 0
+SpellsPiece piece text =
+    (first : ℤ) × (last : ℤ)
+    × (text ≡ span_text first last ++ codes " " ++ binding_text piece.value ++ 10 ∷ [])
+
+-- a line for each, in order
+abbrev pub SpellsEach : {X : Type 0} → (X → List ℕ → Type 0) → List X → List ℕ → Type 0
+SpellsEach SpellsOne [] text = text ≡ []
+SpellsEach SpellsOne (x ∷ rest) text =
+    (line : List ℕ) × (lines : List ℕ) × SpellsOne x line × SpellsEach SpellsOne rest lines
+    × (text ≡ line ++ lines)
+
+-- a line for each, or another one where there is none
+abbrev pub SpellsLines : {X : Type 0} → (X → List ℕ → Type 0) → List ℕ → List X → List ℕ → Type 0
+SpellsLines SpellsOne none [] text = text ≡ none
+SpellsLines SpellsOne none (x ∷ rest) text = SpellsEach SpellsOne (x ∷ rest) text
+
+-- the line of a reply
+abbrev pub SpellsReply : {K : Type 0} → Reply K → List ℕ → Type 0
+SpellsReply Done text = text ≡ codes "ok\n"
+SpellsReply Memory text = text ≡ codes "memory\n"
+SpellsReply Nothing text = text ≡ codes "none\n"
+SpellsReply (Value value) text = text ≡ signed_decimal value ++ 10 ∷ []
+SpellsReply (Stored stored) text = SpellsItem (pair_item stored) text
+SpellsReply (Truth true) text = text ≡ codes "true\n"
+SpellsReply (Truth false) text = text ≡ codes "false\n"
+SpellsReply (Number number) text = text ≡ decimal number ++ 10 ∷ []
+
+-- known bytes grow by a text that fits
+abbrev pub Writes : Option (List ℕ) → Option (List ℕ) → (List ℕ → Type 0) → Type 0
+Writes before after Fits = (text : List ℕ) × Fits text × Appends before after text

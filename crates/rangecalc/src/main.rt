@@ -1,0 +1,60 @@
+//! Reads lines, keeps four range maps, and prints the replies.
+#![tactic(auto)]
+
+use std::io::{self, BufReader, BufWriter, ErrorKind, LineWriter};
+use std::process::ExitCode;
+use std::{env, fs};
+
+mod answer;
+mod line;
+mod listing;
+mod maps;
+mod number;
+mod serve;
+mod write;
+
+const BUFFER_BYTES: usize = 65536;
+
+/// The arguments without the program's name. One that isn't text is no word that the program knows,
+/// so then there are none.
+fn words(rt: &HostRuntime) -> io::Result<Vec<String>> {
+    match env::args(rt) {
+        Ok(arguments) => Ok(arguments.skip(1).collect(rt.alloc())?),
+        Err(error) if error.kind() == ErrorKind::OutOfMemory => Err(error),
+        Err(_) => Ok(Vec::new(rt.alloc())),
+    }
+}
+
+/// Whether standard input is a regular file. Where the file system does not tell, it is taken for
+/// none.
+fn reads_file(rt: &HostRuntime) -> bool {
+    match fs::metadata(rt, "/dev/stdin") {
+        Ok(metadata) => metadata.is_file(),
+        Err(_) => false,
+    }
+}
+
+/// Serves the standard streams. A file is answered in large writes; a person or a program gets each
+/// line of a reply as it is written, so that it can read the reply before it sends the next
+/// command.
+fn run(rt: &HostRuntime) -> io::Result<u8> {
+    let alloc = rt.alloc();
+    let words = words(rt)?;
+    let words = words.as_slice();
+    let input = BufReader::with_capacity(alloc, BUFFER_BYTES, rt.reader())?;
+    let mut err = rt.stderr();
+    if reads_file(rt) {
+        let mut out = BufWriter::with_capacity(alloc, BUFFER_BYTES, rt.stdout())?;
+        Ok(serve::serve(alloc, words, input, &mut out, &mut err))
+    } else {
+        let mut out = LineWriter::with_capacity(alloc, BUFFER_BYTES, rt.stdout())?;
+        Ok(serve::serve(alloc, words, input, &mut out, &mut err))
+    }
+}
+
+fn main(rt: HostRuntime) -> ExitCode {
+    match run(&rt) {
+        Ok(status) => ExitCode::from(status),
+        Err(_) => ExitCode::FAILURE,
+    }
+}
