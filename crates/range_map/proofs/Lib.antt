@@ -40,6 +40,7 @@ pub mod MergedItems
 pub mod Once
 pub mod OuterBounds
 pub mod Overlapping
+pub mod Overlays
 pub mod Overlaps
 pub mod PieceAnswers
 pub mod PieceLists

@@ -18,6 +18,7 @@ pub mod Lookups
 pub mod Merged
 pub mod Neighbours
 pub mod Overlapping
+pub mod Overlays
 pub mod PieceLists
 pub mod Pieces
 pub mod Plans

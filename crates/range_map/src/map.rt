@@ -7,6 +7,7 @@ ghost use Rattle.range_store.specs.Counting.{AddsSteps};
 ghost use Rattle.range_map.specs.Bindings.{Binds, IsCoarse, IsItemFor, IsStoredFor, IsOnlyCoarse, IsLeastCount};
 ghost use Rattle.range_map.specs.Iteration.{shown_item};
 
+mod algebra;
 mod clear;
 mod clone;
 mod combine;
