@@ -1,11 +1,12 @@
 -- How many steps a run adds.
-use Rattle.std.proofs.Common.{◌≡◌, refl, ℕ, ◌+◌, ◌*◌, ◌^◌, ◌<◌, ◌≤◌, Bool, true, false, List, [], ◌∷◌, ◌++◌, length, ◌⊎◌, inl, inr, ap, arith, suc, zero}
+use Rattle.std.proofs.Common.{◌≡◌, refl, ℕ, ◌+◌, ◌*◌, ◌^◌, ◌<◌, ◌≤◌, Bool, true, false, List, [], ◌∷◌, ◌++◌, length, ◌⊎◌, inl, inr, ap, subst, arith, suc, zero}
 use Rattle.std.specs.Prelude.{Option, Result, Ok, Err, IfOk, OnErr}
 use Rattle.range_keys.specs.Order.{KeyOrder}
 use Rattle.range_algebra.specs.Range.{IsEmptyRange}
 use Rattle.range_algebra.specs.declared.any.AnyRange.{AnyRange}
 use Rattle.range_algebra.proofs.Pieces.{empty_or_not}
-use Rattle.range_store.specs.Holding.{box_items, box_levels}
+use Rattle.range_store.specs.Depth.{HasLevels}
+use Rattle.range_store.specs.Holding.{box_items}
 use Rattle.range_store.specs.declared.btree.BoxStorage.{BoxStorage}
 use Rattle.range_store.specs.declared.btree.nodes.TheConstants.{CAPACITY}
 use Rattle.range_store.specs.declared.btree.searching.TheConstants.{MAX_ASKS}
@@ -348,28 +349,32 @@ module _ {K : Type 0} (order : KeyOrder K) {V : Type 0} where
         omega (arith, ap length same_list)
 
 module _ {X : Type 0} where
+  -- a tree has as many levels as so many items may have
+  depth : (s : BoxStorage X) → HasLevels (length (box_items s)) s.levels
+  depth s = subst (λ many. HasLevels many s.levels) s.counted s.levelled
+
   -- how often a search of a tree asks that has at most so many items
   pub few_asks : (many level : ℕ) → IsGreatestLevel (many + 1) level → (s : BoxStorage X)
-      → length (box_items s) ≤ many → MAX_ASKS * s.tree.levels ≤ MAX_ASKS * level
+      → length (box_items s) ≤ many → MAX_ASKS * s.levels ≤ MAX_ASKS * level
   few_asks many level greatest s within =
       elim (some_or_none (length (box_items s))) [
-        | inl some ↦ elim (some_or_none s.tree.levels) [
+        | inl some ↦ elim (some_or_none s.levels) [
           | inl high ↦
               omega (
                 arith,
-                greatest.greatest s.tree.levels (omega (arith, high))
-                    (omega (arith, (box_levels s).least some, within)),
+                greatest.greatest s.levels (omega (arith, high))
+                    (omega (arith, (depth s).least some, within)),
               )
           | inr none ↦ omega (arith, none)
         ]
-        | inr none ↦ omega (arith, (box_levels s).empty none)
+        | inr none ↦ omega (arith, (depth s).empty none)
       ]
 
-  pub some_asks : (s : BoxStorage X) → 0 < length (box_items s) → 1 ≤ s.tree.levels
+  pub some_asks : (s : BoxStorage X) → 0 < length (box_items s) → 1 ≤ s.levels
   some_asks s some =
-      elim (some_or_none s.tree.levels) [
+      elim (some_or_none s.levels) [
         | inl high ↦ omega (arith, high)
-        | inr none ↦ let one : (CAPACITY + 1) ^ s.tree.levels ≡ 1 =
+        | inr none ↦ let one : (CAPACITY + 1) ^ s.levels ≡ 1 =
             ap (λ m. (CAPACITY + 1) ^ m) none in absurd
-            (omega (arith, (box_levels s).most some, one, some))
+            (omega (arith, (depth s).most some, one, some))
       ]
