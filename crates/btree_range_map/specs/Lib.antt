@@ -105,4 +105,4 @@ pub use Rattle.range_commands.specs.declared.command.Reply
 pub use Rattle.range_json.specs.declared.error.JsonError
 pub use Rattle.range_json.specs.declared.error.ReadError
 -- The least and the greatest number of items of a node.
-pub use Rattle.range_store.specs.declared.btree.node.TheConstants as NodeConstants
+pub use Rattle.range_store.specs.declared.btree.nodes.TheConstants as NodeConstants

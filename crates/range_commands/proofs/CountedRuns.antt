@@ -1,14 +1,15 @@
 -- How many steps a run adds.
-use Rattle.std.proofs.Common.{◌≡◌, refl, ℕ, ◌+◌, ◌*◌, ◌^◌, ◌<◌, ◌≤◌, Bool, true, false, List, [], ◌∷◌, ◌++◌, length, ◌⊎◌, inl, inr, ap, arith, suc, zero}
+use Rattle.std.proofs.Common.{◌≡◌, refl, ℕ, ◌+◌, ◌*◌, ◌^◌, ◌<◌, ◌≤◌, Bool, true, false, List, [], ◌∷◌, ◌++◌, length, ◌⊎◌, inl, inr, ap, subst, arith, suc, zero}
 use Rattle.std.specs.Prelude.{Option, Result, Ok, Err, IfOk, OnErr}
 use Rattle.range_keys.specs.Order.{KeyOrder}
 use Rattle.range_algebra.specs.Range.{IsEmptyRange}
 use Rattle.range_algebra.specs.declared.any.AnyRange.{AnyRange}
 use Rattle.range_algebra.proofs.Pieces.{empty_or_not}
-use Rattle.range_store.specs.Holding.{box_items, box_levels}
+use Rattle.range_store.specs.Depth.{HasLevels}
+use Rattle.range_store.specs.Holding.{box_items}
 use Rattle.range_store.specs.declared.btree.BoxStorage.{BoxStorage}
-use Rattle.range_store.specs.declared.btree.node.TheConstants.{CAPACITY}
-use Rattle.range_store.specs.declared.btree.searching.TheConstants.{HALVINGS}
+use Rattle.range_store.specs.declared.btree.nodes.TheConstants.{CAPACITY}
+use Rattle.range_store.specs.declared.btree.searching.TheConstants.{MAX_ASKS}
 use Rattle.range_store.specs.declared.storage.Item.{Item}
 use Rattle.range_map.specs.Costs.{TakesAtLeast, TakesAsChange, IsGreatestLevel}
 use Rattle.range_commands.specs.CountedRuns.{least_if, HasNoMemory, IsDone, ChangeTakes, LookupTakes, TakesFor, IsDue, IsRunOfDue, IsCountedRun}
@@ -281,13 +282,13 @@ module _ {K : Type 0} (order : KeyOrder K) {V : Type 0} where
       -- at most so many steps: what each adds, beside what it leaves fewer, is bounded by the
       -- greatest search
       pub run_most : (level many : ℕ)
-          → ((s : S) → length (items s) ≤ many → most s ≤ HALVINGS * level)
+          → ((s : S) → length (items s) ≤ many → most s ≤ MAX_ASKS * level)
           → (s last : S) (commands : List (Command K V T)) (replies : List (Reply K V E))
           (before after : ℕ) → length (items s) + 2 * length commands ≤ many → HasNoUpdate commands
           → HasNoMemory replies
           → IsCountedRun order same may items least most s commands replies last before after
           → after + 2 * length (items last)
-          ≤ before + length commands * (2 * HALVINGS * level + 10) + 2 * length (items s)
+          ≤ before + length commands * (2 * MAX_ASKS * level + 10) + 2 * length (items s)
       run_most level many few s last [] [] before after within none memory run =
           omega (arith, ap (λ t. length (items t)) run.0, run.1)
       run_most level many few s last [] (r ∷ replies) before after within none memory run =
@@ -348,28 +349,32 @@ module _ {K : Type 0} (order : KeyOrder K) {V : Type 0} where
         omega (arith, ap length same_list)
 
 module _ {X : Type 0} where
+  -- a tree has as many levels as so many items may have
+  depth : (s : BoxStorage X) → HasLevels (length (box_items s)) s.levels
+  depth s = subst (λ many. HasLevels many s.levels) s.counted s.levelled
+
   -- how often a search of a tree asks that has at most so many items
   pub few_asks : (many level : ℕ) → IsGreatestLevel (many + 1) level → (s : BoxStorage X)
-      → length (box_items s) ≤ many → HALVINGS * s.tree.levels ≤ HALVINGS * level
+      → length (box_items s) ≤ many → MAX_ASKS * s.levels ≤ MAX_ASKS * level
   few_asks many level greatest s within =
       elim (some_or_none (length (box_items s))) [
-        | inl some ↦ elim (some_or_none s.tree.levels) [
+        | inl some ↦ elim (some_or_none s.levels) [
           | inl high ↦
               omega (
                 arith,
-                greatest.greatest s.tree.levels (omega (arith, high))
-                    (omega (arith, (box_levels s).least some, within)),
+                greatest.greatest s.levels (omega (arith, high))
+                    (omega (arith, (depth s).least some, within)),
               )
           | inr none ↦ omega (arith, none)
         ]
-        | inr none ↦ omega (arith, (box_levels s).empty none)
+        | inr none ↦ omega (arith, (depth s).empty none)
       ]
 
-  pub some_asks : (s : BoxStorage X) → 0 < length (box_items s) → 1 ≤ s.tree.levels
+  pub some_asks : (s : BoxStorage X) → 0 < length (box_items s) → 1 ≤ s.levels
   some_asks s some =
-      elim (some_or_none s.tree.levels) [
+      elim (some_or_none s.levels) [
         | inl high ↦ omega (arith, high)
-        | inr none ↦ let one : (CAPACITY + 1) ^ s.tree.levels ≡ 1 =
+        | inr none ↦ let one : (CAPACITY + 1) ^ s.levels ≡ 1 =
             ap (λ m. (CAPACITY + 1) ^ m) none in absurd
-            (omega (arith, (box_levels s).most some, one, some))
+            (omega (arith, (depth s).most some, one, some))
       ]

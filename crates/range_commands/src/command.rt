@@ -4,7 +4,7 @@ ghost use Rattle.std.specs.Option.{option_copied};
 ghost use Rattle.range_algebra.specs.Range.{ClonesAreEqual, IsEmptyRange};
 ghost use Rattle.range_map.specs.Bindings.{Binds, IsBound};
 ghost use Rattle.range_store.specs.Holding.{box_items};
-ghost use Rattle.range_store.specs.declared.btree.searching.TheConstants.{HALVINGS};
+ghost use Rattle.range_store.specs.declared.btree.searching.TheConstants.{MAX_ASKS};
 ghost use Rattle.range_map.specs.Costs.{TakesAtLeast, greatest_level};
 ghost use Rattle.range_commands.specs.CountedRuns.{ChangeTakes, LookupTakes, TakesFor, least_if, IsCountedRun, IsRunOfDue, HasNoMemory};
 ghost use Rattle.range_commands.specs.Runs.{IsInsertion, IsStep, IsRun, HasNoUpdate};
@@ -326,7 +326,7 @@ pub fn run_counted<
     ensures refused { OnErr result (box_items map.new ≡ box_items map.old) }
     ensures most { IfOk result (λ replies. HasNoUpdate commands.items → HasNoMemory replies.items
         → steps.new ≤ steps.old + length commands.items *
-        (2 * HALVINGS * greatest_level
+        (2 * MAX_ASKS * greatest_level
         (length (box_items map.old) + 2 * length commands.items + 1) + 10) + 2 * length
         (box_items map.old)) }
     ensures least { IfOk result (λ replies. (due : ℕ)

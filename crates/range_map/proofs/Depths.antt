@@ -2,7 +2,7 @@
 use Rattle.std.proofs.Common.{◌≡◌, ℕ, zero, suc, ◌+◌, ◌-◌, ◌*◌, ◌^◌, ◌<◌, ◌≤◌, ◌⊎◌, inl, inr, true, false, refl, arith}
 use Rattle.std.specs.Prelude.{nat_lt}
 use Rattle.std.proofs.lemmas.Bool.Decides.{leb_tells}
-use Rattle.range_store.specs.declared.btree.node.TheConstants.{MIN_LEN}
+use Rattle.range_store.specs.declared.btree.nodes.TheConstants.{MIN_LEN}
 use Rattle.range_store.proofs.Levels.{pow_more}
 use Rattle.range_map.specs.Costs.{IsGreatestLevel, greatest_level, greatest_level_to}
 

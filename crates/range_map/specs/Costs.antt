@@ -2,7 +2,7 @@
 -- items may have.
 use Rattle.std.specs.Prelude.{ℕ, ◌+◌, ◌*◌, ◌≤◌, min, ◌≡◌, zero, suc, ◌-◌, ◌^◌, ◌⊎◌, if◌then◌else◌, nat_lt}
 use Rattle.range_store.specs.Counting.{greatest_count}
-use Rattle.range_store.specs.declared.btree.node.TheConstants.{MIN_LEN}
+use Rattle.range_store.specs.declared.btree.nodes.TheConstants.{MIN_LEN}
 
 -- from `before` to `after` a counter took at least so many steps
 abbrev pub TakesAtLeast : ℕ → ℕ → ℕ → Type 0

@@ -1,7 +1,7 @@
 //! Times look-ups of a map of ranges in B-trees of two layouts, each searched in three ways, beside std's map: what
-//! the container could gain. Plain Rust: rustc -O layouts.rs && ./layouts [RANGES]
+//! the layout of the container gains. Plain Rust: rustc -O layouts.rs && ./layouts [RANGES]
 //!
-//! `numbers` has the items in a slab, and their numbers in the nodes, as `BoxStorage`; `items` has them in the nodes.
+//! `numbers` has the items in a slab, and their numbers in the nodes; `items` has them in the nodes, as `BoxStorage`.
 //! A node has 5 to 11 items. By halving it takes at most 4 asks, by fours 5, in turn 11.
 use std::collections::BTreeMap;
 use std::hint::black_box;

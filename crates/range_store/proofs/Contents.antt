@@ -4,33 +4,37 @@ use Rattle.std.specs.List.{All, flat_map}
 use Rattle.std.proofs.lemmas.List.{append-nil, length-append, length-map, length-take-le, length-drop, take-append-drop, take-map, drop-map}
 use Rattle.std.proofs.lemmas.List.Concat.{flat_map-append}
 use Rattle.std.proofs.lemmas.List.Elements.{All-nil, All-cons, All-take, All-drop}
-use Rattle.slab.specs.Slab.{Slab, get}
-use Rattle.range_store.specs.declared.btree.node.Node.{Node}
-use Rattle.range_store.specs.declared.btree.node.Split.{Split}
-use Rattle.range_store.specs.declared.btree.node.TheConstants.{CAPACITY, MIN_LEN}
-use Rattle.range_store.specs.Nodes.{weave, items_of, children_of, child_count, numbers, used, Shaped, ShapedBut, here, Moves, Writes}
-use Rattle.range_store.specs.Contents.{IsContent, Settles, Divides}
+use Rattle.range_store.specs.Heap.{Heap, node_of, items_of, children_of, child_count, Writes, Divides}
+use Rattle.range_store.specs.declared.btree.nodes.Split.{Split}
+use Rattle.range_store.specs.declared.btree.nodes.TheConstants.{CAPACITY, MIN_LEN}
+use Rattle.range_store.specs.Nodes.{weave, items_below, used, Shaped, ShapedBut, here, Moves}
+use Rattle.range_store.specs.Contents.{IsContent, Settles}
 use Rattle.range_store.specs.Occurrences.{occurrences, occurrences-append, occurrences-cons}
-use Rattle.range_store.proofs.Frame.{AgreeAt, AgreeAt-left, AgreeAt-right, SameChildren, same_children}
-use Rattle.range_store.proofs.Below.{weave_numbers, used_is, child_count_cases}
+use Rattle.range_store.specs.Frame.{AgreeAt, AgreeAt-left, AgreeAt-right, SameChildren, same_children}
+use Rattle.range_store.proofs.Below.{weave_items_below, used_is, child_count_cases}
 use Rattle.range_store.proofs.Moves.{here_some, here_le, occurrences_self, SameNodes, Moves-like, Moves-then, Writes-moves, Stores-moves}
-use Rattle.range_store.proofs.Weave.{weave_halves}
+use Rattle.range_store.specs.Weave.{weave_halves}
 
--- a node of t has items and children of which s has the subtrees
-pub record Holds (s t : Slab Node) (d n : ℕ) (xs ks : List ℕ) : Type 0 where
-  pub present : IsSome (get t n)
-  pub items_are : items_of (get t n) ≡ xs
-  pub children_are : children_of (get t n) ≡ ks
-  pub same : SameChildren s t d ks
+module _ {T : Type 0} where
+  -- a node of t has items and children of which s has the subtrees
+  pub record Holds (s t : Heap T) (d n : ℕ) (xs : List T) (ks : List ℕ) : Type 0 where
+    pub present : IsSome (node_of t n)
+    pub items_are : items_of (node_of t n) ≡ xs
+    pub children_are : children_of (node_of t n) ≡ ks
+    pub same : SameChildren s t d ks
 
-module _ (s t : Slab Node) (d n : ℕ) (xs ks : List ℕ) (holds : Holds s t d n xs ks) where
-  pub held_numbers : numbers t (suc d) n ≡ weave xs (map (numbers s d) ks)
-  held_numbers = weave_numbers t d n ∙ rw (holds.items_are, holds.children_are, holds.same.numbers_same) refl
+module _ {T : Type 0} (s t : Heap T) (d n : ℕ) (xs : List T) (ks : List ℕ)
+    (holds : Holds s t d n xs ks) where
+  pub held_items_below : items_below t (suc d) n ≡ weave xs (map (items_below s d) ks)
+  held_items_below =
+      weave_items_below t d n
+      ∙ rw (holds.items_are, holds.children_are, holds.same.items_below_same) refl
 
   pub held_used : used t (suc d) n ≡ n ∷ flat_map (used s d) ks
   held_used = used_is t d n ∙ rw (holds.children_are, holds.same.used_same) refl
 
-  pub held_shape : (least : ℕ) → least ≤ length xs → length xs ≤ CAPACITY → length ks ≡ child_count d (length xs) → All (Shaped s d) ks → ShapedBut least CAPACITY t d n
+  pub held_shape : (least : ℕ) → least ≤ length xs → length xs ≤ CAPACITY
+      → length ks ≡ child_count d (length xs) → All (Shaped s d) ks → ShapedBut least CAPACITY t d n
   held_shape least enough fits branches shaped = record {
     node = record {
       present = holds.present;
@@ -42,18 +46,27 @@ module _ (s t : Slab Node) (d n : ℕ) (xs ks : List ℕ) (holds : Holds s t d n
   }
 
 -- a part of the children of a node
-pub child_count_part : (d k m k' m' : ℕ) → m ≡ child_count d k → (m ≡ 0 → m' ≡ 0) → (m ≡ k + 1 → m' ≡ k' + 1) → m' ≡ child_count d k'
+pub child_count_part : (d k m k' m' : ℕ) → m ≡ child_count d k → (m ≡ 0 → m' ≡ 0)
+    → (m ≡ k + 1 → m' ≡ k' + 1) → m' ≡ child_count d k'
 child_count_part zero k m k' m' h none some = none h
 child_count_part (suc d) k m k' m' h none some = some h
 
-module _ (s t : Slab Node) (d n : ℕ) (xs ks : List ℕ) (content : IsContent s d n xs ks) where
+module _ {T : Type 0} (s t : Heap T) (d n : ℕ) (xs : List T) (ks : List ℕ)
+    (content : IsContent s d n xs ks) where
   -- the subtrees of the children do not have the node
   pub content_apart : (k : ℕ) → 0 < occurrences k (flat_map (used s d) ks) → k ≢ n
   content_apart k among same =
-      omega (arith, content.owned k, occurrences-cons k n (flat_map (used s d) ks), here_le s k, occurrences_self n k (sym same))
+      omega (
+        arith,
+        content.owned k,
+        occurrences-cons k n (flat_map (used s d) ks),
+        here_le s k,
+        occurrences_self n k (sym same),
+      )
 
   pub content_there : (k : ℕ) → 0 < occurrences k (flat_map (used s d) ks) → here s k ≡ 1
-  content_there k among = omega (arith, content.owned k, occurrences-cons k n (flat_map (used s d) ks), here_le s k)
+  content_there k among =
+      omega (arith, content.owned k, occurrences-cons k n (flat_map (used s d) ks), here_le s k)
 
   module _ (written : Writes s t n xs ks) where
     pub written_agree : AgreeAt s t (flat_map (used s d) ks)
@@ -69,34 +82,57 @@ module _ (s t : Slab Node) (d n : ℕ) (xs ks : List ℕ) (content : IsContent s
 
     pub written_settles : length xs ≤ CAPACITY → Settles s t d n xs ks None
     written_settles fits = record {
-      listed = append-nil (numbers t (suc d) n) ∙ held_numbers s t d n xs ks written_holds;
-      moved = subst (λ zs. Moves s t (n ∷ flat_map (used s d) ks) zs) (sym (append-nil (used t (suc d) n) ∙ held_used s t d n xs ks written_holds)) (Writes-moves s t n xs ks (flat_map (used s d) ks) written);
-      shape = λ least small enough. All-cons (ShapedBut least CAPACITY t d) n [] (held_shape s t d n xs ks written_holds least enough fits content.branches content.shaped) (All-nil _);
+      listed = append-nil (items_below t (suc d) n) ∙ held_items_below s t d n xs ks written_holds;
+      moved =
+          subst (λ zs. Moves s t (n ∷ flat_map (used s d) ks) zs)
+          (sym (append-nil (used t (suc d) n) ∙ held_used s t d n xs ks written_holds))
+          (Writes-moves s t n xs ks (flat_map (used s d) ks) written);
+      shape =
+          λ least small enough. All-cons (ShapedBut least CAPACITY t d) n []
+          (held_shape s t d n xs ks written_holds least enough fits content.branches content.shaped)
+          (All-nil _);
     }
 
 -- the items before and after the one at `half`, in two nodes
-module _ (s t : Slab Node) (d n r half : ℕ) (xs ks : List ℕ) (content : IsContent s d n xs ks) (low : half < length xs) (left : Holds s t d n (take half xs) (take (half + 1) ks)) (right : Holds s t d r (drop (half + 1) xs) (drop (half + 1) ks)) where
+module _ {T : Type 0} (s t : Heap T) (d n r half : ℕ) (xs : List T) (ks : List ℕ)
+    (content : IsContent s d n xs ks) (low : half < length xs)
+    (left : Holds s t d n (take half xs) (take (half + 1) ks))
+    (right : Holds s t d r (drop (half + 1) xs) (drop (half + 1) ks)) where
   abbrev us : List ℕ
   us = take (half + 1) ks
 
   abbrev vs : List ℕ
   vs = drop (half + 1) ks
 
-  lists_fit : (length (map (numbers s d) ks) ≡ 0) ⊎ (length (map (numbers s d) ks) ≡ length xs + 1)
-  lists_fit = child_count_cases d (length xs) (length (map (numbers s d) ks)) (length-map ks (numbers s d) ∙ content.branches)
+  lists_fit : (length (map (items_below s d) ks) ≡ 0) ⊎
+      (length (map (items_below s d) ks) ≡ length xs + 1)
+  lists_fit =
+      child_count_cases d (length xs) (length (map (items_below s d) ks))
+      (length-map ks (items_below s d) ∙ content.branches)
 
-  pub left_numbers : numbers t (suc d) n ≡ weave (take half xs) (map (numbers s d) us)
-  left_numbers = held_numbers s t d n (take half xs) us left
+  pub left_items_below : items_below t (suc d) n ≡ weave (take half xs) (map (items_below s d) us)
+  left_items_below = held_items_below s t d n (take half xs) us left
 
-  right_numbers : numbers t (suc d) r ≡ weave (drop (half + 1) xs) (map (numbers s d) vs)
-  right_numbers = held_numbers s t d r (drop (half + 1) xs) vs right
+  right_items_below : items_below t (suc d) r
+      ≡ weave (drop (half + 1) xs) (map (items_below s d) vs)
+  right_items_below = held_items_below s t d r (drop (half + 1) xs) vs right
 
-  pub halves_listed : (middle : ℕ) → middle ≡ get_or xs half 0 → numbers t (suc d) n ++ (middle ∷ (numbers t (suc d) r ++ [])) ≡ weave xs (map (numbers s d) ks)
+  pub halves_listed : (middle : T) → middle ≡ get_or xs half middle
+      → items_below t (suc d) n
+      ++ (middle ∷ (items_below t (suc d) r ++ [])) ≡ weave xs (map (items_below s d) ks)
   halves_listed middle is =
       let next : suc half ≡ half + 1 = omega arith in
-      let halves = rw next at (weave_halves xs (map (numbers s d) ks) half 0 low lists_fit) in
-      ap (λ zs. numbers t (suc d) n ++ (middle ∷ zs)) (append-nil (numbers t (suc d) r))
-      ∙ sym (halves ∙ rw (take-map (numbers s d) (half + 1) ks, drop-map (numbers s d) (half + 1) ks, ← is, ← left_numbers, ← right_numbers) refl)
+      let halves =
+      rw next at (weave_halves xs (map (items_below s d) ks) half middle low lists_fit) in
+      ap (λ zs. items_below t (suc d) n ++ (middle ∷ zs)) (append-nil (items_below t (suc d) r))
+      ∙ sym (halves
+      ∙ rw (
+        take-map (items_below s d) (half + 1) ks,
+        drop-map (items_below s d) (half + 1) ks,
+        ← is,
+        ← left_items_below,
+        ← right_items_below,
+      ) refl)
 
   left_used : used t (suc d) n ≡ n ∷ flat_map (used s d) us
   left_used = held_used s t d n (take half xs) us left
@@ -104,12 +140,35 @@ module _ (s t : Slab Node) (d n r half : ℕ) (xs ks : List ℕ) (content : IsCo
   right_used : used t (suc d) r ≡ r ∷ flat_map (used s d) vs
   right_used = held_used s t d r (drop (half + 1) xs) vs right
 
-  pub halves_nodes : SameNodes (r ∷ n ∷ flat_map (used s d) ks) (used t (suc d) n ++ (used t (suc d) r ++ []))
+  pub halves_nodes : SameNodes (r ∷ n ∷ flat_map (used s d) ks)
+      (used t (suc d) n ++ (used t (suc d) r ++ []))
   halves_nodes =
-      let both : flat_map (used s d) ks ≡ flat_map (used s d) us ++ flat_map (used s d) vs = ap (flat_map (used s d)) (sym (take-append-drop (half + 1) ks)) ∙ flat_map-append (used s d) us vs in
+      let both : flat_map (used s d) ks ≡ flat_map (used s d) us ++ flat_map (used s d) vs =
+      ap (flat_map (used s d)) (sym (take-append-drop (half + 1) ks))
+      ∙ flat_map-append (used s d) us vs in
       rw (left_used, right_used) (record {
-        occur = λ k. omega (arith, occurrences-cons k r (n ∷ flat_map (used s d) ks), occurrences-cons k n (flat_map (used s d) ks), ap (occurrences k) both, occurrences-append k (flat_map (used s d) us) (flat_map (used s d) vs), occurrences-append k (n ∷ flat_map (used s d) us) (r ∷ (flat_map (used s d) vs ++ [])), occurrences-cons k n (flat_map (used s d) us), occurrences-cons k r (flat_map (used s d) vs ++ []), ap (occurrences k) (append-nil (flat_map (used s d) vs)));
-        len = omega (arith, ap length both, length-append (flat_map (used s d) us) (flat_map (used s d) vs), length-append (n ∷ flat_map (used s d) us) (r ∷ (flat_map (used s d) vs ++ [])), ap length (append-nil (flat_map (used s d) vs)));
+        occur =
+            λ k.
+            omega (
+              arith,
+              occurrences-cons k r (n ∷ flat_map (used s d) ks),
+              occurrences-cons k n (flat_map (used s d) ks),
+              ap (occurrences k) both,
+              occurrences-append k (flat_map (used s d) us) (flat_map (used s d) vs),
+              occurrences-append k (n ∷ flat_map (used s d) us)
+                  (r ∷ (flat_map (used s d) vs ++ [])),
+              occurrences-cons k n (flat_map (used s d) us),
+              occurrences-cons k r (flat_map (used s d) vs ++ []),
+              ap (occurrences k) (append-nil (flat_map (used s d) vs)),
+            );
+        len =
+            omega (
+              arith,
+              ap length both,
+              length-append (flat_map (used s d) us) (flat_map (used s d) vs),
+              length-append (n ∷ flat_map (used s d) us) (r ∷ (flat_map (used s d) vs ++ [])),
+              ap length (append-nil (flat_map (used s d) vs)),
+            );
       })
 
   branches_left : length us ≡ child_count d half
@@ -118,7 +177,8 @@ module _ (s t : Slab Node) (d n r half : ℕ) (xs ks : List ℕ) (content : IsCo
       (λ some. length-take-le (half + 1) ks (omega (arith, some, low)))
 
   branches_right : length vs ≡ child_count d (length xs - half - 1)
-  branches_right = child_count_part d (length xs) (length ks) (length xs - half - 1) (length vs) content.branches
+  branches_right =
+      child_count_part d (length xs) (length ks) (length xs - half - 1) (length vs) content.branches
       (λ none. omega (arith, length-drop (half + 1) ks, none))
       (λ some. omega (arith, length-drop (half + 1) ks, some, low))
 
@@ -128,50 +188,106 @@ module _ (s t : Slab Node) (d n r half : ℕ) (xs ks : List ℕ) (content : IsCo
   right_length : length (drop (half + 1) xs) ≡ length xs - half - 1
   right_length = omega (arith, length-drop (half + 1) xs, low)
 
-  pub halves_shape : MIN_LEN ≤ half → half ≤ CAPACITY → half + 1 + MIN_LEN ≤ length xs → length xs ≤ half + 1 + CAPACITY → (least : ℕ) → least ≤ MIN_LEN → All (ShapedBut least CAPACITY t d) (n ∷ r ∷ [])
+  pub halves_shape : MIN_LEN ≤ half → half ≤ CAPACITY → half + 1 + MIN_LEN ≤ length xs
+      → length xs ≤ half + 1 + CAPACITY → (least : ℕ) → least ≤ MIN_LEN
+      → All (ShapedBut least CAPACITY t d) (n ∷ r ∷ [])
   halves_shape least_left most_left least_right most_right least small =
       All-cons (ShapedBut least CAPACITY t d) n (r ∷ [])
-      (held_shape s t d n (take half xs) us left least (omega (arith, left_length, least_left, small)) (omega (arith, left_length, most_left)) (branches_left ∙ ap (child_count d) (sym left_length)) (All-take (Shaped s d) (half + 1) ks content.shaped))
+      (held_shape s t d n (take half xs) us left least
+      (omega (arith, left_length, least_left, small)) (omega (arith, left_length, most_left))
+      (branches_left ∙ ap (child_count d) (sym left_length))
+      (All-take (Shaped s d) (half + 1) ks content.shaped))
       (All-cons (ShapedBut least CAPACITY t d) r []
-      (held_shape s t d r (drop (half + 1) xs) vs right least (omega (arith, right_length, least_right, small)) (omega (arith, right_length, most_right)) (branches_right ∙ ap (child_count d) (sym right_length)) (All-drop (Shaped s d) (half + 1) ks content.shaped))
+      (held_shape s t d r (drop (half + 1) xs) vs right least
+      (omega (arith, right_length, least_right, small))
+      (omega (arith, right_length, most_right))
+      (branches_right ∙ ap (child_count d) (sym right_length))
+      (All-drop (Shaped s d) (half + 1) ks content.shaped))
       (All-nil _))
 
 -- they are parts of the children
-pub part_agree : (s t : Slab Node) (d half : ℕ) (ks : List ℕ) → AgreeAt s t (flat_map (used s d) ks) → AgreeAt s t (flat_map (used s d) (take half ks)) × AgreeAt s t (flat_map (used s d) (drop half ks))
+pub part_agree : {T : Type 0} (s t : Heap T) (d half : ℕ) (ks : List ℕ)
+    → AgreeAt s t (flat_map (used s d) ks)
+    → AgreeAt s t (flat_map (used s d) (take half ks))
+    × AgreeAt s t (flat_map (used s d) (drop half ks))
 part_agree s t d half ks agree =
-    let both : flat_map (used s d) ks ≡ flat_map (used s d) (take half ks) ++ flat_map (used s d) (drop half ks) = ap (flat_map (used s d)) (sym (take-append-drop half ks)) ∙ flat_map-append (used s d) (take half ks) (drop half ks) in
-    let parts = subst (AgreeAt s t) both agree in
-    (AgreeAt-left s t (flat_map (used s d) (take half ks)) (flat_map (used s d) (drop half ks)) parts, AgreeAt-right s t (flat_map (used s d) (take half ks)) (flat_map (used s d) (drop half ks)) parts)
+    let both : flat_map (used s d) ks ≡ flat_map (used s d) (take half ks)
+    ++ flat_map (used s d) (drop half ks) =
+    ap (flat_map (used s d)) (sym (take-append-drop half ks))
+    ∙ flat_map-append (used s d) (take half ks) (drop half ks) in
+    let parts = subst (AgreeAt s t) both agree in (
+      AgreeAt-left s t (flat_map (used s d) (take half ks))
+          (flat_map (used s d) (drop half ks)) parts,
+      AgreeAt-right s t (flat_map (used s d) (take half ks))
+          (flat_map (used s d) (drop half ks)) parts,
+    )
 
-module _ (s t : Slab Node) (d n half : ℕ) (xs ks : List ℕ) (split : Split) (content : IsContent s d n xs ks) (cut : Divides s t n half xs ks split) (low : half < length xs) where
+module _ {T : Type 0} (s t : Heap T) (d n half : ℕ) (xs : List T) (ks : List ℕ) (split : Split T)
+    (content : IsContent s d n xs ks) (cut : Divides s t n half xs ks split.middle split.right)
+    (low : half < length xs) where
   pub cut_agree : AgreeAt s t (flat_map (used s d) ks)
   cut_agree k among =
-      let kept : get cut.between k ≡ get s k = cut.first.others k (content_apart s t d n xs ks content k among) in
+      let kept : node_of cut.between k ≡ node_of s k =
+      cut.first.others k (content_apart s t d n xs ks content k among) in
       let was : here s k ≡ 1 = content_there s t d n xs ks content k among in
-      cut.second.others k (λ same. let none : here cut.between k ≡ 0 = rw (same, cut.second.fresh) refl in let now : here cut.between k ≡ here s k = rw kept refl in omega (arith, none, now, was))
+      cut.second.others k (λ same.
+      let none : here cut.between k ≡ 0 =
+      rw (same, cut.second.fresh) refl in let now : here cut.between k ≡ here s k =
+      rw kept refl in omega (arith, none, now, was))
       ∙ kept
 
-  n_kept : get t n ≡ get cut.between n
-  n_kept = cut.second.others n (λ same. let none : here cut.between n ≡ 0 = rw (same, cut.second.fresh) refl in omega (arith, none, here_some cut.between n cut.first.present))
+  n_kept : node_of t n ≡ node_of cut.between n
+  n_kept =
+      cut.second.others n (λ same.
+      let none : here cut.between n ≡ 0 =
+      rw (same, cut.second.fresh) refl in omega
+      (arith, none, here_some cut.between n cut.first.present))
 
   pub left_holds : Holds s t d n (take half xs) (take (half + 1) ks)
-  left_holds = record { present = rw n_kept cut.first.present; items_are = rw n_kept cut.first.items_are; children_are = rw n_kept cut.first.children_are; same = same_children s t d (take (half + 1) ks) (part_agree s t d (half + 1) ks cut_agree).0 }
+  left_holds =
+      record {
+        present = rw n_kept cut.first.present;
+        items_are = rw n_kept cut.first.items_are;
+        children_are = rw n_kept cut.first.children_are;
+        same =
+            same_children s t d (take (half + 1) ks) (part_agree s t d (half + 1) ks cut_agree).0;
+      }
 
   pub right_holds : Holds s t d split.right (drop (half + 1) xs) (drop (half + 1) ks)
-  right_holds = record { present = cut.second.present; items_are = cut.second.items_are; children_are = cut.second.children_are; same = same_children s t d (drop (half + 1) ks) (part_agree s t d (half + 1) ks cut_agree).1 }
+  right_holds =
+      record {
+        present = cut.second.present;
+        items_are = cut.second.items_are;
+        children_are = cut.second.children_are;
+        same =
+            same_children s t d (drop (half + 1) ks) (part_agree s t d (half + 1) ks cut_agree).1;
+      }
 
-  moved : Moves s t (n ∷ flat_map (used s d) ks) (used t (suc d) n ++ (used t (suc d) split.right ++ []))
+  moved : Moves s t (n ∷ flat_map (used s d) ks)
+      (used t (suc d) n ++ (used t (suc d) split.right ++ []))
   moved =
       let U = flat_map (used s d) ks in
-      let first = Writes-moves s cut.between n (take half xs) (take (half + 1) ks) (flat_map (used s d) ks) cut.first in
-      let second = Stores-moves cut.between t split.right (drop (half + 1) xs) (drop (half + 1) ks) (n ∷ flat_map (used s d) ks) cut.second in
-      Moves-like s t (n ∷ U) (n ∷ U) (split.right ∷ n ∷ U) (used t (suc d) n ++ (used t (suc d) split.right ++ [])) (record { occur = λ k. refl; len = refl })
+      let first =
+      Writes-moves s cut.between n (take half xs) (take (half + 1) ks)
+      (flat_map (used s d) ks) cut.first in
+      let second =
+      Stores-moves cut.between t split.right (drop (half + 1) xs) (drop (half + 1) ks)
+      (n ∷ flat_map (used s d) ks) cut.second in
+      Moves-like s t (n ∷ U) (n ∷ U) (split.right ∷ n ∷ U)
+      (used t (suc d) n ++ (used t (suc d) split.right ++ []))
+      (record { occur = λ k. refl; len = refl })
       (halves_nodes s t d n split.right half xs ks content low left_holds right_holds)
       (Moves-then s cut.between t (n ∷ U) (n ∷ U) (split.right ∷ n ∷ U) first second)
 
-  pub cut_settles : MIN_LEN ≤ half → half ≤ CAPACITY → half + 1 + MIN_LEN ≤ length xs → length xs ≤ half + 1 + CAPACITY → Settles s t d n xs ks (Some split)
+  pub cut_settles : MIN_LEN ≤ half → half ≤ CAPACITY → half + 1 + MIN_LEN ≤ length xs
+      → length xs ≤ half + 1 + CAPACITY → Settles s t d n xs ks (Some split)
   cut_settles least_left most_left least_right most_right = record {
-    listed = halves_listed s t d n split.right half xs ks content low left_holds right_holds split.middle cut.middle;
+    listed =
+        halves_listed s t d n split.right half xs ks content low left_holds right_holds split.middle
+        cut.middle_is;
     moved = moved;
-    shape = λ least small enough. halves_shape s t d n split.right half xs ks content low left_holds right_holds least_left most_left least_right most_right least small;
+    shape =
+        λ least small enough.
+        halves_shape s t d n split.right half xs ks content low left_holds right_holds least_left
+        most_left least_right most_right least small;
   }

@@ -1,59 +1,65 @@
 -- A test that falls once along a list.
-use Rattle.std.proofs.Common.{◌≡◌, ◌⊎◌, ℕ, zero, suc, ◌+◌, ◌-◌, ◌/◌, ◌^◌, ◌<◌, ◌≤◌, Bool, true, false, cond, List, [], ◌∷◌, ◌++◌, length, get_or, refl, ◌∙◌, inl, inr, arith, count_by, Some, min}
+use Rattle.std.proofs.Common.{◌≡◌, ◌⊎◌, ℕ, zero, suc, ◌+◌, ◌-◌, ◌/◌, ◌^◌, ◌<◌, ◌≤◌, Bool, true, false, cond, List, [], ◌∷◌, ◌++◌, length, get_or, refl, sym, ◌∙◌, inl, inr, arith, count_by, Some, IsSome, min}
 use Rattle.std.proofs.Math.Nat.{pow-suc}
-use Rattle.std.proofs.lemmas.List.Sums.{sum_by-cons, sum_by-append}
-use Rattle.range_store.specs.declared.btree.node.TheConstants.{CAPACITY}
-use Rattle.range_store.specs.declared.btree.searching.TheConstants.{HALVINGS}
+use Rattle.std.specs.List.{All}
+use Rattle.std.specs.List.Sorted.{IsPartitionedBy}
+use Rattle.std.proofs.lemmas.Bool.{false_from_ne_true, false≢true, both_ways}
+use Rattle.std.proofs.lemmas.List.Sums.{sum_by-cons, sum_by-append, count_by-le-length}
+use Rattle.range_store.specs.declared.btree.nodes.TheConstants.{CAPACITY}
+use Rattle.range_store.specs.declared.btree.searching.TheConstants.{MAX_ASKS}
 use Rattle.range_store.specs.Counting.{one_step_after, greatest_count}
-use Rattle.slab.specs.Slab.{Slab, get}
-use Rattle.range_store.specs.Falling.{Falls, passes}
+use Rattle.range_store.specs.Heap.{full_cells}
+use Rattle.range_store.specs.Places.{IsFrontOf}
+use Rattle.range_store.specs.Falling.{Falls, at_item}
 
-module _ (p : ℕ → Bool) where
-  pub count-cons : (x : ℕ) (xs : List ℕ) → count_by p (x ∷ xs) ≡ cond (p x) 1 0 + count_by p xs
+module _ {X : Type 0} (p : X → Bool) where
+  pub count-cons : (x : X) (xs : List X) → count_by p (x ∷ xs) ≡ cond (p x) 1 0 + count_by p xs
   count-cons x xs = sum_by-cons (λ y. cond (p y) 1 0) x xs
 
-  pub count-yes : (x : ℕ) (xs : List ℕ) → p x ≡ true → count_by p (x ∷ xs) ≡ 1 + count_by p xs
+  pub count-yes : (x : X) (xs : List X) → p x ≡ true → count_by p (x ∷ xs) ≡ 1 + count_by p xs
   count-yes x xs holds = count-cons x xs ∙ rw holds refl
 
-  pub count-no : (x : ℕ) (xs : List ℕ) → p x ≡ false → count_by p (x ∷ xs) ≡ count_by p xs
+  pub count-no : (x : X) (xs : List X) → p x ≡ false → count_by p (x ∷ xs) ≡ count_by p xs
   count-no x xs fails = count-cons x xs ∙ rw fails (omega arith)
 
   pub true_or_false : (b : Bool) → (b ≡ true) ⊎ (b ≡ false)
   true_or_false true = inl refl
   true_or_false false = inr refl
 
-  pub falls_true : (xs : List ℕ) (i : ℕ) → Falls p xs → i < length xs → p (get_or xs i 0) ≡ true → i + 1 ≤ count_by p xs
+  pub falls_true : (xs : List X) (i : ℕ) (d : X) → Falls p xs → i < length xs
+      → p (get_or xs i d) ≡ true → i + 1 ≤ count_by p xs
   unfolding Falls
-  falls_true [] i falls within holds = absurd (omega arith)
-  falls_true (x ∷ xs) zero falls within holds = omega (arith, count-yes x xs holds)
-  falls_true (x ∷ xs) (suc i) falls within holds =
-      let later = falls_true xs i falls.1 (omega arith) holds in
+  falls_true [] i d falls within holds = absurd (omega arith)
+  falls_true (x ∷ xs) zero d falls within holds = omega (arith, count-yes x xs holds)
+  falls_true (x ∷ xs) (suc i) d falls within holds =
+      let later = falls_true xs i d falls.1 (omega arith) holds in
       elim (true_or_false (p x)) [
         | inl here ↦ omega (arith, later, count-yes x xs here)
         | inr none ↦ absurd (omega (arith, later, falls.0 none))
       ]
 
-  pub falls_false : (xs : List ℕ) (i : ℕ) → Falls p xs → i < length xs → p (get_or xs i 0) ≡ false → count_by p xs ≤ i
+  pub falls_false : (xs : List X) (i : ℕ) (d : X) → Falls p xs → i < length xs
+      → p (get_or xs i d) ≡ false → count_by p xs ≤ i
   unfolding Falls
-  falls_false [] i falls within fails = absurd (omega arith)
-  falls_false (x ∷ xs) zero falls within fails = omega (arith, count-no x xs fails, falls.0 fails)
-  falls_false (x ∷ xs) (suc i) falls within fails =
-      let later = falls_false xs i falls.1 (omega arith) fails in
+  falls_false [] i d falls within fails = absurd (omega arith)
+  falls_false (x ∷ xs) zero d falls within fails = omega (arith, count-no x xs fails, falls.0 fails)
+  falls_false (x ∷ xs) (suc i) d falls within fails =
+      let later = falls_false xs i d falls.1 (omega arith) fails in
       elim (true_or_false (p x)) [
         | inl here ↦ omega (arith, later, count-yes x xs here)
         | inr none ↦ omega (arith, count-no x xs none, falls.0 none)
       ]
 
-  pub count-append : (xs ys : List ℕ) → count_by p (xs ++ ys) ≡ count_by p xs + count_by p ys
+  pub count-append : (xs ys : List X) → count_by p (xs ++ ys) ≡ count_by p xs + count_by p ys
   count-append xs ys = sum_by-append (λ y. cond (p y) 1 0) xs ys
 
   -- the parts of a list along which the test falls
-  pub record FallsParts (xs ys : List ℕ) : Type 0 where
+  pub record FallsParts (xs ys : List X) : Type 0 where
     pub front : Falls p xs
     pub back : Falls p ys
     pub none : count_by p xs < length xs → count_by p ys ≡ 0
 
-  pub falls_parts : (xs ys : List ℕ) → Falls p (xs ++ ys) → FallsParts xs ys
+  pub falls_parts : (xs ys : List X) → Falls p (xs ++ ys) → FallsParts xs ys
   unfolding Falls
   falls_parts [] ys falls = record { front = tt; back = falls; none = λ less. absurd (omega arith) }
   falls_parts (x ∷ xs) ys falls =
@@ -68,59 +74,161 @@ module _ (p : ℕ → Bool) where
             ];
       }
 
+  none_counted : (xs : List X) → ((k : ℕ) (d : X) → k < length xs → p (get_or xs k d) ≡ false)
+      → count_by p xs ≡ 0
+  none_counted [] fails = refl
+  none_counted (x ∷ xs) fails =
+      omega (
+        arith,
+        count-no x xs (fails 0 x (omega arith)),
+        none_counted xs (λ k d within. fails (suc k) d (omega arith)),
+      )
+
+  -- a test that holds on a front alone falls
+  pub falls_partitioned : (xs : List X) → IsPartitionedBy p xs → Falls p xs
+  unfolding Falls
+  falls_partitioned [] part = tt
+  falls_partitioned (x ∷ xs) part = (
+    (λ fails. none_counted xs
+        (λ k d within. false_from_ne_true _
+        (λ holds. both_ways (p x) fails
+        (part 0 (suc k) d (omega arith) (omega (arith, within)) holds)))),
+    falls_partitioned xs (λ i j d le within holds.
+        part (suc i) (suc j) d (omega arith) (omega (arith, within)) holds),
+  )
+
+  -- the items that pass are the first ones
+  pub falling_front : (xs : List X) → Falls p xs → IsFrontOf p xs (count_by p xs)
+  falling_front xs falls = (
+    count_by-le-length p xs,
+    (
+      (λ k d low less.
+          elim (true_or_false (p (get_or xs k d))) [
+            | inl holds ↦ holds
+            | inr fails ↦
+                absurd
+                (omega (
+                  arith,
+                  less,
+                  falls_false xs k d falls (omega (arith, less, count_by-le-length p xs)) fails,
+                ))
+          ]),
+      (λ k d low within.
+          elim (true_or_false (p (get_or xs k d))) [
+            | inl holds ↦ absurd (omega (arith, low, falls_true xs k d falls within holds))
+            | inr fails ↦ fails
+          ]),
+    ),
+  )
+
+module _ {X : Type 0} (p : X → Bool) where
+  -- the same of full cells
+  pub count_cells : (xs : List X) → count_by (at_item p) (full_cells xs) ≡ count_by p xs
+  count_cells [] = refl
+  count_cells (x ∷ xs) =
+      omega (
+        arith,
+        count-cons (at_item p) (Some x) (full_cells xs),
+        count-cons p x xs,
+        count_cells xs,
+      )
+
+  pub falls_cells : (xs : List X) → Falls p xs → Falls (at_item p) (full_cells xs)
+  unfolding Falls
+  falls_cells [] falls = tt
+  falls_cells (x ∷ xs) falls = ((λ fails. count_cells xs ∙ falls.0 fails), falls_cells xs falls.1)
+
+pub cells_full : {X : Type 0} (xs : List X) → All IsSome (full_cells xs)
+cells_full [] k d within = absurd (omega arith)
+cells_full (x ∷ xs) zero d within = refl
+cells_full (x ∷ xs) (suc k) d within = cells_full xs k d (omega arith)
+
 -- a list that is halved this many times at most
-pub half_is_below_power : (r x : ℕ) → 0 < x → x < 2 ^ r → (s : ℕ) × (r ≡ s + 1) × ((y : ℕ) → y ≤ x / 2 → y < 2 ^ s)
+pub half_is_below_power : (r x : ℕ) → 0 < x → x < 2 ^ r
+    → (s : ℕ) × (r ≡ s + 1) × ((y : ℕ) → y ≤ x / 2 → y < 2 ^ s)
 half_is_below_power zero x some less = absurd (omega arith)
 half_is_below_power (suc s) x some less = (s, omega arith, λ y small. omega (arith, pow-suc 2 s))
 
--- how far the halving of xs has come, with the steps that were counted
-pub record Halving (p : ℕ → Bool) (xs : List ℕ) (low high first now : ℕ) : Type 0 where
-  pub ordered : low ≤ high
-  pub within : high ≤ length xs
-  pub at_least : low ≤ count_by p xs
-  pub at_most : count_by p xs ≤ high
-  pub left : (r : ℕ) × (high - low < 2 ^ r) × (now + r ≤ first + HALVINGS)
-  pub later : min first greatest_count ≤ now
-  pub begun : (min (first + 1) greatest_count ≤ now) ⊎ (high - low ≡ length xs)
+module _ {X : Type 0} where
+  -- how far the halving of xs has come, with the steps that were counted
+  pub record Halving (p : X → Bool) (xs : List X) (low high first now : ℕ) : Type 0 where
+    pub ordered : low ≤ high
+    pub within : high ≤ length xs
+    pub at_least : low ≤ count_by p xs
+    pub at_most : count_by p xs ≤ high
+    pub left : (r : ℕ) × (high - low < 2 ^ r) × (now + r ≤ first + MAX_ASKS)
+    pub later : min first greatest_count ≤ now
+    pub begun : (min (first + 1) greatest_count ≤ now) ⊎ (high - low ≡ length xs)
 
-pub halving_starts : (p : ℕ → Bool) (xs : List ℕ) (first : ℕ) → length xs ≤ CAPACITY → count_by p xs ≤ length xs → Halving p xs 0 (length xs) first first
+pub halving_starts : {X : Type 0} (p : X → Bool) (xs : List X) (first : ℕ) → length xs ≤ CAPACITY
+    → count_by p xs ≤ length xs → Halving p xs 0 (length xs) first first
 halving_starts p xs first small count = record {
   ordered = omega arith;
   within = omega arith;
   at_least = omega arith;
   at_most = count;
-  left = (HALVINGS, omega arith, omega arith);
+  left = (MAX_ASKS, omega arith, omega arith);
   later = omega arith;
   begun = inr (omega arith);
 }
 
-pub halving_holds : (p : ℕ → Bool) (xs : List ℕ) (low high first now : ℕ) → Falls p xs → low < high → p (get_or xs (low + (high - low) / 2) 0) ≡ true → Halving p xs low high first now → Halving p xs (low + (high - low) / 2 + 1) high first (one_step_after now)
-halving_holds p xs low high first now falls less holds h =
+pub halving_holds : {X : Type 0} (p : X → Bool) (xs : List X) (low high first now : ℕ) (d : X)
+    → Falls p xs → low < high → p (get_or xs (low + (high - low) / 2) d) ≡ true
+    → Halving p xs low high first now
+    → Halving p xs (low + (high - low) / 2 + 1) high first (one_step_after now)
+halving_holds p xs low high first now d falls less holds h =
     let next = half_is_below_power h.left.0 (high - low) (omega arith) h.left.1 in
     let half : (high - low) / 2 < high - low = omega arith in
     record {
       ordered = omega arith;
       within = h.within;
-      at_least = falls_true p xs (low + (high - low) / 2) falls (omega (arith, h.within)) holds;
+      at_least = falls_true p xs (low + (high - low) / 2) d falls (omega (arith, h.within)) holds;
       at_most = h.at_most;
-      left = (next.0, next.2 (high - (low + (high - low) / 2 + 1)) (omega arith), omega (arith, next.1, h.left.2));
+      left = (
+        next.0,
+        next.2 (high - (low + (high - low) / 2 + 1)) (omega arith),
+        omega (arith, next.1, h.left.2),
+      );
       later = omega (arith, h.later);
       begun = inl (omega (arith, h.later));
     }
 
-pub halving_fails : (p : ℕ → Bool) (xs : List ℕ) (low high first now : ℕ) → Falls p xs → low < high → p (get_or xs (low + (high - low) / 2) 0) ≡ false → Halving p xs low high first now → Halving p xs low (low + (high - low) / 2) first (one_step_after now)
-halving_fails p xs low high first now falls less fails h =
+pub halving_fails : {X : Type 0} (p : X → Bool) (xs : List X) (low high first now : ℕ) (d : X)
+    → Falls p xs → low < high → p (get_or xs (low + (high - low) / 2) d) ≡ false
+    → Halving p xs low high first now
+    → Halving p xs low (low + (high - low) / 2) first (one_step_after now)
+halving_fails p xs low high first now d falls less fails h =
     let next = half_is_below_power h.left.0 (high - low) (omega arith) h.left.1 in
     let half : (high - low) / 2 < high - low = omega arith in
     record {
       ordered = omega arith;
       within = omega (arith, h.within);
       at_least = h.at_least;
-      at_most = falls_false p xs (low + (high - low) / 2) falls (omega (arith, h.within)) fails;
-      left = (next.0, next.2 (low + (high - low) / 2 - low) (omega arith), omega (arith, next.1, h.left.2));
+      at_most = falls_false p xs (low + (high - low) / 2) d falls (omega (arith, h.within)) fails;
+      left = (
+        next.0,
+        next.2 (low + (high - low) / 2 - low) (omega arith),
+        omega (arith, next.1, h.left.2),
+      );
       later = omega (arith, h.later);
       begun = inl (omega (arith, h.later));
     }
 
-pub stored_item_passes : {T : Type 0} (items : Slab T) (test : T → Bool) (k : ℕ) (x : T) → get items k ≡ Some x → passes items test k ≡ test x
-stored_item_passes items test k x found = rw found refl
+-- a test that all items pass, and one that none does
+pub count_all : {X : Type 0} (xs : List X) → count_by (λ _. true) xs ≡ length xs
+count_all [] = refl
+count_all (x ∷ xs) = omega (arith, sum_by-cons (λ _. 1) x xs, count_all xs)
+
+pub count_none : {X : Type 0} (xs : List X) → count_by (λ _. false) xs ≡ 0
+count_none [] = refl
+count_none (x ∷ xs) = count_none xs
+
+pub falls_all : {X : Type 0} (xs : List X) → Falls (λ _. true) xs
+unfolding Falls
+falls_all [] = tt
+falls_all (x ∷ xs) = (λ fails. absurd (false≢true (sym fails)), falls_all xs)
+
+pub falls_none : {X : Type 0} (xs : List X) → Falls (λ _. false) xs
+unfolding Falls
+falls_none [] = tt
+falls_none (x ∷ xs) = (λ fails. count_none xs, falls_none xs)

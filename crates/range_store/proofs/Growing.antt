@@ -5,42 +5,57 @@ use Rattle.std.proofs.lemmas.List.{append-nil, append_assoc, length-append, leng
 use Rattle.std.proofs.lemmas.List.Concat.{flat_map-append}
 use Rattle.std.proofs.lemmas.List.Elements.{All-append, All-take, All-drop, All-weaker}
 use Rattle.std.proofs.lemmas.List.Edits.{length-insert}
-use Rattle.slab.specs.Slab.{Slab, get, HasRoomFor}
-use Rattle.range_store.specs.declared.btree.node.Node.{Node}
-use Rattle.range_store.specs.declared.btree.node.Split.{Split}
-use Rattle.range_store.specs.declared.btree.node.TheConstants.{CAPACITY, MIN_LEN}
-use Rattle.range_store.specs.Nodes.{weave, rest_of, front_of, before, after, items_of, children_of, child_count, numbers, used, Shaped, ShapedBut, here, Owned, Moves, tops, separators, Replaces, EnoughFor, HasTreeRoom, Writes}
+use Rattle.range_store.specs.Heap.{Heap, node_of, HasRoomFor, items_of, children_of, child_count, Writes}
+use Rattle.range_store.specs.declared.btree.nodes.Split.{Split}
+use Rattle.range_store.specs.declared.btree.nodes.TheConstants.{CAPACITY, MIN_LEN}
+use Rattle.range_store.specs.Nodes.{weave, rest_of, front_of, before, after, items_below, used, Shaped, ShapedBut, here, Owned, Moves, tops, separators, Replaces, EnoughFor, HasTreeRoom}
 use Rattle.range_store.specs.Contents.{IsContent, Settles}
 use Rattle.range_store.specs.Occurrences.{occurrences, occurrences-append, occurrences-cons, occurrences_itself}
-use Rattle.range_store.proofs.Weave.{list_splits_at, weave_splice, insert_middle, length-weave}
-use Rattle.range_store.proofs.Frame.{AgreeAt, AgreeAt-left, AgreeAt-right, SameChildren, same_children}
-use Rattle.range_store.proofs.Below.{children_length, numbers_at, used_is, Shaped-from_but, Shaped-but, child_count_cases, child_count_inner}
+use Rattle.range_store.specs.Weave.{list_splits_at, weave_splice, insert_middle, length-weave, length-before}
+use Rattle.range_store.specs.Frame.{AgreeAt, AgreeAt-left, AgreeAt-right, SameChildren, same_children}
+use Rattle.range_store.proofs.Below.{children_length, items_below_at, used_is, Shaped-from_but, Shaped-but, child_count_cases, child_count_inner}
 use Rattle.range_store.proofs.Moves.{Moves-like, Moves-then, Moves-beside, Moves-agree}
 use Rattle.range_store.proofs.Room.{children_le}
-use Rattle.range_store.proofs.Seats.{length-before, seat_run, seat_side, seat_written}
+use Rattle.range_store.proofs.Seats.{seat_run, seat_side, seat_written}
 use Rattle.range_store.proofs.Contents.{written_settles, written_holds, written_agree}
-use Rattle.range_store.specs.declared.btree.way.Edge.{Edge}
+use Rattle.range_store.specs.declared.btree.path.Edge.{Edge}
 use Rattle.range_store.specs.Edges.{turn, inside, IsEdge, place, IsSeat, seat_place}
 
--- the run ms of the children of n, before vs and after us, became ts
-pub record Runs (s t : Slab Node) (b n : ℕ) (us ms vs ts : List ℕ) : Type 0 where
-  pub present : IsSome (get s n)
-  pub owned : Owned s (suc b) n
-  pub children : children_of (get s n) ≡ us ++ (ms ++ vs)
-  pub moved : Moves s t (flat_map (used s b) ms) (flat_map (used t b) ts)
+module _ {T : Type 0} where
+  -- the run ms of the children of n, before vs and after us, became ts
+  pub record Runs (s t : Heap T) (b n : ℕ) (us ms vs ts : List ℕ) : Type 0 where
+    pub present : IsSome (node_of s n)
+    pub owned : Owned s (suc b) n
+    pub children : children_of (node_of s n) ≡ us ++ (ms ++ vs)
+    pub moved : Moves s t (flat_map (used s b) ms) (flat_map (used t b) ts)
 
-module _ (s t : Slab Node) (b n : ℕ) (us ms vs ts : List ℕ) (run : Runs s t b n us ms vs ts) where
+module _ {T : Type 0} (s t : Heap T) (b n : ℕ) (us ms vs ts : List ℕ)
+    (run : Runs s t b n us ms vs ts) where
   abbrev rest : List ℕ
   rest = n ∷ (flat_map (used s b) us ++ flat_map (used s b) vs)
 
-  pub used_old : used s (suc b) n ≡ n ∷ (flat_map (used s b) us ++ (flat_map (used s b) ms ++ flat_map (used s b) vs))
+  pub used_old : used s (suc b) n
+      ≡ n ∷ (flat_map (used s b) us ++ (flat_map (used s b) ms ++ flat_map (used s b) vs))
   used_old =
       used_is s b n ∙ ap (λ zs. n ∷ flat_map (used s b) zs) run.children
-      ∙ ap (λ zs. n ∷ zs) (flat_map-append (used s b) us (ms ++ vs) ∙ ap (λ zs. flat_map (used s b) us ++ zs) (flat_map-append (used s b) ms vs))
+      ∙ ap (λ zs. n ∷ zs) (flat_map-append (used s b) us (ms ++ vs)
+      ∙ ap (λ zs. flat_map (used s b) us ++ zs) (flat_map-append (used s b) ms vs))
 
-  occur_old : (k : ℕ) → occurrences k (used s (suc b) n) ≡ occurrences k (flat_map (used s b) ms) + occurrences k rest
+  occur_old : (k : ℕ)
+      → occurrences k (used s (suc b) n)
+      ≡ occurrences k (flat_map (used s b) ms) + occurrences k rest
   occur_old k =
-      omega (arith, ap (occurrences k) used_old, occurrences-cons k n (flat_map (used s b) us ++ (flat_map (used s b) ms ++ flat_map (used s b) vs)), occurrences-append k (flat_map (used s b) us) (flat_map (used s b) ms ++ flat_map (used s b) vs), occurrences-append k (flat_map (used s b) ms) (flat_map (used s b) vs), occurrences-cons k n (flat_map (used s b) us ++ flat_map (used s b) vs), occurrences-append k (flat_map (used s b) us) (flat_map (used s b) vs))
+      omega (
+        arith,
+        ap (occurrences k) used_old,
+        occurrences-cons k n (flat_map (used s b) us
+            ++ (flat_map (used s b) ms ++ flat_map (used s b) vs)),
+        occurrences-append k (flat_map (used s b) us)
+            (flat_map (used s b) ms ++ flat_map (used s b) vs),
+        occurrences-append k (flat_map (used s b) ms) (flat_map (used s b) vs),
+        occurrences-cons k n (flat_map (used s b) us ++ flat_map (used s b) vs),
+        occurrences-append k (flat_map (used s b) us) (flat_map (used s b) vs),
+      )
 
   once : (k : ℕ) → occurrences k (flat_map (used s b) ms) + occurrences k rest ≤ here s k
   once k = omega (arith, occur_old k, run.owned k)
@@ -48,90 +63,160 @@ module _ (s t : Slab Node) (b n : ℕ) (us ms vs ts : List ℕ) (run : Runs s t 
   agree : AgreeAt s t rest
   agree = Moves-agree s t (flat_map (used s b) ms) (flat_map (used t b) ts) rest once run.moved
 
-  pub run_kept : get t n ≡ get s n
-  run_kept = agree n (omega (arith, occurrences-cons n n (flat_map (used s b) us ++ flat_map (used s b) vs), occurrences_itself n))
+  pub run_kept : node_of t n ≡ node_of s n
+  run_kept =
+      agree n
+      (omega (
+        arith,
+        occurrences-cons n n (flat_map (used s b) us ++ flat_map (used s b) vs),
+        occurrences_itself n,
+      ))
 
   agree_sides : AgreeAt s t (flat_map (used s b) us ++ flat_map (used s b) vs)
   agree_sides = AgreeAt-right s t (n ∷ []) (flat_map (used s b) us ++ flat_map (used s b) vs) agree
 
   pub same_before : SameChildren s t b us
-  same_before = same_children s t b us (AgreeAt-left s t (flat_map (used s b) us) (flat_map (used s b) vs) agree_sides)
+  same_before =
+      same_children s t b us (AgreeAt-left s t (flat_map (used s b) us)
+      (flat_map (used s b) vs) agree_sides)
 
   pub same_after : SameChildren s t b vs
-  same_after = same_children s t b vs (AgreeAt-right s t (flat_map (used s b) us) (flat_map (used s b) vs) agree_sides)
+  same_after =
+      same_children s t b vs (AgreeAt-right s t (flat_map (used s b) us)
+      (flat_map (used s b) vs) agree_sides)
 
-  used_new : flat_map (used t b) (us ++ (ts ++ vs)) ≡ flat_map (used s b) us ++ (flat_map (used t b) ts ++ flat_map (used s b) vs)
+  used_new : flat_map (used t b) (us ++ (ts ++ vs)) ≡ flat_map (used s b) us
+      ++ (flat_map (used t b) ts ++ flat_map (used s b) vs)
   used_new =
-      flat_map-append (used t b) us (ts ++ vs) ∙ ap (λ zs. flat_map (used t b) us ++ zs) (flat_map-append (used t b) ts vs)
+      flat_map-append (used t b) us (ts ++ vs)
+      ∙ ap (λ zs. flat_map (used t b) us ++ zs) (flat_map-append (used t b) ts vs)
       ∙ rw (same_before.used_same, same_after.used_same) refl
 
   pub run_moved : Moves s t (used s (suc b) n) (n ∷ flat_map (used t b) (us ++ (ts ++ vs)))
   run_moved =
-      Moves-like s t (flat_map (used s b) ms ++ rest) (used s (suc b) n) (flat_map (used t b) ts ++ rest) (n ∷ flat_map (used t b) (us ++ (ts ++ vs)))
+      Moves-like s t (flat_map (used s b) ms ++ rest) (used s (suc b) n)
+      (flat_map (used t b) ts ++ rest) (n ∷ flat_map (used t b) (us ++ (ts ++ vs)))
       (record {
         occur = λ k. omega (arith, occur_old k, occurrences-append k (flat_map (used s b) ms) rest);
-        len = omega (arith, ap length used_old, length-append (flat_map (used s b) us) (flat_map (used s b) ms ++ flat_map (used s b) vs), length-append (flat_map (used s b) ms) (flat_map (used s b) vs), length-append (flat_map (used s b) ms) rest, length-append (flat_map (used s b) us) (flat_map (used s b) vs));
+        len =
+            omega (
+              arith,
+              ap length used_old,
+              length-append (flat_map (used s b) us)
+                  (flat_map (used s b) ms ++ flat_map (used s b) vs),
+              length-append (flat_map (used s b) ms) (flat_map (used s b) vs),
+              length-append (flat_map (used s b) ms) rest,
+              length-append (flat_map (used s b) us) (flat_map (used s b) vs),
+            );
       })
       (record {
-        occur = λ k. omega (arith, ap (occurrences k) used_new, occurrences-cons k n (flat_map (used t b) (us ++ (ts ++ vs))), occurrences-append k (flat_map (used s b) us) (flat_map (used t b) ts ++ flat_map (used s b) vs), occurrences-append k (flat_map (used t b) ts) (flat_map (used s b) vs), occurrences-append k (flat_map (used t b) ts) rest, occurrences-cons k n (flat_map (used s b) us ++ flat_map (used s b) vs), occurrences-append k (flat_map (used s b) us) (flat_map (used s b) vs));
-        len = omega (arith, ap length used_new, length-append (flat_map (used s b) us) (flat_map (used t b) ts ++ flat_map (used s b) vs), length-append (flat_map (used t b) ts) (flat_map (used s b) vs), length-append (flat_map (used t b) ts) rest, length-append (flat_map (used s b) us) (flat_map (used s b) vs));
+        occur =
+            λ k.
+            omega (
+              arith,
+              ap (occurrences k) used_new,
+              occurrences-cons k n (flat_map (used t b) (us ++ (ts ++ vs))),
+              occurrences-append k (flat_map (used s b) us)
+                  (flat_map (used t b) ts ++ flat_map (used s b) vs),
+              occurrences-append k (flat_map (used t b) ts) (flat_map (used s b) vs),
+              occurrences-append k (flat_map (used t b) ts) rest,
+              occurrences-cons k n (flat_map (used s b) us ++ flat_map (used s b) vs),
+              occurrences-append k (flat_map (used s b) us) (flat_map (used s b) vs),
+            );
+        len =
+            omega (
+              arith,
+              ap length used_new,
+              length-append (flat_map (used s b) us)
+                  (flat_map (used t b) ts ++ flat_map (used s b) vs),
+              length-append (flat_map (used t b) ts) (flat_map (used s b) vs),
+              length-append (flat_map (used t b) ts) rest,
+              length-append (flat_map (used s b) us) (flat_map (used s b) vs),
+            );
       })
       (Moves-beside s t (flat_map (used s b) ms) (flat_map (used t b) ts) rest run.moved)
 
-  pub run_content : (xs : List ℕ) → length (us ++ (ts ++ vs)) ≡ child_count b (length xs) → All (Shaped s b) us → All (Shaped t b) ts → All (Shaped s b) vs → IsContent t b n xs (us ++ (ts ++ vs))
+  pub run_content : (xs : List T) → length (us ++ (ts ++ vs)) ≡ child_count b (length xs)
+      → All (Shaped s b) us → All (Shaped t b) ts → All (Shaped s b) vs
+      → IsContent t b n xs (us ++ (ts ++ vs))
   run_content xs branches left middle right = record {
     present = rw run_kept run.present;
-    shaped = All-append (Shaped t b) us (ts ++ vs) (same_before.shaped_same left) (All-append (Shaped t b) ts vs middle (same_after.shaped_same right));
+    shaped =
+        All-append (Shaped t b) us (ts ++ vs) (same_before.shaped_same left)
+        (All-append (Shaped t b) ts vs middle (same_after.shaped_same right));
     branches = branches;
     owned = λ k. omega (arith, run_moved.owned k, run.owned k);
   }
 
-  pub run_lists : map (numbers t b) (us ++ (ts ++ vs)) ≡ map (numbers s b) us ++ (map (numbers t b) ts ++ map (numbers s b) vs)
+  pub run_lists : map (items_below t b) (us ++ (ts ++ vs)) ≡ map (items_below s b) us
+      ++ (map (items_below t b) ts ++ map (items_below s b) vs)
   run_lists =
-      map-append (numbers t b) us (ts ++ vs) ∙ ap (λ zs. map (numbers t b) us ++ zs) (map-append (numbers t b) ts vs)
-      ∙ rw (same_before.numbers_same, same_after.numbers_same) refl
+      map-append (items_below t b) us (ts ++ vs)
+      ∙ ap (λ zs. map (items_below t b) us ++ zs) (map-append (items_below t b) ts vs)
+      ∙ rw (same_before.items_below_same, same_after.items_below_same) refl
 
 -- a written node in the place of what became of the old one
-pub settled_replaces : (s t u : Slab Node) (b n : ℕ) (xs ks list : List ℕ) (split : Option Split) → Moves s t (used s (suc b) n) (n ∷ flat_map (used t b) ks) → weave xs (map (numbers t b) ks) ≡ list → length (items_of (get s n)) ≤ length xs → Settles t u b n xs ks split → Replaces s u b n split list
-settled_replaces s t u b n xs ks list split moved listed more settles = record {
+pub settled_replaces : {T : Type 0} (s t u : Heap T) (b n : ℕ) (xs : List T) (ks : List ℕ)
+    (list : List T) (split : Option (Split T))
+    → Moves s t (used s (suc b) n) (n ∷ flat_map (used t b) ks)
+    → weave xs (map (items_below t b) ks) ≡ list → length (items_of (node_of s n)) ≤ length xs
+    → Settles t u b n xs ks split → Replaces s u b n split list
+settled_replaces {T} s t u b n xs ks list split moved listed more settles = record {
   listed = settles.listed ∙ listed;
-  moved = Moves-then s t u (used s (suc b) n) (n ∷ flat_map (used t b) ks) (flat_map (used u (suc b)) (tops n split)) moved settles.moved;
+  moved =
+      Moves-then s t u (used s (suc b) n) (n ∷ flat_map (used t b) ks)
+      (flat_map (used u (suc b)) (tops n split)) moved settles.moved;
   shape = λ least small enough. settles.shape least small (still least split enough);
 }
   where
-    still : (least : ℕ) (cut : Option Split) → EnoughFor least cut (length (items_of (get s n))) → EnoughFor least cut (length xs)
+    still : (least : ℕ) (cut : Option (Split T))
+        → EnoughFor least cut (length (items_of (node_of s n))) → EnoughFor least cut (length xs)
     still least None enough = omega (arith, enough, more)
     still least (Some cut) enough = tt
 
 -- with all capacity that the item needs there is some for a cut
-pub content_room : (s t : Slab Node) (b n : ℕ) (xs ks : List ℕ) → Moves s t (used s (suc b) n) (n ∷ flat_map (used t b) ks) → IsContent t b n xs ks → length (weave xs (map (numbers t b) ks)) ≡ length (numbers s (suc b) n) + 1 → HasTreeRoom s (suc b) n 1 → CAPACITY < length xs → HasRoomFor t 1
+pub content_room : {T : Type 0} (s t : Heap T) (b n : ℕ) (xs : List T) (ks : List ℕ)
+    → Moves s t (used s (suc b) n) (n ∷ flat_map (used t b) ks) → IsContent t b n xs ks
+    → length (weave xs (map (items_below t b) ks)) ≡ length (items_below s (suc b) n) + 1
+    → HasTreeRoom s (suc b) n 1 → CAPACITY < length xs → HasRoomFor t 1
 content_room s t b n xs ks moved content longer room over =
-    let woven = length-weave xs (map (numbers t b) ks) (child_count_cases b (length xs) _ (length-map ks (numbers t b) ∙ content.branches)) in
+    let woven =
+    length-weave xs (map (items_below t b) ks)
+    (child_count_cases b (length xs) _ (length-map ks (items_below t b) ∙ content.branches))
+    in
     let few = children_le t b ks content.shaped in
     omega (arith, woven, few, longer, moved.len, room.filled, moved.capacity, over)
 
 -- the child at i became one or two, with one more item
-module _ (s t : Slab Node) (b n i rest item : ℕ) (split : Option Split) (inner : b ≢ 0) (shaped : ShapedBut 1 CAPACITY s b n) (owned : Owned s (suc b) n) (low : i ≤ length (items_of (get s n))) (within : rest ≤ length (numbers s b (get_or (children_of (get s n)) i 0))) (child : Replaces s t (b - 1) (get_or (children_of (get s n)) i 0) split (insert (numbers s (suc (b - 1)) (get_or (children_of (get s n)) i 0)) rest item)) where
-  abbrev xs : List ℕ
-  xs = items_of (get s n)
+module _ {T : Type 0} (s t : Heap T) (b n i rest : ℕ) (item : T) (split : Option (Split T))
+    (inner : b ≢ 0) (shaped : ShapedBut 1 CAPACITY s b n) (owned : Owned s (suc b) n)
+    (low : i ≤ length (items_of (node_of s n)))
+    (within : rest ≤ length (items_below s b (get_or (children_of (node_of s n)) i 0)))
+    (child : Replaces s t (b - 1) (get_or (children_of (node_of s n)) i 0) split
+    (insert (items_below s (suc (b - 1)) (get_or (children_of (node_of s n)) i 0)) rest item)) where
+  abbrev xs : List T
+  xs = items_of (node_of s n)
 
   abbrev ks : List ℕ
-  ks = children_of (get s n)
+  ks = children_of (node_of s n)
 
   abbrev kid : ℕ
-  kid = get_or (children_of (get s n)) i 0
+  kid = get_or (children_of (node_of s n)) i 0
 
   abbrev us : List ℕ
-  us = take i (children_of (get s n))
+  us = take i (children_of (node_of s n))
 
   abbrev vs : List ℕ
-  vs = drop (i + 1) (children_of (get s n))
+  vs = drop (i + 1) (children_of (node_of s n))
 
-  abbrev new_xs : List ℕ
-  new_xs = take i (items_of (get s n)) ++ (separators split ++ drop i (items_of (get s n)))
+  abbrev new_xs : List T
+  new_xs = take i (items_of (node_of s n)) ++ (separators split ++ drop i (items_of (node_of s n)))
 
   abbrev new_ks : List ℕ
-  new_ks = take i (children_of (get s n)) ++ (tops (get_or (children_of (get s n)) i 0) split ++ drop (i + 1) (children_of (get s n)))
+  new_ks =
+      take i (children_of (node_of s n))
+      ++ (tops (get_or (children_of (node_of s n)) i 0) split
+      ++ drop (i + 1) (children_of (node_of s n)))
 
   level : suc (b - 1) ≡ b
   level = omega arith
@@ -150,10 +235,12 @@ module _ (s t : Slab Node) (b n i rest item : ℕ) (split : Option Split) (inner
     present = shaped.node.present;
     owned = owned;
     children = ks_parts;
-    moved = subst (λ zs. Moves s t zs (flat_map (used t b) (tops kid split))) (sym (append-nil (used s b kid))) (rw level at child.moved);
+    moved =
+        subst (λ zs. Moves s t zs (flat_map (used t b) (tops kid split)))
+        (sym (append-nil (used s b kid))) (rw level at child.moved);
   }
 
-  pub grown_kept : get t n ≡ get s n
+  pub grown_kept : node_of t n ≡ node_of s n
   grown_kept = run_kept s t b n us (kid ∷ []) vs (tops kid split) grown_run
 
   pub grown_moved : Moves s t (used s (suc b) n) (n ∷ flat_map (used t b) new_ks)
@@ -162,13 +249,14 @@ module _ (s t : Slab Node) (b n i rest item : ℕ) (split : Option Split) (inner
   tops_shaped : All (Shaped t b) (tops kid split)
   tops_shaped =
       let but = child.shape MIN_LEN (omega arith) (enough split) in
-      rw level at (All-weaker (ShapedBut MIN_LEN CAPACITY t (b - 1)) (Shaped t (suc (b - 1))) (λ k. Shaped-from_but t (b - 1) k) (tops kid split) but)
+      rw level at (All-weaker (ShapedBut MIN_LEN CAPACITY t (b - 1)) (Shaped t (suc (b - 1)))
+      (λ k. Shaped-from_but t (b - 1) k) (tops kid split) but)
     where
-      enough : (cut : Option Split) → EnoughFor MIN_LEN cut (length (items_of (get s kid)))
+      enough : (cut : Option (Split T)) → EnoughFor MIN_LEN cut (length (items_of (node_of s kid)))
       enough None = kid_shape.node.enough
       enough (Some cut) = tt
 
-  tops_many : (cut : Option Split) → length (tops kid cut) ≡ length (separators cut) + 1
+  tops_many : (cut : Option (Split T)) → length (tops kid cut) ≡ length (separators cut) + 1
   tops_many None = refl
   tops_many (Some cut) = refl
 
@@ -181,63 +269,133 @@ module _ (s t : Slab Node) (b n i rest item : ℕ) (split : Option Split) (inner
   pub grown_content : IsContent t b n new_xs new_ks
   grown_content =
       run_content s t b n us (kid ∷ []) vs (tops kid split) grown_run new_xs
-      (omega (arith, child_count_inner b (length new_xs) (omega arith), length-append us (tops kid split ++ vs), length-append (tops kid split) vs, tops_many split, us_many, length-append (take i xs) (separators split ++ drop i xs), length-append (separators split) (drop i xs), front_many, length-drop i xs, length-drop (i + 1) ks, many))
-      (All-take (Shaped s b) i ks shaped.children) tops_shaped (All-drop (Shaped s b) (i + 1) ks shaped.children)
+      (omega (
+        arith,
+        child_count_inner b (length new_xs) (omega arith),
+        length-append us (tops kid split ++ vs),
+        length-append (tops kid split) vs,
+        tops_many split,
+        us_many,
+        length-append (take i xs) (separators split ++ drop i xs),
+        length-append (separators split) (drop i xs),
+        front_many,
+        length-drop i xs,
+        length-drop (i + 1) ks,
+        many,
+      ))
+      (All-take (Shaped s b) i ks shaped.children) tops_shaped
+      (All-drop (Shaped s b) (i + 1) ks shaped.children)
 
-  abbrev lists : List (List ℕ)
-  lists = map (numbers s b) (children_of (get s n))
+  abbrev lists : List (List T)
+  lists = map (items_below s b) (children_of (node_of s n))
 
-  woven : (cut : Option Split) → weave (take i xs ++ (separators cut ++ drop i xs)) (map (numbers s b) us ++ (map (numbers t b) (tops kid cut) ++ map (numbers s b) vs)) ≡ front_of (take i xs) (map (numbers s b) us) ++ (weave (separators cut) (map (numbers t b) (tops kid cut)) ++ rest_of (drop i xs) (map (numbers s b) vs))
-  woven None = weave_splice (take i xs) [] (drop i xs) (map (numbers s b) us) (numbers t b kid) [] (map (numbers s b) vs) (omega (arith, front_many, us_many, length-map us (numbers s b))) refl
-  woven (Some cut) = weave_splice (take i xs) (cut.middle ∷ []) (drop i xs) (map (numbers s b) us) (numbers t b kid) (numbers t b cut.right ∷ []) (map (numbers s b) vs) (omega (arith, front_many, us_many, length-map us (numbers s b))) refl
+  woven : (cut : Option (Split T))
+      → weave (take i xs ++ (separators cut ++ drop i xs))
+      (map (items_below s b) us
+      ++ (map (items_below t b) (tops kid cut) ++ map (items_below s b) vs))
+      ≡ front_of (take i xs) (map (items_below s b) us)
+      ++ (weave (separators cut) (map (items_below t b) (tops kid cut))
+      ++ rest_of (drop i xs) (map (items_below s b) vs))
+  woven None =
+      weave_splice (take i xs) [] (drop i xs) (map (items_below s b) us) (items_below t b kid) []
+      (map (items_below s b) vs)
+      (omega (arith, front_many, us_many, length-map us (items_below s b))) refl
+  woven (Some cut) =
+      weave_splice (take i xs) (cut.middle ∷ []) (drop i xs) (map (items_below s b) us)
+      (items_below t b kid) (items_below t b cut.right ∷ []) (map (items_below s b) vs)
+      (omega (arith, front_many, us_many, length-map us (items_below s b))) refl
 
-  pub grown_listed : weave new_xs (map (numbers t b) new_ks) ≡ insert (numbers s (suc b) n) (length (before xs lists i) + rest) item
+  pub grown_listed : weave new_xs (map (items_below t b) new_ks)
+      ≡ insert (items_below s (suc b) n) (length (before xs lists i) + rest) item
   grown_listed =
-      let inserted : weave (separators split) (map (numbers t b) (tops kid split)) ≡ insert (numbers s b kid) rest item = rw level at child.listed in
-      let whole = numbers_at 1 CAPACITY s b n (omega arith) shaped i low in
+      let inserted : weave (separators split) (map (items_below t b) (tops kid split))
+      ≡ insert (items_below s b kid) rest item = rw level at child.listed in
+      let whole = items_below_at 1 CAPACITY s b n (omega arith) shaped i low in
       ap (weave new_xs) (run_lists s t b n us (kid ∷ []) vs (tops kid split) grown_run)
       ∙ woven split
-      ∙ rw (inserted, ← take-map (numbers s b) i ks, ← drop-map (numbers s b) (i + 1) ks) refl
-      ∙ sym (insert_middle (before xs lists i) (numbers s b kid) (after xs lists i) rest item within)
+      ∙ rw (inserted, ← take-map (items_below s b) i ks, ← drop-map (items_below s b) (i + 1) ks)
+      refl
+      ∙ sym (insert_middle (before xs lists i) (items_below s b kid)
+      (after xs lists i) rest item within)
       ∙ ap (λ zs. insert zs (length (before xs lists i) + rest) item) (sym whole)
 
-  pub grown_longer : length (weave new_xs (map (numbers t b) new_ks)) ≡ length (numbers s (suc b) n) + 1
+  pub grown_longer : length (weave new_xs (map (items_below t b) new_ks))
+      ≡ length (items_below s (suc b) n) + 1
   grown_longer =
-      let whole = numbers_at 1 CAPACITY s b n (omega arith) shaped i low in
-      let place : length (before xs lists i) + rest ≤ length (numbers s (suc b) n) = omega (arith, ap length whole, length-append (before xs lists i) (numbers s b kid ++ after xs lists i), length-append (numbers s b kid) (after xs lists i), within) in
-      ap length grown_listed ∙ length-insert (numbers s (suc b) n) (length (before xs lists i) + rest) item place
+      let whole = items_below_at 1 CAPACITY s b n (omega arith) shaped i low in
+      let place : length (before xs lists i) + rest ≤ length (items_below s (suc b) n) =
+      omega (
+        arith,
+        ap length whole,
+        length-append (before xs lists i) (items_below s b kid ++ after xs lists i),
+        length-append (items_below s b kid) (after xs lists i),
+        within,
+      ) in
+      ap length grown_listed
+      ∙ length-insert (items_below s (suc b) n) (length (before xs lists i) + rest) item place
 
-  pub grown_seat : (side : ℕ) (g : Edge) → IsSeat t (suc (b - 1)) (separators split) (tops kid split) side g → IsSeat t b new_xs new_ks (i + side) g × (seat_place t b new_xs new_ks (i + side) g ≡ length (before xs lists i) + seat_place t (suc (b - 1)) (separators split) (tops kid split) side g)
+  pub grown_seat : (side : ℕ) (g : Edge)
+      → IsSeat t (suc (b - 1)) (separators split) (tops kid split) side g
+      → IsSeat t b new_xs new_ks (i + side) g
+      × (seat_place t b new_xs new_ks (i + side) g
+      ≡ length (before xs lists i) + seat_place t (suc (b - 1)) (separators split)
+      (tops kid split) side g)
   grown_seat side g seat =
-      let all = seat_run t (b - 1) us (tops kid split) vs (take i xs) (separators split) (drop i xs) i side g us_many front_many (tops_many split) seat in
+      let all =
+      seat_run t (b - 1) us (tops kid split) vs (take i xs) (separators split)
+      (drop i xs) i side g us_many front_many (tops_many split) seat in
       let here = ap (λ m. seat_place t m new_xs new_ks (i + side) g) level in
-      let sums = ap (λ m. sum_by length (map (numbers t m) us)) level in
-      let front = length-before xs lists i low (omega (arith, many, length-map ks (numbers s b))) in
-      let same : map (numbers t b) us ≡ take i lists = (same_before s t b n us (kid ∷ []) vs (tops kid split) grown_run).numbers_same ∙ sym (take-map (numbers s b) i ks) in
+      let sums = ap (λ m. sum_by length (map (items_below t m) us)) level in
+      let front =
+      length-before xs lists i low (omega (arith, many, length-map ks (items_below s b))) in
+      let same : map (items_below t b) us ≡ take i lists =
+      (same_before s t b n us (kid ∷ []) vs (tops kid split) grown_run).items_below_same
+      ∙ sym (take-map (items_below s b) i ks) in
       (rw level at all.0, omega (arith, all.1, front, here, sums, ap (sum_by length) same))
 
 -- the children with the new one
-pub with_right : (ks : List ℕ) (i right : ℕ) → i < length ks → insert ks (i + 1) right ≡ take i ks ++ (get_or ks i 0 ∷ right ∷ drop (i + 1) ks)
-with_right ks i right low = ap (λ zs. zs ++ (right ∷ drop (i + 1) ks)) (take_more ks i 0 low) ∙ append_assoc (take i ks) (get_or ks i 0 ∷ []) (right ∷ drop (i + 1) ks)
+pub with_right : (ks : List ℕ) (i right : ℕ) → i < length ks
+    → insert ks (i + 1) right ≡ take i ks ++ (get_or ks i 0 ∷ right ∷ drop (i + 1) ks)
+with_right ks i right low =
+    ap (λ zs. zs ++ (right ∷ drop (i + 1) ks)) (take_more ks i 0 low)
+    ∙ append_assoc (take i ks) (get_or ks i 0 ∷ []) (right ∷ drop (i + 1) ks)
 
-pub kid_owned : (s : Slab Node) (b n i : ℕ) → Owned s (suc b) n → i < length (children_of (get s n)) → Owned s b (get_or (children_of (get s n)) i 0)
+pub kid_owned : {T : Type 0} (s : Heap T) (b n i : ℕ) → Owned s (suc b) n
+    → i < length (children_of (node_of s n)) → Owned s b (get_or (children_of (node_of s n)) i 0)
 kid_owned s b n i owned low k =
-    let ks = children_of (get s n) in
+    let ks = children_of (node_of s n) in
     let kid = get_or ks i 0 in
     let us = flat_map (used s b) (take i ks) in
     let vs = flat_map (used s b) (drop (i + 1) ks) in
-    let all : flat_map (used s b) ks ≡ us ++ (used s b kid ++ vs) = ap (flat_map (used s b)) (list_splits_at ks i 0 low) ∙ flat_map-append (used s b) (take i ks) (kid ∷ drop (i + 1) ks) in
-    omega (arith, owned k, ap (occurrences k) (used_is s b n), occurrences-cons k n (flat_map (used s b) ks), ap (occurrences k) all, occurrences-append k us (used s b kid ++ vs), occurrences-append k (used s b kid) vs)
+    let all : flat_map (used s b) ks ≡ us ++ (used s b kid ++ vs) =
+    ap (flat_map (used s b)) (list_splits_at ks i 0 low)
+    ∙ flat_map-append (used s b) (take i ks) (kid ∷ drop (i + 1) ks) in
+    omega (
+      arith,
+      owned k,
+      ap (occurrences k) (used_is s b n),
+      occurrences-cons k n (flat_map (used s b) ks),
+      ap (occurrences k) all,
+      occurrences-append k us (used s b kid ++ vs),
+      occurrences-append k (used s b kid) vs,
+    )
 
 -- a child that was not cut leaves the node as it is
-module _ (s t : Slab Node) (b n i rest item : ℕ) (inner : b ≢ 0) (shaped : ShapedBut 1 CAPACITY s b n) (owned : Owned s (suc b) n) (low : i ≤ length (items_of (get s n))) (within : rest ≤ length (numbers s b (get_or (children_of (get s n)) i 0))) (child : Replaces s t (b - 1) (get_or (children_of (get s n)) i 0) None (insert (numbers s (suc (b - 1)) (get_or (children_of (get s n)) i 0)) rest item)) where
-  abbrev xs' : List ℕ
-  xs' = take i (items_of (get s n)) ++ drop i (items_of (get s n))
+module _ {T : Type 0} (s t : Heap T) (b n i rest : ℕ) (item : T) (inner : b ≢ 0)
+    (shaped : ShapedBut 1 CAPACITY s b n) (owned : Owned s (suc b) n)
+    (low : i ≤ length (items_of (node_of s n)))
+    (within : rest ≤ length (items_below s b (get_or (children_of (node_of s n)) i 0)))
+    (child : Replaces s t (b - 1) (get_or (children_of (node_of s n)) i 0) None
+    (insert (items_below s (suc (b - 1)) (get_or (children_of (node_of s n)) i 0)) rest item)) where
+  abbrev xs' : List T
+  xs' = take i (items_of (node_of s n)) ++ drop i (items_of (node_of s n))
 
   abbrev ks' : List ℕ
-  ks' = take i (children_of (get s n)) ++ (get_or (children_of (get s n)) i 0 ∷ drop (i + 1) (children_of (get s n)))
+  ks' =
+      take i (children_of (node_of s n))
+      ++ (get_or (children_of (node_of s n)) i 0 ∷ drop (i + 1) (children_of (node_of s n)))
 
-  kept : get t n ≡ get s n
+  kept : node_of t n ≡ node_of s n
   kept = grown_kept s t b n i rest item None inner shaped owned low within child
 
   content : IsContent t b n xs' ks'
@@ -247,36 +405,75 @@ module _ (s t : Slab Node) (b n i rest item : ℕ) (inner : b ≢ 0) (shaped : S
   written = record {
     was = content.present;
     present = content.present;
-    items_are = ap items_of kept ∙ sym (take-append-drop i (items_of (get s n)));
-    children_are = ap children_of kept ∙ list_splits_at (children_of (get s n)) i 0 (omega (arith, children_length 1 CAPACITY s b n (omega arith) shaped));
+    items_are = ap items_of kept ∙ sym (take-append-drop i (items_of (node_of s n)));
+    children_are =
+        ap children_of kept
+        ∙ list_splits_at (children_of (node_of s n)) i 0
+        (omega (arith, children_length 1 CAPACITY s b n (omega arith) shaped));
     others = λ k other. refl;
     len = refl;
     capacity = refl;
   }
 
-  same_length : length xs' ≡ length (items_of (get s n))
-  same_length = ap length (take-append-drop i (items_of (get s n)))
+  same_length : length xs' ≡ length (items_of (node_of s n))
+  same_length = ap length (take-append-drop i (items_of (node_of s n)))
 
-  pub none_replaces : Replaces s t b n None (insert (numbers s (suc b) n) (length (before (items_of (get s n)) (map (numbers s b) (children_of (get s n))) i) + rest) item)
+  pub none_replaces : Replaces s t b n None
+      (insert (items_below s (suc b) n)
+      (length (before (items_of (node_of s n))
+      (map (items_below s b) (children_of (node_of s n))) i) + rest) item)
   none_replaces =
-      settled_replaces s t t b n xs' ks' _ None (grown_moved s t b n i rest item None inner shaped owned low within child) (grown_listed s t b n i rest item None inner shaped owned low within child) (omega (arith, same_length))
-      (written_settles t t b n xs' ks' content written (omega (arith, same_length, shaped.node.fits)))
+      settled_replaces s t t b n xs' ks' _ None
+      (grown_moved s t b n i rest item None inner shaped owned low within child)
+      (grown_listed s t b n i rest item None inner shaped owned low within child)
+      (omega (arith, same_length))
+      (written_settles t t b n xs' ks' content written
+      (omega (arith, same_length, shaped.node.fits)))
 
-  pub none_edge : (side : ℕ) (g h : Edge) → turn h ≡ i → inside h ≡ g → IsSeat t (suc (b - 1)) (separators None) (tops (get_or (children_of (get s n)) i 0) None) side g → IsEdge t b n h × (place t b n h ≡ length (before (items_of (get s n)) (map (numbers s b) (children_of (get s n))) i) + seat_place t (suc (b - 1)) (separators None) (tops (get_or (children_of (get s n)) i 0) None) side g)
+  pub none_edge : (side : ℕ) (g h : Edge) → turn h ≡ i → inside h ≡ g
+      → IsSeat t (suc (b - 1)) (separators {T = T} None)
+      (tops {T = T} (get_or (children_of (node_of s n)) i 0) None) side g
+      → IsEdge t b n h
+      × (place t b n h ≡ length
+      (before (items_of (node_of s n)) (map (items_below s b) (children_of (node_of s n))) i) +
+      seat_place t (suc (b - 1)) (separators {T = T} None)
+      (tops {T = T} (get_or (children_of (node_of s n)) i 0) None) side g)
   none_edge side g h at into seat =
-      let up = grown_seat s t b n i rest item None inner shaped owned low within child side g seat in
-      let one = seat_side t (b - 1) (separators None) (tops (get_or (children_of (get s n)) i 0) None) side g seat in
+      let up =
+      grown_seat s t b n i rest item None inner shaped owned low within child side g seat in
+      let one =
+      seat_side t (b - 1) (separators {T = T} None)
+      (tops {T = T} (get_or (children_of (node_of s n)) i 0) None) side g seat in
       let holds = written_holds t t b n xs' ks' content written in
       let agree = written_agree t t b n xs' ks' content written in
-      let edge = seat_written t t n xs' ks' (i + side) g h b holds agree (λ none. absurd (inner none)) (λ some. omega (arith, at, one)) (λ some. into) up.0 in
+      let edge =
+      seat_written t t n xs' ks' (i + side) g h b holds agree (λ none. absurd (inner none))
+      (λ some. omega (arith, at, one)) (λ some. into) up.0 in
       (edge.0, edge.1 ∙ up.1)
 
 -- a node that may be cut has the item between the halves of its child, and the second of them
-module _ (s t : Slab Node) (b n i rest item : ℕ) (split : Split) (inner : b ≢ 0) (shaped : ShapedBut 1 CAPACITY s b n) (owned : Owned s (suc b) n) (low : i ≤ length (items_of (get s n))) (within : rest ≤ length (numbers s b (get_or (children_of (get s n)) i 0))) (child : Replaces s t (b - 1) (get_or (children_of (get s n)) i 0) (Some split) (insert (numbers s (suc (b - 1)) (get_or (children_of (get s n)) i 0)) rest item)) where
-  pub some_items : take i (items_of (get s n)) ++ (split.middle ∷ drop i (items_of (get s n))) ≡ insert (items_of (get t n)) i split.middle
-  some_items = ap (λ zs. insert zs i split.middle) (sym (ap items_of (grown_kept s t b n i rest item (Some split) inner shaped owned low within child)))
+module _ {T : Type 0} (s t : Heap T) (b n i rest : ℕ) (item : T) (split : Split T) (inner : b ≢ 0)
+    (shaped : ShapedBut 1 CAPACITY s b n) (owned : Owned s (suc b) n)
+    (low : i ≤ length (items_of (node_of s n)))
+    (within : rest ≤ length (items_below s b (get_or (children_of (node_of s n)) i 0)))
+    (child : Replaces s t (b - 1) (get_or (children_of (node_of s n)) i 0) (Some split)
+    (insert (items_below s (suc (b - 1)) (get_or (children_of (node_of s n)) i 0)) rest item)) where
+  pub some_items : take i (items_of (node_of s n))
+      ++ (split.middle ∷ drop i (items_of (node_of s n)))
+      ≡ insert (items_of (node_of t n)) i split.middle
+  some_items =
+      ap (λ zs. insert zs i split.middle)
+      (sym
+      (ap items_of (grown_kept s t b n i rest item
+      (Some split) inner shaped owned low within child)))
 
-  pub some_children : take i (children_of (get s n)) ++ (get_or (children_of (get s n)) i 0 ∷ split.right ∷ drop (i + 1) (children_of (get s n))) ≡ insert (children_of (get t n)) (i + 1) split.right
+  pub some_children : take i (children_of (node_of s n))
+      ++ (get_or (children_of (node_of s n)) i 0 ∷ split.right ∷ drop (i + 1)
+      (children_of (node_of s n))) ≡ insert (children_of (node_of t n)) (i + 1) split.right
   some_children =
-      sym (with_right (children_of (get s n)) i split.right (omega (arith, children_length 1 CAPACITY s b n (omega arith) shaped)))
-      ∙ ap (λ zs. insert zs (i + 1) split.right) (sym (ap children_of (grown_kept s t b n i rest item (Some split) inner shaped owned low within child)))
+      sym (with_right (children_of (node_of s n)) i split.right
+      (omega (arith, children_length 1 CAPACITY s b n (omega arith) shaped)))
+      ∙ ap (λ zs. insert zs (i + 1) split.right)
+      (sym
+      (ap children_of (grown_kept s t b n i rest item
+      (Some split) inner shaped owned low within child)))

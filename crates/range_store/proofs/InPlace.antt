@@ -1,47 +1,50 @@
 -- A leaf with other items, below nodes that stay as they were.
-use Rattle.std.proofs.Common.{◌≡◌, ◌≢◌, ℕ, zero, suc, ◌+◌, ◌-◌, ◌/◌, ◌%◌, ◌<◌, ◌≤◌, List, [], ◌++◌, length, get_or, map, refl, sym, ap, ◌∙◌, arith, append_assoc}
+use Rattle.std.proofs.Common.{◌≡◌, ◌≢◌, ℕ, zero, suc, ◌+◌, ◌-◌, ◌/◌, ◌%◌, ◌<◌, ◌≤◌, List, [], ◌++◌, length, get_or, map, refl, sym, ap, ◌∙◌, arith}
 use Rattle.std.specs.List.{flat_map, insert, remove}
 use Rattle.std.proofs.lemmas.List.{append-nil, length-append, nil_from_length}
 use Rattle.std.proofs.lemmas.List.Edits.{length-insert, length-remove}
-use Rattle.slab.specs.Slab.{Slab, get}
-use Rattle.range_store.specs.declared.btree.node.Node.{Node}
-use Rattle.range_store.specs.declared.btree.node.TheConstants.{CAPACITY, MIN_LEN}
-use Rattle.range_store.specs.declared.btree.number_tree.NumberTree.{NumberTree}
-use Rattle.range_store.specs.declared.btree.way.Edge.{Edge}
-use Rattle.range_store.specs.declared.btree.way.TheConstants.{WIDTH}
-use Rattle.range_store.specs.Nodes.{weave, before, after, items_of, children_of, numbers, used, Shaped, ShapedBut, Owned, IsTree, Writes}
+use Rattle.range_store.specs.Heap.{Heap, node_of, items_of, children_of, Writes}
+use Rattle.range_store.specs.declared.btree.nodes.TheConstants.{CAPACITY, MIN_LEN}
+use Rattle.range_store.specs.declared.btree.BoxStorage.{BoxStorage}
+use Rattle.range_store.specs.declared.btree.path.Edge.{Edge}
+use Rattle.range_store.specs.declared.btree.path.TheConstants.{PATH_BASE}
+use Rattle.range_store.specs.Nodes.{weave, before, after, items_below, used, Shaped, ShapedBut, Owned, IsTree}
 use Rattle.range_store.specs.Edges.{turn, inside, IsEdge, place}
 use Rattle.range_store.specs.Contents.{IsContent, IsRewritten}
 use Rattle.range_store.specs.Occurrences.{occurrences}
-use Rattle.range_store.specs.Trees.{tree_numbers, IsTreeEdge, tree_place}
-use Rattle.range_store.proofs.Below.{numbers_at, numbers_leaf, used_is, shaped_within_wider, Shaped-from_but}
-use Rattle.range_store.proofs.Contents.{Holds, written_holds, held_numbers, held_used, held_shape}
-use Rattle.range_store.proofs.Frame.{IsNode-same}
+use Rattle.range_store.specs.Holding.{box_items, IsBoxEdge, box_place}
+use Rattle.range_store.proofs.Below.{items_below_at, items_below_leaf, used_is, shaped_within_wider, Shaped-from_but}
+use Rattle.range_store.proofs.Contents.{Holds, written_holds, held_items_below, held_used, held_shape}
+use Rattle.range_store.specs.Frame.{IsNode-same}
 use Rattle.range_store.proofs.Edges.{leaf_edge, leaf_place, edge_above, place_inside}
 use Rattle.range_store.proofs.Growing.{kid_owned}
 use Rattle.range_store.proofs.Moves.{Writes-moves}
-use Rattle.range_store.proofs.Rank.{kid_shaped, root_shaped}
+use Rattle.range_store.proofs.Rank.{kid_shaped}
+use Rattle.range_store.specs.Written.{root_shaped}
 use Rattle.range_store.proofs.Shortening.{kid_kept, kid_moved, kid_listed, kid_front, kid_children, remove_middle}
 use Rattle.range_store.proofs.InLeaf.{IsLeafOf, leaf_of_edge}
-use Rattle.range_store.proofs.Settling.{tree_owned, rewritten_tree}
-use Rattle.range_store.proofs.Weave.{insert_middle}
+use Rattle.range_store.proofs.Roots.{tree_owned, rewritten_tree}
+use Rattle.range_store.specs.Weave.{insert_middle, regroup}
 
--- below the node n, the leaf of the edge g has these items; the others stand before and after them
-pub record IsLeafEdit (s t : Slab Node) (d n : ℕ) (g : Edge) (items : List ℕ) : Type 0 where
-  pub front : List ℕ
-  pub rest : List ℕ
-  pub was : numbers s (suc d) n ≡ front ++ (items_of (get s g.leaf) ++ rest)
-  pub place_is : place s d n g ≡ length front + g.index
-  pub rewritten : IsRewritten s t d n (front ++ (items ++ rest))
-  pub edges : (h : Edge) → h.leaf ≡ g.leaf → h.way ≡ g.way → h.index ≤ length items → IsEdge t d n h × (place t d n h ≡ length front + h.index)
-
-leaf_parts_regroup : {X : Type 0} (f a m b r : List X) → f ++ ((a ++ (m ++ b)) ++ r) ≡ (f ++ a) ++ (m ++ (b ++ r))
-leaf_parts_regroup f a m b r =
-    ap (λ zs. f ++ zs) (append_assoc a (m ++ b) r ∙ ap (λ zs. a ++ zs) (append_assoc m b r)) ∙ sym (append_assoc f a (m ++ (b ++ r)))
+module _ {T : Type 0} where
+  -- below the node n, the leaf of the edge g has these items; the others stand before and after
+  -- them
+  pub record IsLeafEdit (s t : Heap T) (d n : ℕ) (g : Edge) (items : List T) : Type 0 where
+    pub front : List T
+    pub rest : List T
+    pub was : items_below s (suc d) n ≡ front ++ (items_of (node_of s g.leaf) ++ rest)
+    pub place_is : place s d n g ≡ length front + g.index
+    pub rewritten : IsRewritten s t d n (front ++ (items ++ rest))
+    pub edges : (h : Edge) → h.leaf ≡ g.leaf → h.path ≡ g.path → h.index ≤ length items
+        → IsEdge t d n h × (place t d n h ≡ length front + h.index)
 
 -- of a leaf itself
-module _ (s t : Slab Node) (n : ℕ) (g : Edge) (items : List ℕ) (fits : length items ≤ CAPACITY) (enough : (least : ℕ) → least ≤ MIN_LEN → least ≤ length (items_of (get s n)) → least ≤ length items) (shaped : ShapedBut 1 CAPACITY s zero n) (owned : Owned s 1 n) (written : Writes s t n items (children_of (get s n))) where
-  content : IsContent s zero n items (children_of (get s n))
+module _ {T : Type 0} (s t : Heap T) (n : ℕ) (g : Edge) (items : List T)
+    (fits : length items ≤ CAPACITY)
+    (enough : (least : ℕ) → least ≤ MIN_LEN → least ≤ length (items_of (node_of s n))
+    → least ≤ length items) (shaped : ShapedBut 1 CAPACITY s zero n) (owned : Owned s 1 n)
+    (written : Writes s t n items (children_of (node_of s n))) where
+  content : IsContent s zero n items (children_of (node_of s n))
   content = record {
     present = shaped.node.present;
     shaped = shaped.children;
@@ -49,101 +52,158 @@ module _ (s t : Slab Node) (n : ℕ) (g : Edge) (items : List ℕ) (fits : lengt
     owned = λ k. omega (arith, owned k, ap (occurrences k) (used_is s zero n));
   }
 
-  holds : Holds s t zero n items (children_of (get s n))
-  holds = written_holds s t zero n items (children_of (get s n)) content written
+  holds : Holds s t zero n items (children_of (node_of s n))
+  holds = written_holds s t zero n items (children_of (node_of s n)) content written
 
-  edited_here : g.leaf ≡ n → g.way ≡ 0 → IsLeafEdit s t zero n g items
+  edited_here : g.leaf ≡ n → g.path ≡ 0 → IsLeafEdit s t zero n g items
   edited_here at first =
-      let childless = nil_from_length (children_of (get s n)) shaped.node.branches in
+      let childless = nil_from_length (children_of (node_of s n)) shaped.node.branches in
       record {
         front = [];
         rest = [];
-        was = rw at (numbers_leaf s n shaped.node.branches ∙ sym (append-nil (items_of (get s n))));
+        was =
+            rw at (items_below_leaf s n shaped.node.branches
+            ∙ sym (append-nil (items_of (node_of s n))));
         place_is = omega (arith, leaf_place s n g);
         rewritten = record {
-          listed = held_numbers s t zero n _ _ holds ∙ ap (λ zs. weave items (map (numbers s zero) zs)) childless ∙ sym (append-nil items);
-          moved = rw (used_is s zero n, held_used s t zero n _ _ holds) (Writes-moves s t n _ _ (flat_map (used s zero) (children_of (get s n))) written);
-          shape = λ least small old. held_shape s t zero n _ _ holds least (enough least small old.node.enough) fits shaped.node.branches shaped.children;
+          listed =
+              held_items_below s t zero n _ _ holds
+              ∙ ap (λ zs. weave items (map (items_below s zero) zs)) childless
+              ∙ sym (append-nil items);
+          moved =
+              rw (used_is s zero n, held_used s t zero n _ _ holds)
+              (Writes-moves s t n _ _ (flat_map (used s zero) (children_of (node_of s n))) written);
+          shape =
+              λ least small old. held_shape s t zero n _ _ holds least
+              (enough least small old.node.enough) fits shaped.node.branches shaped.children;
         };
-        edges = λ h leaf way index. (leaf_edge t n h (leaf ∙ at) (way ∙ first) (omega (arith, index, ap length holds.items_are)), omega (arith, leaf_place t n h));
+        edges =
+            λ h leaf path index. (
+              leaf_edge t n h (leaf ∙ at) (path ∙ first)
+                  (omega (arith, index, ap length holds.items_are)),
+              omega (arith, leaf_place t n h),
+            );
       }
 
--- of a leaf below the child through which the way goes
-module _ (s t : Slab Node) (d n : ℕ) (g : Edge) (items : List ℕ) (shaped : ShapedBut 1 CAPACITY s (suc d) n) (owned : Owned s (suc (suc d)) n) (low : turn g ≤ length (items_of (get s n))) (within : turn g < length (children_of (get s n))) (below : IsLeafEdit s t d (get_or (children_of (get s n)) (turn g) 0) (inside g) items) where
-  inner : suc d ≢ 0
-  inner same = absurd (omega (arith, same))
+-- of a leaf below the child through which the path goes
+module _ {T : Type 0} (s t : Heap T) (d n : ℕ) (g : Edge) (items : List T)
+    (shaped : ShapedBut 1 CAPACITY s (suc d) n) (owned : Owned s (suc (suc d)) n)
+    (low : turn g ≤ length (items_of (node_of s n)))
+    (within : turn g < length (children_of (node_of s n)))
+    (below : IsLeafEdit s t d (get_or (children_of (node_of s n)) (turn g) 0) (inside g) items)
+  where
+    inner : suc d ≢ 0
+    inner same = absurd (omega (arith, same))
 
-  abbrev fore : List ℕ
-  fore = before (items_of (get s n)) (map (numbers s (suc d)) (children_of (get s n))) (turn g)
+    abbrev fore : List T
+    fore =
+        before (items_of (node_of s n)) (map (items_below s (suc d)) (children_of (node_of s n)))
+        (turn g)
 
-  abbrev behind : List ℕ
-  behind = after (items_of (get s n)) (map (numbers s (suc d)) (children_of (get s n))) (turn g)
+    abbrev behind : List T
+    behind =
+        after (items_of (node_of s n)) (map (items_below s (suc d)) (children_of (node_of s n)))
+        (turn g)
 
-  kept : get t n ≡ get s n
-  kept = kid_kept s t (suc d) n (turn g) _ inner shaped owned low below.rewritten.listed below.rewritten.moved
+    kept : node_of t n ≡ node_of s n
+    kept =
+        kid_kept s t (suc d) n (turn g) _ inner shaped owned low below.rewritten.listed
+        below.rewritten.moved
 
-  kid_now : Shaped t (suc d) (get_or (children_of (get s n)) (turn g) 0)
-  kid_now = Shaped-from_but t d _ (below.rewritten.shape MIN_LEN (omega arith) (kid_shaped 1 CAPACITY s d n (turn g) shaped low))
+    kid_now : Shaped t (suc d) (get_or (children_of (node_of s n)) (turn g) 0)
+    kid_now =
+        Shaped-from_but t d _ (below.rewritten.shape MIN_LEN (omega arith)
+        (kid_shaped 1 CAPACITY s d n (turn g) shaped low))
 
-  edited_above : IsLeafEdit s t (suc d) n g items
-  edited_above = record {
-    front = fore ++ below.front;
-    rest = below.rest ++ behind;
-    was =
-        numbers_at 1 CAPACITY s (suc d) n (omega arith) shaped (turn g) low
-        ∙ ap (λ zs. fore ++ (zs ++ behind)) below.was
-        ∙ leaf_parts_regroup fore below.front (items_of (get s g.leaf)) below.rest behind;
-    place_is = omega (arith, place_inside s d n g, below.place_is, length-append fore below.front);
-    rewritten = record {
-      listed =
-          kid_listed s t (suc d) n (turn g) _ inner shaped owned low below.rewritten.listed below.rewritten.moved
-          ∙ leaf_parts_regroup fore below.front items below.rest behind;
-      moved = kid_moved s t (suc d) n (turn g) _ inner shaped owned low below.rewritten.listed below.rewritten.moved;
-      shape = λ least small old. record {
-        node = IsNode-same least CAPACITY s t (suc d) n kept old.node;
-        children = kid_children s t (suc d) n (turn g) _ inner shaped owned low below.rewritten.listed below.rewritten.moved kid_now;
+    edited_above : IsLeafEdit s t (suc d) n g items
+    edited_above = record {
+      front = fore ++ below.front;
+      rest = below.rest ++ behind;
+      was =
+          items_below_at 1 CAPACITY s (suc d) n (omega arith) shaped (turn g) low
+          ∙ ap (λ zs. fore ++ (zs ++ behind)) below.was
+          ∙ regroup fore below.front (items_of (node_of s g.leaf)) below.rest behind;
+      place_is =
+          omega (arith, place_inside s d n g, below.place_is, length-append fore below.front);
+      rewritten = record {
+        listed =
+            kid_listed s t (suc d) n
+            (turn g) _ inner shaped owned low below.rewritten.listed below.rewritten.moved
+            ∙ regroup fore below.front items below.rest behind;
+        moved =
+            kid_moved s t (suc d) n (turn g) _ inner shaped owned low below.rewritten.listed
+            below.rewritten.moved;
+        shape = λ least small old. record {
+          node = IsNode-same least CAPACITY s t (suc d) n kept old.node;
+          children =
+              kid_children s t (suc d) n
+              (turn g) _ inner shaped owned low below.rewritten.listed below.rewritten.moved
+              kid_now;
+        };
       };
-    };
-    edges = λ h leaf way index.
-        let first : turn h ≡ turn g = ap (λ w. w % WIDTH) way in
-        let further = below.edges (inside h) leaf (ap (λ w. w / WIDTH) way) index in
-        let now = rw (kept, first) at (place_inside t d n h) in
-        let fronts = rw kept at (kid_front s t (suc d) n (turn g) _ inner shaped owned low below.rewritten.listed below.rewritten.moved) in
-        (edge_above t d n (turn g) (inside h) h first refl (rw kept within) (rw kept further.0), omega (arith, now, fronts, further.1, length-append fore below.front));
-  }
+      edges = λ h leaf path index.
+          let first : turn h ≡ turn g = ap (λ w. w % PATH_BASE) path in
+          let further = below.edges (inside h) leaf (ap (λ w. w / PATH_BASE) path) index in
+          let now = rw (kept, first) at (place_inside t d n h) in
+          let fronts =
+          rw kept at (kid_front s t (suc d) n
+          (turn g) _ inner shaped owned low below.rewritten.listed below.rewritten.moved) in (
+            edge_above t d n (turn g) (inside h) h first refl (rw kept within) (rw kept further.0),
+            omega (arith, now, fronts, further.1, length-append fore below.front),
+          );
+    }
 
-pub leaf_edit : (s t : Slab Node) (d n : ℕ) (g : Edge) (items : List ℕ) → length items ≤ CAPACITY → ((least : ℕ) → least ≤ MIN_LEN → least ≤ length (items_of (get s g.leaf)) → least ≤ length items) → ShapedBut 1 CAPACITY s d n → Owned s (suc d) n → IsEdge s d n g → Writes s t g.leaf items (children_of (get s g.leaf)) → IsLeafEdit s t d n g items
+pub leaf_edit : {T : Type 0} (s t : Heap T) (d n : ℕ) (g : Edge) (items : List T)
+    → length items ≤ CAPACITY
+    → ((least : ℕ) → least ≤ MIN_LEN → least ≤ length (items_of (node_of s g.leaf))
+    → least ≤ length items) → ShapedBut 1 CAPACITY s d n → Owned s (suc d) n → IsEdge s d n g
+    → Writes s t g.leaf items (children_of (node_of s g.leaf)) → IsLeafEdit s t d n g items
 unfolding IsEdge
 leaf_edit s t zero n g items fits enough shaped owned is written =
     edited_here s t n g items fits (rw is.0 at enough) shaped owned (rw is.0 at written) is.0 is.1
 leaf_edit s t (suc d) n g items fits enough shaped owned is written =
-    let low : turn g ≤ length (items_of (get s n)) = omega (arith, is.0, shaped.node.branches) in
-    let kid = get_or (children_of (get s n)) (turn g) 0 in
-    let kid_whole = shaped_within_wider 1 MIN_LEN CAPACITY CAPACITY s d kid (omega arith) (omega arith) (kid_shaped 1 CAPACITY s d n (turn g) shaped low) in
+    let low : turn g ≤ length (items_of (node_of s n)) =
+    omega (arith, is.0, shaped.node.branches) in
+    let kid = get_or (children_of (node_of s n)) (turn g) 0 in
+    let kid_whole =
+    shaped_within_wider 1 MIN_LEN CAPACITY CAPACITY s d kid (omega arith) (omega arith)
+    (kid_shaped 1 CAPACITY s d n (turn g) shaped low) in
     edited_above s t d n g items shaped owned low is.0
-    (leaf_edit s t d kid (inside g) items fits enough kid_whole (kid_owned s (suc d) n (turn g) owned is.0) is.1 written)
+    (leaf_edit s t d kid (inside g) items fits enough kid_whole
+    (kid_owned s (suc d) n (turn g) owned is.0) is.1 written)
 
 -- an item more, before the edge
-module _ (s t : Slab Node) (d n item : ℕ) (g : Edge) (edit : IsLeafEdit s t d n g (insert (items_of (get s g.leaf)) g.index item)) (within : g.index ≤ length (items_of (get s g.leaf))) where
-  pub inserted_in_leaf : edit.front ++ (insert (items_of (get s g.leaf)) g.index item ++ edit.rest) ≡ insert (numbers s (suc d) n) (place s d n g) item
+module _ {T : Type 0} (s t : Heap T) (d n : ℕ) (item : T) (g : Edge)
+    (edit : IsLeafEdit s t d n g (insert (items_of (node_of s g.leaf)) g.index item))
+    (within : g.index ≤ length (items_of (node_of s g.leaf))) where
+  pub inserted_in_leaf : edit.front
+      ++ (insert (items_of (node_of s g.leaf)) g.index item ++ edit.rest)
+      ≡ insert (items_below s (suc d) n) (place s d n g) item
   inserted_in_leaf =
-      sym (insert_middle edit.front (items_of (get s g.leaf)) edit.rest g.index item within)
-      ∙ ap (λ m. insert (edit.front ++ (items_of (get s g.leaf) ++ edit.rest)) m item) (sym edit.place_is)
+      sym (insert_middle edit.front (items_of (node_of s g.leaf)) edit.rest g.index item within)
+      ∙ ap (λ m. insert (edit.front ++ (items_of (node_of s g.leaf) ++ edit.rest)) m item)
+      (sym edit.place_is)
       ∙ ap (λ zs. insert zs (place s d n g) item) (sym edit.was)
 
 -- an item less, from before the edge
-module _ (s t : Slab Node) (d n : ℕ) (g : Edge) (edit : IsLeafEdit s t d n g (remove (items_of (get s g.leaf)) (g.index - 1))) (some : 0 < g.index) (within : g.index ≤ length (items_of (get s g.leaf))) where
-  pub removed_in_leaf : edit.front ++ (remove (items_of (get s g.leaf)) (g.index - 1) ++ edit.rest) ≡ remove (numbers s (suc d) n) (place s d n g - 1)
+module _ {T : Type 0} (s t : Heap T) (d n : ℕ) (g : Edge)
+    (edit : IsLeafEdit s t d n g (remove (items_of (node_of s g.leaf)) (g.index - 1)))
+    (some : 0 < g.index) (within : g.index ≤ length (items_of (node_of s g.leaf))) where
+  pub removed_in_leaf : edit.front
+      ++ (remove (items_of (node_of s g.leaf)) (g.index - 1) ++ edit.rest)
+      ≡ remove (items_below s (suc d) n) (place s d n g - 1)
   removed_in_leaf =
-      let at : length edit.front + (g.index - 1) ≡ place s d n g - 1 = omega (arith, edit.place_is, some) in
-      sym (remove_middle edit.front (items_of (get s g.leaf)) edit.rest (g.index - 1) (omega (arith, some, within)))
-      ∙ ap (remove (edit.front ++ (items_of (get s g.leaf) ++ edit.rest))) at
+      let at : length edit.front + (g.index - 1) ≡ place s d n g - 1 =
+      omega (arith, edit.place_is, some) in
+      sym (remove_middle edit.front (items_of (node_of s g.leaf)) edit.rest (g.index - 1)
+      (omega (arith, some, within)))
+      ∙ ap (remove (edit.front ++ (items_of (node_of s g.leaf) ++ edit.rest))) at
       ∙ ap (λ zs. remove zs (place s d n g - 1)) (sym edit.was)
 
 -- the leaf of an edge of a whole tree, with an item more or less
-module _ (t : NumberTree) (new : Slab Node) (g : Edge) (is : IsTreeEdge t g) where
-  abbrev items : List ℕ
-  items = items_of (get t.nodes g.leaf)
+module _ {T : Type 0} (t : BoxStorage T) (new : Heap T) (g : Edge) (is : IsBoxEdge t g) where
+  abbrev items : List T
+  items = items_of (node_of t.nodes g.leaf)
 
   level : suc (t.levels - 1) ≡ t.levels
   level = omega (arith, is.some)
@@ -158,35 +218,55 @@ module _ (t : NumberTree) (new : Slab Node) (g : Edge) (is : IsTreeEdge t g) whe
   leaf = leaf_of_edge t.nodes (t.levels - 1) t.root g shaped is.edge
 
   -- the tree then, and the edge there that has so many items of the leaf before it
-  pub record IsLeafChange (list : List ℕ) (h : Edge) (before : ℕ) : Type 0 where
+  pub record IsLeafChange (list : List T) (h : Edge) (before : ℕ) : Type 0 where
     pub tree : IsTree new t.levels t.root
-    pub numbers_are : numbers new t.levels t.root ≡ list
+    pub items_are : items_below new t.levels t.root ≡ list
     pub capacity : new.capacity ≡ t.nodes.capacity
     pub edge : IsEdge new (t.levels - 1) t.root h
-    pub place_is : place new (t.levels - 1) t.root h + g.index ≡ tree_place t g + before
+    pub place_is : place new (t.levels - 1) t.root h + g.index ≡ box_place t g + before
 
-  leaf_change_lists : (now list : List ℕ) (h : Edge) (edit : IsLeafEdit t.nodes new (t.levels - 1) t.root g now) → edit.front ++ (now ++ edit.rest) ≡ list → h.leaf ≡ g.leaf → h.way ≡ g.way → h.index ≤ length now → IsLeafChange list h h.index
-  leaf_change_lists now list h edit same at way within =
-      let whole = rewritten_tree t.nodes new t.levels t.root _ is.some t.whole.tree edit.rewritten in
-      let edge = edit.edges h at way within in
+  leaf_change_lists : (now list : List T) (h : Edge)
+      (edit : IsLeafEdit t.nodes new (t.levels - 1) t.root g now)
+      → edit.front ++ (now ++ edit.rest) ≡ list → h.leaf ≡ g.leaf → h.path ≡ g.path
+      → h.index ≤ length now → IsLeafChange list h h.index
+  leaf_change_lists now list h edit same at path within =
+      let whole =
+      rewritten_tree t.nodes new t.levels t.root _ is.some t.whole.tree edit.rewritten in
+      let edge = edit.edges h at path within in
       record {
         tree = whole.0;
-        numbers_are = whole.1 ∙ same;
+        items_are = whole.1 ∙ same;
         capacity = edit.rewritten.moved.capacity;
         edge = edge.0;
         place_is = omega (arith, edge.1, edit.place_is);
       }
 
-  pub put_in_leaf : (item : ℕ) (h : Edge) → length items < CAPACITY → Writes t.nodes new g.leaf (insert items g.index item) (children_of (get t.nodes g.leaf)) → h.leaf ≡ g.leaf → h.way ≡ g.way → h.index ≡ g.index + 1 → IsLeafChange (insert (tree_numbers t) (tree_place t g) item) h h.index
-  put_in_leaf item h room written at way next =
+  pub put_in_leaf : (item : T) (h : Edge) → length items < CAPACITY
+      → Writes t.nodes new g.leaf (insert items g.index item) (children_of (node_of t.nodes g.leaf))
+      → h.leaf ≡ g.leaf → h.path ≡ g.path → h.index ≡ g.index + 1
+      → IsLeafChange (insert (box_items t) (box_place t g) item) h h.index
+  put_in_leaf item h room written at path next =
       let within = leaf.within in
       let more = length-insert items g.index item within in
-      let edit = leaf_edit t.nodes new (t.levels - 1) t.root g (insert items g.index item) (omega (arith, more, room)) (λ least small old. omega (arith, more, old)) shaped owned is.edge written in
-      leaf_change_lists (insert items g.index item) _ h edit (rw level at (inserted_in_leaf t.nodes new (t.levels - 1) t.root item g edit within)) at way (omega (arith, more, next, within))
+      let edit =
+      leaf_edit t.nodes new (t.levels - 1) t.root g (insert items g.index item)
+      (omega (arith, more, room))
+      (λ least small old. omega (arith, more, old)) shaped owned is.edge written in
+      leaf_change_lists (insert items g.index item) _ h edit
+      (rw level at (inserted_in_leaf t.nodes new (t.levels - 1) t.root item g edit within)) at
+      path (omega (arith, more, next, within))
 
-  pub take_from_leaf : (h : Edge) → MIN_LEN < length items → 0 < g.index → Writes t.nodes new g.leaf (remove items (g.index - 1)) (children_of (get t.nodes g.leaf)) → h.leaf ≡ g.leaf → h.way ≡ g.way → h.index ≡ g.index - 1 → IsLeafChange (remove (tree_numbers t) (tree_place t g - 1)) h h.index
-  take_from_leaf h spare some written at way back =
+  pub take_from_leaf : (h : Edge) → MIN_LEN < length items → 0 < g.index
+      → Writes t.nodes new g.leaf (remove items (g.index - 1))
+      (children_of (node_of t.nodes g.leaf)) → h.leaf ≡ g.leaf → h.path ≡ g.path
+      → h.index ≡ g.index - 1 → IsLeafChange (remove (box_items t) (box_place t g - 1)) h h.index
+  take_from_leaf h spare some written at path back =
       let within = leaf.within in
       let less = length-remove items (g.index - 1) (omega (arith, within, some)) in
-      let edit = leaf_edit t.nodes new (t.levels - 1) t.root g (remove items (g.index - 1)) (omega (arith, less, leaf.fits)) (λ least small old. omega (arith, less, spare, small)) shaped owned is.edge written in
-      leaf_change_lists (remove items (g.index - 1)) _ h edit (rw level at (removed_in_leaf t.nodes new (t.levels - 1) t.root g edit some within)) at way (omega (arith, less, back, within))
+      let edit =
+      leaf_edit t.nodes new (t.levels - 1) t.root g (remove items (g.index - 1))
+      (omega (arith, less, leaf.fits))
+      (λ least small old. omega (arith, less, spare, small)) shaped owned is.edge written in
+      leaf_change_lists (remove items (g.index - 1)) _ h edit
+      (rw level at (removed_in_leaf t.nodes new (t.levels - 1) t.root g edit some within)) at
+      path (omega (arith, less, back, within))

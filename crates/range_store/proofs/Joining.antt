@@ -4,24 +4,25 @@ use Rattle.std.specs.List.{flat_map}
 use Rattle.std.proofs.lemmas.List.{append-nil, append_assoc, length-append, length-map, map-append}
 use Rattle.std.proofs.lemmas.List.Concat.{flat_map-append}
 use Rattle.std.proofs.lemmas.List.Elements.{All-append, All-cons, All-nil, All-weaker}
-use Rattle.slab.specs.Slab.{Slab, get, slab_len, Updates}
-use Rattle.range_store.specs.declared.btree.node.Node.{Node}
-use Rattle.range_store.specs.declared.btree.node.Split.{Split}
-use Rattle.range_store.specs.declared.btree.node.TheConstants.{CAPACITY, MIN_LEN}
-use Rattle.range_store.specs.declared.btree.way.Edge.{Edge}
-use Rattle.range_store.specs.Nodes.{weave, items_of, children_of, child_count, numbers, used, Shaped, ShapedBut, here, Writes, Removes}
+use Rattle.range_store.specs.Heap.{Heap, node_of, items_of, children_of, child_count, Writes, Removes}
+use Rattle.range_store.specs.declared.btree.nodes.Split.{Split}
+use Rattle.range_store.specs.declared.btree.nodes.TheConstants.{CAPACITY, MIN_LEN}
+use Rattle.range_store.specs.declared.btree.path.Edge.{Edge}
+use Rattle.range_store.specs.Nodes.{weave, items_below, used, Shaped, ShapedBut, here}
 use Rattle.range_store.specs.Edges.{turn, inside, seat_of, IsEdge, place, IsSeat, seat_place}
 use Rattle.range_store.specs.Contents.{IsContent, IsPair, Rejoins}
 use Rattle.range_store.specs.Occurrences.{occurrences, occurrences-append, occurrences-cons, occurrences_itself}
-use Rattle.range_store.proofs.Weave.{weave_cut}
-use Rattle.range_store.proofs.Frame.{AgreeAt, same_children}
-use Rattle.range_store.proofs.Below.{weave_numbers, used_is, numbers_leaf, Shaped-from_but}
-use Rattle.range_store.proofs.Room.{numbers_size}
+use Rattle.range_store.specs.Weave.{weave_cut}
+use Rattle.range_store.specs.Frame.{AgreeAt, same_children}
+use Rattle.range_store.proofs.Below.{weave_items_below, used_is, items_below_leaf, Shaped-from_but}
+use Rattle.range_store.proofs.Room.{items_below_size}
 use Rattle.range_store.proofs.Moves.{here_le, SameNodes, Moves-like, Moves-then, Writes-moves, Removes-moves}
-use Rattle.range_store.proofs.Contents.{Holds, held_numbers, held_used, held_shape, content_apart, halves_listed, halves_nodes, halves_shape, part_agree}
+use Rattle.range_store.proofs.Contents.{Holds, held_items_below, held_used, held_shape, content_apart, halves_listed, halves_nodes, halves_shape, part_agree}
 use Rattle.range_store.proofs.Seats.{seat_run}
 
-weave_join : (xs : List ℕ) (x : ℕ) (ys : List ℕ) (ks ls : List (List ℕ)) (d : ℕ) → length ks ≡ child_count d (length xs) → length ls ≡ child_count d (length ys) → weave (xs ++ x ∷ ys) (ks ++ ls) ≡ weave xs ks ++ (x ∷ weave ys ls)
+weave_join : {T : Type 0} (xs : List T) (x : T) (ys : List T) (ks ls : List (List T)) (d : ℕ)
+    → length ks ≡ child_count d (length xs) → length ls ≡ child_count d (length ys)
+    → weave (xs ++ x ∷ ys) (ks ++ ls) ≡ weave xs ks ++ (x ∷ weave ys ls)
 weave_join xs x ys [] [] zero same same' = refl
 weave_join xs x ys [] (l ∷ ls) zero same same' = absurd (omega arith)
 weave_join xs x ys (k ∷ ks) ls zero same same' = absurd (omega arith)
@@ -29,34 +30,55 @@ weave_join xs x ys [] ls (suc d) same same' = absurd (omega arith)
 weave_join xs x ys (k ∷ ks) [] (suc d) same same' = absurd (omega arith)
 weave_join xs x ys (k ∷ ks) (l ∷ ls) (suc d) same same' = weave_cut xs x ys k ks l ls (omega arith)
 
-child_count-join : (d a b m n : ℕ) → m ≡ child_count d a → n ≡ child_count d b → m + n ≡ child_count d (a + (1 + b))
+child_count-join : (d a b m n : ℕ) → m ≡ child_count d a → n ≡ child_count d b
+    → m + n ≡ child_count d (a + (1 + b))
 child_count-join zero a b m n h h' = omega arith
 child_count-join (suc d) a b m n h h' = omega arith
 
-module _ (s : Slab Node) (d l x r : ℕ) (pair : IsPair s d l r) where
-  abbrev xs : List ℕ
-  xs = items_of (get s l) ++ (x ∷ items_of (get s r))
+module _ {T : Type 0} (s : Heap T) (d l : ℕ) (x : T) (r : ℕ) (pair : IsPair s d l r) where
+  abbrev xs : List T
+  xs = items_of (node_of s l) ++ (x ∷ items_of (node_of s r))
 
   abbrev ks : List ℕ
-  ks = children_of (get s l) ++ children_of (get s r)
+  ks = children_of (node_of s l) ++ children_of (node_of s r)
 
   abbrev F : List ℕ
-  F = flat_map (used s d) (children_of (get s l) ++ children_of (get s r))
+  F = flat_map (used s d) (children_of (node_of s l) ++ children_of (node_of s r))
 
-  both : F ≡ flat_map (used s d) (children_of (get s l)) ++ flat_map (used s d) (children_of (get s r))
-  both = flat_map-append (used s d) (children_of (get s l)) (children_of (get s r))
+  both : F ≡ flat_map (used s d) (children_of (node_of s l))
+      ++ flat_map (used s d) (children_of (node_of s r))
+  both = flat_map-append (used s d) (children_of (node_of s l)) (children_of (node_of s r))
 
   pub pair_nodes : SameNodes (used s (suc d) l ++ used s (suc d) r) (r ∷ l ∷ F)
   pair_nodes =
-      let us = flat_map (used s d) (children_of (get s l)) in
-      let vs = flat_map (used s d) (children_of (get s r)) in
+      let us = flat_map (used s d) (children_of (node_of s l)) in
+      let vs = flat_map (used s d) (children_of (node_of s r)) in
       rw (used_is s d l, used_is s d r) (record {
-        occur = λ k. omega (arith, occurrences-append k (l ∷ us) (r ∷ vs), occurrences-cons k l us, occurrences-cons k r vs, occurrences-cons k r (l ∷ F), occurrences-cons k l F, ap (occurrences k) both, occurrences-append k us vs);
+        occur =
+            λ k.
+            omega (
+              arith,
+              occurrences-append k (l ∷ us) (r ∷ vs),
+              occurrences-cons k l us,
+              occurrences-cons k r vs,
+              occurrences-cons k r (l ∷ F),
+              occurrences-cons k l F,
+              ap (occurrences k) both,
+              occurrences-append k us vs,
+            );
         len = omega (arith, length-append (l ∷ us) (r ∷ vs), ap length both, length-append us vs);
       })
 
-  occur_pair : (k : ℕ) → occurrences k (r ∷ []) + (occurrences k (l ∷ []) + occurrences k F) ≤ here s k
-  occur_pair k = omega (arith, pair.owned k, pair_nodes.occur k, occurrences-cons k r (l ∷ F), occurrences-cons k l F)
+  occur_pair : (k : ℕ)
+      → occurrences k (r ∷ []) + (occurrences k (l ∷ []) + occurrences k F) ≤ here s k
+  occur_pair k =
+      omega (
+        arith,
+        pair.owned k,
+        pair_nodes.occur k,
+        occurrences-cons k r (l ∷ F),
+        occurrences-cons k l F,
+      )
 
   pub pair_apart : l ≢ r
   pair_apart same =
@@ -68,45 +90,59 @@ module _ (s : Slab Node) (d l x r : ℕ) (pair : IsPair s d l r) where
       let itself : occurrences k (r ∷ []) ≡ 1 = rw same (occurrences_itself r) in
       omega (arith, occur_pair k, itself, here_le s k)
 
-  one : length (items_of (get s l)) + (1 + length (items_of (get s r))) ≡ length (items_of (get s l)) + length (x ∷ items_of (get s r))
+  one : length (items_of (node_of s l)) + (1 + length (items_of (node_of s r)))
+      ≡ length (items_of (node_of s l)) + length (x ∷ items_of (node_of s r))
   one = omega arith
 
   pub pair_content : IsContent s d l xs ks
   pair_content = record {
     present = pair.left.node.present;
-    shaped = All-append (Shaped s d) (children_of (get s l)) (children_of (get s r)) pair.left.children pair.right.children;
-    branches = length-append (children_of (get s l)) (children_of (get s r)) ∙ child_count-join d _ _ _ _ pair.left.node.branches pair.right.node.branches ∙ ap (child_count d) (one ∙ sym (length-append (items_of (get s l)) (x ∷ items_of (get s r))));
+    shaped =
+        All-append (Shaped s d) (children_of (node_of s l))
+        (children_of (node_of s r)) pair.left.children pair.right.children;
+    branches =
+        length-append (children_of (node_of s l)) (children_of (node_of s r))
+        ∙ child_count-join d _ _ _ _ pair.left.node.branches pair.right.node.branches
+        ∙ ap (child_count d) (one
+        ∙ sym (length-append (items_of (node_of s l)) (x ∷ items_of (node_of s r))));
     owned = λ k. omega (arith, occur_pair k, occurrences-cons k l F);
   }
 
-  pub pair_listed : weave xs (map (numbers s d) ks) ≡ numbers s (suc d) l ++ (x ∷ numbers s (suc d) r)
+  pub pair_listed : weave xs (map (items_below s d) ks) ≡ items_below s (suc d) l
+      ++ (x ∷ items_below s (suc d) r)
   pair_listed =
-      ap (weave xs) (map-append (numbers s d) (children_of (get s l)) (children_of (get s r)))
-      ∙ weave_join (items_of (get s l)) x (items_of (get s r)) (map (numbers s d) (children_of (get s l))) (map (numbers s d) (children_of (get s r))) d (length-map (children_of (get s l)) (numbers s d) ∙ pair.left.node.branches) (length-map (children_of (get s r)) (numbers s d) ∙ pair.right.node.branches)
-      ∙ rw (weave_numbers s d l, weave_numbers s d r) refl
+      ap (weave xs) (map-append (items_below s d) (children_of (node_of s l))
+      (children_of (node_of s r)))
+      ∙ weave_join (items_of (node_of s l)) x (items_of (node_of s r))
+      (map (items_below s d) (children_of (node_of s l)))
+      (map (items_below s d) (children_of (node_of s r))) d
+      (length-map (children_of (node_of s l)) (items_below s d) ∙ pair.left.node.branches)
+      (length-map (children_of (node_of s r)) (items_below s d) ∙ pair.right.node.branches)
+      ∙ rw (weave_items_below s d l, weave_items_below s d r) refl
 
-  pub pair_length : length xs ≡ length (items_of (get s l)) + 1 + length (items_of (get s r))
-  pair_length = omega (arith, length-append (items_of (get s l)) (x ∷ items_of (get s r)))
-
-  pub pair_removes : (t u : Slab Node) (us vs : List ℕ) → Writes s t l us vs → Updates t u r None → slab_len u + 1 ≡ slab_len t → u.capacity ≡ t.capacity → Removes t u r
-  pair_removes t u us vs written updates len capacity = record {
-    was = rw (written.others r (λ same. pair_apart (sym same))) pair.right.node.present;
-    gone = updates.changed;
-    others = updates.others;
-    len = len;
-    capacity = capacity;
-  }
+  pub pair_length : length xs
+      ≡ length (items_of (node_of s l)) + 1 + length (items_of (node_of s r))
+  pair_length = omega (arith, length-append (items_of (node_of s l)) (x ∷ items_of (node_of s r)))
 
   -- all of it in the left node
-  module _ (t u : Slab Node) (written : Writes s t l xs ks) (removed : Removes t u r) (few : length xs ≤ MIN_LEN + MIN_LEN) where
-    gone_apart : (k : ℕ) → 0 < occurrences k F → get u k ≡ get s k
-    gone_apart k among = removed.others k (right_apart k among) ∙ written.others k (content_apart s t d l xs ks pair_content k among)
+  module _ (t u : Heap T) (written : Writes s t l xs ks) (removed : Removes t u r)
+      (few : length xs ≤ CAPACITY) where
+    gone_apart : (k : ℕ) → 0 < occurrences k F → node_of u k ≡ node_of s k
+    gone_apart k among =
+        removed.others k (right_apart k among)
+        ∙ written.others k (content_apart s t d l xs ks pair_content k among)
 
-    l_kept : get u l ≡ get t l
+    l_kept : node_of u l ≡ node_of t l
     l_kept = removed.others l pair_apart
 
     pub united_holds : Holds s u d l xs ks
-    united_holds = record { present = rw l_kept written.present; items_are = rw l_kept written.items_are; children_are = rw l_kept written.children_are; same = same_children s u d ks gone_apart }
+    united_holds =
+        record {
+          present = rw l_kept written.present;
+          items_are = rw l_kept written.items_are;
+          children_are = rw l_kept written.children_are;
+          same = same_children s u d ks gone_apart;
+        }
 
     pub united_agree : AgreeAt s u F
     united_agree = gone_apart
@@ -116,77 +152,154 @@ module _ (s : Slab Node) (d l x r : ℕ) (pair : IsPair s d l r) where
 
     pub united_rejoins : Rejoins s u d l x r None
     united_rejoins = record {
-      listed = append-nil (numbers u (suc d) l) ∙ held_numbers s u d l xs ks united_holds ∙ pair_listed;
+      listed =
+          append-nil (items_below u (suc d) l) ∙ held_items_below s u d l xs ks united_holds
+          ∙ pair_listed;
       moved =
-          Moves-like s u (r ∷ l ∷ F) (used s (suc d) l ++ used s (suc d) r) (l ∷ F) (used u (suc d) l ++ [])
+          Moves-like s u (r ∷ l ∷ F) (used s (suc d) l ++ used s (suc d) r) (l ∷ F)
+          (used u (suc d) l ++ [])
           (record { occur = λ k. sym (pair_nodes.occur k); len = sym pair_nodes.len })
-          (rw (append-nil (used u (suc d) l), united_used) (record { occur = λ k. refl; len = refl }))
+          (rw (append-nil (used u (suc d) l), united_used)
+          (record { occur = λ k. refl; len = refl }))
           (Moves-then s t u (r ∷ l ∷ F) (r ∷ l ∷ F) (l ∷ F)
-          (Moves-like s t (l ∷ r ∷ F) (r ∷ l ∷ F) (l ∷ r ∷ F) (r ∷ l ∷ F) swapped swapped (Writes-moves s t l xs ks (r ∷ F) written))
+          (Moves-like s t (l ∷ r ∷ F) (r ∷ l ∷ F) (l ∷ r ∷ F) (r ∷ l ∷ F) swapped swapped
+          (Writes-moves s t l xs ks (r ∷ F) written))
           (Removes-moves t u r (l ∷ F) removed));
-      shaped = All-cons (Shaped u (suc d)) l [] (Shaped-from_but u d l (held_shape s u d l xs ks united_holds MIN_LEN (omega (arith, pair_length, pair.enough)) (omega (arith, few)) pair_content.branches pair_content.shaped)) (All-nil _);
+      shaped =
+          All-cons (Shaped u (suc d)) l []
+          (Shaped-from_but u d l (held_shape s u d l xs ks united_holds MIN_LEN
+          (omega (arith, pair_length, pair.enough))
+          (omega (arith, few)) pair_content.branches pair_content.shaped)) (All-nil _);
     }
       where
         swapped : SameNodes (l ∷ r ∷ F) (r ∷ l ∷ F)
-        swapped = record { occur = λ k. omega (arith, occurrences-cons k l (r ∷ F), occurrences-cons k r F, occurrences-cons k r (l ∷ F), occurrences-cons k l F); len = refl }
+        swapped =
+            record {
+              occur = λ k. omega (
+                arith,
+                occurrences-cons k l (r ∷ F),
+                occurrences-cons k r F,
+                occurrences-cons k r (l ∷ F),
+                occurrences-cons k l F,
+              );
+              len = refl;
+            }
 
   -- the first half of it in the left node, the other in the right one
-  module _ (t u : Slab Node) (half : ℕ) (low : half < length xs) (first : Writes s t l (take half xs) (take (half + 1) ks)) (second : Writes t u r (drop (half + 1) xs) (drop (half + 1) ks)) where
+  module _ (t u : Heap T) (half : ℕ) (low : half < length xs)
+      (first : Writes s t l (take half xs) (take (half + 1) ks))
+      (second : Writes t u r (drop (half + 1) xs) (drop (half + 1) ks)) where
     pub shared_agree : AgreeAt s u F
-    shared_agree k among = second.others k (right_apart k among) ∙ first.others k (content_apart s t d l xs ks pair_content k among)
+    shared_agree k among =
+        second.others k (right_apart k among)
+        ∙ first.others k (content_apart s t d l xs ks pair_content k among)
 
-    left_kept : get u l ≡ get t l
+    left_kept : node_of u l ≡ node_of t l
     left_kept = second.others l pair_apart
 
     pub shared_left : Holds s u d l (take half xs) (take (half + 1) ks)
-    shared_left = record { present = rw left_kept first.present; items_are = rw left_kept first.items_are; children_are = rw left_kept first.children_are; same = same_children s u d (take (half + 1) ks) (part_agree s u d (half + 1) ks shared_agree).0 }
+    shared_left =
+        record {
+          present = rw left_kept first.present;
+          items_are = rw left_kept first.items_are;
+          children_are = rw left_kept first.children_are;
+          same =
+              same_children s u d (take (half + 1) ks)
+              (part_agree s u d (half + 1) ks shared_agree).0;
+        }
 
     pub shared_right : Holds s u d r (drop (half + 1) xs) (drop (half + 1) ks)
-    shared_right = record { present = second.present; items_are = second.items_are; children_are = second.children_are; same = same_children s u d (drop (half + 1) ks) (part_agree s u d (half + 1) ks shared_agree).1 }
+    shared_right =
+        record {
+          present = second.present;
+          items_are = second.items_are;
+          children_are = second.children_are;
+          same =
+              same_children s u d (drop (half + 1) ks)
+              (part_agree s u d (half + 1) ks shared_agree).1;
+        }
 
-    pub shared_rejoins : (split : Split) → split.right ≡ r → split.middle ≡ get_or xs half 0 → MIN_LEN ≤ half → half ≤ CAPACITY → half + 1 + MIN_LEN ≤ length xs → length xs ≤ half + 1 + CAPACITY → Rejoins s u d l x r (Some split)
+    pub shared_rejoins : (split : Split T) → split.right ≡ r
+        → split.middle ≡ get_or xs half split.middle → MIN_LEN ≤ half → half ≤ CAPACITY
+        → half + 1 + MIN_LEN ≤ length xs → length xs ≤ half + 1 + CAPACITY
+        → Rejoins s u d l x r (Some split)
     shared_rejoins split same middle least_left most_left least_right most_right = rw same (record {
-      listed = halves_listed s u d l r half xs ks pair_content low shared_left shared_right split.middle middle ∙ pair_listed;
+      listed =
+          halves_listed s u d l r half xs ks pair_content low shared_left shared_right split.middle
+          middle ∙ pair_listed;
       moved =
-          Moves-like s u (r ∷ l ∷ F) (used s (suc d) l ++ used s (suc d) r) (r ∷ l ∷ F) (used u (suc d) l ++ (used u (suc d) r ++ []))
+          Moves-like s u (r ∷ l ∷ F) (used s (suc d) l ++ used s (suc d) r) (r ∷ l ∷ F)
+          (used u (suc d) l ++ (used u (suc d) r ++ []))
           (record { occur = λ k. sym (pair_nodes.occur k); len = sym pair_nodes.len })
           (halves_nodes s u d l r half xs ks pair_content low shared_left shared_right)
           (Moves-then s t u (r ∷ l ∷ F) (r ∷ l ∷ F) (r ∷ l ∷ F)
-          (Moves-like s t (l ∷ r ∷ F) (r ∷ l ∷ F) (l ∷ r ∷ F) (r ∷ l ∷ F) swapped' swapped' (Writes-moves s t l (take half xs) (take (half + 1) ks) (r ∷ F) first))
+          (Moves-like s t (l ∷ r ∷ F) (r ∷ l ∷ F) (l ∷ r ∷ F) (r ∷ l ∷ F) swapped' swapped'
+          (Writes-moves s t l (take half xs) (take (half + 1) ks) (r ∷ F) first))
           (Writes-moves t u r (drop (half + 1) xs) (drop (half + 1) ks) (l ∷ F) second));
       shaped =
-          let but = halves_shape s u d l r half xs ks pair_content low shared_left shared_right least_left most_left least_right most_right MIN_LEN (omega arith) in
-          All-weaker (ShapedBut MIN_LEN CAPACITY u d) (Shaped u (suc d)) (λ k. Shaped-from_but u d k) (l ∷ r ∷ []) but;
+          let but =
+          halves_shape s u d l r half xs ks pair_content low shared_left shared_right
+          least_left most_left least_right most_right MIN_LEN (omega arith) in
+          All-weaker (ShapedBut MIN_LEN CAPACITY u d) (Shaped u (suc d))
+          (λ k. Shaped-from_but u d k) (l ∷ r ∷ []) but;
     })
       where
         swapped' : SameNodes (l ∷ r ∷ F) (r ∷ l ∷ F)
-        swapped' = record { occur = λ k. omega (arith, occurrences-cons k l (r ∷ F), occurrences-cons k r F, occurrences-cons k r (l ∷ F), occurrences-cons k l F); len = refl }
+        swapped' =
+            record {
+              occur = λ k. omega (
+                arith,
+                occurrences-cons k l (r ∷ F),
+                occurrences-cons k r F,
+                occurrences-cons k r (l ∷ F),
+                occurrences-cons k l F,
+              );
+              len = refl;
+            }
 
 -- the seat of an edge among the items of both, from that in the left or in the right one
-module _ (s : Slab Node) (l x r : ℕ) (g : Edge) where
-  abbrev all_items : List ℕ
-  all_items = items_of (get s l) ++ (x ∷ items_of (get s r))
+module _ {T : Type 0} (s : Heap T) (l : ℕ) (x : T) (r : ℕ) (g : Edge) where
+  abbrev all_items : List T
+  all_items = items_of (node_of s l) ++ (x ∷ items_of (node_of s r))
 
   abbrev all_children : List ℕ
-  all_children = children_of (get s l) ++ children_of (get s r)
+  all_children = children_of (node_of s l) ++ children_of (node_of s r)
 
-  pub seat_from_left : (d : ℕ) → IsPair s d l r → IsEdge s d l g → IsSeat s d all_items all_children (seat_of d g) (inside g) × (seat_place s d all_items all_children (seat_of d g) (inside g) ≡ place s d l g)
+  pub seat_from_left : (d : ℕ) → IsPair s d l r → IsEdge s d l g
+      → IsSeat s d all_items all_children (seat_of d g) (inside g)
+      × (seat_place s d all_items all_children (seat_of d g) (inside g) ≡ place s d l g)
   unfolding IsEdge place IsSeat seat_place
-  seat_from_left zero pair is = (omega (arith, is.2, length-append (items_of (get s l)) (x ∷ items_of (get s r))), refl)
+  seat_from_left zero pair is = (
+    omega (arith, is.2, length-append (items_of (node_of s l)) (x ∷ items_of (node_of s r))),
+    refl,
+  )
   seat_from_left (suc e) pair is =
-      let run = seat_run s e [] (children_of (get s l)) (children_of (get s r)) [] (items_of (get s l)) (x ∷ items_of (get s r)) 0 (turn g) (inside g) refl refl pair.left.node.branches is in
+      let run =
+      seat_run s e [] (children_of (node_of s l)) (children_of (node_of s r)) []
+      (items_of (node_of s l)) (x ∷ items_of (node_of s r)) 0 (turn g)
+      (inside g) refl refl pair.left.node.branches is in
       let start : 0 + turn g ≡ turn g = omega arith in
       let run' = rw start at run in
       (run'.0, run'.1 ∙ omega arith)
 
-  pub seat_from_right : (d : ℕ) → IsPair s d l r → IsEdge s d r g → IsSeat s d all_items all_children (length (items_of (get s l)) + 1 + seat_of d g) (inside g) × (seat_place s d all_items all_children (length (items_of (get s l)) + 1 + seat_of d g) (inside g) ≡ length (numbers s (suc d) l) + 1 + place s d r g)
+  pub seat_from_right : (d : ℕ) → IsPair s d l r → IsEdge s d r g
+      → IsSeat s d all_items all_children (length (items_of (node_of s l)) + 1 + seat_of d g)
+      (inside g)
+      × (seat_place s d all_items all_children (length (items_of (node_of s l)) + 1 + seat_of d g)
+      (inside g) ≡ length (items_below s (suc d) l) + 1 + place s d r g)
   unfolding IsEdge place IsSeat seat_place
-  seat_from_right zero pair is =
-      (omega (arith, is.2, length-append (items_of (get s l)) (x ∷ items_of (get s r))), omega (arith, ap length (numbers_leaf s l pair.left.node.branches)))
+  seat_from_right zero pair is = (
+    omega (arith, is.2, length-append (items_of (node_of s l)) (x ∷ items_of (node_of s r))),
+    omega (arith, ap length (items_below_leaf s l pair.left.node.branches)),
+  )
   seat_from_right (suc e) pair is =
-      let xs = items_of (get s l) in
-      let ys = items_of (get s r) in
-      let run = seat_run s e (children_of (get s l)) (children_of (get s r)) [] (xs ++ x ∷ []) ys [] (length xs + 1) (turn g) (inside g) pair.left.node.branches (length-append xs (x ∷ [])) pair.right.node.branches is in
-      let items : (xs ++ x ∷ []) ++ (ys ++ []) ≡ xs ++ (x ∷ ys) = ap (λ zs. (xs ++ x ∷ []) ++ zs) (append-nil ys) ∙ append_assoc xs (x ∷ []) ys in
-      let run' = rw (items, append-nil (children_of (get s r))) at run in
-      (run'.0, omega (arith, run'.1, numbers_size (MIN_LEN - 1) CAPACITY s (suc e) l pair.left))
+      let xs = items_of (node_of s l) in
+      let ys = items_of (node_of s r) in
+      let run =
+      seat_run s e (children_of (node_of s l)) (children_of (node_of s r)) []
+      (xs ++ x ∷ []) ys [] (length xs + 1) (turn g) (inside g) pair.left.node.branches
+      (length-append xs (x ∷ [])) pair.right.node.branches is in
+      let items : (xs ++ x ∷ []) ++ (ys ++ []) ≡ xs ++ (x ∷ ys) =
+      ap (λ zs. (xs ++ x ∷ []) ++ zs) (append-nil ys) ∙ append_assoc xs (x ∷ []) ys in
+      let run' = rw (items, append-nil (children_of (node_of s r))) at run in
+      (run'.0, omega (arith, run'.1, items_below_size (MIN_LEN - 1) CAPACITY s (suc e) l pair.left))

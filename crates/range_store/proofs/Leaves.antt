@@ -3,19 +3,19 @@ use Rattle.std.proofs.Common.{◌≡◌, ℕ, ◌+◌, ◌≤◌, List, ◌∷�
 use Rattle.std.specs.List.{insert, flat_map}
 use Rattle.std.proofs.lemmas.List.{nil_from_length}
 use Rattle.std.proofs.lemmas.List.Edits.{length-insert}
-use Rattle.slab.specs.Slab.{Slab, get}
-use Rattle.range_store.specs.declared.btree.node.Node.{Node}
-use Rattle.range_store.specs.declared.btree.node.TheConstants.{CAPACITY}
-use Rattle.range_store.specs.declared.btree.way.Edge.{Edge}
-use Rattle.range_store.specs.Nodes.{weave, items_of, children_of, numbers, used, ShapedBut, Owned, Moves}
+use Rattle.range_store.specs.Heap.{Heap, node_of, items_of, children_of}
+use Rattle.range_store.specs.declared.btree.nodes.TheConstants.{CAPACITY}
+use Rattle.range_store.specs.declared.btree.path.Edge.{Edge}
+use Rattle.range_store.specs.Nodes.{weave, items_below, used, ShapedBut, Owned, Moves}
 use Rattle.range_store.specs.Edges.{IsSeat, seat_place}
 use Rattle.range_store.specs.Contents.{IsContent}
 use Rattle.range_store.specs.Occurrences.{occurrences}
-use Rattle.range_store.proofs.Below.{used_is, numbers_leaf}
+use Rattle.range_store.proofs.Below.{used_is, items_below_leaf}
 use Rattle.range_store.proofs.Moves.{Moves-none}
 
-module _ (s : Slab Node) (n i item : ℕ) (shaped : ShapedBut 1 CAPACITY s 0 n) where
-  pub leaf_content : Owned s 1 n → IsContent s 0 n (insert (items_of (get s n)) i item) (children_of (get s n))
+module _ {T : Type 0} (s : Heap T) (n i : ℕ) (item : T) (shaped : ShapedBut 1 CAPACITY s 0 n) where
+  pub leaf_content : Owned s 1 n
+      → IsContent s 0 n (insert (items_of (node_of s n)) i item) (children_of (node_of s n))
   leaf_content owned = record {
     present = shaped.node.present;
     shaped = shaped.children;
@@ -23,20 +23,35 @@ module _ (s : Slab Node) (n i item : ℕ) (shaped : ShapedBut 1 CAPACITY s 0 n) 
     owned = λ k. omega (arith, owned k, ap (occurrences k) (used_is s 0 n));
   }
 
-  pub leaf_moved : Moves s s (used s 1 n) (n ∷ flat_map (used s 0) (children_of (get s n)))
+  pub leaf_moved : Moves s s (used s 1 n) (n ∷ flat_map (used s 0) (children_of (node_of s n)))
   leaf_moved = subst (λ zs. Moves s s (used s 1 n) zs) (used_is s 0 n) (Moves-none s (used s 1 n))
 
-  pub leaf_listed : weave (insert (items_of (get s n)) i item) (map (numbers s 0) (children_of (get s n))) ≡ insert (numbers s 1 n) i item
-  leaf_listed = rw (numbers_leaf s n shaped.node.branches, nil_from_length (children_of (get s n)) shaped.node.branches) refl
+  pub leaf_listed : weave (insert (items_of (node_of s n)) i item)
+      (map (items_below s 0) (children_of (node_of s n))) ≡ insert (items_below s 1 n) i item
+  leaf_listed =
+      rw (
+        items_below_leaf s n shaped.node.branches,
+        nil_from_length (children_of (node_of s n)) shaped.node.branches,
+      ) refl
 
-  pub leaf_longer : i ≤ length (items_of (get s n)) → length (weave (insert (items_of (get s n)) i item) (map (numbers s 0) (children_of (get s n)))) ≡ length (numbers s 1 n) + 1
+  pub leaf_longer : i ≤ length (items_of (node_of s n))
+      → length (weave (insert (items_of (node_of s n)) i item)
+      (map (items_below s 0) (children_of (node_of s n)))) ≡ length (items_below s 1 n) + 1
   leaf_longer low =
-      omega (arith, ap length leaf_listed, ap (λ zs. length (insert zs i item)) (numbers_leaf s n shaped.node.branches), length-insert (items_of (get s n)) i item low, ap length (numbers_leaf s n shaped.node.branches))
+      omega (
+        arith,
+        ap length leaf_listed,
+        ap (λ zs. length (insert zs i item)) (items_below_leaf s n shaped.node.branches),
+        length-insert (items_of (node_of s n)) i item low,
+        ap length (items_below_leaf s n shaped.node.branches),
+      )
 
-pub leaf_seat : (s : Slab Node) (xs ks : List ℕ) (i : ℕ) (g : Edge) → i ≤ length xs → IsSeat s 0 xs ks i g
+pub leaf_seat : {T : Type 0} (s : Heap T) (xs : List T) (ks : List ℕ) (i : ℕ) (g : Edge)
+    → i ≤ length xs → IsSeat s 0 xs ks i g
 unfolding IsSeat
 leaf_seat s xs ks i g low = low
 
-pub leaf_seat_place : (s : Slab Node) (xs ks : List ℕ) (i : ℕ) (g : Edge) → seat_place s 0 xs ks i g ≡ i
+pub leaf_seat_place : {T : Type 0} (s : Heap T) (xs : List T) (ks : List ℕ) (i : ℕ) (g : Edge)
+    → seat_place s 0 xs ks i g ≡ i
 unfolding seat_place
 leaf_seat_place s xs ks i g = refl

@@ -1,47 +1,126 @@
--- A `BoxStorage` with another item at a number.
-use Rattle.std.proofs.Common.{◌≡◌, ℕ, List, length, get_or, sym, ap, ◌∙◌, subst, arith, Some, IsSome}
-use Rattle.std.proofs.lemmas.List.{get_or_default}
-use Rattle.std.proofs.Math.ListN.{set}
+-- A `BoxStorage` with another item in the home of one.
+use Rattle.std.proofs.Common.{◌≡◌, ℕ, ◌-◌, length, get_or, arith, sym, ap, ◌∙◌, subst, inl, inr}
 use Rattle.std.proofs.Math.Bridge.{le_prop}
 use Rattle.std.proofs.Math.Nat.{ℕ_set}
-use Rattle.slab.specs.Slab.{Slab, get, with_value}
 use Rattle.range_store.specs.Depth.{HasLevels}
-use Rattle.range_store.specs.Occurrences.{occurrences_at}
-use Rattle.range_store.specs.Listed.{IsStorage, listed, number_or_none, with_storage, storage_stored, listed-set}
-use Rattle.range_store.specs.Holding.{box_items, box_rank, IsGood, with_stored}
-use Rattle.range_store.specs.Trees.{tree_numbers}
+use Rattle.range_store.specs.Edges.{IsEdge}
+use Rattle.range_store.specs.Heap.{Heap, node_of, items_of, with_item}
+use Rattle.range_store.specs.Holding.{box_home, box_items, box_place, box_rank, Decided, IsGood, good_item, good_or_not, rank_is, with_box_item, with_good_item, with_item_as, written_roomy}
+use Rattle.range_store.specs.Nodes.{items_below, IsRoomy, IsRoomy-prop}
+use Rattle.range_store.specs.Written.{SameShape, edge_same, place_same}
 use Rattle.range_store.specs.declared.btree.BoxStorage.{BoxStorage}
-use Rattle.range_store.specs.declared.btree.way.Found.{Found}
-use Rattle.range_store.proofs.Listing.{get_or-listed}
+use Rattle.range_store.specs.declared.btree.path.Edge.{Edge}
+use Rattle.range_store.specs.declared.btree.path.Home.{Home}
 
 has_levels_prop : (many levels : ℕ) (first second : HasLevels many levels) → first ≡ second
 has_levels_prop many levels = hlevel (le_prop, ℕ_set)
 
-module _ {T : Type 0} where
-  is_storage_prop : (items : Slab T) (tree : List ℕ) (first second : IsStorage items tree) → first ≡ second
-  is_storage_prop items tree = hlevel (le_prop, ℕ_set)
+module _ {T : Type 0} (s : BoxStorage T) (edge : Edge) (good : IsGood s edge) where
+  -- what a write to the home of the item before the edge leaves
+  pub same_storage : (home : Home) (x : T) → home ≡ box_home s edge
+      → (whole : IsRoomy (with_item s.nodes home.node home.index x) s.levels s.root)
+      (counted : s.len ≡ length
+      (items_below (with_item s.nodes home.node home.index x) s.levels s.root))
+      (levelled : HasLevels s.len s.levels)
+      → ◌≡◌ {A = BoxStorage T}
+      (record s {
+        nodes = with_item s.nodes home.node home.index x;
+        whole = whole;
+        counted = counted;
+        levelled = levelled;
+      }) (with_box_item s edge x)
+  same_storage home x at =
+      subst (λ h. (whole : IsRoomy (with_item s.nodes h.node h.index x) s.levels s.root)
+      (counted : s.len ≡ length
+      (items_below (with_item s.nodes h.node h.index x) s.levels s.root))
+      (levelled : HasLevels s.len s.levels)
+      → ◌≡◌ {A = BoxStorage T}
+      (record s {
+        nodes = with_item s.nodes h.node h.index x;
+        whole = whole;
+        counted = counted;
+        levelled = levelled;
+      }) (with_box_item s edge x)) (sym at)
+      (λ whole counted levelled. by_good (good_or_not s edge) whole counted levelled)
+    where
+      by_good : (decided : Decided s edge)
+          (whole : IsRoomy (with_item s.nodes (box_home s edge).node (box_home s edge).index x)
+          s.levels s.root) (counted : s.len
+          ≡ length (items_below (with_item s.nodes (box_home s edge).node (box_home s edge).index x)
+          s.levels s.root)) (levelled : HasLevels s.len s.levels)
+          → ◌≡◌ {A = BoxStorage T}
+          (record s {
+            nodes = with_item s.nodes (box_home s edge).node (box_home s edge).index x;
+            whole = whole;
+            counted = counted;
+            levelled = levelled;
+          }) (with_item_as s edge decided x)
+      by_good (inr bad) whole counted levelled = absurd (bad good)
+      by_good (inl is) whole counted levelled =
+          ap (λ w.
+          record s {
+            nodes = with_item s.nodes (box_home s edge).node (box_home s edge).index x;
+            whole = w;
+            counted = counted;
+            levelled = levelled;
+          })
+          (IsRoomy-prop (with_item s.nodes (box_home s edge).node (box_home s edge).index x)
+          s.levels s.root whole (with_item_as s edge (inl is) x).whole)
+          ∙ ap (λ c.
+          record s {
+            nodes = with_item s.nodes (box_home s edge).node (box_home s edge).index x;
+            whole = (with_item_as s edge (inl is) x).whole;
+            counted = c;
+            levelled = levelled;
+          })
+          (ℕ_set _ _ counted (with_item_as s edge (inl is) x).counted)
+          ∙ ap (λ l.
+          record s {
+            nodes = with_item s.nodes (box_home s edge).node (box_home s edge).index x;
+            whole = (with_item_as s edge (inl is) x).whole;
+            counted =
+                (with_item_as s edge (inl is) x).counted;
+            levelled = l;
+          })
+          (has_levels_prop s.len s.levels levelled s.levelled)
 
-module _ {T : Type 0} (s : BoxStorage T) where
-  -- what a write under the number at a rank leaves
-  pub same_storage : (r n : ℕ) (x : T) → n ≡ number_or_none s.items (tree_numbers s.tree) r → (whole : IsStorage (with_value s.items n x) (tree_numbers s.tree)) (levelled : HasLevels (length (tree_numbers s.tree)) s.tree.levels) → ◌≡◌ {A = BoxStorage T} (record s { items = with_value s.items n x; whole = whole; levelled = levelled }) (with_stored s r x)
-  same_storage r n x same =
-      subst (λ m. (whole : IsStorage (with_value s.items m x) (tree_numbers s.tree)) (levelled : HasLevels (length (tree_numbers s.tree)) s.tree.levels) → ◌≡◌ {A = BoxStorage T} (record s { items = with_value s.items m x; whole = whole; levelled = levelled }) (with_stored s r x)) (sym same)
-      (λ whole levelled.
-      ap (λ w. record s { items = with_value s.items (number_or_none s.items (tree_numbers s.tree) r) x; whole = w; levelled = levelled }) (is_storage_prop (with_value s.items (number_or_none s.items (tree_numbers s.tree) r) x) (tree_numbers s.tree) whole (with_storage s.items (tree_numbers s.tree) s.whole r x))
-      ∙ ap (λ l. record s { items = with_value s.items (number_or_none s.items (tree_numbers s.tree) r) x; whole = with_storage s.items (tree_numbers s.tree) s.whole r x; levelled = l }) (has_levels_prop (length (tree_numbers s.tree)) s.tree.levels levelled s.levelled))
+  -- the nodes of such a write, and the item in the home
+  pub written_at : (home : Home) (x : T) (n : Heap T) → home ≡ box_home s edge
+      → n ≡ with_item s.nodes home.node home.index x
+      → n ≡ with_item s.nodes (box_home s edge).node (box_home s edge).index x
+  written_at home x n at written = written ∙ ap (λ h. with_item s.nodes h.node h.index x) at
 
-  module _ (p : Found) (good : IsGood s p) where
-    pub good_number : p.number ≡ number_or_none s.items (tree_numbers s.tree) (box_rank s p)
-    good_number = good.number_is ∙ get_or_default (tree_numbers s.tree) (box_rank s p) 0 (length s.items.slots) good.within
+  pub roomy_at : (x : T) (n : Heap T)
+      → n ≡ with_item s.nodes (box_home s edge).node (box_home s edge).index x
+      → IsRoomy n s.levels s.root
+  roomy_at x n same = rw same (written_roomy s edge good x)
 
-    pub good_stored : IsSome (get s.items p.number)
-    good_stored = storage_stored s.items (tree_numbers s.tree) s.whole p.number (rw good.number_is (occurrences_at (tree_numbers s.tree) (box_rank s p) good.within))
+  pub counted_at : (x : T) (n : Heap T)
+      → n ≡ with_item s.nodes (box_home s edge).node (box_home s edge).index x
+      → s.len ≡ length (items_below n s.levels s.root)
+  counted_at x n same = rw same (with_good_item s edge good x).counted
 
-    -- the item at a good position
-    pub good_item : (x d : T) → get s.items p.number ≡ Some x → x ≡ get_or (box_items s) (box_rank s p) d
-    good_item x d found =
-        sym (get_or-listed s.items (tree_numbers s.tree) (box_rank s p) x d (storage_stored s.items (tree_numbers s.tree) s.whole) good.within (ap (get s.items) (sym good.number_is) ∙ found))
+  pub item_home : (home : Home) → home ≡ box_home s edge → (x : T)
+      → x ≡ get_or (items_of (node_of s.nodes home.node)) home.index x
+      → x ≡ get_or (box_items s) (box_rank s edge) x
+  item_home home at x here =
+      here
+      ∙ ap (λ h. get_or (items_of (node_of s.nodes h.node)) h.index x) at
+      ∙ sym (good_item s edge good x)
+      ∙ ap (λ i. get_or (box_items s) i x) (sym (rank_is s edge good))
 
-    pub good_set : (x : T) → listed (with_value s.items p.number x) (tree_numbers s.tree) ≡ set (box_items s) (box_rank s p) x
-    good_set x =
-        listed-set s.items (tree_numbers s.tree) (box_rank s p) p.number x (storage_stored s.items (tree_numbers s.tree) s.whole) (λ k. let e = s.whole.once k in grind (arith, e)) good.within (sym good.number_is)
+-- nodes of the same shape keep the positions
+pub good_same : {T : Type 0} (s t : BoxStorage T) → SameShape s.nodes t.nodes → t.levels ≡ s.levels
+    → t.root ≡ s.root → (q : Edge) → IsGood s q → IsGood t q × (box_rank t q ≡ box_rank s q)
+good_same s t shape levels root q good =
+    let place : box_place t q ≡ box_place s q =
+    rw (levels, root) (place_same s.nodes t.nodes shape (s.levels - 1) s.root q) in
+    let edge : IsEdge t.nodes (t.levels - 1) t.root q =
+    rw (levels, root) (edge_same s.nodes t.nodes shape (s.levels - 1) s.root q good.is.edge)
+    in
+    let new : IsGood t q =
+    record {
+      is = record { some = omega (arith, levels, good.is.some); edge = edge };
+      some = omega (arith, place, good.some);
+    } in
+    (new, rank_is t q new ∙ ap (λ m. m - 1) place ∙ sym (rank_is s q good))

@@ -2,48 +2,48 @@
 use Rattle.std.proofs.Common.{◌≡◌, ℕ, suc, ◌+◌, ◌<◌, ◌≤◌, List, [], ◌∷◌, ◌++◌, length, get_or, take, drop, map, refl, sym, ap, ◌∙◌, subst, arith, Option, Some, None}
 use Rattle.std.specs.List.{flat_map, sum_by}
 use Rattle.std.proofs.lemmas.List.{append-nil, append_assoc, length-append, length-map, length-take-le, length-drop, take_more, take-map, drop_more}
-use Rattle.slab.specs.Slab.{Slab, get}
-use Rattle.range_store.specs.declared.btree.node.Node.{Node}
-use Rattle.range_store.specs.declared.btree.node.Split.{Split}
-use Rattle.range_store.specs.declared.btree.way.Edge.{Edge}
-use Rattle.range_store.specs.Nodes.{weave, rest_of, front_of, before, items_of, children_of, numbers, used, Moves, Writes, tops, separators, rights, Shrinks, IsLevelled}
+use Rattle.range_store.specs.Heap.{Heap, node_of, items_of, children_of, Writes}
+use Rattle.range_store.specs.declared.btree.nodes.Split.{Split}
+use Rattle.range_store.specs.declared.btree.path.Edge.{Edge}
+use Rattle.range_store.specs.Nodes.{weave, rest_of, front_of, before, items_below, used, Moves, tops, separators, rights, Shrinks, IsLevelled}
 use Rattle.range_store.specs.Edges.{turn, inside, IsEdge, place, IsSeat, seat_place}
 use Rattle.range_store.specs.Contents.{IsContent, IsPair, Rejoins}
 use Rattle.range_store.specs.Occurrences.{occurrences, occurrences-append, occurrences-cons}
-use Rattle.range_store.proofs.Weave.{list_splits_at, weave_splice}
-use Rattle.range_store.proofs.Below.{weave_numbers}
+use Rattle.range_store.specs.Weave.{list_splits_at, weave_splice, length-before}
+use Rattle.range_store.proofs.Below.{weave_items_below}
 use Rattle.range_store.proofs.Moves.{Moves-then, Writes-moves}
-use Rattle.range_store.proofs.Contents.{held_numbers, held_used, held_shape, written_holds, written_agree}
-use Rattle.range_store.proofs.Growing.{Runs, run_kept, run_moved, run_content, run_lists, same_before, used_old}
-use Rattle.range_store.proofs.Seats.{length-before, seat_run, seat_written}
+use Rattle.range_store.proofs.Contents.{held_items_below, held_used, held_shape, written_holds, written_agree}
+use Rattle.range_store.proofs.Growing.{Runs, run_moved, run_content, run_lists, same_before, used_old}
+use Rattle.range_store.proofs.Seats.{seat_run, seat_written}
 
 -- the parts round the two children at j and after it
-pair_parts : (ks : List ℕ) (j : ℕ) → j + 1 < length ks → ks ≡ take j ks ++ (get_or ks j 0 ∷ get_or ks (j + 1) 0 ∷ drop (j + 2) ks)
+pub pair_parts : (ks : List ℕ) (j : ℕ) → j + 1 < length ks
+    → ks ≡ take j ks ++ (get_or ks j 0 ∷ get_or ks (j + 1) 0 ∷ drop (j + 2) ks)
 pair_parts ks j low =
     let far : j + 1 + 1 ≡ j + 2 = omega arith in
-    list_splits_at ks j 0 (omega arith) ∙ ap (λ zs. take j ks ++ (get_or ks j 0 ∷ zs)) (drop_more ks (j + 1) 0 low ∙ ap (λ m. get_or ks (j + 1) 0 ∷ drop m ks) far)
+    list_splits_at ks j 0 (omega arith)
+    ∙ ap (λ zs. take j ks ++ (get_or ks j 0 ∷ zs))
+    (drop_more ks (j + 1) 0 low ∙ ap (λ m. get_or ks (j + 1) 0 ∷ drop m ks) far)
 
-module _ (s : Slab Node) (low n j : ℕ) (levelled : IsLevelled s low n j) where
-  abbrev xs : List ℕ
-  xs = items_of (get s n)
+module _ {T : Type 0} (s : Heap T) (low n j : ℕ) (x : T) (levelled : IsLevelled s low n j)
+    (here : x ≡ get_or (items_of (node_of s n)) j x) where
+  abbrev xs : List T
+  xs = items_of (node_of s n)
 
   abbrev ks : List ℕ
-  ks = children_of (get s n)
+  ks = children_of (node_of s n)
 
   abbrev l : ℕ
-  l = get_or (children_of (get s n)) j 0
+  l = get_or (children_of (node_of s n)) j 0
 
   abbrev r : ℕ
-  r = get_or (children_of (get s n)) (j + 1) 0
-
-  abbrev x : ℕ
-  x = get_or (items_of (get s n)) j 0
+  r = get_or (children_of (node_of s n)) (j + 1) 0
 
   abbrev us : List ℕ
-  us = take j (children_of (get s n))
+  us = take j (children_of (node_of s n))
 
   abbrev vs : List ℕ
-  vs = drop (j + 2) (children_of (get s n))
+  vs = drop (j + 2) (children_of (node_of s n))
 
   many : length ks ≡ length xs + 1
   many = levelled.node.branches
@@ -52,7 +52,9 @@ module _ (s : Slab Node) (low n j : ℕ) (levelled : IsLevelled s low n j) where
   ks_parts = pair_parts ks j (omega (arith, many, levelled.within))
 
   xs_parts : xs ≡ take j xs ++ (x ∷ drop (j + 1) xs)
-  xs_parts = list_splits_at xs j 0 levelled.within
+  xs_parts =
+      list_splits_at xs j x levelled.within
+      ∙ ap (λ z. take j xs ++ (z ∷ drop (j + 1) xs)) (sym here)
 
   us_many : length us ≡ j
   us_many = length-take-le j ks (omega (arith, many, levelled.within))
@@ -61,91 +63,196 @@ module _ (s : Slab Node) (low n j : ℕ) (levelled : IsLevelled s low n j) where
   front_many = length-take-le j xs (omega (arith, levelled.within))
 
   same_run : Runs s s (suc low) n us (l ∷ r ∷ []) vs (l ∷ r ∷ [])
-  same_run = record { present = levelled.node.present; owned = levelled.owned; children = ks_parts; moved = record { owned = λ k. refl; outside = λ k unused present. refl; len = refl; capacity = refl } }
+  same_run =
+      record {
+        present = levelled.node.present;
+        owned = levelled.owned;
+        children = ks_parts;
+        moved =
+            record {
+              owned = λ k. refl;
+              outside = λ k unused present. refl;
+              len = refl;
+              capacity = refl;
+            };
+      }
 
   pub pair_of : IsPair s low l r
   pair_of = record {
     left = levelled.left;
     right = levelled.right;
-    owned = λ k. omega (arith, levelled.owned k, ap (occurrences k) (used_old s s (suc low) n us (l ∷ r ∷ []) vs (l ∷ r ∷ []) same_run), occurrences-cons k n (flat_map (used s (suc low)) us ++ (flat_map (used s (suc low)) (l ∷ r ∷ []) ++ flat_map (used s (suc low)) vs)), occurrences-append k (flat_map (used s (suc low)) us) (flat_map (used s (suc low)) (l ∷ r ∷ []) ++ flat_map (used s (suc low)) vs), occurrences-append k (flat_map (used s (suc low)) (l ∷ r ∷ [])) (flat_map (used s (suc low)) vs), occurrences-append k (used s (suc low) l) (used s (suc low) r ++ []), occurrences-append k (used s (suc low) l) (used s (suc low) r), ap (occurrences k) (append-nil (used s (suc low) r)));
+    owned =
+        λ k.
+        omega (
+          arith,
+          levelled.owned k,
+          ap (occurrences k) (used_old s s (suc low) n us (l ∷ r ∷ []) vs (l ∷ r ∷ []) same_run),
+          occurrences-cons k n (flat_map (used s (suc low)) us
+              ++ (flat_map (used s (suc low)) (l ∷ r ∷ []) ++ flat_map (used s (suc low)) vs)),
+          occurrences-append k (flat_map (used s (suc low)) us)
+              (flat_map (used s (suc low)) (l ∷ r ∷ []) ++ flat_map (used s (suc low)) vs),
+          occurrences-append k (flat_map (used s (suc low)) (l ∷ r ∷ []))
+              (flat_map (used s (suc low)) vs),
+          occurrences-append k (used s (suc low) l) (used s (suc low) r ++ []),
+          occurrences-append k (used s (suc low) l) (used s (suc low) r),
+          ap (occurrences k) (append-nil (used s (suc low) r)),
+        );
     enough = levelled.enough;
     fits = levelled.fits;
   }
 
-  module _ (t : Slab Node) (split : Option Split) (rejoins : Rejoins s t low l x r split) where
+  module _ (t : Heap T) (split : Option (Split T)) (rejoins : Rejoins s t low l x r split) where
     pair_run : Runs s t (suc low) n us (l ∷ r ∷ []) vs (tops l split)
     pair_run = record {
       present = levelled.node.present;
       owned = levelled.owned;
       children = ks_parts;
-      moved = subst (λ zs. Moves s t (used s (suc low) l ++ zs) (flat_map (used t (suc low)) (tops l split))) (sym (append-nil (used s (suc low) r))) rejoins.moved;
+      moved =
+          subst (λ zs. Moves s t (used s (suc low) l ++ zs)
+          (flat_map (used t (suc low)) (tops l split)))
+          (sym (append-nil (used s (suc low) r))) rejoins.moved;
     }
 
-    pub pair_kept : get t n ≡ get s n
-    pair_kept = run_kept s t (suc low) n us (l ∷ r ∷ []) vs (tops l split) pair_run
-
-    abbrev new_xs : List ℕ
-    new_xs = take j (items_of (get s n)) ++ (separators split ++ drop (j + 1) (items_of (get s n)))
+    abbrev new_xs : List T
+    new_xs =
+        take j (items_of (node_of s n))
+        ++ (separators split ++ drop (j + 1) (items_of (node_of s n)))
 
     abbrev new_ks : List ℕ
-    new_ks = take j (children_of (get s n)) ++ (tops (get_or (children_of (get s n)) j 0) split ++ drop (j + 2) (children_of (get s n)))
+    new_ks =
+        take j (children_of (node_of s n))
+        ++ (tops (get_or (children_of (node_of s n)) j 0) split
+        ++ drop (j + 2) (children_of (node_of s n)))
 
-    tops_many : (cut : Option Split) → length (tops l cut) ≡ length (separators cut) + 1
+    tops_many : (cut : Option (Split T)) → length (tops l cut) ≡ length (separators cut) + 1
     tops_many None = refl
     tops_many (Some cut) = refl
 
-    few : (cut : Option Split) → length (separators cut) ≤ 1
+    few : (cut : Option (Split T)) → length (separators cut) ≤ 1
     few None = omega arith
     few (Some cut) = omega arith
 
     pub new_length : length new_xs + 1 ≡ length xs + length (separators split)
-    new_length = omega (arith, length-append (take j xs) (separators split ++ drop (j + 1) xs), length-append (separators split) (drop (j + 1) xs), front_many, length-drop (j + 1) xs, levelled.within)
+    new_length =
+        omega (
+          arith,
+          length-append (take j xs) (separators split ++ drop (j + 1) xs),
+          length-append (separators split) (drop (j + 1) xs),
+          front_many,
+          length-drop (j + 1) xs,
+          levelled.within,
+        )
 
     new_content : IsContent t (suc low) n new_xs new_ks
     new_content =
         run_content s t (suc low) n us (l ∷ r ∷ []) vs (tops l split) pair_run new_xs
-        (omega (arith, new_length, length-append us (tops l split ++ vs), length-append (tops l split) vs, tops_many split, us_many, length-drop (j + 2) ks, many, levelled.within))
+        (omega (
+          arith,
+          new_length,
+          length-append us (tops l split ++ vs),
+          length-append (tops l split) vs,
+          tops_many split,
+          us_many,
+          length-drop (j + 2) ks,
+          many,
+          levelled.within,
+        ))
         levelled.before rejoins.shaped levelled.behind
 
-    woven : (cut : Option Split) → weave (take j xs ++ (separators cut ++ drop (j + 1) xs)) (map (numbers s (suc low)) us ++ (map (numbers t (suc low)) (tops l cut) ++ map (numbers s (suc low)) vs)) ≡ front_of (take j xs) (map (numbers s (suc low)) us) ++ (weave (separators cut) (map (numbers t (suc low)) (tops l cut)) ++ rest_of (drop (j + 1) xs) (map (numbers s (suc low)) vs))
-    woven None = weave_splice (take j xs) [] (drop (j + 1) xs) (map (numbers s (suc low)) us) (numbers t (suc low) l) [] (map (numbers s (suc low)) vs) (omega (arith, front_many, us_many, length-map us (numbers s (suc low)))) refl
-    woven (Some cut) = weave_splice (take j xs) (cut.middle ∷ []) (drop (j + 1) xs) (map (numbers s (suc low)) us) (numbers t (suc low) l) (numbers t (suc low) cut.right ∷ []) (map (numbers s (suc low)) vs) (omega (arith, front_many, us_many, length-map us (numbers s (suc low)))) refl
+    woven : (cut : Option (Split T))
+        → weave (take j xs ++ (separators cut ++ drop (j + 1) xs))
+        (map (items_below s (suc low)) us
+        ++ (map (items_below t (suc low)) (tops l cut) ++ map (items_below s (suc low)) vs))
+        ≡ front_of (take j xs) (map (items_below s (suc low)) us)
+        ++ (weave (separators cut) (map (items_below t (suc low)) (tops l cut))
+        ++ rest_of (drop (j + 1) xs) (map (items_below s (suc low)) vs))
+    woven None =
+        weave_splice (take j xs) [] (drop (j + 1) xs) (map (items_below s (suc low)) us)
+        (items_below t (suc low) l) [] (map (items_below s (suc low)) vs)
+        (omega (arith, front_many, us_many, length-map us (items_below s (suc low)))) refl
+    woven (Some cut) =
+        weave_splice (take j xs) (cut.middle ∷ []) (drop (j + 1) xs)
+        (map (items_below s (suc low)) us) (items_below t (suc low) l)
+        (items_below t (suc low) cut.right ∷ []) (map (items_below s (suc low)) vs)
+        (omega (arith, front_many, us_many, length-map us (items_below s (suc low)))) refl
 
-    woven_old : numbers s (suc (suc low)) n ≡ front_of (take j xs) (map (numbers s (suc low)) us) ++ ((numbers s (suc low) l ++ (x ∷ numbers s (suc low) r)) ++ rest_of (drop (j + 1) xs) (map (numbers s (suc low)) vs))
+    woven_old : items_below s (suc (suc low)) n
+        ≡ front_of (take j xs) (map (items_below s (suc low)) us)
+        ++ ((items_below s (suc low) l ++ (x ∷ items_below s (suc low) r))
+        ++ rest_of (drop (j + 1) xs) (map (items_below s (suc low)) vs))
     woven_old =
-        weave_numbers s (suc low) n
-        ∙ ap (λ zs. weave zs (map (numbers s (suc low)) ks)) xs_parts
-        ∙ ap (λ zs. weave (take j xs ++ (x ∷ drop (j + 1) xs)) (map (numbers s (suc low)) zs)) ks_parts
-        ∙ ap (weave (take j xs ++ (x ∷ drop (j + 1) xs))) (run_lists s s (suc low) n us (l ∷ r ∷ []) vs (l ∷ r ∷ []) same_run)
-        ∙ weave_splice (take j xs) (x ∷ []) (drop (j + 1) xs) (map (numbers s (suc low)) us) (numbers s (suc low) l) (numbers s (suc low) r ∷ []) (map (numbers s (suc low)) vs) (omega (arith, front_many, us_many, length-map us (numbers s (suc low)))) refl
-        ∙ ap (λ zs. front_of (take j xs) (map (numbers s (suc low)) us) ++ ((numbers s (suc low) l ++ (x ∷ zs)) ++ rest_of (drop (j + 1) xs) (map (numbers s (suc low)) vs))) (append-nil (numbers s (suc low) r))
+        weave_items_below s (suc low) n
+        ∙ ap (λ zs. weave zs (map (items_below s (suc low)) ks)) xs_parts
+        ∙ ap (λ zs. weave (take j xs ++ (x ∷ drop (j + 1) xs)) (map (items_below s (suc low)) zs))
+        ks_parts
+        ∙ ap (weave (take j xs ++ (x ∷ drop (j + 1) xs)))
+        (run_lists s s (suc low) n us (l ∷ r ∷ []) vs (l ∷ r ∷ []) same_run)
+        ∙ weave_splice (take j xs) (x ∷ []) (drop (j + 1) xs) (map (items_below s (suc low)) us)
+        (items_below s (suc low) l) (items_below s (suc low) r ∷ [])
+        (map (items_below s (suc low)) vs)
+        (omega (arith, front_many, us_many, length-map us (items_below s (suc low)))) refl
+        ∙ ap (λ zs. front_of (take j xs) (map (items_below s (suc low)) us)
+        ++ ((items_below s (suc low) l ++ (x ∷ zs))
+        ++ rest_of (drop (j + 1) xs) (map (items_below s (suc low)) vs)))
+        (append-nil (items_below s (suc low) r))
 
-    new_listed : weave new_xs (map (numbers t (suc low)) new_ks) ≡ numbers s (suc (suc low)) n
+    new_listed : weave new_xs (map (items_below t (suc low)) new_ks)
+        ≡ items_below s (suc (suc low)) n
     new_listed =
         ap (weave new_xs) (run_lists s t (suc low) n us (l ∷ r ∷ []) vs (tops l split) pair_run)
         ∙ woven split ∙ rw rejoins.listed refl ∙ sym woven_old
 
-    -- what `set_pair` writes
-    pub pair_children : (cut : Option Split) → take (j + 1) ks ++ (rights cut ++ vs) ≡ us ++ (tops l cut ++ vs)
-    pair_children None = ap (λ zs. zs ++ vs) (take_more ks j 0 (omega (arith, many, levelled.within))) ∙ append_assoc us (l ∷ []) vs
-    pair_children (Some cut) = ap (λ zs. zs ++ (cut.right ∷ vs)) (take_more ks j 0 (omega (arith, many, levelled.within))) ∙ append_assoc us (l ∷ []) (cut.right ∷ vs)
+    -- what is written to the node
+    pub pair_children : (cut : Option (Split T))
+        → take (j + 1) ks ++ (rights cut ++ vs) ≡ us ++ (tops l cut ++ vs)
+    pair_children None =
+        ap (λ zs. zs ++ vs) (take_more ks j 0 (omega (arith, many, levelled.within)))
+        ∙ append_assoc us (l ∷ []) vs
+    pair_children (Some cut) =
+        ap (λ zs. zs ++ (cut.right ∷ vs)) (take_more ks j 0 (omega (arith, many, levelled.within)))
+        ∙ append_assoc us (l ∷ []) (cut.right ∷ vs)
 
-    module _ (u : Slab Node) (written : Writes t u n new_xs new_ks) where
-      pub levelled_shrinks : Shrinks s u (suc low) n (numbers s (suc (suc low)) n)
+    module _ (u : Heap T) (written : Writes t u n new_xs new_ks) where
+      pub levelled_shrinks : Shrinks s u (suc low) n (items_below s (suc (suc low)) n)
       levelled_shrinks =
           let holds = written_holds t u (suc low) n new_xs new_ks new_content written in
           record {
-            listed = held_numbers t u (suc low) n new_xs new_ks holds ∙ new_listed;
-            moved = subst (λ zs. Moves s u (used s (suc (suc low)) n) zs) (sym (held_used t u (suc low) n new_xs new_ks holds)) (Moves-then s t u (used s (suc (suc low)) n) (n ∷ flat_map (used t (suc low)) new_ks) (n ∷ flat_map (used t (suc low)) new_ks) (run_moved s t (suc low) n us (l ∷ r ∷ []) vs (tops l split) pair_run) (Writes-moves t u n new_xs new_ks (flat_map (used t (suc low)) new_ks) written));
-            shape = λ least more. held_shape t u (suc low) n new_xs new_ks holds least (omega (arith, new_length, more)) (omega (arith, new_length, few split, levelled.node.fits)) new_content.branches new_content.shaped;
+            listed = held_items_below t u (suc low) n new_xs new_ks holds ∙ new_listed;
+            moved =
+                subst (λ zs. Moves s u (used s (suc (suc low)) n) zs)
+                (sym (held_used t u (suc low) n new_xs new_ks holds))
+                (Moves-then s t u (used s (suc (suc low)) n)
+                (n ∷ flat_map (used t (suc low)) new_ks) (n ∷ flat_map (used t (suc low)) new_ks)
+                (run_moved s t (suc low) n us (l ∷ r ∷ []) vs (tops l split) pair_run)
+                (Writes-moves t u n new_xs new_ks (flat_map (used t (suc low)) new_ks) written));
+            shape =
+                λ least more. held_shape t u (suc low) n new_xs new_ks holds least
+                (omega (arith, new_length, more))
+                (omega (arith, new_length, few split, levelled.node.fits)) new_content.branches
+                new_content.shaped;
           }
 
-      pub levelled_edge : (side : ℕ) (g h : Edge) → turn h ≡ j + side → inside h ≡ g → IsSeat t (suc low) (separators split) (tops l split) side g → IsEdge u (suc low) n h × (place u (suc low) n h ≡ length (before xs (map (numbers s (suc low)) ks) j) + seat_place t (suc low) (separators split) (tops l split) side g)
+      pub levelled_edge : (side : ℕ) (g h : Edge) → turn h ≡ j + side → inside h ≡ g
+          → IsSeat t (suc low) (separators split) (tops l split) side g
+          → IsEdge u (suc low) n h
+          × (place u (suc low) n h
+          ≡ length (before xs (map (items_below s (suc low)) ks) j) + seat_place t (suc low)
+          (separators split) (tops l split) side g)
       levelled_edge side g h at into seat =
-          let run = seat_run t low us (tops l split) vs (take j xs) (separators split) (drop (j + 1) xs) j side g us_many front_many (tops_many split) seat in
+          let run =
+          seat_run t low us (tops l split) vs (take j xs) (separators split)
+          (drop (j + 1) xs) j side g us_many front_many (tops_many split) seat in
           let holds = written_holds t u (suc low) n new_xs new_ks new_content written in
           let agree = written_agree t u (suc low) n new_xs new_ks new_content written in
-          let edge = seat_written t u n new_xs new_ks (j + side) g h (suc low) holds agree (λ none. absurd (omega (arith, none))) (λ some. at) (λ some. into) run.0 in
-          let front = length-before xs (map (numbers s (suc low)) ks) j (omega (arith, levelled.within)) (omega (arith, many, levelled.within, length-map ks (numbers s (suc low)))) in
-          let same : map (numbers t (suc low)) us ≡ take j (map (numbers s (suc low)) ks) = (same_before s t (suc low) n us (l ∷ r ∷ []) vs (tops l split) pair_run).numbers_same ∙ sym (take-map (numbers s (suc low)) j ks) in
+          let edge =
+          seat_written t u n new_xs new_ks (j + side) g h (suc low) holds agree
+          (λ none. absurd (omega (arith, none))) (λ some. at) (λ some. into) run.0 in
+          let front =
+          length-before xs (map (items_below s (suc low)) ks) j
+          (omega (arith, levelled.within))
+          (omega (arith, many, levelled.within, length-map ks (items_below s (suc low)))) in
+          let same : map (items_below t (suc low)) us ≡ take j (map (items_below s (suc low)) ks) =
+          (same_before s t (suc low) n us (l ∷ r ∷ []) vs
+          (tops l split) pair_run).items_below_same
+          ∙ sym (take-map (items_below s (suc low)) j ks) in
           (edge.0, omega (arith, edge.1, run.1, front, ap (sum_by length) same))

@@ -5,66 +5,106 @@ use Rattle.std.proofs.Math.Nat.{pow-suc, suc-mul, zero-mul, mul-one, mul_comm, m
 use Rattle.std.proofs.lemmas.List.{nil_from_length}
 use Rattle.std.proofs.lemmas.List.Sums.{sum_by-cons}
 use Rattle.std.proofs.lemmas.List.Elements.{All-head, All-tail}
-use Rattle.slab.specs.Slab.{Slab, get}
-use Rattle.range_store.specs.declared.btree.node.Node.{Node}
-use Rattle.range_store.specs.declared.btree.node.TheConstants.{CAPACITY, MIN_LEN}
+use Rattle.range_store.specs.Heap.{Heap, node_of, children_of}
+use Rattle.range_store.specs.declared.btree.nodes.TheConstants.{CAPACITY, MIN_LEN}
 use Rattle.range_store.specs.Depth.{HasLevels}
-use Rattle.range_store.specs.Nodes.{children_of, numbers, Shaped, ShapedBut, IsTree}
+use Rattle.range_store.specs.Nodes.{items_below, Shaped, ShapedBut, IsTree}
 use Rattle.range_store.proofs.Below.{Shaped-but}
-use Rattle.range_store.proofs.Room.{sizes, numbers_size}
-use Rattle.range_store.proofs.Rank.{numbers_none}
+use Rattle.range_store.proofs.Room.{sizes, items_below_size}
+use Rattle.range_store.proofs.Rank.{items_below_none}
 
-children_lower : (s : Slab Node) (d p : ℕ) → ((n : ℕ) → Shaped s d n → p ≤ length (numbers s d n) + 1) → (ns : List ℕ) → All (Shaped s d) ns → length ns * p ≤ sizes s d ns + length ns
-children_lower s d p below [] shaped = omega (arith, zero-mul p)
-children_lower s d p below (n ∷ ns) shaped =
-    omega (arith, suc-mul (length ns) p, below n (All-head (Shaped s d) n ns shaped), children_lower s d p below ns (All-tail (Shaped s d) n ns shaped), sum_by-cons (length {A = ℕ}) (numbers s d n) (map (numbers s d) ns))
+children_lower : {T : Type 0} (s : Heap T) (d p : ℕ)
+    → ((n : ℕ) → Shaped s d n → p ≤ length (items_below s d n) + 1) → (ns : List ℕ)
+    → All (Shaped s d) ns → length ns * p ≤ sizes s d ns + length ns
+children_lower {T} s d p below [] shaped = omega (arith, zero-mul p)
+children_lower {T} s d p below (n ∷ ns) shaped =
+    omega (
+      arith,
+      suc-mul (length ns) p,
+      below n (All-head (Shaped s d) n ns shaped),
+      children_lower s d p below ns (All-tail (Shaped s d) n ns shaped),
+      sum_by-cons (length {A = T}) (items_below s d n) (map (items_below s d) ns),
+    )
 
-children_upper : (s : Slab Node) (d p : ℕ) → ((n : ℕ) → Shaped s d n → length (numbers s d n) + 1 ≤ p) → (ns : List ℕ) → All (Shaped s d) ns → sizes s d ns + length ns ≤ length ns * p
-children_upper s d p below [] shaped = omega (arith, zero-mul p)
-children_upper s d p below (n ∷ ns) shaped =
-    omega (arith, suc-mul (length ns) p, below n (All-head (Shaped s d) n ns shaped), children_upper s d p below ns (All-tail (Shaped s d) n ns shaped), sum_by-cons (length {A = ℕ}) (numbers s d n) (map (numbers s d) ns))
+children_upper : {T : Type 0} (s : Heap T) (d p : ℕ)
+    → ((n : ℕ) → Shaped s d n → length (items_below s d n) + 1 ≤ p) → (ns : List ℕ)
+    → All (Shaped s d) ns → sizes s d ns + length ns ≤ length ns * p
+children_upper {T} s d p below [] shaped = omega (arith, zero-mul p)
+children_upper {T} s d p below (n ∷ ns) shaped =
+    omega (
+      arith,
+      suc-mul (length ns) p,
+      below n (All-head (Shaped s d) n ns shaped),
+      children_upper s d p below ns (All-tail (Shaped s d) n ns shaped),
+      sum_by-cons (length {A = T}) (items_below s d n) (map (items_below s d) ns),
+    )
 
-lower_but : (least most : ℕ) (s : Slab Node) (d n : ℕ) → ((k : ℕ) → Shaped s d k → (MIN_LEN + 1) ^ d ≤ length (numbers s d k) + 1) → ShapedBut least most s d n → (least + 1) * (MIN_LEN + 1) ^ d ≤ length (numbers s (suc d) n) + 1
+lower_but : {T : Type 0} (least most : ℕ) (s : Heap T) (d n : ℕ)
+    → ((k : ℕ) → Shaped s d k → (MIN_LEN + 1) ^ d ≤ length (items_below s d k) + 1)
+    → ShapedBut least most s d n
+    → (least + 1) * (MIN_LEN + 1) ^ d ≤ length (items_below s (suc d) n) + 1
 lower_but least most s zero n below shaped =
-    omega (arith, mul-one (least + 1), numbers_size least most s zero n shaped, shaped.node.enough)
+    omega (
+      arith,
+      mul-one (least + 1),
+      items_below_size least most s zero n shaped,
+      shaped.node.enough,
+    )
 lower_but least most s (suc d) n below shaped =
-    let ks = children_of (get s n) in
+    let ks = children_of (node_of s n) in
     let all = children_lower s (suc d) ((MIN_LEN + 1) ^ suc d) below ks shaped.children in
     let enough : least + 1 ≤ length ks = omega (arith, shaped.node.enough, shaped.node.branches) in
-    let more : (least + 1) * (MIN_LEN + 1) ^ suc d ≤ length ks * (MIN_LEN + 1) ^ suc d = mul-le-mul_right ((MIN_LEN + 1) ^ suc d) enough in
-    let size = numbers_size least most s (suc d) n shaped in
+    let more : (least + 1) * (MIN_LEN + 1) ^ suc d ≤ length ks * (MIN_LEN + 1) ^ suc d =
+    mul-le-mul_right ((MIN_LEN + 1) ^ suc d) enough in
+    let size = items_below_size least most s (suc d) n shaped in
     le_trans more (omega (arith, all, size, shaped.node.branches))
 
-upper_but : (least most : ℕ) (s : Slab Node) (d n : ℕ) → ((k : ℕ) → Shaped s d k → length (numbers s d k) + 1 ≤ (CAPACITY + 1) ^ d) → ShapedBut least most s d n → length (numbers s (suc d) n) + 1 ≤ (most + 1) * (CAPACITY + 1) ^ d
+upper_but : {T : Type 0} (least most : ℕ) (s : Heap T) (d n : ℕ)
+    → ((k : ℕ) → Shaped s d k → length (items_below s d k) + 1 ≤ (CAPACITY + 1) ^ d)
+    → ShapedBut least most s d n
+    → length (items_below s (suc d) n) + 1 ≤ (most + 1) * (CAPACITY + 1) ^ d
 upper_but least most s zero n below shaped =
-    omega (arith, mul-one (most + 1), numbers_size least most s zero n shaped, shaped.node.fits, ap (λ zs. sizes s zero zs) (nil_from_length (children_of (get s n)) shaped.node.branches))
+    omega (
+      arith,
+      mul-one (most + 1),
+      items_below_size least most s zero n shaped,
+      shaped.node.fits,
+      ap (λ zs. sizes s zero zs)
+          (nil_from_length (children_of (node_of s n)) shaped.node.branches),
+    )
 upper_but least most s (suc d) n below shaped =
-    let ks = children_of (get s n) in
+    let ks = children_of (node_of s n) in
     let all = children_upper s (suc d) ((CAPACITY + 1) ^ suc d) below ks shaped.children in
     let fits : length ks ≤ most + 1 = omega (arith, shaped.node.fits, shaped.node.branches) in
-    let more : length ks * (CAPACITY + 1) ^ suc d ≤ (most + 1) * (CAPACITY + 1) ^ suc d = mul-le-mul_right ((CAPACITY + 1) ^ suc d) fits in
-    let size = numbers_size least most s (suc d) n shaped in
+    let more : length ks * (CAPACITY + 1) ^ suc d ≤ (most + 1) * (CAPACITY + 1) ^ suc d =
+    mul-le-mul_right ((CAPACITY + 1) ^ suc d) fits in
+    let size = items_below_size least most s (suc d) n shaped in
     le_trans (omega (arith, all, size, shaped.node.branches)) more
 
-pub fewest_numbers : (s : Slab Node) (d n : ℕ) → Shaped s d n → (MIN_LEN + 1) ^ d ≤ length (numbers s d n) + 1
-fewest_numbers s zero n shaped = omega arith
-fewest_numbers s (suc d) n shaped =
-    let least = lower_but MIN_LEN CAPACITY s d n (fewest_numbers s d) (Shaped-but s d n shaped) in
+pub fewest_items_below : {T : Type 0} (s : Heap T) (d n : ℕ) → Shaped s d n
+    → (MIN_LEN + 1) ^ d ≤ length (items_below s d n) + 1
+fewest_items_below s zero n shaped = omega arith
+fewest_items_below s (suc d) n shaped =
+    let least =
+    lower_but MIN_LEN CAPACITY s d n (fewest_items_below s d) (Shaped-but s d n shaped) in
     omega (arith, pow-suc (MIN_LEN + 1) d, mul_comm (MIN_LEN + 1) ((MIN_LEN + 1) ^ d), least)
 
-pub most_numbers : (s : Slab Node) (d n : ℕ) → Shaped s d n → length (numbers s d n) + 1 ≤ (CAPACITY + 1) ^ d
-most_numbers s zero n shaped = omega (arith, ap length (numbers_none s n))
-most_numbers s (suc d) n shaped =
-    let most = upper_but MIN_LEN CAPACITY s d n (most_numbers s d) (Shaped-but s d n shaped) in
+pub most_items_below : {T : Type 0} (s : Heap T) (d n : ℕ) → Shaped s d n
+    → length (items_below s d n) + 1 ≤ (CAPACITY + 1) ^ d
+most_items_below s zero n shaped = omega (arith, ap length (items_below_none s n))
+most_items_below s (suc d) n shaped =
+    let most = upper_but MIN_LEN CAPACITY s d n (most_items_below s d) (Shaped-but s d n shaped) in
     omega (arith, pow-suc (CAPACITY + 1) d, mul_comm (CAPACITY + 1) ((CAPACITY + 1) ^ d), most)
 
 -- a tree that is not empty
-pub tree_lower : (s : Slab Node) (d root : ℕ) → IsTree s (suc d) root → 2 * (MIN_LEN + 1) ^ d ≤ length (numbers s (suc d) root) + 1
-tree_lower s d root tree = lower_but 1 CAPACITY s d root (fewest_numbers s d) tree.shaped
+pub tree_lower : {T : Type 0} (s : Heap T) (d root : ℕ) → IsTree s (suc d) root
+    → 2 * (MIN_LEN + 1) ^ d ≤ length (items_below s (suc d) root) + 1
+tree_lower s d root tree = lower_but 1 CAPACITY s d root (fewest_items_below s d) tree.shaped
 
-pub tree_upper : (s : Slab Node) (d root : ℕ) → IsTree s (suc d) root → length (numbers s (suc d) root) + 1 ≤ (CAPACITY + 1) ^ suc d
+pub tree_upper : {T : Type 0} (s : Heap T) (d root : ℕ) → IsTree s (suc d) root
+    → length (items_below s (suc d) root) + 1 ≤ (CAPACITY + 1) ^ suc d
 tree_upper s d root tree =
-    let most = upper_but 1 CAPACITY s d root (most_numbers s d) tree.shaped in
+    let most = upper_but 1 CAPACITY s d root (most_items_below s d) tree.shaped in
     omega (arith, pow-suc (CAPACITY + 1) d, mul_comm (CAPACITY + 1) ((CAPACITY + 1) ^ d), most)
 
 -- a power outgrows its exponent
@@ -72,20 +112,33 @@ pub pow_more : (d : ℕ) → d + 1 ≤ (MIN_LEN + 1) ^ d
 pow_more zero = omega arith
 pow_more (suc d) = omega (arith, pow-suc (MIN_LEN + 1) d, pow_more d)
 
-pub levels_le : (s : Slab Node) (levels root : ℕ) → IsTree s levels root → levels ≤ length (numbers s levels root)
+pub levels_le : {T : Type 0} (s : Heap T) (levels root : ℕ) → IsTree s levels root
+    → levels ≤ length (items_below s levels root)
 levels_le s zero root tree = omega arith
 levels_le s (suc d) root tree = omega (arith, tree_lower s d root tree, pow_more d)
 
-pub empty_levels : (s : Slab Node) (levels root : ℕ) → IsTree s levels root → length (numbers s levels root) ≡ 0 → levels ≡ 0
+pub empty_levels : {T : Type 0} (s : Heap T) (levels root : ℕ) → IsTree s levels root
+    → length (items_below s levels root) ≡ 0 → levels ≡ 0
 empty_levels s levels root tree none = omega (arith, levels_le s levels root tree)
 
-pub levels_least : (s : Slab Node) (levels root : ℕ) → IsTree s levels root → 0 < length (numbers s levels root) → 2 * (MIN_LEN + 1) ^ (levels - 1) ≤ length (numbers s levels root) + 1
-levels_least s zero root tree some = absurd (omega (arith, ap length (numbers_none s root)))
-levels_least s (suc d) root tree some = let level : suc d - 1 ≡ d = omega arith in rw level (tree_lower s d root tree)
+pub levels_least : {T : Type 0} (s : Heap T) (levels root : ℕ) → IsTree s levels root
+    → 0 < length (items_below s levels root)
+    → 2 * (MIN_LEN + 1) ^ (levels - 1) ≤ length (items_below s levels root) + 1
+levels_least s zero root tree some = absurd (omega (arith, ap length (items_below_none s root)))
+levels_least s (suc d) root tree some = let level : suc d - 1 ≡ d =
+    omega arith in rw level (tree_lower s d root tree)
 
-pub levels_most : (s : Slab Node) (levels root : ℕ) → IsTree s levels root → 0 < length (numbers s levels root) → length (numbers s levels root) + 1 ≤ (CAPACITY + 1) ^ levels
-levels_most s zero root tree some = absurd (omega (arith, ap length (numbers_none s root)))
+pub levels_most : {T : Type 0} (s : Heap T) (levels root : ℕ) → IsTree s levels root
+    → 0 < length (items_below s levels root)
+    → length (items_below s levels root) + 1 ≤ (CAPACITY + 1) ^ levels
+levels_most s zero root tree some = absurd (omega (arith, ap length (items_below_none s root)))
 levels_most s (suc d) root tree some = tree_upper s d root tree
 
-pub has_levels : (s : Slab Node) (levels root : ℕ) → IsTree s levels root → HasLevels (length (numbers s levels root)) levels
-has_levels s levels root tree = record { empty = empty_levels s levels root tree; least = levels_least s levels root tree; most = levels_most s levels root tree }
+pub has_levels : {T : Type 0} (s : Heap T) (levels root : ℕ) → IsTree s levels root
+    → HasLevels (length (items_below s levels root)) levels
+has_levels s levels root tree =
+    record {
+      empty = empty_levels s levels root tree;
+      least = levels_least s levels root tree;
+      most = levels_most s levels root tree;
+    }

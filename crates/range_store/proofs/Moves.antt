@@ -2,19 +2,18 @@
 use Rattle.std.proofs.Common.{◌≡◌, ◌≢◌, ℕ, ◌+◌, ◌<◌, ◌≤◌, List, [], ◌∷◌, ◌++◌, length, refl, sym, ◌∙◌, inl, inr, arith, IsSome}
 use Rattle.std.proofs.lemmas.List.{length-append}
 use Rattle.std.proofs.lemmas.Bool.{cases_eq}
-use Rattle.slab.specs.Slab.{Slab, get}
-use Rattle.range_store.specs.declared.btree.node.Node.{Node}
-use Rattle.range_store.specs.Nodes.{here, Moves, Writes, Stores, Removes}
+use Rattle.range_store.specs.Heap.{Heap, node_of, Writes, Stores, Removes}
+use Rattle.range_store.specs.Nodes.{here, Moves}
 use Rattle.range_store.specs.Occurrences.{occurrences, occurrences-append, occurrences-cons, occurrences_itself, occurrences_other}
-use Rattle.range_store.proofs.Frame.{AgreeAt}
+use Rattle.range_store.specs.Frame.{AgreeAt}
 
-pub here_some : (s : Slab Node) (k : ℕ) → IsSome (get s k) → here s k ≡ 1
+pub here_some : {T : Type 0} (s : Heap T) (k : ℕ) → IsSome (node_of s k) → here s k ≡ 1
 here_some s k present = grind arith
 
-pub some_from_here : (s : Slab Node) (k : ℕ) → 0 < here s k → IsSome (get s k)
+pub some_from_here : {T : Type 0} (s : Heap T) (k : ℕ) → 0 < here s k → IsSome (node_of s k)
 some_from_here s k h = grind arith
 
-pub here_le : (s : Slab Node) (k : ℕ) → here s k ≤ 1
+pub here_le : {T : Type 0} (s : Heap T) (k : ℕ) → here s k ≤ 1
 here_le s k = grind arith
 
 pub occurrences_self : (n k : ℕ) → n ≡ k → occurrences k (n ∷ []) ≡ 1
@@ -22,40 +21,49 @@ occurrences_self n k same = rw (← same) (occurrences_itself n)
 
 -- a number that does not stand before a list is another
 pub other_than : (n k : ℕ) (us : List ℕ) → occurrences k (n ∷ us) ≡ 0 → k ≢ n
-other_than n k us none same = omega (arith, occurrences-cons k n us, occurrences_self n k (sym same))
+other_than n k us none same =
+    omega (arith, occurrences-cons k n us, occurrences_self n k (sym same))
 
-pub Moves-none : (s : Slab Node) (us : List ℕ) → Moves s s us us
-Moves-none s us = record { owned = λ k. refl; outside = λ k unused present. refl; len = refl; capacity = refl }
+pub Moves-none : {T : Type 0} (s : Heap T) (us : List ℕ) → Moves s s us us
+Moves-none s us =
+    record { owned = λ k. refl; outside = λ k unused present. refl; len = refl; capacity = refl }
 
 -- what is under a number once the first step was made
-pub Moves-kept : (s t : Slab Node) (us vs : List ℕ) → Moves s t us vs → (k : ℕ) → occurrences k us ≡ 0 → IsSome (get s k) → (occurrences k vs ≡ 0) × IsSome (get t k)
+pub Moves-kept : {T : Type 0} (s t : Heap T) (us vs : List ℕ) → Moves s t us vs → (k : ℕ)
+    → occurrences k us ≡ 0 → IsSome (node_of s k) → (occurrences k vs ≡ 0) × IsSome (node_of t k)
 Moves-kept s t us vs m k unused present =
     let same = m.outside k unused present in
-    let now : IsSome (get t k) = rw same present in
+    let now : IsSome (node_of t k) = rw same present in
     (omega (arith, m.owned k, unused, here_some s k present, here_le t k), now)
 
-pub Moves-then : (r s t : Slab Node) (us vs ws : List ℕ) → Moves r s us vs → Moves s t vs ws → Moves r t us ws
+pub Moves-then : {T : Type 0} (r s t : Heap T) (us vs ws : List ℕ) → Moves r s us vs
+    → Moves s t vs ws → Moves r t us ws
 Moves-then r s t us vs ws first second = record {
   owned = λ k. omega (arith, first.owned k, second.owned k);
-  outside = λ k unused present. let kept = Moves-kept r s us vs first k unused present in second.outside k kept.0 kept.1 ∙ first.outside k unused present;
+  outside = λ k unused present. let kept =
+      Moves-kept r s us vs first k unused present in second.outside k kept.0 kept.1
+      ∙ first.outside k unused present;
   len = omega (arith, first.len, second.len);
   capacity = second.capacity ∙ first.capacity;
 }
 
-pub Moves-beside : (s t : Slab Node) (us vs ws : List ℕ) → Moves s t us vs → Moves s t (us ++ ws) (vs ++ ws)
+pub Moves-beside : {T : Type 0} (s t : Heap T) (us vs ws : List ℕ) → Moves s t us vs
+    → Moves s t (us ++ ws) (vs ++ ws)
 Moves-beside s t us vs ws m = record {
   owned = λ k. omega (arith, m.owned k, occurrences-append k us ws, occurrences-append k vs ws);
-  outside = λ k unused present. m.outside k (omega (arith, unused, occurrences-append k us ws)) present;
+  outside =
+      λ k unused present. m.outside k (omega (arith, unused, occurrences-append k us ws)) present;
   len = omega (arith, m.len, length-append us ws, length-append vs ws);
   capacity = m.capacity;
 }
 
--- the same numbers, in another order
+-- the same items_below, in another order
 pub record SameNodes (us vs : List ℕ) : Type 0 where
   pub occur : (k : ℕ) → occurrences k us ≡ occurrences k vs
   pub len : length us ≡ length vs
 
-pub Moves-like : (s t : Slab Node) (us us' vs vs' : List ℕ) → SameNodes us us' → SameNodes vs vs' → Moves s t us vs → Moves s t us' vs'
+pub Moves-like : {T : Type 0} (s t : Heap T) (us us' vs vs' : List ℕ) → SameNodes us us'
+    → SameNodes vs vs' → Moves s t us vs → Moves s t us' vs'
 Moves-like s t us us' vs vs' before after m = record {
   owned = λ k. omega (arith, m.owned k, before.occur k, after.occur k);
   outside = λ k unused present. m.outside k (omega (arith, unused, before.occur k)) present;
@@ -63,19 +71,23 @@ Moves-like s t us us' vs vs' before after m = record {
   capacity = m.capacity;
 }
 
-pub Writes-moves : (s t : Slab Node) (n : ℕ) (xs ks us : List ℕ) → Writes s t n xs ks → Moves s t (n ∷ us) (n ∷ us)
+pub Writes-moves : {T : Type 0} (s t : Heap T) (n : ℕ) (xs : List T) (ks us : List ℕ)
+    → Writes s t n xs ks → Moves s t (n ∷ us) (n ∷ us)
 Writes-moves s t n xs ks us w = record {
   owned = λ k.
       elim (cases_eq k n) [
-        | inl same ↦ let one = here_some s n w.was in let two = here_some t n w.present in rw same (omega (arith, one, two))
-        | inr other ↦ let kept : here t k ≡ here s k = rw (w.others k other) refl in omega (arith, kept)
+        | inl same ↦ let one = here_some s n w.was in let two =
+            here_some t n w.present in rw same (omega (arith, one, two))
+        | inr other ↦ let kept : here t k ≡ here s k =
+            rw (w.others k other) refl in omega (arith, kept)
       ];
   outside = λ k unused present. w.others k (other_than n k us unused);
   len = omega (arith, w.len);
   capacity = w.capacity;
 }
 
-pub Stores-moves : (s t : Slab Node) (n : ℕ) (xs ks us : List ℕ) → Stores s t n xs ks → Moves s t us (n ∷ us)
+pub Stores-moves : {T : Type 0} (s t : Heap T) (n : ℕ) (xs : List T) (ks us : List ℕ)
+    → Stores s t n xs ks → Moves s t us (n ∷ us)
 Stores-moves s t n xs ks us w = record {
   owned = λ k.
       elim (cases_eq k n) [
@@ -87,12 +99,16 @@ Stores-moves s t n xs ks us w = record {
             let kept : here t k ≡ here s k = rw (w.others k other) refl in
             omega (arith, kept, occurrences-cons k n us, occurrences_other k n (λ e. other (sym e)))
       ];
-  outside = λ k unused present. w.others k (λ same. let none : here s k ≡ 0 = rw (same, w.fresh) refl in omega (arith, none, here_some s k present));
+  outside =
+      λ k unused present. w.others k
+      (λ same. let none : here s k
+      ≡ 0 = rw (same, w.fresh) refl in omega (arith, none, here_some s k present));
   len = omega (arith, w.len);
   capacity = w.capacity;
 }
 
-pub Removes-moves : (s t : Slab Node) (n : ℕ) (us : List ℕ) → Removes s t n → Moves s t (n ∷ us) us
+pub Removes-moves : {T : Type 0} (s t : Heap T) (n : ℕ) (us : List ℕ) → Removes s t n
+    → Moves s t (n ∷ us) us
 Removes-moves s t n us w = record {
   owned = λ k.
       elim (cases_eq k n) [
@@ -110,6 +126,8 @@ Removes-moves s t n us w = record {
 }
 
 -- the nodes that are none of these stay
-pub Moves-agree : (s t : Slab Node) (us vs ws : List ℕ) → ((k : ℕ) → occurrences k us + occurrences k ws ≤ here s k) → Moves s t us vs → AgreeAt s t ws
+pub Moves-agree : {T : Type 0} (s t : Heap T) (us vs ws : List ℕ)
+    → ((k : ℕ) → occurrences k us + occurrences k ws ≤ here s k) → Moves s t us vs → AgreeAt s t ws
 Moves-agree s t us vs ws once m k among =
-    m.outside k (omega (arith, once k, here_le s k, among)) (some_from_here s k (omega (arith, once k, among)))
+    m.outside k (omega (arith, once k, here_le s k, among))
+    (some_from_here s k (omega (arith, once k, among)))

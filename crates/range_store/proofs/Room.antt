@@ -1,62 +1,118 @@
--- A tree has a node for each MIN_LEN of its items at most, so capacity that is counted in items serves its nodes.
+-- A tree has a node for each MIN_LEN of its items at most, so capacity that is counted in items
+-- serves its nodes.
 use Rattle.std.proofs.Common.{◌≡◌, ℕ, zero, suc, ◌+◌, ◌*◌, ◌<◌, ◌≤◌, List, [], ◌∷◌, ◌++◌, length, get_or, take, drop, map, ap, ◌∙◌, arith}
 use Rattle.std.specs.List.{All, flat_map, sum_by}
 use Rattle.std.proofs.lemmas.List.{length-append, length-map, map-append}
 use Rattle.std.proofs.lemmas.List.Concat.{flat_map-append}
 use Rattle.std.proofs.lemmas.List.Sums.{sum_by-cons, sum_by-append}
 use Rattle.std.proofs.lemmas.List.Elements.{All-head, All-tail, All-take, All-drop}
-use Rattle.slab.specs.Slab.{Slab, get, slab_len}
-use Rattle.range_store.specs.declared.btree.node.Node.{Node}
-use Rattle.range_store.specs.declared.btree.node.TheConstants.{MIN_LEN, CAPACITY}
-use Rattle.range_store.specs.Nodes.{items_of, children_of, numbers, used, Shaped, ShapedBut, HasTreeRoom}
-use Rattle.range_store.proofs.Below.{weave_numbers, children_length, child_count_cases, used_is, Shaped-but}
-use Rattle.range_store.proofs.Weave.{length-weave, list_splits_at}
+use Rattle.range_store.specs.Heap.{Heap, node_of, node_count, items_of, children_of}
+use Rattle.range_store.specs.declared.btree.nodes.TheConstants.{MIN_LEN, CAPACITY}
+use Rattle.range_store.specs.Nodes.{items_below, used, Shaped, ShapedBut, HasTreeRoom}
+use Rattle.range_store.proofs.Below.{weave_items_below, children_length, child_count_cases, used_is, Shaped-but}
+use Rattle.range_store.specs.Weave.{length-weave, list_splits_at}
 
 -- how many items stand below these nodes
-abbrev pub sizes : Slab Node → ℕ → List ℕ → ℕ
-sizes s d ns = sum_by length (map (numbers s d) ns)
+abbrev pub sizes : {T : Type 0} → Heap T → ℕ → List ℕ → ℕ
+sizes s d ns = sum_by length (map (items_below s d) ns)
 
-pub sizes-append : (s : Slab Node) (d : ℕ) (us vs : List ℕ) → sizes s d (us ++ vs) ≡ sizes s d us + sizes s d vs
-sizes-append s d us vs = ap (sum_by length) (map-append (numbers s d) us vs) ∙ sum_by-append (length {A = ℕ}) (map (numbers s d) us) (map (numbers s d) vs)
+pub sizes-append : {T : Type 0} (s : Heap T) (d : ℕ) (us vs : List ℕ)
+    → sizes s d (us ++ vs) ≡ sizes s d us + sizes s d vs
+sizes-append {T} s d us vs =
+    ap (sum_by length) (map-append (items_below s d) us vs)
+    ∙ sum_by-append (length {A = T}) (map (items_below s d) us) (map (items_below s d) vs)
 
-pub numbers_size : (least most : ℕ) (s : Slab Node) (d n : ℕ) → ShapedBut least most s d n → length (numbers s (suc d) n) ≡ length (items_of (get s n)) + sizes s d (children_of (get s n))
-numbers_size least most s d n shaped =
-    ap length (weave_numbers s d n)
-    ∙ length-weave (items_of (get s n)) (map (numbers s d) (children_of (get s n))) (child_count_cases d _ _ (length-map (children_of (get s n)) (numbers s d) ∙ shaped.node.branches))
+pub items_below_size : {T : Type 0} (least most : ℕ) (s : Heap T) (d n : ℕ)
+    → ShapedBut least most s d n
+    → length (items_below s (suc d) n)
+    ≡ length (items_of (node_of s n)) + sizes s d (children_of (node_of s n))
+items_below_size least most s d n shaped =
+    ap length (weave_items_below s d n)
+    ∙ length-weave (items_of (node_of s n)) (map (items_below s d) (children_of (node_of s n)))
+    (child_count_cases d _ _
+    (length-map (children_of (node_of s n)) (items_below s d) ∙ shaped.node.branches))
 
-children_le_from : (s : Slab Node) (d : ℕ) → ((n : ℕ) → Shaped s d n → MIN_LEN * length (used s d n) ≤ length (numbers s d n)) → (ns : List ℕ) → All (Shaped s d) ns → MIN_LEN * length (flat_map (used s d) ns) ≤ sizes s d ns
-children_le_from s d below [] shaped = omega arith
-children_le_from s d below (n ∷ ns) shaped =
-    omega (arith, below n (All-head (Shaped s d) n ns shaped), children_le_from s d below ns (All-tail (Shaped s d) n ns shaped), length-append (used s d n) (flat_map (used s d) ns), sum_by-cons (length {A = ℕ}) (numbers s d n) (map (numbers s d) ns))
+children_le_from : {T : Type 0} (s : Heap T) (d : ℕ)
+    → ((n : ℕ) → Shaped s d n → MIN_LEN * length (used s d n) ≤ length (items_below s d n))
+    → (ns : List ℕ) → All (Shaped s d) ns → MIN_LEN * length (flat_map (used s d) ns) ≤ sizes s d ns
+children_le_from {T} s d below [] shaped = omega arith
+children_le_from {T} s d below (n ∷ ns) shaped =
+    omega (
+      arith,
+      below n (All-head (Shaped s d) n ns shaped),
+      children_le_from s d below ns (All-tail (Shaped s d) n ns shaped),
+      length-append (used s d n) (flat_map (used s d) ns),
+      sum_by-cons (length {A = T}) (items_below s d n) (map (items_below s d) ns),
+    )
 
-pub used_le : (s : Slab Node) (d n : ℕ) → Shaped s d n → MIN_LEN * length (used s d n) ≤ length (numbers s d n)
-unfolding used numbers
+pub used_le : {T : Type 0} (s : Heap T) (d n : ℕ) → Shaped s d n
+    → MIN_LEN * length (used s d n) ≤ length (items_below s d n)
+unfolding used items_below
 used_le s zero n shaped = omega arith
 used_le s (suc d) n shaped =
     let but = Shaped-but s d n shaped in
-    omega (arith, ap length (used_is s d n), numbers_size MIN_LEN CAPACITY s d n but, children_le_from s d (used_le s d) (children_of (get s n)) but.children, but.node.enough)
+    omega (
+      arith,
+      ap length (used_is s d n),
+      items_below_size MIN_LEN CAPACITY s d n but,
+      children_le_from s d (used_le s d) (children_of (node_of s n)) but.children,
+      but.node.enough,
+    )
 
-pub children_le : (s : Slab Node) (d : ℕ) (ns : List ℕ) → All (Shaped s d) ns → MIN_LEN * length (flat_map (used s d) ns) ≤ sizes s d ns
+pub children_le : {T : Type 0} (s : Heap T) (d : ℕ) (ns : List ℕ) → All (Shaped s d) ns
+    → MIN_LEN * length (flat_map (used s d) ns) ≤ sizes s d ns
 children_le s d ns shaped = children_le_from s d (used_le s d) ns shaped
 
 -- capacity below a node is capacity below each of its children
-pub HasTreeRoom-child : (most : ℕ) (s : Slab Node) (d n i more : ℕ) → 0 < d → i ≤ length (items_of (get s n)) → ShapedBut 1 most s d n → HasTreeRoom s (suc d) n more → HasTreeRoom s d (get_or (children_of (get s n)) i 0) more
-HasTreeRoom-child most s d n i more inner within shaped room =
-    let ks = children_of (get s n) in
+pub HasTreeRoom-child : {T : Type 0} (most : ℕ) (s : Heap T) (d n i more : ℕ) → 0 < d
+    → i ≤ length (items_of (node_of s n)) → ShapedBut 1 most s d n → HasTreeRoom s (suc d) n more
+    → HasTreeRoom s d (get_or (children_of (node_of s n)) i 0) more
+HasTreeRoom-child {T} most s d n i more inner within shaped room =
+    let ks = children_of (node_of s n) in
     let kid = get_or ks i 0 in
-    let many : length ks ≡ length (items_of (get s n)) + 1 = children_length 1 most s d n inner shaped in
-    let three : ks ≡ take i ks ++ (kid ∷ drop (i + 1) ks) = list_splits_at ks i 0 (omega (arith, many)) in
-    let sizes_all : sizes s d ks ≡ sizes s d (take i ks) + (length (numbers s d kid) + sizes s d (drop (i + 1) ks)) =
-    ap (sizes s d) three ∙ sizes-append s d (take i ks) (kid ∷ drop (i + 1) ks) ∙ ap (λ m. sizes s d (take i ks) + m) (sum_by-cons (length {A = ℕ}) (numbers s d kid) (map (numbers s d) (drop (i + 1) ks))) in
-    let used_all : length (flat_map (used s d) ks) ≡ length (flat_map (used s d) (take i ks)) + (length (used s d kid) + length (flat_map (used s d) (drop (i + 1) ks))) =
-    ap (λ zs. length (flat_map (used s d) zs)) three ∙ ap length (flat_map-append (used s d) (take i ks) (kid ∷ drop (i + 1) ks))
-    ∙ length-append (flat_map (used s d) (take i ks)) (used s d kid ++ flat_map (used s d) (drop (i + 1) ks))
-    ∙ ap (λ m. length (flat_map (used s d) (take i ks)) + m) (length-append (used s d kid) (flat_map (used s d) (drop (i + 1) ks))) in
+    let many : length ks ≡ length (items_of (node_of s n)) + 1 =
+    children_length 1 most s d n inner shaped in
+    let three : ks ≡ take i ks ++ (kid ∷ drop (i + 1) ks) =
+    list_splits_at ks i 0 (omega (arith, many)) in
+    let sizes_all : sizes s d ks
+    ≡ sizes s d (take i ks) + (length (items_below s d kid) + sizes s d (drop (i + 1) ks)) =
+    ap (sizes s d) three ∙ sizes-append s d (take i ks) (kid ∷ drop (i + 1) ks)
+    ∙ ap (λ m. sizes s d (take i ks) + m)
+    (sum_by-cons (length {A = T}) (items_below s d kid)
+    (map (items_below s d) (drop (i + 1) ks))) in
+    let used_all : length (flat_map (used s d) ks)
+    ≡ length (flat_map (used s d) (take i ks)) +
+    (length (used s d kid) + length (flat_map (used s d) (drop (i + 1) ks))) =
+    ap (λ zs. length (flat_map (used s d) zs)) three
+    ∙ ap length (flat_map-append (used s d) (take i ks) (kid ∷ drop (i + 1) ks))
+    ∙ length-append (flat_map (used s d) (take i ks))
+    (used s d kid ++ flat_map (used s d) (drop (i + 1) ks))
+    ∙ ap (λ m. length (flat_map (used s d) (take i ks)) + m)
+    (length-append (used s d kid) (flat_map (used s d) (drop (i + 1) ks))) in
     let lefts = children_le s d (take i ks) (All-take (Shaped s d) i ks shaped.children) in
-    let rights = children_le s d (drop (i + 1) ks) (All-drop (Shaped s d) (i + 1) ks shaped.children) in
-    let kept : MIN_LEN * slab_len s + (length (numbers s d kid) + more) + 1 ≤ MIN_LEN * s.capacity + MIN_LEN * length (used s d kid) + MIN_LEN = omega (arith, room.few, ap length (used_is s d n), numbers_size 1 most s d n shaped, sizes_all, used_all, lefts, rights) in
-    record { filled = kept; few = few_from d kid kept (shaped.children i 0 (omega (arith, many))) inner }
+    let rights =
+    children_le s d (drop (i + 1) ks) (All-drop (Shaped s d) (i + 1) ks shaped.children) in
+    let kept : MIN_LEN * node_count s + (length (items_below s d kid) + more) + 1
+    ≤ MIN_LEN * s.capacity + MIN_LEN * length (used s d kid) + MIN_LEN =
+    omega (
+      arith,
+      room.few,
+      ap length (used_is s d n),
+      items_below_size 1 most s d n shaped,
+      sizes_all,
+      used_all,
+      lefts,
+      rights,
+    ) in
+    record {
+      filled = kept;
+      few = few_from d kid kept (shaped.children i 0 (omega (arith, many))) inner;
+    }
   where
-    few_from : (b m : ℕ) → MIN_LEN * slab_len s + (length (numbers s b m) + more) + 1 ≤ MIN_LEN * s.capacity + MIN_LEN * length (used s b m) + MIN_LEN → Shaped s b m → 0 < b → MIN_LEN * slab_len s + (length (numbers s b m) + more) + 1 ≤ MIN_LEN * s.capacity + MIN_LEN * length (used s b m) + length (items_of (get s m))
+    few_from : (b m : ℕ)
+        → MIN_LEN * node_count s + (length (items_below s b m) + more) + 1
+        ≤ MIN_LEN * s.capacity + MIN_LEN * length (used s b m) + MIN_LEN → Shaped s b m → 0 < b
+        → MIN_LEN * node_count s + (length (items_below s b m) + more) + 1
+        ≤ MIN_LEN * s.capacity + MIN_LEN * length (used s b m) + length (items_of (node_of s m))
     few_from zero m kept known some = absurd (omega arith)
     few_from (suc b) m kept known some = omega (arith, kept, (Shaped-but s b m known).node.enough)

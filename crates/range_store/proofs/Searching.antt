@@ -3,52 +3,67 @@ use Rattle.std.proofs.Common.{◌≡◌, ◌⊎◌, ℕ, suc, ◌+◌, ◌<◌, 
 use Rattle.std.proofs.lemmas.List.{append-nil, length-append, length-map, get_or-map}
 use Rattle.std.proofs.lemmas.List.Sums.{count_by-le-length}
 use Rattle.std.proofs.lemmas.Bool.{cases_lt}
-use Rattle.slab.specs.Slab.{Slab, get}
-use Rattle.range_store.specs.declared.btree.node.Node.{Node}
+use Rattle.range_store.specs.Heap.{Heap, node_of, items_of, children_of, child_count}
 use Rattle.range_store.specs.Falling.{Falls}
-use Rattle.range_store.specs.Listed.{Stored}
-use Rattle.range_store.specs.Nodes.{weave, rest_of, before, after, items_of, children_of, child_count, numbers, ShapedBut}
-use Rattle.range_store.specs.Occurrences.{occurrences, occurrences-append, occurrences-cons}
-use Rattle.range_store.proofs.Below.{children_length, lists_length, numbers_at, weave_numbers, child_count_cases}
+use Rattle.range_store.specs.Nodes.{weave, rest_of, before, after, items_below, ShapedBut}
+use Rattle.range_store.proofs.Below.{children_length, lists_length, items_below_at, weave_items_below, child_count_cases}
 use Rattle.range_store.proofs.Front.{falls_parts, true_or_false, count-append, count-yes, count-no}
 
-occurrences-rest_of : (k : ℕ) (xs : List ℕ) (ks : List (List ℕ)) → length ks ≡ length xs → occurrences k xs ≤ occurrences k (rest_of xs ks)
-occurrences-rest_of k xs [] same = omega arith
-occurrences-rest_of k [] (j ∷ ks) same = absurd (omega arith)
-occurrences-rest_of k (x ∷ xs) (j ∷ ks) same =
-    omega (arith, occurrences-cons k x xs, occurrences-cons k x (j ++ rest_of xs ks), occurrences-append k j (rest_of xs ks), occurrences-rest_of k xs ks (omega arith))
-
-pub occurrences-weave : (k : ℕ) (xs : List ℕ) (ks : List (List ℕ)) → (length ks ≡ 0) ⊎ (length ks ≡ length xs + 1) → occurrences k xs ≤ occurrences k (weave xs ks)
-occurrences-weave k xs [] fits = omega arith
-occurrences-weave k xs (j ∷ ks) (inl none) = absurd (omega (arith, none))
-occurrences-weave k xs (j ∷ ks) (inr many) = omega (arith, occurrences-append k j (rest_of xs ks), occurrences-rest_of k xs ks (omega (arith, many)))
-
-module _ (p : ℕ → Bool) where
-  count-rest_of : (xs : List ℕ) (ks : List (List ℕ)) → length ks ≡ length xs → count_by p xs ≤ count_by p (rest_of xs ks)
+module _ {T : Type 0} (p : T → Bool) where
+  count-rest_of : (xs : List T) (ks : List (List T)) → length ks ≡ length xs
+      → count_by p xs ≤ count_by p (rest_of xs ks)
   count-rest_of xs [] same = omega arith
   count-rest_of [] (j ∷ ks) same = absurd (omega arith)
   count-rest_of (x ∷ xs) (j ∷ ks) same =
       let later = count-rest_of xs ks (omega arith) in
       let both = count-append p j (rest_of xs ks) in
       elim (true_or_false p (p x)) [
-        | inl holds ↦ omega (arith, count-yes p x xs holds, count-yes p x (j ++ rest_of xs ks) holds, both, later)
-        | inr fails ↦ omega (arith, count-no p x xs fails, count-no p x (j ++ rest_of xs ks) fails, both, later)
+        | inl holds ↦
+            omega (
+              arith,
+              count-yes p x xs holds,
+              count-yes p x (j ++ rest_of xs ks) holds,
+              both,
+              later,
+            )
+        | inr fails ↦
+            omega (
+              arith,
+              count-no p x xs fails,
+              count-no p x (j ++ rest_of xs ks) fails,
+              both,
+              later,
+            )
       ]
 
-  falls_rest_of : (xs : List ℕ) (ks : List (List ℕ)) → length ks ≡ length xs → Falls p (rest_of xs ks) → Falls p xs
+  falls_rest_of : (xs : List T) (ks : List (List T)) → length ks ≡ length xs
+      → Falls p (rest_of xs ks) → Falls p xs
   unfolding Falls
   falls_rest_of xs [] same falls = falls
   falls_rest_of [] (j ∷ ks) same falls = absurd (omega arith)
-  falls_rest_of (x ∷ xs) (j ∷ ks) same falls =
-      ((λ fails. omega (arith, falls.0 fails, count-append p j (rest_of xs ks), count-rest_of xs ks (omega arith))), falls_rest_of xs ks (omega arith) (falls_parts p j (rest_of xs ks) falls.1).back)
+  falls_rest_of (x ∷ xs) (j ∷ ks) same falls = (
+    (λ fails.
+        omega (
+          arith,
+          falls.0 fails,
+          count-append p j (rest_of xs ks),
+          count-rest_of xs ks (omega arith),
+        )),
+    falls_rest_of xs ks (omega arith) (falls_parts p j (rest_of xs ks) falls.1).back,
+  )
 
-  pub falls_weave : (xs : List ℕ) (ks : List (List ℕ)) → (length ks ≡ 0) ⊎ (length ks ≡ length xs + 1) → Falls p (weave xs ks) → Falls p xs
+  pub falls_weave : (xs : List T) (ks : List (List T))
+      → (length ks ≡ 0) ⊎ (length ks ≡ length xs + 1) → Falls p (weave xs ks) → Falls p xs
   falls_weave xs [] fits falls = falls
   falls_weave xs (k ∷ ks) (inl none) falls = absurd (omega (arith, none))
-  falls_weave xs (k ∷ ks) (inr many) falls = falls_rest_of xs ks (omega (arith, many)) (falls_parts p k (rest_of xs ks) falls).back
+  falls_weave xs (k ∷ ks) (inr many) falls =
+      falls_rest_of xs ks (omega (arith, many)) (falls_parts p k (rest_of xs ks) falls).back
 
   -- the list after the items that pass holds the rest of what passes
-  pub count-weave : (xs : List ℕ) (ks : List (List ℕ)) → length ks ≡ length xs + 1 → Falls p (weave xs ks) → count_by p (weave xs ks) ≡ length (before xs ks (count_by p xs)) + count_by p (get_or ks (count_by p xs) [])
+  pub count-weave : (xs : List T) (ks : List (List T)) → length ks ≡ length xs + 1
+      → Falls p (weave xs ks)
+      → count_by p (weave xs ks)
+      ≡ length (before xs ks (count_by p xs)) + count_by p (get_or ks (count_by p xs) [])
   unfolding Falls
   count-weave xs [] many falls = absurd (omega arith)
   count-weave [] (k ∷ []) many falls = omega (arith, ap (count_by p) (append-nil k))
@@ -67,12 +82,29 @@ module _ (p : ℕ → Bool) where
             let front = length-append (k ++ x ∷ []) (before xs (j ∷ ks) (count_by p xs)) in
             let front' = length-append k (x ∷ []) in
             let most = count_by-le-length p k in
-            let here : length (before (x ∷ xs) (k ∷ j ∷ ks) (suc (count_by p xs))) ≡ length ((k ++ x ∷ []) ++ before xs (j ∷ ks) (count_by p xs)) = refl in
-            let split : count_by p (weave (x ∷ xs) (k ∷ j ∷ ks)) ≡ count_by p (k ++ x ∷ tail) = refl in
-            let next : count_by p (get_or (k ∷ j ∷ ks) (suc (count_by p xs)) []) ≡ count_by p (get_or (j ∷ ks) (count_by p xs) []) = refl in
+            let here : length (before (x ∷ xs) (k ∷ j ∷ ks) (suc (count_by p xs)))
+            ≡ length ((k ++ x ∷ []) ++ before xs (j ∷ ks) (count_by p xs)) = refl in
+            let split : count_by p (weave (x ∷ xs) (k ∷ j ∷ ks)) ≡ count_by p (k ++ x ∷ tail) =
+            refl in
+            let next : count_by p (get_or (k ∷ j ∷ ks) (suc (count_by p xs)) [])
+            ≡ count_by p (get_or (j ∷ ks) (count_by p xs) []) = refl in
             elim (cases_lt (count_by p k) (length k)) [
               | inl less ↦ absurd (omega (arith, parts.none less, one'))
-              | inr full ↦ rw step (omega (arith, whole, one', later, front, front', full, most, here, split, next))
+              | inr full ↦
+                  rw step
+                  (omega (
+                    arith,
+                    whole,
+                    one',
+                    later,
+                    front,
+                    front',
+                    full,
+                    most,
+                    here,
+                    split,
+                    next,
+                  ))
             ]
         | inr fails ↦
             let none = parts.back.0 fails in
@@ -81,41 +113,52 @@ module _ (p : ℕ → Bool) where
             let zero_here = count-no p x xs fails in
             let zero_tail = count-no p x tail fails in
             let step : count_by p (x ∷ xs) ≡ 0 = omega (arith, none, low, tail_count, zero_here) in
-            let split : count_by p (weave (x ∷ xs) (k ∷ j ∷ ks)) ≡ count_by p (k ++ x ∷ tail) = refl in
+            let split : count_by p (weave (x ∷ xs) (k ∷ j ∷ ks)) ≡ count_by p (k ++ x ∷ tail) =
+            refl in
             rw step (omega (arith, whole, zero_tail, none, split))
       ]
 
-pub fits_weave : (s : Slab Node) (d n : ℕ) → length (children_of (get s n)) ≡ child_count d (length (items_of (get s n))) → (length (map (numbers s d) (children_of (get s n))) ≡ 0) ⊎ (length (map (numbers s d) (children_of (get s n))) ≡ length (items_of (get s n)) + 1)
-fits_weave s d n branches = child_count_cases d _ _ (length-map (children_of (get s n)) (numbers s d) ∙ branches)
+pub fits_weave : {T : Type 0} (s : Heap T) (d n : ℕ)
+    → length (children_of (node_of s n)) ≡ child_count d (length (items_of (node_of s n)))
+    → (length (map (items_below s d) (children_of (node_of s n))) ≡ 0) ⊎
+    (length (map (items_below s d) (children_of (node_of s n)))
+    ≡ length (items_of (node_of s n)) + 1)
+fits_weave s d n branches =
+    child_count_cases d _ _ (length-map (children_of (node_of s n)) (items_below s d) ∙ branches)
 
 -- what a search may ask of a node
-module _ {T : Type 0} (items : Slab T) (p : ℕ → Bool) (least most : ℕ) (s : Slab Node) (d n : ℕ) (shaped : ShapedBut least most s d n) where
-  pub node_stored : Stored items (numbers s (suc d) n) → Stored items (items_of (get s n))
-  node_stored stored k among = stored k (omega (arith, occurrences-weave k (items_of (get s n)) (map (numbers s d) (children_of (get s n))) (fits_weave s d n shaped.node.branches), ap (occurrences k) (weave_numbers s d n)))
+module _ {T : Type 0} (p : T → Bool) (least most : ℕ) (s : Heap T) (d n : ℕ)
+    (shaped : ShapedBut least most s d n) where
+  pub node_falls : Falls p (items_below s (suc d) n) → Falls p (items_of (node_of s n))
+  node_falls falls =
+      falls_weave p (items_of (node_of s n)) (map (items_below s d) (children_of (node_of s n)))
+      (fits_weave s d n shaped.node.branches) (rw weave_items_below at falls)
 
-  pub node_falls : Falls p (numbers s (suc d) n) → Falls p (items_of (get s n))
-  node_falls falls = falls_weave p (items_of (get s n)) (map (numbers s d) (children_of (get s n))) (fits_weave s d n shaped.node.branches) (rw weave_numbers at falls)
-
-  module _ (inner : 0 < d) (i : ℕ) (within : i ≤ length (items_of (get s n))) where
-    pub kid_stored : Stored items (numbers s (suc d) n) → Stored items (numbers s d (get_or (children_of (get s n)) i 0))
-    kid_stored stored k among =
-        let lists = map (numbers s d) (children_of (get s n)) in
-        let whole = numbers_at least most s d n inner shaped i within in
-        stored k (omega (arith, ap (occurrences k) whole, occurrences-append k (before (items_of (get s n)) lists i) (numbers s d (get_or (children_of (get s n)) i 0) ++ after (items_of (get s n)) lists i), occurrences-append k (numbers s d (get_or (children_of (get s n)) i 0)) (after (items_of (get s n)) lists i)))
-
-    pub kid_falls : Falls p (numbers s (suc d) n) → Falls p (numbers s d (get_or (children_of (get s n)) i 0))
+  module _ (inner : 0 < d) (i : ℕ) (within : i ≤ length (items_of (node_of s n))) where
+    pub kid_falls : Falls p (items_below s (suc d) n)
+        → Falls p (items_below s d (get_or (children_of (node_of s n)) i 0))
     kid_falls falls =
-        let lists = map (numbers s d) (children_of (get s n)) in
-        let whole = numbers_at least most s d n inner shaped i within in
-        let first = falls_parts p (before (items_of (get s n)) lists i) (numbers s d (get_or (children_of (get s n)) i 0) ++ after (items_of (get s n)) lists i) (rw whole at falls) in
-        (falls_parts p (numbers s d (get_or (children_of (get s n)) i 0)) (after (items_of (get s n)) lists i) first.back).front
+        let lists = map (items_below s d) (children_of (node_of s n)) in
+        let whole = items_below_at least most s d n inner shaped i within in
+        let first =
+        falls_parts p (before (items_of (node_of s n)) lists i)
+        (items_below s d (get_or (children_of (node_of s n)) i 0)
+        ++ after (items_of (node_of s n)) lists i) (rw whole at falls) in
+        (falls_parts p (items_below s d (get_or (children_of (node_of s n)) i 0))
+        (after (items_of (node_of s n)) lists i) first.back).front
 
-  pub search_step : 0 < d → Falls p (numbers s (suc d) n) → count_by p (numbers s (suc d) n) ≡ length (before (items_of (get s n)) (map (numbers s d) (children_of (get s n))) (count_by p (items_of (get s n)))) + count_by p (numbers s d (get_or (children_of (get s n)) (count_by p (items_of (get s n))) 0))
+  pub search_step : 0 < d → Falls p (items_below s (suc d) n)
+      → count_by p (items_below s (suc d) n)
+      ≡ length (before (items_of (node_of s n)) (map (items_below s d) (children_of (node_of s n)))
+      (count_by p (items_of (node_of s n)))) + count_by p
+      (items_below s d (get_or (children_of (node_of s n)) (count_by p (items_of (node_of s n))) 0))
   search_step inner falls =
-      let xs = items_of (get s n) in
-      let ks = children_of (get s n) in
+      let xs = items_of (node_of s n) in
+      let ks = children_of (node_of s n) in
       let within = count_by-le-length p xs in
       let many = children_length least most s d n inner shaped in
-      let main = count-weave p xs (map (numbers s d) ks) (lists_length least most s d n inner shaped) (rw weave_numbers at falls) in
-      let kid = get_or-map (numbers s d) ks (count_by p xs) 0 [] (omega (arith, many)) in
-      omega (arith, ap (count_by p) (weave_numbers s d n), main, ap (count_by p) kid)
+      let main =
+      count-weave p xs (map (items_below s d) ks)
+      (lists_length least most s d n inner shaped) (rw weave_items_below at falls) in
+      let kid = get_or-map (items_below s d) ks (count_by p xs) 0 [] (omega (arith, many)) in
+      omega (arith, ap (count_by p) (weave_items_below s d n), main, ap (count_by p) kid)

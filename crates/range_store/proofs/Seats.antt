@@ -1,146 +1,235 @@
 -- Edges in a node that is to be written, by their seats.
-use Rattle.std.proofs.Common.{◌≡◌, ◌≢◌, ℕ, zero, suc, ◌+◌, ◌-◌, ◌^◌, ◌<◌, ◌≤◌, List, [], ◌∷◌, ◌++◌, length, get_or, take, drop, map, refl, sym, ap, ◌∙◌, inr, arith, Option, Some, None, take-add, take-take, take_all, get_or-take, get_or-drop}
+use Rattle.std.proofs.Common.{◌≡◌, ℕ, zero, suc, ◌+◌, ◌-◌, ◌^◌, ◌<◌, ◌≤◌, List, [], ◌∷◌, ◌++◌, length, get_or, take, drop, map, refl, sym, ap, ◌∙◌, inr, arith, Option, Some, None, take-add, take-take, take_all, get_or-take, get_or-drop}
 use Rattle.std.specs.List.{flat_map, sum_by}
 use Rattle.std.proofs.lemmas.List.{length-append, length-map, length-take-le, length-drop, take-map, drop-map, map-append, nil_from_length, get_or-append-add, get_or_append_left, take-append-le}
-use Rattle.std.proofs.lemmas.List.Sums.{sum_by-cons, sum_by-append}
-use Rattle.slab.specs.Slab.{Slab}
-use Rattle.range_store.specs.declared.btree.node.Node.{Node}
-use Rattle.range_store.specs.declared.btree.node.Split.{Split}
-use Rattle.range_store.specs.declared.btree.way.Edge.{Edge}
-use Rattle.range_store.specs.declared.btree.way.TheConstants.{DEEPEST}
-use Rattle.range_store.specs.Nodes.{weave, front_of, before, child_count, numbers, used, tops, separators}
+use Rattle.std.proofs.lemmas.List.Sums.{sum_by-append}
+use Rattle.range_store.specs.Heap.{Heap, child_count}
+use Rattle.range_store.specs.declared.btree.nodes.Split.{Split}
+use Rattle.range_store.specs.declared.btree.path.Edge.{Edge}
+use Rattle.range_store.specs.declared.btree.path.TheConstants.{MAX_LEVELS}
+use Rattle.range_store.specs.Nodes.{weave, before, items_below, used, tops, separators}
 use Rattle.range_store.specs.Edges.{turn, inside, IsEdge, place, IsSeat, seat_place}
-use Rattle.range_store.proofs.Edges.{same_edge, agree_kid, way_small}
-use Rattle.range_store.proofs.Frame.{AgreeAt}
+use Rattle.range_store.proofs.Edges.{same_edge, path_small}
+use Rattle.range_store.proofs.Edits.{take-append-add}
+use Rattle.range_store.specs.Frame.{agree_kid, AgreeAt}
 use Rattle.range_store.proofs.Contents.{Holds}
-use Rattle.range_store.proofs.Weave.{length-weave}
-
-module _ {X : Type 0} where
-  length-front_of : (xs : List X) (ks : List (List X)) → length xs ≡ length ks → length (front_of xs ks) ≡ length xs + sum_by length ks
-  length-front_of [] [] same = refl
-  length-front_of [] (k ∷ ks) same = absurd (omega arith)
-  length-front_of (x ∷ xs) [] same = absurd (omega arith)
-  length-front_of (x ∷ xs) (k ∷ ks) same =
-      omega (arith, length-append (k ++ x ∷ []) (front_of xs ks), length-append k (x ∷ []), length-front_of xs ks (omega arith), sum_by-cons (length {A = X}) k ks)
-
-  pub length-before : (xs : List X) (ks : List (List X)) (i : ℕ) → i ≤ length xs → i ≤ length ks → length (before xs ks i) ≡ i + sum_by length (take i ks)
-  length-before xs ks i low within =
-      let first = length-take-le i xs low in
-      let second = length-take-le i ks within in
-      omega (arith, length-front_of (take i xs) (take i ks) (first ∙ sym second), first)
+use Rattle.range_store.specs.Weave.{length-before, length-weave}
 
 -- an edge at a seat of a node that was written
-module _ (s t : Slab Node) (n : ℕ) (xs ks : List ℕ) (i : ℕ) (g h : Edge) where
-  pub seat_written : (d : ℕ) → Holds s t d n xs ks → AgreeAt s t (flat_map (used s d) ks) → (d ≡ 0 → h ≡ record { leaf = n; way = 0; index = i }) → (0 < d → turn h ≡ i) → (0 < d → inside h ≡ g) → IsSeat s d xs ks i g → IsEdge t d n h × (place t d n h ≡ seat_place s d xs ks i g)
+module _ {T : Type 0} (s t : Heap T) (n : ℕ) (xs : List T) (ks : List ℕ) (i : ℕ) (g h : Edge) where
+  pub seat_written : (d : ℕ) → Holds s t d n xs ks → AgreeAt s t (flat_map (used s d) ks)
+      → (d ≡ 0 → h ≡ record { leaf = n; path = 0; index = i }) → (0 < d → turn h ≡ i)
+      → (0 < d → inside h ≡ g) → IsSeat s d xs ks i g
+      → IsEdge t d n h × (place t d n h ≡ seat_place s d xs ks i g)
   unfolding IsEdge place IsSeat seat_place
   seat_written zero holds agree leaf at within seat =
       rw (leaf refl) ((refl, refl, rw holds.items_are seat), refl)
   seat_written (suc d) holds agree leaf at within seat =
-      let kid = same_edge s t d (get_or ks i 0) g (agree_kid s t (suc d) i ks agree seat.0) seat.1 in
-      rw (at (omega arith), within (omega arith), holds.items_are, holds.children_are, holds.same.numbers_same) ((seat.0, kid.edge seat.1), ap (λ m. length (before xs (map (numbers s (suc d)) ks) i) + m) kid.place)
+      let kid =
+      same_edge s t d (get_or ks i 0) g (agree_kid s t (suc d) i ks agree seat.0) seat.1 in
+      rw (
+        at (omega arith),
+        within (omega arith),
+        holds.items_are,
+        holds.children_are,
+        holds.same.items_below_same,
+      ) (
+        (seat.0, kid.edge seat.1),
+        ap (λ m. length (before xs (map (items_below s (suc d)) ks) i) + m) kid.place,
+      )
 
-pub seat_small : (s : Slab Node) (d : ℕ) (xs ks : List ℕ) (i : ℕ) (g : Edge) → length ks ≡ child_count d (length xs) → IsSeat s d xs ks i g → i ≤ length xs
+pub seat_small : {T : Type 0} (s : Heap T) (d : ℕ) (xs : List T) (ks : List ℕ) (i : ℕ) (g : Edge)
+    → length ks ≡ child_count d (length xs) → IsSeat s d xs ks i g → i ≤ length xs
 unfolding IsSeat
 seat_small s zero xs ks i g branches seat = seat
 seat_small s (suc d) xs ks i g branches seat = omega (arith, seat.0, branches)
 
-pub seat_way : (s : Slab Node) (d : ℕ) (xs ks : List ℕ) (i : ℕ) (g : Edge) → d < DEEPEST → 0 < d → IsSeat s d xs ks i g → g.way < 2 ^ 124
+pub seat_path : {T : Type 0} (s : Heap T) (d : ℕ) (xs : List T) (ks : List ℕ) (i : ℕ) (g : Edge)
+    → d < MAX_LEVELS → 0 < d → IsSeat s d xs ks i g → g.path < 2 ^ 124
 unfolding IsSeat
-seat_way s zero xs ks i g deep some seat = absurd (omega arith)
-seat_way s (suc d) xs ks i g deep some seat = way_small s d _ g (omega (arith, deep)) seat.1
+seat_path s zero xs ks i g deep some seat = absurd (omega arith)
+seat_path s (suc d) xs ks i g deep some seat = path_small s d _ g (omega (arith, deep)) seat.1
 
 -- a cut at `half` leaves an edge in the first part, at the same seat
-module _ (s : Slab Node) (half : ℕ) (xs ks : List ℕ) (i : ℕ) (g : Edge) (low : half < length xs) where
-  lists_take : (d : ℕ) → map (numbers s d) (take (half + 1) ks) ≡ take (half + 1) (map (numbers s d) ks)
-  lists_take d = sym (take-map (numbers s d) (half + 1) ks)
+module _ {T : Type 0} (s : Heap T) (half : ℕ) (xs : List T) (ks : List ℕ) (i : ℕ) (g : Edge)
+    (low : half < length xs) where
+  lists_take : (d : ℕ)
+      → map (items_below s d) (take (half + 1) ks) ≡ take (half + 1) (map (items_below s d) ks)
+  lists_take d = sym (take-map (items_below s d) (half + 1) ks)
 
-  lists_drop : (d : ℕ) → map (numbers s d) (drop (half + 1) ks) ≡ drop (half + 1) (map (numbers s d) ks)
-  lists_drop d = sym (drop-map (numbers s d) (half + 1) ks)
+  lists_drop : (d : ℕ)
+      → map (items_below s d) (drop (half + 1) ks) ≡ drop (half + 1) (map (items_below s d) ks)
+  lists_drop d = sym (drop-map (items_below s d) (half + 1) ks)
 
-  pub seat_left : (d : ℕ) → length ks ≡ child_count d (length xs) → i ≤ half → IsSeat s d xs ks i g → IsSeat s d (take half xs) (take (half + 1) ks) i g × (seat_place s d (take half xs) (take (half + 1) ks) i g ≡ seat_place s d xs ks i g)
+  pub seat_left : (d : ℕ) → length ks ≡ child_count d (length xs) → i ≤ half → IsSeat s d xs ks i g
+      → IsSeat s d (take half xs) (take (half + 1) ks) i g
+      × (seat_place s d (take half xs) (take (half + 1) ks) i g ≡ seat_place s d xs ks i g)
   unfolding IsSeat seat_place
-  seat_left zero branches small seat = (omega (arith, small, length-take-le half xs (omega arith)), refl)
+  seat_left zero branches small seat =
+      (omega (arith, small, length-take-le half xs (omega arith)), refl)
   seat_left (suc d) branches small seat =
-      let lists = map (numbers s (suc d)) ks in
-      let kid : get_or (take (half + 1) ks) i 0 ≡ get_or ks i 0 = get_or-take (half + 1) ks i 0 (omega arith) in
-      let many : length lists ≡ length xs + 1 = length-map ks (numbers s (suc d)) ∙ branches in
-      let first = length-before (take half xs) (take (half + 1) lists) i (omega (arith, length-take-le half xs (omega arith))) (omega (arith, length-take-le (half + 1) lists (omega (arith, many)))) in
+      let lists = map (items_below s (suc d)) ks in
+      let kid : get_or (take (half + 1) ks) i 0 ≡ get_or ks i 0 =
+      get_or-take (half + 1) ks i 0 (omega arith) in
+      let many : length lists ≡ length xs + 1 = length-map ks (items_below s (suc d)) ∙ branches in
+      let first =
+      length-before (take half xs) (take (half + 1) lists) i
+      (omega (arith, length-take-le half xs (omega arith)))
+      (omega (arith, length-take-le (half + 1) lists (omega (arith, many)))) in
       let all = length-before xs lists i (omega arith) (omega (arith, many)) in
-      let same : take i (take (half + 1) lists) ≡ take i lists = take-take i (half + 1) lists (omega arith) in
-      let front : length (before (take half xs) (map (numbers s (suc d)) (take (half + 1) ks)) i) ≡ length (before xs lists i) = rw (lists_take (suc d)) (first ∙ ap (λ zs. i + sum_by length zs) same ∙ sym all) in
-      ((omega (arith, small, length-take-le (half + 1) ks (omega (arith, branches))), rw kid seat.1), rw (kid, front) refl)
+      let same : take i (take (half + 1) lists) ≡ take i lists =
+      take-take i (half + 1) lists (omega arith) in
+      let front : length (before (take half xs)
+      (map (items_below s (suc d)) (take (half + 1) ks)) i)
+      ≡ length (before xs lists i) =
+      rw (lists_take (suc d)) (first ∙ ap (λ zs. i + sum_by length zs) same ∙ sym all) in (
+        (
+          omega (arith, small, length-take-le (half + 1) ks (omega (arith, branches))),
+          rw kid seat.1,
+        ),
+        rw (kid, front) refl,
+      )
 
   -- or in the second part
-  pub seat_right : (d : ℕ) → length ks ≡ child_count d (length xs) → half < i → IsSeat s d xs ks i g → IsSeat s d (drop (half + 1) xs) (drop (half + 1) ks) (i - half - 1) g × (length (weave (take half xs) (map (numbers s d) (take (half + 1) ks))) + 1 + seat_place s d (drop (half + 1) xs) (drop (half + 1) ks) (i - half - 1) g ≡ seat_place s d xs ks i g)
+  pub seat_right : (d : ℕ) → length ks ≡ child_count d (length xs) → half < i → IsSeat s d xs ks i g
+      → IsSeat s d (drop (half + 1) xs) (drop (half + 1) ks) (i - half - 1) g
+      × (length (weave (take half xs) (map (items_below s d) (take (half + 1) ks))) + 1 + seat_place
+      s d (drop (half + 1) xs) (drop (half + 1) ks) (i - half - 1) g ≡ seat_place s d xs ks i g)
   unfolding IsSeat seat_place
   seat_right zero branches large seat =
-      let none : take (half + 1) ks ≡ [] = ap (take (half + 1)) (nil_from_length ks branches) ∙ take_all (half + 1) [] (omega arith) in
-      (omega (arith, seat, length-drop (half + 1) xs), rw none (omega (arith, length-take-le half xs (omega arith))))
+      let none : take (half + 1) ks ≡ [] =
+      ap (take (half + 1)) (nil_from_length ks branches)
+      ∙ take_all (half + 1) [] (omega arith) in (
+        omega (arith, seat, length-drop (half + 1) xs),
+        rw none (omega (arith, length-take-le half xs (omega arith))),
+      )
   seat_right (suc d) branches large seat =
       let j = i - half - 1 in
       let at : half + 1 + j ≡ i = omega arith in
-      let lists = map (numbers s (suc d)) ks in
-      let many : length lists ≡ length xs + 1 = length-map ks (numbers s (suc d)) ∙ branches in
-      let kid : get_or (drop (half + 1) ks) j 0 ≡ get_or ks i 0 = get_or-drop (half + 1) ks j 0 ∙ ap (λ m. get_or ks m 0) at in
-      let second = length-before (drop (half + 1) xs) (drop (half + 1) lists) j (omega (arith, length-drop (half + 1) xs, seat.0, branches)) (omega (arith, length-drop (half + 1) lists, many, seat.0, branches)) in
-      let all = length-before xs lists i (omega (arith, seat.0, branches)) (omega (arith, many, seat.0, branches)) in
-      let parted : take i lists ≡ take (half + 1) lists ++ take j (drop (half + 1) lists) = ap (λ m. take m lists) (sym at) ∙ take-add (half + 1) j lists in
-      let sums : sum_by length (take i lists) ≡ sum_by length (take (half + 1) lists) + sum_by length (take j (drop (half + 1) lists)) = ap (sum_by length) parted ∙ sum_by-append (length {A = ℕ}) (take (half + 1) lists) (take j (drop (half + 1) lists)) in
-      let left = length-weave (take half xs) (take (half + 1) lists) (inr (omega (arith, length-take-le half xs (omega arith), length-take-le (half + 1) lists (omega (arith, many, low))))) in
-      ((omega (arith, length-drop (half + 1) ks, seat.0), rw kid seat.1), rw (kid, lists_take (suc d), lists_drop (suc d)) (omega (arith, second, all, sums, left, length-take-le half xs (omega arith))))
+      let lists = map (items_below s (suc d)) ks in
+      let many : length lists ≡ length xs + 1 = length-map ks (items_below s (suc d)) ∙ branches in
+      let kid : get_or (drop (half + 1) ks) j 0 ≡ get_or ks i 0 =
+      get_or-drop (half + 1) ks j 0 ∙ ap (λ m. get_or ks m 0) at in
+      let second =
+      length-before (drop (half + 1) xs) (drop (half + 1) lists) j
+      (omega (arith, length-drop (half + 1) xs, seat.0, branches))
+      (omega (arith, length-drop (half + 1) lists, many, seat.0, branches)) in
+      let all =
+      length-before xs lists i (omega (arith, seat.0, branches))
+      (omega (arith, many, seat.0, branches)) in
+      let parted : take i lists ≡ take (half + 1) lists ++ take j (drop (half + 1) lists) =
+      ap (λ m. take m lists) (sym at) ∙ take-add (half + 1) j lists in
+      let sums : sum_by length (take i lists)
+      ≡ sum_by length (take (half + 1) lists) + sum_by length
+      (take j (drop (half + 1) lists)) =
+      ap (sum_by length) parted
+      ∙ sum_by-append (length {A = T}) (take (half + 1) lists)
+      (take j (drop (half + 1) lists)) in
+      let left =
+      length-weave (take half xs) (take (half + 1) lists)
+      (inr
+      (omega (
+        arith,
+        length-take-le half xs (omega arith),
+        length-take-le (half + 1) lists (omega (arith, many, low)),
+      ))) in (
+        (omega (arith, length-drop (half + 1) ks, seat.0), rw kid seat.1),
+        rw (kid, lists_take (suc d), lists_drop (suc d))
+            (omega (arith, second, all, sums, left, length-take-le half xs (omega arith))),
+      )
 
 -- an edge below a node, or below the one after it, among the two
-module _ (s : Slab Node) (d n : ℕ) (g : Edge) where
-  pub seat_alone : (split : Option Split) → IsEdge s d n g → IsSeat s (suc d) (separators split) (tops n split) 0 g × (seat_place s (suc d) (separators split) (tops n split) 0 g ≡ place s d n g)
+module _ {T : Type 0} (s : Heap T) (d n : ℕ) (g : Edge) where
+  pub seat_alone : (split : Option (Split T)) → IsEdge s d n g
+      → IsSeat s (suc d) (separators split) (tops n split) 0 g
+      × (seat_place s (suc d) (separators split) (tops n split) 0 g ≡ place s d n g)
   unfolding IsSeat seat_place
   seat_alone None is = ((omega arith, is), omega arith)
   seat_alone (Some split) is = ((omega arith, is), omega arith)
 
-  pub seat_beside : (split : Split) → IsEdge s d split.right g → IsSeat s (suc d) (separators (Some split)) (tops n (Some split)) 1 g × (seat_place s (suc d) (separators (Some split)) (tops n (Some split)) 1 g ≡ length (numbers s (suc d) n) + 1 + place s d split.right g)
+  pub seat_beside : (split : Split T) → IsEdge s d split.right g
+      → IsSeat s (suc d) (separators (Some split)) (tops n (Some split)) 1 g
+      × (seat_place s (suc d) (separators (Some split)) (tops n (Some split)) 1 g
+      ≡ length (items_below s (suc d) n) + 1 + place s d split.right g)
   unfolding IsSeat seat_place
-  seat_beside split is =
-      ((omega arith, is), omega (arith, length-append (numbers s (suc d) n ++ (split.middle ∷ [])) [], length-append (numbers s (suc d) n) (split.middle ∷ [])))
-
-pub seat_below : (s : Slab Node) (b : ℕ) (xs ks : List ℕ) (i : ℕ) (g : Edge) → b ≢ 0 → i < length ks → IsEdge s (b - 1) (get_or ks i 0) g → IsSeat s b xs ks i g
-unfolding IsSeat
-seat_below s zero xs ks i g inner within is = absurd (inner refl)
-seat_below s (suc d) xs ks i g inner within is = let level : suc d - 1 ≡ d = omega arith in (within, rw level at is)
-
-pub seat_place_below : (s : Slab Node) (b : ℕ) (xs ks : List ℕ) (i : ℕ) (g : Edge) → b ≢ 0 → seat_place s b xs ks i g ≡ length (before xs (map (numbers s b) ks) i) + place s (b - 1) (get_or ks i 0) g
-unfolding seat_place
-seat_place_below s zero xs ks i g inner = absurd (inner refl)
-seat_place_below s (suc d) xs ks i g inner = let level : suc d - 1 ≡ d = omega arith in rw level refl
-
-take-append-add : (ds rest : List (List ℕ)) (n k : ℕ) → n ≡ length ds + k → take n (ds ++ rest) ≡ ds ++ take k rest
-take-append-add [] rest n k e = let same : n ≡ k = omega (arith, e) in ap (λ m. take m rest) same
-take-append-add (x ∷ ds) rest zero k e = absurd (omega arith)
-take-append-add (x ∷ ds) rest (suc n) k e = ap (λ zs. x ∷ zs) (take-append-add ds rest n k (omega arith))
+  seat_beside split is = (
+    (omega arith, is),
+    omega (
+      arith,
+      length-append (items_below s (suc d) n ++ (split.middle ∷ [])) [],
+      length-append (items_below s (suc d) n) (split.middle ∷ []),
+    ),
+  )
 
 -- an edge in a run of children, among all of them
-module _ (s : Slab Node) (d : ℕ) (us ts vs xs seps ys : List ℕ) (i j : ℕ) (g : Edge) (many : length us ≡ i) (items : length xs ≡ i) (more : length ts ≡ length seps + 1) where
-  pub seat_run : IsSeat s (suc d) seps ts j g → IsSeat s (suc d) (xs ++ (seps ++ ys)) (us ++ (ts ++ vs)) (i + j) g × (seat_place s (suc d) (xs ++ (seps ++ ys)) (us ++ (ts ++ vs)) (i + j) g ≡ i + sum_by length (map (numbers s (suc d)) us) + seat_place s (suc d) seps ts j g)
+module _ {T : Type 0} (s : Heap T) (d : ℕ) (us ts vs : List ℕ) (xs seps ys : List T) (i j : ℕ)
+    (g : Edge) (many : length us ≡ i) (items : length xs ≡ i)
+    (more : length ts ≡ length seps + 1) where
+  pub seat_run : IsSeat s (suc d) seps ts j g
+      → IsSeat s (suc d) (xs ++ (seps ++ ys)) (us ++ (ts ++ vs)) (i + j) g
+      × (seat_place s (suc d) (xs ++ (seps ++ ys)) (us ++ (ts ++ vs)) (i + j) g
+      ≡ i + sum_by length (map (items_below s (suc d)) us) + seat_place s (suc d) seps ts j g)
   unfolding IsSeat seat_place
   seat_run seat =
-      let f = numbers s (suc d) in
-      let kid : get_or (us ++ (ts ++ vs)) (i + j) 0 ≡ get_or ts j 0 = ap (λ m. get_or (us ++ (ts ++ vs)) (m + j) 0) (sym many) ∙ get_or-append-add us (ts ++ vs) j 0 ∙ get_or_append_left ts vs 0 j seat.0 in
-      let lists : map f (us ++ (ts ++ vs)) ≡ map f us ++ (map f ts ++ map f vs) = map-append f us (ts ++ vs) ∙ ap (λ zs. map f us ++ zs) (map-append f ts vs) in
+      let f = items_below s (suc d) in
+      let kid : get_or (us ++ (ts ++ vs)) (i + j) 0 ≡ get_or ts j 0 =
+      ap (λ m. get_or (us ++ (ts ++ vs)) (m + j) 0) (sym many)
+      ∙ get_or-append-add us (ts ++ vs) j 0 ∙ get_or_append_left ts vs 0 j seat.0 in
+      let lists : map f (us ++ (ts ++ vs)) ≡ map f us ++ (map f ts ++ map f vs) =
+      map-append f us (ts ++ vs) ∙ ap (λ zs. map f us ++ zs) (map-append f ts vs) in
       let us_many : length (map f us) ≡ i = length-map us f ∙ many in
       let ts_many : length (map f ts) ≡ length seps + 1 = length-map ts f ∙ more in
-      let whole : length (map f us ++ (map f ts ++ map f vs)) ≡ i + (length seps + 1 + length vs) = omega (arith, length-append (map f us) (map f ts ++ map f vs), length-append (map f ts) (map f vs), us_many, ts_many, length-map vs f) in
-      let all = length-before (xs ++ (seps ++ ys)) (map f us ++ (map f ts ++ map f vs)) (i + j) (omega (arith, length-append xs (seps ++ ys), length-append seps ys, items, seat.0, more)) (omega (arith, whole, seat.0, more)) in
-      let inner = length-before seps (map f ts) j (omega (arith, seat.0, more)) (omega (arith, ts_many, seat.0, more)) in
-      let first : take (i + j) (map f us ++ (map f ts ++ map f vs)) ≡ map f us ++ take j (map f ts) = take-append-add (map f us) (map f ts ++ map f vs) (i + j) j (omega (arith, us_many)) ∙ ap (λ zs. map f us ++ zs) (take-append-le j (map f ts) (map f vs) (omega (arith, ts_many, seat.0, more))) in
-      let sums : sum_by length (take (i + j) (map f us ++ (map f ts ++ map f vs))) ≡ sum_by length (map f us) + sum_by length (take j (map f ts)) = ap (sum_by length) first ∙ sum_by-append (length {A = ℕ}) (map f us) (take j (map f ts)) in
-      ((omega (arith, length-append us (ts ++ vs), length-append ts vs, many, seat.0), rw kid seat.1), rw (kid, lists) (omega (arith, all, inner, sums)))
+      let whole : length (map f us ++ (map f ts ++ map f vs)) ≡ i + (length seps + 1 + length vs) =
+      omega (
+        arith,
+        length-append (map f us) (map f ts ++ map f vs),
+        length-append (map f ts) (map f vs),
+        us_many,
+        ts_many,
+        length-map vs f,
+      ) in
+      let all =
+      length-before (xs ++ (seps ++ ys)) (map f us ++ (map f ts ++ map f vs)) (i + j)
+      (omega (
+        arith,
+        length-append xs (seps ++ ys),
+        length-append seps ys,
+        items,
+        seat.0,
+        more,
+      )) (omega (arith, whole, seat.0, more)) in
+      let inner =
+      length-before seps (map f ts) j (omega (arith, seat.0, more))
+      (omega (arith, ts_many, seat.0, more)) in
+      let first : take (i + j) (map f us ++ (map f ts ++ map f vs)) ≡ map f us
+      ++ take j (map f ts) =
+      take-append-add (map f us) (map f ts ++ map f vs) (i + j) j (omega (arith, us_many))
+      ∙ ap (λ zs. map f us ++ zs)
+      (take-append-le j (map f ts) (map f vs) (omega (arith, ts_many, seat.0, more))) in
+      let sums : sum_by length (take (i + j) (map f us ++ (map f ts ++ map f vs)))
+      ≡ sum_by length (map f us) + sum_by length (take j (map f ts)) =
+      ap (sum_by length) first
+      ∙ sum_by-append (length {A = T}) (map f us) (take j (map f ts)) in (
+        (
+          omega (arith, length-append us (ts ++ vs), length-append ts vs, many, seat.0),
+          rw kid seat.1,
+        ),
+        rw (kid, lists) (omega (arith, all, inner, sums)),
+      )
 
-pub seat_side : (s : Slab Node) (d : ℕ) (xs ks : List ℕ) (i : ℕ) (g : Edge) → IsSeat s (suc d) xs ks i g → i < length ks
+pub seat_side : {T : Type 0} (s : Heap T) (d : ℕ) (xs : List T) (ks : List ℕ) (i : ℕ) (g : Edge)
+    → IsSeat s (suc d) xs ks i g → i < length ks
 unfolding IsSeat
 seat_side s d xs ks i g seat = seat.0
 
-pub seat_inside : (s : Slab Node) (d : ℕ) (xs ks : List ℕ) (i : ℕ) (g : Edge) → IsSeat s (suc d) xs ks i g → IsEdge s d (get_or ks i 0) g
+pub seat_inside : {T : Type 0} (s : Heap T) (d : ℕ) (xs : List T) (ks : List ℕ) (i : ℕ) (g : Edge)
+    → IsSeat s (suc d) xs ks i g → IsEdge s d (get_or ks i 0) g
 unfolding IsSeat
 seat_inside s d xs ks i g seat = seat.1
 
-pub seat_place_inner : (s : Slab Node) (d : ℕ) (xs ks : List ℕ) (i : ℕ) (g : Edge) → seat_place s (suc d) xs ks i g ≡ length (before xs (map (numbers s (suc d)) ks) i) + place s d (get_or ks i 0) g
+pub seat_place_inner : {T : Type 0} (s : Heap T) (d : ℕ) (xs : List T) (ks : List ℕ) (i : ℕ)
+    (g : Edge)
+    → seat_place s (suc d) xs ks i g
+    ≡ length (before xs (map (items_below s (suc d)) ks) i) + place s d (get_or ks i 0) g
 unfolding seat_place
 seat_place_inner s d xs ks i g = refl

@@ -4,22 +4,21 @@ use Rattle.std.specs.List.{All, flat_map, sum_by, remove}
 use Rattle.std.proofs.lemmas.List.{append-nil, length-map, length-take-le, take-map, drop-map, take-append-drop, nil_from_length}
 use Rattle.std.proofs.lemmas.List.Edits.{remove-append_left, remove-append_right, length-remove}
 use Rattle.std.proofs.lemmas.List.Elements.{All-append, All-cons, All-take, All-drop}
-use Rattle.slab.specs.Slab.{Slab, get}
-use Rattle.range_store.specs.declared.btree.node.Node.{Node}
-use Rattle.range_store.specs.declared.btree.node.TheConstants.{CAPACITY, MIN_LEN}
-use Rattle.range_store.specs.Nodes.{weave, rest_of, front_of, before, after, items_of, children_of, numbers, used, Shaped, ShapedBut, Owned, Moves, Shrinks, IsMendable, Writes}
+use Rattle.range_store.specs.Heap.{Heap, node_of, items_of, children_of, Writes}
+use Rattle.range_store.specs.declared.btree.nodes.TheConstants.{CAPACITY, MIN_LEN}
+use Rattle.range_store.specs.Nodes.{weave, rest_of, front_of, before, after, items_below, used, Shaped, ShapedBut, Owned, Moves, Shrinks, MayBeRebalanced}
 use Rattle.range_store.specs.Contents.{IsContent}
 use Rattle.range_store.specs.Occurrences.{occurrences}
-use Rattle.range_store.proofs.Contents.{written_holds, held_numbers, held_used, held_shape}
-use Rattle.range_store.proofs.Weave.{list_splits_at, weave_splice}
-use Rattle.range_store.proofs.Frame.{IsNode-same}
-use Rattle.range_store.proofs.Below.{children_length, numbers_at, weave_numbers, used_is, numbers_leaf}
+use Rattle.range_store.proofs.Contents.{written_holds, held_items_below, held_used, held_shape}
+use Rattle.range_store.specs.Weave.{list_splits_at, weave_splice, length-before}
+use Rattle.range_store.specs.Frame.{IsNode-same}
+use Rattle.range_store.proofs.Below.{children_length, items_below_at, weave_items_below, used_is, items_below_leaf}
 use Rattle.range_store.proofs.Moves.{Moves-then, Writes-moves}
 use Rattle.range_store.proofs.Growing.{Runs, run_kept, run_moved, run_lists, same_before, same_after}
-use Rattle.range_store.proofs.Seats.{length-before}
 
 -- the item at a place within the middle of three parts goes
-pub remove_middle : {X : Type 0} (f k r : List X) (rest : ℕ) → rest < length k → remove (f ++ (k ++ r)) (length f + rest) ≡ f ++ (remove k rest ++ r)
+pub remove_middle : {X : Type 0} (f k r : List X) (rest : ℕ) → rest < length k
+    → remove (f ++ (k ++ r)) (length f + rest) ≡ f ++ (remove k rest ++ r)
 remove_middle f k r rest within =
     let offset : length f + rest - length f ≡ rest = omega arith in
     remove-append_right f (k ++ r) (length f) (length f + rest) refl (omega arith)
@@ -27,21 +26,26 @@ remove_middle f k r rest within =
     ∙ ap (λ zs. f ++ zs) (remove-append_left k r rest within)
 
 -- the subtree of the child at i has another list
-module _ (s t : Slab Node) (b n i : ℕ) (list : List ℕ) (inner : b ≢ 0) (shaped : ShapedBut 1 CAPACITY s b n) (owned : Owned s (suc b) n) (low : i ≤ length (items_of (get s n))) (listed : numbers t b (get_or (children_of (get s n)) i 0) ≡ list) (moved : Moves s t (used s b (get_or (children_of (get s n)) i 0)) (used t b (get_or (children_of (get s n)) i 0))) where
-  abbrev xs : List ℕ
-  xs = items_of (get s n)
+module _ {T : Type 0} (s t : Heap T) (b n i : ℕ) (list : List T) (inner : b ≢ 0)
+    (shaped : ShapedBut 1 CAPACITY s b n) (owned : Owned s (suc b) n)
+    (low : i ≤ length (items_of (node_of s n)))
+    (listed : items_below t b (get_or (children_of (node_of s n)) i 0) ≡ list)
+    (moved : Moves s t (used s b (get_or (children_of (node_of s n)) i 0))
+    (used t b (get_or (children_of (node_of s n)) i 0))) where
+  abbrev xs : List T
+  xs = items_of (node_of s n)
 
   abbrev ks : List ℕ
-  ks = children_of (get s n)
+  ks = children_of (node_of s n)
 
   abbrev kid : ℕ
-  kid = get_or (children_of (get s n)) i 0
+  kid = get_or (children_of (node_of s n)) i 0
 
   abbrev us : List ℕ
-  us = take i (children_of (get s n))
+  us = take i (children_of (node_of s n))
 
   abbrev vs : List ℕ
-  vs = drop (i + 1) (children_of (get s n))
+  vs = drop (i + 1) (children_of (node_of s n))
 
   many : length ks ≡ length xs + 1
   many = children_length 1 CAPACITY s b n (omega arith) shaped
@@ -57,55 +61,96 @@ module _ (s t : Slab Node) (b n i : ℕ) (list : List ℕ) (inner : b ≢ 0) (sh
     moved = rw (append-nil (used s b kid), append-nil (used t b kid)) moved;
   }
 
-  pub kid_kept : get t n ≡ get s n
+  pub kid_kept : node_of t n ≡ node_of s n
   kid_kept = run_kept s t b n us (kid ∷ []) vs (kid ∷ []) kid_run
 
   pub kid_moved : Moves s t (used s (suc b) n) (used t (suc b) n)
   kid_moved =
-      let now : used t (suc b) n ≡ n ∷ flat_map (used t b) (us ++ (kid ∷ vs)) = used_is t b n ∙ ap (λ zs. n ∷ flat_map (used t b) zs) (ap children_of kid_kept ∙ ks_parts) in
-      subst (λ zs. Moves s t (used s (suc b) n) zs) (sym now) (run_moved s t b n us (kid ∷ []) vs (kid ∷ []) kid_run)
+      let now : used t (suc b) n ≡ n ∷ flat_map (used t b) (us ++ (kid ∷ vs)) =
+      used_is t b n
+      ∙ ap (λ zs. n ∷ flat_map (used t b) zs) (ap children_of kid_kept ∙ ks_parts) in
+      subst (λ zs. Moves s t (used s (suc b) n) zs) (sym now)
+      (run_moved s t b n us (kid ∷ []) vs (kid ∷ []) kid_run)
 
   pub kid_owned_after : Owned t (suc b) n
   kid_owned_after k = omega (arith, kid_moved.owned k, owned k)
 
-  abbrev lists : List (List ℕ)
-  lists = map (numbers s b) (children_of (get s n))
+  abbrev lists : List (List T)
+  lists = map (items_below s b) (children_of (node_of s n))
 
-  pub kid_listed : numbers t (suc b) n ≡ before xs lists i ++ (list ++ after xs lists i)
+  pub kid_listed : items_below t (suc b) n ≡ before xs lists i ++ (list ++ after xs lists i)
   kid_listed =
-      let L = map (numbers s b) us in
-      let R = map (numbers s b) vs in
-      let woven = weave_splice (take i xs) [] (drop i xs) L (numbers t b kid) [] R (omega (arith, length-take-le i xs low, length-take-le i ks (omega (arith, many)), length-map us (numbers s b))) refl in
-      let middle = ap (λ zs. front_of (take i xs) L ++ (zs ++ rest_of (drop i xs) R)) (append-nil (numbers t b kid) ∙ listed) in
-      let sides : front_of (take i xs) (map (numbers s b) us) ++ (list ++ rest_of (drop i xs) (map (numbers s b) vs)) ≡ before xs lists i ++ (list ++ after xs lists i) = rw (← take-map (numbers s b) i ks, ← drop-map (numbers s b) (i + 1) ks) refl in
-      weave_numbers t b n
-      ∙ ap (λ zs. weave zs (map (numbers t b) (children_of (get t n)))) (ap items_of kid_kept ∙ sym (take-append-drop i xs))
-      ∙ ap (λ zs. weave (take i xs ++ drop i xs) (map (numbers t b) zs)) (ap children_of kid_kept ∙ ks_parts)
+      let L = map (items_below s b) us in
+      let R = map (items_below s b) vs in
+      let woven =
+      weave_splice (take i xs) [] (drop i xs) L (items_below t b kid) [] R
+      (omega (
+        arith,
+        length-take-le i xs low,
+        length-take-le i ks (omega (arith, many)),
+        length-map us (items_below s b),
+      )) refl in
+      let middle =
+      ap (λ zs. front_of (take i xs) L ++ (zs ++ rest_of (drop i xs) R))
+      (append-nil (items_below t b kid) ∙ listed) in
+      let sides : front_of (take i xs) (map (items_below s b) us)
+      ++ (list ++ rest_of (drop i xs) (map (items_below s b) vs)) ≡ before xs lists i
+      ++ (list ++ after xs lists i) =
+      rw (← take-map (items_below s b) i ks, ← drop-map (items_below s b) (i + 1) ks) refl
+      in
+      weave_items_below t b n
+      ∙ ap (λ zs. weave zs (map (items_below t b) (children_of (node_of t n))))
+      (ap items_of kid_kept ∙ sym (take-append-drop i xs))
+      ∙ ap (λ zs. weave (take i xs ++ drop i xs) (map (items_below t b) zs))
+      (ap children_of kid_kept ∙ ks_parts)
       ∙ ap (weave (take i xs ++ drop i xs)) (run_lists s t b n us (kid ∷ []) vs (kid ∷ []) kid_run)
       ∙ woven ∙ middle ∙ sides
 
   -- what stands before the child
-  pub kid_front : length (before (items_of (get t n)) (map (numbers t b) (children_of (get t n))) i) ≡ length (before xs lists i)
+  pub kid_front : length (before (items_of (node_of t n))
+      (map (items_below t b) (children_of (node_of t n))) i) ≡ length (before xs lists i)
   kid_front =
-      let same : map (numbers t b) us ≡ take i lists = (same_before s t b n us (kid ∷ []) vs (kid ∷ []) kid_run).numbers_same ∙ sym (take-map (numbers s b) i ks) in
-      let first = length-before xs (map (numbers t b) ks) i low (omega (arith, many, length-map ks (numbers t b))) in
-      let second = length-before xs lists i low (omega (arith, many, length-map ks (numbers s b))) in
-      rw kid_kept (omega (arith, first, second, ap (sum_by length) (take-map (numbers t b) i ks ∙ same)))
+      let same : map (items_below t b) us ≡ take i lists =
+      (same_before s t b n us (kid ∷ []) vs (kid ∷ []) kid_run).items_below_same
+      ∙ sym (take-map (items_below s b) i ks) in
+      let first =
+      length-before xs (map (items_below t b) ks) i low
+      (omega (arith, many, length-map ks (items_below t b))) in
+      let second =
+      length-before xs lists i low (omega (arith, many, length-map ks (items_below s b))) in
+      rw kid_kept
+      (omega (
+        arith,
+        first,
+        second,
+        ap (sum_by length) (take-map (items_below t b) i ks ∙ same),
+      ))
 
-  pub kid_children : Shaped t b kid → All (Shaped t b) (children_of (get t n))
+  pub kid_children : Shaped t b kid → All (Shaped t b) (children_of (node_of t n))
   kid_children shape =
-      let before = (same_before s t b n us (kid ∷ []) vs (kid ∷ []) kid_run).shaped_same (All-take (Shaped s b) i ks shaped.children) in
-      let behind = (same_after s t b n us (kid ∷ []) vs (kid ∷ []) kid_run).shaped_same (All-drop (Shaped s b) (i + 1) ks shaped.children) in
-      rw kid_kept (subst (All (Shaped t b)) (sym ks_parts) (All-append (Shaped t b) us (kid ∷ vs) before (All-cons (Shaped t b) kid vs shape behind)))
+      let before =
+      (same_before s t b n us (kid ∷ []) vs (kid ∷ []) kid_run).shaped_same
+      (All-take (Shaped s b) i ks shaped.children) in
+      let behind =
+      (same_after s t b n us (kid ∷ []) vs (kid ∷ []) kid_run).shaped_same
+      (All-drop (Shaped s b) (i + 1) ks shaped.children) in
+      rw kid_kept (subst (All (Shaped t b)) (sym ks_parts)
+      (All-append (Shaped t b) us (kid ∷ vs) before
+      (All-cons (Shaped t b) kid vs shape behind)))
 
   level : suc (b - 1) ≡ b
   level = omega arith
 
-  pub kid_mendable : ShapedBut (MIN_LEN - 1) CAPACITY t (b - 1) kid → IsMendable t (b - 1) n i
-  kid_mendable short =
+  pub kid_may_be_rebalanced : ShapedBut (MIN_LEN - 1) CAPACITY t (b - 1) kid
+      → MayBeRebalanced t (b - 1) n i
+  kid_may_be_rebalanced short =
       let node = IsNode-same 1 CAPACITY s t b n kid_kept shaped.node in
-      let before = (same_before s t b n us (kid ∷ []) vs (kid ∷ []) kid_run).shaped_same (All-take (Shaped s b) i ks shaped.children) in
-      let behind = (same_after s t b n us (kid ∷ []) vs (kid ∷ []) kid_run).shaped_same (All-drop (Shaped s b) (i + 1) ks shaped.children) in
+      let before =
+      (same_before s t b n us (kid ∷ []) vs (kid ∷ []) kid_run).shaped_same
+      (All-take (Shaped s b) i ks shaped.children) in
+      let behind =
+      (same_after s t b n us (kid ∷ []) vs (kid ∷ []) kid_run).shaped_same
+      (All-drop (Shaped s b) (i + 1) ks shaped.children) in
       record {
         node = rw (← level) at node;
         owned = rw (← level) at kid_owned_after;
@@ -116,38 +161,80 @@ module _ (s t : Slab Node) (b n i : ℕ) (list : List ℕ) (inner : b ≢ 0) (sh
       }
 
 -- an item of a leaf goes
-pub leaf_shrinks : (s t : Slab Node) (n q : ℕ) → ShapedBut 1 CAPACITY s 0 n → Owned s 1 n → q < length (items_of (get s n)) → Writes s t n (remove (items_of (get s n)) q) (children_of (get s n)) → Shrinks s t 0 n (remove (numbers s 1 n) q)
+pub leaf_shrinks : {T : Type 0} (s t : Heap T) (n q : ℕ) → ShapedBut 1 CAPACITY s 0 n → Owned s 1 n
+    → q < length (items_of (node_of s n))
+    → Writes s t n (remove (items_of (node_of s n)) q) (children_of (node_of s n))
+    → Shrinks s t 0 n (remove (items_below s 1 n) q)
 leaf_shrinks s t n q shaped owned within written =
-    let less = length-remove (items_of (get s n)) q within in
-    let content : IsContent s 0 n (remove (items_of (get s n)) q) (children_of (get s n)) = record { present = shaped.node.present; shaped = shaped.children; branches = shaped.node.branches; owned = λ k. omega (arith, owned k, ap (occurrences k) (used_is s 0 n)) } in
-    let holds = written_holds s t 0 n (remove (items_of (get s n)) q) (children_of (get s n)) content written in
-    let none = nil_from_length (children_of (get s n)) shaped.node.branches in
+    let less = length-remove (items_of (node_of s n)) q within in
+    let content : IsContent s 0 n (remove (items_of (node_of s n)) q) (children_of (node_of s n)) =
     record {
-      listed = held_numbers s t 0 n _ _ holds ∙ ap (λ zs. weave (remove (items_of (get s n)) q) (map (numbers s 0) zs)) none ∙ ap (λ zs. remove zs q) (sym (numbers_leaf s n shaped.node.branches));
-      moved = rw (used_is s 0 n, held_used s t 0 n _ _ holds) (Writes-moves s t n _ _ (flat_map (used s 0) (children_of (get s n))) written);
-      shape = λ least more. held_shape s t 0 n _ _ holds least (omega (arith, less, more)) (omega (arith, less, shaped.node.fits)) shaped.node.branches shaped.children;
+      present = shaped.node.present;
+      shaped = shaped.children;
+      branches = shaped.node.branches;
+      owned =
+          λ k. omega (arith, owned k, ap (occurrences k) (used_is s 0 n));
+    } in
+    let holds =
+    written_holds s t 0 n (remove (items_of (node_of s n)) q)
+    (children_of (node_of s n)) content written in
+    let none = nil_from_length (children_of (node_of s n)) shaped.node.branches in
+    record {
+      listed =
+          held_items_below s t 0 n _ _ holds
+          ∙ ap (λ zs. weave (remove (items_of (node_of s n)) q) (map (items_below s 0) zs)) none
+          ∙ ap (λ zs. remove zs q) (sym (items_below_leaf s n shaped.node.branches));
+      moved =
+          rw (used_is s 0 n, held_used s t 0 n _ _ holds)
+          (Writes-moves s t n _ _ (flat_map (used s 0) (children_of (node_of s n))) written);
+      shape =
+          λ least more. held_shape s t 0 n _ _ holds least (omega (arith, less, more))
+          (omega (arith, less, shaped.node.fits)) shaped.node.branches shaped.children;
     }
 
--- an item below a child went, and the child was mended
-module _ (s t u : Slab Node) (b n i q : ℕ) (inner : b ≢ 0) (shaped : ShapedBut 1 CAPACITY s b n) (owned : Owned s (suc b) n) (low : i ≤ length (items_of (get s n))) (within : q < length (numbers s b (get_or (children_of (get s n)) i 0))) (child : Shrinks s t (b - 1) (get_or (children_of (get s n)) i 0) (remove (numbers s (suc (b - 1)) (get_or (children_of (get s n)) i 0)) q)) (mended : Shrinks t u (suc (b - 1)) n (numbers t (suc (suc (b - 1))) n)) where
+-- an item below a child went, and the child was rebalanced
+module _ {T : Type 0} (s t u : Heap T) (b n i q : ℕ) (inner : b ≢ 0)
+    (shaped : ShapedBut 1 CAPACITY s b n) (owned : Owned s (suc b) n)
+    (low : i ≤ length (items_of (node_of s n)))
+    (within : q < length (items_below s b (get_or (children_of (node_of s n)) i 0)))
+    (child : Shrinks s t (b - 1) (get_or (children_of (node_of s n)) i 0)
+    (remove (items_below s (suc (b - 1)) (get_or (children_of (node_of s n)) i 0)) q))
+    (rebalanced : Shrinks t u (suc (b - 1)) n (items_below t (suc (suc (b - 1))) n)) where
   back : suc (b - 1) ≡ b
   back = omega arith
 
-  listed' : numbers t b (get_or (children_of (get s n)) i 0) ≡ remove (numbers s b (get_or (children_of (get s n)) i 0)) q
+  listed' : items_below t b (get_or (children_of (node_of s n)) i 0)
+      ≡ remove (items_below s b (get_or (children_of (node_of s n)) i 0)) q
   listed' = rw back at child.listed
 
-  moved' : Moves s t (used s b (get_or (children_of (get s n)) i 0)) (used t b (get_or (children_of (get s n)) i 0))
+  moved' : Moves s t (used s b (get_or (children_of (node_of s n)) i 0))
+      (used t b (get_or (children_of (node_of s n)) i 0))
   moved' = rw back at child.moved
 
-  pub shorter_child_shrinks_node : Shrinks s u b n (remove (numbers s (suc b) n) (length (before (items_of (get s n)) (map (numbers s b) (children_of (get s n))) i) + q))
+  pub shorter_child_shrinks_node : Shrinks s u b n
+      (remove (items_below s (suc b) n)
+      (length (before (items_of (node_of s n))
+      (map (items_below s b) (children_of (node_of s n))) i) + q))
   shorter_child_shrinks_node =
       let kept = kid_kept s t b n i _ inner shaped owned low listed' moved' in
       record {
         listed =
-            (rw back at mended.listed)
+            (rw back at rebalanced.listed)
             ∙ kid_listed s t b n i _ inner shaped owned low listed' moved'
-            ∙ sym (remove_middle (before (items_of (get s n)) (map (numbers s b) (children_of (get s n))) i) (numbers s b (get_or (children_of (get s n)) i 0)) (after (items_of (get s n)) (map (numbers s b) (children_of (get s n))) i) q within)
-            ∙ ap (λ zs. remove zs (length (before (items_of (get s n)) (map (numbers s b) (children_of (get s n))) i) + q)) (sym (numbers_at 1 CAPACITY s b n (omega arith) shaped i low));
-        moved = Moves-then s t u (used s (suc b) n) (used t (suc b) n) (used u (suc b) n) (kid_moved s t b n i _ inner shaped owned low listed' moved') (rw back at mended.moved);
-        shape = λ least more. rw back at (mended.shape least (rw kept more));
+            ∙ sym
+            (remove_middle (before (items_of (node_of s n))
+            (map (items_below s b) (children_of (node_of s n))) i)
+            (items_below s b (get_or (children_of (node_of s n)) i 0))
+            (after (items_of (node_of s n))
+            (map (items_below s b) (children_of (node_of s n))) i) q within)
+            ∙ ap (λ zs.
+            remove zs
+            (length (before (items_of (node_of s n))
+            (map (items_below s b) (children_of (node_of s n))) i) + q))
+            (sym (items_below_at 1 CAPACITY s b n (omega arith) shaped i low));
+        moved =
+            Moves-then s t u (used s (suc b) n) (used t (suc b) n) (used u (suc b) n)
+            (kid_moved s t b n i _ inner shaped owned low listed' moved')
+            (rw back at rebalanced.moved);
+        shape = λ least more. rw back at (rebalanced.shape least (rw kept more));
       }

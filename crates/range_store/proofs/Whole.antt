@@ -1,41 +1,43 @@
--- What is known of a whole tree of numbers.
-use Rattle.std.proofs.Common.{◌≡◌, ℕ, zero, suc, ◌+◌, ◌-◌, ◌^◌, ◌<◌, ◌≤◌, length, get_or, inl, inr, arith}
+-- What is known of a whole tree.
+use Rattle.std.proofs.Common.{◌≡◌, ℕ, zero, suc, ◌+◌, ◌-◌, ◌^◌, ◌<◌, ◌≤◌, length, get_or, refl, ap, ◌∙◌, inl, inr, arith}
 use Rattle.std.proofs.Math.Nat.{pow-le-pow_right}
 use Rattle.std.proofs.lemmas.Bool.{cases_lt}
-use Rattle.slab.specs.Slab.{Slab, get}
-use Rattle.range_store.specs.declared.btree.node.Node.{Node}
-use Rattle.range_store.specs.declared.btree.node.TheConstants.{CAPACITY, MIN_LEN}
-use Rattle.range_store.specs.declared.btree.way.TheConstants.{DEEPEST}
-use Rattle.range_store.specs.declared.btree.number_tree.NumberTree.{NumberTree}
-use Rattle.range_store.specs.declared.btree.way.Edge.{Edge}
-use Rattle.range_store.specs.Trees.{tree_numbers, IsTreeEdge, tree_place}
-use Rattle.range_store.specs.Nodes.{IsRoomy, ShapedBut, items_of}
+use Rattle.range_store.specs.Heap.{Heap, node_of, items_of}
+use Rattle.range_store.specs.declared.btree.nodes.TheConstants.{CAPACITY, MIN_LEN}
+use Rattle.range_store.specs.declared.btree.path.TheConstants.{MAX_LEVELS}
+use Rattle.range_store.specs.declared.btree.BoxStorage.{BoxStorage}
+use Rattle.range_store.specs.declared.btree.path.Edge.{Edge}
+use Rattle.range_store.specs.Holding.{box_items, IsBoxEdge, box_place, IsGood, good_item}
+use Rattle.range_store.specs.Nodes.{IsRoomy, ShapedBut}
 use Rattle.range_store.proofs.Edges.{place_within}
-use Rattle.range_store.proofs.InLeaf.{IsLeafOf, leaf_of_edge, leaf_beside, leaf_item}
+use Rattle.range_store.proofs.InLeaf.{IsLeafOf, leaf_of_edge, leaf_beside, leaf_home, place_index}
 use Rattle.range_store.proofs.Levels.{tree_lower}
-use Rattle.range_store.proofs.Rank.{root_shaped}
+use Rattle.range_store.specs.Written.{root_shaped}
 
--- so many levels as a way has digits are enough for all numbers that a `usize` counts
-pub tree_is_not_too_deep : (s : Slab Node) (levels root : ℕ) → IsRoomy s levels root → levels - 1 < DEEPEST
+-- so many levels as a path has digits are enough for all items that a `usize` counts
+pub tree_is_not_too_deep : {T : Type 0} (s : Heap T) (levels root : ℕ) → IsRoomy s levels root
+    → levels - 1 < MAX_LEVELS
 tree_is_not_too_deep s zero root roomy = omega arith
 tree_is_not_too_deep s (suc d) root roomy =
-    elim (cases_lt d DEEPEST) [
+    elim (cases_lt d MAX_LEVELS) [
       | inl low ↦ omega (arith, low)
       | inr high ↦
           let some : 0 < MIN_LEN + 1 = omega arith in
-          let more : (MIN_LEN + 1) ^ DEEPEST ≤ (MIN_LEN + 1) ^ d = pow-le-pow_right some high in
-          let limit : 2 ^ 64 ≤ (MIN_LEN + 1) ^ DEEPEST = omega arith in
+          let more : (MIN_LEN + 1) ^ MAX_LEVELS ≤ (MIN_LEN + 1) ^ d = pow-le-pow_right some high in
+          let limit : 2 ^ 64 ≤ (MIN_LEN + 1) ^ MAX_LEVELS = omega arith in
           absurd (omega (arith, tree_lower s d root roomy.tree, more, limit, roomy.counted))
     ]
 
 -- no edge lies past the end
-pub edge_within : (t : NumberTree) (g : Edge) → IsTreeEdge t g → tree_place t g ≤ length (tree_numbers t)
+pub edge_within : {T : Type 0} (t : BoxStorage T) (g : Edge) → IsBoxEdge t g
+    → box_place t g ≤ length (box_items t)
 edge_within t g is =
     let level : suc (t.levels - 1) ≡ t.levels = omega (arith, is.some) in
-    rw level at (place_within t.nodes (t.levels - 1) t.root g 1 CAPACITY (root_shaped t.nodes t.levels t.root is.some t.whole.tree) is.edge)
+    rw level at (place_within t.nodes (t.levels - 1) t.root g 1 CAPACITY
+    (root_shaped t.nodes t.levels t.root is.some t.whole.tree) is.edge)
 
 -- an edge in the leaf of another, and the item there
-module _ (t : NumberTree) (g : Edge) (is : IsTreeEdge t g) where
+module _ {T : Type 0} (t : BoxStorage T) (g : Edge) (is : IsBoxEdge t g) where
   level : suc (t.levels - 1) ≡ t.levels
   level = omega (arith, is.some)
 
@@ -45,10 +47,33 @@ module _ (t : NumberTree) (g : Edge) (is : IsTreeEdge t g) where
   pub tree_leaf : IsLeafOf t.nodes g
   tree_leaf = leaf_of_edge t.nodes (t.levels - 1) t.root g shaped is.edge
 
-  pub tree_beside : (h : Edge) → h.leaf ≡ g.leaf → h.way ≡ g.way → h.index ≤ length (items_of (get t.nodes g.leaf)) → IsTreeEdge t h × (tree_place t h + g.index ≡ tree_place t g + h.index)
-  tree_beside h leaf way index =
-      let other = leaf_beside t.nodes (t.levels - 1) t.root g h leaf way index is.edge in
+  pub tree_beside : (h : Edge) → h.leaf ≡ g.leaf → h.path ≡ g.path
+      → h.index ≤ length (items_of (node_of t.nodes g.leaf))
+      → IsBoxEdge t h × (box_place t h + g.index ≡ box_place t g + h.index)
+  tree_beside h leaf path index =
+      let other = leaf_beside t.nodes (t.levels - 1) t.root g h leaf path index is.edge in
       (record { some = is.some; edge = other.0 }, other.1)
 
-  pub tree_item : g.index < length (items_of (get t.nodes g.leaf)) → (get_or (tree_numbers t) (tree_place t g) 0 ≡ get_or (items_of (get t.nodes g.leaf)) g.index 0) × (tree_place t g < length (tree_numbers t))
-  tree_item low = rw level at (leaf_item t.nodes (t.levels - 1) t.root g 1 CAPACITY shaped low is.edge)
+  -- the edge after the first item of the leaf
+  pub tree_behind : g.index ≡ 0
+      → IsBoxEdge t (record { leaf = g.leaf; path = g.path; index = 1 })
+      × (box_place t (record { leaf = g.leaf; path = g.path; index = 1 }) ≡ box_place t g + 1)
+  tree_behind first =
+      let beside =
+      tree_beside (record { leaf = g.leaf; path = g.path; index = 1 }) refl refl
+      tree_leaf.some in
+      (beside.0, omega (arith, beside.1, first))
+
+  -- the item before an edge that has one in its leaf
+  pub leaf_item : (e : T) → 0 < g.index
+      → get_or (box_items t) (box_place t g - 1) e
+      ≡ get_or (items_of (node_of t.nodes g.leaf)) (g.index - 1) e
+  leaf_item e some =
+      let good : IsGood t g =
+      record {
+        is = is;
+        some = omega (arith, place_index t.nodes (t.levels - 1) t.root g, some);
+      } in
+      good_item t g good e
+      ∙ ap (λ h. get_or (items_of (node_of t.nodes h.node)) h.index e)
+      (leaf_home t.nodes (t.levels - 1) t.root g is.edge some)

@@ -1,6 +1,6 @@
 -- How many levels a tree of so many items may have.
 use Rattle.std.specs.Prelude.{◌≡◌, ℕ, ◌+◌, ◌-◌, ◌*◌, ◌^◌, ◌<◌, ◌≤◌}
-use Rattle.range_store.specs.declared.btree.node.TheConstants.{CAPACITY, MIN_LEN}
+use Rattle.range_store.specs.declared.btree.nodes.TheConstants.{CAPACITY, MIN_LEN}
 
 pub record HasLevels (many levels : ℕ) : Type 0 where
   pub empty : many ≡ 0 → levels ≡ 0

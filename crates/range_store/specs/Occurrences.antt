@@ -8,11 +8,13 @@ use Rattle.std.proofs.lemmas.Bool.{eq-eqb, ne_eqb}
 unfoldable pub occurrences : ℕ → List ℕ → ℕ
 occurrences k xs = count_by (λ x. x == k) xs
 
-pub occurrences-append : (k : ℕ) (xs ys : List ℕ) → occurrences k (xs ++ ys) ≡ occurrences k xs + occurrences k ys
+pub occurrences-append : (k : ℕ) (xs ys : List ℕ)
+    → occurrences k (xs ++ ys) ≡ occurrences k xs + occurrences k ys
 unfolding occurrences
 occurrences-append k xs ys = sum_by-append (λ x. cond (x == k) 1 0) xs ys
 
-pub occurrences-cons : (k x : ℕ) (xs : List ℕ) → occurrences k (x ∷ xs) ≡ occurrences k (x ∷ []) + occurrences k xs
+pub occurrences-cons : (k x : ℕ) (xs : List ℕ)
+    → occurrences k (x ∷ xs) ≡ occurrences k (x ∷ []) + occurrences k xs
 occurrences-cons k x xs = occurrences-append k (x ∷ []) xs
 
 pub occurrences-nil : (k : ℕ) → occurrences k [] ≡ 0
@@ -33,4 +35,5 @@ occurrences_here k xs = omega (arith, occurrences-cons k k xs, occurrences_itsel
 pub occurrences_at : (xs : List ℕ) (i : ℕ) → i < length xs → 0 < occurrences (get_or xs i 0) xs
 occurrences_at [] i within = absurd (omega arith)
 occurrences_at (x ∷ xs) zero within = occurrences_here x xs
-occurrences_at (x ∷ xs) (suc i) within = omega (arith, occurrences-cons (get_or xs i 0) x xs, occurrences_at xs i (omega arith))
+occurrences_at (x ∷ xs) (suc i) within =
+    omega (arith, occurrences-cons (get_or xs i 0) x xs, occurrences_at xs i (omega arith))

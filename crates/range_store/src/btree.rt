@@ -1,46 +1,40 @@
 //! A container kept as a B-tree.
-ghost use Rattle.std.specs.Prelude.{◌≡◌, ◌+◌, ◌-◌, ◌*◌, ◌^◌, ◌<◌, ◌≤◌, [], length, insert, remove, slice_index_or, MatchOption, Some, None};
+ghost use Rattle.std.specs.Prelude.{◌≡◌, ◌+◌, ◌-◌, ◌*◌, ◌^◌, ◌<◌, ◌≤◌, [], length, insert, MatchOption, Some, None};
 ghost use Rattle.std.specs.Option.{ForSome};
-ghost use Rattle.std.proofs.Common.{refl};
 ghost use Rattle.range_store.specs.Depth.{HasLevels};
-ghost use Rattle.range_store.specs.Listed.{IsStorage};
-ghost use Rattle.range_store.specs.Trees.{tree_numbers, IsTreeEdge, edge_or_end};
+ghost use Rattle.range_store.specs.Nodes.{items_below, IsRoomy, IsRoomy-prop};
 
+mod cells;
 mod insertion;
-mod node;
-mod number_tree;
+mod nodes;
+mod path;
 mod removal;
 mod searching;
 mod tree;
-mod way;
 
-pub use crate::btree::node::{CAPACITY, MIN_LEN};
-use crate::btree::number_tree::NumberTree;
-use crate::btree::searching::HALVINGS;
-use crate::btree::way::{Edge, Found};
+use crate::btree::nodes::Nodes;
+pub use crate::btree::nodes::{CAPACITY, MIN_LEN};
+pub use crate::btree::path::Edge;
+use crate::btree::path::stands_first;
+use crate::btree::searching::MAX_ASKS;
 use crate::storage::{Probe, Storage};
-use slab::Slab;
 use std::alloc::{AllocError, Global};
-use std::mem;
-
-/// Where an item of a `BoxStorage` stands: its number there, and the way to the edge after it.
-#[derive(Clone, Copy)]
-pub struct BoxPosition {
-    found: Found,
-}
 
 /// Items in a B-tree: insertion, removal and search take steps in the logarithm of their number.
 #[derive(Drop)]
 pub struct BoxStorage<T> {
-    items: Slab<T>,
-    tree: NumberTree,
+    nodes: Nodes<T>,
+    root: usize,
+    levels: usize,
+    len: usize,
     alloc: Global,
-    ghost whole: { IsStorage items (tree_numbers tree) },
-    ghost levelled: { HasLevels (length (tree_numbers tree)) tree.levels },
+    ghost whole: { IsRoomy nodes levels root } by { IsRoomy-prop nodes levels root },
+    ghost counted: { len ≡ length (items_below nodes levels root) },
+    ghost levelled: { HasLevels len levels },
 }
 
 impl<T> BoxStorage<T> {
-    ghost use Rattle.range_store.specs.Holding.{box_items, box_rank, box_room, box_place, level_count, IsBoxAt, IsGood};
+    ghost use Rattle.range_store.specs.Holding.{box_items, level_count};
 
     /// How many levels of nodes the tree has: 0 if it is empty.
     pub fn levels(&self) -> usize
@@ -51,154 +45,137 @@ impl<T> BoxStorage<T> {
         ensures most { 0 < length (box_items self.now)
             → length (box_items self.now) + 1 ≤ (CAPACITY + 1) ^ result }
     {
-        self.tree.levels()
+        let _many = self.len;
+        self.levels
     }
+}
 
-    // Takes the item at a position out, and tells the position of the one that followed it.
-    fn take(&mut self, p: Found) -> (T, Option<BoxPosition>)
-        requires { IsGood self.old p }
-        ensures removed { result.0
-            ≡ slice_index_or (box_items self.old) (box_rank self.old p) result.0 }
-        ensures list { box_items self.new ≡ remove (box_items self.old) (box_rank self.old p) }
-        ensures following { IsBoxAt self.new result.1 (box_rank self.old p) }
-        ensures space { box_room self.old + 1 ≤ box_room self.new }
-    {
-        let following = self.tree.remove(p.edge);
-        let item = self.items.remove(p.number);
-        (item, position(following))
-    }
+impl<T: Drop> BoxStorage<T> {
+    ghost use Rattle.range_store.specs.Holding.{box_items, IsBoxEdge, IsGood, box_place_before, edge_or_end};
 
     // The edge before an item, or at the end of the list, if the list has items.
-    fn edge_at(&self, before: Option<BoxPosition>) -> Option<Edge>
-        requires { ForSome before (λ p. IsGood self.now p.found) }
-        ensures edge { MatchOption result (tree_numbers self.now.tree ≡ [])
-            (IsTreeEdge self.now.tree) }
-        ensures place { edge_or_end self.now.tree result ≡ box_place self.now before }
+    fn edge_at(&self, before: Option<Edge>) -> Option<Edge>
+        requires { ForSome before (IsGood self.now) }
+        ensures edge { MatchOption result (box_items self.now ≡ []) (IsBoxEdge self.now) }
+        ensures place { edge_or_end self.now result ≡ box_place_before self.now before }
     {
         match before {
-            Some(p) => self.tree.edge_before(p.found.edge),
-            None => self.tree.end(),
+            Some(edge) => self.edge_before(edge),
+            None => self.end(),
         }
     }
 }
 
-// The position of what was found.
-fn position(found: Option<Found>) -> Option<BoxPosition>
-    ensures { MatchOption result (found ≡ None) (λ p. found ≡ Some p.found) }
-{
-    match found {
-        None => None,
-        Some(found) => Some(BoxPosition { found }),
-    }
-}
-
 impl<T: Drop> Storage<T> for BoxStorage<T> {
-    ghost use Rattle.range_store.specs.declared.btree.searching.TheConstants.{HALVINGS};
-    ghost use Rattle.range_store.specs.Holding.{box_items, box_rank, box_room, box_place, IsGood, with_stored, items_with_stored, room_with_stored, good_in_range, items_fit, none_asked_of_empty};
+    ghost use Rattle.range_store.specs.declared.btree.searching.TheConstants.{MAX_ASKS};
+    ghost use Rattle.range_store.specs.Holding.{box_items, box_rank, box_room, box_place_before, IsGood, with_box_item, items_with_box_item, room_with_box_item, good_with_box_item, rank_with_box_item, good_in_range, items_fit, none_asked_of_empty};
 
-    type Position = BoxPosition;
+    type Position = Edge;
 
     ghost items = { λ s. box_items s };
 
     ghost room = { λ s. box_room s };
 
-    ghost is_good = { λ s p. IsGood s p.found };
+    ghost is_good = { λ s p. IsGood s p };
 
-    ghost rank = { λ s p. box_rank s p.found };
+    ghost rank = { λ s p. box_rank s p };
 
-    ghost with_item = { λ s p x. with_stored s (box_rank s p.found) x };
+    ghost with_item = { λ s p x. with_box_item s p x };
 
-    ghost least_asks = { λ s. s.tree.levels };
+    ghost least_asks = { λ s. s.levels };
 
-    ghost most_asks = { λ s. HALVINGS * s.tree.levels };
+    ghost most_asks = { λ s. MAX_ASKS * s.levels };
 
     fn new(alloc: Global) -> Self {
         BoxStorage {
-            items: Slab::new(alloc),
-            tree: NumberTree::new(alloc),
+            nodes: Nodes::new(alloc),
+            root: 0,
+            levels: 0,
+            len: 0,
             alloc,
         }
     }
 
     fn len(&self) -> usize {
-        self.items.len()
+        self.len
     }
 
-    fn first(&self) -> Option<BoxPosition> {
-        let start = self.tree.start()?;
-        position(self.tree.following(start))
+    fn first(&self) -> Option<Edge> {
+        self.following(self.start()?)
     }
 
-    fn last(&self) -> Option<BoxPosition> {
-        let end = self.tree.end()?;
-        position(self.tree.preceding(end))
+    fn last(&self) -> Option<Edge> {
+        self.end()
     }
 
-    fn next(&self, p: BoxPosition) -> Option<BoxPosition> {
-        position(self.tree.following(p.found.edge))
+    fn next(&self, p: Edge) -> Option<Edge> {
+        self.following(p)
     }
 
-    fn prev(&self, p: BoxPosition) -> Option<BoxPosition> {
-        let edge = self.tree.edge_before(p.found.edge)?;
-        position(self.tree.preceding(edge))
+    fn prev(&self, p: Edge) -> Option<Edge> {
+        let edge = self.edge_before(p)?;
+        if stands_first(edge) {
+            return None;
+        }
+        Some(edge)
     }
 
-    fn get(&self, p: BoxPosition) -> &T {
-        &self.items[p.found.number]
+    fn get(&self, p: Edge) -> &T {
+        let home = self.home(p);
+        self.nodes.item_at(home.node, home.index)
     }
 
-    fn get_mut(&mut self, p: BoxPosition) -> &mut T {
-        &mut self.items[p.found.number]
+    fn get_mut(&mut self, p: Edge) -> &mut T {
+        let home = self.home(p);
+        self.nodes.item_mut(home.node, home.index)
     }
 
-    fn replace(&mut self, p: BoxPosition, item: T) -> T {
-        mem::replace(&mut self.items[p.found.number], item)
+    fn replace(&mut self, p: Edge, item: T) -> T {
+        let home = self.home(p);
+        self.nodes.replace_item(home.node, home.index, item)
     }
 
-    fn search<P: Probe<T>>(&self, probe: &mut P) -> Option<BoxPosition> {
-        position(self.tree.search(&self.items, probe))
+    fn search<P: Probe<T>>(&self, probe: &mut P) -> Option<Edge> {
+        self.edge_after_passing(probe)
     }
 
     fn reserve(&mut self, n: usize) -> Result<(), AllocError> {
-        if n == 0 {
+        // No capacity counts more items than a `usize`.
+        let Some(many) = self.len.checked_add(n) else {
+            return Err(AllocError);
+        };
+        let wanted = many.div_ceil(MIN_LEN);
+        if wanted <= self.nodes.capacity() {
             return Ok(());
         }
-        self.items.reserve(n)?;
-        // Tells the proof that a `usize` counts the items and `n` more.
-        let _capacity = self.items.capacity();
-        self.tree.reserve(self.items.len(), n)
+        self.nodes.reserve(wanted - self.nodes.len())
     }
 
-    fn insert_at(&mut self, before: Option<BoxPosition>, item: T) -> BoxPosition
-        requires good { ForSome before (λ p. IsGood self.old p.found) }
+    fn insert_at(&mut self, before: Option<Edge>, item: T) -> Edge
+        requires good { ForSome before (IsGood self.old) }
         requires has_room { 1 ≤ box_room self.old }
         ensures list { box_items self.new
-            ≡ insert (box_items self.old) (box_place self.old before) item }
+            ≡ insert (box_items self.old) (box_place_before self.old before) item }
         ensures space { box_room self.old ≡ box_room self.new + 1 }
-        ensures position { IsGood self.new result.found
-            × (box_rank self.new result.found ≡ box_place self.old before) }
+        ensures position { IsGood self.new result
+            × (box_rank self.new result ≡ box_place_before self.old before) }
     {
         let edge = self.edge_at(before);
-        let number = self.items.insert_reserved(item);
-        let _many = self.items.len();
-        let edge = self.tree.insert(edge, number);
-        BoxPosition {
-            found: Found { number, edge },
-        }
+        self.insert(edge, item)
     }
 
-    fn remove_at(&mut self, p: BoxPosition) -> (T, Option<BoxPosition>) {
-        self.take(p.found)
+    fn remove_at(&mut self, p: Edge) -> (T, Option<Edge>) {
+        self.take(p)
     }
 
     fn pop_first(&mut self) -> Option<T> {
         let first = self.first()?;
-        Some(self.take(first.found).0)
+        Some(self.take(first).0)
     }
 
     fn pop_last(&mut self) -> Option<T> {
         let last = self.last()?;
-        Some(self.take(last.found).0)
+        Some(self.take(last).0)
     }
 
     fn clone(&self) -> Result<Self, AllocError>
@@ -216,20 +193,15 @@ impl<T: Drop> Storage<T> for BoxStorage<T> {
         Ok(copy)
     }
 
-    ghost good_is_in_range = { λ s p h. good_in_range s p.found h };
+    ghost good_is_in_range = { λ s p h. good_in_range s p h };
 
-    ghost items_with = { λ s p x. items_with_stored s (box_rank s p.found) x };
+    ghost items_with = { λ s p x. items_with_box_item s p x };
 
-    ghost room_with = { λ s p x. room_with_stored s (box_rank s p.found) x };
+    ghost room_with = { λ s p x. room_with_box_item s p x };
 
-    ghost good_with = { λ s p x q h. record {
-      edge = h.edge;
-      some = h.some;
-      within = h.within;
-      number_is = h.number_is;
-    } };
+    ghost good_with = { λ s p x q h. good_with_box_item s p x q h };
 
-    ghost rank_with = { λ s p x q. refl };
+    ghost rank_with = { λ s p x q. rank_with_box_item s p x q };
 
     ghost length_fits = { λ s. items_fit s };
 

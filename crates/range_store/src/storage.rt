@@ -202,7 +202,7 @@ pub trait Storage<T>: Drop {
     /// Puts the item before the one at the position, or after all others, and returns its position.
     ///
     /// Takes from the capacity, and never fails. A vector moves all items after it, a B-tree
-    /// changes nodes on the way to its root.
+    /// changes nodes on the path to its root.
     fn insert_at(&mut self, before: Option<Self::Position>, item: T) -> Self::Position
         requires good { ForSome before (λ p. is_good self.old p) }
         requires has_room { 1 ≤ room self.old }
@@ -216,8 +216,8 @@ pub trait Storage<T>: Drop {
 
     /// Takes the item at the position out, and returns it with the position of the one after it.
     ///
-    /// Never fails, and leaves room for one more item than there was. A vector moves all items after
-    /// it, a B-tree changes nodes up to its root.
+    /// Never fails, and leaves room for one more item than there was. A vector moves all items
+    /// after it, a B-tree changes nodes up to its root.
     fn remove_at(&mut self, p: Self::Position) -> (T, Option<Self::Position>)
         requires { is_good self.old p }
         ensures removed { result.0 ≡ slice_index_or (items self.old) (rank self.old p) result.0 }

@@ -2,7 +2,7 @@
 ghost use Rattle.std.specs.Prelude.{◌≡◌, ℕ, ◌+◌, ◌-◌, ◌<◌, ◌≤◌, List, length, insert, vec_len, vec_capacity};
 ghost use Rattle.std.specs.Option.{ForSome};
 ghost use Rattle.std.proofs.Common.{arith, refl};
-ghost use Rattle.range_store.specs.Lending.{with_vec_item, good_with};
+ghost use Rattle.range_store.specs.Rewriting.{with_vec_item, good_with};
 ghost use Rattle.range_store.specs.Places.{place_before};
 
 use crate::storage::{Probe, Storage};

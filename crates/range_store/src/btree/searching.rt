@@ -1,35 +1,52 @@
-//! A search below a node: one way down to a leaf, which halves within each node.
-ghost use Rattle.std.specs.Prelude.{◌≡◌, ℕ, suc, ◌+◌, ◌-◌, ◌*◌, ◌<◌, ◌≤◌, length, count_by};
+//! A search below a node: one path down to a leaf, which halves within each node.
+ghost use Rattle.std.specs.Prelude.{◌≡◌, ℕ, suc, ◌+◌, ◌-◌, ◌*◌, ◌<◌, ◌≤◌, length, count_by, IsSome};
+ghost use Rattle.std.specs.List.{All};
 ghost use Rattle.range_store.specs.Counting.{AddsSteps};
-ghost use Rattle.range_store.specs.Falling.{Falls, passes};
-ghost use Rattle.range_store.specs.Listed.{Stored};
-ghost use Rattle.range_store.specs.Nodes.{numbers, ShapedBut};
-ghost use Rattle.range_store.specs.Edges.{IsEdge, place, IsLast};
+ghost use Rattle.range_store.specs.Falling.{Falls, at_item};
+ghost use Rattle.range_store.specs.Nodes.{items_below, ShapedBut};
+ghost use Rattle.range_store.specs.Edges.{IsEdge, place};
 
-use crate::btree::node::{CAPACITY, Node, child_at, last_of};
-use crate::btree::way::{DEEPEST, Edge, WIDTH};
+use crate::btree::nodes::{CAPACITY, Nodes};
+use crate::btree::path::{Edge, MAX_LEVELS, PATH_BASE};
 use crate::storage::Probe;
-use slab::Slab;
 
 // How often a node is asked at most.
-pub const HALVINGS: usize = 4;
+pub const MAX_ASKS: usize = 4;
 
-// How many of the items under these numbers pass, found by halving.
-pub fn halve<T, P: Probe<T>>(list: &[usize], items: &Slab<T>, probe: &mut P) -> usize
-    requires stored { Stored items.now list.now }
-    requires falls { Falls (passes items.now (P.test probe.old)) list.now }
-    requires some { 0 < length list.now }
-    requires fits { length list.now ≤ CAPACITY }
-    ensures count { result ≡ count_by (passes items.now (P.test probe.old)) list.now }
+// Reads each second cell, so that the lines of memory in which the cells lie come together, and not
+// one after the other as they are asked.
+fn read_ahead<T>(cells: &[Option<T>])
+    requires full { All IsSome cells.now }
+    requires fits { length cells.now ≤ CAPACITY }
+{
+    let mut at = 0;
+    while at < cells.len() {
+        if cells[at].is_none() {
+            unreachable!();
+        }
+        at += 2;
+    }
+}
+
+// How many of the items in these cells pass, found by halving.
+pub fn halve<T, P: Probe<T>>(cells: &[Option<T>], probe: &mut P) -> usize
+    requires full { All IsSome cells.now }
+    requires falls { Falls (at_item (P.test probe.old)) cells.now }
+    requires some { 0 < length cells.now }
+    requires fits { length cells.now ≤ CAPACITY }
+    ensures count { result ≡ count_by (at_item (P.test probe.old)) cells.now }
     ensures kept { P.test probe.new ≡ P.test probe.old }
-    ensures asked { AddsSteps (P.steps_taken probe.old) (P.steps_taken probe.new) 1 HALVINGS }
+    ensures asked { AddsSteps (P.steps_taken probe.old) (P.steps_taken probe.new) 1 MAX_ASKS }
 {
     let mut low = 0;
-    let mut high = list.len();
+    let mut high = cells.len();
     while low < high {
         let middle = low + (high - low) / 2;
-        let item = list[middle];
-        if probe.ask(&items[item]) {
+        let passes = match &cells[middle] {
+            Some(item) => probe.ask(item),
+            None => unreachable!(),
+        };
+        if passes {
             low = middle + 1;
         } else {
             high = middle;
@@ -38,57 +55,42 @@ pub fn halve<T, P: Probe<T>>(list: &[usize], items: &Slab<T>, probe: &mut P) -> 
     low
 }
 
-// The edge after the items that pass, and the last of them.
-#[derive(Clone, Copy)]
-pub struct Passed {
-    pub edge: Edge,
-    pub last: Option<usize>,
-}
-
-// Which items below a node pass, by one way down to a leaf.
-pub fn search_below<T, P: Probe<T>>(
-    nodes: &Slab<Node>,
-    items: &Slab<T>,
+// The edge after the items below a node that pass, by one path down to a leaf.
+pub fn search_below<T: Drop, P: Probe<T>>(
+    nodes: &Nodes<T>,
     below: usize,
     number: usize,
     probe: &mut P,
-) -> Passed
+) -> Edge
     requires shaped { ShapedBut 1 CAPACITY nodes.now below number }
-    requires deep { below < DEEPEST }
-    requires stored { Stored items.now (numbers nodes.now (suc below) number) }
-    requires falls { Falls (passes items.now (P.test probe.old))
-        (numbers nodes.now (suc below) number) }
-    ensures edge { IsEdge nodes.now below number result.edge }
-    ensures count { place nodes.now below number result.edge
-        ≡ count_by (passes items.now (P.test probe.old)) (numbers nodes.now (suc below) number) }
-    ensures last { IsLast (numbers nodes.now (suc below) number)
-        (place nodes.now below number result.edge) result.last }
+    requires deep { below < MAX_LEVELS }
+    requires falls { Falls (P.test probe.old) (items_below nodes.now (suc below) number) }
+    ensures edge { IsEdge nodes.now below number result }
+    ensures count { place nodes.now below number result
+        ≡ count_by (P.test probe.old) (items_below nodes.now (suc below) number) }
     ensures kept { P.test probe.new ≡ P.test probe.old }
     ensures asked { AddsSteps (P.steps_taken probe.old) (P.steps_taken probe.new) (suc below)
-        (HALVINGS * suc below) }
+        (MAX_ASKS * suc below) }
 {
     let mut at = number;
     let mut left = below;
-    let mut way: u128 = 0;
+    let mut path: u128 = 0;
     let mut weight: u128 = 1;
-    let mut last = None;
-    while left > 0 {
-        let list = nodes[at].items.as_slice();
-        let index = halve(list, items, probe);
-        last = last_of(list, index).or(last);
-        way += weight * (index as u128);
-        weight *= WIDTH;
-        at = child_at(nodes, at, index);
+    'down: loop {
+        let cells = nodes.cells(at);
+        let children = nodes.children(at);
+        read_ahead(cells);
+        let index = halve(cells, probe);
+        if left == 0 {
+            return Edge {
+                path,
+                leaf: at,
+                index,
+            };
+        }
+        path += weight * (index as u128);
+        weight *= PATH_BASE;
+        at = children[index];
         left -= 1;
-    }
-    let list = nodes[at].items.as_slice();
-    let index = halve(list, items, probe);
-    Passed {
-        edge: Edge {
-            way,
-            leaf: at,
-            index,
-        },
-        last: last_of(list, index).or(last),
     }
 }

@@ -1,51 +1,25 @@
-//! The calls of a list of numbers that is kept as a B-tree.
-ghost use Rattle.std.specs.Prelude.{◌≡◌, ℕ, ◌+◌, ◌-◌, ◌*◌, ◌<◌, ◌≤◌, ◌^◌, [], length, slice_index, insert, remove, IsOk, OnOk, MatchOption, count_by, None, Some};
+//! The calls of a `BoxStorage` by the edges of its tree.
+ghost use Rattle.std.specs.Prelude.{◌≡◌, ℕ, ◌+◌, ◌-◌, ◌*◌, ◌<◌, ◌≤◌, ◌^◌, [], ◌∷◌, length, slice_index_or, insert, remove, MatchOption, count_by};
 ghost use Rattle.range_store.specs.Counting.{AddsSteps};
-ghost use Rattle.range_store.specs.Depth.{HasLevels};
-ghost use Rattle.range_store.specs.Falling.{Falls, passes};
-ghost use Rattle.range_store.specs.Edges.{IsLast};
-ghost use Rattle.range_store.specs.Listed.{Stored};
-ghost use Rattle.range_store.specs.Trees.{tree_numbers, tree_room, IsTreeEdge, tree_place, IsAt, edge_or_end};
+ghost use Rattle.range_store.specs.Edges.{home_of};
+ghost use Rattle.range_store.specs.Falling.{Falls};
+ghost use Rattle.range_store.specs.Holding.{box_items, box_room, IsBoxEdge, box_place, box_home, edge_or_end, IsNextEdge};
 
-use crate::btree::insertion::insert_below;
-use crate::btree::node::{
-    CAPACITY, MIN_LEN, Node, item_at, item_count, leaf_of, node_over, put, store, take_item,
+use crate::btree::BoxStorage;
+use crate::btree::insertion::{Parts, insert_below};
+use crate::btree::nodes::{CAPACITY, MIN_LEN};
+use crate::btree::path::{
+    Edge, Home, edge_before, end_edge, find_home, first_edge, following, seen_above, stands_first,
 };
-use crate::btree::number_tree::NumberTree;
-use crate::btree::removal::{Settled, remove_below, set_before, settle};
-use crate::btree::searching::{HALVINGS, Passed, search_below};
-use crate::btree::way::{
-    Edge, Found, edge_before, end_edge, first_edge, following, item_before, seen_above,
-};
+use crate::btree::removal::{Shrunk, remove_below, shrink_root};
+use crate::btree::searching::{MAX_ASKS, search_below};
 use crate::storage::Probe;
-use slab::Slab;
-use std::alloc::{AllocError, Global};
 
-impl NumberTree {
-    pub fn new(alloc: Global) -> Self
-        ensures empty { tree_numbers result ≡ [] }
-        ensures levels { result.levels ≡ 0 }
-    {
-        NumberTree {
-            nodes: Slab::new(alloc),
-            root: 0,
-            levels: 0,
-        }
-    }
-
-    /// The number of levels.
-    pub fn levels(&self) -> usize
-        ensures value { result ≡ self.now.levels }
-        ensures levels { HasLevels (length (tree_numbers self.now)) result }
-    {
-        let _root = self.root;
-        self.levels
-    }
-
-    /// The edge before all numbers.
+impl<T: Drop> BoxStorage<T> {
+    // The edge before all items, if there are any.
     pub fn start(&self) -> Option<Edge>
-        ensures { MatchOption result (tree_numbers self.now ≡ [])
-            (λ g. IsTreeEdge self.now g × (tree_place self.now g ≡ 0)) }
+        ensures { MatchOption result (box_items self.now ≡ [])
+            (λ g. IsBoxEdge self.now g × (box_place self.now g ≡ 0)) }
     {
         if self.levels == 0 {
             return None;
@@ -53,11 +27,10 @@ impl NumberTree {
         Some(first_edge(&self.nodes, self.levels - 1, self.root))
     }
 
-    /// The edge after all numbers.
+    // The edge after all items, if there are any.
     pub fn end(&self) -> Option<Edge>
-        ensures { MatchOption result (tree_numbers self.now ≡ [])
-            (λ g. IsTreeEdge self.now g
-            × (tree_place self.now g ≡ length (tree_numbers self.now))) }
+        ensures { MatchOption result (box_items self.now ≡ [])
+            (λ g. IsBoxEdge self.now g × (box_place self.now g ≡ length (box_items self.now))) }
     {
         if self.levels == 0 {
             return None;
@@ -65,192 +38,207 @@ impl NumberTree {
         Some(end_edge(&self.nodes, self.levels - 1, self.root))
     }
 
-    /// The number after an edge.
-    pub fn following(&self, edge: Edge) -> Option<Found>
-        requires { IsTreeEdge self.now edge }
-        ensures { IsAt self.now result (tree_place self.now edge) }
+    // The edge after the item after an edge.
+    pub fn following(&self, edge: Edge) -> Option<Edge>
+        requires { IsBoxEdge self.now edge }
+        ensures { IsNextEdge self.now result (box_place self.now edge) }
     {
-        if edge.index < item_count(&self.nodes, edge.leaf) {
-            let number = item_at(&self.nodes, edge.leaf, edge.index);
-            return Some(Found {
-                number,
-                edge: Edge {
-                    leaf: edge.leaf,
-                    way: edge.way,
-                    index: edge.index + 1,
-                },
+        if edge.index < self.nodes.item_count(edge.leaf) {
+            return Some(Edge {
+                leaf: edge.leaf,
+                path: edge.path,
+                index: edge.index + 1,
             });
         }
         following(&self.nodes, self.levels - 1, self.root, edge)
     }
 
-    /// The number before an edge.
-    pub fn preceding(&self, edge: Edge) -> Option<Found>
-        requires { IsTreeEdge self.now edge }
-        ensures { MatchOption result (tree_place self.now edge ≡ 0)
-            (λ f. (f.edge ≡ edge) × (0 < tree_place self.now edge)
-            × (f.number ≡ slice_index (tree_numbers self.now) (tree_place self.now edge - 1))) }
-    {
-        if edge.index > 0 {
-            let number = item_at(&self.nodes, edge.leaf, edge.index - 1);
-            return Some(Found { number, edge });
-        }
-        let number = item_before(&self.nodes, self.levels - 1, self.root, edge)?;
-        Some(Found { number, edge })
-    }
-
-    /// The edge before the number before an edge.
+    // The edge before the item before an edge.
     pub fn edge_before(&self, edge: Edge) -> Option<Edge>
-        requires { IsTreeEdge self.now edge }
-        ensures { MatchOption result (tree_place self.now edge ≡ 0)
-            (λ h. IsTreeEdge self.now h × (tree_place self.now h + 1 ≡ tree_place self.now edge)) }
+        requires { IsBoxEdge self.now edge }
+        ensures { MatchOption result (box_place self.now edge ≡ 0)
+            (λ h. IsBoxEdge self.now h × (box_place self.now h + 1 ≡ box_place self.now edge)) }
     {
         if edge.index > 0 {
             return Some(Edge {
                 leaf: edge.leaf,
-                way: edge.way,
+                path: edge.path,
                 index: edge.index - 1,
             });
         }
         edge_before(&self.nodes, self.levels - 1, self.root, edge)
     }
 
-    /// Reserves capacity for `additional` more numbers.
-    pub fn reserve(&mut self, len: usize, additional: usize) -> Result<(), AllocError>
-        requires len { len ≡ length (tree_numbers self.old) }
-        requires fits { len + additional < 2 ^ 64 }
-        ensures room { OnOk result (additional ≤ tree_room self.new) }
-        ensures succeeds { additional ≤ tree_room self.old → IsOk result }
-        ensures no_less { tree_room self.old ≤ tree_room self.new }
-        ensures numbers { tree_numbers self.new ≡ tree_numbers self.old }
-        ensures levels { self.new.levels ≡ self.old.levels }
-        ensures edges { (g : Edge) → IsTreeEdge self.old g
-            → IsTreeEdge self.new g × (tree_place self.new g ≡ tree_place self.old g) }
-    {
-        let wanted = (len + additional).div_ceil(MIN_LEN);
-        if wanted <= self.nodes.capacity() {
-            return Ok(());
-        }
-        self.nodes.reserve(wanted - self.nodes.len())
-    }
-
-    /// Puts a number at an edge, or into an empty tree, and tells the edge after it.
-    pub fn insert(&mut self, edge: Option<Edge>, number: usize) -> Edge
-        requires edge { MatchOption edge (tree_numbers self.old ≡ []) (IsTreeEdge self.old) }
-        requires room { 1 ≤ tree_room self.old }
-        requires small { length (tree_numbers self.old) + 1 < 2 ^ 64 }
-        ensures numbers { tree_numbers self.new
-            ≡ insert (tree_numbers self.old) (edge_or_end self.old edge) number }
-        ensures room { tree_room self.new + 1 ≡ tree_room self.old }
-        ensures edge { IsTreeEdge self.new result }
-        ensures place { tree_place self.new result ≡ edge_or_end self.old edge + 1 }
-    {
-        let Some(edge) = edge else {
-            self.root = store(&mut self.nodes, leaf_of(number));
-            self.levels = 1;
-            return Edge {
-                leaf: self.root,
-                way: 0,
-                index: 1,
-            };
-        };
-        if item_count(&self.nodes, edge.leaf) < CAPACITY {
-            put(&mut self.nodes, edge.leaf, edge.index, number, None);
-            return Edge {
-                leaf: edge.leaf,
-                way: edge.way,
-                index: edge.index + 1,
-            };
-        }
-        let inserted = insert_below(&mut self.nodes, self.levels - 1, self.root, edge, number);
-        match inserted.split {
-            None => inserted.edge,
-            Some(split) => {
-                self.root = store(&mut self.nodes, node_over(self.root, split));
-                self.levels += 1;
-                seen_above(inserted.edge, inserted.side)
-            }
-        }
-    }
-
-    /// Takes the number before an edge out, and tells what followed it.
-    pub fn remove(&mut self, edge: Edge) -> Option<Found>
-        requires edge { IsTreeEdge self.old edge }
-        requires some { 0 < tree_place self.old edge }
-        ensures numbers { tree_numbers self.new
-            ≡ remove (tree_numbers self.old) (tree_place self.old edge - 1) }
-        ensures room { tree_room self.new ≡ tree_room self.old + 1 }
-        ensures following { IsAt self.new result (tree_place self.old edge - 1) }
+    // Where the item before an edge stands.
+    pub fn home(&self, edge: Edge) -> Home
+        requires edge { IsBoxEdge self.now edge }
+        requires some { 0 < box_place self.now edge }
+        ensures { result ≡ box_home self.now edge }
     {
         if edge.index > 0 {
-            let edge = self.remove_in_leaf(edge)?;
-            return self.following(edge);
+            return Home {
+                node: edge.leaf,
+                index: edge.index - 1,
+            };
         }
-        let number = item_at(&self.nodes, edge.leaf, 0);
-        let _set = set_before(&mut self.nodes, self.levels - 1, self.root, edge, number);
-        let behind = Edge {
-            leaf: edge.leaf,
-            way: edge.way,
-            index: 1,
-        };
-        let edge = self.remove_in_leaf(behind)?;
-        Some(Found { number, edge })
+        find_home(&self.nodes, self.levels - 1, self.root, edge)
     }
 
-    // Takes the number before an edge out of its leaf. Tells where the edge then lies, if the tree
-    // is not empty.
-    fn remove_in_leaf(&mut self, edge: Edge) -> Option<Edge>
-        requires edge { IsTreeEdge self.old edge }
-        requires in_leaf { 0 < edge.index }
-        ensures numbers { tree_numbers self.new
-            ≡ remove (tree_numbers self.old) (tree_place self.old edge - 1) }
-        ensures capacity { self.new.nodes.capacity ≡ self.old.nodes.capacity }
-        ensures edge { MatchOption result (tree_numbers self.new ≡ [])
-            (λ g. IsTreeEdge self.new g × (tree_place self.new g + 1 ≡ tree_place self.old edge)) }
+    // The edge after the last item that passes the probe's test, which holds on a front of them
+    // alone.
+    pub fn edge_after_passing<P: Probe<T>>(&self, probe: &mut P) -> Option<Edge>
+        requires { Falls (P.test probe.old) (box_items self.now) }
+        ensures found { MatchOption result (count_by (P.test probe.old) (box_items self.now) ≡ 0)
+            (λ g. IsBoxEdge self.now g × (0 < box_place self.now g)
+            × (box_place self.now g ≡ count_by (P.test probe.old) (box_items self.now))) }
+        ensures kept { P.test probe.new ≡ P.test probe.old }
+        ensures asked { AddsSteps (P.steps_taken probe.old) (P.steps_taken probe.new)
+            self.now.levels (MAX_ASKS * self.now.levels) }
     {
-        if item_count(&self.nodes, edge.leaf) > MIN_LEN {
-            take_item(&mut self.nodes, edge.leaf, edge.index - 1);
-            return Some(Edge {
-                leaf: edge.leaf,
-                way: edge.way,
-                index: edge.index - 1,
-            });
-        }
-        let left = remove_below(&mut self.nodes, self.levels - 1, self.root, edge);
-        let Settled { root, edge } = settle(&mut self.nodes, self.levels, self.root, left);
-        self.root = root.number;
-        self.levels = root.levels;
         if self.levels == 0 {
+            return None;
+        }
+        let edge = search_below(&self.nodes, self.levels - 1, self.root, probe);
+        if stands_first(edge) {
             return None;
         }
         Some(edge)
     }
 
-    /// Which numbers' items pass the probe's test, which holds on a front of them alone.
-    pub fn search<T, P: Probe<T>>(&self, items: &Slab<T>, probe: &mut P) -> Option<Found>
-        requires stored { Stored items.now (tree_numbers self.now) }
-        requires falls { Falls (passes items.now (P.test probe.old)) (tree_numbers self.now) }
-        ensures last { MatchOption result
-            (count_by (passes items.now (P.test probe.old)) (tree_numbers self.now) ≡ 0)
-            (λ f. IsTreeEdge self.now f.edge
-            × (tree_place self.now f.edge
-            ≡ count_by (passes items.now (P.test probe.old)) (tree_numbers self.now))
-            × IsLast (tree_numbers self.now) (tree_place self.now f.edge) (Some f.number)) }
-        ensures kept { P.test probe.new ≡ P.test probe.old }
-        ensures asked { AddsSteps (P.steps_taken probe.old) (P.steps_taken probe.new)
-            self.now.levels (HALVINGS * self.now.levels) }
+    // Puts an item at an edge, or into an empty tree, and tells the edge after it.
+    pub fn insert(&mut self, edge: Option<Edge>, item: T) -> Edge
+        requires edge { MatchOption edge (box_items self.old ≡ []) (IsBoxEdge self.old) }
+        requires room { 1 ≤ box_room self.old }
+        ensures list { box_items self.new
+            ≡ insert (box_items self.old) (edge_or_end self.old edge) item }
+        ensures room { box_room self.new + 1 ≡ box_room self.old }
+        ensures edge { IsBoxEdge self.new result }
+        ensures place { box_place self.new result ≡ edge_or_end self.old edge + 1 }
     {
-        if self.levels == 0 {
-            return None;
+        match edge {
+            Some(edge) => self.insert_between(edge, item),
+            None => self.insert_into_empty(item),
         }
-        let Passed { edge, last } = search_below(
-            &self.nodes,
-            items,
-            self.levels - 1,
+    }
+
+    // Puts an item into an empty tree, and tells the edge after it.
+    fn insert_into_empty(&mut self, item: T) -> Edge
+        requires empty { box_items self.old ≡ [] }
+        requires room { 1 ≤ box_room self.old }
+        ensures list { box_items self.new ≡ item ∷ [] }
+        ensures room { box_room self.new + 1 ≡ box_room self.old }
+        ensures edge { IsBoxEdge self.new result }
+        ensures place { box_place self.new result ≡ 1 }
+    {
+        self.root = self.nodes.store_leaf(item);
+        self.levels = 1;
+        self.len = 1;
+        Edge {
+            leaf: self.root,
+            path: 0,
+            index: 1,
+        }
+    }
+
+    // Puts an item at an edge, and tells the edge after it.
+    fn insert_between(&mut self, edge: Edge, item: T) -> Edge
+        requires edge { IsBoxEdge self.old edge }
+        requires room { 1 ≤ box_room self.old }
+        ensures list { box_items self.new
+            ≡ insert (box_items self.old) (box_place self.old edge) item }
+        ensures room { box_room self.new + 1 ≡ box_room self.old }
+        ensures edge { IsBoxEdge self.new result }
+        ensures place { box_place self.new result ≡ box_place self.old edge + 1 }
+    {
+        self.len += 1;
+        if self.nodes.item_count(edge.leaf) < CAPACITY {
+            self.nodes.put(edge.leaf, edge.index, item, None);
+            return Edge {
+                leaf: edge.leaf,
+                path: edge.path,
+                index: edge.index + 1,
+            };
+        }
+        let inserted = insert_below(&mut self.nodes, self.levels - 1, self.root, edge, item);
+        let Parts { split, side, edge } = inserted;
+        match split {
+            None => edge,
+            Some(split) => {
+                self.root = self
+                    .nodes
+                    .store_branch(self.root, split.middle, split.right);
+                self.levels += 1;
+                seen_above(edge, side)
+            }
+        }
+    }
+
+    // Takes the item before an edge out of its leaf. Tells where the edge then lies, if there are
+    // items left.
+    pub fn take_in_leaf(&mut self, edge: Edge) -> (T, Option<Edge>)
+        requires edge { IsBoxEdge self.old edge }
+        requires in_leaf { 0 < edge.index }
+        ensures removed { result.0
+            ≡ slice_index_or (box_items self.old) (box_place self.old edge - 1) result.0 }
+        ensures list { box_items self.new
+            ≡ remove (box_items self.old) (box_place self.old edge - 1) }
+        ensures capacity { self.new.nodes.capacity ≡ self.old.nodes.capacity }
+        ensures edge { MatchOption result.1 (box_items self.new ≡ [])
+            (λ g. IsBoxEdge self.new g × (box_place self.new g + 1 ≡ box_place self.old edge)) }
+    {
+        self.len -= 1;
+        if self.nodes.item_count(edge.leaf) > MIN_LEN {
+            let item = self.nodes.take_item(edge.leaf, edge.index - 1);
+            let before = Edge {
+                leaf: edge.leaf,
+                path: edge.path,
+                index: edge.index - 1,
+            };
+            return (item, Some(before));
+        }
+        let taken = remove_below(&mut self.nodes, self.levels - 1, self.root, edge);
+        let Shrunk { root, edge } = shrink_root(
+            &mut self.nodes,
+            self.levels,
             self.root,
-            probe,
+            taken.edge,
         );
-        let number = last?;
-        Some(Found { number, edge })
+        self.root = root.number;
+        self.levels = root.levels;
+        if self.levels == 0 {
+            return (taken.item, None);
+        }
+        (taken.item, Some(edge))
+    }
+
+    // Takes the item before an edge out, and tells the edge after the one that followed it.
+    pub fn take(&mut self, edge: Edge) -> (T, Option<Edge>)
+        requires edge { IsBoxEdge self.old edge }
+        requires some { 0 < box_place self.old edge }
+        ensures removed { result.0
+            ≡ slice_index_or (box_items self.old) (box_place self.old edge - 1) result.0 }
+        ensures list { box_items self.new
+            ≡ remove (box_items self.old) (box_place self.old edge - 1) }
+        ensures space { box_room self.old + 1 ≤ box_room self.new }
+        ensures following { IsNextEdge self.new result.1 (box_place self.old edge - 1) }
+    {
+        if edge.index > 0 {
+            let (item, left) = self.take_in_leaf(edge);
+            return match left {
+                None => (item, None),
+                Some(left) => (item, self.following(left)),
+            };
+        }
+        // The item stands above the leaves: the one after it takes its place.
+        let behind = Edge {
+            leaf: edge.leaf,
+            path: edge.path,
+            index: 1,
+        };
+        let (next, left) = self.take_in_leaf(behind);
+        let Some(left) = left else { unreachable!() };
+        let home = self.home(left);
+        let item = self.nodes.replace_item(home.node, home.index, next);
+        (item, Some(left))
     }
 }

@@ -2,7 +2,8 @@ use Rattle.std.proofs.Common.{rules, ◌≡◌, ◌≢◌, subst, [], arith, ◌
 use Rattle.std.specs.Str.{IsUtf8}
 use Rattle.std.specs.Io.BufRead.{first_line, take_through, drop_through}
 use Rattle.std.specs.Io.KnownBytes.{IsAtEnd}
-use Rattle.btree_range_map.specs.Holding.{box_items, box_levels, level_count}
+use Rattle.btree_range_map.specs.Depth.{HasLevels}
+use Rattle.btree_range_map.specs.Holding.{box_items, level_count}
 use Rattle.rangerun.specs.Replies.{Writes}
 use Rattle.rangerun.specs.Conversation.{Conversation}
 use Rattle.rangerun.proofs.Progress.{HasAnswered, answered_none, answered_more, answered_all, if_some_as, stopped_at, line_of, none_of_none, first_line_of}
@@ -98,7 +99,8 @@ loop-preserved g c =
     answered_more order as_number shape reads is_read bytes left later before now next items changed
     (level_count c.loop.map) c.in-Ok-from_utf8.text.now answered some rest_read line_is
     (subst IsUtf8 (sym c.in-Ok-from_utf8.ensures.cases.0) c.in-Ok-from_utf8.ensures.cases.1)
-    (box_levels c.loop.map) c.in-Ok-answer_line.ensures)
+    (subst (λ many. HasLevels many (level_count c.loop.map)) c.loop.map.counted c.loop.map.levelled)
+    c.in-Ok-answer_line.ensures)
     c.loop.invariant
 
 pub returns-in_default-clause-unread : goal.returns-in_default-clause-unread

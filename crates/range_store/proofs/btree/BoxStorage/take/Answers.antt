@@ -1,33 +1,181 @@
-use Rattle.range_store.specs.Holding.{box_rank}
-use Rattle.range_store.specs.Trees.{tree_numbers}
-use Rattle.range_store.proofs.Lent.{good_stored}
-use Rattle.range_store.proofs.Levels.{has_levels}
-use Rattle.range_store.proofs.Listing.{removed_item, removed_listed, removed_storage}
-use Rattle.range_store.proofs.Positions.{position_at}
+use Rattle.std.proofs.Common.{◌≡◌, [], ◌-◌, ◌≤◌, ◌+◌, length, ap, rules, arith}
+use Rattle.range_store.specs.Holding.{box_items, box_place, IsBoxEdge, IsGood, good_home}
+use Rattle.range_store.proofs.Taking.{one_fewer, room_grows, space_grows, IsReplaced, replaced, replaced_item}
+use Rattle.range_store.proofs.Whole.{edge_within, tree_behind}
 use Rattle.range_store.proofs.btree.BoxStorage.take.Goals as goal
+use Rattle.range_store.proofs.btree.BoxStorage.take.Given.{Over}
+use Rattle.range_store.proofs.btree.BoxStorage.take.Goals.{Start, After-replace_item-item}
 
-pub remove-item-requires : goal.remove-item-requires
-remove-item-requires g c = good_stored c.args.self.now c.args.p c.requires
+within : (g : Over) (c : Start g)
+    → box_place c.args.self.now c.args.edge ≤ length (box_items c.args.self.now)
+within g c = edge_within c.args.self.now c.args.edge c.requires.edge
+
+-- out of a leaf
+pub returns-in-None-clause-space : goal.returns-in-None-clause-space
+returns-in-None-clause-space g c =
+    let s = c.args.self.now in
+    room_grows s c.take_in_leaf-item.new.self (box_place s c.args.edge) c.requires.some
+    (within g (goal.at.returns-in-None-clause-space g c).Start) c.take_in_leaf-item.ensures.list
+    c.take_in_leaf-item.ensures.capacity
+
+pub returns-in-None-clause-following : goal.returns-in-None-clause-following
+returns-in-None-clause-following g c =
+    let s = c.args.self.now in
+    let within = within g (goal.at.returns-in-None-clause-following g c).Start in
+    let none : box_items c.take_in_leaf-item.new.self ≡ [] =
+    rw c.in-None.is at c.take_in_leaf-item.ensures.edge in
+    omega (
+      arith,
+      one_fewer s c.take_in_leaf-item.new.self
+          (box_place s c.args.edge) c.requires.some within c.take_in_leaf-item.ensures.list,
+      ap length none,
+      within,
+    )
+
+pub following-requires : goal.following-requires
+following-requires g c =
+    let left : IsBoxEdge c.take_in_leaf-item.new.self c.in-Some.left
+    × (box_place c.take_in_leaf-item.new.self c.in-Some.left + 1
+    ≡ box_place c.args.self.now c.args.edge) =
+    rw c.in-Some.is at c.take_in_leaf-item.ensures.edge in
+    (search rules, left.0)
+
+pub returns-in-Some-clause-space : goal.returns-in-Some-clause-space
+returns-in-Some-clause-space g c =
+    let s = c.args.self.now in
+    room_grows s c.take_in_leaf-item.new.self (box_place s c.args.edge) c.requires.some
+    (within g (goal.at.returns-in-Some-clause-space g c).Start) c.take_in_leaf-item.ensures.list
+    c.take_in_leaf-item.ensures.capacity
+
+pub returns-in-Some-clause-following : goal.returns-in-Some-clause-following
+returns-in-Some-clause-following g c =
+    let left : IsBoxEdge c.take_in_leaf-item.new.self c.in-Some.left
+    × (box_place c.take_in_leaf-item.new.self c.in-Some.left + 1
+    ≡ box_place c.args.self.now c.args.edge) =
+    rw c.in-Some.is at c.take_in_leaf-item.ensures.edge in
+    let same : box_place c.take_in_leaf-item.new.self c.in-Some.left
+    ≡ box_place c.args.self.now c.args.edge - 1 = omega (arith, left.1) in
+    rw same at c.following.ensures
+
+-- from above the leaves
+pub take_in_leaf-next-requires : goal.take_in_leaf-next-requires
+take_in_leaf-next-requires g c = (
+  search rules,
+  (
+    (tree_behind c.args.self.now c.args.edge c.requires.edge
+        (omega (arith, c.if-edge-gt0.false))).0,
+    omega arith,
+  ),
+)
+
+pub unreachable-requires : goal.unreachable-requires
+unreachable-requires g c =
+    let s = c.args.self.now in
+    let behind =
+    tree_behind c.args.self.now c.args.edge c.requires.edge
+    (omega (arith, c.if-edge-gt0.false)) in
+    let inside = edge_within s _ behind.0 in
+    let none : box_items c.take_in_leaf-next.new.self ≡ [] =
+    rw c.in_default.is at c.take_in_leaf-next.ensures.edge in
+    omega (
+      arith,
+      one_fewer s c.take_in_leaf-next.new.self (box_place s c.args.edge + 1) (omega arith)
+          (omega (arith, inside, behind.1)) (rw behind.1 at c.take_in_leaf-next.ensures.list),
+      ap length none,
+      inside,
+      behind.1,
+      c.requires.some,
+    )
+
+pub home-home-requires : goal.home-home-requires
+home-home-requires g c =
+    let behind =
+    tree_behind c.args.self.now c.args.edge c.requires.edge
+    (omega (arith, c.if-edge-gt0.false)) in
+    let left : IsBoxEdge c.take_in_leaf-next.new.self c.in-Some-left.left
+    × (box_place c.take_in_leaf-next.new.self c.in-Some-left.left + 1
+    ≡ box_place c.args.self.now
+    (record { leaf = c.args.edge.leaf; path = c.args.edge.path; index = 1 })) =
+    rw c.in-Some-left.is at c.take_in_leaf-next.ensures.edge in
+    (search rules, (left.0, omega (arith, left.1, behind.1, c.requires.some)))
+
+pub replace_item-item-requires : goal.replace_item-item-requires
+replace_item-item-requires g c =
+    let s = c.args.self.now in
+    let t = c.take_in_leaf-next.new.self in
+    let behind =
+    tree_behind c.args.self.now c.args.edge c.requires.edge
+    (omega (arith, c.if-edge-gt0.false)) in
+    let left : IsBoxEdge c.take_in_leaf-next.new.self c.in-Some-left.left
+    × (box_place c.take_in_leaf-next.new.self c.in-Some-left.left + 1
+    ≡ box_place c.args.self.now
+    (record { leaf = c.args.edge.leaf; path = c.args.edge.path; index = 1 })) =
+    rw c.in-Some-left.is at c.take_in_leaf-next.ensures.edge in
+    let good : IsGood t c.in-Some-left.left =
+    record { is = left.0; some = omega (arith, left.1, behind.1, c.requires.some) } in
+    let home = good_home t c.in-Some-left.left good in
+    (search rules, rw c.home-home.ensures (home.present, home.within))
+
+replaced_so : (g : Over) (c : After-replace_item-item g)
+    → IsReplaced c.args.self.now c.take_in_leaf-next.new.self c.args.edge
+    c.replace_item-item.new.self c.in-Some-left.left
+replaced_so g c =
+    let behind =
+    tree_behind c.args.self.now c.args.edge c.requires.edge
+    (omega (arith, c.if-edge-gt0.false)) in
+    let left : IsBoxEdge c.take_in_leaf-next.new.self c.in-Some-left.left
+    × (box_place c.take_in_leaf-next.new.self c.in-Some-left.left + 1
+    ≡ box_place c.args.self.now
+    (record { leaf = c.args.edge.leaf; path = c.args.edge.path; index = 1 })) =
+    rw c.in-Some-left.is at c.take_in_leaf-next.ensures.edge in
+    replaced c.args.self.now c.take_in_leaf-next.new.self c.args.edge
+    (record { leaf = c.args.edge.leaf; path = c.args.edge.path; index = 1 }) c.in-Some-left.left
+    c.requires.some (edge_within c.args.self.now _ behind.0) behind.1
+    c.take_in_leaf-next.ensures.list left.0 left.1 c.take_in_leaf-next.result.0
+    c.replace_item-item.new.self c.home-home.result c.home-home.ensures
+    c.replace_item-item.ensures.after c.take_in_leaf-next.ensures.capacity
+    c.take_in_leaf-next.ensures.removed
 
 pub invariant_of-self : goal.invariant_of-self
 invariant_of-self g c =
-    let s = c.args.self.now in
-    let tree = c.remove-following.new.self in
-    record {
-      whole = removed_storage s.items c.remove-item.new.self c.args.p.number (box_rank s c.args.p) c.remove-item.result (tree_numbers s.tree) (tree_numbers tree) s.whole c.remove-item.ensures.value c.requires.number_is c.remove-item.ensures.updates c.remove-item.ensures.len c.requires.within c.remove-following.ensures.numbers;
-      levelled = has_levels tree.nodes tree.levels tree.root tree.whole.tree;
-    }
+    let so = replaced_so g (goal.at.invariant_of-self g c).After-replace_item-item in
+    record { whole = so.roomy; counted = so.many; levelled = c.take_in_leaf-next.new.self.levelled }
 
 pub returns-clause-removed : goal.returns-clause-removed
 returns-clause-removed g c =
-    let s = c.args.self.now in
-    removed_item s.items c.remove-item.new.self c.args.p.number (box_rank s c.args.p) c.remove-item.result (tree_numbers s.tree) (tree_numbers c.remove-following.new.self) s.whole c.remove-item.ensures.value c.requires.number_is c.remove-item.ensures.updates c.remove-item.ensures.len c.requires.within c.remove-following.ensures.numbers c.remove-item.result
+    let behind =
+    tree_behind c.args.self.now c.args.edge c.requires.edge
+    (omega (arith, c.if-edge-gt0.false)) in
+    let left : IsBoxEdge c.take_in_leaf-next.new.self c.in-Some-left.left
+    × (box_place c.take_in_leaf-next.new.self c.in-Some-left.left + 1
+    ≡ box_place c.args.self.now
+    (record { leaf = c.args.edge.leaf; path = c.args.edge.path; index = 1 })) =
+    rw c.in-Some-left.is at c.take_in_leaf-next.ensures.edge in
+    replaced_item c.args.self.now c.take_in_leaf-next.new.self c.args.edge
+    (record { leaf = c.args.edge.leaf; path = c.args.edge.path; index = 1 }) c.in-Some-left.left
+    c.requires.some (edge_within c.args.self.now _ behind.0) behind.1
+    c.take_in_leaf-next.ensures.list left.0 left.1 c.replace_item-item.result c.home-home.result
+    c.home-home.ensures c.replace_item-item.ensures.before
 
 pub returns-clause-list : goal.returns-clause-list
 returns-clause-list g c =
-    let s = c.args.self.now in
-    removed_listed s.items c.remove-item.new.self c.args.p.number (box_rank s c.args.p) c.remove-item.result (tree_numbers s.tree) (tree_numbers c.remove-following.new.self) s.whole c.remove-item.ensures.value c.requires.number_is c.remove-item.ensures.updates c.remove-item.ensures.len c.requires.within c.remove-following.ensures.numbers
+    (replaced_so g (goal.at.returns-clause-list g c).After-replace_item-item).items_are
+
+pub returns-clause-space : goal.returns-clause-space
+returns-clause-space g c =
+    let at = goal.at.returns-clause-space g c in
+    let so = replaced_so g at.After-replace_item-item in
+    space_grows c.args.self.now
+    (box_place c.args.self.now c.args.edge) c.replace_item-item.new.self
+    c.take_in_leaf-next.new.self.levels c.take_in_leaf-next.new.self.root c.requires.some
+    (within g at.Start) so.items_are so.capacity
 
 pub returns-clause-following : goal.returns-clause-following
 returns-clause-following g c =
-    position_at _ (box_rank c.args.self.now c.args.p) c.remove-following.result c.position.result c.position.ensures c.remove-following.ensures.following
+    let so = replaced_so g (goal.at.returns-clause-following g c).After-replace_item-item in
+    let left : IsBoxEdge c.take_in_leaf-next.new.self c.in-Some-left.left
+    × (box_place c.take_in_leaf-next.new.self c.in-Some-left.left + 1
+    ≡ box_place c.args.self.now
+    (record { leaf = c.args.edge.leaf; path = c.args.edge.path; index = 1 })) =
+    rw c.in-Some-left.is at c.take_in_leaf-next.ensures.edge in
+    (record { some = left.0.some; edge = so.edge }, so.place_is)

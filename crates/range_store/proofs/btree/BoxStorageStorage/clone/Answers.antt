@@ -1,15 +1,32 @@
-use Rattle.std.proofs.Common.{◌≡◌, ℕ, ◌+◌, ◌-◌, ◌<◌, ◌≤◌, true, List, [], ◌∷◌, ◌++◌, length, get_or, take, sym, ◌∙◌, arith}
+use Rattle.std.proofs.Common.{◌≡◌, ℕ, ◌+◌, ◌-◌, ◌%◌, ◌<◌, ◌^◌, ◌≤◌, true, List, [], ◌∷◌, ◌++◌, length, get_or, take, sym, ◌∙◌, rules, arith}
 use Rattle.std.specs.List.{AllZip}
 use Rattle.std.proofs.lemmas.List.{length_push, take_all}
 use Rattle.std.proofs.lemmas.List.Edits.{insert_end}
 use Rattle.std.proofs.lemmas.List.Elements.{all_zip_more}
+use denote.Builtin.{unit}
+use denote.Param.{layout, number, param}
+use denote.RattleType.{RattleType}
+use mir.Syntax.{Ty, Width, w8, w16, w32, w64, w128}
+use mir.Val.{bytes}
+use native.Mathlib.Nat.{mod-lt}
+use prog.Align.{align-bytes, align_pos, align_w, up-ge}
+use prog.Memory.{align, size, up}
+use Rattle.arrayvec.specs.contracts.array_vec.ArrayVec
+use Rattle.std.specs.contracts.option.Option
+use Rattle.range_store.specs.contracts.btree.BoxStorage
+use Rattle.range_store.specs.contracts.btree.nodes.Node
+use Rattle.range_store.specs.contracts.btree.nodes.Nodes
 use Rattle.range_store.specs.Holding.{box_items, box_room, good_in_range}
 use Rattle.range_store.proofs.btree.BoxStorageStorage.clone.Goals as goal
 
 -- one item more stands in both
-copied_one : {T : Type 0} (Q : T → T → Type 0) (items before after : List T) (x y : T) → after ≡ before ++ y ∷ [] → length before < length items → x ≡ get_or items (length before) x → AllZip Q (take (length before) items) before → Q x y → AllZip Q (take (length after) items) after
+copied_one : {T : Type 0} (Q : T → T → Type 0) (items before after : List T) (x y : T)
+    → after ≡ before ++ y ∷ [] → length before < length items → x ≡ get_or items (length before) x
+    → AllZip Q (take (length before) items) before → Q x y
+    → AllZip Q (take (length after) items) after
 copied_one Q items before after x y longer within read copied holds =
-    rw (longer, length_push before y) (all_zip_more Q items before (length before) x y within read copied holds)
+    rw (longer, length_push before y)
+    (all_zip_more Q items before (length before) x y within read copied holds)
 
 pub loop-at-preserved : goal.loop-at-preserved
 loop-at-preserved g c =
@@ -17,23 +34,38 @@ loop-at-preserved g c =
     let before = box_items c.loop-at.copy in
     let after = box_items c.insert_at.new.self in
     let here = rw c.in-Some.is at c.loop-at.invariant.position in
-    let longer : after ≡ before ++ c.in_ok-item.item ∷ [] = c.insert_at.ensures.list ∙ insert_end before c.in_ok-item.item in
-    let count : length after ≡ length before + 1 = rw longer (length_push before c.in_ok-item.item) in
-    let within : length before < length items = rw here.1 at (good_in_range c.args.self.now c.in-Some.p.found here.0) in
+    let longer : after ≡ before ++ c.in_ok-item.item ∷ [] =
+    c.insert_at.ensures.list ∙ insert_end before c.in_ok-item.item in
+    let count : length after ≡ length before + 1 =
+    rw longer (length_push before c.in_ok-item.item) in
+    let within : length before < length items =
+    rw here.1 at (good_in_range c.args.self.now c.in-Some.p here.0) in
     let read = rw here.1 at c.get.ensures in
     record {
       position = rw count (rw here.1 at c.next-at.ensures);
-      copied = copied_one (λ x y. g.T.PartialEq.eq y x ≡ true) items before after c.get.result.now c.in_ok-item.item longer within read c.loop-at.invariant.copied ((rw (sym read) at (c.requires (length before) c.get.result.now within)) c.in_ok-item.item c.in_ok-item.ensures.cases);
+      copied =
+          copied_one (λ x y. g.T.PartialEq.eq y x ≡ true) items before after c.get.result.now
+          c.in_ok-item.item longer within read c.loop-at.invariant.copied
+          ((rw (sym read) at (c.requires (length before) c.get.result.now within)) c.in_ok-item.item
+          c.in_ok-item.ensures.cases);
       space = omega (arith, count, c.insert_at.ensures.space, c.loop-at.invariant.space);
     }
 
 some_room : (n m room : ℕ) → m < n → n ≤ m + room → 1 ≤ room
 some_room n m room within space = omega arith
 
-pub insert_at-requires-clause-has_room : goal.insert_at-requires-clause-has_room
-insert_at-requires-clause-has_room g c =
-    let here = rw c.in-Some.is at c.loop-at.invariant.position in
-    some_room (length (box_items c.args.self.now)) (length (box_items c.loop-at.copy)) (box_room c.loop-at.copy) (rw here.1 at (good_in_range c.args.self.now c.in-Some.p.found here.0)) c.loop-at.invariant.space
+pub insert_at-requires : goal.insert_at-requires
+insert_at-requires g c =
+    let here = rw c.in-Some.is at c.loop-at.invariant.position in (
+      search rules,
+      (
+        (λ x none. search rules),
+        some_room (length (box_items c.args.self.now)) (length (box_items c.loop-at.copy))
+            (box_room c.loop-at.copy)
+            (rw here.1 at (good_in_range c.args.self.now c.in-Some.p here.0))
+            c.loop-at.invariant.space,
+      ),
+    )
 
 fewer_left : (n m k : ℕ) → k ≡ m + 1 → m < n → n - k < n - m
 fewer_left n m k count within = omega arith
@@ -43,9 +75,12 @@ loop-at-smaller g c =
     let before = box_items c.loop-at.copy in
     let after = box_items c.insert_at.new.self in
     let here = rw c.in-Some.is at c.loop-at.invariant.position in
-    let longer : after ≡ before ++ c.in_ok-item.item ∷ [] = c.insert_at.ensures.list ∙ insert_end before c.in_ok-item.item in
-    let count : length after ≡ length before + 1 = rw longer (length_push before c.in_ok-item.item) in
-    fewer_left (length (box_items c.args.self.now)) (length before) (length after) count (rw here.1 at (good_in_range c.args.self.now c.in-Some.p.found here.0))
+    let longer : after ≡ before ++ c.in_ok-item.item ∷ [] =
+    c.insert_at.ensures.list ∙ insert_end before c.in_ok-item.item in
+    let count : length after ≡ length before + 1 =
+    rw longer (length_push before c.in_ok-item.item) in
+    fewer_left (length (box_items c.args.self.now)) (length before) (length after) count
+    (rw here.1 at (good_in_range c.args.self.now c.in-Some.p here.0))
 
 pub returns : goal.returns
 returns g c =
@@ -53,3 +88,12 @@ returns g c =
     let copies = box_items c.loop-at.copy in
     let whole : length copies ≡ length items = rw c.in_default.is at c.loop-at.invariant.position in
     rw (take_all (length copies) items (omega (arith, whole))) at c.loop-at.invariant.copied
+
+pub loop-at-init : goal.loop-at-init
+loop-at-init g c =
+    let none : box_items c.reserve.new.self ≡ [] = c.reserve.ensures.list ∙ c.new-copy.ensures in
+    record {
+      position = rw none c.first-at.ensures;
+      copied = rw none (search rules);
+      space = omega (arith, c.in_ok-reserve.ensures);
+    }

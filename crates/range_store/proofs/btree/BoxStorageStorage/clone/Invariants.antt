@@ -1,6 +1,7 @@
 use Rattle.std.proofs.Common.{◌≡◌, ◌+◌, ◌-◌, ◌≤◌, true, length, take}
 use Rattle.std.specs.List.{AllZip}
-use Rattle.range_store.specs.Holding.{box_items, box_room, IsBoxAt}
+use Rattle.range_store.specs.Holding.{box_items, box_rank, box_room, IsGood}
+use Rattle.range_store.specs.Places.{IsAt}
 use Rattle.range_store.proofs.btree.BoxStorageStorage.clone.Given as goal
 
 abbrev pub invariant-loop-at : goal.invariant-loop-at
@@ -8,7 +9,7 @@ invariant-loop-at g l =
     let items = box_items l.self in
     let copies = box_items l.copy in
     record {
-      position : IsBoxAt l.self l.at (length copies);
+      position : IsAt (IsGood l.self) (box_rank l.self) (length items) l.at (length copies);
       copied : AllZip (λ x y. g.T.PartialEq.eq y x ≡ true) (take (length copies) items) copies;
       space : length items ≤ length copies + box_room l.copy;
     }

@@ -1,8 +1,14 @@
-use Rattle.range_store.proofs.Lent.{good_item, good_stored}
+use Rattle.std.proofs.Common.{rules}
+use Rattle.range_store.specs.Holding.{good_home}
+use Rattle.range_store.proofs.Lent.{item_home}
 use Rattle.range_store.proofs.btree.BoxStorageStorage.get.Goals as goal
 
-pub index-requires : goal.index-requires
-index-requires g c = good_stored c.args.self.now c.args.p.found c.requires
+pub item_at-requires : goal.item_at-requires
+item_at-requires g c =
+    let home = good_home c.args.self.now c.args.p c.requires in
+    (search rules, rw c.home-home.ensures (home.present, home.within))
 
 pub returns : goal.returns
-returns g c = good_item c.args.self.now c.args.p.found c.requires c.index.result.now c.index.result.now c.index.ensures
+returns g c =
+    item_home c.args.self.now c.args.p c.requires c.home-home.result c.home-home.ensures
+    c.item_at.result.now c.item_at.ensures

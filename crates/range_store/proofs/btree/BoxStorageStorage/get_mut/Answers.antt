@@ -1,13 +1,34 @@
-use Rattle.std.proofs.Common.{refl}
-use Rattle.range_store.specs.Holding.{box_rank}
-use Rattle.range_store.proofs.Lent.{good_item, good_stored, good_number, same_storage}
+use Rattle.std.proofs.Common.{refl, rules}
+use Rattle.range_store.specs.Holding.{good_home}
+use Rattle.range_store.proofs.Lent.{counted_at, item_home, roomy_at, same_storage, written_at}
 use Rattle.range_store.proofs.btree.BoxStorageStorage.get_mut.Goals as goal
 
-pub index_mut-requires : goal.index_mut-requires
-index_mut-requires g c = good_stored c.args.self.now c.args.p.found c.requires
+pub item_mut-requires : goal.item_mut-requires
+item_mut-requires g c =
+    let home = good_home c.args.self.now c.args.p c.requires in
+    (search rules, rw c.home-home.ensures (home.present, home.within))
+
+pub invariant_of-self-lent : goal.invariant_of-self-lent
+invariant_of-self-lent g c w =
+    let s = c.args.self.now in
+    let same = written_at s c.args.p c.requires c.home-home.result w _ c.home-home.ensures refl in (
+      roomy_at s c.args.p c.requires w _ same,
+      (counted_at s c.args.p c.requires w _ same, (s.levelled, tt)),
+    )
 
 pub returns : goal.returns
 returns g c = (
-  (refl, λ w. same_storage c.args.self.now (box_rank c.args.self.now c.args.p.found) c.args.p.found.number w (good_number c.args.self.now c.args.p.found c.requires) _ _),
-  record { writes_back = tt; value = good_item c.args.self.now c.args.p.found c.requires c.index_mut.result.now c.index_mut.result.now c.index_mut.ensures.value },
+  (
+    refl,
+    λ w.
+        same_storage c.args.self.now c.args.p c.requires c.home-home.result w c.home-home.ensures _
+        _
+        _,
+  ),
+  record {
+    writes_back = tt;
+    value =
+        item_home c.args.self.now c.args.p c.requires c.home-home.result c.home-home.ensures
+        c.item_mut.result.now c.item_mut.ensures.value;
+  },
 )

@@ -1,10 +1,18 @@
-use Rattle.range_store.specs.Trees.{tree_numbers}
+use Rattle.std.proofs.Common.{sym, ap, length, arith}
 use Rattle.range_store.proofs.Levels.{has_levels}
-use Rattle.range_store.proofs.Listing.{empty_storage}
+use Rattle.range_store.proofs.Rank.{IsTree-none, items_below_none}
 use Rattle.range_store.proofs.btree.BoxStorageStorage.new.Goals as goal
 
 pub invariant_of-result : goal.invariant_of-result
-invariant_of-result g c = record {
-  whole = empty_storage c.new.result (tree_numbers c.new-2.result) c.new.ensures.empty c.new-2.ensures.empty;
-  levelled = has_levels c.new-2.result.nodes c.new-2.result.levels c.new-2.result.root c.new-2.result.whole.tree;
-}
+invariant_of-result g c =
+    let none = ap length (items_below_none c.new.result 0) in
+    let tree = IsTree-none c.new.result 0 c.new.ensures.empty in
+    record {
+      whole = record {
+        tree = tree;
+        fits = omega (arith, none);
+        counted = omega (arith, none);
+      };
+      counted = sym none;
+      levelled = rw none at (has_levels c.new.result 0 0 tree);
+    }

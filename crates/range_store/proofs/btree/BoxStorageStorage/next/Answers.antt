@@ -1,11 +1,12 @@
-use Rattle.std.proofs.Common.{◌≡◌, ◌+◌, ◌-◌, arith}
-use Rattle.range_store.specs.Trees.{tree_place}
-use Rattle.range_store.proofs.Positions.{position_at}
+use Rattle.std.proofs.Common.{◌≡◌, ◌+◌, arith, subst}
+use Rattle.range_store.specs.Holding.{box_place, box_rank, next_at, rank_is, IsNextEdge}
 use Rattle.range_store.proofs.btree.BoxStorageStorage.next.Goals as goal
 
 pub returns : goal.returns
 returns g c =
     let s = c.args.self.now in
-    let place = tree_place s.tree c.args.p.found.edge in
-    let same : place - 1 + 1 ≡ place = omega (arith, c.requires.some) in
-    rw same (position_at s place c.following.result c.position.result c.position.ensures c.following.ensures)
+    let edge = c.args.p in
+    let after : box_place s edge ≡ box_rank s edge + 1 =
+    omega (arith, rank_is s edge c.requires, c.requires.some) in
+    next_at s c.following.result (box_rank s edge + 1)
+    (subst (λ rank. IsNextEdge s c.following.result rank) after c.following.ensures)

@@ -1,16 +1,50 @@
-use Rattle.std.proofs.Common.{◌∙◌, ap}
-use Rattle.std.proofs.Math.ListN.{set}
-use Rattle.range_store.specs.Holding.{box_items, box_rank}
-use Rattle.range_store.proofs.Lent.{good_item, good_stored, good_set}
+use Rattle.std.proofs.Common.{refl, rules}
+use Rattle.range_store.specs.Holding.{good_home, rank_is, written_items, written_nodes}
+use Rattle.range_store.specs.Written.{SameShape}
+use Rattle.range_store.proofs.Lent.{counted_at, good_same, item_home, roomy_at, written_at}
 use Rattle.range_store.proofs.btree.BoxStorageStorage.replace.Goals as goal
 
-pub index_mut-requires : goal.index_mut-requires
-index_mut-requires g c = good_stored c.args.self.now c.args.p.found c.requires
+pub replace_item-requires : goal.replace_item-requires
+replace_item-requires g c =
+    let home = good_home c.args.self.now c.args.p c.requires in
+    (search rules, rw c.home-home.ensures (home.present, home.within))
+
+pub invariant_of-self : goal.invariant_of-self
+invariant_of-self g c =
+    let s = c.args.self.now in
+    let same =
+    written_at s c.args.p c.requires c.home-home.result c.args.item _ c.home-home.ensures
+    c.replace_item.ensures.after in
+    record {
+      whole = roomy_at s c.args.p c.requires c.args.item c.replace_item.new.self same;
+      counted = counted_at s c.args.p c.requires c.args.item c.replace_item.new.self same;
+      levelled = s.levelled;
+    }
 
 pub returns-clause-before : goal.returns-clause-before
 returns-clause-before g c =
-    c.replace.ensures.value ∙ good_item c.args.self.now c.args.p.found c.requires c.index_mut.result.now c.replace.result c.index_mut.ensures.value
+    item_home c.args.self.now c.args.p c.requires c.home-home.result c.home-home.ensures
+    c.replace_item.result c.replace_item.ensures.before
 
 pub returns-clause-list : goal.returns-clause-list
 returns-clause-list g c =
-    good_set c.args.self.now c.args.p.found c.requires c.replace.new.dest ∙ ap (λ z. set (box_items c.args.self.now) (box_rank c.args.self.now c.args.p.found) z) c.replace.ensures.after
+    let s = c.args.self.now in
+    let same =
+    written_at s c.args.p c.requires c.home-home.result c.args.item _ c.home-home.ensures
+    c.replace_item.ensures.after in
+    rw (same, rank_is s c.args.p c.requires) (written_items s c.args.p c.requires c.args.item)
+
+pub returns-clause-positions : goal.returns-clause-positions
+returns-clause-positions g c q good =
+    let s = c.args.self.now in
+    let same =
+    written_at s c.args.p c.requires c.home-home.result c.args.item _ c.home-home.ensures
+    c.replace_item.ensures.after in
+    let shape : SameShape s.nodes c.replace_item.new.self =
+    rw same (written_nodes s c.args.p c.requires c.args.item) in
+    good_same s (record s {
+      nodes = c.replace_item.new.self;
+      whole = c.self-1.given.0;
+      counted = c.self-1.given.1.0;
+      levelled = c.self-1.given.1.1.0;
+    }) shape refl refl q good

@@ -1,8 +1,54 @@
-use Rattle.std.proofs.Common.{refl}
+use Rattle.std.proofs.Common.{◌∙◌, length, refl, ap, sym, arith}
+use Rattle.std.proofs.lemmas.Grind.{div_ceil_times}
+use Rattle.std.proofs.lemmas.Result.{on_ok_weaker}
+use Rattle.range_store.specs.declared.btree.nodes.TheConstants.{MIN_LEN}
+use Rattle.range_store.proofs.Lent.{good_same}
+use Rattle.range_store.proofs.Reserving.{kept_count, kept_items, kept_shape, kept_tree}
 use Rattle.range_store.proofs.btree.BoxStorageStorage.reserve.Goals as goal
+
+pub invariant_of-self : goal.invariant_of-self
+invariant_of-self g c =
+    let s = c.args.self.now in
+    let kept =
+    ap length (kept_items s.nodes c.reserve.new.self c.reserve.ensures.rest_kept s.levels
+    s.root) in
+    record {
+      whole = record {
+        tree =
+            kept_tree s.nodes c.reserve.new.self c.reserve.ensures.rest_kept s.levels s.root
+            s.whole.tree;
+        fits = omega (arith, kept, s.whole.fits, c.reserve.ensures.no_less);
+        counted = omega (arith, kept, s.whole.counted);
+      };
+      counted = s.counted ∙ sym kept;
+      levelled = s.levelled;
+    }
+
+pub returns-clause-list : goal.returns-clause-list
+returns-clause-list g c =
+    let s = c.args.self.now in
+    kept_items s.nodes c.reserve.new.self c.reserve.ensures.rest_kept s.levels s.root
+
+pub returns-clause-ok : goal.returns-clause-ok
+returns-clause-ok g c =
+    let s = c.args.self.now in
+    let kept =
+    ap length (kept_items s.nodes c.reserve.new.self c.reserve.ensures.rest_kept s.levels
+    s.root) in
+    let count = kept_count s.nodes c.reserve.new.self c.reserve.ensures.rest_kept in
+    let ceiling = div_ceil_times c.in-Some.many MIN_LEN (omega arith) in
+    on_ok_weaker c.reserve.result
+    (λ room.
+    omega (arith, kept, count, ceiling.0, room, c.in-Some.ensures.1, s.counted, c.len.ensures))
+    c.reserve.ensures.room
 
 pub returns-clause-positions : goal.returns-clause-positions
 returns-clause-positions g c q good =
-    let here = c.reserve-2.ensures.edges q.found.edge good.edge in
-    let same = c.reserve-2.ensures.numbers in
-    (record { edge = here.0; some = rw here.1 good.some; within = rw (here.1, same) good.within; number_is = rw (here.1, same) good.number_is }, rw here.1 refl)
+    let s = c.args.self.now in
+    good_same s (record s {
+      nodes = c.reserve.new.self;
+      whole = c.self-1.given.0;
+      counted = c.self-1.given.1.0;
+      levelled = c.self-1.given.1.1.0;
+    })
+    (kept_shape s.nodes c.reserve.new.self c.reserve.ensures.rest_kept) refl refl q good

@@ -1,217 +1,454 @@
-use Rattle.std.proofs.Common.{◌+◌, ◌-◌, get_or, ◌∙◌, arith, inr, Some, None}
+use Rattle.std.proofs.Common.{◌+◌, ◌-◌, get_or, rules, ◌∙◌, arith, Some, None}
 use Rattle.std.specs.List.{insert}
 use Rattle.std.proofs.lemmas.List.Edits.{length-insert}
-use Rattle.slab.specs.Slab.{get}
-use Rattle.range_store.specs.declared.btree.node.TheConstants.{CAPACITY}
-use Rattle.range_store.specs.Nodes.{items_of, children_of}
+use Rattle.range_store.specs.Heap.{node_of, items_of, children_of}
+use Rattle.range_store.specs.declared.btree.nodes.TheConstants.{CAPACITY}
 use Rattle.range_store.specs.Edges.{turn, inside, place}
-use Rattle.range_store.proofs.Edges.{way_small, leaf_index, leaf_place}
+use Rattle.range_store.proofs.Edges.{path_small, leaf_index, leaf_place}
 use Rattle.range_store.proofs.Below.{children_length}
 use Rattle.range_store.proofs.Room.{HasTreeRoom-child}
 use Rattle.range_store.proofs.Seats.{seat_alone, seat_inside, seat_side}
-use Rattle.range_store.proofs.Ways.{level_of_children, child_within, below_kid, below_turn, below_inside, below_here, below_most}
+use Rattle.range_store.proofs.Paths.{level_of_children, child_within, below_kid, below_turn, below_inside, below_here, below_most}
 use Rattle.range_store.proofs.Leaves.{leaf_content, leaf_moved, leaf_listed, leaf_longer, leaf_seat, leaf_seat_place}
 use Rattle.range_store.proofs.Growing.{kid_owned, none_replaces, none_edge, some_items, some_children, grown_kept, grown_moved, grown_content, grown_listed, grown_longer, grown_seat, content_room, settled_replaces}
 use Rattle.range_store.proofs.btree.insertion.+insert_below.Goals as goal
 
 pub overflow_add-edge : goal.overflow_add-edge
-overflow_add-edge t c = omega (arith, leaf_index c.args.nodes.now c.args.number c.args.edge (rw c.if-below-eq0.true at c.requires.edge), c.requires.shaped.node.fits)
+overflow_add-edge g t c =
+    omega (
+      arith,
+      leaf_index c.args.nodes.now c.args.number c.args.edge
+          (rw c.if-below-eq0.true at c.requires.edge),
+      c.requires.shaped.node.fits,
+    )
 
-pub put_or_cut-requires-clause-within : goal.put_or_cut-requires-clause-within
-put_or_cut-requires-clause-within t c = leaf_index c.args.nodes.now c.args.number c.args.edge (rw c.if-below-eq0.true at c.requires.edge)
-
-pub put_or_cut-requires-clause-content : goal.put_or_cut-requires-clause-content
-put_or_cut-requires-clause-content t c =
-    rw c.if-below-eq0.true (leaf_content c.args.nodes.now c.args.number c.args.edge.index c.args.item (rw c.if-below-eq0.true at c.requires.shaped) (rw c.if-below-eq0.true at c.requires.owned))
-
-pub put_or_cut-requires-clause-room : goal.put_or_cut-requires-clause-room
-put_or_cut-requires-clause-room t c = λ full.
+pub put_or_cut-requires : goal.put_or_cut-requires
+put_or_cut-requires g t c =
+    let s = c.args.nodes.now in
     let shaped = rw c.if-below-eq0.true at c.requires.shaped in
-    let low = leaf_index c.args.nodes.now c.args.number c.args.edge (rw c.if-below-eq0.true at c.requires.edge) in
-    let long = length-insert (items_of (get c.args.nodes.now c.args.number)) c.args.edge.index c.args.item low in
-    content_room c.args.nodes.now c.args.nodes.now 0 c.args.number (insert (items_of (get c.args.nodes.now c.args.number)) c.args.edge.index c.args.item) (children_of (get c.args.nodes.now c.args.number)) (leaf_moved c.args.nodes.now c.args.number c.args.edge.index c.args.item shaped) (leaf_content c.args.nodes.now c.args.number c.args.edge.index c.args.item shaped (rw c.if-below-eq0.true at c.requires.owned)) (leaf_longer c.args.nodes.now c.args.number c.args.edge.index c.args.item shaped low) (rw c.if-below-eq0.true at c.requires.room) (omega (arith, long, full))
-
-pub put_or_cut-requires-clause-seat : goal.put_or_cut-requires-clause-seat
-put_or_cut-requires-clause-seat t c =
-    let low = leaf_index c.args.nodes.now c.args.number c.args.edge (rw c.if-below-eq0.true at c.requires.edge) in
-    rw c.if-below-eq0.true (leaf_seat c.args.nodes.now _ _ (c.args.edge.index + 1) c.args.edge (omega (arith, low, length-insert (items_of (get c.args.nodes.now c.args.number)) c.args.edge.index c.args.item low)))
+    let owned = rw c.if-below-eq0.true at c.requires.owned in
+    let low = leaf_index s c.args.number c.args.edge (rw c.if-below-eq0.true at c.requires.edge) in
+    let long =
+    length-insert (items_of (node_of s c.args.number)) c.args.edge.index c.args.item low in
+    let content = leaf_content s c.args.number c.args.edge.index c.args.item shaped owned in
+    let seat = leaf_seat s _ _ (c.args.edge.index + 1) c.args.edge (omega (arith, low, long)) in (
+      search rules,
+      (
+        c.requires.shaped.node.present,
+        (
+          low,
+          (
+            c.requires.shaped.node.fits,
+            (
+              shaped.node.branches,
+              (
+                rw c.if-below-eq0.true content,
+                (
+                  (λ full. content_room s s 0 c.args.number
+                      (insert (items_of (node_of s c.args.number)) c.args.edge.index c.args.item)
+                      (children_of (node_of s c.args.number))
+                      (leaf_moved s c.args.number c.args.edge.index c.args.item shaped) content
+                      (leaf_longer s c.args.number c.args.edge.index c.args.item shaped low)
+                      (rw c.if-below-eq0.true at c.requires.room) (omega (arith, long, full))),
+                  (c.requires.deep, rw c.if-below-eq0.true seat),
+                ),
+              ),
+            ),
+          ),
+        ),
+      ),
+    )
 
 pub returns-then-below-eq0-clause-replaces : goal.returns-then-below-eq0-clause-replaces
-returns-then-below-eq0-clause-replaces t c =
+returns-then-below-eq0-clause-replaces g t c =
     let shaped = rw c.if-below-eq0.true at c.requires.shaped in
-    let low = leaf_index c.args.nodes.now c.args.number c.args.edge (rw c.if-below-eq0.true at c.requires.edge) in
-    let long = length-insert (items_of (get c.args.nodes.now c.args.number)) c.args.edge.index c.args.item low in
-    rw (c.if-below-eq0.true, leaf_place c.args.nodes.now c.args.number c.args.edge) (settled_replaces c.args.nodes.now c.args.nodes.now c.put_or_cut.new.nodes 0 c.args.number _ _ _ c.put_or_cut.result.split (leaf_moved c.args.nodes.now c.args.number c.args.edge.index c.args.item shaped) (leaf_listed c.args.nodes.now c.args.number c.args.edge.index c.args.item shaped) (omega (arith, long)) (rw c.if-below-eq0.true at c.put_or_cut.ensures.settles))
+    let low =
+    leaf_index c.args.nodes.now c.args.number c.args.edge
+    (rw c.if-below-eq0.true at c.requires.edge) in
+    let long =
+    length-insert (items_of (node_of c.args.nodes.now c.args.number)) c.args.edge.index
+    c.args.item low in
+    rw (c.if-below-eq0.true, leaf_place c.args.nodes.now c.args.number c.args.edge)
+    (settled_replaces c.args.nodes.now c.args.nodes.now c.put_or_cut.new.nodes 0 c.args.number _
+    _ _ c.put_or_cut.result.split
+    (leaf_moved c.args.nodes.now c.args.number c.args.edge.index c.args.item shaped)
+    (leaf_listed c.args.nodes.now c.args.number c.args.edge.index c.args.item shaped)
+    (omega (arith, long)) (rw c.if-below-eq0.true at c.put_or_cut.ensures.settles))
 
 pub returns-then-below-eq0-clause-place : goal.returns-then-below-eq0-clause-place
-returns-then-below-eq0-clause-place t c =
+returns-then-below-eq0-clause-place g t c =
     let at = rw c.if-below-eq0.true at c.put_or_cut.ensures.place in
-    rw (c.if-below-eq0.true, leaf_place c.args.nodes.now c.args.number c.args.edge) (at ∙ leaf_seat_place c.args.nodes.now _ _ (c.args.edge.index + 1) c.args.edge)
+    rw (c.if-below-eq0.true, leaf_place c.args.nodes.now c.args.number c.args.edge)
+    (at ∙ leaf_seat_place c.args.nodes.now _ _ (c.args.edge.index + 1) c.args.edge)
 
-pub child_at-child-requires-clause-within : goal.child_at-child-requires-clause-within
-child_at-child-requires-clause-within t c =
-    rw c.first_turn-index.ensures (child_within c.args.nodes.now c.args.below c.args.number c.if-below-eq0.false c.requires.shaped _ (below_turn c.args.nodes.now c.args.below c.args.number c.if-below-eq0.false c.requires.shaped c.args.edge c.requires.edge))
+pub child_at-child-requires : goal.child_at-child-requires
+child_at-child-requires g t c = (
+  search rules,
+  (
+    c.requires.shaped.node.present,
+    rw c.first_turn-index.ensures
+        (child_within c.args.nodes.now c.args.below c.args.number c.if-below-eq0.false
+        c.requires.shaped _ (below_turn c.args.nodes.now c.args.below c.args.number
+        c.if-below-eq0.false c.requires.shaped c.args.edge c.requires.edge)),
+  ),
+)
 
 pub insert_below-inserted-requires : goal.insert_below-inserted-requires
-insert_below-inserted-requires t c =
-    let low = below_turn c.args.nodes.now c.args.below c.args.number c.if-below-eq0.false c.requires.shaped c.args.edge c.requires.edge in
-    let kid = below_kid c.args.nodes.now c.args.below c.args.number c.if-below-eq0.false c.requires.shaped (turn c.args.edge) low in
-    let is = below_inside c.args.nodes.now c.args.below c.args.number c.if-below-eq0.false c.requires.shaped c.args.edge c.requires.edge in
-    let back = level_of_children c.args.nodes.now c.args.below c.args.number c.if-below-eq0.false c.requires.shaped in
-    let owned = kid_owned c.args.nodes.now c.args.below c.args.number (turn c.args.edge) c.requires.owned (child_within c.args.nodes.now c.args.below c.args.number c.if-below-eq0.false c.requires.shaped _ low) in
-    let room = HasTreeRoom-child CAPACITY c.args.nodes.now c.args.below c.args.number (turn c.args.edge) 1 (omega arith) low c.requires.shaped c.requires.room in
-    (omega (arith, c.if-below-eq0.false), rw (c.child_at-child.ensures, c.first_turn-index.ensures, c.seen_inside.ensures) (kid, (rw (← back) at owned, (is, (omega (arith, c.requires.deep), rw (← back) at room)))))
+insert_below-inserted-requires g t c κs inside =
+    let low =
+    below_turn c.args.nodes.now c.args.below c.args.number c.if-below-eq0.false
+    c.requires.shaped c.args.edge c.requires.edge in
+    let kid =
+    below_kid c.args.nodes.now c.args.below c.args.number c.if-below-eq0.false
+    c.requires.shaped (turn c.args.edge) low in
+    let is =
+    below_inside c.args.nodes.now c.args.below c.args.number c.if-below-eq0.false
+    c.requires.shaped c.args.edge c.requires.edge in
+    let back =
+    level_of_children c.args.nodes.now c.args.below c.args.number c.if-below-eq0.false
+    c.requires.shaped in
+    let owned =
+    kid_owned c.args.nodes.now c.args.below c.args.number
+    (turn c.args.edge) c.requires.owned
+    (child_within c.args.nodes.now c.args.below c.args.number c.if-below-eq0.false
+    c.requires.shaped _ low) in
+    let room =
+    HasTreeRoom-child CAPACITY c.args.nodes.now c.args.below c.args.number
+    (turn c.args.edge) 1 (omega arith) low c.requires.shaped c.requires.room in (
+      omega (arith, c.if-below-eq0.false),
+      (
+        inside,
+        (
+          search rules,
+          rw (c.child_at-child.ensures, c.first_turn-index.ensures, c.seen_inside.ensures) (
+            kid,
+            (rw (← back) at owned, (is, (omega (arith, c.requires.deep), rw (← back) at room))),
+          ),
+        ),
+      ),
+    )
 
 pub seen_above-requires-clause-index : goal.seen_above-requires-clause-index
-seen_above-requires-clause-index t c =
-    omega (arith, c.first_turn-index.ensures, below_turn c.args.nodes.now c.args.below c.args.number c.if-below-eq0.false c.requires.shaped c.args.edge c.requires.edge, c.requires.shaped.node.fits)
+seen_above-requires-clause-index g t c =
+    omega (
+      arith,
+      c.first_turn-index.ensures,
+      below_turn c.args.nodes.now c.args.below c.args.number c.if-below-eq0.false
+          c.requires.shaped c.args.edge c.requires.edge,
+      c.requires.shaped.node.fits,
+    )
 
 pub returns-in-None-clause-replaces : goal.returns-in-None-clause-replaces
-returns-in-None-clause-replaces t c =
+returns-in-None-clause-replaces g t c =
     let i = turn c.args.edge in
-    let low = below_turn c.args.nodes.now c.args.below c.args.number c.if-below-eq0.false c.requires.shaped c.args.edge c.requires.edge in
-    let rest = place c.args.nodes.now (c.args.below - 1) (get_or (children_of (get c.args.nodes.now c.args.number)) (turn c.args.edge) 0) (inside c.args.edge) in
-    let within = below_most c.args.nodes.now c.args.below c.args.number c.if-below-eq0.false c.requires.shaped i (inside c.args.edge) low (below_inside c.args.nodes.now c.args.below c.args.number c.if-below-eq0.false c.requires.shaped c.args.edge c.requires.edge) in
-    let child = rw c.in-None.is at (rw (c.child_at-child.ensures, c.first_turn-index.ensures, c.seen_inside.ensures) at c.insert_below-inserted.ensures.replaces) in
-    rw (below_here c.args.nodes.now c.args.below c.args.number c.if-below-eq0.false c.requires.shaped c.args.edge) (none_replaces c.args.nodes.now c.insert_below-inserted.new.nodes c.args.below c.args.number i rest c.args.item c.if-below-eq0.false c.requires.shaped c.requires.owned low within child)
+    let low =
+    below_turn c.args.nodes.now c.args.below c.args.number c.if-below-eq0.false
+    c.requires.shaped c.args.edge c.requires.edge in
+    let rest =
+    place c.args.nodes.now (c.args.below - 1)
+    (get_or (children_of (node_of c.args.nodes.now c.args.number)) (turn c.args.edge) 0)
+    (inside c.args.edge) in
+    let within =
+    below_most c.args.nodes.now c.args.below c.args.number c.if-below-eq0.false
+    c.requires.shaped i (inside c.args.edge) low
+    (below_inside c.args.nodes.now c.args.below c.args.number c.if-below-eq0.false
+    c.requires.shaped c.args.edge c.requires.edge) in
+    let child =
+    rw c.in-None.is at
+    (rw (c.child_at-child.ensures, c.first_turn-index.ensures, c.seen_inside.ensures) at
+    c.insert_below-inserted.ensures.replaces) in
+    rw (below_here c.args.nodes.now c.args.below c.args.number c.if-below-eq0.false
+    c.requires.shaped c.args.edge)
+    (none_replaces c.args.nodes.now c.insert_below-inserted.new.nodes c.args.below c.args.number
+    i rest c.args.item c.if-below-eq0.false c.requires.shaped c.requires.owned low within child)
 
 pub returns-in-None-clause-edge : goal.returns-in-None-clause-edge
-returns-in-None-clause-edge t c =
+returns-in-None-clause-edge g t c =
     let i = turn c.args.edge in
-    let low = below_turn c.args.nodes.now c.args.below c.args.number c.if-below-eq0.false c.requires.shaped c.args.edge c.requires.edge in
-    let rest = place c.args.nodes.now (c.args.below - 1) (get_or (children_of (get c.args.nodes.now c.args.number)) (turn c.args.edge) 0) (inside c.args.edge) in
-    let within = below_most c.args.nodes.now c.args.below c.args.number c.if-below-eq0.false c.requires.shaped i (inside c.args.edge) low (below_inside c.args.nodes.now c.args.below c.args.number c.if-below-eq0.false c.requires.shaped c.args.edge c.requires.edge) in
-    let child = rw c.in-None.is at (rw (c.child_at-child.ensures, c.first_turn-index.ensures, c.seen_inside.ensures) at c.insert_below-inserted.ensures.replaces) in
-    let seat = rw c.in-None.is at (rw (c.child_at-child.ensures, c.first_turn-index.ensures) at c.insert_below-inserted.ensures.edge) in
-    let edge = none_edge c.args.nodes.now c.insert_below-inserted.new.nodes c.args.below c.args.number i rest c.args.item c.if-below-eq0.false c.requires.shaped c.requires.owned low within child c.insert_below-inserted.result.side c.insert_below-inserted.result.edge c.seen_above.result (c.seen_above.ensures.turn ∙ c.first_turn-index.ensures) c.seen_above.ensures.inside seat in
-    (seat_alone c.insert_below-inserted.new.nodes c.args.below c.args.number c.seen_above.result None edge.0).0
+    let low =
+    below_turn c.args.nodes.now c.args.below c.args.number c.if-below-eq0.false
+    c.requires.shaped c.args.edge c.requires.edge in
+    let rest =
+    place c.args.nodes.now (c.args.below - 1)
+    (get_or (children_of (node_of c.args.nodes.now c.args.number)) (turn c.args.edge) 0)
+    (inside c.args.edge) in
+    let within =
+    below_most c.args.nodes.now c.args.below c.args.number c.if-below-eq0.false
+    c.requires.shaped i (inside c.args.edge) low
+    (below_inside c.args.nodes.now c.args.below c.args.number c.if-below-eq0.false
+    c.requires.shaped c.args.edge c.requires.edge) in
+    let child =
+    rw c.in-None.is at
+    (rw (c.child_at-child.ensures, c.first_turn-index.ensures, c.seen_inside.ensures) at
+    c.insert_below-inserted.ensures.replaces) in
+    let seat =
+    rw c.in-None.is at (rw (c.child_at-child.ensures, c.first_turn-index.ensures) at
+    c.insert_below-inserted.ensures.edge) in
+    let edge =
+    none_edge c.args.nodes.now c.insert_below-inserted.new.nodes c.args.below c.args.number
+    i rest c.args.item c.if-below-eq0.false c.requires.shaped c.requires.owned low within
+    child c.insert_below-inserted.result.side c.insert_below-inserted.result.edge
+    c.seen_above.result (c.seen_above.ensures.turn ∙ c.first_turn-index.ensures)
+    c.seen_above.ensures.inside seat in
+    (seat_alone c.insert_below-inserted.new.nodes c.args.below c.args.number c.seen_above.result
+    None edge.0).0
 
 pub returns-in-None-clause-place : goal.returns-in-None-clause-place
-returns-in-None-clause-place t c =
+returns-in-None-clause-place g t c =
     let i = turn c.args.edge in
-    let low = below_turn c.args.nodes.now c.args.below c.args.number c.if-below-eq0.false c.requires.shaped c.args.edge c.requires.edge in
-    let rest = place c.args.nodes.now (c.args.below - 1) (get_or (children_of (get c.args.nodes.now c.args.number)) (turn c.args.edge) 0) (inside c.args.edge) in
-    let within = below_most c.args.nodes.now c.args.below c.args.number c.if-below-eq0.false c.requires.shaped i (inside c.args.edge) low (below_inside c.args.nodes.now c.args.below c.args.number c.if-below-eq0.false c.requires.shaped c.args.edge c.requires.edge) in
-    let child = rw c.in-None.is at (rw (c.child_at-child.ensures, c.first_turn-index.ensures, c.seen_inside.ensures) at c.insert_below-inserted.ensures.replaces) in
-    let seat = rw c.in-None.is at (rw (c.child_at-child.ensures, c.first_turn-index.ensures) at c.insert_below-inserted.ensures.edge) in
-    let at = rw c.in-None.is at (rw (c.child_at-child.ensures, c.first_turn-index.ensures, c.seen_inside.ensures) at c.insert_below-inserted.ensures.place) in
-    let edge = none_edge c.args.nodes.now c.insert_below-inserted.new.nodes c.args.below c.args.number i rest c.args.item c.if-below-eq0.false c.requires.shaped c.requires.owned low within child c.insert_below-inserted.result.side c.insert_below-inserted.result.edge c.seen_above.result (c.seen_above.ensures.turn ∙ c.first_turn-index.ensures) c.seen_above.ensures.inside seat in
-    omega (arith, (seat_alone c.insert_below-inserted.new.nodes c.args.below c.args.number c.seen_above.result None edge.0).1, edge.1, at, below_here c.args.nodes.now c.args.below c.args.number c.if-below-eq0.false c.requires.shaped c.args.edge)
+    let low =
+    below_turn c.args.nodes.now c.args.below c.args.number c.if-below-eq0.false
+    c.requires.shaped c.args.edge c.requires.edge in
+    let rest =
+    place c.args.nodes.now (c.args.below - 1)
+    (get_or (children_of (node_of c.args.nodes.now c.args.number)) (turn c.args.edge) 0)
+    (inside c.args.edge) in
+    let within =
+    below_most c.args.nodes.now c.args.below c.args.number c.if-below-eq0.false
+    c.requires.shaped i (inside c.args.edge) low
+    (below_inside c.args.nodes.now c.args.below c.args.number c.if-below-eq0.false
+    c.requires.shaped c.args.edge c.requires.edge) in
+    let child =
+    rw c.in-None.is at
+    (rw (c.child_at-child.ensures, c.first_turn-index.ensures, c.seen_inside.ensures) at
+    c.insert_below-inserted.ensures.replaces) in
+    let seat =
+    rw c.in-None.is at (rw (c.child_at-child.ensures, c.first_turn-index.ensures) at
+    c.insert_below-inserted.ensures.edge) in
+    let at =
+    rw c.in-None.is at
+    (rw (c.child_at-child.ensures, c.first_turn-index.ensures, c.seen_inside.ensures) at
+    c.insert_below-inserted.ensures.place) in
+    let edge =
+    none_edge c.args.nodes.now c.insert_below-inserted.new.nodes c.args.below c.args.number
+    i rest c.args.item c.if-below-eq0.false c.requires.shaped c.requires.owned low within
+    child c.insert_below-inserted.result.side c.insert_below-inserted.result.edge
+    c.seen_above.result (c.seen_above.ensures.turn ∙ c.first_turn-index.ensures)
+    c.seen_above.ensures.inside seat in
+    omega (
+      arith,
+      (seat_alone c.insert_below-inserted.new.nodes c.args.below c.args.number c.seen_above.result
+          None edge.0).1,
+      edge.1,
+      at,
+      below_here c.args.nodes.now c.args.below c.args.number c.if-below-eq0.false
+          c.requires.shaped c.args.edge,
+    )
 
-pub seen_above-requires-clause-way : goal.seen_above-requires-clause-way
-seen_above-requires-clause-way t c =
-    way_small c.insert_below-inserted.new.nodes (c.args.below - 1) _ c.insert_below-inserted.result.edge (omega (arith, c.requires.deep)) (seat_inside c.insert_below-inserted.new.nodes (c.args.below - 1) _ _ _ c.insert_below-inserted.result.edge c.insert_below-inserted.ensures.edge)
+pub seen_above-requires-clause-path : goal.seen_above-requires-clause-path
+seen_above-requires-clause-path g t c =
+    path_small c.insert_below-inserted.new.nodes
+    (c.args.below - 1) _ c.insert_below-inserted.result.edge (omega (arith, c.requires.deep))
+    (seat_inside c.insert_below-inserted.new.nodes
+    (c.args.below - 1) _ _ _ c.insert_below-inserted.result.edge
+    c.insert_below-inserted.ensures.edge)
 
 pub overflow_add-seat : goal.overflow_add-seat
-overflow_add-seat t c =
+overflow_add-seat g t c =
     let seat = rw c.in-Some.is at c.insert_below-inserted.ensures.edge in
-    omega (arith, c.first_turn-index.ensures, below_turn c.args.nodes.now c.args.below c.args.number c.if-below-eq0.false c.requires.shaped c.args.edge c.requires.edge, c.requires.shaped.node.fits, seat_side c.insert_below-inserted.new.nodes (c.args.below - 1) _ _ _ _ seat)
+    omega (
+      arith,
+      c.first_turn-index.ensures,
+      below_turn c.args.nodes.now c.args.below c.args.number c.if-below-eq0.false
+          c.requires.shaped c.args.edge c.requires.edge,
+      c.requires.shaped.node.fits,
+      seat_side c.insert_below-inserted.new.nodes (c.args.below - 1) _ _ _ _ seat,
+    )
 
-pub put_or_cut-requires-in-Some-clause-present : goal.put_or_cut-requires-in-Some-clause-present
-put_or_cut-requires-in-Some-clause-present t c =
+pub put_or_cut-requires-in-Some : goal.put_or_cut-requires-in-Some
+put_or_cut-requires-in-Some g t c =
+    let s = c.args.nodes.now in
+    let u = c.insert_below-inserted.new.nodes in
     let i = turn c.args.edge in
-    let low = below_turn c.args.nodes.now c.args.below c.args.number c.if-below-eq0.false c.requires.shaped c.args.edge c.requires.edge in
-    let rest = place c.args.nodes.now (c.args.below - 1) (get_or (children_of (get c.args.nodes.now c.args.number)) (turn c.args.edge) 0) (inside c.args.edge) in
-    let within = below_most c.args.nodes.now c.args.below c.args.number c.if-below-eq0.false c.requires.shaped i (inside c.args.edge) low (below_inside c.args.nodes.now c.args.below c.args.number c.if-below-eq0.false c.requires.shaped c.args.edge c.requires.edge) in
-    let child = rw c.in-Some.is at (rw (c.child_at-child.ensures, c.first_turn-index.ensures, c.seen_inside.ensures) at c.insert_below-inserted.ensures.replaces) in
-    rw (grown_kept c.args.nodes.now c.insert_below-inserted.new.nodes c.args.below c.args.number i rest c.args.item (Some c.in-Some.cut) c.if-below-eq0.false c.requires.shaped c.requires.owned low within child) c.requires.shaped.node.present
-
-pub put_or_cut-requires-in-Some-clause-within : goal.put_or_cut-requires-in-Some-clause-within
-put_or_cut-requires-in-Some-clause-within t c =
-    let i = turn c.args.edge in
-    let low = below_turn c.args.nodes.now c.args.below c.args.number c.if-below-eq0.false c.requires.shaped c.args.edge c.requires.edge in
-    let rest = place c.args.nodes.now (c.args.below - 1) (get_or (children_of (get c.args.nodes.now c.args.number)) (turn c.args.edge) 0) (inside c.args.edge) in
-    let within = below_most c.args.nodes.now c.args.below c.args.number c.if-below-eq0.false c.requires.shaped i (inside c.args.edge) low (below_inside c.args.nodes.now c.args.below c.args.number c.if-below-eq0.false c.requires.shaped c.args.edge c.requires.edge) in
-    let child = rw c.in-Some.is at (rw (c.child_at-child.ensures, c.first_turn-index.ensures, c.seen_inside.ensures) at c.insert_below-inserted.ensures.replaces) in
-    rw (grown_kept c.args.nodes.now c.insert_below-inserted.new.nodes c.args.below c.args.number i rest c.args.item (Some c.in-Some.cut) c.if-below-eq0.false c.requires.shaped c.requires.owned low within child) (omega (arith, low, c.first_turn-index.ensures))
-
-pub put_or_cut-requires-in-Some-clause-fits : goal.put_or_cut-requires-in-Some-clause-fits
-put_or_cut-requires-in-Some-clause-fits t c =
-    let i = turn c.args.edge in
-    let low = below_turn c.args.nodes.now c.args.below c.args.number c.if-below-eq0.false c.requires.shaped c.args.edge c.requires.edge in
-    let rest = place c.args.nodes.now (c.args.below - 1) (get_or (children_of (get c.args.nodes.now c.args.number)) (turn c.args.edge) 0) (inside c.args.edge) in
-    let within = below_most c.args.nodes.now c.args.below c.args.number c.if-below-eq0.false c.requires.shaped i (inside c.args.edge) low (below_inside c.args.nodes.now c.args.below c.args.number c.if-below-eq0.false c.requires.shaped c.args.edge c.requires.edge) in
-    let child = rw c.in-Some.is at (rw (c.child_at-child.ensures, c.first_turn-index.ensures, c.seen_inside.ensures) at c.insert_below-inserted.ensures.replaces) in
-    rw (grown_kept c.args.nodes.now c.insert_below-inserted.new.nodes c.args.below c.args.number i rest c.args.item (Some c.in-Some.cut) c.if-below-eq0.false c.requires.shaped c.requires.owned low within child) c.requires.shaped.node.fits
-
-pub put_or_cut-requires-in-Some-clause-children : goal.put_or_cut-requires-in-Some-clause-children
-put_or_cut-requires-in-Some-clause-children t c =
-    let i = turn c.args.edge in
-    let low = below_turn c.args.nodes.now c.args.below c.args.number c.if-below-eq0.false c.requires.shaped c.args.edge c.requires.edge in
-    let rest = place c.args.nodes.now (c.args.below - 1) (get_or (children_of (get c.args.nodes.now c.args.number)) (turn c.args.edge) 0) (inside c.args.edge) in
-    let within = below_most c.args.nodes.now c.args.below c.args.number c.if-below-eq0.false c.requires.shaped i (inside c.args.edge) low (below_inside c.args.nodes.now c.args.below c.args.number c.if-below-eq0.false c.requires.shaped c.args.edge c.requires.edge) in
-    let child = rw c.in-Some.is at (rw (c.child_at-child.ensures, c.first_turn-index.ensures, c.seen_inside.ensures) at c.insert_below-inserted.ensures.replaces) in
-    inr (rw (grown_kept c.args.nodes.now c.insert_below-inserted.new.nodes c.args.below c.args.number i rest c.args.item (Some c.in-Some.cut) c.if-below-eq0.false c.requires.shaped c.requires.owned low within child) (children_length 1 CAPACITY c.args.nodes.now c.args.below c.args.number (omega (arith, c.if-below-eq0.false)) c.requires.shaped))
-
-pub put_or_cut-requires-in-Some-clause-content : goal.put_or_cut-requires-in-Some-clause-content
-put_or_cut-requires-in-Some-clause-content t c =
-    let i = turn c.args.edge in
-    let low = below_turn c.args.nodes.now c.args.below c.args.number c.if-below-eq0.false c.requires.shaped c.args.edge c.requires.edge in
-    let rest = place c.args.nodes.now (c.args.below - 1) (get_or (children_of (get c.args.nodes.now c.args.number)) (turn c.args.edge) 0) (inside c.args.edge) in
-    let within = below_most c.args.nodes.now c.args.below c.args.number c.if-below-eq0.false c.requires.shaped i (inside c.args.edge) low (below_inside c.args.nodes.now c.args.below c.args.number c.if-below-eq0.false c.requires.shaped c.args.edge c.requires.edge) in
-    let child = rw c.in-Some.is at (rw (c.child_at-child.ensures, c.first_turn-index.ensures, c.seen_inside.ensures) at c.insert_below-inserted.ensures.replaces) in
-    let items = some_items c.args.nodes.now c.insert_below-inserted.new.nodes c.args.below c.args.number i rest c.args.item c.in-Some.cut c.if-below-eq0.false c.requires.shaped c.requires.owned low within child in
-    let children = some_children c.args.nodes.now c.insert_below-inserted.new.nodes c.args.below c.args.number i rest c.args.item c.in-Some.cut c.if-below-eq0.false c.requires.shaped c.requires.owned low within child in
-    rw (c.first_turn-index.ensures, ← items, ← children) (grown_content c.args.nodes.now c.insert_below-inserted.new.nodes c.args.below c.args.number i rest c.args.item (Some c.in-Some.cut) c.if-below-eq0.false c.requires.shaped c.requires.owned low within child)
-
-pub put_or_cut-requires-in-Some-clause-room : goal.put_or_cut-requires-in-Some-clause-room
-put_or_cut-requires-in-Some-clause-room t c =
-    λ full.
-    let i = turn c.args.edge in
-    let low = below_turn c.args.nodes.now c.args.below c.args.number c.if-below-eq0.false c.requires.shaped c.args.edge c.requires.edge in
-    let rest = place c.args.nodes.now (c.args.below - 1) (get_or (children_of (get c.args.nodes.now c.args.number)) (turn c.args.edge) 0) (inside c.args.edge) in
-    let within = below_most c.args.nodes.now c.args.below c.args.number c.if-below-eq0.false c.requires.shaped i (inside c.args.edge) low (below_inside c.args.nodes.now c.args.below c.args.number c.if-below-eq0.false c.requires.shaped c.args.edge c.requires.edge) in
-    let child = rw c.in-Some.is at (rw (c.child_at-child.ensures, c.first_turn-index.ensures, c.seen_inside.ensures) at c.insert_below-inserted.ensures.replaces) in
-    let items = some_items c.args.nodes.now c.insert_below-inserted.new.nodes c.args.below c.args.number i rest c.args.item c.in-Some.cut c.if-below-eq0.false c.requires.shaped c.requires.owned low within child in
-    let children = some_children c.args.nodes.now c.insert_below-inserted.new.nodes c.args.below c.args.number i rest c.args.item c.in-Some.cut c.if-below-eq0.false c.requires.shaped c.requires.owned low within child in
-    let long = length-insert (items_of (get c.args.nodes.now c.args.number)) i c.in-Some.cut.middle low in
-    content_room c.args.nodes.now c.insert_below-inserted.new.nodes c.args.below c.args.number _ _ (grown_moved c.args.nodes.now c.insert_below-inserted.new.nodes c.args.below c.args.number i rest c.args.item (Some c.in-Some.cut) c.if-below-eq0.false c.requires.shaped c.requires.owned low within child) (grown_content c.args.nodes.now c.insert_below-inserted.new.nodes c.args.below c.args.number i rest c.args.item (Some c.in-Some.cut) c.if-below-eq0.false c.requires.shaped c.requires.owned low within child) (grown_longer c.args.nodes.now c.insert_below-inserted.new.nodes c.args.below c.args.number i rest c.args.item (Some c.in-Some.cut) c.if-below-eq0.false c.requires.shaped c.requires.owned low within child) c.requires.room (omega (arith, long, rw (grown_kept c.args.nodes.now c.insert_below-inserted.new.nodes c.args.below c.args.number i rest c.args.item (Some c.in-Some.cut) c.if-below-eq0.false c.requires.shaped c.requires.owned low within child) at full))
-
-pub put_or_cut-requires-in-Some-clause-seat : goal.put_or_cut-requires-in-Some-clause-seat
-put_or_cut-requires-in-Some-clause-seat t c =
-    let i = turn c.args.edge in
-    let low = below_turn c.args.nodes.now c.args.below c.args.number c.if-below-eq0.false c.requires.shaped c.args.edge c.requires.edge in
-    let rest = place c.args.nodes.now (c.args.below - 1) (get_or (children_of (get c.args.nodes.now c.args.number)) (turn c.args.edge) 0) (inside c.args.edge) in
-    let within = below_most c.args.nodes.now c.args.below c.args.number c.if-below-eq0.false c.requires.shaped i (inside c.args.edge) low (below_inside c.args.nodes.now c.args.below c.args.number c.if-below-eq0.false c.requires.shaped c.args.edge c.requires.edge) in
-    let child = rw c.in-Some.is at (rw (c.child_at-child.ensures, c.first_turn-index.ensures, c.seen_inside.ensures) at c.insert_below-inserted.ensures.replaces) in
-    let items = some_items c.args.nodes.now c.insert_below-inserted.new.nodes c.args.below c.args.number i rest c.args.item c.in-Some.cut c.if-below-eq0.false c.requires.shaped c.requires.owned low within child in
-    let children = some_children c.args.nodes.now c.insert_below-inserted.new.nodes c.args.below c.args.number i rest c.args.item c.in-Some.cut c.if-below-eq0.false c.requires.shaped c.requires.owned low within child in
-    let seat = rw c.in-Some.is at (rw (c.child_at-child.ensures, c.first_turn-index.ensures) at c.insert_below-inserted.ensures.edge) in
-    rw (c.first_turn-index.ensures, ← items, ← children) (grown_seat c.args.nodes.now c.insert_below-inserted.new.nodes c.args.below c.args.number i rest c.args.item (Some c.in-Some.cut) c.if-below-eq0.false c.requires.shaped c.requires.owned low within child c.insert_below-inserted.result.side c.insert_below-inserted.result.edge seat).0
+    let low =
+    below_turn s c.args.below c.args.number c.if-below-eq0.false c.requires.shaped
+    c.args.edge c.requires.edge in
+    let rest =
+    place s (c.args.below - 1)
+    (get_or (children_of (node_of s c.args.number)) (turn c.args.edge) 0)
+    (inside c.args.edge) in
+    let within =
+    below_most s c.args.below c.args.number c.if-below-eq0.false c.requires.shaped i
+    (inside c.args.edge) low
+    (below_inside s c.args.below c.args.number c.if-below-eq0.false c.requires.shaped
+    c.args.edge c.requires.edge) in
+    let child =
+    rw c.in-Some.is at
+    (rw (c.child_at-child.ensures, c.first_turn-index.ensures, c.seen_inside.ensures) at
+    c.insert_below-inserted.ensures.replaces) in
+    let kept =
+    grown_kept s u c.args.below c.args.number i rest c.args.item
+    (Some c.in-Some.cut) c.if-below-eq0.false c.requires.shaped c.requires.owned low within
+    child in
+    let items =
+    some_items s u c.args.below c.args.number i rest c.args.item c.in-Some.cut
+    c.if-below-eq0.false c.requires.shaped c.requires.owned low within child in
+    let children =
+    some_children s u c.args.below c.args.number i rest c.args.item c.in-Some.cut
+    c.if-below-eq0.false c.requires.shaped c.requires.owned low within child in
+    let content =
+    grown_content s u c.args.below c.args.number i rest c.args.item
+    (Some c.in-Some.cut) c.if-below-eq0.false c.requires.shaped c.requires.owned low within
+    child in
+    let long = length-insert (items_of (node_of s c.args.number)) i c.in-Some.cut.middle low in
+    let moved =
+    grown_moved s u c.args.below c.args.number i rest c.args.item
+    (Some c.in-Some.cut) c.if-below-eq0.false c.requires.shaped c.requires.owned low within
+    child in
+    let longer =
+    grown_longer s u c.args.below c.args.number i rest c.args.item
+    (Some c.in-Some.cut) c.if-below-eq0.false c.requires.shaped c.requires.owned low within
+    child in
+    let seat =
+    rw c.in-Some.is at (rw (c.child_at-child.ensures, c.first_turn-index.ensures) at
+    c.insert_below-inserted.ensures.edge) in
+    let up =
+    (grown_seat s u c.args.below c.args.number i rest c.args.item
+    (Some c.in-Some.cut) c.if-below-eq0.false c.requires.shaped c.requires.owned low within
+    child c.insert_below-inserted.result.side c.insert_below-inserted.result.edge seat).0 in (
+      search rules,
+      (
+        rw kept c.requires.shaped.node.present,
+        (
+          rw kept (omega (arith, low, c.first_turn-index.ensures)),
+          (
+            rw kept c.requires.shaped.node.fits,
+            (
+              rw kept (children_length 1 CAPACITY s c.args.below c.args.number
+                  (omega (arith, c.if-below-eq0.false)) c.requires.shaped),
+              (
+                rw (c.first_turn-index.ensures, ← items, ← children) content,
+                (
+                  (λ full.
+                      content_room s u c.args.below c.args.number _ _ moved content longer
+                      c.requires.room
+                      (omega (arith, long, rw kept at full))),
+                  (c.requires.deep, rw (c.first_turn-index.ensures, ← items, ← children) up),
+                ),
+              ),
+            ),
+          ),
+        ),
+      ),
+    )
 
 pub returns-in-Some-clause-replaces : goal.returns-in-Some-clause-replaces
-returns-in-Some-clause-replaces t c =
+returns-in-Some-clause-replaces g t c =
     let i = turn c.args.edge in
-    let low = below_turn c.args.nodes.now c.args.below c.args.number c.if-below-eq0.false c.requires.shaped c.args.edge c.requires.edge in
-    let rest = place c.args.nodes.now (c.args.below - 1) (get_or (children_of (get c.args.nodes.now c.args.number)) (turn c.args.edge) 0) (inside c.args.edge) in
-    let within = below_most c.args.nodes.now c.args.below c.args.number c.if-below-eq0.false c.requires.shaped i (inside c.args.edge) low (below_inside c.args.nodes.now c.args.below c.args.number c.if-below-eq0.false c.requires.shaped c.args.edge c.requires.edge) in
-    let child = rw c.in-Some.is at (rw (c.child_at-child.ensures, c.first_turn-index.ensures, c.seen_inside.ensures) at c.insert_below-inserted.ensures.replaces) in
-    let items = some_items c.args.nodes.now c.insert_below-inserted.new.nodes c.args.below c.args.number i rest c.args.item c.in-Some.cut c.if-below-eq0.false c.requires.shaped c.requires.owned low within child in
-    let children = some_children c.args.nodes.now c.insert_below-inserted.new.nodes c.args.below c.args.number i rest c.args.item c.in-Some.cut c.if-below-eq0.false c.requires.shaped c.requires.owned low within child in
-    let long = length-insert (items_of (get c.args.nodes.now c.args.number)) i c.in-Some.cut.middle low in
-    let settles = rw (c.first_turn-index.ensures, ← items, ← children) at c.put_or_cut-in-Some.ensures.settles in
-    rw (below_here c.args.nodes.now c.args.below c.args.number c.if-below-eq0.false c.requires.shaped c.args.edge) (settled_replaces c.args.nodes.now c.insert_below-inserted.new.nodes c.put_or_cut-in-Some.new.nodes c.args.below c.args.number _ _ _ c.put_or_cut-in-Some.result.split (grown_moved c.args.nodes.now c.insert_below-inserted.new.nodes c.args.below c.args.number i rest c.args.item (Some c.in-Some.cut) c.if-below-eq0.false c.requires.shaped c.requires.owned low within child) (grown_listed c.args.nodes.now c.insert_below-inserted.new.nodes c.args.below c.args.number i rest c.args.item (Some c.in-Some.cut) c.if-below-eq0.false c.requires.shaped c.requires.owned low within child) (omega (arith, long)) settles)
+    let low =
+    below_turn c.args.nodes.now c.args.below c.args.number c.if-below-eq0.false
+    c.requires.shaped c.args.edge c.requires.edge in
+    let rest =
+    place c.args.nodes.now (c.args.below - 1)
+    (get_or (children_of (node_of c.args.nodes.now c.args.number)) (turn c.args.edge) 0)
+    (inside c.args.edge) in
+    let within =
+    below_most c.args.nodes.now c.args.below c.args.number c.if-below-eq0.false
+    c.requires.shaped i (inside c.args.edge) low
+    (below_inside c.args.nodes.now c.args.below c.args.number c.if-below-eq0.false
+    c.requires.shaped c.args.edge c.requires.edge) in
+    let child =
+    rw c.in-Some.is at
+    (rw (c.child_at-child.ensures, c.first_turn-index.ensures, c.seen_inside.ensures) at
+    c.insert_below-inserted.ensures.replaces) in
+    let items =
+    some_items c.args.nodes.now c.insert_below-inserted.new.nodes c.args.below c.args.number
+    i rest c.args.item c.in-Some.cut c.if-below-eq0.false c.requires.shaped c.requires.owned
+    low within child in
+    let children =
+    some_children c.args.nodes.now c.insert_below-inserted.new.nodes c.args.below
+    c.args.number i rest c.args.item c.in-Some.cut c.if-below-eq0.false c.requires.shaped
+    c.requires.owned low within child in
+    let long =
+    length-insert (items_of (node_of c.args.nodes.now c.args.number)) i c.in-Some.cut.middle
+    low in
+    let settles =
+    rw (c.first_turn-index.ensures, ← items, ← children) at
+    c.put_or_cut-in-Some.ensures.settles in
+    rw (below_here c.args.nodes.now c.args.below c.args.number c.if-below-eq0.false
+    c.requires.shaped c.args.edge)
+    (settled_replaces c.args.nodes.now c.insert_below-inserted.new.nodes
+    c.put_or_cut-in-Some.new.nodes c.args.below c.args.number _ _ _
+    c.put_or_cut-in-Some.result.split
+    (grown_moved c.args.nodes.now c.insert_below-inserted.new.nodes c.args.below c.args.number i
+    rest c.args.item (Some c.in-Some.cut) c.if-below-eq0.false c.requires.shaped
+    c.requires.owned low within child)
+    (grown_listed c.args.nodes.now c.insert_below-inserted.new.nodes c.args.below c.args.number
+    i rest c.args.item (Some c.in-Some.cut) c.if-below-eq0.false c.requires.shaped
+    c.requires.owned low within child) (omega (arith, long)) settles)
 
 pub returns-in-Some-clause-left_whole : goal.returns-in-Some-clause-left_whole
-returns-in-Some-clause-left_whole t c =
+returns-in-Some-clause-left_whole g t c =
     let i = turn c.args.edge in
-    let low = below_turn c.args.nodes.now c.args.below c.args.number c.if-below-eq0.false c.requires.shaped c.args.edge c.requires.edge in
-    let rest = place c.args.nodes.now (c.args.below - 1) (get_or (children_of (get c.args.nodes.now c.args.number)) (turn c.args.edge) 0) (inside c.args.edge) in
-    let within = below_most c.args.nodes.now c.args.below c.args.number c.if-below-eq0.false c.requires.shaped i (inside c.args.edge) low (below_inside c.args.nodes.now c.args.below c.args.number c.if-below-eq0.false c.requires.shaped c.args.edge c.requires.edge) in
-    let child = rw c.in-Some.is at (rw (c.child_at-child.ensures, c.first_turn-index.ensures, c.seen_inside.ensures) at c.insert_below-inserted.ensures.replaces) in
-    λ few. c.put_or_cut-in-Some.ensures.left_whole (rw (grown_kept c.args.nodes.now c.insert_below-inserted.new.nodes c.args.below c.args.number i rest c.args.item (Some c.in-Some.cut) c.if-below-eq0.false c.requires.shaped c.requires.owned low within child) few)
+    let low =
+    below_turn c.args.nodes.now c.args.below c.args.number c.if-below-eq0.false
+    c.requires.shaped c.args.edge c.requires.edge in
+    let rest =
+    place c.args.nodes.now (c.args.below - 1)
+    (get_or (children_of (node_of c.args.nodes.now c.args.number)) (turn c.args.edge) 0)
+    (inside c.args.edge) in
+    let within =
+    below_most c.args.nodes.now c.args.below c.args.number c.if-below-eq0.false
+    c.requires.shaped i (inside c.args.edge) low
+    (below_inside c.args.nodes.now c.args.below c.args.number c.if-below-eq0.false
+    c.requires.shaped c.args.edge c.requires.edge) in
+    let child =
+    rw c.in-Some.is at
+    (rw (c.child_at-child.ensures, c.first_turn-index.ensures, c.seen_inside.ensures) at
+    c.insert_below-inserted.ensures.replaces) in
+    λ few. c.put_or_cut-in-Some.ensures.left_whole
+    (rw (grown_kept c.args.nodes.now c.insert_below-inserted.new.nodes c.args.below
+    c.args.number i rest c.args.item
+    (Some c.in-Some.cut) c.if-below-eq0.false c.requires.shaped c.requires.owned low within
+    child) few)
 
 pub returns-in-Some-clause-place : goal.returns-in-Some-clause-place
-returns-in-Some-clause-place t c =
+returns-in-Some-clause-place g t c =
     let i = turn c.args.edge in
-    let low = below_turn c.args.nodes.now c.args.below c.args.number c.if-below-eq0.false c.requires.shaped c.args.edge c.requires.edge in
-    let rest = place c.args.nodes.now (c.args.below - 1) (get_or (children_of (get c.args.nodes.now c.args.number)) (turn c.args.edge) 0) (inside c.args.edge) in
-    let within = below_most c.args.nodes.now c.args.below c.args.number c.if-below-eq0.false c.requires.shaped i (inside c.args.edge) low (below_inside c.args.nodes.now c.args.below c.args.number c.if-below-eq0.false c.requires.shaped c.args.edge c.requires.edge) in
-    let child = rw c.in-Some.is at (rw (c.child_at-child.ensures, c.first_turn-index.ensures, c.seen_inside.ensures) at c.insert_below-inserted.ensures.replaces) in
-    let items = some_items c.args.nodes.now c.insert_below-inserted.new.nodes c.args.below c.args.number i rest c.args.item c.in-Some.cut c.if-below-eq0.false c.requires.shaped c.requires.owned low within child in
-    let children = some_children c.args.nodes.now c.insert_below-inserted.new.nodes c.args.below c.args.number i rest c.args.item c.in-Some.cut c.if-below-eq0.false c.requires.shaped c.requires.owned low within child in
-    let seat = rw c.in-Some.is at (rw (c.child_at-child.ensures, c.first_turn-index.ensures) at c.insert_below-inserted.ensures.edge) in
-    let at = rw c.in-Some.is at (rw (c.child_at-child.ensures, c.first_turn-index.ensures, c.seen_inside.ensures) at c.insert_below-inserted.ensures.place) in
-    let up = (grown_seat c.args.nodes.now c.insert_below-inserted.new.nodes c.args.below c.args.number i rest c.args.item (Some c.in-Some.cut) c.if-below-eq0.false c.requires.shaped c.requires.owned low within child c.insert_below-inserted.result.side c.insert_below-inserted.result.edge seat).1 in
-    let here = rw (c.first_turn-index.ensures, ← items, ← children) at c.put_or_cut-in-Some.ensures.place in
-    here ∙ omega (arith, up, at, below_here c.args.nodes.now c.args.below c.args.number c.if-below-eq0.false c.requires.shaped c.args.edge)
+    let low =
+    below_turn c.args.nodes.now c.args.below c.args.number c.if-below-eq0.false
+    c.requires.shaped c.args.edge c.requires.edge in
+    let rest =
+    place c.args.nodes.now (c.args.below - 1)
+    (get_or (children_of (node_of c.args.nodes.now c.args.number)) (turn c.args.edge) 0)
+    (inside c.args.edge) in
+    let within =
+    below_most c.args.nodes.now c.args.below c.args.number c.if-below-eq0.false
+    c.requires.shaped i (inside c.args.edge) low
+    (below_inside c.args.nodes.now c.args.below c.args.number c.if-below-eq0.false
+    c.requires.shaped c.args.edge c.requires.edge) in
+    let child =
+    rw c.in-Some.is at
+    (rw (c.child_at-child.ensures, c.first_turn-index.ensures, c.seen_inside.ensures) at
+    c.insert_below-inserted.ensures.replaces) in
+    let items =
+    some_items c.args.nodes.now c.insert_below-inserted.new.nodes c.args.below c.args.number
+    i rest c.args.item c.in-Some.cut c.if-below-eq0.false c.requires.shaped c.requires.owned
+    low within child in
+    let children =
+    some_children c.args.nodes.now c.insert_below-inserted.new.nodes c.args.below
+    c.args.number i rest c.args.item c.in-Some.cut c.if-below-eq0.false c.requires.shaped
+    c.requires.owned low within child in
+    let seat =
+    rw c.in-Some.is at (rw (c.child_at-child.ensures, c.first_turn-index.ensures) at
+    c.insert_below-inserted.ensures.edge) in
+    let at =
+    rw c.in-Some.is at
+    (rw (c.child_at-child.ensures, c.first_turn-index.ensures, c.seen_inside.ensures) at
+    c.insert_below-inserted.ensures.place) in
+    let up =
+    (grown_seat c.args.nodes.now c.insert_below-inserted.new.nodes c.args.below
+    c.args.number i rest c.args.item
+    (Some c.in-Some.cut) c.if-below-eq0.false c.requires.shaped c.requires.owned low within
+    child c.insert_below-inserted.result.side c.insert_below-inserted.result.edge seat).1 in
+    let here =
+    rw (c.first_turn-index.ensures, ← items, ← children) at
+    c.put_or_cut-in-Some.ensures.place in
+    here
+    ∙ omega (
+      arith,
+      up,
+      at,
+      below_here c.args.nodes.now c.args.below c.args.number c.if-below-eq0.false
+          c.requires.shaped c.args.edge,
+    )

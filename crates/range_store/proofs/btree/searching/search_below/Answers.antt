@@ -1,105 +1,130 @@
-use Rattle.std.proofs.Common.{◌≡◌, ◌≢◌, ◌≤◌, sym, ◌∙◌, arith, count_by}
+use Rattle.std.proofs.Common.{◌≡◌, ◌≤◌, length, refl, ap, ◌∙◌, arith, count_by}
 use Rattle.std.proofs.Math.Nat.{mul-le-mul_left}
 use Rattle.std.proofs.lemmas.List.Sums.{count_by-le-length}
-use Rattle.slab.specs.Slab.{get}
-use Rattle.range_store.specs.declared.btree.node.TheConstants.{CAPACITY}
-use Rattle.range_store.specs.Falling.{passes}
-use Rattle.range_store.specs.Nodes.{items_of}
-use Rattle.range_store.proofs.Descending.{descends, descent_ends, weight_fits, adds_more}
-use Rattle.range_store.proofs.Searching.{node_stored, node_falls}
-use Rattle.range_store.proofs.Ways.{items_known}
+use Rattle.range_store.specs.Heap.{items_of, node_of}
+use Rattle.range_store.specs.declared.btree.nodes.TheConstants.{CAPACITY}
+use Rattle.range_store.proofs.Descending.{adds_more, adds_none, begins, descends, descent_ends, weight_fits}
+use Rattle.range_store.proofs.Front.{cells_full, count_cells, falls_cells}
+use Rattle.range_store.proofs.Searching.{node_falls}
+use Rattle.range_store.proofs.Paths.{child_within}
 use Rattle.range_store.proofs.btree.searching.search_below.Goals as goal
+use Rattle.range_store.proofs.btree.searching.search_below.Given.{Over}
+use Rattle.range_store.proofs.btree.searching.search_below.Goals.{After-halve-index}
 
-pub halve-index-requires-clause-stored : goal.halve-index-requires-clause-stored
-halve-index-requires-clause-stored g c =
-    let d = c.loop-left.invariant.0 in
-    let items = c.as_slice-list.ensures.value ∙ sym (items_known c.args.nodes.now c.loop-left.at c.index.result.now c.index.ensures) in
-    rw items (node_stored c.args.items.now (passes c.args.items.now (g.P.Probe.test c.args.probe.now)) 1 CAPACITY c.args.nodes.now c.loop-left.left c.loop-left.at d.shaped d.stored)
+pub read_ahead-requires-clause-full : goal.read_ahead-requires-clause-full
+read_ahead-requires-clause-full g c =
+    rw c.cells-cells.ensures (cells_full (items_of (node_of c.args.nodes.now c.down.at)))
+
+pub halve-index-requires-clause-full : goal.halve-index-requires-clause-full
+halve-index-requires-clause-full g c =
+    rw c.cells-cells.ensures (cells_full (items_of (node_of c.args.nodes.now c.down.at)))
 
 pub halve-index-requires-clause-falls : goal.halve-index-requires-clause-falls
 halve-index-requires-clause-falls g c =
-    let d = c.loop-left.invariant.0 in
-    let items = c.as_slice-list.ensures.value ∙ sym (items_known c.args.nodes.now c.loop-left.at c.index.result.now c.index.ensures) in
-    rw (c.loop-left.invariant.1, items) (node_falls c.args.items.now (passes c.args.items.now (g.P.Probe.test c.args.probe.now)) 1 CAPACITY c.args.nodes.now c.loop-left.left c.loop-left.at d.shaped d.falls)
+    let p = g.P.Probe.test c.args.probe.now in
+    let d = c.down.invariant.0 in
+    rw (c.down.invariant.1, c.cells-cells.ensures)
+    (falls_cells p (items_of (node_of c.args.nodes.now c.down.at))
+    (node_falls p 1 CAPACITY c.args.nodes.now c.down.left c.down.at d.shaped d.falls))
 
-pub overflow_mul-way : goal.overflow_mul-way
-overflow_mul-way g c =
-    let d = c.loop-left.invariant.0 in
-    let items = c.as_slice-list.ensures.value ∙ sym (items_known c.args.nodes.now c.loop-left.at c.index.result.now c.index.ensures) in
-    let p = passes c.args.items.now (g.P.Probe.test c.args.probe.now) in
-    let count : c.halve-index.result ≡ count_by p (items_of (get c.args.nodes.now c.loop-left.at)) = rw (c.loop-left.invariant.1, items) at c.halve-index.ensures.count in
-    let few : c.halve-index.result ≤ CAPACITY = omega (arith, count, count_by-le-length p (items_of (get c.args.nodes.now c.loop-left.at)), d.shaped.node.fits) in
-    let small = weight_fits c.args.below c.loop-left.left c.loop-left.weight c.requires.deep (omega (arith, c.loop-left-test.true)) d.weight_is in
-    let most = mul-le-mul_left c.loop-left.weight few in
-    omega (arith, d.small, small, most)
+-- how many of the node's items pass
+counted : (g : Over) (c : After-halve-index g)
+    → c.halve-index.result ≡ count_by (g.P.Probe.test c.args.probe.now)
+    (items_of (node_of c.args.nodes.now c.down.at))
+counted g c =
+    (rw (c.down.invariant.1, c.cells-cells.ensures) at c.halve-index.ensures.count)
+    ∙ count_cells (g.P.Probe.test c.args.probe.now)
+    (items_of (node_of c.args.nodes.now c.down.at))
 
-pub overflow_add-way : goal.overflow_add-way
-overflow_add-way g c =
-    let d = c.loop-left.invariant.0 in
-    let items = c.as_slice-list.ensures.value ∙ sym (items_known c.args.nodes.now c.loop-left.at c.index.result.now c.index.ensures) in
-    let p = passes c.args.items.now (g.P.Probe.test c.args.probe.now) in
-    let count : c.halve-index.result ≡ count_by p (items_of (get c.args.nodes.now c.loop-left.at)) = rw (c.loop-left.invariant.1, items) at c.halve-index.ensures.count in
-    let few : c.halve-index.result ≤ CAPACITY = omega (arith, count, count_by-le-length p (items_of (get c.args.nodes.now c.loop-left.at)), d.shaped.node.fits) in
-    let small = weight_fits c.args.below c.loop-left.left c.loop-left.weight c.requires.deep (omega (arith, c.loop-left-test.true)) d.weight_is in
-    let most = mul-le-mul_left c.loop-left.weight few in
-    omega (arith, d.small, small, most)
+few : (g : Over) (c : After-halve-index g) → c.halve-index.result ≤ CAPACITY
+few g c =
+    let d = c.down.invariant.0 in
+    omega (
+      arith,
+      counted g c,
+      count_by-le-length (g.P.Probe.test c.args.probe.now)
+          (items_of (node_of c.args.nodes.now c.down.at)),
+      d.shaped.node.fits,
+    )
+
+pub returns-then-left-eq0-clause-edge : goal.returns-then-left-eq0-clause-edge
+returns-then-left-eq0-clause-edge g c =
+    let a = (goal.at.returns-then-left-eq0-clause-edge g c).After-halve-index in
+    (descent_ends (g.P.Probe.test c.args.probe.now) c.args.nodes.now c.args.below c.args.number
+    c.down.left c.down.at c.down.path c.down.weight c.if-left-eq0.true c.down.invariant.0
+    c.halve-index.result (counted g a)).edge
+
+pub returns-then-left-eq0-clause-count : goal.returns-then-left-eq0-clause-count
+returns-then-left-eq0-clause-count g c =
+    let a = (goal.at.returns-then-left-eq0-clause-count g c).After-halve-index in
+    (descent_ends (g.P.Probe.test c.args.probe.now) c.args.nodes.now c.args.below c.args.number
+    c.down.left c.down.at c.down.path c.down.weight c.if-left-eq0.true c.down.invariant.0
+    c.halve-index.result (counted g a)).count
+
+pub overflow_mul-path : goal.overflow_mul-path
+overflow_mul-path g c =
+    let a = (goal.at.overflow_mul-path g c).After-halve-index in
+    let d = c.down.invariant.0 in
+    omega (
+      arith,
+      d.small,
+      weight_fits c.args.below c.down.left c.down.weight c.requires.deep
+          (omega (arith, c.if-left-eq0.false)) d.weight_is,
+      mul-le-mul_left c.down.weight (few g a),
+    )
+
+pub overflow_add-path : goal.overflow_add-path
+overflow_add-path g c =
+    let a = (goal.at.overflow_add-path g c).After-halve-index in
+    let d = c.down.invariant.0 in
+    omega (
+      arith,
+      d.small,
+      weight_fits c.args.below c.down.left c.down.weight c.requires.deep
+          (omega (arith, c.if-left-eq0.false)) d.weight_is,
+      mul-le-mul_left c.down.weight (few g a),
+    )
 
 pub overflow_mul-weight : goal.overflow_mul-weight
 overflow_mul-weight g c =
-    let d = c.loop-left.invariant.0 in
-    omega (arith, weight_fits c.args.below c.loop-left.left c.loop-left.weight c.requires.deep (omega (arith, c.loop-left-test.true)) d.weight_is)
-
-pub loop-left-preserved : goal.loop-left-preserved
-loop-left-preserved g c =
-    let d = c.loop-left.invariant.0 in
-    let items = c.as_slice-list.ensures.value ∙ sym (items_known c.args.nodes.now c.loop-left.at c.index.result.now c.index.ensures) in
-    let p = passes c.args.items.now (g.P.Probe.test c.args.probe.now) in
-    let count : c.halve-index.result ≡ count_by p (items_of (get c.args.nodes.now c.loop-left.at)) = rw (c.loop-left.invariant.1, items) at c.halve-index.ensures.count in
-    let inner : c.loop-left.left ≢ 0 = λ none. omega (arith, none, c.loop-left-test.true) in
-    let down = descends c.args.items.now p c.args.nodes.now c.args.below c.args.number c.loop-left.left c.loop-left.at c.loop-left.way c.loop-left.weight c.loop-left.last inner d c.halve-index.result c.last_of.result count (rw items at c.last_of.ensures) in (
-      rw (c.child_at-at.ensures, c.or-last.ensures) down,
-      c.halve-index.ensures.kept ∙ c.loop-left.invariant.1,
-      adds_more _ _ _ c.args.below c.loop-left.left inner d.low c.loop-left.invariant.2 c.halve-index.ensures.asked,
+    let d = c.down.invariant.0 in
+    omega (
+      arith,
+      weight_fits c.args.below c.down.left c.down.weight c.requires.deep
+          (omega (arith, c.if-left-eq0.false)) d.weight_is,
     )
 
-pub halve-index-requires-2-clause-stored : goal.halve-index-requires-2-clause-stored
-halve-index-requires-2-clause-stored g c =
-    let d = c.loop-left.invariant.0 in
-    let items = c.as_slice-list-2.ensures.value ∙ sym (items_known c.args.nodes.now c.loop-left.at c.index-2.result.now c.index-2.ensures) in
-    rw items (node_stored c.args.items.now (passes c.args.items.now (g.P.Probe.test c.args.probe.now)) 1 CAPACITY c.args.nodes.now c.loop-left.left c.loop-left.at d.shaped d.stored)
+pub down-preserved : goal.down-preserved
+down-preserved g c =
+    let a = (goal.at.down-preserved g c).After-halve-index in
+    let d = c.down.invariant.0 in
+    let down =
+    descends (g.P.Probe.test c.args.probe.now) c.args.nodes.now c.args.below c.args.number
+    c.down.left c.down.at c.down.path c.down.weight c.if-left-eq0.false d
+    c.halve-index.result (counted g a) in (
+      rw c.children-children.ensures down,
+      c.halve-index.ensures.kept ∙ c.down.invariant.1,
+      adds_more _ _ _ c.args.below c.down.left c.if-left-eq0.false d.low c.down.invariant.2
+          c.halve-index.ensures.asked,
+    )
 
-pub halve-index-requires-2-clause-falls : goal.halve-index-requires-2-clause-falls
-halve-index-requires-2-clause-falls g c =
-    let d = c.loop-left.invariant.0 in
-    let items = c.as_slice-list-2.ensures.value ∙ sym (items_known c.args.nodes.now c.loop-left.at c.index-2.result.now c.index-2.ensures) in
-    rw (c.loop-left.invariant.1, items) (node_falls c.args.items.now (passes c.args.items.now (g.P.Probe.test c.args.probe.now)) 1 CAPACITY c.args.nodes.now c.loop-left.left c.loop-left.at d.shaped d.falls)
+pub down-init : goal.down-init
+down-init g c =
+    let p = g.P.Probe.test c.args.probe.now in (
+      begins p c.args.nodes.now c.args.below c.args.number c.requires.shaped c.requires.falls,
+      refl,
+      adds_none (g.P.Probe.steps_taken c.args.probe.now) c.args.below,
+    )
 
-pub returns-clause-edge : goal.returns-clause-edge
-returns-clause-edge g c =
-    let d = c.loop-left.invariant.0 in
-    let items = c.as_slice-list-2.ensures.value ∙ sym (items_known c.args.nodes.now c.loop-left.at c.index-2.result.now c.index-2.ensures) in
-    let p = passes c.args.items.now (g.P.Probe.test c.args.probe.now) in
-    let count : c.halve-index-2.result ≡ count_by p (items_of (get c.args.nodes.now c.loop-left.at)) = rw (c.loop-left.invariant.1, items) at c.halve-index-2.ensures.count in
-    let bottom : c.loop-left.left ≡ 0 = omega (arith, c.loop-left-test.false) in
-    let found = descent_ends c.args.items.now p c.args.nodes.now c.args.below c.args.number c.loop-left.left c.loop-left.at c.loop-left.way c.loop-left.weight c.loop-left.last bottom d c.halve-index-2.result c.last_of-2.result count (rw items at c.last_of-2.ensures) in
-    found.edge
-
-pub returns-clause-count : goal.returns-clause-count
-returns-clause-count g c =
-    let d = c.loop-left.invariant.0 in
-    let items = c.as_slice-list-2.ensures.value ∙ sym (items_known c.args.nodes.now c.loop-left.at c.index-2.result.now c.index-2.ensures) in
-    let p = passes c.args.items.now (g.P.Probe.test c.args.probe.now) in
-    let count : c.halve-index-2.result ≡ count_by p (items_of (get c.args.nodes.now c.loop-left.at)) = rw (c.loop-left.invariant.1, items) at c.halve-index-2.ensures.count in
-    let bottom : c.loop-left.left ≡ 0 = omega (arith, c.loop-left-test.false) in
-    let found = descent_ends c.args.items.now p c.args.nodes.now c.args.below c.args.number c.loop-left.left c.loop-left.at c.loop-left.way c.loop-left.weight c.loop-left.last bottom d c.halve-index-2.result c.last_of-2.result count (rw items at c.last_of-2.ensures) in
-    found.count
-
-pub returns-clause-last : goal.returns-clause-last
-returns-clause-last g c =
-    let d = c.loop-left.invariant.0 in
-    let items = c.as_slice-list-2.ensures.value ∙ sym (items_known c.args.nodes.now c.loop-left.at c.index-2.result.now c.index-2.ensures) in
-    let p = passes c.args.items.now (g.P.Probe.test c.args.probe.now) in
-    let count : c.halve-index-2.result ≡ count_by p (items_of (get c.args.nodes.now c.loop-left.at)) = rw (c.loop-left.invariant.1, items) at c.halve-index-2.ensures.count in
-    let bottom : c.loop-left.left ≡ 0 = omega (arith, c.loop-left-test.false) in
-    let found = descent_ends c.args.items.now p c.args.nodes.now c.args.below c.args.number c.loop-left.left c.loop-left.at c.loop-left.way c.loop-left.weight c.loop-left.last bottom d c.halve-index-2.result c.last_of-2.result count (rw items at c.last_of-2.ensures) in
-    rw c.or.ensures found.last_is
+pub bounds-children-index : goal.bounds-children-index
+bounds-children-index g c =
+    let a = (goal.at.bounds-children-index g c).After-halve-index in
+    let s = c.args.nodes.now in
+    let low : c.halve-index.result ≤ length (items_of (node_of s c.down.at)) =
+    omega (
+      arith,
+      counted g a,
+      count_by-le-length (g.P.Probe.test c.args.probe.now) (items_of (node_of s c.down.at)),
+    ) in
+    rw c.children-children.ensures (child_within s c.down.left c.down.at
+    (omega (arith, c.if-left-eq0.false)) c.down.invariant.0.shaped c.halve-index.result low)

@@ -9,9 +9,12 @@ returns-clause-list g c =
     let stored = c.args.stored.now in
     let items = storage.items stored in
     let place = place_before (storage.rank stored) (length items) c.args.cursor.at in
-    let here : place ≡ storage.rank stored c.in-Some.p = ap (place_before (storage.rank stored) (length items)) c.in-Some.is in
+    let here : place ≡ storage.rank stored c.in-Some.p =
+    ap (place_before (storage.rank stored) (length items)) c.in-Some.is in
     let within : place + c.args.cursor.left ≤ length items = c.requires.in_range in
-    put_over items (storage.items c.replace-replaced.new.self) place (storage.rank stored c.in-Some.p) c.args.cursor.left c.args.item c.replace-replaced.ensures.list (sym here) (omega arith) (omega arith)
+    put_over items (storage.items c.replace-replaced.new.self) place
+    (storage.rank stored c.in-Some.p) c.args.cursor.left c.args.item
+    c.replace-replaced.ensures.list (sym here) (omega arith) (omega arith)
 
 pub returns-clause-position : goal.returns-clause-position
 returns-clause-position g c = search rules

@@ -12,5 +12,10 @@ returns g c =
     let place = place_before (storage.rank stored) (length items) c.args.cursor.at in
     let now = c.put-rest.new.stored in
     let rest = c.put-rest.result in
-    let at = place_at (storage.is_good now) (storage.rank now) (length (storage.items now)) rest.at (place + 1) c.put-rest.ensures.position in
-    replaced_run items (storage.items now) (storage.items c.remove_rest.new.stored) place c.args.cursor.left rest.left c.args.item c.put-rest.ensures.list c.put-rest.ensures.left c.requires.in_range (rw at at c.remove_rest.ensures.list)
+    let at =
+    place_at (storage.is_good now) (storage.rank now) (length (storage.items now)) rest.at
+    (place + 1) c.put-rest.ensures.position in
+    replaced_run items (storage.items now)
+    (storage.items c.remove_rest.new.stored) place c.args.cursor.left rest.left c.args.item
+    c.put-rest.ensures.list c.put-rest.ensures.left c.requires.in_range
+    (rw at at c.remove_rest.ensures.list)

@@ -1,0 +1,182 @@
+-- Changes of several nodes, in another order.
+use Rattle.std.proofs.Common.{◌≡◌, ◌≢◌, ℕ, ◌+◌, ◌<◌, List, length, cond, Option, Some, None, is_some, IsSome, refl, sym, ap, ◌∙◌, inl, inr, arith}
+use Rattle.std.proofs.Math.ListN.{set}
+use Rattle.std.proofs.lemmas.Bool.{cases_eq, cases_lt, false≢true}
+use Rattle.std.proofs.lemmas.List.{get_or-set_same, get_or-set_other, get_or_past}
+use Rattle.std.proofs.lemmas.List.Sums.{sum_by-set}
+use Rattle.range_store.specs.Heap.{Heap, Content, node_of, HasNode, items_of, children_of, node_count, with_item, Writes, Removes}
+
+module _ {T : Type 0} where
+  abbrev pub with_slot : Heap T → ℕ → Option (Content T) → Heap T
+  with_slot s n slot = record s { slots = set s.slots n slot }
+
+  node_within : (s : Heap T) (n : ℕ) → HasNode s n → n < length s.slots
+  node_within s n present =
+      elim (cases_lt n (length s.slots)) [
+        | inl less ↦ less
+        | inr past ↦ let none : node_of s n ≡ None = get_or_past s.slots n None past in absurd
+            (false≢true (rw none at present))
+      ]
+
+  slot_read : (s : Heap T) (n : ℕ) (slot : Option (Content T)) → HasNode s n
+      → node_of (with_slot s n slot) n ≡ slot
+  slot_read s n slot present = get_or-set_same s.slots n slot None (node_within s n present)
+
+  slot_other : (s : Heap T) (n k : ℕ) (slot : Option (Content T)) → k ≢ n
+      → node_of (with_slot s n slot) k ≡ node_of s k
+  slot_other s n k slot other = get_or-set_other s.slots n k slot None other
+
+  slot_count : (s : Heap T) (n : ℕ) (slot : Option (Content T)) → HasNode s n
+      → node_count (with_slot s n slot) + 1 ≡ node_count s + cond (is_some slot) 1 0
+  slot_count s n slot present =
+      let one : ◌≡◌ {A = ℕ} (cond (is_some (node_of s n)) 1 0) 1 = rw present refl in
+      omega (
+        arith,
+        one,
+        sum_by-set (λ o. cond (is_some o) 1 0) s.slots n slot None
+            (node_within s n present),
+      )
+
+  pub writes_slot : (s : Heap T) (n : ℕ) (node : Content T) → HasNode s n
+      → Writes s (with_slot s n (Some node)) n node.items node.children
+  writes_slot s n node present =
+      let here = slot_read s n (Some node) present in
+      record {
+        was = present;
+        present = rw here refl;
+        items_are = ap items_of here;
+        children_are = ap children_of here;
+        others = λ k other. slot_other s n k (Some node) other;
+        len = omega (arith, slot_count s n (Some node) present);
+        capacity = refl;
+      }
+
+  removes_slot : (s : Heap T) (n : ℕ) → HasNode s n → Removes s (with_slot s n None) n
+  removes_slot s n present =
+      record {
+        was = present;
+        gone = slot_read s n None present;
+        others = λ k other. slot_other s n k None other;
+        len = omega (arith, slot_count s n None present);
+        capacity = refl;
+      }
+
+  pub item_other : (s : Heap T) (n i k : ℕ) (x : T) → k ≢ n
+      → node_of (with_item s n i x) k ≡ node_of s k
+  item_other s n i k x other = slot_other s n k
+      (Some (record {
+        items = set (items_of (node_of s n)) i x;
+        children = children_of (node_of s n);
+      })) other
+
+  -- a write to an item is one of its node
+  pub writes_item : (s : Heap T) (n i : ℕ) (x : T) → HasNode s n
+      → Writes s (with_item s n i x) n (set (items_of (node_of s n)) i x)
+      (children_of (node_of s n))
+  writes_item s n i x present = writes_slot s n
+      (record { items = set (items_of (node_of s n)) i x; children = children_of (node_of s n) })
+      present
+
+  content_is : (node : Option (Content T)) (xs : List T) (ks : List ℕ) → IsSome node
+      → items_of node ≡ xs → children_of node ≡ ks
+      → node ≡ Some (record { items = xs; children = ks })
+  content_is None xs ks present items children = absurd (cc)
+  content_is (Some node) xs ks present items children =
+      ap (λ ys. Some (record { items = ys; children = node.children })) items
+      ∙ ap (λ ls. Some (record { items = xs; children = ls })) children
+
+  written_is : (s t : Heap T) (n : ℕ) (xs : List T) (ks : List ℕ) → Writes s t n xs ks
+      → node_of t n ≡ Some (record { items = xs; children = ks })
+  written_is s t n xs ks writes = content_is (node_of t n) xs ks writes.present writes.items_are
+      writes.children_are
+
+  -- a write between two heaps that differ from two others at another node alone
+  writes_along : (s t u v : Heap T) (n m : ℕ) (xs : List T) (ks : List ℕ) → n ≢ m
+      → Writes s t n xs ks → ((k : ℕ) → k ≢ m → node_of u k ≡ node_of s k)
+      → ((k : ℕ) → k ≢ m → node_of v k ≡ node_of t k) → node_of v m ≡ node_of u m
+      → node_count v ≡ node_count u → v.capacity ≡ u.capacity → Writes u v n xs ks
+  writes_along s t u v n m xs ks apart writes before after here len capacity =
+      record {
+        was = rw (before n apart) writes.was;
+        present = rw (after n apart) writes.present;
+        items_are = ap items_of (after n apart) ∙ writes.items_are;
+        children_are = ap children_of (after n apart) ∙ writes.children_are;
+        others = λ k other.
+            elim (cases_eq k m) [
+              | inl same ↦ rw same here
+              | inr differs ↦ after k differs ∙ writes.others k other ∙ sym (before k differs)
+            ];
+        len = len;
+        capacity = capacity;
+      }
+
+  module _ (s t u : Heap T) (n m : ℕ) (xs : List T) (ks : List ℕ) (apart : m ≢ n) where
+    -- two writes of different nodes
+    pub record WritesFirst (ys : List T) (ls : List ℕ) : Type 0 where
+      pub between : Heap T
+      pub first : Writes s between m ys ls
+      pub second : Writes between u n xs ks
+
+    pub write_first : (ys : List T) (ls : List ℕ) → Writes s t n xs ks → Writes t u m ys ls
+        → WritesFirst ys ls
+    write_first ys ls one two =
+        let present : HasNode s m = rw (one.others m apart) at two.was in
+        let between = with_slot s m (Some (record { items = ys; children = ls })) in
+        let first : Writes s between m ys ls = writes_slot s m
+        (record { items = ys; children = ls }) present in
+        record {
+          between = between;
+          first = first;
+          second = writes_along s t between u n m xs ks (λ e. apart (sym e)) one first.others
+              two.others (written_is t u m ys ls two ∙ sym (written_is s between m ys ls first))
+              (two.len ∙ one.len ∙ sym first.len) (two.capacity ∙ one.capacity
+              ∙ sym first.capacity);
+        }
+
+    pub record RemovesFirst : Type 0 where
+      pub between : Heap T
+      pub first : Removes s between m
+      pub second : Writes between u n xs ks
+
+    pub remove_first : Writes s t n xs ks → Removes t u m → RemovesFirst
+    remove_first one two =
+        let present : HasNode s m = rw (one.others m apart) at two.was in
+        let between = with_slot s m None in
+        let first : Removes s between m = removes_slot s m present in
+        record {
+          between = between;
+          first = first;
+          second = writes_along s t between u n m xs ks (λ e. apart (sym e)) one first.others
+              two.others (two.gone ∙ sym first.gone) (omega (arith, two.len, one.len, first.len))
+              (two.capacity ∙ one.capacity ∙ sym first.capacity);
+        }
+
+    pub record RemovesLast : Type 0 where
+      pub between : Heap T
+      pub first : Writes s between n xs ks
+      pub second : Removes between u m
+
+    pub remove_last : Removes s t m → Writes t u n xs ks → RemovesLast
+    remove_last one two =
+        let apart' = λ (e : n ≡ m). apart (sym e) in
+        let present : HasNode s n = rw (one.others n apart') at two.was in
+        let between = with_slot s n (Some (record { items = xs; children = ks })) in
+        let first : Writes s between n xs ks = writes_slot s n
+        (record { items = xs; children = ks }) present in
+        record {
+          between = between;
+          first = first;
+          second = record {
+            was = rw (first.others m apart) one.was;
+            gone = two.others m apart ∙ one.gone;
+            others = λ k other.
+                elim (cases_eq k n) [
+                  | inl same ↦ rw same (written_is t u n xs ks two
+                      ∙ sym (written_is s between n xs ks first))
+                  | inr differs ↦ two.others k differs ∙ one.others k other
+                      ∙ sym (first.others k differs)
+                ];
+            len = omega (arith, one.len, two.len, first.len);
+            capacity = two.capacity ∙ one.capacity ∙ sym first.capacity;
+          };
+        }

@@ -1,0 +1,177 @@
+-- A node above the leaves, and the edges and items below its children.
+use Rattle.std.proofs.Common.{◌≡◌, ◌≢◌, ℕ, zero, suc, ◌+◌, ◌-◌, ◌<◌, ◌≤◌, ◌++◌, length, get_or, map, refl, ap, ◌∙◌, arith, cond, true, false, ◌==◌, inl, inr}
+use Rattle.range_store.specs.Heap.{Heap, node_of, items_of, children_of}
+use Rattle.range_store.specs.declared.btree.nodes.TheConstants.{CAPACITY, MIN_LEN}
+use Rattle.range_store.specs.declared.btree.path.Edge.{Edge}
+use Rattle.range_store.specs.declared.btree.path.Home.{Home}
+use Rattle.range_store.specs.Nodes.{items_below, before, after, ShapedBut}
+use Rattle.range_store.specs.Edges.{turn, inside, is_start, IsEdge, place, home_of}
+use Rattle.range_store.specs.Written.{place_of_start, start_of_place}
+use Rattle.range_store.proofs.Below.{children_length, items_below_at, length-before_more, none_after_last, shaped_within_wider}
+use Rattle.range_store.proofs.Edges.{edge_above, place_above, place_inside, edge_inside, turn_within, place_within}
+use Rattle.range_store.proofs.Rank.{kid_shaped}
+use Rattle.std.proofs.lemmas.List.{length-append}
+use Rattle.std.proofs.lemmas.Bool.{and_from, and_parts, both_ways, cases_eq, eq-eqb, eqb-true}
+
+pub home_leaf : {T : Type 0} (s : Heap T) (n : ℕ) (g : Edge)
+    → home_of s zero n g ≡ record { node = n; index = g.index - 1 }
+unfolding home_of
+home_leaf s n g = refl
+
+home_step : {T : Type 0} (s : Heap T) (d n : ℕ) (g : Edge)
+    → home_of s (suc d) n g ≡ cond (is_start (inside g)) (record { node = n; index = turn g - 1 })
+    (home_of s d (get_or (children_of (node_of s n)) (turn g) 0) (inside g))
+unfolding home_of
+home_step s d n g = refl
+
+start_parts : (g : Edge) → is_start g ≡ true → (g.path ≡ 0) × (g.index ≡ 0)
+start_parts g start =
+    let both = and_parts (g.path == 0) (g.index == 0) start in
+    (eqb-true _ _ both.0, eqb-true _ _ both.1)
+
+-- nothing stands before an edge just where it is a start
+pub stands_first : {T : Type 0} (s : Heap T) (d n : ℕ) (g : Edge) → is_start g ≡ true
+    → place s d n g ≡ 0
+stands_first s d n g start = place_of_start s d n g (start_parts g start).0 (start_parts g start).1
+
+pub not_start : {T : Type 0} (s : Heap T) (d n : ℕ) (g : Edge) → ShapedBut 1 CAPACITY s d n
+    → IsEdge s d n g → is_start g ≡ false → 0 < place s d n g
+not_start s d n g shaped is later =
+    elim (cases_eq (place s d n g) 0) [
+      | inr some ↦ omega (arith, some)
+      | inl none ↦ let start =
+          start_of_place s 1 CAPACITY d n g shaped is none in absurd
+          (both_ways _ later (and_from _ _ (eq-eqb _ _ start.0) (eq-eqb _ _ start.1)))
+    ]
+
+module _ {T : Type 0} (s : Heap T) (b n : ℕ) (inner : b ≢ 0)
+    (shaped : ShapedBut 1 CAPACITY s b n) where
+  pub level_of_children : suc (b - 1) ≡ b
+  level_of_children = omega arith
+
+  deeper : ShapedBut 1 CAPACITY s (suc (b - 1)) n
+  deeper = rw (← level_of_children) at shaped
+
+  pub child_within : (i : ℕ) → i ≤ length (items_of (node_of s n))
+      → i < length (children_of (node_of s n))
+  child_within i low = omega (arith, children_length 1 CAPACITY s b n (omega arith) shaped)
+
+  pub below_kid : (i : ℕ) → i ≤ length (items_of (node_of s n))
+      → ShapedBut 1 CAPACITY s (b - 1) (get_or (children_of (node_of s n)) i 0)
+  below_kid i low =
+      shaped_within_wider 1 MIN_LEN CAPACITY CAPACITY s (b - 1) _ (omega arith) (omega arith)
+      (kid_shaped 1 CAPACITY s (b - 1) n i deeper low)
+
+  pub below_turn : (g : Edge) → IsEdge s b n g → turn g ≤ length (items_of (node_of s n))
+  below_turn g is =
+      omega (
+        arith,
+        turn_within s (b - 1) n g (rw (← level_of_children) at is),
+        children_length 1 CAPACITY s b n (omega arith) shaped,
+      )
+
+  pub below_inside : (g : Edge) → IsEdge s b n g
+      → IsEdge s (b - 1) (get_or (children_of (node_of s n)) (turn g) 0) (inside g)
+  below_inside g is = edge_inside s (b - 1) n g (rw (← level_of_children) at is)
+
+  pub below_edge : (i : ℕ) (g h : Edge) → turn h ≡ i → inside h ≡ g
+      → i ≤ length (items_of (node_of s n))
+      → IsEdge s (b - 1) (get_or (children_of (node_of s n)) i 0) g → IsEdge s b n h
+  below_edge i g h at within low is =
+      rw level_of_children at (edge_above s (b - 1) n i g h at within (child_within i low) is)
+
+  pub below_place : (i : ℕ) (g h : Edge) → turn h ≡ i → inside h ≡ g
+      → place s b n h ≡ length
+      (before (items_of (node_of s n)) (map (items_below s b) (children_of (node_of s n))) i) +
+      place s (b - 1) (get_or (children_of (node_of s n)) i 0) g
+  below_place i g h at within = rw level_of_children at (place_above s (b - 1) n i g h at within)
+
+  pub below_here : (g : Edge)
+      → place s b n g ≡ length
+      (before (items_of (node_of s n)) (map (items_below s b) (children_of (node_of s n))) (turn g))
+      + place s (b - 1) (get_or (children_of (node_of s n)) (turn g) 0) (inside g)
+  below_here g = rw level_of_children at (place_inside s (b - 1) n g)
+
+  pub below_most : (i : ℕ) (g : Edge) → i ≤ length (items_of (node_of s n))
+      → IsEdge s (b - 1) (get_or (children_of (node_of s n)) i 0) g
+      → place s (b - 1) (get_or (children_of (node_of s n)) i 0) g
+      ≤ length (items_below s b (get_or (children_of (node_of s n)) i 0))
+  below_most i g low is =
+      rw level_of_children at (place_within s (b - 1) _ g 1 CAPACITY (below_kid i low) is)
+
+  -- after the last child stands nothing
+  pub past_last : (i : ℕ) → i ≡ length (items_of (node_of s n))
+      → length (before (items_of (node_of s n))
+      (map (items_below s b) (children_of (node_of s n))) i) + length
+      (items_below s b (get_or (children_of (node_of s n)) i 0)) ≡ length (items_below s (suc b) n)
+  past_last i last =
+      let xs = items_of (node_of s n) in
+      let lists = map (items_below s b) (children_of (node_of s n)) in
+      let kid = get_or (children_of (node_of s n)) i 0 in
+      let whole = items_below_at 1 CAPACITY s b n (omega arith) shaped i (omega arith) in
+      let none : length (after xs lists i) ≡ 0 =
+      rw last (ap length (none_after_last 1 CAPACITY s b n (omega arith) shaped)) in
+      omega (
+        arith,
+        ap length whole,
+        length-append (before xs lists i) (items_below s b kid ++ after xs lists i),
+        length-append (items_below s b kid) (after xs lists i),
+        none,
+      )
+
+  -- an edge at the end of the child at i is one before the next child
+  pub before_next : (i : ℕ) → i < length (items_of (node_of s n))
+      → length (before (items_of (node_of s n)) (map (items_below s b) (children_of (node_of s n)))
+      (i + 1))
+      ≡ length (before (items_of (node_of s n))
+      (map (items_below s b) (children_of (node_of s n))) i) + length
+      (items_below s b (get_or (children_of (node_of s n)) i 0)) + 1
+  before_next i low = length-before_more 1 CAPACITY s b n (omega arith) shaped i low
+
+  -- where the item before an edge stands, which begins a child or goes further down
+  pub home_above : (g : Edge) → is_start (inside g) ≡ true
+      → home_of s b n g ≡ record { node = n; index = turn g - 1 }
+  home_above g start =
+      let at : Home = record { node = n; index = turn g - 1 } in
+      let step : home_of s (suc (b - 1)) n g ≡ at =
+      home_step s (b - 1) n g
+      ∙ ap (λ v.
+      cond v at (home_of s (b - 1) (get_or (children_of (node_of s n)) (turn g) 0)
+      (inside g))) start in
+      rw level_of_children at step
+
+  pub home_inside : (g : Edge) → is_start (inside g) ≡ false
+      → home_of s b n g ≡ home_of s (b - 1) (get_or (children_of (node_of s n)) (turn g) 0)
+      (inside g)
+  home_inside g later =
+      let at : Home = record { node = n; index = turn g - 1 } in
+      let below = home_of s (b - 1) (get_or (children_of (node_of s n)) (turn g) 0) (inside g) in
+      let step : home_of s (suc (b - 1)) n g ≡ below =
+      home_step s (b - 1) n g ∙ ap (λ v. cond v at below) later in
+      rw level_of_children at step
+
+  pub turn_is_later : (g : Edge) → is_start (inside g) ≡ true → 0 < place s b n g → 0 < turn g
+  turn_is_later g start some = from (turn g) refl
+    where
+      from : (t : ℕ) → t ≡ turn g → 0 < t
+      from zero at =
+          let none : length (before (items_of (node_of s n))
+          (map (items_below s b) (children_of (node_of s n))) (turn g))
+          ≡ 0 = rw (← at) refl in
+          absurd
+          (omega (
+            arith,
+            some,
+            below_here g,
+            none,
+            place_of_start s (b - 1) (get_or (children_of (node_of s n)) (turn g) 0) (inside g)
+                (start_parts (inside g) start).0 (start_parts (inside g) start).1,
+          ))
+      from (suc t) at = omega arith
+
+  pub inside_is_later : (g : Edge) → IsEdge s b n g → is_start (inside g) ≡ false
+      → 0 < place s (b - 1) (get_or (children_of (node_of s n)) (turn g) 0) (inside g)
+  inside_is_later g is later =
+      let low = below_turn g is in
+      not_start s (b - 1) (get_or (children_of (node_of s n)) (turn g) 0) (inside g)
+      (below_kid (turn g) low) (below_inside g is) later

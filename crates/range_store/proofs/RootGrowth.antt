@@ -1,0 +1,266 @@
+-- A whole tree after an insertion: of the first item, below the root, and with a cut of the root.
+use Rattle.std.proofs.Common.{◌≡◌, ℕ, zero, suc, ◌+◌, ◌-◌, ◌*◌, ◌^◌, ◌<◌, ◌≤◌, List, [], ◌∷◌, ◌++◌, length, refl, sym, ap, ◌∙◌, inl, inr, arith, None, Some}
+use Rattle.std.specs.List.{All, flat_map}
+use Rattle.std.proofs.lemmas.List.{append-nil, length-append}
+use Rattle.std.proofs.lemmas.List.Elements.{All-nil, All-head, All-tail, All-weaker}
+use Rattle.std.proofs.lemmas.Bool.{cases_eq}
+use Rattle.range_store.specs.Heap.{Heap, node_of, HasRoomFor, children_of, Stores}
+use Rattle.range_store.specs.declared.btree.nodes.Split.{Split}
+use Rattle.range_store.specs.declared.btree.nodes.TheConstants.{CAPACITY, MIN_LEN}
+use Rattle.range_store.specs.declared.btree.path.Edge.{Edge}
+use Rattle.range_store.specs.Nodes.{items_below, used, Shaped, ShapedBut, IsTree, IsRoomy, HasTreeRoom, here, Replaces}
+use Rattle.range_store.specs.Edges.{turn, inside, IsEdge, place, IsSeat, seat_place}
+use Rattle.range_store.specs.Occurrences.{occurrences, occurrences-cons, occurrences-nil, occurrences_itself, occurrences_other}
+use Rattle.range_store.proofs.Below.{items_below_leaf, used_leaf, Shaped-from_but}
+use Rattle.range_store.proofs.Contents.{Holds, held_items_below, held_used, held_shape}
+use Rattle.range_store.specs.Frame.{AgreeAt, same_children}
+use Rattle.range_store.proofs.Moves.{here_some}
+use Rattle.range_store.proofs.Rank.{used_none}
+use Rattle.range_store.proofs.Room.{used_le}
+use Rattle.range_store.proofs.Seats.{seat_written}
+
+-- a stored node is the only new one
+Stores-here : {T : Type 0} (s t : Heap T) (n : ℕ) (xs : List T) (ks : List ℕ) → Stores s t n xs ks
+    → (k : ℕ) → here t k ≡ here s k + occurrences k (n ∷ [])
+Stores-here s t n xs ks stored k =
+    elim (cases_eq k n) [
+      | inl same ↦
+          let now : here t n ≡ 1 = here_some t n stored.present in
+          let was : here s n ≡ 0 = rw stored.fresh refl in
+          rw same (omega (arith, now, was, occurrences_itself n))
+      | inr other ↦
+          let none : occurrences k (n ∷ []) ≡ 0 = occurrences_other k n (λ e. other (sym e)) in
+          let kept : here t k ≡ here s k = rw (stored.others k other) refl in
+          omega (arith, none, kept)
+    ]
+
+pub first_tree : {T : Type 0} (s t : Heap T) (levels root n : ℕ) (item : T) → levels ≡ 0
+    → IsTree s levels root → Stores s t n (item ∷ []) []
+    → IsTree t 1 n × (items_below t 1 n ≡ item ∷ [])
+first_tree s t (suc d) root n item none tree stored = absurd (omega arith)
+first_tree s t zero root n item none tree stored =
+    let childless : length (children_of (node_of t n)) ≡ 0 = ap length stored.children_are in
+    let whole : IsTree t 1 n = record {
+      shaped = record {
+        node =
+            record {
+              present = stored.present;
+              enough = omega (arith, ap length stored.items_are);
+              fits = omega (arith, ap length stored.items_are);
+              branches = childless;
+            };
+        children = rw stored.children_are (All-nil (Shaped t zero));
+      };
+      once =
+          λ k.
+          omega (
+            arith,
+            ap (occurrences k) (used_leaf t n childless),
+            Stores-here s t n (item ∷ []) [] stored k,
+            tree.once k,
+            ap (occurrences k) (used_none s root),
+            occurrences-nil k,
+          );
+      len =
+          omega (
+            arith,
+            ap length (used_leaf t n childless),
+            stored.len,
+            tree.len,
+            ap length (used_none s root),
+          );
+    } in
+    (whole, items_below_leaf t n childless ∙ stored.items_are)
+
+-- capacity for one more number is capacity for the nodes that it needs
+pub one_more : {T : Type 0} (s : Heap T) (levels root : ℕ) → 0 < levels → IsTree s levels root
+    → 1 ≤ MIN_LEN * s.capacity - length (items_below s levels root)
+    → HasTreeRoom s (suc (levels - 1)) root 1
+one_more s zero root some tree room = absurd (omega arith)
+one_more s (suc d) root some tree room =
+    let level : suc d - 1 ≡ d = omega arith in
+    rw level (record {
+      filled = omega (arith, tree.len, room);
+      few = omega (arith, tree.len, room, tree.shaped.node.enough);
+    })
+
+module _ {T : Type 0} where
+  -- a tree with this list
+  pub record IsGrown (s : Heap T) (levels root : ℕ) (list : List T) : Type 0 where
+    pub tree : IsTree s levels root
+    pub items_are : items_below s levels root ≡ list
+
+pub grown_roomy : {T : Type 0} (s : Heap T) (levels root : ℕ) (list : List T)
+    → IsGrown s levels root list → length list ≤ MIN_LEN * s.capacity → length list < 2 ^ 64
+    → IsRoomy s levels root
+grown_roomy s levels root list grown fits counted = record {
+  tree = grown.tree;
+  fits = omega (arith, ap length grown.items_are, fits);
+  counted = omega (arith, ap length grown.items_are, counted);
+}
+
+module _ {T : Type 0} (s t : Heap T) (d root : ℕ) (list : List T) (tree : IsTree s (suc d) root)
+    (step : Replaces s t d root None list) where
+  whole : used t (suc d) root ++ [] ≡ used t (suc d) root
+  whole = append-nil (used t (suc d) root)
+
+  kept_tree : IsTree t (suc d) root
+  kept_tree = record {
+    shaped =
+        All-head (ShapedBut 1 CAPACITY t d) root []
+        (step.shape 1 (omega arith) tree.shaped.node.enough);
+    once = λ k. omega (arith, step.moved.owned k, tree.once k, ap (occurrences k) whole);
+    len = omega (arith, step.moved.len, tree.len, ap length whole);
+  }
+
+pub kept_root : {T : Type 0} (s t : Heap T) (levels root : ℕ) (list : List T) → 0 < levels
+    → IsTree s levels root → Replaces s t (levels - 1) root None list → IsGrown t levels root list
+kept_root s t zero root list some tree step = absurd (omega arith)
+kept_root s t (suc d) root list some tree step' =
+    let level : suc d - 1 ≡ d = omega arith in
+    let step = rw level at step' in
+    record {
+      tree = kept_tree s t d root list tree step;
+      items_are = sym (append-nil (items_below t (suc d) root)) ∙ step.listed;
+    }
+
+pub kept_edge : {T : Type 0} (t : Heap T) (d root side : ℕ) (g : Edge)
+    → IsSeat t (suc d) [] (root ∷ []) side g
+    → IsEdge t d root g × (place t d root g ≡ seat_place t (suc d) [] (root ∷ []) side g)
+unfolding IsSeat seat_place
+kept_edge t d root side g seat = let first : side ≡ 0 =
+    omega (arith, seat.0) in (rw first at seat.1, rw first (omega arith))
+
+module _ {T : Type 0} (s t u : Heap T) (d root n : ℕ) (split : Split T) (list : List T)
+    (tree : IsTree s (suc d) root) (step : Replaces s t d root (Some split) list)
+    (stored : Stores t u n (split.middle ∷ []) (root ∷ split.right ∷ [])) where
+  abbrev ts : List ℕ
+  ts = root ∷ split.right ∷ []
+
+  once_before : (k : ℕ) → occurrences k (flat_map (used t (suc d)) ts) ≡ here t k
+  once_before k = omega (arith, step.moved.owned k, tree.once k)
+
+  agree : AgreeAt t u (flat_map (used t (suc d)) ts)
+  agree k among =
+      stored.others k (λ same.
+      let absent : here t k ≡ 0 =
+      rw (same, stored.fresh) refl in omega (arith, once_before k, absent))
+
+  holds : Holds t u (suc d) n (split.middle ∷ []) ts
+  holds =
+      record {
+        present = stored.present;
+        items_are = stored.items_are;
+        children_are = stored.children_are;
+        same = same_children t u (suc d) ts agree;
+      }
+
+  ts_shaped : All (Shaped t (suc d)) ts
+  ts_shaped =
+      All-weaker (ShapedBut MIN_LEN CAPACITY t d) (Shaped t (suc d)) (λ k. Shaped-from_but t d k) ts
+      (step.shape MIN_LEN (omega arith) tt)
+
+  used_now : used u (suc (suc d)) n ≡ n ∷ flat_map (used t (suc d)) ts
+  used_now = held_used t u (suc d) n (split.middle ∷ []) ts holds
+
+  taller_tree : IsTree u (suc (suc d)) n
+  taller_tree = record {
+    shaped =
+        held_shape t u (suc d) n (split.middle ∷ []) ts holds 1 (omega arith)
+        (omega arith) refl ts_shaped;
+    once =
+        λ k.
+        omega (
+          arith,
+          ap (occurrences k) used_now,
+          occurrences-cons k n (flat_map (used t (suc d)) ts),
+          once_before k,
+          Stores-here t u n (split.middle ∷ []) ts stored k,
+        );
+    len = omega (arith, ap length used_now, stored.len, step.moved.len, tree.len);
+  }
+
+  taller_items_below : items_below u (suc (suc d)) n ≡ list
+  taller_items_below = held_items_below t u (suc d) n (split.middle ∷ []) ts holds ∙ step.listed
+
+  taller_seat : (side : ℕ) (g h : Edge) → turn h ≡ side → inside h ≡ g
+      → IsSeat t (suc d) (split.middle ∷ []) ts side g
+      → IsEdge u (suc d) n h
+      × (place u (suc d) n h ≡ seat_place t (suc d) (split.middle ∷ []) ts side g)
+  taller_seat side g h at within seat =
+      seat_written t u n (split.middle ∷ []) ts side g h (suc d) holds agree
+      (λ no. absurd (omega (arith, no))) (λ some. at) (λ some. within) seat
+
+pub taller_root : {T : Type 0} (s t u : Heap T) (levels root n : ℕ) (split : Split T)
+    (list : List T) → 0 < levels → IsTree s levels root
+    → Replaces s t (levels - 1) root (Some split) list
+    → Stores t u n (split.middle ∷ []) (root ∷ split.right ∷ []) → IsGrown u (levels + 1) n list
+taller_root s t u zero root n split list some tree step stored = absurd (omega arith)
+taller_root s t u (suc d) root n split list some tree step' stored =
+    let level : suc d - 1 ≡ d = omega arith in
+    let more : suc d + 1 ≡ suc (suc d) = omega arith in
+    let step = rw level at step' in
+    rw more (record {
+      tree = taller_tree s t u d root n split list tree step stored;
+      items_are = taller_items_below s t u d root n split list tree step stored;
+    })
+
+pub taller_edge : {T : Type 0} (s t u : Heap T) (levels root n side : ℕ) (split : Split T)
+    (list : List T) (g h : Edge) → 0 < levels → IsTree s levels root
+    → Replaces s t (levels - 1) root (Some split) list
+    → Stores t u n (split.middle ∷ []) (root ∷ split.right ∷ []) → turn h ≡ side → inside h ≡ g
+    → IsSeat t (suc (levels - 1)) (split.middle ∷ []) (root ∷ split.right ∷ []) side g
+    → IsEdge u (levels + 1 - 1) n h
+    × (place u (levels + 1 - 1) n h
+    ≡ seat_place t (suc (levels - 1)) (split.middle ∷ []) (root ∷ split.right ∷ []) side g)
+taller_edge s t u zero root n side split list g h some tree step stored at within seat =
+    absurd (omega arith)
+taller_edge s t u (suc d) root n side split list g h some tree step' stored at within seat' =
+    let level : suc d - 1 ≡ d = omega arith in
+    let lower : suc d + 1 - 1 ≡ suc d = omega arith in
+    let step = rw level at step' in
+    rw (
+      level,
+      lower,
+    ) (taller_seat s t u d root n split list tree step stored side g h at within
+    (rw level at seat'))
+
+-- after a cut of the root there is capacity for a new one
+pub taller_room : {T : Type 0} (s t : Heap T) (levels root : ℕ) (split : Split T) (list : List T)
+    → 0 < levels → length list ≤ MIN_LEN * s.capacity → IsTree s levels root
+    → Replaces s t (levels - 1) root (Some split) list → HasRoomFor t 1
+taller_room s t zero root split list some room tree step = absurd (omega arith)
+taller_room s t (suc d) root split list some room tree step' =
+    let level : suc d - 1 ≡ d = omega arith in
+    let step = rw level at step' in
+    let ts = root ∷ split.right ∷ [] in
+    let shaped =
+    All-weaker (ShapedBut MIN_LEN CAPACITY t d) (Shaped t (suc d))
+    (λ k. Shaped-from_but t d k) ts (step.shape MIN_LEN (omega arith) tt) in
+    let left =
+    used_le t (suc d) root (All-head (Shaped t (suc d)) root (split.right ∷ []) shaped) in
+    let right =
+    used_le t (suc d) split.right
+    (All-head (Shaped t (suc d)) split.right []
+    (All-tail (Shaped t (suc d)) root (split.right ∷ []) shaped)) in
+    let both = length-append (used t (suc d) root) (used t (suc d) split.right ++ []) in
+    let nothing = ap length (append-nil (used t (suc d) split.right)) in
+    let long = ap length step.listed in
+    let woven =
+    length-append (items_below t (suc d) root)
+    (split.middle ∷ (items_below t (suc d) split.right ++ [])) in
+    let nothing' = ap length (append-nil (items_below t (suc d) split.right)) in
+    omega (
+      arith,
+      left,
+      right,
+      both,
+      nothing,
+      long,
+      woven,
+      nothing',
+      step.moved.len,
+      tree.len,
+      step.moved.capacity,
+      room,
+    )

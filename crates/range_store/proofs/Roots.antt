@@ -1,0 +1,228 @@
+-- A whole tree after a removal.
+use Rattle.std.proofs.Common.{◌≡◌, ◌≢◌, ℕ, zero, suc, ◌+◌, ◌-◌, ◌<◌, ◌≤◌, List, [], ◌∷◌, length, get_or, map, refl, sym, ap, ◌∙◌, inl, inr, arith}
+use Rattle.std.specs.List.{flat_map}
+use Rattle.std.proofs.lemmas.List.{append-nil, nil_from_length}
+use Rattle.std.proofs.lemmas.Bool.{cases_eq}
+use Rattle.range_store.specs.Heap.{Heap, node_of, items_of, children_of, Removes}
+use Rattle.range_store.specs.declared.btree.nodes.TheConstants.{CAPACITY, MIN_LEN}
+use Rattle.range_store.specs.Occurrences.{occurrences, occurrences-cons, occurrences-nil, occurrences_itself, occurrences_other}
+use Rattle.range_store.specs.Nodes.{weave, before, items_below, used, here, Shaped, IsTree, IsLooseTree, Shrinks}
+use Rattle.range_store.proofs.Below.{weave_items_below, used_is, used_leaf, items_below_leaf, Shaped-but, shaped_within_wider}
+use Rattle.range_store.specs.Frame.{same_below, SameBelow}
+use Rattle.range_store.proofs.Edges.{SameEdge, same_edge, edge_inside, turn_within, place_inside}
+use Rattle.range_store.proofs.Moves.{here_some}
+use Rattle.range_store.proofs.Rank.{items_below_none, used_none}
+use Rattle.range_store.specs.declared.btree.path.Edge.{Edge}
+use Rattle.range_store.specs.Edges.{turn, inside, IsEdge, place}
+use Rattle.range_store.specs.Contents.{IsRewritten}
+
+-- the items after one went below the root
+pub loosened_items : {T : Type 0} (s t : Heap T) (levels root : ℕ) (list : List T) → 0 < levels
+    → Shrinks s t (levels - 1) root list → items_below t levels root ≡ list
+loosened_items s t levels root list some step = let level : suc (levels - 1) ≡ levels =
+    omega arith in rw level at step.listed
+
+-- the tree after one went below the root, which may be short
+pub loosened_tree : {T : Type 0} (s t : Heap T) (levels root : ℕ) (list : List T) → 0 < levels
+    → IsTree s levels root → Shrinks s t (levels - 1) root list → IsLooseTree t levels root
+loosened_tree s t zero root list some tree step = absurd (omega arith)
+loosened_tree s t (suc d) root list some tree step' =
+    let level : suc d - 1 ≡ d = omega arith in
+    let step = rw level at step' in
+    record {
+      some = some;
+      shaped = rw level (step.shape 0 (omega (arith, tree.shaped.node.enough)));
+      once = λ k. omega (arith, step.moved.owned k, tree.once k);
+      len = omega (arith, step.moved.len, tree.len);
+    }
+
+-- a root with an item stays
+pub stays_root : {T : Type 0} (s : Heap T) (levels root : ℕ) → IsLooseTree s levels root
+    → 0 < length (items_of (node_of s root)) → IsTree s levels root
+stays_root s zero root loose full = absurd (omega (arith, loose.some))
+stays_root s (suc d) root loose full =
+    let level : suc d - 1 ≡ d = omega arith in
+    let shaped = rw level at loose.shaped in
+    record {
+      shaped = record {
+        node =
+            record {
+              present = shaped.node.present;
+              enough = full;
+              fits = shaped.node.fits;
+              branches = shaped.node.branches;
+            };
+        children = shaped.children;
+      };
+      once = loose.once;
+      len = loose.len;
+    }
+
+list_of_one : (ks : List ℕ) → length ks ≡ 1 → ks ≡ get_or ks 0 0 ∷ []
+list_of_one [] one = absurd (omega arith)
+list_of_one (k ∷ []) one = refl
+list_of_one (k ∷ j ∷ ks) one = absurd (omega arith)
+
+-- what stands under each number once the root went
+here_without : {T : Type 0} (s t : Heap T) (root : ℕ) → here s root ≡ 1 → Removes s t root → (k : ℕ)
+    → here t k + occurrences k (root ∷ []) ≡ here s k
+here_without s t root present gone k =
+    elim (cases_eq k root) [
+      | inl same ↦ let none : here t root ≡ 0 =
+          rw gone.gone refl in rw same (omega (arith, none, present, occurrences_itself root))
+      | inr other ↦
+          let none : occurrences k (root ∷ []) ≡ 0 =
+          occurrences_other k root (λ e. other (sym e)) in
+          let kept : here t k ≡ here s k = rw (gone.others k other) refl in
+          omega (arith, none, kept)
+    ]
+
+-- a tree of one level that lost its last item
+pub empty_root_leaves_nothing : {T : Type 0} (s t : Heap T) (levels root : ℕ) → levels ≡ 1
+    → IsLooseTree s levels root → length (items_of (node_of s root)) ≡ 0 → Removes s t root
+    → IsTree t 0 0 × (items_below t 0 0 ≡ items_below s levels root)
+empty_root_leaves_nothing s t zero root one loose empty gone = absurd (omega arith)
+empty_root_leaves_nothing s t (suc (suc d)) root one loose empty gone = absurd (omega arith)
+empty_root_leaves_nothing s t (suc zero) root one loose empty gone =
+    let level : suc zero - 1 ≡ zero = omega arith in
+    let shaped = rw level at loose.shaped in
+    let alone = used_leaf s root shaped.node.branches in
+    let tree : IsTree t 0 0 = record {
+      shaped = tt;
+      once =
+          λ k.
+          omega (
+            arith,
+            loose.once k,
+            ap (occurrences k) alone,
+            here_without s t root (here_some s root shaped.node.present) gone k,
+            ap (occurrences k) (used_none t 0),
+            occurrences-nil k,
+          );
+      len = omega (arith, gone.len, loose.len, ap length alone, ap length (used_none t 0));
+    } in (
+      tree,
+      items_below_none t 0 ∙ sym (nil_from_length (items_of (node_of s root)) empty)
+          ∙ sym (items_below_leaf s root shaped.node.branches),
+    )
+
+-- a taller tree whose root has one child alone
+pub only_child_is_root : {T : Type 0} (s t : Heap T) (levels root : ℕ) → levels ≢ 1
+    → IsLooseTree s levels root → length (items_of (node_of s root)) ≡ 0 → Removes s t root
+    → IsTree t (levels - 1) (get_or (children_of (node_of s root)) 0 0)
+    × (items_below t (levels - 1) (get_or (children_of (node_of s root)) 0 0)
+    ≡ items_below s levels root)
+only_child_is_root s t zero root more loose empty gone = absurd (omega (arith, loose.some))
+only_child_is_root s t (suc zero) root more loose empty gone = absurd (more refl)
+only_child_is_root s t (suc (suc e)) root more loose empty gone =
+    let level : suc (suc e) - 1 ≡ suc e = omega arith in
+    let shaped = rw level at loose.shaped in
+    let ks = children_of (node_of s root) in
+    let kid = get_or (children_of (node_of s root)) 0 0 in
+    let one : children_of (node_of s root) ≡ kid ∷ [] =
+    list_of_one ks (omega (arith, shaped.node.branches, empty)) in
+    let used_all : used s (suc (suc e)) root ≡ root ∷ used s (suc e) kid =
+    used_is s (suc e) root ∙ ap (λ zs. root ∷ flat_map (used s (suc e)) zs) one
+    ∙ ap (λ zs. root ∷ zs) (append-nil (used s (suc e) kid)) in
+    let present = here_some s root shaped.node.present in
+    let occurs : (k : ℕ)
+    → occurrences k (root ∷ []) + occurrences k (used s (suc e) kid) ≡ here s k =
+    λ k.
+    omega (
+      arith,
+      loose.once k,
+      ap (occurrences k) used_all,
+      occurrences-cons k root (used s (suc e) kid),
+    ) in
+    let same : SameBelow s t (suc e) kid =
+    same_below s t (suc e) kid
+    (λ k among. gone.others k
+    (λ at. let itself : occurrences k (root ∷ [])
+    ≡ 1 = rw (← at) (occurrences_itself k) in let was : here s k ≡ 1 =
+    rw at present in omega (arith, occurs k, itself, was))) in
+    let kid_shaped : Shaped s (suc e) kid = shaped.children 0 0 (omega (arith, ap length one)) in
+    let tree : IsTree t (suc e) kid = record {
+      shaped =
+          shaped_within_wider 1 MIN_LEN CAPACITY CAPACITY t e kid (omega arith) (omega arith)
+          (Shaped-but t e kid (same.shaped_same kid_shaped));
+      once =
+          λ k.
+          omega (
+            arith,
+            occurs k,
+            here_without s t root present gone k,
+            ap (occurrences k) same.used_same,
+          );
+      len = omega (arith, gone.len, loose.len, ap length used_all, ap length same.used_same);
+    } in
+    let list : items_below t (suc e) kid ≡ items_below s (suc (suc e)) root =
+    same.items_below_same
+    ∙ sym (weave_items_below s (suc e) root
+    ∙ ap (λ zs. weave zs (map (items_below s (suc e)) (children_of (node_of s root))))
+    (nil_from_length (items_of (node_of s root)) empty)
+    ∙ ap (λ zs. weave [] (map (items_below s (suc e)) zs)) one
+    ∙ append-nil (items_below s (suc e) kid)) in
+    rw level (tree, list)
+
+-- an edge below the only child of the root
+pub lowered_edge : {T : Type 0} (s t : Heap T) (levels root : ℕ) (g : Edge) → levels ≢ 1
+    → IsLooseTree s levels root → length (items_of (node_of s root)) ≡ 0 → Removes s t root
+    → IsEdge s (levels - 1) root g
+    → IsEdge t (levels - 1 - 1) (get_or (children_of (node_of s root)) 0 0) (inside g)
+    × (place t (levels - 1 - 1) (get_or (children_of (node_of s root)) 0 0) (inside g)
+    ≡ place s (levels - 1) root g)
+lowered_edge s t zero root g more loose empty gone is = absurd (omega (arith, loose.some))
+lowered_edge s t (suc zero) root g more loose empty gone is = absurd (more refl)
+lowered_edge s t (suc (suc e)) root g more loose empty gone is' =
+    let level : suc (suc e) - 1 ≡ suc e = omega arith in
+    let lower : suc e - 1 ≡ e = omega arith in
+    let shaped = rw level at loose.shaped in
+    let is = rw level at is' in
+    let ks = children_of (node_of s root) in
+    let kid = get_or ks 0 0 in
+    let one : ks ≡ kid ∷ [] = list_of_one ks (omega (arith, shaped.node.branches, empty)) in
+    let first : turn g ≡ 0 =
+    omega (arith, turn_within s e root g is, shaped.node.branches, empty) in
+    let used_all : used s (suc (suc e)) root ≡ root ∷ used s (suc e) kid =
+    used_is s (suc e) root ∙ ap (λ zs. root ∷ flat_map (used s (suc e)) zs) one
+    ∙ ap (λ zs. root ∷ zs) (append-nil (used s (suc e) kid)) in
+    let present = here_some s root shaped.node.present in
+    let occurs : (k : ℕ)
+    → occurrences k (root ∷ []) + occurrences k (used s (suc e) kid) ≡ here s k =
+    λ k.
+    omega (
+      arith,
+      loose.once k,
+      ap (occurrences k) used_all,
+      occurrences-cons k root (used s (suc e) kid),
+    ) in
+    let below : IsEdge s e kid (inside g) = rw first at (edge_inside s e root g is) in
+    let same : SameEdge s t e kid (inside g) =
+    same_edge s t e kid (inside g)
+    (λ k among. gone.others k
+    (λ at. let itself : occurrences k (root ∷ [])
+    ≡ 1 = rw (← at) (occurrences_itself k) in let was : here s k ≡ 1 =
+    rw at present in omega (arith, occurs k, itself, was))) below in
+    let here' = rw first at (place_inside s e root g) in
+    let start : length (before (items_of (node_of s root)) (map (items_below s (suc e)) ks) 0) ≡ 0 =
+    refl in
+    rw (level, lower) (same.edge below, omega (arith, same.place, here', start))
+
+pub tree_owned : {T : Type 0} (s : Heap T) (levels root : ℕ) → IsTree s levels root → (k : ℕ)
+    → occurrences k (used s levels root) ≤ here s k
+tree_owned s levels root tree k = omega (arith, tree.once k)
+
+-- the tree after an item was put in the place of another
+pub rewritten_tree : {T : Type 0} (s t : Heap T) (levels root : ℕ) (list : List T) → 0 < levels
+    → IsTree s levels root → IsRewritten s t (levels - 1) root list
+    → IsTree t levels root × (items_below t levels root ≡ list)
+rewritten_tree s t zero root list some tree step = absurd (omega arith)
+rewritten_tree s t (suc d) root list some tree step' =
+    let level : suc d - 1 ≡ d = omega arith in
+    let step = rw level at step' in
+    let whole : IsTree t (suc d) root = record {
+      shaped = step.shape 1 (omega arith) tree.shaped;
+      once = λ k. omega (arith, step.moved.owned k, tree.once k);
+      len = omega (arith, step.moved.len, tree.len);
+    } in
+    (whole, step.listed)

@@ -1,0 +1,139 @@
+-- What is known of a node of whose children one may be short.
+use Rattle.std.proofs.Common.{◌≡◌, ◌⊎◌, ℕ, suc, ◌+◌, ◌-◌, ◌<◌, ◌≤◌, List, [], ◌∷◌, ◌++◌, length, get_or, take, drop, refl, sym, subst, inl, inr, arith, IsSome}
+use Rattle.std.specs.List.{All}
+use Rattle.std.proofs.lemmas.List.{drop_more, take_more, length-append, get_or_append_left}
+use Rattle.std.proofs.lemmas.List.Elements.{All-cons, All-head, All-tail, All-append, All-weaker}
+use Rattle.range_store.specs.Heap.{Heap, node_of, items_of, children_of}
+use Rattle.range_store.specs.declared.btree.nodes.TheConstants.{CAPACITY, MIN_LEN}
+use Rattle.range_store.specs.Nodes.{items_below, used, Shaped, ShapedBut, Shrinks, MayBeRebalanced, IsLevelled}
+use Rattle.range_store.proofs.Below.{Shaped-from_but, Shaped-but, shaped_within_wider}
+use Rattle.range_store.proofs.Moves.{Moves-none}
+use Rattle.range_store.specs.Weave.{list_splits_at}
+
+module _ {X : Type 0} (P : X → Type 0) where
+  All-left : (xs ys : List X) → All P (xs ++ ys) → All P xs
+  All-left xs ys all k d within =
+      rw (← get_or_append_left xs ys d k within)
+      (all k d (omega (arith, length-append xs ys, within)))
+
+  All-right : (xs ys : List X) → All P (xs ++ ys) → All P ys
+  All-right [] ys all = all
+  All-right (x ∷ xs) ys all = All-right xs ys (All-tail P x (xs ++ ys) all)
+
+module _ {T : Type 0} (s : Heap T) (low n i : ℕ) (m : MayBeRebalanced s low n i) where
+  abbrev xs : List T
+  xs = items_of (node_of s n)
+
+  abbrev ks : List ℕ
+  ks = children_of (node_of s n)
+
+  abbrev kid : ℕ
+  kid = get_or (children_of (node_of s n)) i 0
+
+  abbrev P : ℕ → Type 0
+  P = Shaped s (suc low)
+
+  abbrev Present : ℕ → Type 0
+  Present c = IsSome (node_of s c)
+
+  pub many : length ks ≡ length xs + 1
+  many = m.node.branches
+
+  kids : ks ≡ take i ks ++ (kid ∷ drop (i + 1) ks)
+  kids = list_splits_at ks i 0 (omega (arith, many, m.within))
+
+  present_of : (c : ℕ) → Shaped s (suc low) c → IsSome (node_of s c)
+  present_of c shaped = (Shaped-but s low c shaped).node.present
+
+  pub all_present : All (λ c. IsSome (node_of s c)) ks
+  all_present =
+      subst (All Present) (sym kids)
+      (All-append Present (take i ks) (kid ∷ drop (i + 1) ks)
+      (All-weaker P Present present_of (take i ks) m.before)
+      (All-cons Present kid (drop (i + 1) ks) m.child.node.present
+      (All-weaker P Present present_of (drop (i + 1) ks) m.behind)))
+
+  pub stays_balanced : MIN_LEN ≤ length (items_of (node_of s kid))
+      → Shrinks s s (suc low) n (items_below s (suc (suc low)) n)
+  stays_balanced enough =
+      let here = Shaped-from_but s low kid (record {
+        node =
+            record {
+              present = m.child.node.present;
+              enough = enough;
+              fits = m.child.node.fits;
+              branches = m.child.node.branches;
+            };
+        children = m.child.children;
+      }) in
+      let children =
+      subst (All P) (sym kids)
+      (All-append P (take i ks) (kid ∷ drop (i + 1) ks) m.before
+      (All-cons P kid (drop (i + 1) ks) here m.behind)) in
+      record {
+        listed = refl;
+        moved = Moves-none s (used s (suc (suc low)) n);
+        shape = λ least more. record {
+          node =
+              record {
+                present = m.node.present;
+                enough = omega arith;
+                fits = m.node.fits;
+                branches = m.node.branches;
+              };
+          children = children;
+        };
+      }
+
+  loose : (c : ℕ) → Shaped s (suc low) c → ShapedBut (MIN_LEN - 1) CAPACITY s low c
+  loose c shaped =
+      shaped_within_wider (MIN_LEN - 1) MIN_LEN CAPACITY CAPACITY s low c (omega arith)
+      (omega arith) (Shaped-but s low c shaped)
+
+  with_behind : i < length xs → length (items_of (node_of s kid)) < MIN_LEN → IsLevelled s low n i
+  with_behind within short =
+      let two : drop (i + 1) ks ≡ get_or ks (i + 1) 0 ∷ drop (i + 1 + 1) ks =
+      drop_more ks (i + 1) 0 (omega (arith, many)) in
+      let far : i + 1 + 1 ≡ i + 2 = omega arith in
+      let behind = subst (All P) two m.behind in
+      let next = All-head P (get_or ks (i + 1) 0) (drop (i + 1 + 1) ks) behind in
+      let next' = Shaped-but s low (get_or ks (i + 1) 0) next in
+      record {
+        node = m.node;
+        owned = m.owned;
+        within = within;
+        before = m.before;
+        left = m.child;
+        right = loose (get_or ks (i + 1) 0) next;
+        behind = rw far at (All-tail P (get_or ks (i + 1) 0) (drop (i + 1 + 1) ks) behind);
+        enough = omega (arith, m.child.node.enough, next'.node.enough);
+        fits = omega (arith, short, next'.node.fits);
+      }
+
+  with_before : (j : ℕ) → j + 1 ≡ i → length (items_of (node_of s kid)) < MIN_LEN
+      → IsLevelled s low n j
+  with_before j next short =
+      let within : j < length xs = omega (arith, m.within) in
+      let front : take i ks ≡ take j ks ++ (get_or ks j 0 ∷ []) =
+      rw (← next) (take_more ks j 0 (omega (arith, many))) in
+      let before = subst (All P) front m.before in
+      let last =
+      All-head P (get_or ks j 0) [] (All-right P (take j ks) (get_or ks j 0 ∷ []) before) in
+      let last' = Shaped-but s low (get_or ks j 0) last in
+      let far : i + 1 ≡ j + 2 = omega arith in
+      record {
+        node = m.node;
+        owned = m.owned;
+        within = within;
+        before = All-left P (take j ks) (get_or ks j 0 ∷ []) before;
+        left = loose (get_or ks j 0) last;
+        right = rw next m.child;
+        behind = rw far at m.behind;
+        enough = rw next (omega (arith, m.child.node.enough, last'.node.enough));
+        fits = rw next (omega (arith, short, last'.node.fits));
+      }
+
+  pub pair_levelled : (j : ℕ) → j < length xs → (j ≡ i) ⊎ (j + 1 ≡ i)
+      → length (items_of (node_of s kid)) < MIN_LEN → IsLevelled s low n j
+  pair_levelled j within (inl same) short = rw same (with_behind (omega arith) short)
+  pair_levelled j within (inr next) short = with_before j next short

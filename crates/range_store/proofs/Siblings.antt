@@ -1,0 +1,251 @@
+-- Items that move between two children of a node and the node.
+use Rattle.std.proofs.Common.{◌≡◌, ◌⊎◌, ℕ, zero, suc, ◌+◌, ◌-◌, ◌<◌, ◌≤◌, List, [], ◌∷◌, ◌++◌, length, get_or, take, drop, Some, refl, sym, ap, subst, ◌∙◌, inl, inr, arith, slice_get}
+use Rattle.std.proofs.Math.ListN.{set}
+use Rattle.std.specs.List.{insert, remove}
+use Rattle.std.proofs.lemmas.List.{append-nil, drop_all, drop_more, take_all, take_more, nil_from_length}
+use Rattle.std.proofs.lemmas.List.Edits.{insert_end}
+use Rattle.std.proofs.lemmas.Option.{slice_get-get_or}
+use Rattle.range_store.specs.Heap.{Heap, node_of, items_of, children_of, child_count, with_child, with_item, FitsChild, Writes, HasPair, RotatesLeft, RotatesRight, Merges, Absorbs, left_child, right_child, left_items, right_items, left_children, right_children}
+use Rattle.range_store.proofs.Heaps.{item_other, write_first, remove_first, remove_last}
+
+module _ {X : Type 0} where
+  first_and_rest : (xs : List X) (x : X) → 0 < length xs → x ≡ get_or xs 0 x → xs ≡ x ∷ drop 1 xs
+  first_and_rest [] x some is = absurd (omega arith)
+  first_and_rest (y ∷ ys) x some is = ap (λ z. z ∷ ys) (sym is)
+
+  last_and_front : (xs : List X) (x : X) (n : ℕ) → length xs ≡ n + 1 → x ≡ get_or xs n x
+      → xs ≡ take n xs ++ x ∷ []
+  last_and_front xs x n many is =
+      sym (take_all (n + 1) xs (omega (arith, many))) ∙ take_more xs n x (omega (arith, many))
+      ∙ ap (λ z. take n xs ++ z ∷ []) (sym is)
+
+  without_last : (xs : List X) (n : ℕ) → length xs ≤ n + 1 → remove xs n ≡ take n xs
+  without_last xs n few = ap (λ zs. take n xs ++ zs) (drop_all (suc n) xs (omega (arith, few)))
+      ∙ append-nil (take n xs)
+
+  without_end : (xs : List X) (n : ℕ) → length xs ≡ n + 1
+      → remove xs (length xs - 1) ≡ take (length xs - 1) xs
+  without_end xs n many = without_last xs (length xs - 1) (omega (arith, many))
+
+-- a child that comes from a node of as many levels
+pub fits_first : {X : Type 0} (below : ℕ) (xs : List X) (ks : List ℕ) (zs : List X) (ls : List ℕ)
+    → length ks ≡ child_count below (length xs) → length ls ≡ child_count below (length zs)
+    → FitsChild (slice_get ls 0) xs ks
+fits_first zero xs ks zs [] many others = many
+fits_first zero xs ks zs (l ∷ ls) many others = absurd (omega (arith, others))
+fits_first (suc below) xs ks zs [] many others = absurd (omega (arith, others))
+fits_first (suc below) xs ks zs (l ∷ ls) many others = many
+
+pub fits_last : {X : Type 0} (below : ℕ) (xs : List X) (ks : List ℕ) (zs : List X) (ls : List ℕ)
+    → length ks ≡ child_count below (length xs) → length ls ≡ child_count below (length zs)
+    → FitsChild (slice_get ls (length zs)) xs ks
+fits_last zero xs ks zs ls many others =
+    let none : ls ≡ [] = nil_from_length ls others in
+    rw none many
+fits_last (suc below) xs ks zs ls many others =
+    let some : slice_get ls (length zs) ≡ Some (get_or ls (length zs) 0) = slice_get-get_or ls
+    (length zs) 0 (omega (arith, others)) in
+    rw some many
+
+-- the children with the first of others at the end
+end_child : {X : Type 0} (below : ℕ) (xs : List X) (ks : List ℕ) (zs : List X) (ls : List ℕ)
+    → length ks ≡ child_count below (length xs) → length ls ≡ child_count below (length zs)
+    → with_child ks (length xs + 1) (slice_get ls 0) ≡ ks ++ take 1 ls
+end_child zero xs ks zs [] many others = sym (append-nil ks)
+end_child zero xs ks zs (l ∷ ls) many others = absurd (omega (arith, others))
+end_child (suc below) xs ks zs [] many others = absurd (omega (arith, others))
+end_child (suc below) xs ks zs (l ∷ ls) many others = ap (λ k. insert ks k l) (sym many)
+    ∙ insert_end ks l
+
+-- the children with the last of others at the front
+front_child : {X : Type 0} (below : ℕ) (ks : List ℕ) (zs : List X) (ls : List ℕ)
+    → length ls ≡ child_count below (length zs) → with_child ks 0 (slice_get ls (length zs)) ≡ drop
+    (length zs) ls ++ ks
+front_child zero ks zs ls others =
+    let none : ls ≡ [] = nil_from_length ls others in
+    rw (none, drop_all (length zs) (none_of ls) (omega arith)) refl
+  where
+    none_of : List ℕ → List ℕ
+    none_of _ = []
+front_child (suc below) ks zs ls others =
+    let at = get_or ls (length zs) 0 in
+    let some : slice_get ls (length zs) ≡ Some at = slice_get-get_or ls (length zs) 0
+    (omega (arith, others)) in
+    let one : drop (length zs) ls ≡ at ∷ [] = drop_more ls (length zs) 0 (omega (arith, others))
+    ∙ ap (λ rest. at ∷ rest) (drop_all (length zs + 1) ls (omega (arith, others))) in
+    rw (some, one) refl
+
+few_children : (below k m : ℕ) → m ≡ child_count below k → m ≤ k + 1
+few_children zero k m many = omega (arith, many)
+few_children (suc below) k m many = omega (arith, many)
+
+-- the other child is as it was
+module _ {T : Type 0} (s t u : Heap T) (n i : ℕ) (pair : HasPair s n i) (up : T) (l r : ℕ)
+    (left_is : l ≡ left_child s n i) (right_is : r ≡ right_child s n i)
+    (after : u ≡ with_item t n i up) (xs : List T) (ks : List ℕ) where
+  pub left_kept : Writes s t r xs ks → node_of u l ≡ node_of s (left_child s n i)
+  left_kept writes =
+      let one = subst (λ k. Writes s t k xs ks) right_is writes in
+      ap (λ h. node_of h l) after ∙ ap (node_of (with_item t n i up)) left_is
+      ∙ item_other t n i (left_child s n i) up pair.left_apart
+      ∙ one.others (left_child s n i) pair.apart
+
+  pub right_kept : Writes s t l xs ks → node_of u r ≡ node_of s (right_child s n i)
+  right_kept writes =
+      let one = subst (λ k. Writes s t k xs ks) left_is writes in
+      ap (λ h. node_of h r) after ∙ ap (node_of (with_item t n i up)) right_is
+      ∙ item_other t n i (right_child s n i) up pair.right_apart
+      ∙ one.others (right_child s n i) (λ e. pair.apart (sym e))
+
+module _ {T : Type 0} (s t u v : Heap T) (n i : ℕ) (pair : HasPair s n i) (down up : T) where
+  abbrev l : ℕ
+  l = left_child s n i
+
+  abbrev r : ℕ
+  r = right_child s n i
+
+  left_after : (w : Heap T) (xs : List T) (ks : List ℕ) → Writes s w r xs ks
+      → node_of w l ≡ node_of s l
+  left_after w xs ks writes = writes.others l pair.apart
+
+  pub rotated_left : up ≡ get_or (right_items s n i) 0 up → 0 < length (right_items s n i)
+      → down ≡ get_or (items_of (node_of t n)) i down
+      → Writes s t r (remove (right_items s n i) 0) (remove (right_children s n i) 0)
+      → Writes t u n (set (items_of (node_of t n)) i up) (children_of (node_of t n))
+      → Writes u v l (insert (items_of (node_of u l)) (length (items_of (node_of u l))) down)
+      (with_child (children_of (node_of u l)) (length (items_of (node_of u l)) + 1)
+      (slice_get (right_children s n i) 0))
+      → RotatesLeft s v n i
+  rotated_left up_is some down_is one two three =
+      let parent : node_of t n ≡ node_of s n = one.others n (λ e. pair.right_apart (sym e)) in
+      let here = subst (λ node. Writes t u n (set (items_of node) i up) (children_of node)) parent
+      two in
+      let left : node_of u l ≡ node_of s l = two.others l pair.left_apart
+      ∙ one.others l pair.apart in
+      let items : insert (items_of (node_of u l)) (length (items_of (node_of u l))) down
+      ≡ left_items s n i ++ down ∷ [] =
+      insert_end (items_of (node_of u l)) down ∙ ap (λ node. items_of node ++ down ∷ []) left in
+      let children : with_child (children_of (node_of u l)) (length (items_of (node_of u l)) + 1)
+      (slice_get (right_children s n i) 0) ≡ left_children s n i ++ take 1
+      (right_children s n i) =
+      ap (λ node. with_child (children_of node) (length (items_of node) + 1)
+      (slice_get (right_children s n i) 0)) left
+      ∙ end_child pair.below (left_items s n i) (left_children s n i) (right_items s n i)
+      (right_children s n i) pair.left_branches pair.right_branches in
+      let swapped = write_first t u v n l (set (items_of (node_of s n)) i up)
+      (children_of (node_of s n)) pair.left_apart (left_items s n i ++ down ∷ [])
+      (left_children s n i ++ take 1 (right_children s n i)) here
+      (rw (items, children) at three) in
+      let moved = write_first s t swapped.between r l (drop 1 (right_items s n i))
+      (drop 1 (right_children s n i)) pair.apart (left_items s n i ++ down ∷ [])
+      (left_children s n i ++ take 1 (right_children s n i)) one swapped.first in
+      record {
+        down = down;
+        down_is = down_is ∙ ap (λ node. get_or (items_of node) i down) parent;
+        up = up;
+        up_is = first_and_rest (right_items s n i) up some up_is;
+        rotates = record {
+          first = moved.between;
+          second = swapped.between;
+          left = moved.first;
+          right = moved.second;
+          parent = swapped.second;
+        };
+      }
+
+  pub rotated_right : up ≡ get_or (left_items s n i) (length (left_items s n i) - 1) up
+      → 0 < length (left_items s n i) → down ≡ get_or (items_of (node_of t n)) i down
+      → Writes s t l (remove (left_items s n i) (length (left_items s n i) - 1))
+      (remove (left_children s n i) (length (left_items s n i)))
+      → Writes t u n (set (items_of (node_of t n)) i up) (children_of (node_of t n))
+      → Writes u v r (insert (items_of (node_of u r)) 0 down)
+      (with_child (children_of (node_of u r)) 0
+      (slice_get (left_children s n i) (length (left_items s n i))))
+      → RotatesRight s v n i
+  rotated_right up_is some down_is one two three =
+      let xs = left_items s n i in
+      let ks = left_children s n i in
+      let last : length xs ≡ (length xs - 1) + 1 = omega arith in
+      let fewer : remove xs (length xs - 1) ≡ take (length xs - 1) xs = without_last xs
+      (length xs - 1) (omega arith) in
+      let fewer_children : remove ks (length xs) ≡ take (length xs) ks = without_last ks (length xs)
+      (few_children pair.below (length xs) (length ks) pair.left_branches) in
+      let parent : node_of t n ≡ node_of s n = one.others n (λ e. pair.left_apart (sym e)) in
+      let here = subst (λ node. Writes t u n (set (items_of node) i up) (children_of node)) parent
+      two in
+      let right : node_of u r ≡ node_of s r = two.others r pair.right_apart
+      ∙ one.others r (λ e. pair.apart (sym e)) in
+      let items : insert (items_of (node_of u r)) 0 down ≡ down ∷ right_items s n i
+      = ap (λ node. down ∷ items_of node) right in
+      let children : with_child (children_of (node_of u r)) 0 (slice_get ks (length xs)) ≡ drop
+      (length xs) ks ++ right_children s n i =
+      ap (λ node. with_child (children_of node) 0 (slice_get ks (length xs))) right
+      ∙ front_child pair.below (right_children s n i) xs ks pair.left_branches in
+      let swapped = write_first t u v n r (set (items_of (node_of s n)) i up)
+      (children_of (node_of s n)) pair.right_apart (down ∷ right_items s n i)
+      (drop (length xs) ks ++ right_children s n i) here (rw (items, children) at three) in
+      record {
+        down = down;
+        down_is = down_is ∙ ap (λ node. get_or (items_of node) i down) parent;
+        up = up;
+        up_is = last_and_front xs up (length xs - 1) last up_is;
+        rotates = record {
+          first = t;
+          second = swapped.between;
+          left = rw (fewer, fewer_children) at one;
+          right = swapped.first;
+          parent = swapped.second;
+        };
+      }
+
+module _ {T : Type 0} (s t u : Heap T) (n i : ℕ) (pair : HasPair s n i) (down : T) where
+  pub merged : down ≡ get_or (items_of (node_of s n)) i down
+      → Writes s t n (remove (items_of (node_of s n)) i)
+      (remove (children_of (node_of s n)) (i + 1))
+      → Absorbs t u (left_child s n i) down (right_child s n i) → Merges s u n i
+  merged down_is one two =
+      let l = left_child s n i in
+      let r = right_child s n i in
+      let left : node_of t l ≡ node_of s l = one.others l pair.left_apart in
+      let right : node_of t r ≡ node_of s r = one.others r pair.right_apart in
+      let written = rw (left, right) at two.left in
+      let xs = left_items s n i ++ down ∷ right_items s n i in
+      let ks = left_children s n i ++ right_children s n i in
+      let last = remove_last t two.between u l r xs ks (λ e. pair.apart (sym e)) two.right
+      written in
+      let lower = write_first s t last.between n l (remove (items_of (node_of s n)) i)
+      (remove (children_of (node_of s n)) (i + 1)) pair.left_apart xs ks one last.first in
+      let upper = remove_first lower.between last.between u n r (remove (items_of (node_of s n)) i)
+      (remove (children_of (node_of s n)) (i + 1)) pair.right_apart lower.second last.second in
+      record {
+        down = down;
+        down_is = down_is;
+        first = lower.between;
+        second = upper.between;
+        left = lower.first;
+        right = upper.first;
+        parent = upper.second;
+      }
+
+-- what the joining of two children asks of them
+module _ {T : Type 0} (s : Heap T) (n i : ℕ) (pair : HasPair s n i) where
+  by_levels : (below k m lefts rights : ℕ) → lefts ≡ child_count below k
+      → rights ≡ child_count below m → (rights ≡ 0) ⊎ (0 < lefts)
+  by_levels zero k m lefts rights many others = inl others
+  by_levels (suc below) k m lefts rights many others = inr (omega (arith, many))
+
+  pub merged_children : (length (right_children s n i) ≡ 0) ⊎ (0 < length (left_children s n i))
+  merged_children = by_levels pair.below (length (left_items s n i)) (length (right_items s n i))
+      (length (left_children s n i)) (length (right_children s n i)) pair.left_branches
+      pair.right_branches
+
+  pub merged_places : length (left_items s n i) + 1 + length (right_items s n i) ≤ 11
+      → length (left_children s n i) + length (right_children s n i) ≤ 12
+  merged_places few =
+      omega (
+        arith,
+        few_children pair.below (length (left_items s n i))
+            (length (left_children s n i)) pair.left_branches,
+        few_children pair.below
+            (length (right_items s n i)) (length (right_children s n i)) pair.right_branches,
+      )

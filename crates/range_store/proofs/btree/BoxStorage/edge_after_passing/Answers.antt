@@ -1,0 +1,46 @@
+use Rattle.std.proofs.Common.{◌≡◌, suc, ◌-◌, ◌<◌, sym, ap, ◌∙◌, rules, arith, count_by}
+use Rattle.range_store.specs.Written.{root_shaped}
+use Rattle.range_store.proofs.Rank.{items_below_none}
+use Rattle.range_store.proofs.Paths.{not_start, stands_first}
+use Rattle.range_store.proofs.Whole.{tree_is_not_too_deep}
+use Rattle.range_store.proofs.btree.BoxStorage.edge_after_passing.Goals as goal
+
+pub returns-then-self-eq0-clause-found : goal.returns-then-self-eq0-clause-found
+returns-then-self-eq0-clause-found g c =
+    rw c.if-self-eq0.true (ap (count_by (g.P.Probe.test c.args.probe.now))
+    (items_below_none c.args.self.now.nodes c.args.self.now.root))
+
+pub search_below-edge-requires : goal.search_below-edge-requires
+search_below-edge-requires g c =
+    let s = c.args.self.now in
+    let level : suc (s.levels - 1) ≡ s.levels = omega (arith, c.if-self-eq0.false) in (
+      search rules,
+      (
+        root_shaped s.nodes s.levels s.root (omega (arith, c.if-self-eq0.false)) s.whole.tree,
+        (tree_is_not_too_deep s.nodes s.levels s.root s.whole, rw level c.requires),
+      ),
+    )
+
+pub returns-then-stands_first-clause-found : goal.returns-then-stands_first-clause-found
+returns-then-stands_first-clause-found g c =
+    let s = c.args.self.now in
+    let level : suc (s.levels - 1) ≡ s.levels = omega (arith, c.if-self-eq0.false) in
+    let none =
+    stands_first s.nodes (s.levels - 1) s.root c.search_below-edge.result
+    (sym c.stands_first.ensures ∙ c.if-stands_first.true) in
+    sym (rw level at c.search_below-edge.ensures.count) ∙ none
+
+pub returns-clause-found : goal.returns-clause-found
+returns-clause-found g c =
+    let s = c.args.self.now in
+    let some : 0 < s.levels = omega (arith, c.if-self-eq0.false) in
+    let level : suc (s.levels - 1) ≡ s.levels = omega (arith, some) in
+    let shaped = root_shaped s.nodes s.levels s.root some s.whole.tree in
+    let later =
+    not_start s.nodes (s.levels - 1) s.root c.search_below-edge.result shaped
+    c.search_below-edge.ensures.edge
+    (sym c.stands_first.ensures ∙ c.if-stands_first.false) in (
+      record { some = some; edge = c.search_below-edge.ensures.edge },
+      later,
+      rw level at c.search_below-edge.ensures.count,
+    )

@@ -1,0 +1,20 @@
+use Rattle.std.proofs.Common.{◌-◌, sym, rules}
+use Rattle.range_store.specs.Written.{root_shaped}
+use Rattle.range_store.proofs.InLeaf.{leaf_home}
+use Rattle.range_store.proofs.btree.BoxStorage.home.Goals as goal
+
+pub returns-then-edge-gt0 : goal.returns-then-edge-gt0
+returns-then-edge-gt0 g c =
+    sym (leaf_home c.args.self.now.nodes
+    (c.args.self.now.levels - 1) c.args.self.now.root c.args.edge c.requires.edge.edge
+    c.if-edge-gt0.true)
+
+pub find_home-requires : goal.find_home-requires
+find_home-requires g c =
+    let s = c.args.self.now in (
+      search rules,
+      (
+        root_shaped s.nodes s.levels s.root c.requires.edge.some s.whole.tree,
+        (c.requires.edge.edge, c.requires.some),
+      ),
+    )

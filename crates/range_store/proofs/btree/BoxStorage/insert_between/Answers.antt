@@ -1,0 +1,342 @@
+use Rattle.std.proofs.Common.{◌≡◌, suc, ◌+◌, ◌-◌, [], ◌∷◌, length, refl, sym, ap, ◌∙◌, rules, arith}
+use Rattle.std.specs.List.{insert}
+use Rattle.std.proofs.lemmas.List.Edits.{length-insert}
+use Rattle.range_store.specs.Edges.{IsEdge, place, seat_place}
+use Rattle.range_store.specs.Holding.{box_items, box_place}
+use Rattle.range_store.specs.Nodes.{items_below}
+use Rattle.range_store.specs.Written.{root_shaped}
+use Rattle.range_store.proofs.Edges.{path_small}
+use Rattle.range_store.proofs.InPlace.{IsLeafChange, put_in_leaf}
+use Rattle.range_store.proofs.Levels.{has_levels, levels_le}
+use Rattle.range_store.proofs.RootGrowth.{IsGrown, kept_edge, kept_root, one_more, grown_roomy, taller_edge, taller_room, taller_root}
+use Rattle.range_store.proofs.Seats.{seat_inside, seat_side}
+use Rattle.range_store.proofs.Roots.{tree_owned}
+use Rattle.range_store.proofs.Whole.{edge_within, tree_is_not_too_deep, tree_leaf}
+use Rattle.range_store.proofs.btree.BoxStorage.insert_between.Goals as goal
+use Rattle.range_store.proofs.btree.BoxStorage.insert_between.Given.{Over}
+use Rattle.range_store.proofs.btree.BoxStorage.insert_between.Goals.{After-put, After-insert_below-inserted, After-store_branch-self, After-seen_above, In-None}
+
+pub overflow_add-self : goal.overflow_add-self
+overflow_add-self g c = omega (arith, c.args.self.now.counted, c.requires.room)
+
+-- of a leaf with capacity to spare
+pub item_count-requires : goal.item_count-requires
+item_count-requires g c =
+    (search rules, (tree_leaf c.args.self.now c.args.edge c.requires.edge).present)
+
+pub put-requires : goal.put-requires
+put-requires g c =
+    let leaf = tree_leaf c.args.self.now c.args.edge c.requires.edge in (
+      search rules,
+      (
+        leaf.present,
+        (
+          leaf.within,
+          (omega (arith, c.if-item_count-lt-CAPACITY.true, c.item_count.ensures), leaf.childless),
+        ),
+      ),
+    )
+
+put_here : (g : Over) (c : After-put g)
+    → IsLeafChange c.args.self.now c.put.new.self c.args.edge c.requires.edge
+    (insert (box_items c.args.self.now) (box_place c.args.self.now c.args.edge) c.args.item)
+    (record { leaf = c.args.edge.leaf; path = c.args.edge.path; index = c.args.edge.index + 1 })
+    (c.args.edge.index + 1)
+put_here g c =
+    put_in_leaf c.args.self.now c.put.new.self c.args.edge c.requires.edge c.args.item _
+    (omega (arith, c.if-item_count-lt-CAPACITY.true, c.item_count.ensures)) c.put.ensures refl
+    refl refl
+
+pub overflow_add-result : goal.overflow_add-result
+overflow_add-result g c =
+    omega (
+      arith,
+      (tree_leaf c.args.self.now c.args.edge c.requires.edge).within,
+      c.if-item_count-lt-CAPACITY.true,
+      c.item_count.ensures,
+    )
+
+pub invariant_of-self : goal.invariant_of-self
+invariant_of-self g c =
+    let s = c.args.self.now in
+    let put = put_here g (goal.at.invariant_of-self g c).After-put in
+    let more =
+    ap length put.items_are
+    ∙ length-insert (box_items s) (box_place s c.args.edge) c.args.item
+    (edge_within s c.args.edge c.requires.edge) in
+    record {
+      whole =
+          record {
+            tree = put.tree;
+            fits = omega (arith, more, c.requires.room, put.capacity);
+            counted = omega (arith, more, c.requires.room);
+          };
+      counted = omega (arith, more, s.counted);
+      levelled =
+          rw (more ∙ ap (λ m. m + 1) (sym s.counted)) at
+          (has_levels c.put.new.self s.levels s.root put.tree);
+    }
+
+pub returns-then-item_count-lt-CAPACITY-clause-list :
+    goal.returns-then-item_count-lt-CAPACITY-clause-list
+returns-then-item_count-lt-CAPACITY-clause-list g c =
+    (put_here g (goal.at.returns-then-item_count-lt-CAPACITY-clause-list g c).After-put).items_are
+
+pub returns-then-item_count-lt-CAPACITY-clause-room :
+    goal.returns-then-item_count-lt-CAPACITY-clause-room
+returns-then-item_count-lt-CAPACITY-clause-room g c =
+    let s = c.args.self.now in
+    let put = put_here g (goal.at.returns-then-item_count-lt-CAPACITY-clause-room g c).After-put in
+    omega (
+      arith,
+      ap length put.items_are,
+      length-insert (box_items s) (box_place s c.args.edge) c.args.item
+          (edge_within s c.args.edge c.requires.edge),
+      c.requires.room,
+      put.capacity,
+    )
+
+pub returns-then-item_count-lt-CAPACITY-clause-edge :
+    goal.returns-then-item_count-lt-CAPACITY-clause-edge
+returns-then-item_count-lt-CAPACITY-clause-edge g c =
+    record {
+      some = c.requires.edge.some;
+      edge =
+          (put_here g (goal.at.returns-then-item_count-lt-CAPACITY-clause-edge g c).After-put).edge;
+    }
+
+pub returns-then-item_count-lt-CAPACITY-clause-place :
+    goal.returns-then-item_count-lt-CAPACITY-clause-place
+returns-then-item_count-lt-CAPACITY-clause-place g c =
+    omega (
+      arith,
+      (put_here g (goal.at.returns-then-item_count-lt-CAPACITY-clause-place g
+          c).After-put).place_is,
+    )
+
+-- below the root
+level : (g : Over) (c : After-insert_below-inserted g)
+    → suc (c.args.self.now.levels - 1) ≡ c.args.self.now.levels
+level g c = omega (arith, c.requires.edge.some)
+
+listed : (g : Over) (c : After-insert_below-inserted g)
+    → insert (items_below c.args.self.now.nodes
+    (suc (c.args.self.now.levels - 1)) c.args.self.now.root)
+    (box_place c.args.self.now c.args.edge) c.args.item
+    ≡ insert (box_items c.args.self.now) (box_place c.args.self.now c.args.edge) c.args.item
+listed g c =
+    ap (λ m. insert (items_below c.args.self.now.nodes m c.args.self.now.root)
+    (box_place c.args.self.now c.args.edge) c.args.item) (level g c)
+
+longer : (g : Over) (c : After-insert_below-inserted g)
+    → length
+    (insert (items_below c.args.self.now.nodes
+    (suc (c.args.self.now.levels - 1)) c.args.self.now.root)
+    (box_place c.args.self.now c.args.edge) c.args.item) ≡ length (box_items c.args.self.now) + 1
+longer g c =
+    ap length (listed g c)
+    ∙ length-insert (box_items c.args.self.now) (box_place c.args.self.now c.args.edge) c.args.item
+    (edge_within c.args.self.now c.args.edge c.requires.edge)
+
+pub overflow_sub-self : goal.overflow_sub-self
+overflow_sub-self g c = omega (arith, c.requires.edge.some)
+
+pub insert_below-inserted-requires : goal.insert_below-inserted-requires
+insert_below-inserted-requires g c =
+    let s = c.args.self.now in
+    let some = c.requires.edge.some in
+    let level : suc (s.levels - 1) ≡ s.levels = omega (arith, some) in (
+      search rules,
+      (
+        root_shaped s.nodes s.levels s.root some s.whole.tree,
+        (
+          rw level (tree_owned s.nodes s.levels s.root s.whole.tree),
+          (
+            c.requires.edge.edge,
+            (
+              tree_is_not_too_deep s.nodes s.levels s.root s.whole,
+              one_more s.nodes s.levels s.root some s.whole.tree (omega (arith, c.requires.room)),
+            ),
+          ),
+        ),
+      ),
+    )
+
+-- with no cut of the root
+kept : (g : Over) (c : In-None g)
+    → IsGrown c.insert_below-inserted.new.nodes c.args.self.now.levels c.args.self.now.root
+    (insert (items_below c.args.self.now.nodes
+    (suc (c.args.self.now.levels - 1)) c.args.self.now.root)
+    (box_place c.args.self.now c.args.edge) c.args.item)
+kept g c =
+    kept_root c.args.self.now.nodes c.insert_below-inserted.new.nodes c.args.self.now.levels
+    c.args.self.now.root _ c.requires.edge.some c.args.self.now.whole.tree
+    (rw c.in-None.is at c.insert_below-inserted.ensures.replaces)
+
+pub invariant_of-self-in-None : goal.invariant_of-self-in-None
+invariant_of-self-in-None g c =
+    let s = c.args.self.now in
+    let at = goal.at.invariant_of-self-in-None g c in
+    let more = longer g at.After-insert_below-inserted in
+    let capacity = c.insert_below-inserted.ensures.replaces.moved.capacity in
+    let tree = kept g at.In-None in
+    record {
+      whole =
+          grown_roomy c.insert_below-inserted.new.nodes s.levels s.root _ tree
+          (omega (arith, more, c.requires.room, capacity)) (omega (arith, more, c.requires.room));
+      counted = omega (arith, ap length tree.items_are, more, s.counted);
+      levelled =
+          rw (ap length tree.items_are ∙ more ∙ ap (λ m. m + 1) (sym s.counted)) at
+          (has_levels c.insert_below-inserted.new.nodes s.levels s.root tree.tree);
+    }
+
+pub returns-in-None-clause-list : goal.returns-in-None-clause-list
+returns-in-None-clause-list g c =
+    let a = goal.at.returns-in-None-clause-list g c in
+    (kept g a.In-None).items_are ∙ listed g a.After-insert_below-inserted
+
+pub returns-in-None-clause-room : goal.returns-in-None-clause-room
+returns-in-None-clause-room g c =
+    let a = goal.at.returns-in-None-clause-room g c in
+    omega (
+      arith,
+      ap length (kept g a.In-None).items_are,
+      longer g a.After-insert_below-inserted,
+      c.requires.room,
+      c.insert_below-inserted.ensures.replaces.moved.capacity,
+    )
+
+pub returns-in-None-clause-edge : goal.returns-in-None-clause-edge
+returns-in-None-clause-edge g c =
+    record {
+      some = c.requires.edge.some;
+      edge =
+          (kept_edge c.insert_below-inserted.new.nodes
+          (c.args.self.now.levels - 1) c.args.self.now.root c.insert_below-inserted.result.side
+          c.insert_below-inserted.result.edge
+          (rw c.in-None.is at c.insert_below-inserted.ensures.edge)).0;
+    }
+
+pub returns-in-None-clause-place : goal.returns-in-None-clause-place
+returns-in-None-clause-place g c =
+    (kept_edge c.insert_below-inserted.new.nodes
+    (c.args.self.now.levels - 1) c.args.self.now.root c.insert_below-inserted.result.side
+    c.insert_below-inserted.result.edge
+    (rw c.in-None.is at c.insert_below-inserted.ensures.edge)).1
+    ∙ (rw c.in-None.is at c.insert_below-inserted.ensures.place)
+
+-- with a cut of the root
+pub store_branch-self-requires : goal.store_branch-self-requires
+store_branch-self-requires g c =
+    let a = goal.at.store_branch-self-requires g c in (
+      search rules,
+      taller_room c.args.self.now.nodes c.insert_below-inserted.new.nodes c.args.self.now.levels
+          c.args.self.now.root c.in-Some.split _ c.requires.edge.some
+          (omega (arith, longer g a.After-insert_below-inserted, c.requires.room))
+          c.args.self.now.whole.tree (rw c.in-Some.is at c.insert_below-inserted.ensures.replaces),
+    )
+
+pub overflow_add-self-in-Some : goal.overflow_add-self-in-Some
+overflow_add-self-in-Some g c =
+    omega (
+      arith,
+      levels_le c.args.self.now.nodes c.args.self.now.levels c.args.self.now.root
+          c.args.self.now.whole.tree,
+      c.requires.room,
+    )
+
+taller : (g : Over) (c : After-store_branch-self g)
+    → IsGrown c.store_branch-self.new.self (c.args.self.now.levels + 1) c.store_branch-self.result
+    (insert (items_below c.args.self.now.nodes
+    (suc (c.args.self.now.levels - 1)) c.args.self.now.root)
+    (box_place c.args.self.now c.args.edge) c.args.item)
+taller g c =
+    taller_root c.args.self.now.nodes c.insert_below-inserted.new.nodes c.store_branch-self.new.self
+    c.args.self.now.levels c.args.self.now.root c.store_branch-self.result c.in-Some.split _
+    c.requires.edge.some c.args.self.now.whole.tree
+    (rw c.in-Some.is at c.insert_below-inserted.ensures.replaces) c.store_branch-self.ensures
+
+pub invariant_of-self-in-Some : goal.invariant_of-self-in-Some
+invariant_of-self-in-Some g c =
+    let s = c.args.self.now in
+    let at = goal.at.invariant_of-self-in-Some g c in
+    let more = longer g at.After-insert_below-inserted in
+    let capacity =
+    c.store_branch-self.ensures.capacity
+    ∙ c.insert_below-inserted.ensures.replaces.moved.capacity in
+    let tree = taller g at.After-store_branch-self in
+    record {
+      whole =
+          grown_roomy c.store_branch-self.new.self
+          (s.levels + 1) c.store_branch-self.result _ tree
+          (omega (arith, more, c.requires.room, capacity)) (omega (arith, more, c.requires.room));
+      counted = omega (arith, ap length tree.items_are, more, s.counted);
+      levelled =
+          rw (ap length tree.items_are ∙ more ∙ ap (λ m. m + 1) (sym s.counted)) at
+          (has_levels c.store_branch-self.new.self
+          (s.levels + 1) c.store_branch-self.result tree.tree);
+    }
+
+pub seen_above-requires-clause-index : goal.seen_above-requires-clause-index
+seen_above-requires-clause-index g c =
+    omega (
+      arith,
+      seat_side c.insert_below-inserted.new.nodes
+          (c.args.self.now.levels - 1) _ _ c.insert_below-inserted.result.side
+          c.insert_below-inserted.result.edge
+          (rw c.in-Some.is at c.insert_below-inserted.ensures.edge),
+    )
+
+pub seen_above-requires-clause-path : goal.seen_above-requires-clause-path
+seen_above-requires-clause-path g c =
+    let below =
+    seat_inside c.insert_below-inserted.new.nodes
+    (c.args.self.now.levels - 1) _ _ c.insert_below-inserted.result.side
+    c.insert_below-inserted.result.edge
+    (rw c.in-Some.is at c.insert_below-inserted.ensures.edge) in
+    path_small c.insert_below-inserted.new.nodes
+    (c.args.self.now.levels - 1) _ c.insert_below-inserted.result.edge
+    (tree_is_not_too_deep c.args.self.now.nodes c.args.self.now.levels c.args.self.now.root
+    c.args.self.now.whole) below
+
+pub returns-in-Some-clause-list : goal.returns-in-Some-clause-list
+returns-in-Some-clause-list g c =
+    let a = goal.at.returns-in-Some-clause-list g c in
+    (taller g a.After-store_branch-self).items_are ∙ listed g a.After-insert_below-inserted
+
+pub returns-in-Some-clause-room : goal.returns-in-Some-clause-room
+returns-in-Some-clause-room g c =
+    let a = goal.at.returns-in-Some-clause-room g c in
+    omega (
+      arith,
+      ap length (taller g a.After-store_branch-self).items_are,
+      longer g a.After-insert_below-inserted,
+      c.requires.room,
+      c.store_branch-self.ensures.capacity,
+      c.insert_below-inserted.ensures.replaces.moved.capacity,
+    )
+
+higher : (g : Over) (c : After-seen_above g)
+    → IsEdge c.store_branch-self.new.self
+    (c.args.self.now.levels + 1 - 1) c.store_branch-self.result c.seen_above.result
+    × (place c.store_branch-self.new.self
+    (c.args.self.now.levels + 1 - 1) c.store_branch-self.result c.seen_above.result
+    ≡ seat_place c.insert_below-inserted.new.nodes (suc (c.args.self.now.levels - 1))
+    (c.in-Some.split.middle ∷ [])
+    (c.args.self.now.root ∷ c.in-Some.split.right ∷ []) c.insert_below-inserted.result.side
+    c.insert_below-inserted.result.edge)
+higher g c =
+    taller_edge c.args.self.now.nodes c.insert_below-inserted.new.nodes c.store_branch-self.new.self
+    c.args.self.now.levels c.args.self.now.root c.store_branch-self.result
+    c.insert_below-inserted.result.side c.in-Some.split _ c.insert_below-inserted.result.edge
+    c.seen_above.result c.requires.edge.some c.args.self.now.whole.tree
+    (rw c.in-Some.is at c.insert_below-inserted.ensures.replaces) c.store_branch-self.ensures
+    c.seen_above.ensures.turn c.seen_above.ensures.inside
+    (rw c.in-Some.is at c.insert_below-inserted.ensures.edge)
+
+pub returns-in-Some-clause-edge : goal.returns-in-Some-clause-edge
+returns-in-Some-clause-edge g c = record { some = omega arith; edge = (higher g c).0 }
+
+pub returns-in-Some-clause-place : goal.returns-in-Some-clause-place
+returns-in-Some-clause-place g c =
+    (higher g c).1 ∙ (rw c.in-Some.is at c.insert_below-inserted.ensures.place)

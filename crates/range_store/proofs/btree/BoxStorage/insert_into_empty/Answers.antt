@@ -1,0 +1,72 @@
+use Rattle.std.proofs.Common.{◌≡◌, ◌∷◌, [], refl, length, ap, sym, rules, arith}
+use Rattle.range_store.specs.Nodes.{items_below, IsTree}
+use Rattle.range_store.proofs.Edges.{leaf_edge, leaf_place}
+use Rattle.range_store.proofs.Levels.{empty_levels, has_levels}
+use Rattle.range_store.proofs.RootGrowth.{first_tree}
+use Rattle.range_store.proofs.Rank.{first_room}
+use Rattle.range_store.proofs.btree.BoxStorage.insert_into_empty.Goals as goal
+use Rattle.range_store.proofs.btree.BoxStorage.insert_into_empty.Given.{Over}
+use Rattle.range_store.proofs.btree.BoxStorage.insert_into_empty.Goals.{After-store_leaf-self}
+
+pub store_leaf-self-requires : goal.store_leaf-self-requires
+store_leaf-self-requires g c =
+    let s = c.args.self.now in
+    let none = ap length c.requires.empty in (
+      search rules,
+      first_room s.nodes s.levels s.root
+          (empty_levels s.nodes s.levels s.root s.whole.tree none) s.whole.tree
+          (omega (arith, none, c.requires.room)),
+    )
+
+first : (g : Over) (c : After-store_leaf-self g)
+    → IsTree c.store_leaf-self.new.self 1 c.store_leaf-self.result
+    × (items_below c.store_leaf-self.new.self 1 c.store_leaf-self.result ≡ c.args.item ∷ [])
+first g c =
+    let s = c.args.self.now in
+    first_tree s.nodes c.store_leaf-self.new.self s.levels s.root c.store_leaf-self.result
+    c.args.item (empty_levels s.nodes s.levels s.root s.whole.tree (ap length c.requires.empty))
+    s.whole.tree c.store_leaf-self.ensures
+
+pub invariant_of-self : goal.invariant_of-self
+invariant_of-self g c =
+    let many = ap length (first g c).1 in
+    record {
+      whole =
+          record {
+            tree = (first g c).0;
+            fits = omega (arith, many, c.requires.room, c.store_leaf-self.ensures.capacity);
+            counted =
+                omega (arith, many);
+          };
+      counted = sym many;
+      levelled =
+          rw many at (has_levels c.store_leaf-self.new.self 1 c.store_leaf-self.result
+          (first g c).0);
+    }
+
+pub returns-clause-list : goal.returns-clause-list
+returns-clause-list g c = let a =
+    (goal.at.returns-clause-list g c).After-store_leaf-self in (first g a).1
+
+pub returns-clause-room : goal.returns-clause-room
+returns-clause-room g c =
+    let a = (goal.at.returns-clause-room g c).After-store_leaf-self in
+    omega (
+      arith,
+      ap length (first g a).1,
+      ap length c.requires.empty,
+      c.requires.room,
+      c.store_leaf-self.ensures.capacity,
+    )
+
+pub returns-clause-edge : goal.returns-clause-edge
+returns-clause-edge g c =
+    record {
+      some = omega arith;
+      edge =
+          leaf_edge c.store_leaf-self.new.self c.store_leaf-self.result _ refl refl
+          (omega (arith, ap length c.store_leaf-self.ensures.items_are));
+    }
+
+pub returns-clause-place : goal.returns-clause-place
+returns-clause-place g c = leaf_place c.store_leaf-self.new.self c.store_leaf-self.result _

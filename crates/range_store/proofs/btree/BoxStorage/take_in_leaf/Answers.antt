@@ -1,0 +1,224 @@
+use Rattle.std.proofs.Common.{◌≡◌, suc, ◌-◌, ◌<◌, ◌+◌, ◌∙◌, length, refl, ap, sym, rules, arith}
+use Rattle.std.specs.List.{remove}
+use Rattle.std.proofs.lemmas.List.Edits.{length-remove}
+use Rattle.range_store.specs.Holding.{box_items, box_place}
+use Rattle.range_store.specs.Nodes.{items_below}
+use Rattle.range_store.specs.Written.{root_shaped}
+use Rattle.range_store.proofs.InLeaf.{place_index}
+use Rattle.range_store.proofs.InPlace.{IsLeafChange, take_from_leaf}
+use Rattle.range_store.proofs.Levels.{has_levels}
+use Rattle.range_store.proofs.Rank.{items_below_none}
+use Rattle.range_store.proofs.Roots.{loosened_items, loosened_tree, tree_owned}
+use Rattle.range_store.proofs.Whole.{edge_within, leaf_item, tree_is_not_too_deep, tree_leaf}
+use Rattle.range_store.proofs.btree.BoxStorage.take_in_leaf.Goals as goal
+use Rattle.range_store.proofs.btree.BoxStorage.take_in_leaf.Given.{Over}
+use Rattle.range_store.proofs.btree.BoxStorage.take_in_leaf.Goals.{Start, After-take_item-item, After-shrink_root}
+
+some_before : (g : Over) (c : Start g) → 0 < box_place c.args.self.now c.args.edge
+some_before g c =
+    let s = c.args.self.now in
+    omega (arith, place_index s.nodes (s.levels - 1) s.root c.args.edge, c.requires.in_leaf)
+
+-- how many items are left
+fewer : (g : Over) (c : Start g)
+    → length (remove (box_items c.args.self.now) (box_place c.args.self.now c.args.edge - 1)) + 1
+    ≡ length (box_items c.args.self.now)
+fewer g c =
+    let within = edge_within c.args.self.now c.args.edge c.requires.edge in
+    omega (
+      arith,
+      length-remove (box_items c.args.self.now) (box_place c.args.self.now c.args.edge - 1)
+          (omega (arith, some_before g c, within)),
+      some_before g c,
+      within,
+    )
+
+pub overflow_sub-self : goal.overflow_sub-self
+overflow_sub-self g c =
+    let s = c.args.self.now in
+    omega (
+      arith,
+      s.counted,
+      place_index s.nodes (s.levels - 1) s.root c.args.edge,
+      c.requires.in_leaf,
+      edge_within s c.args.edge c.requires.edge,
+    )
+
+pub item_count-requires : goal.item_count-requires
+item_count-requires g c =
+    (search rules, (tree_leaf c.args.self.now c.args.edge c.requires.edge).present)
+
+-- from a leaf with an item to spare
+pub take_item-item-requires : goal.take_item-item-requires
+take_item-item-requires g c =
+    let leaf = tree_leaf c.args.self.now c.args.edge c.requires.edge in
+    (search rules, (leaf.present, omega (arith, leaf.within, c.requires.in_leaf)))
+
+taken : (g : Over) (c : After-take_item-item g)
+    → IsLeafChange c.args.self.now c.take_item-item.new.self c.args.edge c.requires.edge
+    (remove (box_items c.args.self.now) (box_place c.args.self.now c.args.edge - 1))
+    (record { leaf = c.args.edge.leaf; path = c.args.edge.path; index = c.args.edge.index - 1 })
+    (c.args.edge.index - 1)
+taken g c =
+    take_from_leaf c.args.self.now c.take_item-item.new.self c.args.edge c.requires.edge _
+    (omega (arith, c.if-item_count-gt-MIN_LEN.true, c.item_count.ensures)) c.requires.in_leaf
+    c.take_item-item.ensures.rest refl refl refl
+
+pub invariant_of-self : goal.invariant_of-self
+invariant_of-self g c =
+    let s = c.args.self.now in
+    let at = goal.at.invariant_of-self g c in
+    let taken = taken g at.After-take_item-item in
+    let less = ap length taken.items_are in
+    let back = fewer g at.Start in
+    let many : c.args.self.now.len - 1
+    ≡ length (items_below c.take_item-item.new.self s.levels s.root) =
+    omega (arith, less, back, s.counted) in
+    record {
+      whole =
+          record {
+            tree = taken.tree;
+            fits = omega (arith, less, back, s.whole.fits, taken.capacity);
+            counted =
+                omega (arith, less, back, s.whole.counted);
+          };
+      counted = many;
+      levelled = rw (← many) at (has_levels c.take_item-item.new.self s.levels s.root taken.tree);
+    }
+
+pub returns-then-item_count-gt-MIN_LEN-clause-removed :
+    goal.returns-then-item_count-gt-MIN_LEN-clause-removed
+returns-then-item_count-gt-MIN_LEN-clause-removed g c =
+    c.take_item-item.ensures.value
+    ∙ sym (leaf_item c.args.self.now c.args.edge c.requires.edge c.take_item-item.result
+    c.requires.in_leaf)
+
+pub returns-then-item_count-gt-MIN_LEN-clause-list :
+    goal.returns-then-item_count-gt-MIN_LEN-clause-list
+returns-then-item_count-gt-MIN_LEN-clause-list g c =
+    (taken g (goal.at.returns-then-item_count-gt-MIN_LEN-clause-list g
+    c).After-take_item-item).items_are
+
+pub returns-then-item_count-gt-MIN_LEN-clause-capacity :
+    goal.returns-then-item_count-gt-MIN_LEN-clause-capacity
+returns-then-item_count-gt-MIN_LEN-clause-capacity g c =
+    (taken g (goal.at.returns-then-item_count-gt-MIN_LEN-clause-capacity g
+    c).After-take_item-item).capacity
+
+pub returns-then-item_count-gt-MIN_LEN-clause-edge :
+    goal.returns-then-item_count-gt-MIN_LEN-clause-edge
+returns-then-item_count-gt-MIN_LEN-clause-edge g c =
+    let taken =
+    taken g (goal.at.returns-then-item_count-gt-MIN_LEN-clause-edge g
+    c).After-take_item-item in (
+      record { some = c.requires.edge.some; edge = taken.edge },
+      omega (arith, taken.place_is, c.requires.in_leaf),
+    )
+
+-- below the root
+pub remove_below-taken-requires : goal.remove_below-taken-requires
+remove_below-taken-requires g c =
+    let s = c.args.self.now in
+    let some = c.requires.edge.some in
+    let level : suc (s.levels - 1) ≡ s.levels = omega (arith, some) in (
+      search rules,
+      (
+        root_shaped s.nodes s.levels s.root some s.whole.tree,
+        (
+          rw level (tree_owned s.nodes s.levels s.root s.whole.tree),
+          (
+            tree_is_not_too_deep s.nodes s.levels s.root s.whole,
+            (c.requires.edge.edge, c.requires.in_leaf),
+          ),
+        ),
+      ),
+    )
+
+pub shrink_root-requires : goal.shrink_root-requires
+shrink_root-requires g c =
+    let s = c.args.self.now in (
+      search rules,
+      (
+        loosened_tree s.nodes c.remove_below-taken.new.nodes s.levels s.root _ c.requires.edge.some
+            s.whole.tree c.remove_below-taken.ensures.shrinks,
+        c.remove_below-taken.ensures.edge,
+      ),
+    )
+
+shrunk : (g : Over) (c : After-shrink_root g)
+    → items_below c.shrink_root.new.nodes c.shrink_root.result.root.levels
+    c.shrink_root.result.root.number
+    ≡ remove (box_items c.args.self.now) (box_place c.args.self.now c.args.edge - 1)
+shrunk g c =
+    let s = c.args.self.now in
+    let some = c.requires.edge.some in
+    let level : suc (s.levels - 1) ≡ s.levels = omega (arith, some) in
+    c.shrink_root.ensures.items
+    ∙ loosened_items s.nodes c.remove_below-taken.new.nodes s.levels s.root _ some
+    c.remove_below-taken.ensures.shrinks
+    ∙ ap (λ m. remove (items_below s.nodes m s.root) (box_place s c.args.edge - 1)) level
+
+pub invariant_of-self-2 : goal.invariant_of-self-2
+invariant_of-self-2 g c =
+    let s = c.args.self.now in
+    let at = goal.at.invariant_of-self-2 g c in
+    let less = ap length (shrunk g at.After-shrink_root) in
+    let back = fewer g at.Start in
+    let capacity =
+    c.shrink_root.ensures.capacity ∙ c.remove_below-taken.ensures.shrinks.moved.capacity in
+    let many : c.args.self.now.len - 1
+    ≡ length (items_below c.shrink_root.new.nodes c.shrink_root.result.root.levels
+    c.shrink_root.result.root.number) = omega (arith, less, back, s.counted) in
+    record {
+      whole =
+          record {
+            tree = c.shrink_root.ensures.tree;
+            fits = omega (arith, less, back, s.whole.fits, capacity);
+            counted =
+                omega (arith, less, back, s.whole.counted);
+          };
+      counted = many;
+      levelled =
+          rw (← many) at (has_levels c.shrink_root.new.nodes c.shrink_root.result.root.levels
+          c.shrink_root.result.root.number c.shrink_root.ensures.tree);
+    }
+
+pub returns-then-self-eq0-clause-removed : goal.returns-then-self-eq0-clause-removed
+returns-then-self-eq0-clause-removed g c =
+    c.remove_below-taken.ensures.item
+    ∙ sym (leaf_item c.args.self.now c.args.edge c.requires.edge
+    c.remove_below-taken.result.item c.requires.in_leaf)
+
+pub returns-then-self-eq0-clause-list : goal.returns-then-self-eq0-clause-list
+returns-then-self-eq0-clause-list g c =
+    shrunk g (goal.at.returns-then-self-eq0-clause-list g c).After-shrink_root
+
+pub returns-then-self-eq0-clause-capacity : goal.returns-then-self-eq0-clause-capacity
+returns-then-self-eq0-clause-capacity g c =
+    c.shrink_root.ensures.capacity ∙ c.remove_below-taken.ensures.shrinks.moved.capacity
+
+pub returns-then-self-eq0-clause-edge : goal.returns-then-self-eq0-clause-edge
+returns-then-self-eq0-clause-edge g c =
+    rw c.if-self-eq0.true
+    (items_below_none c.shrink_root.new.nodes c.shrink_root.result.root.number)
+
+pub returns-clause-removed : goal.returns-clause-removed
+returns-clause-removed g c =
+    c.remove_below-taken.ensures.item
+    ∙ sym (leaf_item c.args.self.now c.args.edge c.requires.edge
+    c.remove_below-taken.result.item c.requires.in_leaf)
+
+pub returns-clause-list : goal.returns-clause-list
+returns-clause-list g c = shrunk g (goal.at.returns-clause-list g c).After-shrink_root
+
+pub returns-clause-capacity : goal.returns-clause-capacity
+returns-clause-capacity g c =
+    c.shrink_root.ensures.capacity ∙ c.remove_below-taken.ensures.shrinks.moved.capacity
+
+pub returns-clause-edge : goal.returns-clause-edge
+returns-clause-edge g c =
+    let s = c.args.self.now in
+    let some : 0 < c.shrink_root.result.root.levels = omega (arith, c.if-self-eq0.false) in (
+      record { some = some; edge = c.shrink_root.ensures.edge some },
+      omega (arith, c.shrink_root.ensures.place some, c.remove_below-taken.ensures.place),
+    )

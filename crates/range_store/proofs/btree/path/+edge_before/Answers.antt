@@ -1,0 +1,221 @@
+use Rattle.std.proofs.Common.{◌≡◌, ◌+◌, ◌-◌, ◌<◌, length, map, refl, rules, ◌∙◌, arith}
+use Rattle.range_store.specs.Heap.{node_of, items_of, children_of}
+use Rattle.range_store.specs.Nodes.{before, items_below}
+use Rattle.range_store.specs.Edges.{turn}
+use Rattle.range_store.proofs.Edges.{leaf_edge, leaf_place, leaf_index, path_small}
+use Rattle.range_store.proofs.Paths.{level_of_children, child_within, below_kid, below_turn, below_inside, below_edge, below_place, below_here, before_next}
+use Rattle.range_store.proofs.btree.path.+edge_before.Goals as goal
+
+pub child_at-child-requires : goal.child_at-child-requires
+child_at-child-requires g t c = (
+  search rules,
+  (
+    c.requires.shaped.node.present,
+    rw c.first_turn-index.ensures
+        (child_within c.args.nodes.now c.args.below c.args.number c.if-below-eq0.false
+        c.requires.shaped _ (below_turn c.args.nodes.now c.args.below c.args.number
+        c.if-below-eq0.false c.requires.shaped c.args.edge c.requires.edge)),
+  ),
+)
+
+pub edge_before-requires : goal.edge_before-requires
+edge_before-requires g t c κs within =
+    let low =
+    below_turn c.args.nodes.now c.args.below c.args.number c.if-below-eq0.false
+    c.requires.shaped c.args.edge c.requires.edge in
+    let kid =
+    below_kid c.args.nodes.now c.args.below c.args.number c.if-below-eq0.false
+    c.requires.shaped (turn c.args.edge) low in
+    let is =
+    below_inside c.args.nodes.now c.args.below c.args.number c.if-below-eq0.false
+    c.requires.shaped c.args.edge c.requires.edge in (
+      omega (arith, c.if-below-eq0.false),
+      (
+        within,
+        (
+          search rules,
+          rw (c.child_at-child.ensures, c.first_turn-index.ensures, c.seen_inside.ensures)
+              (kid, (omega (arith, c.requires.deep), is)),
+        ),
+      ),
+    )
+
+pub seen_above-requires-clause-index : goal.seen_above-requires-clause-index
+seen_above-requires-clause-index g t c =
+    omega (
+      arith,
+      c.first_turn-index.ensures,
+      below_turn c.args.nodes.now c.args.below c.args.number c.if-below-eq0.false
+          c.requires.shaped c.args.edge c.requires.edge,
+      c.requires.shaped.node.fits,
+    )
+
+pub seen_above-requires-clause-path : goal.seen_above-requires-clause-path
+seen_above-requires-clause-path g t c =
+    let found = rw c.in-Some.is at c.edge_before.ensures in
+    path_small c.args.nodes.now (c.args.below - 1) _ _ (omega (arith, c.requires.deep)) found.0
+
+pub returns-in-Some : goal.returns-in-Some
+returns-in-Some g t c =
+    let found =
+    rw (
+      c.in-Some.is,
+      c.child_at-child.ensures,
+      c.first_turn-index.ensures,
+      c.seen_inside.ensures,
+    ) at c.edge_before.ensures in
+    let low =
+    below_turn c.args.nodes.now c.args.below c.args.number c.if-below-eq0.false
+    c.requires.shaped c.args.edge c.requires.edge in
+    let at = c.seen_above.ensures.turn ∙ c.first_turn-index.ensures in
+    let place =
+    below_place c.args.nodes.now c.args.below c.args.number c.if-below-eq0.false
+    c.requires.shaped (turn c.args.edge) c.in-Some.earlier _ at c.seen_above.ensures.inside
+    in (
+      below_edge c.args.nodes.now c.args.below c.args.number c.if-below-eq0.false c.requires.shaped
+          (turn c.args.edge) c.in-Some.earlier _ at c.seen_above.ensures.inside low found.0,
+      omega (
+        arith,
+        place,
+        below_here c.args.nodes.now c.args.below c.args.number c.if-below-eq0.false
+            c.requires.shaped c.args.edge,
+        found.1,
+      ),
+    )
+
+pub returns-then-edge-eq0 : goal.returns-then-edge-eq0
+returns-then-edge-eq0 g t c =
+    rw c.if-below-eq0.true (leaf_place c.args.nodes.now c.args.number c.args.edge
+    ∙ c.if-edge-eq0.true)
+
+pub returns-then-below-eq0 : goal.returns-then-below-eq0
+returns-then-below-eq0 g t c =
+    let s = c.args.nodes.now in
+    let is = rw c.if-below-eq0.true at c.requires.edge in
+    rw c.if-below-eq0.true (
+      leaf_edge s c.args.number _ refl refl
+          (omega (arith, leaf_index s c.args.number c.args.edge is)),
+      omega (
+        arith,
+        leaf_place s c.args.number c.args.edge,
+        leaf_place s c.args.number
+            (record { leaf = c.args.number; path = 0; index = c.args.edge.index - 1 }),
+        c.if-edge-eq0.false,
+      ),
+    )
+
+pub returns-then-index-eq0 : goal.returns-then-index-eq0
+returns-then-index-eq0 g t c =
+    let none =
+    rw (
+      c.in_default.is,
+      c.child_at-child.ensures,
+      c.first_turn-index.ensures,
+      c.seen_inside.ensures,
+    ) at c.edge_before.ensures in
+    let first : turn c.args.edge ≡ 0 =
+    omega (arith, c.first_turn-index.ensures, c.if-index-eq0.true) in
+    let start : length (before (items_of (node_of c.args.nodes.now c.args.number))
+    (map (items_below c.args.nodes.now c.args.below)
+    (children_of (node_of c.args.nodes.now c.args.number))) (turn c.args.edge))
+    ≡ 0 = rw first refl in
+    omega (
+      arith,
+      below_here c.args.nodes.now c.args.below c.args.number c.if-below-eq0.false
+          c.requires.shaped c.args.edge,
+      none,
+      start,
+    )
+
+pub child_at-last-requires : goal.child_at-last-requires
+child_at-last-requires g t c = (
+  search rules,
+  (
+    c.requires.shaped.node.present,
+    child_within c.args.nodes.now c.args.below c.args.number c.if-below-eq0.false
+        c.requires.shaped _ (omega (
+          arith,
+          c.first_turn-index.ensures,
+          below_turn c.args.nodes.now c.args.below c.args.number c.if-below-eq0.false
+              c.requires.shaped c.args.edge c.requires.edge,
+        )),
+  ),
+)
+
+pub end_edge-requires : goal.end_edge-requires
+end_edge-requires g t c = (
+  search rules,
+  (
+    rw c.child_at-last.ensures
+        (below_kid c.args.nodes.now c.args.below c.args.number c.if-below-eq0.false
+        c.requires.shaped (c.first_turn-index.result - 1)
+        (omega (
+          arith,
+          c.first_turn-index.ensures,
+          below_turn c.args.nodes.now c.args.below c.args.number c.if-below-eq0.false
+              c.requires.shaped c.args.edge c.requires.edge,
+        ))),
+    omega (arith, c.requires.deep),
+  ),
+)
+
+pub seen_above-requires-2-clause-index : goal.seen_above-requires-2-clause-index
+seen_above-requires-2-clause-index g t c =
+    omega (
+      arith,
+      c.first_turn-index.ensures,
+      below_turn c.args.nodes.now c.args.below c.args.number c.if-below-eq0.false
+          c.requires.shaped c.args.edge c.requires.edge,
+      c.requires.shaped.node.fits,
+    )
+
+pub seen_above-requires-2-clause-path : goal.seen_above-requires-2-clause-path
+seen_above-requires-2-clause-path g t c =
+    path_small c.args.nodes.now (c.args.below - 1) _ _
+    (omega (arith, c.requires.deep)) c.end_edge.ensures.edge
+
+pub returns : goal.returns
+returns g t c =
+    let i = c.first_turn-index.result - 1 in
+    let low : i < length (items_of (node_of c.args.nodes.now c.args.number)) =
+    omega (
+      arith,
+      c.first_turn-index.ensures,
+      below_turn c.args.nodes.now c.args.below c.args.number c.if-below-eq0.false
+          c.requires.shaped c.args.edge c.requires.edge,
+      c.if-index-eq0.false,
+    ) in
+    let next : i + 1 ≡ turn c.args.edge =
+    omega (arith, c.first_turn-index.ensures, c.if-index-eq0.false) in
+    let none =
+    rw (
+      c.in_default.is,
+      c.child_at-child.ensures,
+      c.first_turn-index.ensures,
+      c.seen_inside.ensures,
+    ) at c.edge_before.ensures in
+    let is = rw c.child_at-last.ensures at c.end_edge.ensures.edge in
+    let end =
+    rw (level_of_children c.args.nodes.now c.args.below c.args.number c.if-below-eq0.false
+    c.requires.shaped) at (rw c.child_at-last.ensures at c.end_edge.ensures.place) in
+    let place =
+    below_place c.args.nodes.now c.args.below c.args.number c.if-below-eq0.false
+    c.requires.shaped i c.end_edge.result _ c.seen_above-2.ensures.turn
+    c.seen_above-2.ensures.inside in
+    let more =
+    rw next at (before_next c.args.nodes.now c.args.below c.args.number c.if-below-eq0.false
+    c.requires.shaped i low) in (
+      below_edge c.args.nodes.now c.args.below c.args.number c.if-below-eq0.false c.requires.shaped
+          i
+          c.end_edge.result _ c.seen_above-2.ensures.turn c.seen_above-2.ensures.inside
+          (omega arith) is,
+      omega (
+        arith,
+        place,
+        end,
+        more,
+        below_here c.args.nodes.now c.args.below c.args.number c.if-below-eq0.false
+            c.requires.shaped c.args.edge,
+        none,
+      ),
+    )

@@ -1,0 +1,69 @@
+use Rattle.std.proofs.Common.{◌≤◌, true, sym, ◌∙◌, arith}
+use Rattle.std.proofs.Math.Nat.{mul-le-mul_left}
+use Rattle.range_store.specs.Heap.{items_of, node_of}
+use Rattle.range_store.specs.Nodes.{items_below}
+use Rattle.range_store.specs.declared.btree.nodes.TheConstants.{CAPACITY}
+use Rattle.range_store.proofs.Descending.{begins, descends, descent_ends, weight_fits}
+use Rattle.range_store.proofs.Front.{count_all, falls_all}
+use Rattle.range_store.proofs.btree.path.end_edge.Goals as goal
+
+pub down-init : goal.down-init
+down-init g c =
+    begins (λ _. true) c.args.nodes.now c.args.below c.args.number c.requires.shaped (falls_all _)
+
+pub overflow_mul-path : goal.overflow_mul-path
+overflow_mul-path g c =
+    let d = c.down.invariant in
+    let few : c.item_count-last.result ≤ CAPACITY =
+    omega (arith, c.item_count-last.ensures, d.shaped.node.fits) in
+    omega (
+      arith,
+      d.small,
+      weight_fits c.args.below c.down.left c.down.weight c.requires.deep c.down-test.true
+          d.weight_is,
+      mul-le-mul_left c.down.weight few,
+    )
+
+pub overflow_add-path : goal.overflow_add-path
+overflow_add-path g c =
+    let d = c.down.invariant in
+    let few : c.item_count-last.result ≤ CAPACITY =
+    omega (arith, c.item_count-last.ensures, d.shaped.node.fits) in
+    omega (
+      arith,
+      d.small,
+      weight_fits c.args.below c.down.left c.down.weight c.requires.deep c.down-test.true
+          d.weight_is,
+      mul-le-mul_left c.down.weight few,
+    )
+
+pub overflow_mul-weight : goal.overflow_mul-weight
+overflow_mul-weight g c =
+    let d = c.down.invariant in
+    omega (
+      arith,
+      weight_fits c.args.below c.down.left c.down.weight c.requires.deep c.down-test.true
+          d.weight_is,
+    )
+
+pub down-preserved : goal.down-preserved
+down-preserved g c =
+    rw c.child_at-leaf.ensures (descends (λ _. true) c.args.nodes.now c.args.below c.args.number
+    c.down.left c.down.leaf c.down.path c.down.weight (omega (arith, c.down-test.true))
+    c.down.invariant c.item_count-last.result
+    (c.item_count-last.ensures ∙ sym (count_all (items_of (node_of c.args.nodes.now c.down.leaf)))))
+
+pub returns-clause-edge : goal.returns-clause-edge
+returns-clause-edge g c =
+    (descent_ends (λ _. true) c.args.nodes.now c.args.below c.args.number c.down.left c.down.leaf
+    c.down.path c.down.weight (omega (arith, c.down-test.false)) c.down.invariant
+    c.item_count.result (c.item_count.ensures
+    ∙ sym (count_all (items_of (node_of c.args.nodes.now c.down.leaf))))).edge
+
+pub returns-clause-place : goal.returns-clause-place
+returns-clause-place g c =
+    (descent_ends (λ _. true) c.args.nodes.now c.args.below c.args.number c.down.left c.down.leaf
+    c.down.path c.down.weight (omega (arith, c.down-test.false)) c.down.invariant
+    c.item_count.result (c.item_count.ensures
+    ∙ sym (count_all (items_of (node_of c.args.nodes.now c.down.leaf))))).count
+    ∙ count_all (items_below c.args.nodes.now _ c.args.number)

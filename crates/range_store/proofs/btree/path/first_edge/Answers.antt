@@ -1,0 +1,41 @@
+use Rattle.std.proofs.Common.{◌≡◌, ◌+◌, ◌-◌, ◌*◌, ◌^◌, false, sym, ◌∙◌, arith, subst}
+use Rattle.range_store.specs.Heap.{items_of, node_of}
+use Rattle.range_store.specs.Nodes.{items_below}
+use Rattle.range_store.specs.declared.btree.path.TheConstants.{PATH_BASE}
+use Rattle.range_store.proofs.Descending.{Descent, begins, descends, descent_ends}
+use Rattle.range_store.proofs.Front.{count_none, falls_none}
+use Rattle.range_store.proofs.btree.path.first_edge.Goals as goal
+
+pub down-init : goal.down-init
+down-init g c =
+    let all =
+    begins (λ _. false) c.args.nodes.now c.args.below c.args.number c.requires.shaped
+    (falls_none _) in
+    subst (λ weight. Descent (λ _. false) c.args.nodes.now c.args.below c.args.number c.args.below
+    c.args.number 0 weight) all.weight_is all
+
+pub down-preserved : goal.down-preserved
+down-preserved g c =
+    let s = c.args.nodes.now in
+    let below = c.args.below in
+    let left = c.down.left in
+    let weight = PATH_BASE ^ (below - left) in
+    let down =
+    descends (λ _. false) s below c.args.number left c.down.leaf 0 weight
+    (omega (arith, c.down-test.true)) c.down.invariant 0
+    (sym (count_none (items_of (node_of s c.down.leaf)))) in
+    let path : 0 + weight * 0 ≡ 0 = omega arith in
+    rw (c.child_at-leaf.ensures, ← down.weight_is) (rw path at down)
+
+pub returns-clause-edge : goal.returns-clause-edge
+returns-clause-edge g c =
+    (descent_ends (λ _. false) c.args.nodes.now c.args.below c.args.number c.down.left c.down.leaf
+    0 _ (omega (arith, c.down-test.false)) c.down.invariant 0
+    (sym (count_none (items_of (node_of c.args.nodes.now c.down.leaf))))).edge
+
+pub returns-clause-place : goal.returns-clause-place
+returns-clause-place g c =
+    (descent_ends (λ _. false) c.args.nodes.now c.args.below c.args.number c.down.left c.down.leaf
+    0 _ (omega (arith, c.down-test.false)) c.down.invariant 0
+    (sym (count_none (items_of (node_of c.args.nodes.now c.down.leaf))))).count
+    ∙ count_none (items_below c.args.nodes.now _ c.args.number)

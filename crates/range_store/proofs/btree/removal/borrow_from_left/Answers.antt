@@ -1,0 +1,99 @@
+use Rattle.std.proofs.Common.{◌-◌, rules, arith}
+use Rattle.range_store.proofs.Edges.{path_low}
+use Rattle.range_store.proofs.Pairs.{seat_low}
+use Rattle.range_store.specs.declared.btree.nodes.TheConstants.{MIN_LEN}
+use Rattle.range_store.proofs.Rotating.{has_pair, moved_path, next_edge, next_kept, next_shrinks}
+use Rattle.range_store.proofs.btree.removal.borrow_from_left.Goals as goal
+
+pub child_at-right-requires : goal.child_at-right-requires
+child_at-right-requires g c = (
+  search rules,
+  (
+    c.requires.levelled.node.present,
+    omega (arith, c.requires.levelled.within, c.requires.levelled.node.branches),
+  ),
+)
+
+pub rotate_right-requires : goal.rotate_right-requires
+rotate_right-requires g c = (
+  search rules,
+  (
+    has_pair c.args.nodes.now c.args.low c.args.number c.args.index c.requires.levelled,
+    (
+      omega (arith, c.requires.spare),
+      omega (arith, c.requires.levelled.fits, c.requires.spare),
+    ),
+  ),
+)
+
+pub overflow_add-index-2 : goal.overflow_add-index-2
+overflow_add-index-2 g c = omega (arith, c.requires.levelled.within, c.requires.levelled.node.fits)
+
+pub overflow_add-seat : goal.overflow_add-seat
+overflow_add-seat g c =
+    omega (
+      arith,
+      c.seat.ensures,
+      seat_low c.args.nodes.now c.args.low _ c.args.edge
+          (MIN_LEN - 1) c.requires.levelled.right c.requires.edge,
+      c.requires.levelled.right.node.fits,
+    )
+
+pub edge_at-inner-requires-clause-seat : goal.edge_at-inner-requires-clause-seat
+edge_at-inner-requires-clause-seat g c =
+    omega (
+      arith,
+      c.seat.ensures,
+      seat_low c.args.nodes.now c.args.low _ c.args.edge
+          (MIN_LEN - 1) c.requires.levelled.right c.requires.edge,
+      c.requires.levelled.fits,
+      c.requires.spare,
+    )
+
+pub edge_at-inner-requires-clause-path : goal.edge_at-inner-requires-clause-path
+edge_at-inner-requires-clause-path g c =
+    λ some. rw c.seen_inside.ensures
+    (omega (
+      arith,
+      path_low c.args.nodes.now c.args.low _ c.args.edge c.requires.deep c.requires.edge,
+    ))
+
+pub seen_above-requires-clause-index : goal.seen_above-requires-clause-index
+seen_above-requires-clause-index g c =
+    omega (arith, c.requires.levelled.within, c.requires.levelled.node.fits)
+
+pub seen_above-requires-clause-path : goal.seen_above-requires-clause-path
+seen_above-requires-clause-path g c =
+    moved_path c.args.low _ _ c.edge_at-inner.result c.args.edge c.edge_at-inner.ensures.leaf
+    (rw c.seen_inside.ensures at c.edge_at-inner.ensures.inside)
+    (path_low c.args.nodes.now c.args.low _ c.args.edge c.requires.deep c.requires.edge)
+
+pub returns-clause-shrinks : goal.returns-clause-shrinks
+returns-clause-shrinks g c =
+    next_shrinks c.args.nodes.now c.args.low c.args.number c.args.index c.requires.levelled
+    c.rotate_right.new.self c.rotate_right.ensures c.requires.spare
+
+pub returns-clause-kept : goal.returns-clause-kept
+returns-clause-kept g c =
+    next_kept c.args.nodes.now c.args.low c.args.number c.args.index c.requires.levelled
+    c.rotate_right.new.self c.rotate_right.ensures c.requires.spare
+
+pub returns-clause-edge : goal.returns-clause-edge
+returns-clause-edge g c =
+    (next_edge c.args.nodes.now c.args.low c.args.number c.args.index c.requires.levelled
+    c.rotate_right.new.self c.rotate_right.ensures c.requires.spare c.args.edge
+    c.edge_at-inner.result c.seen_above.result c.requires.edge
+    (rw (c.child_at-right.ensures, c.seat.ensures) at c.edge_at-inner.ensures.leaf)
+    (rw c.seat.ensures at c.edge_at-inner.ensures.turn)
+    (rw c.seen_inside.ensures at c.edge_at-inner.ensures.inside) c.seen_above.ensures.turn
+    c.seen_above.ensures.inside).0
+
+pub returns-clause-place : goal.returns-clause-place
+returns-clause-place g c =
+    (next_edge c.args.nodes.now c.args.low c.args.number c.args.index c.requires.levelled
+    c.rotate_right.new.self c.rotate_right.ensures c.requires.spare c.args.edge
+    c.edge_at-inner.result c.seen_above.result c.requires.edge
+    (rw (c.child_at-right.ensures, c.seat.ensures) at c.edge_at-inner.ensures.leaf)
+    (rw c.seat.ensures at c.edge_at-inner.ensures.turn)
+    (rw c.seen_inside.ensures at c.edge_at-inner.ensures.inside) c.seen_above.ensures.turn
+    c.seen_above.ensures.inside).1

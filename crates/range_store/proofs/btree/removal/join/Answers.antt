@@ -1,0 +1,91 @@
+use Rattle.std.proofs.Common.{rules, arith}
+use Rattle.range_store.proofs.Edges.{path_low}
+use Rattle.range_store.proofs.Pairs.{near_seat}
+use Rattle.range_store.proofs.Rotating.{has_pair, joined_edge, joined_shrinks, moved_path}
+use Rattle.range_store.proofs.btree.removal.join.Goals as goal
+
+pub child_at-left-requires : goal.child_at-left-requires
+child_at-left-requires g c = (
+  search rules,
+  (
+    c.requires.levelled.node.present,
+    omega (arith, c.requires.levelled.within, c.requires.levelled.node.branches),
+  ),
+)
+
+pub item_count-many-requires : goal.item_count-many-requires
+item_count-many-requires g c =
+    (search rules, rw c.child_at-left.ensures c.requires.levelled.left.node.present)
+
+pub merge-requires : goal.merge-requires
+merge-requires g c = (
+  search rules,
+  (
+    has_pair c.args.nodes.now c.args.low c.args.number c.args.index c.requires.levelled,
+    c.requires.few,
+  ),
+)
+
+pub joined_seat-seat-requires-clause-many : goal.joined_seat-seat-requires-clause-many
+joined_seat-seat-requires-clause-many g c =
+    rw (c.item_count-many.ensures, c.child_at-left.ensures) c.requires.levelled.left.node.fits
+
+pub joined_seat-seat-requires-clause-small : goal.joined_seat-seat-requires-clause-small
+joined_seat-seat-requires-clause-small g c =
+    (near_seat c.args.nodes.now c.args.low c.args.number c.args.index c.args.turn c.args.edge
+    c.requires.levelled c.requires.near c.requires.edge c.requires.few).0
+
+pub edge_at-inner-requires-clause-seat : goal.edge_at-inner-requires-clause-seat
+edge_at-inner-requires-clause-seat g c =
+    (near_seat c.args.nodes.now c.args.low c.args.number c.args.index c.args.turn c.args.edge
+    c.requires.levelled c.requires.near c.requires.edge c.requires.few).1
+    c.joined_seat-seat.result c.joined_seat-seat.ensures.first
+    (rw (c.item_count-many.ensures, c.child_at-left.ensures) at
+    c.joined_seat-seat.ensures.second)
+
+pub edge_at-inner-requires-clause-path : goal.edge_at-inner-requires-clause-path
+edge_at-inner-requires-clause-path g c =
+    λ some. rw c.seen_inside.ensures
+    (omega (
+      arith,
+      path_low c.args.nodes.now c.args.low _ c.args.edge c.requires.deep c.requires.edge,
+    ))
+
+pub seen_above-requires-clause-index : goal.seen_above-requires-clause-index
+seen_above-requires-clause-index g c =
+    omega (arith, c.requires.levelled.within, c.requires.levelled.node.fits)
+
+pub seen_above-requires-clause-path : goal.seen_above-requires-clause-path
+seen_above-requires-clause-path g c =
+    moved_path c.args.low _ _ c.edge_at-inner.result c.args.edge c.edge_at-inner.ensures.leaf
+    (rw c.seen_inside.ensures at c.edge_at-inner.ensures.inside)
+    (path_low c.args.nodes.now c.args.low _ c.args.edge c.requires.deep c.requires.edge)
+
+pub returns-clause-shrinks : goal.returns-clause-shrinks
+returns-clause-shrinks g c =
+    joined_shrinks c.args.nodes.now c.args.low c.args.number c.args.index c.requires.levelled
+    c.merge.new.self c.merge.ensures c.requires.few
+
+pub returns-clause-edge : goal.returns-clause-edge
+returns-clause-edge g c =
+    (joined_edge c.args.nodes.now c.args.low c.args.number c.args.index c.requires.levelled
+    c.merge.new.self c.merge.ensures c.requires.few c.args.turn c.args.edge
+    c.edge_at-inner.result c.seen_above.result c.joined_seat-seat.result c.requires.near
+    c.requires.edge c.joined_seat-seat.ensures.first
+    (rw (c.item_count-many.ensures, c.child_at-left.ensures) at
+    c.joined_seat-seat.ensures.second)
+    (rw c.child_at-left.ensures at c.edge_at-inner.ensures.leaf) c.edge_at-inner.ensures.turn
+    (rw c.seen_inside.ensures at c.edge_at-inner.ensures.inside) c.seen_above.ensures.turn
+    c.seen_above.ensures.inside).0
+
+pub returns-clause-place : goal.returns-clause-place
+returns-clause-place g c =
+    (joined_edge c.args.nodes.now c.args.low c.args.number c.args.index c.requires.levelled
+    c.merge.new.self c.merge.ensures c.requires.few c.args.turn c.args.edge
+    c.edge_at-inner.result c.seen_above.result c.joined_seat-seat.result c.requires.near
+    c.requires.edge c.joined_seat-seat.ensures.first
+    (rw (c.item_count-many.ensures, c.child_at-left.ensures) at
+    c.joined_seat-seat.ensures.second)
+    (rw c.child_at-left.ensures at c.edge_at-inner.ensures.leaf) c.edge_at-inner.ensures.turn
+    (rw c.seen_inside.ensures at c.edge_at-inner.ensures.inside) c.seen_above.ensures.turn
+    c.seen_above.ensures.inside).1

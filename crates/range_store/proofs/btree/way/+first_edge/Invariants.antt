@@ -1,4 +1,0 @@
-use Rattle.range_store.proofs.btree.way.+first_edge.Given as goal
-
-abbrev pub decreases-first_edge : goal.decreases-first_edge
-decreases-first_edge l = l.below

@@ -1,0 +1,380 @@
+//! The nodes of a tree under numbers, each with its items in it.
+ghost use Rattle.std.specs.Prelude.{◌≡◌, ◌≢◌, ◌⊎◌, ℕ, ◌+◌, ◌-◌, ◌<◌, ◌≤◌, List, [], ◌∷◌, ◌++◌, length, take, drop, slice_get, slice_index, slice_index_or, slice_set, insert, remove, IsOk, IsSome, OnOk, IfSome, All, None, Some};
+ghost use Rattle.std.specs.Borrow.{Lends, sem};
+ghost use Rattle.slab.specs.Slab.{get, ContainsKey};
+ghost use Rattle.range_store.specs.Heap.{node_of, HasNode, items_of, children_of, full_cells, node_count, HasRoomFor, with_child, with_item, FitsChild, Writes, Stores, Removes, Divides, left_items, right_items, HasPair, RotatesLeft, RotatesRight, Merges, Absorbs};
+
+use crate::btree::cells::{
+    append_cells, append_list, divide_cells, divide_children, drop_list, filled, put_child,
+    store_list, take_child, take_filled,
+};
+use arrayvec::ArrayVec;
+use slab::Slab;
+use std::alloc::{AllocError, Global};
+use std::marker::Model;
+use std::mem;
+
+/// The most items in a node.
+pub const CAPACITY: usize = 11;
+
+/// The fewest items in a node other than the root.
+pub const MIN_LEN: usize = 5;
+
+// How many items of an overfull node stay in its first half.
+pub const HALF: usize = (CAPACITY + 1) / 2;
+
+pub const CHILD_PLACES: usize = CAPACITY + 1;
+
+// The list of a node that has no children.
+pub const NO_LIST: usize = usize::MAX;
+
+// Cells with an item each, and the list in which the children lie.
+#[derive(Drop)]
+struct Node<T> {
+    cells: ArrayVec<Option<T>, CAPACITY>,
+    list: usize,
+}
+
+/// Nodes under numbers, each with items and the numbers of its children.
+#[derive(Drop)]
+pub struct Nodes<T> {
+    nodes: Slab<Node<T>>,
+    lists: Slab<ArrayVec<usize, CHILD_PLACES>>,
+    // It holds nothing: by it the proof knows that a node fits in memory.
+    spare: Node<T>,
+}
+
+impl<T> Model for Nodes<T> {
+    ghost use Rattle.range_store.specs.Heap.{Heap, heap_code};
+
+    ghost Value = { Heap T };
+
+    ghost coded = { heap_code T.code };
+
+    ghost use Rattle.range_store.specs.Cells.{heap_of, IsWhole};
+
+    ghost view = { λ s. heap_of s.nodes s.lists };
+
+    ghost invariant = { λ s. IsWhole s.nodes s.lists };
+}
+
+/// A node was cut in two: `middle` stands between it and `right`.
+#[derive(Drop)]
+pub struct Split<T> {
+    pub middle: T,
+    pub right: usize,
+}
+
+impl<T: Drop> Nodes<T> {
+    ghost use Rattle.range_store.specs.contracts.btree.nodes.Nodes.{the_row};
+
+    /// No nodes. Allocates nothing.
+    pub fn new(alloc: Global) -> Self
+        ensures empty { result.slots ≡ [] }
+        ensures capacity { result.capacity ≡ 0 }
+    {
+        Nodes {
+            nodes: Slab::new(alloc),
+            lists: Slab::new(alloc),
+            spare: Node {
+                cells: ArrayVec::new(),
+                list: NO_LIST,
+            },
+        }
+    }
+
+    /// How many nodes there are.
+    pub fn len(&self) -> usize
+        ensures { result ≡ node_count self.now }
+    {
+        self.nodes.len()
+    }
+
+    /// How many nodes there can be without an allocation.
+    pub fn capacity(&self) -> usize
+        ensures value { result ≡ self.now.capacity }
+        ensures holds_all { node_count self.now ≤ result }
+    {
+        self.nodes.capacity().min(self.lists.capacity())
+    }
+
+    /// Makes room for so many more nodes.
+    pub fn reserve(&mut self, additional: usize) -> Result<(), AllocError>
+        ensures room { OnOk result (HasRoomFor self.new additional) }
+        ensures succeeds { HasRoomFor self.old additional → IsOk result }
+        ensures no_less { self.old.capacity ≤ self.new.capacity }
+        ensures rest_kept { self.new ≡ record self.old { capacity = self.new.capacity } }
+    {
+        self.nodes.reserve(additional)?;
+        // Tells the proof that a `usize` counts the nodes and `additional` more.
+        let _capacity = self.nodes.capacity();
+        let wanted = self.nodes.len() + additional;
+        self.lists.reserve(wanted - self.lists.len())
+    }
+
+    /// How many items a node has.
+    pub fn item_count(&self, number: usize) -> usize
+        requires { HasNode self.now number }
+        ensures { result ≡ length (items_of (node_of self.now number)) }
+    {
+        self.nodes[number].cells.len()
+    }
+
+    /// The item of a node at an index.
+    pub fn item_at(&self, number: usize, index: usize) -> &T
+        requires present { HasNode self.now number }
+        requires within { index < length (items_of (node_of self.now number)) }
+        ensures { result.now
+            ≡ slice_index_or (items_of (node_of self.now number)) index result.now }
+    {
+        match &self.nodes[number].cells.as_slice()[index] {
+            Some(item) => item,
+            None => unreachable!(),
+        }
+    }
+
+    /// The child of a node at an index.
+    pub fn child_at(&self, number: usize, index: usize) -> usize
+        requires present { HasNode self.now number }
+        requires within { index < length (children_of (node_of self.now number)) }
+        ensures { result ≡ slice_index (children_of (node_of self.now number)) index }
+    {
+        self.lists[self.nodes[number].list].as_slice()[index]
+    }
+
+    /// The children of a node, by their numbers.
+    pub fn children(&self, number: usize) -> &[usize]
+        requires { HasNode self.now number }
+        ensures { result.now ≡ children_of (node_of self.now number) }
+    {
+        let list = self.nodes[number].list;
+        if list == NO_LIST {
+            return &[];
+        }
+        self.lists[list].as_slice()
+    }
+
+    /// The items of a node, each in a cell.
+    pub fn cells(&self, number: usize) -> &[Option<T>]
+        requires { HasNode self.now number }
+        ensures { result.now ≡ full_cells (items_of (node_of self.now number)) }
+    {
+        self.nodes[number].cells.as_slice()
+    }
+
+    /// The item of a node at an index, to be changed where it stands.
+    pub fn item_mut(&mut self, number: usize, index: usize) -> &mut T
+        requires present { HasNode self.old number }
+        requires within { index < length (items_of (node_of self.old number)) }
+        ensures* writes_back { sem 𝓛
+            (Lends (the_row T.row) T.row self.entry result (with_item self.old number index)) }
+        ensures value { result.now
+            ≡ slice_index_or (items_of (node_of self.old number)) index result.now }
+    {
+        match self.nodes[number].cells.get_mut(index) {
+            Some(cell) => filled(cell),
+            None => unreachable!(),
+        }
+    }
+
+    /// Puts an item in the place of the one at an index, which it returns.
+    pub fn replace_item(&mut self, number: usize, index: usize, item: T) -> T
+        requires present { HasNode self.old number }
+        requires within { index < length (items_of (node_of self.old number)) }
+        ensures before { result ≡ slice_index_or (items_of (node_of self.old number)) index result }
+        ensures after { self.new ≡ with_item self.old number index item }
+    {
+        mem::replace(self.item_mut(number, index), item)
+    }
+
+    /// Puts an item before the one at `index` of a node that is not full, and, if there is one, a
+    /// child after the one at `index`.
+    pub fn put(&mut self, number: usize, index: usize, item: T, child: Option<usize>)
+        requires present { HasNode self.old number }
+        requires within { index ≤ length (items_of (node_of self.old number)) }
+        requires room { length (items_of (node_of self.old number)) < CAPACITY }
+        requires child { FitsChild child (items_of (node_of self.old number))
+            (children_of (node_of self.old number)) }
+        ensures { Writes self.old self.new number
+            (insert (items_of (node_of self.old number)) index item)
+            (with_child (children_of (node_of self.old number)) (index + 1) child) }
+    {
+        self.put_beside(number, index, item, index + 1, child);
+    }
+
+    /// Puts an item into a full node, and a child with it, as `put` does, and cuts the node in two.
+    pub fn split(&mut self, number: usize, index: usize, item: T, child: Option<usize>) -> Split<T>
+        requires present { HasNode self.old number }
+        requires within { index ≤ length (items_of (node_of self.old number)) }
+        requires full { length (items_of (node_of self.old number)) ≡ CAPACITY }
+        requires child { FitsChild child (items_of (node_of self.old number))
+            (children_of (node_of self.old number)) }
+        requires room { HasRoomFor self.old 1 }
+        ensures { Divides self.old self.new number HALF
+            (insert (items_of (node_of self.old number)) index item)
+            (with_child (children_of (node_of self.old number)) (index + 1) child) result.middle
+            result.right }
+    {
+        let node = &mut self.nodes[number];
+        let (middle, cells) = divide_cells(&mut node.cells, index, item);
+        let list = divide_children(&mut self.lists, node.list, index + 1, child);
+        let right = self.nodes.insert_reserved(Node { cells, list });
+        Split { middle, right }
+    }
+
+    /// Takes the item at an index out of a node.
+    pub fn take_item(&mut self, number: usize, index: usize) -> T
+        requires present { HasNode self.old number }
+        requires within { index < length (items_of (node_of self.old number)) }
+        ensures value { result ≡ slice_index_or (items_of (node_of self.old number)) index result }
+        ensures rest { Writes self.old self.new number
+            (remove (items_of (node_of self.old number)) index)
+            (children_of (node_of self.old number)) }
+    {
+        take_filled(&mut self.nodes[number].cells, index)
+    }
+
+    /// Stores a new node with one item and no child.
+    pub fn store_leaf(&mut self, item: T) -> usize
+        requires { HasRoomFor self.old 1 }
+        ensures { Stores self.old self.new result (item ∷ []) [] }
+    {
+        let mut cells = ArrayVec::new();
+        cells.push(Some(item));
+        self.nodes.insert_reserved(Node {
+            cells,
+            list: NO_LIST,
+        })
+    }
+
+    /// Stores a new node with one item and two children.
+    pub fn store_branch(&mut self, left: usize, middle: T, right: usize) -> usize
+        requires { HasRoomFor self.old 1 }
+        ensures { Stores self.old self.new result (middle ∷ []) (left ∷ right ∷ []) }
+    {
+        let mut cells = ArrayVec::new();
+        cells.push(Some(middle));
+        let mut children = ArrayVec::new();
+        children.push(left);
+        children.push(right);
+        let list = store_list(&mut self.lists, children);
+        self.nodes.insert_reserved(Node { cells, list })
+    }
+
+    /// Takes a node away, with its items.
+    pub fn remove_node(&mut self, number: usize)
+        requires { HasNode self.old number }
+        ensures { Removes self.old self.new number }
+    {
+        let node = self.nodes.remove(number);
+        drop_list(&mut self.lists, node.list);
+    }
+
+    /// Moves an item from the child after the item at `index` of a node to the one before it.
+    pub fn rotate_left(&mut self, number: usize, index: usize)
+        requires pair { HasPair self.old number index }
+        requires some { 0 < length (right_items self.old number index) }
+        requires room { length (left_items self.old number index) < CAPACITY }
+        ensures { RotatesLeft self.old self.new number index }
+    {
+        let _many = self.item_count(number);
+        let left = self.child_at(number, index);
+        let right = self.child_at(number, index + 1);
+        let (up, child) = self.take_beside(right, 0, 0);
+        let down = self.replace_item(number, index, up);
+        let end = self.item_count(left);
+        self.put_beside(left, end, down, end + 1, child);
+    }
+
+    /// Moves an item from the child before the item at `index` of a node to the one after it.
+    pub fn rotate_right(&mut self, number: usize, index: usize)
+        requires pair { HasPair self.old number index }
+        requires some { 0 < length (left_items self.old number index) }
+        requires room { length (right_items self.old number index) < CAPACITY }
+        ensures { RotatesRight self.old self.new number index }
+    {
+        let _many = self.item_count(number);
+        let left = self.child_at(number, index);
+        let right = self.child_at(number, index + 1);
+        let end = self.item_count(left);
+        let (up, child) = self.take_beside(left, end - 1, end);
+        let down = self.replace_item(number, index, up);
+        self.put_beside(right, 0, down, 0, child);
+    }
+
+    /// Makes one node of the children around the item at `index` of a node, with that between.
+    pub fn merge(&mut self, number: usize, index: usize)
+        requires pair { HasPair self.old number index }
+        requires room { length (left_items self.old number index) + 1
+            + length (right_items self.old number index) ≤ CAPACITY }
+        ensures { Merges self.old self.new number index }
+    {
+        let _many = self.item_count(number);
+        let left = self.child_at(number, index);
+        let right = self.child_at(number, index + 1);
+        let (down, _) = self.take_beside(number, index, index + 1);
+        self.append(left, down, right);
+    }
+
+    // Puts an item before the one at an index, and a child, if there is one, before the one at
+    // `place`.
+    fn put_beside(
+        &mut self,
+        number: usize,
+        index: usize,
+        item: T,
+        place: usize,
+        child: Option<usize>,
+    )
+        requires present { HasNode self.old number }
+        requires within { index ≤ length (items_of (node_of self.old number)) }
+        requires near { place ≤ length (items_of (node_of self.old number)) + 1 }
+        requires room { length (items_of (node_of self.old number)) < CAPACITY }
+        requires child { FitsChild child (items_of (node_of self.old number))
+            (children_of (node_of self.old number)) }
+        ensures { Writes self.old self.new number
+            (insert (items_of (node_of self.old number)) index item)
+            (with_child (children_of (node_of self.old number)) place child) }
+    {
+        let node = &mut self.nodes[number];
+        node.cells.insert(index, Some(item));
+        put_child(&mut self.lists, node.list, place, child);
+    }
+
+    // Takes the item at an index out of a node, and the child at `place`, if there is one.
+    fn take_beside(&mut self, number: usize, index: usize, place: usize) -> (T, Option<usize>)
+        requires present { HasNode self.old number }
+        requires within { index < length (items_of (node_of self.old number)) }
+        ensures item { result.0
+            ≡ slice_index_or (items_of (node_of self.old number)) index result.0 }
+        ensures child { result.1 ≡ slice_get (children_of (node_of self.old number)) place }
+        ensures rest { Writes self.old self.new number
+            (remove (items_of (node_of self.old number)) index)
+            (remove (children_of (node_of self.old number)) place) }
+    {
+        let node = &mut self.nodes[number];
+        let item = take_filled(&mut node.cells, index);
+        let child = take_child(&mut self.lists, node.list, place);
+        (item, child)
+    }
+
+    // Moves all that a node has to the end of another, with an item between.
+    fn append(&mut self, left: usize, middle: T, right: usize)
+        requires left { HasNode self.old left }
+        requires right { HasNode self.old right }
+        requires apart { left ≢ right }
+        requires room { length (items_of (node_of self.old left)) + 1
+            + length (items_of (node_of self.old right)) ≤ CAPACITY }
+        requires children { (length (children_of (node_of self.old right)) ≡ 0)
+            ⊎ (0 < length (children_of (node_of self.old left))) }
+        requires places { length (children_of (node_of self.old left))
+            + length (children_of (node_of self.old right)) ≤ CHILD_PLACES }
+        ensures { Absorbs self.old self.new left middle right }
+    {
+        let Node { cells, list } = self.nodes.remove(right);
+        let node = &mut self.nodes[left];
+        node.cells.push(Some(middle));
+        append_cells(&mut node.cells, cells);
+        append_list(&mut self.lists, node.list, list);
+    }
+}

@@ -1,0 +1,235 @@
+//! Edges between the items of the tree, each with the path to it, and the steps from one to the
+//! next.
+ghost use Rattle.std.specs.Prelude.{◌≡◌, ℕ, suc, ◌+◌, ◌-◌, ◌*◌, ◌%◌, ◌/◌, ◌^◌, ◌<◌, ◌≤◌, length, MatchOption};
+ghost use Rattle.range_store.specs.Nodes.{items_below, ShapedBut};
+ghost use Rattle.range_store.specs.Edges.{turn, inside, seat_of, is_start, IsEdge, place, home_of};
+
+use crate::btree::nodes::{CAPACITY, Nodes};
+
+// A path has a digit for each level: the child through which it goes, from the lowest digit on.
+pub const PATH_BASE: u128 = 16;
+
+// No tree has more levels: not so many items fit in memory.
+pub const MAX_LEVELS: usize = 32;
+
+/// A place between two items of a `BoxStorage`: an index in a leaf, and the path to that. It stands
+/// for the item before it.
+#[derive(Clone, Copy)]
+pub struct Edge {
+    pub(crate) path: u128,
+    pub(crate) leaf: usize,
+    pub(crate) index: usize,
+}
+
+// Where an item stands: its node, and its index there.
+#[derive(Clone, Copy)]
+pub struct Home {
+    pub node: usize,
+    pub index: usize,
+}
+
+// The child through which the path goes first.
+pub fn first_turn(edge: Edge) -> usize
+    ensures { result ≡ turn edge }
+{
+    (edge.path % PATH_BASE) as usize
+}
+
+// The edge as that child sees it.
+pub fn seen_inside(edge: Edge) -> Edge
+    ensures { result ≡ inside edge }
+{
+    Edge {
+        leaf: edge.leaf,
+        path: edge.path / PATH_BASE,
+        index: edge.index,
+    }
+}
+
+// The edge as the node above sees it, of which it is below the child at `index`.
+pub fn seen_above(edge: Edge, index: usize) -> Edge
+    requires index { index ≤ CAPACITY }
+    requires path { edge.path < 2 ^ 124 }
+    ensures turn { turn result ≡ index }
+    ensures inside { inside result ≡ edge }
+{
+    Edge {
+        leaf: edge.leaf,
+        path: edge.path * PATH_BASE + index as u128,
+        index: edge.index,
+    }
+}
+
+// The edge at a seat of a node: between the items of a leaf, or below the child at that index.
+pub fn edge_at(below: usize, number: usize, seat: usize, inner: Edge) -> Edge
+    requires seat { seat ≤ CAPACITY }
+    requires path { 0 < below → inner.path < 2 ^ 124 }
+    ensures leaf { below ≡ 0 → result ≡ record { leaf = number; path = 0; index = seat } }
+    ensures turn { 0 < below → turn result ≡ seat }
+    ensures inside { 0 < below → inside result ≡ inner }
+{
+    if below == 0 {
+        return Edge {
+            leaf: number,
+            path: 0,
+            index: seat,
+        };
+    }
+    seen_above(inner, seat)
+}
+
+// The seat of an edge in the node that it is seen from.
+pub fn seat(below: usize, edge: Edge) -> usize
+    ensures { result ≡ seat_of below edge }
+{
+    if below == 0 {
+        edge.index
+    } else {
+        first_turn(edge)
+    }
+}
+
+// Whether the edge stands before all items below the node that it is seen from.
+pub fn stands_first(edge: Edge) -> bool
+    ensures { result ≡ is_start edge }
+{
+    edge.path == 0 && edge.index == 0
+}
+
+// The edge before all items below a node.
+pub fn first_edge<T: Drop>(nodes: &Nodes<T>, below: usize, number: usize) -> Edge
+    requires shaped { ShapedBut 1 CAPACITY nodes.now below number }
+    requires deep { below < MAX_LEVELS }
+    ensures edge { IsEdge nodes.now below number result }
+    ensures place { place nodes.now below number result ≡ 0 }
+{
+    let mut leaf = number;
+    let mut left = below;
+    'down: while left > 0 {
+        leaf = nodes.child_at(leaf, 0);
+        left -= 1;
+    }
+    Edge {
+        leaf,
+        path: 0,
+        index: 0,
+    }
+}
+
+// The edge after all items below a node.
+pub fn end_edge<T: Drop>(nodes: &Nodes<T>, below: usize, number: usize) -> Edge
+    requires shaped { ShapedBut 1 CAPACITY nodes.now below number }
+    requires deep { below < MAX_LEVELS }
+    ensures edge { IsEdge nodes.now below number result }
+    ensures place { place nodes.now below number result
+        ≡ length (items_below nodes.now (suc below) number) }
+{
+    let mut leaf = number;
+    let mut left = below;
+    let mut path: u128 = 0;
+    let mut weight: u128 = 1;
+    'down: while left > 0 {
+        let last = nodes.item_count(leaf);
+        path += weight * (last as u128);
+        weight *= PATH_BASE;
+        leaf = nodes.child_at(leaf, last);
+        left -= 1;
+    }
+    Edge {
+        leaf,
+        path,
+        index: nodes.item_count(leaf),
+    }
+}
+
+// The edge after the item after an edge below a node.
+pub fn following<T: Drop>(nodes: &Nodes<T>, below: usize, number: usize, edge: Edge) -> Option<Edge>
+    requires shaped { ShapedBut 1 CAPACITY nodes.now below number }
+    requires deep { below < MAX_LEVELS }
+    requires edge { IsEdge nodes.now below number edge }
+    ensures { MatchOption result
+        (place nodes.now below number edge ≡ length (items_below nodes.now (suc below) number))
+        (λ h. IsEdge nodes.now below number h
+        × (place nodes.now below number h ≡ place nodes.now below number edge + 1)) }
+{
+    if below == 0 {
+        if edge.index == nodes.item_count(number) {
+            return None;
+        }
+        return Some(Edge {
+            leaf: number,
+            path: 0,
+            index: edge.index + 1,
+        });
+    }
+    let index = first_turn(edge);
+    let child = nodes.child_at(number, index);
+    if let Some(later) = following(nodes, below - 1, child, seen_inside(edge)) {
+        return Some(seen_above(later, index));
+    }
+    if index == nodes.item_count(number) {
+        return None;
+    }
+    let next = nodes.child_at(number, index + 1);
+    Some(seen_above(first_edge(nodes, below - 1, next), index + 1))
+}
+
+// The edge before the item before an edge below a node.
+pub fn edge_before<T: Drop>(
+    nodes: &Nodes<T>,
+    below: usize,
+    number: usize,
+    edge: Edge,
+) -> Option<Edge>
+    requires shaped { ShapedBut 1 CAPACITY nodes.now below number }
+    requires deep { below < MAX_LEVELS }
+    requires edge { IsEdge nodes.now below number edge }
+    ensures { MatchOption result (place nodes.now below number edge ≡ 0)
+        (λ h. IsEdge nodes.now below number h
+        × (place nodes.now below number h + 1 ≡ place nodes.now below number edge)) }
+{
+    if below == 0 {
+        if edge.index == 0 {
+            return None;
+        }
+        return Some(Edge {
+            leaf: number,
+            path: 0,
+            index: edge.index - 1,
+        });
+    }
+    let index = first_turn(edge);
+    let child = nodes.child_at(number, index);
+    if let Some(earlier) = edge_before(nodes, below - 1, child, seen_inside(edge)) {
+        return Some(seen_above(earlier, index));
+    }
+    if index == 0 {
+        return None;
+    }
+    let last = nodes.child_at(number, index - 1);
+    Some(seen_above(end_edge(nodes, below - 1, last), index - 1))
+}
+
+// Where the item before an edge stands, of which there is one below the node.
+pub fn find_home<T: Drop>(nodes: &Nodes<T>, below: usize, number: usize, edge: Edge) -> Home
+    requires shaped { ShapedBut 1 CAPACITY nodes.now below number }
+    requires edge { IsEdge nodes.now below number edge }
+    requires some { 0 < place nodes.now below number edge }
+    ensures { result ≡ home_of nodes.now below number edge }
+{
+    if below == 0 {
+        return Home {
+            node: number,
+            index: edge.index - 1,
+        };
+    }
+    let index = first_turn(edge);
+    let inner = seen_inside(edge);
+    if stands_first(inner) {
+        return Home {
+            node: number,
+            index: index - 1,
+        };
+    }
+    find_home(nodes, below - 1, nodes.child_at(number, index), inner)
+}
