@@ -1,3 +1,5 @@
+pub mod Arena
+pub mod Blocks
 pub mod Cells
 pub mod Contents
 pub mod Counting
