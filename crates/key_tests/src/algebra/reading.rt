@@ -45,6 +45,20 @@ fn reads_excluded_starts(rt: HostRuntime) {
     expect_range(&rt, "3...=6", closed.into_range(), (4i32..=6).into_range());
 }
 
+/// Whether what is read as a range holds a key.
+fn holds<R: AsRange<Item = i32>>(range: R, key: i32) -> bool {
+    range.intersects(&key)
+}
+
+#[test]
+fn reads_ranges_behind_references(rt: HostRuntime) {
+    let range = through(3, 5);
+    expect_answer(&rt, "5 in &(3..=5)", holds(&range, 5), true);
+    expect_answer(&rt, "5 in &(3..5)", holds(&(3..5), 5), false);
+    expect_answer(&rt, "5 in &&(3..)", holds(&&(3..), 5), true);
+    expect_range(&rt, "&(3..=5)", (&range).into_range(), range);
+}
+
 /// Whether a key is read as the range from it to itself.
 fn is_alone<T: IntoRange<Item = T> + Measure + Copy>(key: T) -> bool {
     key.into_range() == (key..=key).into_range()

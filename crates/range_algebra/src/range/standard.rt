@@ -132,3 +132,24 @@ impl<T: Measure> IntoRange for AnyRange<T> {
         self
     }
 }
+
+/// The range that is referred to, as one that a map lends.
+impl<'a, R: AsRange> AsRange for &'a R {
+    type Item = R::Item;
+
+    ghost range = { λ r. R.range r.now };
+
+    fn start(&self) -> Bound<&R::Item> {
+        R::start(*self)
+    }
+
+    fn end(&self) -> Bound<&R::Item> {
+        R::end(*self)
+    }
+}
+
+impl<'a, R: IntoRange + Copy> IntoRange for &'a R {
+    fn into_range(self) -> AnyRange<R::Item> {
+        R::into_range(*self)
+    }
+}
