@@ -59,6 +59,7 @@ pub mod Splices
 pub mod Splitting
 pub mod StoredLists
 pub mod Surrounded
+pub mod Tests
 pub mod Together
 pub mod UpdatedLists
 pub mod WalkStarts
