@@ -24,6 +24,7 @@ pub mod Extents
 pub mod FirstPieces
 pub mod Forms
 pub mod Found
+pub mod Gathering
 pub mod FreeParts
 pub mod Freeing
 pub mod GapBounds
