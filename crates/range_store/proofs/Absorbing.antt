@@ -1,15 +1,15 @@
 -- A node that took over another's items and children.
-use Rattle.std.proofs.Common.{◌≡◌, ◌≢◌, ◌⊎◌, ℕ, ◌+◌, ◌<◌, List, [], ◌∷◌, ◌++◌, length, Option, Some, None, refl, sym, ap, subst, ◌∙◌}
-use Rattle.std.proofs.lemmas.List.{append_assoc}
-use Rattle.slab.specs.Slab.{Slab, get, slab_len, with_value, Updates}
+use Rattle.std.proofs.Common.{◌≡◌, ◌≢◌, ◌⊎◌, ℕ, ◌+◌, ◌<◌, List, ◌∷◌, ◌++◌, length, None, sym, ap, subst, ◌∙◌}
+use Rattle.slab.specs.Slab.{Slab}
 use Rattle.arrayvec.specs.ArrayVec.{ArrayVec}
-use Rattle.range_store.specs.declared.btree.nodes.Node.{Node}
 use Rattle.range_store.specs.declared.btree.nodes.TheConstants.{NO_LIST}
-use Rattle.range_store.specs.Heap.{full_cells, node_of, items_of, children_of, Absorbs}
-use Rattle.range_store.specs.Cells.{list_in, list_of, heap_of, IsWhole, WritesList, AppendsList}
-use Rattle.range_store.proofs.FullCells.{full_append}
+use Rattle.range_store.specs.Blocks.{Table, block_of, HasBlock, items_held, list_held, WritesBlock, RemovesBlock}
+use Rattle.range_store.specs.Division.{WritesBoth}
+use Rattle.range_store.specs.Heap.{node_of, items_of, children_of, Absorbs}
+use Rattle.range_store.specs.ChildLists.{list_in, heap_of, IsWhole, WritesList, AppendsList}
 use Rattle.range_store.proofs.Steps.{removed, removed_whole, written, written_whole}
-use Rattle.range_store.proofs.Wholes.{node_cells, node_children}
+use Rattle.range_store.proofs.Tables.{with_block, removes_slot, writes_after}
+use Rattle.range_store.proofs.Wholes.{node_items, node_children}
 
 pub children_alike : (rights lefts others those : List ℕ) → rights ≡ others → lefts ≡ those
     → (length rights ≡ 0) ⊎ (0 < length lefts) → (length others ≡ 0) ⊎ (0 < length those)
@@ -17,73 +17,75 @@ children_alike rights lefts others those right left either =
     subst (λ ks. (length ks ≡ 0) ⊎ (0 < length those)) right
     (subst (λ ks. (length rights ≡ 0) ⊎ (0 < length ks)) left either)
 
-module _ {T : Type 0} (nodes : Slab (Node T)) (lists : Slab (ArrayVec ℕ))
-    (whole : IsWhole nodes lists) (l r : ℕ) (left right : Node T)
-    (left_found : get nodes l ≡ Some left) (right_found : get nodes r ≡ Some right)
-    (apart : l ≢ r) where
-  pub lists_apart : right.list ≢ NO_LIST → left.list ≢ right.list
-  lists_apart some same =
-      apart (sym (whole.apart r l (λ none. some (sym (ap list_of right_found) ∙ none))
-      (ap list_of right_found ∙ sym same ∙ sym (ap list_of left_found))))
+module _ {T : Type 0} (blocks moved new : Table T) (lists new_lists : Slab (ArrayVec ℕ))
+    (whole : IsWhole blocks lists) (l r : ℕ) (apart : l ≢ r) where
+  pub lists_apart : list_held (block_of blocks r) ≢ NO_LIST
+      → list_held (block_of blocks l) ≢ list_held (block_of blocks r)
+  lists_apart some same = apart (sym (whole.apart r l some (sym same)))
 
-  module _ (middle : T) (left_nodes : Slab (Node T)) (new_lists : Slab (ArrayVec ℕ))
-      (more : List (Option T)) (cells : ArrayVec (Option T))
-      (updates : Updates nodes left_nodes r None) (len : slab_len left_nodes + 1 ≡ slab_len nodes)
-      (capacity : left_nodes.capacity ≡ nodes.capacity)
-      (appends : AppendsList lists new_lists left.list right.list)
-      (pushed : more ≡ left.cells.items ++ Some middle ∷ [])
-      (joined : cells.items ≡ more ++ right.cells.items) where
+  module _ (middle : T) (left : HasBlock blocks l) (right : HasBlock blocks r) (rest : List T)
+      (both : WritesBoth blocks moved l r
+      (items_held (block_of blocks l) ++ middle ∷ items_held (block_of blocks r)) rest)
+      (removes : RemovesBlock moved new r)
+      (appends : AppendsList lists new_lists (list_held (block_of blocks l))
+      (list_held (block_of blocks r))) where
+    abbrev between : Table T
+    between = with_block blocks r None
+
+    abbrev all : List T
+    all = items_held (block_of blocks l) ++ middle ∷ items_held (block_of blocks r)
+
     abbrev items : List T
-    items = items_of (node_of (heap_of nodes lists) l) ++ middle ∷ items_of
-        (node_of (heap_of nodes lists) r)
+    items = items_of (node_of (heap_of blocks lists) l) ++ middle ∷ items_of
+        (node_of (heap_of blocks lists) r)
 
     abbrev children : List ℕ
-    children = children_of (node_of (heap_of nodes lists) l) ++ children_of
-        (node_of (heap_of nodes lists) r)
+    children = children_of (node_of (heap_of blocks lists) l) ++ children_of
+        (node_of (heap_of blocks lists) r)
 
-    abbrev new : Node T
-    new = record { cells = cells; list = left.list }
+    same_items : all ≡ items
+    same_items =
+        ap (λ xs. xs ++ middle ∷ items_held (block_of blocks r))
+        (sym (node_items blocks lists l))
+        ∙ ap (λ xs. items_of (node_of (heap_of blocks lists) l) ++ middle ∷ xs)
+        (sym (node_items blocks lists r))
 
-    full : cells.items ≡ full_cells items
-    full =
-        let lefts = node_cells nodes lists whole l left left_found in
-        let rights = node_cells nodes lists whole r right right_found in
-        joined
-        ∙ ap (λ cs. cs ++ right.cells.items) pushed
-        ∙ append_assoc left.cells.items (Some middle ∷ []) right.cells.items
-        ∙ ap (λ cs. cs ++ Some middle ∷ right.cells.items) lefts
-        ∙ ap (λ cs. full_cells (items_of (node_of (heap_of nodes lists) l)) ++ Some middle ∷ cs)
-        rights
-        ∙ full_append (items_of (node_of (heap_of nodes lists) l))
-        (middle ∷ items_of (node_of (heap_of nodes lists) r))
+    same_children : list_in lists (list_held (block_of blocks l)) ++ list_in lists
+        (list_held (block_of blocks r)) ≡ children
+    same_children =
+        ap (λ ks. ks ++ list_in lists (list_held (block_of blocks r)))
+        (sym (node_children blocks lists whole l))
+        ∙ ap (λ ks. children_of (node_of (heap_of blocks lists) l) ++ ks)
+        (sym (node_children blocks lists whole r))
 
-    writes : WritesList appends.between new_lists left.list children
+    without : IsWhole between appends.between
+    without = removed_whole blocks between lists appends.between r whole
+        (removes_slot blocks r right) appends.dropped
+
+    still : list_held (block_of between l) ≡ list_held (block_of blocks l)
+    still = ap list_held ((removes_slot blocks r right).others l apart)
+
+    writes : WritesList appends.between new_lists (list_held (block_of between l)) children
     writes =
-        let lefts = node_children nodes lists whole l left left_found in
-        let rights = node_children nodes lists whole r right right_found in
-        subst (λ ks. WritesList appends.between new_lists left.list
-        (ks ++ children_of (node_of (heap_of nodes lists) r))) (sym lefts)
-        (subst (λ ks. WritesList appends.between new_lists left.list
-        (list_in lists left.list ++ ks)) (sym rights) appends.written)
+        subst (λ key. WritesList appends.between new_lists key children) (sym still)
+        (subst (λ ks. WritesList appends.between new_lists (list_held (block_of blocks l)) ks)
+        same_children appends.written)
 
-    without : IsWhole left_nodes appends.between
-    without = removed_whole nodes lists r whole right right_found left_nodes appends.between updates
-        len capacity appends.dropped
+    block : WritesBlock between new l items
+    block =
+        subst (λ xs. WritesBlock between new l xs) same_items
+        (writes_after blocks moved new l r all rest apart both left right removes)
 
-    still : get left_nodes l ≡ Some left
-    still = updates.others l apart ∙ left_found
+    pub absorbed_whole : IsWhole new new_lists
+    absorbed_whole = written_whole between new appends.between new_lists l without items children
+        block writes
 
-    pub absorbed_whole : IsWhole (with_value left_nodes l new) new_lists
-    absorbed_whole = written_whole left_nodes appends.between l without left still new_lists new
-        items children refl full writes
-
-    pub absorbed : Absorbs (heap_of nodes lists) (heap_of (with_value left_nodes l new) new_lists) l
-        middle r
+    pub absorbed : Absorbs (heap_of blocks lists) (heap_of new new_lists) l middle r
     absorbed =
         record {
-          between = heap_of left_nodes appends.between;
-          right = removed nodes lists r whole right right_found left_nodes appends.between updates
-              len capacity appends.dropped;
-          left = written left_nodes appends.between l without left still new_lists new items
-              children refl full writes;
+          between = heap_of between appends.between;
+          right = removed blocks between lists appends.between r whole
+              (removes_slot blocks r right) appends.dropped;
+          left = written between new appends.between new_lists l without items children block
+              writes;
         }

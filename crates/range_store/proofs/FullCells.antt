@@ -4,7 +4,7 @@ use Rattle.std.proofs.Math.ListN.{set}
 use Rattle.std.specs.List.{insert, remove}
 use Rattle.std.proofs.lemmas.List.{length-map, map-append, map-set, take-map, drop-map}
 use Rattle.range_store.specs.Heap.{full_cells}
-use Rattle.range_store.specs.Cells.{items_in, IsFull}
+use Rattle.range_store.specs.Arena.{items_in, IsFull}
 
 module _ {T : Type 0} where
   pub items_in_full : (xs : List T) → items_in (full_cells xs) ≡ xs

@@ -7,7 +7,7 @@ use Rattle.std.proofs.lemmas.Option.{none-some}
 use Rattle.slab.specs.Slab.{Slab, get, slab_len, with_value, Updates}
 use Rattle.range_store.specs.declared.btree.nodes.TheConstants.{NO_LIST}
 use Rattle.arrayvec.specs.ArrayVec.{ArrayVec}
-use Rattle.range_store.specs.Cells.{numbers_of, list_in, list_count, WritesList, StoresList, DropsList, DividesList, AppendsList}
+use Rattle.range_store.specs.ChildLists.{numbers_of, list_in, list_count, WritesList, StoresList, DropsList, DividesList, AppendsList}
 
 module _ {X : Type 0} where
   pub some_value : (slot : Option X) → IsSome slot → (value : X) × (slot ≡ Some value)

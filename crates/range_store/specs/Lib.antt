@@ -1,9 +1,10 @@
 pub mod Arena
 pub mod Blocks
-pub mod Cells
+pub mod ChildLists
 pub mod Contents
 pub mod Counting
 pub mod Depth
+pub mod Division
 pub mod Edges
 pub mod Falling
 pub mod Frame

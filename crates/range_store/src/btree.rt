@@ -5,7 +5,8 @@ ghost use Rattle.range_store.specs.Depth.{HasLevels};
 ghost use Rattle.range_store.specs.Nodes.{items_below, IsRoomy, IsRoomy-prop};
 
 mod blocks;
-mod cells;
+mod child_lists;
+mod division;
 mod insertion;
 mod nodes;
 mod path;

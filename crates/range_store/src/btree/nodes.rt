@@ -4,10 +4,11 @@ ghost use Rattle.std.specs.Borrow.{Lends, sem};
 ghost use Rattle.slab.specs.Slab.{get, ContainsKey};
 ghost use Rattle.range_store.specs.Heap.{node_of, HasNode, items_of, children_of, full_cells, node_count, HasRoomFor, with_child, with_item, FitsChild, Writes, Stores, Removes, Divides, left_items, right_items, HasPair, RotatesLeft, RotatesRight, Merges, Absorbs};
 
-use crate::btree::cells::{
-    append_cells, append_list, divide_cells, divide_children, drop_list, filled, put_child,
-    store_list, take_child, take_filled,
+use crate::btree::blocks::Blocks;
+use crate::btree::child_lists::{
+    append_list, divide_children, drop_list, put_child, store_list, take_child,
 };
+use crate::btree::division::divide;
 use arrayvec::ArrayVec;
 use slab::Slab;
 use std::alloc::{AllocError, Global};
@@ -28,20 +29,11 @@ pub const CHILD_PLACES: usize = CAPACITY + 1;
 // The list of a node that has no children.
 pub const NO_LIST: usize = usize::MAX;
 
-// Cells with an item each, and the list in which the children lie.
-#[derive(Drop)]
-struct Node<T> {
-    cells: ArrayVec<Option<T>, CAPACITY>,
-    list: usize,
-}
-
 /// Nodes under numbers, each with items and the numbers of its children.
 #[derive(Drop)]
 pub struct Nodes<T> {
-    nodes: Slab<Node<T>>,
+    blocks: Blocks<T>,
     lists: Slab<ArrayVec<usize, CHILD_PLACES>>,
-    // It holds nothing: by it the proof knows that a node fits in memory.
-    spare: Node<T>,
 }
 
 impl<T> Model for Nodes<T> {
@@ -51,11 +43,11 @@ impl<T> Model for Nodes<T> {
 
     ghost coded = { heap_code T.code };
 
-    ghost use Rattle.range_store.specs.Cells.{heap_of, IsWhole};
+    ghost use Rattle.range_store.specs.ChildLists.{heap_of, IsWhole};
 
-    ghost view = { λ s. heap_of s.nodes s.lists };
+    ghost view = { λ s. heap_of s.blocks s.lists };
 
-    ghost invariant = { λ s. IsWhole s.nodes s.lists };
+    ghost invariant = { λ s. IsWhole s.blocks s.lists };
 }
 
 /// A node was cut in two: `middle` stands between it and `right`.
@@ -74,12 +66,8 @@ impl<T: Drop> Nodes<T> {
         ensures capacity { result.capacity ≡ 0 }
     {
         Nodes {
-            nodes: Slab::new(alloc),
+            blocks: Blocks::new(alloc),
             lists: Slab::new(alloc),
-            spare: Node {
-                cells: ArrayVec::new(),
-                list: NO_LIST,
-            },
         }
     }
 
@@ -87,7 +75,7 @@ impl<T: Drop> Nodes<T> {
     pub fn len(&self) -> usize
         ensures { result ≡ node_count self.now }
     {
-        self.nodes.len()
+        self.blocks.len()
     }
 
     /// How many nodes there can be without an allocation.
@@ -95,7 +83,7 @@ impl<T: Drop> Nodes<T> {
         ensures value { result ≡ self.now.capacity }
         ensures holds_all { node_count self.now ≤ result }
     {
-        self.nodes.capacity().min(self.lists.capacity())
+        self.blocks.capacity().min(self.lists.capacity())
     }
 
     /// Makes room for so many more nodes.
@@ -105,10 +93,10 @@ impl<T: Drop> Nodes<T> {
         ensures no_less { self.old.capacity ≤ self.new.capacity }
         ensures rest_kept { self.new ≡ record self.old { capacity = self.new.capacity } }
     {
-        self.nodes.reserve(additional)?;
+        self.blocks.reserve(additional)?;
         // Tells the proof that a `usize` counts the nodes and `additional` more.
-        let _capacity = self.nodes.capacity();
-        let wanted = self.nodes.len() + additional;
+        let _capacity = self.blocks.capacity();
+        let wanted = self.blocks.len() + additional;
         self.lists.reserve(wanted - self.lists.len())
     }
 
@@ -117,7 +105,7 @@ impl<T: Drop> Nodes<T> {
         requires { HasNode self.now number }
         ensures { result ≡ length (items_of (node_of self.now number)) }
     {
-        self.nodes[number].cells.len()
+        self.blocks.item_count(number)
     }
 
     /// The item of a node at an index.
@@ -127,10 +115,7 @@ impl<T: Drop> Nodes<T> {
         ensures { result.now
             ≡ slice_index_or (items_of (node_of self.now number)) index result.now }
     {
-        match &self.nodes[number].cells.as_slice()[index] {
-            Some(item) => item,
-            None => unreachable!(),
-        }
+        self.blocks.item_at(number, index)
     }
 
     /// The child of a node at an index.
@@ -139,7 +124,7 @@ impl<T: Drop> Nodes<T> {
         requires within { index < length (children_of (node_of self.now number)) }
         ensures { result ≡ slice_index (children_of (node_of self.now number)) index }
     {
-        self.lists[self.nodes[number].list].as_slice()[index]
+        self.lists[self.blocks.list(number)].as_slice()[index]
     }
 
     /// The children of a node, by their numbers.
@@ -147,7 +132,7 @@ impl<T: Drop> Nodes<T> {
         requires { HasNode self.now number }
         ensures { result.now ≡ children_of (node_of self.now number) }
     {
-        let list = self.nodes[number].list;
+        let list = self.blocks.list(number);
         if list == NO_LIST {
             return &[];
         }
@@ -159,7 +144,7 @@ impl<T: Drop> Nodes<T> {
         requires { HasNode self.now number }
         ensures { result.now ≡ full_cells (items_of (node_of self.now number)) }
     {
-        self.nodes[number].cells.as_slice()
+        self.blocks.cells(number)
     }
 
     /// The item of a node at an index, to be changed where it stands.
@@ -171,10 +156,7 @@ impl<T: Drop> Nodes<T> {
         ensures value { result.now
             ≡ slice_index_or (items_of (node_of self.old number)) index result.now }
     {
-        match self.nodes[number].cells.get_mut(index) {
-            Some(cell) => filled(cell),
-            None => unreachable!(),
-        }
+        self.blocks.item_mut(number, index)
     }
 
     /// Puts an item in the place of the one at an index, which it returns.
@@ -215,10 +197,10 @@ impl<T: Drop> Nodes<T> {
             (with_child (children_of (node_of self.old number)) (index + 1) child) result.middle
             result.right }
     {
-        let node = &mut self.nodes[number];
-        let (middle, cells) = divide_cells(&mut node.cells, index, item);
-        let list = divide_children(&mut self.lists, node.list, index + 1, child);
-        let right = self.nodes.insert_reserved(Node { cells, list });
+        let list = self.blocks.list(number);
+        let upper = divide_children(&mut self.lists, list, index + 1, child);
+        let right = self.blocks.store(upper);
+        let middle = divide(&mut self.blocks, number, right, index, item);
         Split { middle, right }
     }
 
@@ -231,7 +213,7 @@ impl<T: Drop> Nodes<T> {
             (remove (items_of (node_of self.old number)) index)
             (children_of (node_of self.old number)) }
     {
-        take_filled(&mut self.nodes[number].cells, index)
+        self.blocks.remove(number, index)
     }
 
     /// Stores a new node with one item and no child.
@@ -239,12 +221,9 @@ impl<T: Drop> Nodes<T> {
         requires { HasRoomFor self.old 1 }
         ensures { Stores self.old self.new result (item ∷ []) [] }
     {
-        let mut cells = ArrayVec::new();
-        cells.push(Some(item));
-        self.nodes.insert_reserved(Node {
-            cells,
-            list: NO_LIST,
-        })
+        let number = self.blocks.store(NO_LIST);
+        self.blocks.insert(number, 0, item);
+        number
     }
 
     /// Stores a new node with one item and two children.
@@ -252,13 +231,13 @@ impl<T: Drop> Nodes<T> {
         requires { HasRoomFor self.old 1 }
         ensures { Stores self.old self.new result (middle ∷ []) (left ∷ right ∷ []) }
     {
-        let mut cells = ArrayVec::new();
-        cells.push(Some(middle));
         let mut children = ArrayVec::new();
         children.push(left);
         children.push(right);
         let list = store_list(&mut self.lists, children);
-        self.nodes.insert_reserved(Node { cells, list })
+        let number = self.blocks.store(list);
+        self.blocks.insert(number, 0, middle);
+        number
     }
 
     /// Takes a node away, with its items.
@@ -266,8 +245,8 @@ impl<T: Drop> Nodes<T> {
         requires { HasNode self.old number }
         ensures { Removes self.old self.new number }
     {
-        let node = self.nodes.remove(number);
-        drop_list(&mut self.lists, node.list);
+        let list = self.blocks.remove_block(number);
+        drop_list(&mut self.lists, list);
     }
 
     /// Moves an item from the child after the item at `index` of a node to the one before it.
@@ -336,9 +315,9 @@ impl<T: Drop> Nodes<T> {
             (insert (items_of (node_of self.old number)) index item)
             (with_child (children_of (node_of self.old number)) place child) }
     {
-        let node = &mut self.nodes[number];
-        node.cells.insert(index, Some(item));
-        put_child(&mut self.lists, node.list, place, child);
+        self.blocks.insert(number, index, item);
+        let list = self.blocks.list(number);
+        put_child(&mut self.lists, list, place, child);
     }
 
     // Takes the item at an index out of a node, and the child at `place`, if there is one.
@@ -352,9 +331,9 @@ impl<T: Drop> Nodes<T> {
             (remove (items_of (node_of self.old number)) index)
             (remove (children_of (node_of self.old number)) place) }
     {
-        let node = &mut self.nodes[number];
-        let item = take_filled(&mut node.cells, index);
-        let child = take_child(&mut self.lists, node.list, place);
+        let item = self.blocks.remove(number, index);
+        let list = self.blocks.list(number);
+        let child = take_child(&mut self.lists, list, place);
         (item, child)
     }
 
@@ -371,10 +350,11 @@ impl<T: Drop> Nodes<T> {
             + length (children_of (node_of self.old right)) ≤ CHILD_PLACES }
         ensures { Absorbs self.old self.new left middle right }
     {
-        let Node { cells, list } = self.nodes.remove(right);
-        let node = &mut self.nodes[left];
-        node.cells.push(Some(middle));
-        append_cells(&mut node.cells, cells);
-        append_list(&mut self.lists, node.list, list);
+        let end = self.blocks.item_count(left);
+        self.blocks.insert(left, end, middle);
+        self.blocks.move_end(right, 0, left);
+        let upper = self.blocks.remove_block(right);
+        let lower = self.blocks.list(left);
+        append_list(&mut self.lists, lower, upper);
     }
 }

@@ -8,6 +8,6 @@ returns-clause-holds_all g c =
     omega (
       arith,
       ap node_count c.self.view_is,
-      nodes_count c.self.inside.nodes c.self.inside.lists,
+      nodes_count c.self.inside.blocks c.self.inside.lists,
       c.self.invariant.fits,
     )

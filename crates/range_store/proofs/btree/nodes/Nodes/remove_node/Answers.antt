@@ -1,26 +1,25 @@
+use Rattle.range_store.specs.ChildLists.{DropsList, IsListKey}
 use Rattle.range_store.proofs.Steps.{removed, removed_whole}
 use Rattle.range_store.proofs.Wholes.{list_key, node_there}
 use Rattle.range_store.proofs.btree.nodes.Nodes.remove_node.Goals as goal
 
+pub remove_block-list-requires : goal.remove_block-list-requires
+remove_block-list-requires g c = node_there c.self.inside.blocks c.self.inside.lists c.args.number
+    (rw (← c.self.view_is) at c.requires)
+
 pub drop_list-requires : goal.drop_list-requires
 drop_list-requires g c =
-    list_key c.self.inside.nodes c.self.inside.lists c.self.invariant c.args.number
-    c.remove-node.result c.remove-node.ensures.value
+    rw c.remove_block-list.ensures.list (list_key c.self.inside.blocks c.self.inside.lists
+    c.self.invariant c.args.number)
 
 pub invariant_of-self : goal.invariant_of-self
 invariant_of-self g c =
-    let removal = c.remove-node.ensures in
-    removed_whole c.self.inside.nodes c.self.inside.lists c.args.number c.self.invariant
-    c.remove-node.result removal.value c.remove-node.new.self c.drop_list.new.lists
-    removal.updates removal.len removal.capacity c.drop_list.ensures
+    removed_whole c.self.inside.blocks c.remove_block-list.new.self c.self.inside.lists
+    c.drop_list.new.lists c.args.number c.self.invariant c.remove_block-list.ensures.rest
+    (rw c.remove_block-list.ensures.list at c.drop_list.ensures)
 
 pub returns : goal.returns
 returns g c =
-    let removal = c.remove-node.ensures in
-    rw (← c.self.view_is) (removed c.self.inside.nodes c.self.inside.lists c.args.number
-    c.self.invariant c.remove-node.result removal.value c.remove-node.new.self
-    c.drop_list.new.lists removal.updates removal.len removal.capacity c.drop_list.ensures)
-
-pub remove-node-requires : goal.remove-node-requires
-remove-node-requires g c = node_there c.self.inside.nodes c.self.inside.lists c.args.number
-    (rw (← c.self.view_is) at c.requires)
+    rw (← c.self.view_is) (removed c.self.inside.blocks c.remove_block-list.new.self
+    c.self.inside.lists c.drop_list.new.lists c.args.number c.self.invariant
+    c.remove_block-list.ensures.rest (rw c.remove_block-list.ensures.list at c.drop_list.ensures))

@@ -1,34 +1,39 @@
-use Rattle.std.proofs.Common.{◌≡◌, [], ◌∷◌, ◌++◌, Some, ap, ◌∙◌}
-use Rattle.range_store.specs.Heap.{full_cells}
-use Rattle.range_store.proofs.Steps.{stored, stored_whole}
-use Rattle.range_store.proofs.Wholes.{list_room, node_room}
+use Rattle.std.proofs.Common.{[], ◌∷◌, refl, arith}
 use Rattle.range_store.proofs.Lists.{list_absent}
+use Rattle.range_store.proofs.Steps.{stored, stored_whole}
+use Rattle.range_store.proofs.Tables.{adds_first}
+use Rattle.range_store.proofs.Wholes.{block_room, list_room}
 use Rattle.range_store.proofs.btree.nodes.Nodes.store_leaf.Goals as goal
+
+pub store-number-requires : goal.store-number-requires
+store-number-requires g c = block_room c.self.inside.blocks c.self.inside.lists 1
+    (rw (← c.self.view_is) at c.requires)
+
+pub insert-requires-clause-present : goal.insert-requires-clause-present
+insert-requires-clause-present g c = rw c.store-number.ensures.stored refl
+
+pub insert-requires-clause-within : goal.insert-requires-clause-within
+insert-requires-clause-within g c = omega arith
+
+pub insert-requires-clause-room : goal.insert-requires-clause-room
+insert-requires-clause-room g c = rw c.store-number.ensures.stored (omega arith)
 
 pub invariant_of-self : goal.invariant_of-self
 invariant_of-self g c =
-    let nodes = c.self.inside.nodes in
+    let blocks = c.self.inside.blocks in
     let lists = c.self.inside.lists in
-    let added = c.insert_reserved.ensures in
-    let cells : c.push.new.self.items ≡ full_cells (c.args.item ∷ []) = c.push.ensures.items
-    ∙ ap (λ cs. cs ++ Some c.args.item ∷ []) c.new-cells.ensures in
-    stored_whole nodes lists c.insert_reserved.result c.self.invariant c.insert_reserved.new.self
-    lists _ (c.args.item ∷ []) [] added.was_vacant added.updates added.len added.capacity cells
-    (list_room nodes lists 1 (rw (← c.self.view_is) at c.requires))
+    stored_whole blocks c.insert.new.self lists lists c.store-number.result c.self.invariant _
+    (c.args.item ∷ []) [] (adds_first blocks c.store-number.new.self c.insert.new.self
+    c.store-number.result _ c.args.item c.store-number.ensures c.insert.ensures)
+    (list_room blocks lists 1 (rw (← c.self.view_is) at c.requires))
     (list_absent lists c.self.invariant.none)
 
 pub returns : goal.returns
 returns g c =
-    let nodes = c.self.inside.nodes in
+    let blocks = c.self.inside.blocks in
     let lists = c.self.inside.lists in
-    let added = c.insert_reserved.ensures in
-    let cells : c.push.new.self.items ≡ full_cells (c.args.item ∷ []) = c.push.ensures.items
-    ∙ ap (λ cs. cs ++ Some c.args.item ∷ []) c.new-cells.ensures in
-    rw (← c.self.view_is) (stored nodes lists c.insert_reserved.result c.self.invariant
-    c.insert_reserved.new.self lists _ (c.args.item ∷ []) [] added.was_vacant added.updates
-    added.len added.capacity cells (list_room nodes lists 1
-    (rw (← c.self.view_is) at c.requires)) (list_absent lists c.self.invariant.none))
-
-pub insert_reserved-requires : goal.insert_reserved-requires
-insert_reserved-requires g c = node_room c.self.inside.nodes c.self.inside.lists 1
-    (rw (← c.self.view_is) at c.requires)
+    rw (← c.self.view_is) (stored blocks c.insert.new.self lists lists c.store-number.result
+    c.self.invariant _ (c.args.item ∷ []) [] (adds_first blocks c.store-number.new.self
+    c.insert.new.self c.store-number.result _ c.args.item c.store-number.ensures
+    c.insert.ensures) (list_room blocks lists 1 (rw (← c.self.view_is) at c.requires))
+    (list_absent lists c.self.invariant.none))

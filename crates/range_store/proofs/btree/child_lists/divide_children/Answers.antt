@@ -1,8 +1,8 @@
 use Rattle.std.proofs.Common.{take, drop, sym, ap, ◌∙◌}
 use Rattle.std.specs.List.{insert}
-use Rattle.range_store.specs.Cells.{numbers_of, list_in}
+use Rattle.range_store.specs.ChildLists.{numbers_of, list_in}
 use Rattle.range_store.proofs.Lists.{list_divided}
-use Rattle.range_store.proofs.btree.cells.divide_children.Goals as goal
+use Rattle.range_store.proofs.btree.child_lists.divide_children.Goals as goal
 
 pub returns : goal.returns
 returns c =

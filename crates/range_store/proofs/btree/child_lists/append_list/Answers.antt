@@ -1,6 +1,6 @@
 use Rattle.std.proofs.Common.{◌++◌, ap, ◌∙◌}
 use Rattle.range_store.proofs.Lists.{list_appended}
-use Rattle.range_store.proofs.btree.cells.append_list.Goals as goal
+use Rattle.range_store.proofs.btree.child_lists.append_list.Goals as goal
 
 pub returns-then-left-ne-NO_LIST : goal.returns-then-left-ne-NO_LIST
 returns-then-left-ne-NO_LIST c =

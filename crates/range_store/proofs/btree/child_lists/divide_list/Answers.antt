@@ -1,7 +1,7 @@
 use Rattle.std.proofs.Common.{◌≡◌, ◌-◌, drop, sym, ap, ◌∙◌, arith}
 use Rattle.std.specs.List.{insert}
 use Rattle.range_store.proofs.Halves.{take_insert_before, take_insert_after, drop_insert_after, drop_insert_before}
-use Rattle.range_store.proofs.btree.cells.divide_list.Goals as goal
+use Rattle.range_store.proofs.btree.child_lists.divide_list.Goals as goal
 
 pub returns-then-index-le-HALF-clause-left : goal.returns-then-index-le-HALF-clause-left
 returns-then-index-le-HALF-clause-left c =

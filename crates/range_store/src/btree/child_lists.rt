@@ -1,103 +1,13 @@
-//! The steps of a change of nodes in one array of cells, or in one list of children.
-ghost use Rattle.std.specs.Prelude.{◌≡◌, ◌≢◌, ◌⊎◌, ℕ, ◌+◌, ◌-◌, ◌<◌, ◌≤◌, List, [], ◌∷◌, ◌++◌, length, take, drop, slice_get, slice_index_or, insert, remove, IsSome, None, Some};
-ghost use Rattle.std.specs.Borrow.{sem};
+//! The steps of a change of nodes in their lists of children.
+ghost use Rattle.std.specs.Prelude.{◌≡◌, ◌≢◌, ◌⊎◌, ℕ, ◌+◌, ◌<◌, ◌≤◌, length, take, drop, slice_get, insert, remove, None, Some};
 ghost use Rattle.std.specs.Option.{ForSome};
-ghost use Rattle.std.specs.Option.Follows.{option_follows_value};
 ghost use Rattle.slab.specs.Slab.{get, HasRoomFor};
-ghost use Rattle.range_store.specs.Heap.{full_cells, with_child};
-ghost use Rattle.range_store.specs.Cells.{items_in, IsFull, list_in, IsListKey, FitsPlaces, WritesList, StoresList, DropsList, DividesList, AppendsList};
+ghost use Rattle.range_store.specs.Heap.{with_child};
+ghost use Rattle.range_store.specs.ChildLists.{list_in, IsListKey, FitsPlaces, WritesList, StoresList, DropsList, DividesList, AppendsList};
 
-use crate::btree::nodes::{CAPACITY, CHILD_PLACES, HALF, NO_LIST};
+use crate::btree::nodes::{CHILD_PLACES, HALF, NO_LIST};
 use arrayvec::ArrayVec;
 use slab::Slab;
-
-// The item in a full cell.
-pub fn filled<T>(cell: &mut Option<T>) -> &mut T
-    requires { IsSome cell.old }
-    ensures* lends { sem 𝓛 (option_follows_value T.row cell.entry result) }
-    ensures value { cell.old ≡ Some result.now }
-{
-    match cell {
-        Some(item) => item,
-        None => unreachable!(),
-    }
-}
-
-// Takes the item at an index out.
-pub fn take_filled<T: Drop>(cells: &mut ArrayVec<Option<T>, CAPACITY>, index: usize) -> T
-    requires full { IsFull cells.old.items }
-    requires within { index < length (items_in cells.old.items) }
-    ensures value { result ≡ slice_index_or (items_in cells.old.items) index result }
-    ensures rest { cells.new.items ≡ full_cells (remove (items_in cells.old.items) index) }
-{
-    match cells.remove(index) {
-        Some(item) => item,
-        None => unreachable!(),
-    }
-}
-
-// The cells from `start` on, moved out.
-fn cells_from<T: Drop>(
-    cells: &mut ArrayVec<Option<T>, CAPACITY>,
-    start: usize,
-) -> ArrayVec<Option<T>, CAPACITY>
-    requires { start ≤ length cells.old.items }
-    ensures left { cells.new.items ≡ take start cells.old.items }
-    ensures right { result.items ≡ drop start cells.old.items }
-{
-    let _many = cells.len();
-    let mut upper = ArrayVec::new();
-    for cell in cells.drain(start..) {
-        upper.push(cell);
-    }
-    upper
-}
-
-// Puts an item into full cells, of which the first half stays; what follows the next is moved out.
-pub fn divide_cells<T: Drop>(
-    cells: &mut ArrayVec<Option<T>, CAPACITY>,
-    index: usize,
-    item: T,
-) -> (T, ArrayVec<Option<T>, CAPACITY>)
-    requires full { IsFull cells.old.items }
-    requires many { length (items_in cells.old.items) ≡ CAPACITY }
-    requires within { index ≤ CAPACITY }
-    ensures left { cells.new.items
-        ≡ full_cells (take HALF (insert (items_in cells.old.items) index item)) }
-    ensures middle { result.0
-        ≡ slice_index_or (insert (items_in cells.old.items) index item) HALF result.0 }
-    ensures right { result.1.items
-        ≡ full_cells (drop (HALF + 1) (insert (items_in cells.old.items) index item)) }
-{
-    if index == HALF {
-        let upper = cells_from(cells, HALF);
-        return (item, upper);
-    }
-    if index < HALF {
-        let upper = cells_from(cells, HALF);
-        let middle = take_filled(cells, HALF - 1);
-        cells.insert(index, Some(item));
-        return (middle, upper);
-    }
-    let mut upper = cells_from(cells, HALF + 1);
-    let middle = take_filled(cells, HALF);
-    upper.insert(index - HALF - 1, Some(item));
-    (middle, upper)
-}
-
-// Puts cells at the end of others.
-pub fn append_cells<T: Drop>(
-    cells: &mut ArrayVec<Option<T>, CAPACITY>,
-    mut others: ArrayVec<Option<T>, CAPACITY>,
-)
-    requires { length cells.old.items + length others.items ≤ CAPACITY }
-    ensures { cells.new.items ≡ cells.old.items ++ others.items }
-{
-    let _many = others.len();
-    for cell in others.drain(..) {
-        cells.push(cell);
-    }
-}
 
 // Puts a child, if there is one, at an index of a list.
 pub fn put_child(

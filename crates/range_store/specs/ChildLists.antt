@@ -1,11 +1,11 @@
--- How `Nodes` keeps its nodes: each with its items in full cells, and with its children, if it has
--- some, in a list beside. No public clause cites this file.
-use Rattle.std.specs.Prelude.{◌≡◌, ◌≢◌, ℕ, ◌+◌, ◌≤◌, ◌==◌, Bool, not, if◌then◌else◌, List, [], ◌++◌, length, map, take, drop, min, Option, Some, None, is_some, IsSome, count_by, filter_map}
+-- How `Nodes` keeps its nodes: each as a block of items, with its children, if it has some, in a
+-- list beside. No public clause cites this file.
+use Rattle.std.specs.Prelude.{◌≡◌, ◌≢◌, ℕ, ◌+◌, ◌≤◌, ◌==◌, Bool, not, if◌then◌else◌, List, [], ◌++◌, length, map, take, drop, min, Option, Some, None, is_some, IsSome, count_by}
 use Rattle.slab.specs.Slab.{Slab, get, slab_len}
 use Rattle.arrayvec.specs.ArrayVec.{ArrayVec}
-use Rattle.range_store.specs.declared.btree.nodes.Node.{Node}
 use Rattle.range_store.specs.declared.btree.nodes.TheConstants.{CHILD_PLACES, NO_LIST}
-use Rattle.range_store.specs.Heap.{Heap, Content, full_cells}
+use Rattle.range_store.specs.Blocks.{Block, Table, block_of, list_held, block_count}
+use Rattle.range_store.specs.Heap.{Heap, Content}
 
 -- the numbers in a list that may be absent
 abbrev pub numbers_of : Option (ArrayVec ℕ) → List ℕ
@@ -69,51 +69,31 @@ FitsPlaces None list = length list ≡ 0
 FitsPlaces (Some child) list = length list ≡ CHILD_PLACES
 
 module _ {T : Type 0} where
-  -- the items in cells
-  abbrev pub items_in : List (Option T) → List T
-  items_in cells = filter_map (λ cell. cell) cells
-
-  -- the fields of a node that may be absent
-  abbrev pub cells_of : Option (Node T) → List (Option T)
-  cells_of None = []
-  cells_of (Some node) = node.cells.items
-
-  abbrev pub list_of : Option (Node T) → ℕ
-  list_of None = NO_LIST
-  list_of (Some node) = node.list
-
-  abbrev pub has_list : Option (Node T) → Bool
-  has_list node = not (list_of node == NO_LIST)
+  abbrev pub has_list : Option (Block T) → Bool
+  has_list block = not (list_held block == NO_LIST)
 
   -- what a node has
-  abbrev pub content_of : Slab (ArrayVec ℕ) → Option (Node T) → Option (Content T)
+  abbrev pub content_of : Slab (ArrayVec ℕ) → Option (Block T) → Option (Content T)
   content_of lists None = None
-  content_of lists (Some node) = Some (record {
-    items = items_in node.cells.items;
-    children
-        = list_in lists node.list;
+  content_of lists (Some block) = Some (record {
+    items = block.items;
+    children = list_in lists block.list;
   })
 
   -- what all of them have
-  abbrev pub heap_of : Slab (Node T) → Slab (ArrayVec ℕ) → Heap T
-  heap_of nodes lists = record {
-    slots = map (content_of lists) nodes.slots;
+  abbrev pub heap_of : Table T → Slab (ArrayVec ℕ) → Heap T
+  heap_of blocks lists = record {
+    slots = map (content_of lists) blocks.slots;
     capacity = min
-        nodes.capacity lists.capacity;
+        blocks.capacity lists.capacity;
   }
 
-  -- each cell has an item
-  abbrev pub IsFull : List (Option T) → Type 0
-  IsFull cells = cells ≡ full_cells (items_in cells)
-
-  -- each cell is full, each list is that of one node, and there are no others; there is capacity
-  -- for one of each node
-  pub record IsWhole (nodes : Slab (Node T)) (lists : Slab (ArrayVec ℕ)) : Type 0 where
-    pub full : (n : ℕ) → IsFull (cells_of (get nodes n))
-    pub kept : (n : ℕ) → list_of (get nodes n) ≢ NO_LIST
-        → IsSome (get lists (list_of (get nodes n)))
-    pub apart : (n m : ℕ) → list_of (get nodes n) ≢ NO_LIST
-        → list_of (get nodes n) ≡ list_of (get nodes m) → n ≡ m
+  -- each list is that of one node, and there are no others; there is capacity for one of each node
+  pub record IsWhole (blocks : Table T) (lists : Slab (ArrayVec ℕ)) : Type 0 where
+    pub kept : (n : ℕ) → list_held (block_of blocks n) ≢ NO_LIST
+        → IsSome (get lists (list_held (block_of blocks n)))
+    pub apart : (n m : ℕ) → list_held (block_of blocks n) ≢ NO_LIST
+        → list_held (block_of blocks n) ≡ list_held (block_of blocks m) → n ≡ m
     pub none : get lists NO_LIST ≡ None
-    pub counted : slab_len lists ≡ count_by has_list nodes.slots
-    pub fits : slab_len nodes ≤ lists.capacity
+    pub counted : slab_len lists ≡ count_by has_list blocks.slots
+    pub fits : block_count blocks ≤ lists.capacity

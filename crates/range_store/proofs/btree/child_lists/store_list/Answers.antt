@@ -1,7 +1,7 @@
 use Rattle.std.proofs.Common.{◌≢◌, refl, arith}
 use Rattle.range_store.specs.declared.btree.nodes.TheConstants.{NO_LIST}
 use Rattle.range_store.proofs.Lists.{list_stored}
-use Rattle.range_store.proofs.btree.cells.store_list.Goals as goal
+use Rattle.range_store.proofs.btree.child_lists.store_list.Goals as goal
 
 pub returns : goal.returns
 returns c =
