@@ -2,6 +2,7 @@ pub mod AnswerLists
 pub mod ApartRanges
 pub mod Appending
 pub mod Asked
+pub mod AskedOfBoth
 pub mod Between
 pub mod BindingAll
 pub mod BoundEdits

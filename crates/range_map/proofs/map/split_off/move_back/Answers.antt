@@ -1,0 +1,132 @@
+use Rattle.std.proofs.Common.{◌≡◌, ◌∙◌, ℕ, ◌+◌, ◌≤◌, refl, sym, ap, subst, List, length, ◌++◌, ◌∷◌, [], arith}
+use Rattle.std.specs.List.{insert}
+use Rattle.std.specs.declared.ops.Bound.TheVariants.{Included}
+use Rattle.std.proofs.lemmas.List.{append_assoc}
+use Rattle.std.proofs.lemmas.List.Edits.{insert_end}
+use Rattle.range_keys.specs.Position.{start_position}
+use Rattle.range_keys.specs.PositionOrder.{position_total}
+use Rattle.range_algebra.specs.Intervals.{Le, Lt, Every}
+use Rattle.range_algebra.specs.Orders.{not_lt}
+use Rattle.range_store.specs.Places.{place_before}
+use Rattle.range_store.proofs.Places.{place_at}
+use Rattle.range_map.specs.Stored.{item_lower}
+use Rattle.range_map.proofs.Forms.{places}
+use Rattle.range_map.proofs.Splitting.{last_same}
+use Rattle.range_map.proofs.map.split_off.move_back.Goals as goal
+
+-- the last item is put back
+put_back : {X : Type 0} (stored front new rest others whole : List X) (last : X)
+    → stored ≡ front ++ last ∷ [] → new ≡ insert front (length front) last → others ≡ rest
+    → stored ++ rest ≡ whole → new ++ others ≡ whole
+put_back stored front new rest others whole last split put same all =
+    let back : new ≡ stored = put ∙ insert_end front last ∙ sym split in
+    rw (back, same) all
+
+-- the last item comes to be the first of the others
+moved : {X : Type 0} (stored front rest others new whole : List X) (last : X)
+    → stored ≡ front ++ last ∷ [] → others ≡ rest → new ≡ last ∷ others
+    → stored ++ rest ≡ whole → front ++ new ≡ whole
+moved stored front rest others new whole last split same put all =
+    let first : new ≡ last ∷ rest = put ∙ ap (λ y. last ∷ y) same in
+    rw first (sym (append_assoc front (last ∷ []) rest) ∙ (rw split at all))
+
+-- what holds of the last item that is put back holds of the last item
+last_such : {X : Type 0} (P : X → Type 0) (front new rest : List X) (last x : X)
+    → new ≡ insert front (length front) last → P last → new ≡ rest ++ x ∷ [] → P x
+last_such P front new rest last x put such ends =
+    subst P (last_same front rest last x (sym (insert_end front last) ∙ sym put ∙ ends)) such
+
+room_kept : (n room less back : ℕ) → n ≤ room → room + 1 ≤ less → less ≡ back + 1 → n ≤ back
+room_kept n room less back h k e = omega arith
+
+room_moved : {X : Type 0} (rest others new : List X) (last : X) (room less : ℕ) → others ≡ rest
+    → new ≡ last ∷ others → length rest ≤ room → room + 1 ≤ less → length new ≤ less
+room_moved rest others new last room less same put h k = rw (put, same) (omega arith)
+
+first_such : {X : Type 0} (P : X → Type 0) (rest others new : List X) (last : X) → others ≡ rest
+    → new ≡ last ∷ others → P last → Every P rest → Every P new
+first_such P rest others new last same put such all = rw (put, same) (such, all)
+
+pub returns-then-starts_before-clause-list : goal.returns-then-starts_before-clause-list
+returns-then-starts_before-clause-list g c =
+    let items = g.C.Storage.items in
+    put_back (items c.loop-last.stored) (items c.pop_last.new.self)
+    (items c.insert_at-position.new.self) (items c.loop-last.others) (items c.loop-last.others)
+    (items c.args.stored.now) c.in-Some.last c.in-Some.ensures.list
+    c.insert_at-position.ensures.list refl c.loop-last.invariant.list
+
+pub returns-then-starts_before-clause-room : goal.returns-then-starts_before-clause-room
+returns-then-starts_before-clause-room g c =
+    let room = g.C.Storage.room in
+    room_kept (length (g.C.Storage.items c.loop-last.others)) (room c.loop-last.stored)
+    (room c.pop_last.new.self) (room c.insert_at-position.new.self) c.loop-last.invariant.room
+    c.in-Some.ensures.space c.insert_at-position.ensures.space
+
+pub returns-then-starts_before-clause-from : goal.returns-then-starts_before-clause-from
+returns-then-starts_before-clause-from g c = c.loop-last.invariant.from
+
+pub returns-then-starts_before-clause-below : goal.returns-then-starts_before-clause-below
+returns-then-starts_before-clause-below g c =
+    let order = g.K.MaybeBounded.order in
+    λ rest x ends. last_such (λ i. Lt (places order g.met.K.PartialEnum.lawful)
+    (item_lower order i) (start_position order (Included c.args.key.now)))
+    (g.C.Storage.items c.pop_last.new.self) (g.C.Storage.items c.insert_at-position.new.self)
+    rest c.in-Some.last x c.insert_at-position.ensures.list
+    (c.starts_before.ensures.0 c.if-starts_before.true) ends
+
+pub returns-then-is_err-clause-list : goal.returns-then-is_err-clause-list
+returns-then-is_err-clause-list g c =
+    let items = g.C.Storage.items in
+    put_back (items c.loop-last.stored) (items c.pop_last.new.self)
+    (items c.insert_at-position-then-is_err.new.self) (items c.loop-last.others)
+    (items c.reserve.new.self) (items c.args.stored.now) c.in-Some.last c.in-Some.ensures.list
+    c.insert_at-position-then-is_err.ensures.list c.reserve.ensures.list
+    c.loop-last.invariant.list
+
+pub returns-then-is_err-clause-room : goal.returns-then-is_err-clause-room
+returns-then-is_err-clause-room g c =
+    let room = g.C.Storage.room in
+    rw c.reserve.ensures.list (room_kept (length (g.C.Storage.items c.loop-last.others))
+    (room c.loop-last.stored) (room c.pop_last.new.self)
+    (room c.insert_at-position-then-is_err.new.self) c.loop-last.invariant.room
+    c.in-Some.ensures.space c.insert_at-position-then-is_err.ensures.space)
+
+pub returns-then-is_err-clause-from : goal.returns-then-is_err-clause-from
+returns-then-is_err-clause-from g c = rw c.reserve.ensures.list c.loop-last.invariant.from
+
+pub loop-last-preserved : goal.loop-last-preserved
+loop-last-preserved g c =
+    let storage = g.C.Storage in
+    let items = storage.items in
+    let order = g.K.MaybeBounded.order in
+    let lawful = g.met.K.PartialEnum.lawful in
+    let others = c.reserve.new.self in
+    let last = c.in-Some.last in
+    let key = start_position order (Included c.args.key.now) in
+    let same : items others ≡ items c.loop-last.others = c.reserve.ensures.list in
+    let start : place_before (storage.rank others) (length (items others)) c.first-first.result
+    ≡ 0 =
+    place_at (storage.is_good others) (storage.rank others) (length (items others))
+    c.first-first.result 0 c.first-first.ensures in
+    let put : items c.insert_at-position-in-Some.new.self ≡ last ∷ items others =
+    rw start at c.insert_at-position-in-Some.ensures.list in
+    record {
+      list =
+          moved (items c.loop-last.stored) (items c.pop_last.new.self) (items c.loop-last.others)
+          (items others) (items c.insert_at-position-in-Some.new.self)
+          (items c.args.stored.now) last c.in-Some.ensures.list same put
+          c.loop-last.invariant.list;
+      room =
+          room_moved (items c.loop-last.others) (items others)
+          (items c.insert_at-position-in-Some.new.self) last (storage.room c.loop-last.stored)
+          (storage.room c.pop_last.new.self) same put c.loop-last.invariant.room
+          c.in-Some.ensures.space;
+      from =
+          first_such (λ i. Le (places order lawful) key (item_lower order i))
+          (items c.loop-last.others) (items others)
+          (items c.insert_at-position-in-Some.new.self) last same put
+          (not_lt (places order lawful) (position_total order.cmp lawful.total) key
+          (item_lower order last) (λ h. let told = c.starts_before.ensures.1 h in let not =
+          c.if-starts_before.false in absurd (cc)))
+          c.loop-last.invariant.from;
+    }
