@@ -25,6 +25,7 @@ pub mod Extents
 pub mod FirstPieces
 pub mod Forms
 pub mod Found
+pub mod Gathering
 pub mod FreeParts
 pub mod Freeing
 pub mod GapBounds
@@ -60,6 +61,7 @@ pub mod Splices
 pub mod Splitting
 pub mod StoredLists
 pub mod Surrounded
+pub mod Tests
 pub mod Together
 pub mod UpdatedLists
 pub mod WalkStarts

@@ -3,6 +3,7 @@ use Rattle.std.proofs.Common.{◌≡◌, refl, arith, rules}
 use Rattle.range_algebra.proofs.Lists.{any_none}
 use Rattle.range_map.specs.Lookups.{Overlap}
 use Rattle.range_map.proofs.InsertionFrames.{meets_some, none_meets}
+use Rattle.range_map.proofs.Tests.{not_both_answers}
 use Rattle.range_map.proofs.change.bind.bind_disjoint.Goals as goal
 
 pub returns-then-window-gt0-clause-met : goal.returns-then-window-gt0-clause-met
@@ -20,12 +21,12 @@ returns g c =
     c.find_window-window.ensures.window none in
     record {
       met = (
-        λ e. cc,
+        λ e. absurd (not_both_answers e),
         λ met.
             absurd (any_none (λ i. Overlap g.K.MaybeBounded.order i.key c.args.range) _ _ unmet
             (λ i no at. no at) met),
       );
-      met_unchanged = λ e. absurd (cc);
+      met_unchanged = λ e. absurd (not_both_answers e);
       bound = λ _. c.in_ok-bind_outside.ensures.ok;
       refused = tt;
     }

@@ -1,13 +1,14 @@
 use Rattle.std.proofs.Common.{◌≡◌, inr, arith}
 use Rattle.std.proofs.lemmas.Grind.{common_steps}
 use Rattle.range_map.proofs.Results.{error_has_no_value}
+use Rattle.range_map.proofs.Tests.{same_some}
 use Rattle.range_map.proofs.change.pieces.ask_item.Goals as goal
 
 pub ask_gap-requires : goal.ask_gap-requires
 ask_gap-requires g c =
     record {
       before = c.requires.before;
-      after = λ x e. let same : c.args.item.now.key ≡ x = cc in rw (← same) c.requires.item;
+      after = λ x e. let same : c.args.item.now.key ≡ x = same_some e in rw (← same) c.requires.item;
       callable = c.requires.free;
     }
 

@@ -10,6 +10,7 @@ use Rattle.range_map.specs.Answers.{MayBeAsked}
 use Rattle.range_map.proofs.Asked.{asked_good, asked_key_full, met_holds, met_nonempty, met_fails, met_is_underway, met_keeps_spelling, last_fails, all_gathered, all_keep_spelling}
 use Rattle.range_map.proofs.PieceAnswers.{underway_none}
 use Rattle.range_map.proofs.Results.{error_has_no_value}
+use Rattle.range_map.proofs.Tests.{value_is_no_error}
 use Rattle.range_map.proofs.change.pieces.gather.Goals as goal
 
 pub loop-met-init : goal.loop-met-init
@@ -184,7 +185,7 @@ returns g c =
           all_keep_spelling lawful equal c.requires.window before was g.K.Clone.is_clone clones
           c.ask_gap.new.items.items c.loop-met.invariant.spelled
           c.in_ok-ask_gap.ensures.ok;
-      closure = λ e failed. absurd (cc);
+      closure = λ e failed. absurd (value_is_no_error failed);
     }
 
 pub ask_gap-requires-clause-callable : goal.ask_gap-requires-clause-callable

@@ -8,6 +8,7 @@ use Rattle.range_algebra.specs.Intervals.{Le}
 use Rattle.range_algebra.specs.Orders.{not_lt}
 use Rattle.range_store.specs.Places.{place_before}
 use Rattle.range_map.specs.Stored.{item_upper}
+use Rattle.range_map.proofs.Tests.{not_both}
 use Rattle.range_map.proofs.change.reach.reaching_after.Goals as goal
 
 pub returns-else-ends_after-clause-reaching : goal.returns-else-ends_after-clause-reaching
@@ -30,7 +31,7 @@ returns-else-ends_after-clause-reaching g c = λ x some read.
     let ends : Le cmp (item_upper order item) (upper order (g.R.AsRange.range c.args.range.now)) =
     not_lt cmp (position_total order.cmp g.met.K.PartialEnum.lawful.total)
     (item_upper order item) (upper order (g.R.AsRange.range c.args.range.now))
-    (λ l. let held : IsTrue c.ends_after.result = c.ends_after.ensures.1 l in cc) in
+    (λ l. not_both c.if-ends_after.false (c.ends_after.ensures.1 l)) in
     subst (λ y. Le cmp (item_upper order y) (upper order (g.R.AsRange.range c.args.range.now)))
     (sym same) ends
 

@@ -7,6 +7,7 @@ use Rattle.range_algebra.specs.Intervals.{Le, Lt}
 use Rattle.range_algebra.specs.Orders.{not_lt}
 use Rattle.range_store.specs.Places.{place_before}
 use Rattle.range_map.specs.Stored.{item_lower}
+use Rattle.range_map.proofs.Tests.{not_both}
 use Rattle.range_map.proofs.change.reach.reaching_before.Goals as goal
 
 pub returns-then-starts_before-clause-reaching : goal.returns-then-starts_before-clause-reaching
@@ -53,6 +54,6 @@ returns-else-starts_before-clause-reaching g c = λ x some read.
     let starts : Le cmp (lower order (g.R.AsRange.range c.args.range.now)) (item_lower order item) =
     not_lt cmp (position_total order.cmp g.met.K.PartialEnum.lawful.total)
     (lower order (g.R.AsRange.range c.args.range.now)) (item_lower order item)
-    (λ l. let held : IsTrue c.starts_before.result = c.starts_before.ensures.1 l in cc) in
+    (λ l. not_both c.if-starts_before.false (c.starts_before.ensures.1 l)) in
     subst (λ y. Le cmp (lower order (g.R.AsRange.range c.args.range.now)) (item_lower order y))
     (sym same) starts

@@ -1,3 +1,4 @@
+use Rattle.std.proofs.lemmas.Bool.{false≢true}
 use Rattle.std.proofs.Common.{◌≡◌, refl, ap, inl, inr}
 use Rattle.std.specs.Prelude.{option_copied}
 use Rattle.std.specs.declared.cmp.Ordering.TheVariants.{Equal}
@@ -43,7 +44,7 @@ returns g c = λ lawful equal b at known_b same_b start.
     let here : cmp (item_lower order m) lo ≡ Equal =
     both cmp total (item_lower order m) lo
     (not_lt cmp total (item_lower order m) lo
-    (λ l. let later = c.if-starts_before.ensures.1 l in cc)) within.starts in
+    (λ l. false≢true (c.if-starts_before.ensures.1 l))) within.starts in
     inl (
       m,
       ap option_copied c.in-Some.is,

@@ -1,3 +1,4 @@
+use Rattle.std.proofs.lemmas.Bool.{false≢true}
 use Rattle.std.proofs.Common.{◌≡◌, refl, ap, inl, inr}
 use Rattle.std.specs.Prelude.{option_copied}
 use Rattle.std.specs.declared.cmp.Ordering.TheVariants.{Equal}
@@ -45,7 +46,7 @@ returns g c = λ lawful equal b known_b same_b.
     both cmp total (item_upper order m) (upper order r)
     (within_end order lawful m.key r c.known.ensures c.requires.reach.window.known within)
     (not_lt cmp total (upper order r) (item_upper order m)
-    (λ l. let earlier = c.if-ends_after.ensures.1 l in cc)) in
+    (λ l. false≢true (c.if-ends_after.ensures.1 l))) in
     inl (
       m,
       ap option_copied c.in-Some.is,

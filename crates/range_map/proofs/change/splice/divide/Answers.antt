@@ -5,6 +5,7 @@ use Rattle.range_store.specs.Places.{place_before}
 use Rattle.range_store.proofs.Places.{place_at, kept_at, good_at}
 use Rattle.range_map.specs.Edits.{with_end}
 use Rattle.range_map.proofs.DividedItems.{parted_alone, parted_around}
+use Rattle.range_map.proofs.Tests.{same_some}
 use Rattle.range_map.proofs.change.splice.divide.Goals as goal
 
 pub replace_end-old_end-requires : goal.replace_end-old_end-requires
@@ -31,7 +32,7 @@ insert_at-middle-requires g c =
     let space = rw c.in-Some.is at c.requires.space in
     record {
       good = λ q e.
-          let same : c.insert_at-at.result ≡ q = cc in
+          let same : c.insert_at-at.result ≡ q = same_some e in
           rw (← same) c.insert_at-at.ensures.position.0;
       has_room =
           omega (arith, space, c.replace_end-old_end.ensures.space, c.insert_at-at.ensures.space);

@@ -1,3 +1,4 @@
+use Rattle.std.proofs.lemmas.Bool.{true≢false}
 use Rattle.std.proofs.Common.{◌≡◌, ◌+◌, ◌-◌, ◌<◌, length, refl, arith, sym, ◌∙◌, true, false}
 use Rattle.std.proofs.lemmas.List.{get_or_read}
 use Rattle.range_keys.specs.Directed.{reference_position}
@@ -74,7 +75,7 @@ returns-then-starts_past g c =
     let past : Lt (position_cmp order.cmp) end start =
     not_le (position_cmp order.cmp)
     (position_total order.cmp g.met.K.PartialEnum.lawful.total) end start
-    (λ h. let both : true ≡ false = c.if-starts_past.ensures.past ∙ h in cc) in
+    (λ h. true≢false (c.if-starts_past.ensures.past ∙ h)) in
     record {
       walked = record {
         in_range = was.in_range;

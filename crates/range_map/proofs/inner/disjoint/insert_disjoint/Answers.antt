@@ -1,30 +1,22 @@
 use Rattle.std.proofs.lemmas.Grind.{common_steps}
-use Rattle.std.proofs.Common.{◌≡◌, refl, ap, Result, Ok, Err, true, false, arith}
-use Rattle.std.specs.Result.{IsErr}
+use Rattle.std.proofs.Common.{◌≡◌, refl, ap, Ok, true, false, arith}
 use Rattle.range_map.proofs.Results.{on_error}
+use Rattle.range_map.proofs.Tests.{either_way, error_is_no_value, not_both, not_both_answers, same_value}
 use Rattle.range_map.proofs.inner.disjoint.insert_disjoint.Goals as goal
-
-error_is_no_value : {A E : Type 0} (r : Result A E) (x : A) → IsErr r → r ≡ Ok x → ⊥
-error_is_no_value (Ok y) x is e = cc
-error_is_no_value (Err f) x is e = cc
-
-same_value : {A E : Type 0} (a b : A) → ◌≡◌ {A = Result A E} (Ok a) (Ok b) → a ≡ b
-same_value a b e = cc
 
 pub bind_disjoint-requires : goal.bind_disjoint-requires
 bind_disjoint-requires g c =
     record {
       keys = c.requires.keys;
       stored = rw c.map.view_is c.in_form.ensures;
-      nonempty = λ empty. let told = c.is_empty.ensures.by_position.1 empty in let not =
-          c.if-is_empty.false in cc;
+      nonempty = λ empty. not_both c.if-is_empty.false (c.is_empty.ensures.by_position.1 empty);
     }
 
 pub returns-then-is_empty : goal.returns-then-is_empty
 returns-then-is_empty g c =
     record {
       met = (
-        λ e. absurd (cc),
+        λ e. absurd (not_both_answers e),
         λ h. absurd (h.0 (c.is_empty.ensures.by_position.0 c.if-is_empty.true)),
       );
       met_unchanged = λ _. refl;
@@ -57,10 +49,10 @@ returns-in_err-disjoint g c =
       refused =
           on_error _ c.from_residual.result
           (rw (← c.map.view_is) c.in_err-disjoint.ensures.refused);
-      empty = λ empty. let told = c.is_empty.ensures.by_position.1 empty in let not =
-          c.if-is_empty.false in absurd (cc);
-      empty_unchanged = λ empty. let told = c.is_empty.ensures.by_position.1 empty in let not =
-          c.if-is_empty.false in absurd (cc);
+      empty = λ empty.
+          absurd (not_both c.if-is_empty.false (c.is_empty.ensures.by_position.1 empty));
+      empty_unchanged = λ empty.
+          absurd (not_both c.if-is_empty.false (c.is_empty.ensures.by_position.1 empty));
     }
 
 pub returns : goal.returns
@@ -71,9 +63,7 @@ returns g c =
             ≡ false =
             same_value c.in_ok-disjoint.disjoint false
             e in (
-              λ empty.
-                  let told = c.is_empty.ensures.by_position.1 empty in let not =
-                  c.if-is_empty.false in cc,
+              λ empty. not_both c.if-is_empty.false (c.is_empty.ensures.by_position.1 empty),
               rw (← c.map.view_is) (c.in_ok-disjoint.ensures.met.0 (ap (λ b. Ok b) same)),
             ),
         λ h.
@@ -92,10 +82,14 @@ returns g c =
       frame = λ e full. let same : c.in_ok-disjoint.disjoint ≡ true =
           same_value c.in_ok-disjoint.disjoint true e in rw (← c.map.view_is)
           (c.in_ok-disjoint.ensures.bound (ap (λ b. Ok b) same)).frame;
-      form = grind (arith, common_steps);
+      form = either_way c.in_ok-disjoint.disjoint
+          (λ met. (c.in_ok-disjoint.ensures.bound (ap (λ b. Ok b) met)).stored)
+          (λ met.
+          rw (c.in_ok-disjoint.ensures.met_unchanged (ap (λ b. Ok b) met), c.map.view_is)
+          c.in_form.ensures);
       refused = tt;
-      empty = λ empty. let told = c.is_empty.ensures.by_position.1 empty in let not =
-          c.if-is_empty.false in absurd (cc);
-      empty_unchanged = λ empty. let told = c.is_empty.ensures.by_position.1 empty in let not =
-          c.if-is_empty.false in absurd (cc);
+      empty = λ empty.
+          absurd (not_both c.if-is_empty.false (c.is_empty.ensures.by_position.1 empty));
+      empty_unchanged = λ empty.
+          absurd (not_both c.if-is_empty.false (c.is_empty.ensures.by_position.1 empty));
     }

@@ -1,7 +1,9 @@
+use Rattle.std.proofs.lemmas.Bool.{false≢true}
 use Rattle.std.proofs.Common.{◌∙◌, arith}
 use Rattle.range_algebra.specs.Relations.{LiesBefore}
 use Rattle.range_map.specs.Pieces.{LiesIn}
 use Rattle.range_map.proofs.Together.{stepped, drained, shorter, inside_begins, inside_goes_left, inside_goes_right, not_inside}
+use Rattle.range_map.proofs.Tests.{not_both}
 use Rattle.range_map.proofs.inner.relate.lie_inside.Goals as goal
 
 pub loop-next-init : goal.loop-next-init
@@ -91,11 +93,10 @@ returns-else-lies_before g c =
     let lawful = g.met.K.PartialEnum.lawful in
     let was = c.loop-next.invariant in
     let not_first : ¬ LiesIn order c.in-Some-Some.range.now c.in-Some-Some.other_range.now =
-    λ h. let e = c.lies_in.ensures.1 h in let f = c.if-lies_in.false in cc in
+    λ h. not_both c.if-lies_in.false (c.lies_in.ensures.1 h) in
     let not_second : ¬ LiesBefore order c.in-Some-Some.other_range.now c.in-Some-Some.range.now =
-    λ h. let e = c.lies_before.ensures.1 h in let f =
-    c.if-lies_before.false in cc in (
-      λ e. absurd (cc),
+    λ h. not_both c.if-lies_before.false (c.lies_before.ensures.1 h) in (
+      λ e. absurd (false≢true e),
       λ h.
           absurd (not_inside order lawful items others c.loop-next.next c.loop-next.ranges
           c.loop-next.near c.loop-next.others was.left

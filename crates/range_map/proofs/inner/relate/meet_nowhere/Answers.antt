@@ -1,6 +1,8 @@
+use Rattle.std.proofs.lemmas.Bool.{false≢true}
 use Rattle.std.proofs.Common.{◌∙◌, refl, arith}
 use Rattle.range_algebra.specs.Relations.{LiesBefore}
 use Rattle.range_map.proofs.Together.{stepped, drained, shorter, apart_begins, apart_goes_left, apart_goes_right, not_apart, apart_none_left, apart_none_right}
+use Rattle.range_map.proofs.Tests.{not_both}
 use Rattle.range_map.proofs.inner.relate.meet_nowhere.Goals as goal
 
 pub loop-next-init : goal.loop-next-init
@@ -90,11 +92,10 @@ returns-else-lies_before-2 g c =
     let lawful = g.met.K.PartialEnum.lawful in
     let was = c.loop-next.invariant in
     let not_first : ¬ LiesBefore order c.in-Some-Some.range.now c.in-Some-Some.other_range.now =
-    λ h. let e = c.lies_before.ensures.1 h in let f = c.if-lies_before.false in cc in
+    λ h. not_both c.if-lies_before.false (c.lies_before.ensures.1 h) in
     let not_second : ¬ LiesBefore order c.in-Some-Some.other_range.now c.in-Some-Some.range.now =
-    λ h. let e = c.lies_before-else-lies_before.ensures.1 h in let f =
-    c.if-lies_before-2.false in cc in (
-      λ e. absurd (cc),
+    λ h. not_both c.if-lies_before-2.false (c.lies_before-else-lies_before.ensures.1 h) in (
+      λ e. absurd (false≢true e),
       λ h.
           absurd (not_apart order lawful items others c.loop-next.next c.loop-next.ranges
           c.loop-next.near c.loop-next.others was.left

@@ -2,6 +2,7 @@ use Rattle.std.proofs.Common.{subst}
 use Rattle.std.proofs.lemmas.List.Elements.{All-more}
 use Rattle.range_algebra.specs.Range.{Holds}
 use Rattle.range_map.proofs.Scans.{binds_item, none_holds}
+use Rattle.range_map.proofs.Tests.{not_both}
 use Rattle.range_map.proofs.inner.scan.find.Goals as goal
 
 pub returns-then-holds : goal.returns-then-holds
@@ -14,8 +15,8 @@ returns-then-holds g c =
 pub loop-item-preserved : goal.loop-item-preserved
 loop-item-preserved g c =
     let order = g.K.MaybeBounded.order in
-    let not_here : ¬ Holds order c.item-item.result.key c.args.key.now = λ h. let e =
-    c.holds.ensures.held.1 h in let f = c.if-holds.false in cc in
+    let not_here : ¬ Holds order c.item-item.result.key c.args.key.now = λ h.
+    not_both c.if-holds.false (c.holds.ensures.held.1 h) in
     All-more (λ i. ¬ Holds order i.key c.args.key.now) c.args.items.now c.loop-item.item-index
     c.item-item.result c.loop-item-test.true c.loop-item.invariant
     (subst (λ x. ¬ Holds order x.key c.args.key.now) c.item-item.is not_here)

@@ -1,8 +1,10 @@
 use Rattle.std.proofs.Common.{◌<◌, length, refl, ap, rules, arith}
+use Rattle.std.proofs.lemmas.Bool.{false≢true}
 use Rattle.range_keys.specs.Position.{bound_of, start_position, end_position}
 use Rattle.range_algebra.specs.Range.{IsEmptyRange}
 use Rattle.range_map.specs.Lookups.{MeetsSome}
 use Rattle.range_map.proofs.Overlaps.{binding_meets, meeting_binds, first_not_before_decides, none_decides}
+use Rattle.range_map.proofs.Tests.{not_both}
 use Rattle.range_map.proofs.map.RangeMap.intersects_counted.Goals as goal
 
 pub returns-in-None : goal.returns-in-None
@@ -16,11 +18,11 @@ returns-in-None g c =
     (start_position order (bound_of c.start.result)) start
     (rw c.in-None.is at c.find-from.ensures.found.below) in
     record {
-      meets = rw (← c.self.view_is) (λ h. absurd (cc), λ h. absurd (none h.1));
+      meets = rw (← c.self.view_is) (λ h. absurd (false≢true h), λ h. absurd (none h.1));
       bound =
           rw (← c.self.view_is) (λ h.
           absurd (none (binding_meets order lawful items (g.R.AsRange.range c.args.range) h).1));
-      complete = λ complete h. absurd (cc);
+      complete = λ complete h. absurd (false≢true h);
       counted =
           rw (← c.self.view_is) (λ full.
           record {
@@ -28,8 +30,8 @@ returns-in-None g c =
             at_least = c.find-from.ensures.counted.at_least;
           });
       none = search rules;
-      empty_uncounted = λ empty. let told = c.is_empty.ensures.by_position.1 empty in let not =
-          c.if-is_empty.false in absurd (cc);
+      empty_uncounted = λ empty.
+          absurd (not_both c.if-is_empty.false (c.is_empty.ensures.by_position.1 empty));
     }
 
 pub returns-clause-meets : goal.returns-clause-meets
@@ -45,8 +47,8 @@ returns-clause-meets g c =
     let place = storage.rank stored c.in-Some.p in
     let within : place < length items =
     g.met.C.Storage.good_is_in_range stored c.in-Some.p position.0 in
-    let full : IsEmptyRange order (g.R.AsRange.range c.args.range) → ⊥ = λ h. let e =
-    c.is_empty.ensures.by_position.1 h in let f = c.if-is_empty.false in cc in
+    let full : IsEmptyRange order (g.R.AsRange.range c.args.range) → ⊥ =
+    λ h. not_both c.if-is_empty.false (c.is_empty.ensures.by_position.1 h) in
     rw (← c.self.view_is) (first_not_before_decides order lawful g.V.PartialEq.eq g.met.V.Eq.laws
     items (g.R.AsRange.range c.args.range) (start_position order (bound_of c.start.result))
     (end_position order (bound_of c.end.result)) place c.get.result.now c.starts_past.result
@@ -75,7 +77,7 @@ returns-clause-complete g c =
 
 pub returns-then-is_empty-clause-meets : goal.returns-then-is_empty-clause-meets
 returns-then-is_empty-clause-meets g c =
-    (λ h. absurd (cc), λ h. absurd (h.0 (c.is_empty.ensures.by_position.0 c.if-is_empty.true)))
+    (λ h. absurd (false≢true h), λ h. absurd (h.0 (c.is_empty.ensures.by_position.0 c.if-is_empty.true)))
 
 pub returns-then-is_empty-clause-bound : goal.returns-then-is_empty-clause-bound
 returns-then-is_empty-clause-bound g c =
@@ -86,7 +88,7 @@ returns-then-is_empty-clause-bound g c =
     (c.is_empty.ensures.by_position.0 c.if-is_empty.true))
 
 pub returns-then-is_empty-clause-complete : goal.returns-then-is_empty-clause-complete
-returns-then-is_empty-clause-complete g c = λ complete h. absurd (cc)
+returns-then-is_empty-clause-complete g c = λ complete h. absurd (false≢true h)
 
 pub returns-then-is_empty-clause-counted : goal.returns-then-is_empty-clause-counted
 returns-then-is_empty-clause-counted g c =
@@ -114,8 +116,8 @@ returns-clause-counted g c =
     })
 
 pub returns-clause-empty_uncounted : goal.returns-clause-empty_uncounted
-returns-clause-empty_uncounted g c = λ empty. let told =
-    c.is_empty.ensures.by_position.1 empty in let not = c.if-is_empty.false in absurd (cc)
+returns-clause-empty_uncounted g c =
+    λ empty. absurd (not_both c.if-is_empty.false (c.is_empty.ensures.by_position.1 empty))
 
 pub returns-clause-none : goal.returns-clause-none
 returns-clause-none g c =
