@@ -88,8 +88,8 @@ fn loops_forward<C: Storage<NumberItem>>(map: &RangeMap<i32, i64, C>, rows: &[Ro
 
 fn shows_back(map: &RangeMap<i32, i64, InTree>, rows: &[Row]) -> bool {
     let mut left = rows;
-    let mut stored = map.iter().rev();
-    while let Some(shown) = stored.next() {
+    let mut stored = map.iter();
+    while let Some(shown) = stored.next_back() {
         let Some((row, rest)) = left.split_last() else {
             return false;
         };
