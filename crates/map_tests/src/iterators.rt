@@ -87,18 +87,13 @@ fn loops_forward<C: Storage<NumberItem>>(map: &RangeMap<i32, i64, C>, rows: &[Ro
 }
 
 fn shows_back(map: &RangeMap<i32, i64, InTree>, rows: &[Row]) -> bool {
-    let mut left = rows;
-    let mut stored = map.iter().rev();
-    while let Some(shown) = stored.next() {
-        let Some((row, rest)) = left.split_last() else {
-            return false;
-        };
-        if !is_row(Some(shown), Some(*row)) {
+    let mut stored = map.iter();
+    for row in rows.iter().rev() {
+        if !is_row(stored.next_back(), Some(*row)) {
             return false;
         }
-        left = rest;
     }
-    left.is_empty()
+    stored.next_back().is_none()
 }
 
 /// The number of gaps, where none is empty.

@@ -1,7 +1,7 @@
 //! The whole program, over any reader and writers.
 
 ghost use Rattle.std.specs.Prelude.{◌≡◌, ◌≤◌, ◌↔◌, ◌⊎◌, ℕ, List, Err, OnOk, OnSome, IfSome, Some, [], map, string_bytes};
-ghost use Rattle.rangecalc.specs.Conversation.{Conversation, none_stored};
+ghost use Rattle.rangecalc.specs.Conversation.{Conversation, none_stored, stored_in};
 ghost use Rattle.rangecalc.specs.Replies.{Writes};
 ghost use Rattle.rangecalc.specs.Serving.{IsServed, IsStopped, NamesKeys};
 ghost use Rattle.rangecalc.specs.Text.{line_content};
@@ -29,6 +29,43 @@ fn without_line_end(line: &[u8]) -> &[u8]
     }
 }
 
+// Answers each line that is left, over maps that store nothing yet; `line` is the buffer of one.
+fn answer_lines<K: NumberKey, R: BufRead, W: Write>(
+    maps: &mut Maps<K>,
+    line: &mut Vec<u8>,
+    input: &mut R,
+    out: &mut W,
+) -> Result<(), Stop>
+    requires { stored_in maps.old ≡ none_stored }
+    ensures ended { OnOk result (OnSome (R.remaining input.old) (R.remaining input.new ≡ Some [])) }
+    ensures answered { OnOk result
+        (IfSome (R.remaining input.old)
+        (λ bytes. Writes (W.contents out.old) (W.contents out.new)
+        (λ text. Conversation K.order none_stored bytes text []))) }
+    ensures unread { result ≡ Err Unreadable
+        → IfSome (R.remaining input.old)
+        (λ bytes. (rest : List ℕ)
+        × Writes (W.contents out.old) (W.contents out.new)
+        (λ text. Conversation K.order none_stored bytes text rest)) }
+{
+    for _ in 0..u64::MAX {
+        line.clear();
+        let Ok(count) = input.read_until(b'\n', line) else {
+            return Err(Stop::Unreadable);
+        };
+        if count == 0 {
+            return Ok(());
+        }
+        let Ok(text) = str::from_utf8(without_line_end(line.as_slice())) else {
+            return Err(Stop::Unreadable);
+        };
+        let Ok(()) = answer_line::<K, W>(maps, text, out) else {
+            return Err(Stop::Unwritable);
+        };
+    }
+    Err(Stop::Unreadable)
+}
+
 fn serve_lines<K: NumberKey, R: BufRead, W: Write>(
     alloc: Global,
     input: &mut R,
@@ -47,22 +84,7 @@ fn serve_lines<K: NumberKey, R: BufRead, W: Write>(
 {
     let mut maps = Maps::<K>::new(alloc);
     let mut line = Vec::new(alloc);
-    for _ in 0..u64::MAX {
-        line.clear();
-        let Ok(count) = input.read_until(b'\n', &mut line) else {
-            return Err(Stop::Unreadable);
-        };
-        if count == 0 {
-            return Ok(());
-        }
-        let Ok(text) = str::from_utf8(without_line_end(line.as_slice())) else {
-            return Err(Stop::Unreadable);
-        };
-        let Ok(()) = answer_line::<K, W>(&mut maps, text, out) else {
-            return Err(Stop::Unwritable);
-        };
-    }
-    Err(Stop::Unreadable)
+    answer_lines::<K, R, W>(&mut maps, &mut line, input, out)
 }
 
 fn serve_keys<K: NumberKey, R: BufRead + Drop, W: Write, E: Write>(

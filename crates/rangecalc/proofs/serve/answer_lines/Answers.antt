@@ -5,13 +5,13 @@ use Rattle.std.specs.Io.KnownBytes.{IsAtEnd}
 use Rattle.rangecalc.specs.Replies.{Writes}
 use Rattle.rangecalc.specs.Conversation.{Conversation, none_stored, stored_in}
 use Rattle.rangecalc.proofs.Progress.{HasAnswered, answered_none, answered_more, answered_all, if_some_as, stopped_at, line_of, none_of_none, first_line_of}
-use Rattle.rangecalc.proofs.serve.serve_lines.Goals as goal
+use Rattle.rangecalc.proofs.serve.answer_lines.Goals as goal
 
 pub loop-init : goal.loop-init
 loop-init g c =
     answered_none g.K.MaybeBounded.order (g.R.Read.remaining c.args.input.now)
     (g.W.Write.contents c.args.out.now)
-    (stored_in c.new-maps.result) c.new-maps.ensures
+    (stored_in c.args.maps.now) c.requires
 
 pub returns-then-count-eq0-clause-ended : goal.returns-then-count-eq0-clause-ended
 returns-then-count-eq0-clause-ended g c =

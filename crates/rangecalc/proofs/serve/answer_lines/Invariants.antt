@@ -1,7 +1,7 @@
 use Rattle.std.specs.Prelude.{IfSome}
 use Rattle.rangecalc.specs.Conversation.{stored_in}
 use Rattle.rangecalc.proofs.Progress.{HasAnswered}
-use Rattle.rangecalc.proofs.serve.serve_lines.Given as goal
+use Rattle.rangecalc.proofs.serve.answer_lines.Given as goal
 
 abbrev pub invariant-loop : goal.invariant-loop
 invariant-loop g l =
