@@ -14,6 +14,7 @@ pub mod Coarse
 pub mod Combination
 pub mod Combining
 pub mod Comparisons
+pub mod Counts
 pub mod CoveredPlaces
 pub mod CutOut
 pub mod CutParts
@@ -26,6 +27,7 @@ pub mod Forms
 pub mod Found
 pub mod Gathering
 pub mod FreeParts
+pub mod FreeReach
 pub mod Freeing
 pub mod GapBounds
 pub mod InsertionFrames

@@ -2,6 +2,7 @@ use Rattle.std.proofs.lemmas.Grind.{common_steps}
 use Rattle.std.proofs.Common.{◌≡◌, refl, arith, rules}
 use Rattle.range_algebra.proofs.Lists.{any_none}
 use Rattle.range_map.specs.Lookups.{Overlap}
+use Rattle.range_map.proofs.FreeReach.{free_reach}
 use Rattle.range_map.proofs.InsertionFrames.{meets_some, none_meets}
 use Rattle.range_map.proofs.Tests.{not_both_answers}
 use Rattle.range_map.proofs.change.bind.bind_disjoint.Goals as goal
@@ -65,12 +66,6 @@ bind_outside-requires g c =
     let none : c.find_window-window.result.count ≡ 0 = omega (arith, c.if-window-gt0.false) in
     record {
       keys = c.requires.keys;
-      reach =
-          record {
-            window = c.find_window-window.ensures.window;
-            first = λ x some. absurd (omega (arith, some, none));
-            last =
-                λ x some. absurd (omega (arith, some, none));
-          };
+      reach = free_reach c.find_window-window.ensures.window none;
       apart = omega arith;
     }
