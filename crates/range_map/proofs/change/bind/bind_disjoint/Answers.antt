@@ -50,22 +50,10 @@ returns-in_err-bind_outside g c =
       refused = grind (arith, common_steps);
     }
 
-pub comes_last-requires : goal.comes_last-requires
-comes_last-requires g c = record { stored = c.requires.stored; nonempty = c.requires.nonempty }
+pub bind_last-requires-clause-last : goal.bind_last-requires-clause-last
+bind_last-requires-clause-last g c = c.if-comes_last.ensures refl
 
-pub bind_last-requires : goal.bind_last-requires
-bind_last-requires g c =
-    record {
-      stored = c.requires.stored;
-      nonempty = c.requires.nonempty;
-      last = c.if-comes_last.ensures refl;
-    }
-
-pub bind_outside-requires : goal.bind_outside-requires
-bind_outside-requires g c =
+pub bind_outside-requires-clause-reach : goal.bind_outside-requires-clause-reach
+bind_outside-requires-clause-reach g c =
     let none : c.find_window-window.result.count ≡ 0 = omega (arith, c.if-window-gt0.false) in
-    record {
-      keys = c.requires.keys;
-      reach = free_reach c.find_window-window.ensures.window none;
-      apart = omega arith;
-    }
+    free_reach c.find_window-window.ensures.window none

@@ -35,10 +35,6 @@ returns g c =
       refused = tt;
     }
 
-pub prepare_parts-requires : goal.prepare_parts-requires
-prepare_parts-requires g c =
-    record { keys = c.requires.keys; values = c.requires.values; good = c.requires.within.good }
-
 pub returns-in_err-parts : goal.returns-in_err-parts
 returns-in_err-parts g c =
     record {
@@ -47,3 +43,6 @@ returns-in_err-parts g c =
       refused =
           on_error _ c.from_residual.result c.prepare_parts.ensures.list;
     }
+
+pub prepare_parts-requires-clause-good : goal.prepare_parts-requires-clause-good
+prepare_parts-requires-clause-good g c = c.requires.within.good
