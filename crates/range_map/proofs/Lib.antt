@@ -15,6 +15,7 @@ pub mod Coarse
 pub mod Combination
 pub mod Combining
 pub mod Comparisons
+pub mod Counts
 pub mod CoveredPlaces
 pub mod CutOut
 pub mod CutParts
@@ -27,6 +28,7 @@ pub mod Forms
 pub mod Found
 pub mod Gathering
 pub mod FreeParts
+pub mod FreeReach
 pub mod Freeing
 pub mod GapBounds
 pub mod InsertionFrames

@@ -2,6 +2,7 @@ use Rattle.std.proofs.lemmas.Grind.{common_steps}
 use Rattle.std.proofs.Common.{◌≡◌, refl, arith, rules}
 use Rattle.range_algebra.proofs.Lists.{any_none}
 use Rattle.range_map.specs.Lookups.{Overlap}
+use Rattle.range_map.proofs.FreeReach.{free_reach}
 use Rattle.range_map.proofs.InsertionFrames.{meets_some, none_meets}
 use Rattle.range_map.proofs.Tests.{not_both_answers}
 use Rattle.range_map.proofs.change.bind.bind_disjoint.Goals as goal
@@ -49,28 +50,10 @@ returns-in_err-bind_outside g c =
       refused = grind (arith, common_steps);
     }
 
-pub comes_last-requires : goal.comes_last-requires
-comes_last-requires g c = record { stored = c.requires.stored; nonempty = c.requires.nonempty }
+pub bind_last-requires-clause-last : goal.bind_last-requires-clause-last
+bind_last-requires-clause-last g c = c.if-comes_last.ensures refl
 
-pub bind_last-requires : goal.bind_last-requires
-bind_last-requires g c =
-    record {
-      stored = c.requires.stored;
-      nonempty = c.requires.nonempty;
-      last = c.if-comes_last.ensures refl;
-    }
-
-pub bind_outside-requires : goal.bind_outside-requires
-bind_outside-requires g c =
+pub bind_outside-requires-clause-reach : goal.bind_outside-requires-clause-reach
+bind_outside-requires-clause-reach g c =
     let none : c.find_window-window.result.count ≡ 0 = omega (arith, c.if-window-gt0.false) in
-    record {
-      keys = c.requires.keys;
-      reach =
-          record {
-            window = c.find_window-window.ensures.window;
-            first = λ x some. absurd (omega (arith, some, none));
-            last =
-                λ x some. absurd (omega (arith, some, none));
-          };
-      apart = omega arith;
-    }
+    free_reach c.find_window-window.ensures.window none

@@ -2,34 +2,12 @@ use Rattle.std.proofs.Common.{◌≡◌, arith, None}
 use Rattle.std.proofs.lemmas.Grind.{common_steps}
 use Rattle.range_map.proofs.change.bind.bind_outside.Goals as goal
 
-pub bind_isolated-requires : goal.bind_isolated-requires
-bind_isolated-requires g c =
+pub bind_isolated-requires-clause-before : goal.bind_isolated-requires-clause-before
+bind_isolated-requires-clause-before g c =
     let before : c.joins_before-before.result ≡ None = grind (arith, common_steps) in
+    rw before at c.joins_before-before.ensures.joins
+
+pub bind_isolated-requires-clause-after : goal.bind_isolated-requires-clause-after
+bind_isolated-requires-clause-after g c =
     let after : c.joins_after-after.result ≡ None = grind (arith, common_steps) in
-    record {
-      reach = c.requires.reach;
-      none = grind (arith, common_steps);
-      before = rw before at c.joins_before-before.ensures.joins;
-      after =
-          rw after at c.joins_after-after.ensures.joins;
-    }
-
-pub bind_merging-requires : goal.bind_merging-requires
-bind_merging-requires g c =
-    record {
-      keys = c.requires.keys;
-      reach = c.requires.reach;
-      before = c.joins_before-before.ensures.joins;
-      after = c.joins_after-after.ensures.joins;
-      apart =
-          c.requires.apart;
-    }
-
-pub returns : goal.returns
-returns g c =
-    record {
-      ok = c.bind_merging.ensures.ok;
-      few = c.bind_merging.ensures.few;
-      counted = grind (arith, common_steps);
-      refused = c.bind_merging.ensures.refused;
-    }
+    rw after at c.joins_after-after.ensures.joins

@@ -4,14 +4,6 @@ use Rattle.range_map.proofs.Results.{error_has_no_value}
 use Rattle.range_map.proofs.Tests.{same_some}
 use Rattle.range_map.proofs.change.pieces.ask_item.Goals as goal
 
-pub ask_gap-requires : goal.ask_gap-requires
-ask_gap-requires g c =
-    record {
-      before = c.requires.before;
-      after = λ x e. let same : c.args.item.now.key ≡ x = same_some e in rw (← same) c.requires.item;
-      callable = c.requires.free;
-    }
-
 pub returns-clause-closure : goal.returns-clause-closure
 returns-clause-closure g c = λ e failed. inr (c.ask.ensures.closure e failed)
 
@@ -24,3 +16,7 @@ returns-in_err-ask_gap g c =
       ok = error_has_no_value _ c.from_residual.result c.from_residual.ensures.0;
       closure = grind (arith, common_steps);
     }
+
+pub ask_gap-requires-clause-after : goal.ask_gap-requires-clause-after
+ask_gap-requires-clause-after g c = λ x e. let same : c.args.item.now.key ≡ x =
+    same_some e in rw (← same) c.requires.item

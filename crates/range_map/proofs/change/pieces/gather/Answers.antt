@@ -1,5 +1,5 @@
 use Rattle.std.proofs.lemmas.Grind.{common_steps}
-use Rattle.std.proofs.Common.{rules, ◌≡◌, ◌+◌, ◌<◌, length, get_or, take, arith, sym, ap, ◌∙◌, refl, Some}
+use Rattle.std.proofs.Common.{rules, ◌+◌, length, get_or, take, arith, sym, ap, ◌∙◌, refl, Some}
 use Rattle.std.specs.Cmp.{Equal-is}
 use Rattle.std.specs.Option.{option_copied}
 use Rattle.range_algebra.specs.Clones.{bound_clone}
@@ -7,6 +7,7 @@ use Rattle.range_algebra.specs.declared.any.AnyRange.{AnyRange}
 use Rattle.range_store.specs.declared.storage.Item.{Item}
 use Rattle.range_store.specs.Places.{place_before}
 use Rattle.range_map.specs.Answers.{MayBeAsked}
+use Rattle.range_map.proofs.Counts.{none_added, one_added, is_positive, is_reached, begins_within, end_within, is_not_end}
 use Rattle.range_map.proofs.Asked.{asked_good, asked_key_full, met_holds, met_nonempty, met_fails, met_is_underway, met_keeps_spelling, last_fails, all_gathered, all_keep_spelling}
 use Rattle.range_map.proofs.PieceAnswers.{underway_none}
 use Rattle.range_map.proofs.Results.{error_has_no_value}
@@ -20,7 +21,7 @@ loop-met-init g c =
     let window = c.requires.window in
     let place =
     place_before (storage.rank c.args.stored.now) (length items) c.args.window.now.from in
-    let none : place + 0 ≡ place = omega arith in
+    let none = none_added place in
     record {
       position = rw none window.position;
       last_is = refl;
@@ -34,9 +35,14 @@ loop-met-init g c =
 
 pub unreachable-requires : goal.unreachable-requires
 unreachable-requires g c =
+    let storage = g.C.Storage in
+    let items = storage.items c.args.stored.now in
+    let place =
+    place_before (storage.rank c.args.stored.now) (length items) c.args.window.now.from in
     let within = c.requires.window.in_range in
     let here = rw c.in-None.is at c.loop-met.invariant.position in
-    omega (arith, here, c.loop-met-test.true, within)
+    is_not_end place c.loop-met._met c.args.window.now.count (length items)
+    here c.loop-met-test.true within
 
 pub key_at-before-requires : goal.key_at-before-requires
 key_at-before-requires g c =
@@ -46,28 +52,60 @@ key_at-before-requires g c =
 pub get-requires : goal.get-requires
 get-requires g c = let here = rw c.in-Some.is at c.loop-met.invariant.position in here.0
 
-pub ask_item-requires : goal.ask_item-requires
-ask_item-requires g c =
+pub ask_item-requires-clause-before : goal.ask_item-requires-clause-before
+ask_item-requires-clause-before g c =
     let lawful = g.met.K.PartialEnum.lawful in
     let equal = g.met.V.Eq.laws in
     let window = c.requires.window in
+    let storage = g.C.Storage in
+    let items = storage.items c.args.stored.now in
+    let place =
+    place_before (storage.rank c.args.stored.now) (length items) c.args.window.now.from in
     let was = c.loop-met.invariant in
     let met = c.loop-met._met in
-    let more : c.loop-met._met < c.args.window.now.count = omega (arith, c.loop-met-test.true) in
+    let more = c.loop-met-test.true in
     let here = rw c.in-Some.is at was.position in
     let x = c.get.result.now in
     let read = c.get.ensures ∙ ap (λ n. get_or (g.C.Storage.items c.args.stored.now) n x) here.1 in
-    record {
-      before =
-          asked_key_full lawful equal window c.loop-met.last met
-          (option_copied c.key_at-before.result) was.last_is
-          (omega (arith, more, window.in_range)) c.key_at-before.ensures;
-      item = met_nonempty lawful equal window met x more read;
-      free = c.requires.free;
-      bound =
-          met_holds lawful equal window met x more read
-          (λ i. MayBeAsked g.F.Fn c.args.f.now (Some i.value)) c.requires.bound;
-    }
+    asked_key_full lawful equal window c.loop-met.last met (option_copied c.key_at-before.result)
+    was.last_is
+    (begins_within place met c.args.window.now.count (length items) more window.in_range)
+    c.key_at-before.ensures
+
+pub ask_item-requires-clause-item : goal.ask_item-requires-clause-item
+ask_item-requires-clause-item g c =
+    let lawful = g.met.K.PartialEnum.lawful in
+    let equal = g.met.V.Eq.laws in
+    let window = c.requires.window in
+    let storage = g.C.Storage in
+    let items = storage.items c.args.stored.now in
+    let place =
+    place_before (storage.rank c.args.stored.now) (length items) c.args.window.now.from in
+    let was = c.loop-met.invariant in
+    let met = c.loop-met._met in
+    let more = c.loop-met-test.true in
+    let here = rw c.in-Some.is at was.position in
+    let x = c.get.result.now in
+    let read = c.get.ensures ∙ ap (λ n. get_or (g.C.Storage.items c.args.stored.now) n x) here.1 in
+    met_nonempty lawful equal window met x more read
+
+pub ask_item-requires-clause-bound : goal.ask_item-requires-clause-bound
+ask_item-requires-clause-bound g c =
+    let lawful = g.met.K.PartialEnum.lawful in
+    let equal = g.met.V.Eq.laws in
+    let window = c.requires.window in
+    let storage = g.C.Storage in
+    let items = storage.items c.args.stored.now in
+    let place =
+    place_before (storage.rank c.args.stored.now) (length items) c.args.window.now.from in
+    let was = c.loop-met.invariant in
+    let met = c.loop-met._met in
+    let more = c.loop-met-test.true in
+    let here = rw c.in-Some.is at was.position in
+    let x = c.get.result.now in
+    let read = c.get.ensures ∙ ap (λ n. get_or (g.C.Storage.items c.args.stored.now) n x) here.1 in
+    met_holds lawful equal window met x more read
+    (λ i. MayBeAsked g.F.Fn c.args.f.now (Some i.value)) c.requires.bound
 
 pub returns-in_err-ask_item : goal.returns-in_err-ask_item
 returns-in_err-ask_item g c =
@@ -77,7 +115,7 @@ returns-in_err-ask_item g c =
     let x = c.get.result.now in
     let read = c.get.ensures ∙ ap (λ n. get_or (g.C.Storage.items c.args.stored.now) n x) here.1 in
     let before = option_copied c.key_at-before.result in
-    let more : c.loop-met._met < c.args.window.now.count = omega (arith, c.loop-met-test.true) in
+    let more = c.loop-met-test.true in
     let was = c.loop-met.invariant.underway lawful equal before c.key_at-before.ensures in
     record {
       ok = error_has_no_value _ c.from_residual.result c.from_residual.ensures.0;
@@ -107,11 +145,11 @@ loop-met-preserved g c =
     ∙ (Equal-is (g.K.Ord.cmp a b)).0
     (sym (g.met.K.Ord.matches_eq a b) ∙ c.requires.keys a b h) in
     let before = option_copied c.key_at-before.result in
-    let more : c.loop-met._met < c.args.window.now.count = omega (arith, c.loop-met-test.true) in
-    let next : storage.rank stored c.in-Some.p + 1 ≡ place + (met + 1) = omega (arith, here.1) in
+    let more = c.loop-met-test.true in
+    let next = one_added (storage.rank stored c.in-Some.p) place met here.1 in
     record {
       position = rw next at c.next-at.ensures;
-      last_is = (here.0, next, omega arith);
+      last_is = (here.0, next, is_positive met);
       spelled =
           let lawful = g.met.K.PartialEnum.lawful in
           let equal = g.met.V.Eq.laws in
@@ -139,17 +177,25 @@ key_at-requires g c =
 pub ask_gap-requires-clause-before : goal.ask_gap-requires-clause-before
 ask_gap-requires-clause-before g c =
     let window = c.requires.window in
+    let storage = g.C.Storage in
+    let items = storage.items c.args.stored.now in
+    let place =
+    place_before (storage.rank c.args.stored.now) (length items) c.args.window.now.from in
+    let all =
+    is_reached c.loop-met._met c.args.window.now.count c.loop-met.auto._met-end
+    c.loop-met-test.false in
     asked_key_full g.met.K.PartialEnum.lawful g.met.V.Eq.laws window c.loop-met.last c.loop-met._met
     (option_copied c.key_at.result) c.loop-met.invariant.last_is
-    (omega (arith, c.loop-met-test.false, c.loop-met.auto._met-end, window.in_range))
+    (end_within place c.loop-met._met c.args.window.now.count (length items) all window.in_range)
     c.key_at.ensures
 
 pub returns-in_err-ask_gap : goal.returns-in_err-ask_gap
 returns-in_err-ask_gap g c =
     let lawful = g.met.K.PartialEnum.lawful in
     let equal = g.met.V.Eq.laws in
-    let all : c.loop-met._met ≡ c.args.window.now.count =
-    omega (arith, c.loop-met-test.false, c.loop-met.auto._met-end) in
+    let all =
+    is_reached c.loop-met._met c.args.window.now.count c.loop-met.auto._met-end
+    c.loop-met-test.false in
     let before = option_copied c.key_at.result in
     let was = rw all at (c.loop-met.invariant.underway lawful equal before c.key_at.ensures) in
     record {
@@ -168,8 +214,9 @@ pub returns : goal.returns
 returns g c =
     let lawful = g.met.K.PartialEnum.lawful in
     let equal = g.met.V.Eq.laws in
-    let all : c.loop-met._met ≡ c.args.window.now.count =
-    omega (arith, c.loop-met-test.false, c.loop-met.auto._met-end) in
+    let all =
+    is_reached c.loop-met._met c.args.window.now.count c.loop-met.auto._met-end
+    c.loop-met-test.false in
     let equal_keys = λ (a : g.row.K.Denot) (b : g.row.K.Denot) (h : g.K.Clone.is_clone a b).
     sym (g.met.K.MaybeBounded.order_is_cmp a b)
     ∙ (Equal-is (g.K.Ord.cmp a b)).0
@@ -187,6 +234,3 @@ returns g c =
           c.in_ok-ask_gap.ensures.ok;
       closure = λ e failed. absurd (value_is_no_error failed);
     }
-
-pub ask_gap-requires-clause-callable : goal.ask_gap-requires-clause-callable
-ask_gap-requires-clause-callable g c = c.requires.free

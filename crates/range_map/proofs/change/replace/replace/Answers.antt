@@ -53,9 +53,11 @@ plan_is_replacement g c =
     c.requires.reach.window.in_range c.requires.apart is_first is_last c.run_start.ensures
     (c.joined_left-before.ensures lawful equal) (c.joined_right-after.ensures lawful equal)
 
-pub run_start-requires : goal.run_start-requires
-run_start-requires g c = let start =
-    run_can_start c.requires.reach in record { from = start.0; first = start.1 }
+pub run_start-requires-clause-from : goal.run_start-requires-clause-from
+run_start-requires-clause-from g c = (run_can_start c.requires.reach).0
+
+pub run_start-requires-clause-first : goal.run_start-requires-clause-first
+run_start-requires-clause-first g c = (run_can_start c.requires.reach).1
 
 pub run_length-requires : goal.run_length-requires
 run_length-requires g c =
@@ -160,18 +162,20 @@ returns g c =
       refused = tt;
     }
 
-pub joined_left-before-requires : goal.joined_left-before-requires
-joined_left-before-requires g c =
-    record { reach = c.requires.reach; within = grind (arith, common_steps) }
+pub returns-in_err-reserve-clause-ok : goal.returns-in_err-reserve-clause-ok
+returns-in_err-reserve-clause-ok g c =
+    error_has_no_value _ c.from_residual.result c.from_residual.ensures.0
 
-pub joined_right-after-requires : goal.joined_right-after-requires
-joined_right-after-requires g c =
-    record { reach = c.requires.reach; within = grind (arith, common_steps) }
+pub returns-in_err-reserve-clause-spelled : goal.returns-in_err-reserve-clause-spelled
+returns-in_err-reserve-clause-spelled g c =
+    λ kept. error_has_no_value _ c.from_residual.result c.from_residual.ensures.0
 
-pub returns-in_err-reserve : goal.returns-in_err-reserve
-returns-in_err-reserve g c =
-    record {
-      ok = error_has_no_value _ c.from_residual.result c.from_residual.ensures.0;
-      spelled = λ kept. error_has_no_value _ c.from_residual.result c.from_residual.ensures.0;
-      refused = on_error _ c.from_residual.result c.reserve.ensures.list;
-    }
+pub returns-in_err-reserve-clause-refused : goal.returns-in_err-reserve-clause-refused
+returns-in_err-reserve-clause-refused g c =
+    on_error _ c.from_residual.result c.reserve.ensures.list
+
+pub joined_left-before-requires-clause-within : goal.joined_left-before-requires-clause-within
+joined_left-before-requires-clause-within g c = grind (arith, common_steps)
+
+pub joined_right-after-requires-clause-within : goal.joined_right-after-requires-clause-within
+joined_right-after-requires-clause-within g c = grind (arith, common_steps)
