@@ -35,6 +35,30 @@ module _ {T : Type 0} where
       ∙ ap (block_in (cells_under cells m)) (change.other_records m other)
       ∙ sym (block_read records cells m)
 
+  pub fits_but : (cells new : List (Option T)) (records later : List (Option Record))
+      (free : List ℕ) (n : ℕ) → IsArena cells records free → IsChange cells new records later n
+      → ((kept : Record) → record_at later n ≡ Some kept → kept.len ≤ CAPACITY) → (m : ℕ)
+      → (kept : Record) → record_at later m ≡ Some kept → kept.len ≤ CAPACITY
+  fits_but cells new records later free n arena change here m kept is =
+      elim (cases_eq m n) [
+        | inl same ↦ here kept (rw same at is)
+        | inr apart ↦ arena.fits m kept (sym (change.other_records m apart) ∙ is)
+      ]
+
+  pub full_but : (cells new : List (Option T)) (records later : List (Option Record))
+      (free : List ℕ) (n : ℕ) → IsArena cells records free → IsChange cells new records later n
+      → ((kept : Record) → record_at later n ≡ Some kept
+          → IsFull (take kept.len (cells_under new n))) → (m : ℕ)
+      → (kept : Record) → record_at later m ≡ Some kept
+      → IsFull (take kept.len (cells_under new m))
+  full_but cells new records later free n arena change here m kept is =
+      elim (cases_eq m n) [
+        | inl same ↦ rw same (here kept (rw same at is))
+        | inr apart ↦
+            rw (change.others m apart)
+            (arena.full m kept (sym (change.other_records m apart) ∙ is))
+      ]
+
   -- the cells of one number have these items, as its record says
   pub record IsRewritten (cells new : List (Option T)) (records later : List (Option Record))
       (n : ℕ) (kept : Record) (items : List T) : Type 0 where
@@ -49,30 +73,13 @@ module _ {T : Type 0} where
   module _ (cells new : List (Option T)) (records later : List (Option Record)) (free : List ℕ)
       (n : ℕ) (kept : Record) (items : List T) (arena : IsArena cells records free)
       (written : IsRewritten cells new records later n kept items) where
-    fits_later : (m : ℕ) (other : Record) → record_at later m ≡ Some other → other.len ≤ CAPACITY
-    fits_later m other is =
-        elim (cases_eq m n) [
-          | inl same ↦
-              let equal : kept ≡ other = same_Some kept other
-                  (sym written.is ∙ rw same at is) in
-              rw (← equal) written.fits
-          | inr apart ↦ arena.fits m other
-              (sym (written.change.other_records m apart) ∙ is)
-        ]
+    fits_here : (other : Record) → record_at later n ≡ Some other → other.len ≤ CAPACITY
+    fits_here other is = rw (← same_Some kept other (sym written.is ∙ is)) written.fits
 
-    full_later : (m : ℕ) (other : Record) → record_at later m ≡ Some other
-        → IsFull (take other.len (cells_under new m))
-    full_later m other is =
-        elim (cases_eq m n) [
-          | inl same ↦
-              let equal : kept ≡ other = same_Some kept other
-                  (sym written.is ∙ rw same at is) in
-              let here = IsFull-from (take kept.len (cells_under new n)) items written.front in
-              rw same (rw (← equal) here)
-          | inr apart ↦
-              rw (written.change.others m apart)
-              (arena.full m other (sym (written.change.other_records m apart) ∙ is))
-        ]
+    full_here : (other : Record) → record_at later n ≡ Some other
+        → IsFull (take other.len (cells_under new n))
+    full_here other is = rw (← same_Some kept other (sym written.is ∙ is))
+        (IsFull-from (take kept.len (cells_under new n)) items written.front)
 
     taken : (i : ℕ) → i < length free → slice_index free i ≢ n
     taken i below same = none-some written.old
@@ -89,8 +96,8 @@ module _ {T : Type 0} where
     pub rewritten_arena : IsArena new later free
     rewritten_arena = record {
       cells_are = written.change.cells_are;
-      fits = fits_later;
-      full = full_later;
+      fits = fits_but cells new records later free n arena written.change fits_here;
+      full = full_but cells new records later free n arena written.change full_here;
       within = λ i below. omega (arith, arena.within i below, written.same_length);
       vacant = λ i below. written.change.other_records (slice_index free i) (taken i below)
           ∙ arena.vacant i below;

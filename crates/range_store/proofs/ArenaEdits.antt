@@ -3,14 +3,15 @@ use Rattle.std.proofs.Common.{◌≡◌, ◌≢◌, ℕ, ◌+◌, ◌-◌, ◌*�
 use borrow.Rule.Slice.PartMut.{put_mid}
 use Rattle.std.specs.List.{insert, remove}
 use Rattle.std.proofs.Math.ListN.{set}
-use Rattle.std.proofs.lemmas.List.{length-append, length-set, take-take, length-take-le, length-drop, get_or-set_same, get_or-set_other}
+use Rattle.std.proofs.lemmas.List.{length-append, length-set, take-take, length-take-le, length-drop, get_or-drop, get_or-set_same, get_or-set_other}
 use Rattle.range_store.specs.declared.btree.blocks.Record.{Record}
 use Rattle.range_store.specs.declared.btree.nodes.TheConstants.{CAPACITY}
+use Rattle.range_store.specs.Heap.{full_cells}
 use Rattle.range_store.specs.Blocks.{block_of, HasBlock, items_held, list_held}
 use Rattle.range_store.specs.Arena.{record_at, cells_under, table_of, IsArena}
-use Rattle.range_store.proofs.FullCells.{full_set}
+use Rattle.range_store.proofs.FullCells.{full_set, Standing}
 use Rattle.range_store.proofs.Arena.{IsFound, found}
-use Rattle.range_store.proofs.ArenaCells.{other_part, length-part, inserted, removed, other_set, front_set}
+use Rattle.range_store.proofs.ArenaCells.{other_part, part_read, length-part, inserted, removed, other_set, front_set}
 use Rattle.range_store.proofs.ArenaChanges.{IsChange, IsRewritten}
 
 module _ {T : Type 0} where
@@ -95,3 +96,18 @@ module _ {T : Type 0} where
               (omega arith) (ap (λ j. take j (cells_under cells n)) len_is ∙ here.full) within
               (is ∙ ap (λ j. drop 1 (take j ds) ++ None ∷ []) same);
         }
+
+    pub first_is : i < len → k ≡ CAPACITY * n + len - (CAPACITY * n + i)
+        → (stands : Standing (held cells records capacity n) i) (taken : Option T)
+        → taken ≡ get_or (take k (drop (CAPACITY * n + i) cells)) 0 taken
+        → taken ≡ Some stands.item
+    first_is within many stands taken is =
+        let here = found cells records free capacity n arena there in
+        let ds = drop (CAPACITY * n + i) cells in
+        let same : k ≡ len - i = omega arith in
+        let at : i + 0 ≡ i = omega arith in
+        let full = full_cells (held cells records capacity n) in
+        is ∙ ap (λ xs. get_or xs 0 taken) (ap (λ j. take j ds) same
+        ∙ part_read n i len cells (omega arith) (omega (arith, here.few))
+        ∙ ap (drop i) (ap (λ j. take j (cells_under cells n)) len_is ∙ here.full))
+        ∙ get_or-drop i full 0 taken ∙ ap (λ j. get_or full j taken) at ∙ stands.cell_is taken
