@@ -3,7 +3,7 @@ use Rattle.std.proofs.Common.{◌≡◌, ◌≢◌, ℕ, ◌+◌, ◌-◌, ◌*�
 use borrow.Rule.Slice.PartMut.{put_mid}
 use Rattle.std.specs.List.{insert, remove}
 use Rattle.std.proofs.Math.ListN.{set}
-use Rattle.std.proofs.lemmas.List.{length-append, length-set, take-take, length-take-le, length-drop, get_or-drop, get_or-set_same, get_or-set_other}
+use Rattle.std.proofs.lemmas.List.{length-append, length-set, take-take, length-take-le, length-drop, get_or-drop, get_or-take, get_or-set_same, get_or-set_other}
 use Rattle.range_store.specs.declared.btree.blocks.Record.{Record}
 use Rattle.range_store.specs.declared.btree.nodes.TheConstants.{CAPACITY}
 use Rattle.range_store.specs.Heap.{full_cells}
@@ -13,6 +13,11 @@ use Rattle.range_store.proofs.FullCells.{full_set, Standing}
 use Rattle.range_store.proofs.Arena.{IsFound, found}
 use Rattle.range_store.proofs.ArenaCells.{other_part, part_read, length-part, inserted, removed, other_set, front_set}
 use Rattle.range_store.proofs.ArenaChanges.{IsChange, IsRewritten}
+
+same_record : (a b : Record) → a.len ≡ b.len → a.list ≡ b.list → a ≡ b
+same_record a b len list =
+    ap {B = Record} (λ (m : ℕ). record { len = m; list = a.list }) len
+    ∙ ap {B = Record} (λ (k : ℕ). record { len = b.len; list = k }) list
 
 module _ {T : Type 0} where
   -- a part of a number's cells was written, and its record
@@ -111,3 +116,61 @@ module _ {T : Type 0} where
         ∙ part_read n i len cells (omega arith) (omega (arith, here.few))
         ∙ ap (drop i) (ap (λ j. take j (cells_under cells n)) len_is ∙ here.full))
         ∙ get_or-drop i full 0 taken ∙ ap (λ j. get_or full j taken) at ∙ stands.cell_is taken
+
+  -- what stands in a cell of a block
+  pub cell_read : (cells : List (Option T)) (records : List (Option Record)) (free : List ℕ)
+      (capacity n i : ℕ) (arena : IsArena cells records free)
+      (there : HasBlock (table_of cells records capacity) n)
+      → i < length (held cells records capacity n)
+      → (stands : Standing (held cells records capacity n) i) (cell : Option T)
+      → cell ≡ get_or cells (CAPACITY * n + i) cell → cell ≡ Some stands.item
+  cell_read cells records free capacity n i arena there within stands cell is =
+      let here = found cells records free capacity n arena there in
+      let items = held cells records capacity n in
+      is ∙ sym (get_or-drop (CAPACITY * n) cells i cell)
+      ∙ sym (get_or-take CAPACITY (drop (CAPACITY * n) cells) i cell (omega (arith, here.few)))
+      ∙ sym (get_or-take (length items) (cells_under cells n) i cell within)
+      ∙ ap (λ xs. get_or xs i cell) here.full ∙ stands.cell_is cell
+
+  -- the cells of a block, as they lie among those of all
+  pub cells_read : (cells : List (Option T)) (records : List (Option Record)) (free : List ℕ)
+      (capacity n many : ℕ) (arena : IsArena cells records free)
+      (there : HasBlock (table_of cells records capacity) n)
+      → many ≡ length (held cells records capacity n)
+      → take many (drop (CAPACITY * n) cells) ≡ full_cells (held cells records capacity n)
+  cells_read cells records free capacity n many arena there is =
+      let here = found cells records free capacity n arena there in
+      sym (take-take many CAPACITY (drop (CAPACITY * n) cells) (omega (arith, here.few)))
+      ∙ ap (λ j. take j (cells_under cells n)) is ∙ here.full
+
+  pub setting : (cells : List (Option T)) (records : List (Option Record)) (free : List ℕ)
+      (capacity n i : ℕ) (item : T) (arena : IsArena cells records free)
+      (there : HasBlock (table_of cells records capacity) n)
+      → i < length (held cells records capacity n)
+      → IsRewritten cells (set cells (CAPACITY * n + i) (Some item)) records records n
+          (record {
+            len = length (held cells records capacity n);
+            list = list_held (block_of (table_of cells records capacity) n);
+          }) (set (held cells records capacity n) i item)
+  setting cells records free capacity n i item arena there within =
+      let here = found cells records free capacity n arena there in
+      let items = held cells records capacity n in
+      let kept : Record = record {
+        len = length items;
+        list = list_held (block_of (table_of cells records capacity) n);
+      } in
+      record {
+        change = record {
+          cells_are = length-set cells (CAPACITY * n + i) (Some item) ∙ arena.cells_are;
+          others = other_set n i cells (Some item) (omega (arith, here.few));
+          other_records = λ m other. refl;
+        };
+        old = here.kept;
+        was = here.is;
+        is = here.is ∙ ap {B = Option Record} (λ (k : Record). Some k) (same_record here.kept kept
+            (sym here.len) (sym here.list));
+        same_length = refl;
+        fits = here.few;
+        front = front_set n i (length items) cells (Some item) here.few
+            ∙ ap (λ xs. set xs i (Some item)) here.full ∙ full_set items i item;
+      }
