@@ -31,7 +31,7 @@ module _ {T : Type 0} where
   })
 
   -- the blocks of records whose cells follow each other
-  pub blocks_in : List (Option Record) → List (Option T) → List (Option (Block T))
+  unfoldable pub blocks_in : List (Option Record) → List (Option T) → List (Option (Block T))
   blocks_in [] cells = []
   blocks_in (kept ∷ rest) cells =
       block_in (take CAPACITY cells) kept ∷ blocks_in rest (drop CAPACITY cells)

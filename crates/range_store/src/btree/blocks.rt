@@ -189,9 +189,10 @@ impl<T: Drop> Blocks<T> {
         requires { HasBlock self.now number }
         ensures { result.now ≡ full_cells (items_held (block_of self.now number)) }
     {
+        let cells = self.cells.as_slice();
         let start = CAPACITY * number;
         let end = start + self.record(number).len;
-        &self.cells.as_slice()[start..end]
+        &cells[start..end]
     }
 
     /// The item of a block at an index.
