@@ -1,14 +1,17 @@
 -- A node that took over another's items and children.
-use Rattle.std.proofs.Common.{◌≡◌, ◌≢◌, ◌⊎◌, ℕ, ◌+◌, ◌<◌, List, ◌∷◌, ◌++◌, length, None, sym, ap, subst, ◌∙◌}
+use Rattle.std.proofs.Common.{◌≡◌, ◌≢◌, ◌⊎◌, ℕ, ◌+◌, ◌<◌, List, [], ◌∷◌, ◌++◌, length, drop, None, sym, ap, subst, ◌∙◌, arith}
+use Rattle.std.specs.List.{insert}
+use Rattle.std.proofs.lemmas.List.{append_assoc, drop_all, take_all}
+use Rattle.std.proofs.lemmas.List.Edits.{length-insert}
 use Rattle.slab.specs.Slab.{Slab}
 use Rattle.arrayvec.specs.ArrayVec.{ArrayVec}
 use Rattle.range_store.specs.declared.btree.nodes.TheConstants.{NO_LIST}
-use Rattle.range_store.specs.Blocks.{Table, block_of, HasBlock, items_held, list_held, WritesBlock, RemovesBlock}
+use Rattle.range_store.specs.Blocks.{Table, block_of, HasBlock, items_held, list_held, WritesBlock, RemovesBlock, MovesEnd}
 use Rattle.range_store.specs.Division.{WritesBoth}
 use Rattle.range_store.specs.Heap.{node_of, items_of, children_of, Absorbs}
 use Rattle.range_store.specs.ChildLists.{list_in, heap_of, IsWhole, WritesList, AppendsList}
 use Rattle.range_store.proofs.Steps.{removed, removed_whole, written, written_whole}
-use Rattle.range_store.proofs.Tables.{with_block, removes_slot, writes_after}
+use Rattle.range_store.proofs.Tables.{both_kept, moved_left, removes_slot, then_left, with_block, writes_after}
 use Rattle.range_store.proofs.Wholes.{node_items, node_children}
 
 pub children_alike : (rights lefts others those : List ℕ) → rights ≡ others → lefts ≡ those
@@ -17,13 +20,44 @@ children_alike rights lefts others those right left either =
     subst (λ ks. (length ks ≡ 0) ⊎ (0 < length those)) right
     (subst (λ ks. (length rights ≡ 0) ⊎ (0 < length ks)) left either)
 
-module _ {T : Type 0} (blocks moved new : Table T) (lists new_lists : Slab (ArrayVec ℕ))
-    (whole : IsWhole blocks lists) (l r : ℕ) (apart : l ≢ r) where
+insert_end : {X : Type 0} (xs ys : List X) (i : ℕ) (x : X) → i ≡ length xs
+    → insert xs i x ++ ys ≡ xs ++ x ∷ ys
+insert_end xs ys i x at =
+    ap (λ zs. (zs ++ x ∷ drop i xs) ++ ys) (take_all i xs (omega arith))
+    ∙ ap (λ zs. (xs ++ x ∷ zs) ++ ys) (drop_all i xs (omega arith))
+    ∙ append_assoc xs (x ∷ []) ys
+
+-- the block l got an item at its end, and then all that r had
+module _ {T : Type 0} (s t : Table T) (l r i : ℕ) (middle : T) (apart : l ≢ r)
+    (left : HasBlock s l) (right : HasBlock s r) (at : i ≡ length (items_held (block_of s l)))
+    (put : WritesBlock s t l (insert (items_held (block_of s l)) i middle)) where
+  pub after_put : WritesBoth s t l r (insert (items_held (block_of s l)) i middle)
+      (items_held (block_of s r))
+  after_put = then_left s s t l r (items_held (block_of s l)) (items_held (block_of s r)) apart
+      (both_kept s l r left right) (insert (items_held (block_of s l)) i middle) put
+
+  pub put_length : length (items_held (block_of t l)) ≡ length (items_held (block_of s l)) + 1
+  put_length =
+      ap length put.items_are
+      ∙ length-insert (items_held (block_of s l)) i middle (omega arith)
+
+  module _ (u : Table T) (moves : MovesEnd t u r 0 l) where
+    pub joined : WritesBoth s u l r
+        (items_held (block_of s l) ++ middle ∷ items_held (block_of s r)) []
+    joined =
+        subst (λ xs. WritesBoth s u l r xs [])
+        (insert_end (items_held (block_of s l)) (items_held (block_of s r)) i middle at)
+        (moved_left s t u l r 0 (insert (items_held (block_of s l)) i middle)
+        (items_held (block_of s r)) apart after_put moves)
+
+module _ {T : Type 0} (blocks : Table T) (lists : Slab (ArrayVec ℕ)) (whole : IsWhole blocks lists)
+    (l r : ℕ) (apart : l ≢ r) where
   pub lists_apart : list_held (block_of blocks r) ≢ NO_LIST
       → list_held (block_of blocks l) ≢ list_held (block_of blocks r)
   lists_apart some same = apart (sym (whole.apart r l some (sym same)))
 
-  module _ (middle : T) (left : HasBlock blocks l) (right : HasBlock blocks r) (rest : List T)
+  module _ (moved new : Table T) (new_lists : Slab (ArrayVec ℕ)) (middle : T)
+      (left : HasBlock blocks l) (right : HasBlock blocks r) (rest : List T)
       (both : WritesBoth blocks moved l r
       (items_held (block_of blocks l) ++ middle ∷ items_held (block_of blocks r)) rest)
       (removes : RemovesBlock moved new r)

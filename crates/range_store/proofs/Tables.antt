@@ -182,16 +182,15 @@ module _ {T : Type 0} where
         let two = then_left s moves.between u l r xs _ apart one _ moves.second in
         rw (both.lefts_are, both.rights_are) at two
 
-  module _ (s t u : Table T) (l r list : ℕ) (xs ys : List T) (present : HasBlock s l) where
-    stored_apart : block_of s r ≡ None → l ≢ r
-    stored_apart fresh same =
-        false≢true (rw fresh at (rw same at present))
+  pub stored_apart : (s : Table T) (l r : ℕ) → HasBlock s l → block_of s r ≡ None → l ≢ r
+  stored_apart s l r present fresh same = false≢true (rw fresh at (rw same at present))
 
+  module _ (s t u : Table T) (l r list : ℕ) (xs ys : List T) (present : HasBlock s l) where
     -- a new block that got items as another was written: written first, then the new one
     pub adds_after : StoresBlock s t r list → WritesBoth t u l r xs ys
         → AddsBlock (with_items s l xs) u r list ys
     adds_after stores both =
-        let apart = stored_apart stores.fresh in
+        let apart = stored_apart s l r present stores.fresh in
         let first = writes_items s l xs present in
         let left : block_of t l ≡ block_of s l = stores.others l apart in
         record {

@@ -1,4 +1,4 @@
-use Rattle.std.proofs.Common.{◌≡◌, suc, ◌-◌, ◌<◌, sym, ap, ◌∙◌, rules, arith, count_by}
+use Rattle.std.proofs.Common.{◌≡◌, suc, ◌-◌, ◌<◌, sym, ap, ◌∙◌, arith, count_by}
 use Rattle.range_store.specs.Written.{root_shaped}
 use Rattle.range_store.proofs.Rank.{items_below_none}
 use Rattle.range_store.proofs.Paths.{not_start, stands_first}
@@ -13,13 +13,13 @@ returns-then-self-eq0-clause-found g c =
 pub search_below-edge-requires : goal.search_below-edge-requires
 search_below-edge-requires g c =
     let s = c.args.self.now in
-    let level : suc (s.levels - 1) ≡ s.levels = omega (arith, c.if-self-eq0.false) in (
-      search rules,
-      (
-        root_shaped s.nodes s.levels s.root (omega (arith, c.if-self-eq0.false)) s.whole.tree,
-        (tree_is_not_too_deep s.nodes s.levels s.root s.whole, rw level c.requires),
-      ),
-    )
+    let level : suc (s.levels - 1) ≡ s.levels = omega (arith, c.if-self-eq0.false) in
+    record {
+      shaped =
+          root_shaped s.nodes s.levels s.root (omega (arith, c.if-self-eq0.false)) s.whole.tree;
+      deep = tree_is_not_too_deep s.nodes s.levels s.root s.whole;
+      falls = rw level c.requires;
+    }
 
 pub returns-then-stands_first-clause-found : goal.returns-then-stands_first-clause-found
 returns-then-stands_first-clause-found g c =

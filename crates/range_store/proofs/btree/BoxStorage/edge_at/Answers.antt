@@ -1,9 +1,8 @@
-use Rattle.std.proofs.Common.{rules}
 use Rattle.range_store.proofs.Positions.{before_good, end_known, end_place}
 use Rattle.range_store.proofs.btree.BoxStorage.edge_at.Goals as goal
 
 pub edge_before-requires : goal.edge_before-requires
-edge_before-requires g c = (search rules, (c.requires c.in-Some.edge c.in-Some.is).is)
+edge_before-requires g c = (c.requires c.in-Some.edge c.in-Some.is).is
 
 pub returns-in-Some-clause-edge : goal.returns-in-Some-clause-edge
 returns-in-Some-clause-edge g c =

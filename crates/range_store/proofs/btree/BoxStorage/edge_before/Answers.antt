@@ -1,4 +1,4 @@
-use Rattle.std.proofs.Common.{◌≡◌, ℕ, ◌+◌, ◌-◌, ◌<◌, Option, Some, None, MatchOption, refl, rules, arith}
+use Rattle.std.proofs.Common.{◌≡◌, ℕ, ◌+◌, ◌-◌, ◌<◌, Option, Some, None, MatchOption, refl, arith}
 use Rattle.range_store.specs.Edges.{IsEdge}
 use Rattle.range_store.specs.Holding.{IsBoxEdge, box_place}
 use Rattle.range_store.specs.declared.btree.BoxStorage.{BoxStorage}
@@ -21,13 +21,12 @@ returns-then-edge-gt0 g c =
 
 pub edge_before-requires : goal.edge_before-requires
 edge_before-requires g c =
-    let s = c.args.self.now in (
-      search rules,
-      (
-        root_shaped s.nodes s.levels s.root c.requires.some s.whole.tree,
-        (tree_is_not_too_deep s.nodes s.levels s.root s.whole, c.requires.edge),
-      ),
-    )
+    let s = c.args.self.now in
+    record {
+      shaped = root_shaped s.nodes s.levels s.root c.requires.some s.whole.tree;
+      deep = tree_is_not_too_deep s.nodes s.levels s.root s.whole;
+      edge = c.requires.edge;
+    }
 
 box_edge : {T : Type 0} (s : BoxStorage T) (count : ℕ) → 0 < s.levels → (edge : Option Edge)
     → MatchOption edge (count ≡ 0)

@@ -1,4 +1,4 @@
-use Rattle.std.proofs.Common.{◌<◌, length, ap, rules, ◌∙◌, arith}
+use Rattle.std.proofs.Common.{◌<◌, length, ap, ◌∙◌, arith}
 use Rattle.range_store.specs.Holding.{box_levels}
 use Rattle.range_store.specs.Written.{root_shaped}
 use Rattle.range_store.proofs.Rank.{items_below_none}
@@ -11,13 +11,12 @@ returns-then-self-eq0 g c =
 
 pub end_edge-requires : goal.end_edge-requires
 end_edge-requires g c =
-    let s = c.args.self.now in (
-      search rules,
-      (
-        root_shaped s.nodes s.levels s.root (omega (arith, c.if-self-eq0.false)) s.whole.tree,
-        tree_is_not_too_deep s.nodes s.levels s.root s.whole,
-      ),
-    )
+    let s = c.args.self.now in
+    record {
+      shaped =
+          root_shaped s.nodes s.levels s.root (omega (arith, c.if-self-eq0.false)) s.whole.tree;
+      deep = tree_is_not_too_deep s.nodes s.levels s.root s.whole;
+    }
 
 pub returns : goal.returns
 returns g c =

@@ -1,4 +1,4 @@
-use Rattle.std.proofs.Common.{◌+◌, ◌<◌, length, refl, rules, arith}
+use Rattle.std.proofs.Common.{◌+◌, ◌<◌, length, refl, arith}
 use Rattle.range_store.specs.Heap.{items_of, node_of}
 use Rattle.range_store.specs.Holding.{box_place}
 use Rattle.range_store.specs.Written.{root_shaped}
@@ -7,7 +7,7 @@ use Rattle.range_store.proofs.Whole.{tree_is_not_too_deep, tree_leaf, tree_besid
 use Rattle.range_store.proofs.btree.BoxStorage.following.Goals as goal
 
 pub item_count-requires : goal.item_count-requires
-item_count-requires g c = (search rules, (tree_leaf c.args.self.now c.args.edge c.requires).present)
+item_count-requires g c = (tree_leaf c.args.self.now c.args.edge c.requires).present
 
 pub returns-then-edge-item_count : goal.returns-then-edge-item_count
 returns-then-edge-item_count g c =
@@ -25,13 +25,12 @@ returns-then-edge-item_count g c =
 
 pub following-requires : goal.following-requires
 following-requires g c =
-    let s = c.args.self.now in (
-      search rules,
-      (
-        root_shaped s.nodes s.levels s.root c.requires.some s.whole.tree,
-        (tree_is_not_too_deep s.nodes s.levels s.root s.whole, c.requires.edge),
-      ),
-    )
+    let s = c.args.self.now in
+    record {
+      shaped = root_shaped s.nodes s.levels s.root c.requires.some s.whole.tree;
+      deep = tree_is_not_too_deep s.nodes s.levels s.root s.whole;
+      edge = c.requires.edge;
+    }
 
 pub returns : goal.returns
 returns g c =

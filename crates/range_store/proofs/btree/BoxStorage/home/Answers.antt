@@ -1,4 +1,4 @@
-use Rattle.std.proofs.Common.{◌-◌, sym, rules}
+use Rattle.std.proofs.Common.{◌-◌, sym}
 use Rattle.range_store.specs.Written.{root_shaped}
 use Rattle.range_store.proofs.InLeaf.{leaf_home}
 use Rattle.range_store.proofs.btree.BoxStorage.home.Goals as goal
@@ -11,10 +11,9 @@ returns-then-edge-gt0 g c =
 
 pub find_home-requires : goal.find_home-requires
 find_home-requires g c =
-    let s = c.args.self.now in (
-      search rules,
-      (
-        root_shaped s.nodes s.levels s.root c.requires.edge.some s.whole.tree,
-        (c.requires.edge.edge, c.requires.some),
-      ),
-    )
+    let s = c.args.self.now in
+    record {
+      shaped = root_shaped s.nodes s.levels s.root c.requires.edge.some s.whole.tree;
+      edge = c.requires.edge.edge;
+      some = c.requires.some;
+    }

@@ -1,4 +1,4 @@
-use Rattle.std.proofs.Common.{◌≡◌, suc, ◌+◌, ◌-◌, [], ◌∷◌, length, refl, sym, ap, ◌∙◌, rules, arith}
+use Rattle.std.proofs.Common.{◌≡◌, suc, ◌+◌, ◌-◌, [], ◌∷◌, length, refl, sym, ap, ◌∙◌, arith}
 use Rattle.std.specs.List.{insert}
 use Rattle.std.proofs.lemmas.List.Edits.{length-insert}
 use Rattle.range_store.specs.Edges.{IsEdge, place, seat_place}
@@ -22,20 +22,17 @@ overflow_add-self g c = omega (arith, c.args.self.now.counted, c.requires.room)
 -- of a leaf with capacity to spare
 pub item_count-requires : goal.item_count-requires
 item_count-requires g c =
-    (search rules, (tree_leaf c.args.self.now c.args.edge c.requires.edge).present)
+    (tree_leaf c.args.self.now c.args.edge c.requires.edge).present
 
 pub put-requires : goal.put-requires
 put-requires g c =
-    let leaf = tree_leaf c.args.self.now c.args.edge c.requires.edge in (
-      search rules,
-      (
-        leaf.present,
-        (
-          leaf.within,
-          (omega (arith, c.if-item_count-lt-CAPACITY.true, c.item_count.ensures), leaf.childless),
-        ),
-      ),
-    )
+    let leaf = tree_leaf c.args.self.now c.args.edge c.requires.edge in
+    record {
+      present = leaf.present;
+      within = leaf.within;
+      room = omega (arith, c.if-item_count-lt-CAPACITY.true, c.item_count.ensures);
+      child = leaf.childless;
+    }
 
 put_here : (g : Over) (c : After-put g)
     → IsLeafChange c.args.self.now c.put.new.self c.args.edge c.requires.edge
@@ -145,22 +142,14 @@ pub insert_below-inserted-requires : goal.insert_below-inserted-requires
 insert_below-inserted-requires g c =
     let s = c.args.self.now in
     let some = c.requires.edge.some in
-    let level : suc (s.levels - 1) ≡ s.levels = omega (arith, some) in (
-      search rules,
-      (
-        root_shaped s.nodes s.levels s.root some s.whole.tree,
-        (
-          rw level (tree_owned s.nodes s.levels s.root s.whole.tree),
-          (
-            c.requires.edge.edge,
-            (
-              tree_is_not_too_deep s.nodes s.levels s.root s.whole,
-              one_more s.nodes s.levels s.root some s.whole.tree (omega (arith, c.requires.room)),
-            ),
-          ),
-        ),
-      ),
-    )
+    let level : suc (s.levels - 1) ≡ s.levels = omega (arith, some) in
+    record {
+      shaped = root_shaped s.nodes s.levels s.root some s.whole.tree;
+      owned = rw level (tree_owned s.nodes s.levels s.root s.whole.tree);
+      edge = c.requires.edge.edge;
+      deep = tree_is_not_too_deep s.nodes s.levels s.root s.whole;
+      room = one_more s.nodes s.levels s.root some s.whole.tree (omega (arith, c.requires.room));
+    }
 
 -- with no cut of the root
 kept : (g : Over) (c : In-None g)
@@ -228,13 +217,11 @@ returns-in-None-clause-place g c =
 -- with a cut of the root
 pub store_branch-self-requires : goal.store_branch-self-requires
 store_branch-self-requires g c =
-    let a = goal.at.store_branch-self-requires g c in (
-      search rules,
-      taller_room c.args.self.now.nodes c.insert_below-inserted.new.nodes c.args.self.now.levels
-          c.args.self.now.root c.in-Some.split _ c.requires.edge.some
-          (omega (arith, longer g a.After-insert_below-inserted, c.requires.room))
-          c.args.self.now.whole.tree (rw c.in-Some.is at c.insert_below-inserted.ensures.replaces),
-    )
+    let a = goal.at.store_branch-self-requires g c in
+    taller_room c.args.self.now.nodes c.insert_below-inserted.new.nodes c.args.self.now.levels
+    c.args.self.now.root c.in-Some.split _ c.requires.edge.some
+    (omega (arith, longer g a.After-insert_below-inserted, c.requires.room))
+    c.args.self.now.whole.tree (rw c.in-Some.is at c.insert_below-inserted.ensures.replaces)
 
 pub overflow_add-self-in-Some : goal.overflow_add-self-in-Some
 overflow_add-self-in-Some g c =

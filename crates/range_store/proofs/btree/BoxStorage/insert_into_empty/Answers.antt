@@ -1,4 +1,4 @@
-use Rattle.std.proofs.Common.{◌≡◌, ◌∷◌, [], refl, length, ap, sym, rules, arith}
+use Rattle.std.proofs.Common.{◌≡◌, ◌∷◌, [], refl, length, ap, sym, arith}
 use Rattle.range_store.specs.Nodes.{items_below, IsTree}
 use Rattle.range_store.proofs.Edges.{leaf_edge, leaf_place}
 use Rattle.range_store.proofs.Levels.{empty_levels, has_levels}
@@ -11,12 +11,9 @@ use Rattle.range_store.proofs.btree.BoxStorage.insert_into_empty.Goals.{After-st
 pub store_leaf-self-requires : goal.store_leaf-self-requires
 store_leaf-self-requires g c =
     let s = c.args.self.now in
-    let none = ap length c.requires.empty in (
-      search rules,
-      first_room s.nodes s.levels s.root
-          (empty_levels s.nodes s.levels s.root s.whole.tree none) s.whole.tree
-          (omega (arith, none, c.requires.room)),
-    )
+    let none = ap length c.requires.empty in first_room s.nodes s.levels s.root
+    (empty_levels s.nodes s.levels s.root s.whole.tree none) s.whole.tree
+    (omega (arith, none, c.requires.room))
 
 first : (g : Over) (c : After-store_leaf-self g)
     → IsTree c.store_leaf-self.new.self 1 c.store_leaf-self.result

@@ -1,4 +1,4 @@
-use Rattle.std.proofs.Common.{rules, arith}
+use Rattle.std.proofs.Common.{arith}
 use Rattle.range_store.specs.Written.{root_shaped}
 use Rattle.range_store.proofs.Rank.{items_below_none}
 use Rattle.range_store.proofs.Whole.{tree_is_not_too_deep}
@@ -10,10 +10,9 @@ returns-then-self-eq0 g c =
 
 pub first_edge-requires : goal.first_edge-requires
 first_edge-requires g c =
-    let s = c.args.self.now in (
-      search rules,
-      (
-        root_shaped s.nodes s.levels s.root (omega (arith, c.if-self-eq0.false)) s.whole.tree,
-        tree_is_not_too_deep s.nodes s.levels s.root s.whole,
-      ),
-    )
+    let s = c.args.self.now in
+    record {
+      shaped =
+          root_shaped s.nodes s.levels s.root (omega (arith, c.if-self-eq0.false)) s.whole.tree;
+      deep = tree_is_not_too_deep s.nodes s.levels s.root s.whole;
+    }

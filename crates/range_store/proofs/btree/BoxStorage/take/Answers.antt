@@ -1,4 +1,4 @@
-use Rattle.std.proofs.Common.{◌≡◌, [], ◌-◌, ◌≤◌, ◌+◌, length, ap, rules, arith}
+use Rattle.std.proofs.Common.{◌≡◌, [], ◌-◌, ◌≤◌, ◌+◌, length, ap, arith}
 use Rattle.range_store.specs.Holding.{box_items, box_place, IsBoxEdge, IsGood, good_home}
 use Rattle.range_store.proofs.Taking.{one_fewer, room_grows, space_grows, IsReplaced, replaced, replaced_item}
 use Rattle.range_store.proofs.Whole.{edge_within, tree_behind}
@@ -38,7 +38,7 @@ following-requires g c =
     × (box_place c.take_in_leaf-item.new.self c.in-Some.left + 1
     ≡ box_place c.args.self.now c.args.edge) =
     rw c.in-Some.is at c.take_in_leaf-item.ensures.edge in
-    (search rules, left.0)
+    left.0
 
 pub returns-in-Some-clause-space : goal.returns-in-Some-clause-space
 returns-in-Some-clause-space g c =
@@ -59,14 +59,12 @@ returns-in-Some-clause-following g c =
 
 -- from above the leaves
 pub take_in_leaf-next-requires : goal.take_in_leaf-next-requires
-take_in_leaf-next-requires g c = (
-  search rules,
-  (
-    (tree_behind c.args.self.now c.args.edge c.requires.edge
-        (omega (arith, c.if-edge-gt0.false))).0,
-    omega arith,
-  ),
-)
+take_in_leaf-next-requires g c =
+    record {
+      edge = (tree_behind c.args.self.now c.args.edge c.requires.edge
+          (omega (arith, c.if-edge-gt0.false))).0;
+      in_leaf = omega arith;
+    }
 
 pub unreachable-requires : goal.unreachable-requires
 unreachable-requires g c =
@@ -97,7 +95,7 @@ home-home-requires g c =
     ≡ box_place c.args.self.now
     (record { leaf = c.args.edge.leaf; path = c.args.edge.path; index = 1 })) =
     rw c.in-Some-left.is at c.take_in_leaf-next.ensures.edge in
-    (search rules, (left.0, omega (arith, left.1, behind.1, c.requires.some)))
+    record { edge = left.0; some = omega (arith, left.1, behind.1, c.requires.some) }
 
 pub replace_item-item-requires : goal.replace_item-item-requires
 replace_item-item-requires g c =
@@ -114,7 +112,7 @@ replace_item-item-requires g c =
     let good : IsGood t c.in-Some-left.left =
     record { is = left.0; some = omega (arith, left.1, behind.1, c.requires.some) } in
     let home = good_home t c.in-Some-left.left good in
-    (search rules, rw c.home-home.ensures (home.present, home.within))
+    rw c.home-home.ensures (record { present = home.present; within = home.within })
 
 replaced_so : (g : Over) (c : After-replace_item-item g)
     → IsReplaced c.args.self.now c.take_in_leaf-next.new.self c.args.edge

@@ -1,4 +1,4 @@
-use Rattle.std.proofs.Common.{◌≡◌, suc, ◌-◌, ◌<◌, ◌+◌, ◌∙◌, length, refl, ap, sym, rules, arith}
+use Rattle.std.proofs.Common.{◌≡◌, suc, ◌-◌, ◌<◌, ◌+◌, ◌∙◌, length, refl, ap, sym, arith}
 use Rattle.std.specs.List.{remove}
 use Rattle.std.proofs.lemmas.List.Edits.{length-remove}
 use Rattle.range_store.specs.Holding.{box_items, box_place}
@@ -46,13 +46,13 @@ overflow_sub-self g c =
 
 pub item_count-requires : goal.item_count-requires
 item_count-requires g c =
-    (search rules, (tree_leaf c.args.self.now c.args.edge c.requires.edge).present)
+    (tree_leaf c.args.self.now c.args.edge c.requires.edge).present
 
 -- from a leaf with an item to spare
 pub take_item-item-requires : goal.take_item-item-requires
 take_item-item-requires g c =
     let leaf = tree_leaf c.args.self.now c.args.edge c.requires.edge in
-    (search rules, (leaf.present, omega (arith, leaf.within, c.requires.in_leaf)))
+    record { present = leaf.present; within = omega (arith, leaf.within, c.requires.in_leaf) }
 
 taken : (g : Over) (c : After-take_item-item g)
     → IsLeafChange c.args.self.now c.take_item-item.new.self c.args.edge c.requires.edge
@@ -120,30 +120,23 @@ pub remove_below-taken-requires : goal.remove_below-taken-requires
 remove_below-taken-requires g c =
     let s = c.args.self.now in
     let some = c.requires.edge.some in
-    let level : suc (s.levels - 1) ≡ s.levels = omega (arith, some) in (
-      search rules,
-      (
-        root_shaped s.nodes s.levels s.root some s.whole.tree,
-        (
-          rw level (tree_owned s.nodes s.levels s.root s.whole.tree),
-          (
-            tree_is_not_too_deep s.nodes s.levels s.root s.whole,
-            (c.requires.edge.edge, c.requires.in_leaf),
-          ),
-        ),
-      ),
-    )
+    let level : suc (s.levels - 1) ≡ s.levels = omega (arith, some) in
+    record {
+      shaped = root_shaped s.nodes s.levels s.root some s.whole.tree;
+      owned = rw level (tree_owned s.nodes s.levels s.root s.whole.tree);
+      deep = tree_is_not_too_deep s.nodes s.levels s.root s.whole;
+      edge = c.requires.edge.edge;
+      in_leaf = c.requires.in_leaf;
+    }
 
 pub shrink_root-requires : goal.shrink_root-requires
 shrink_root-requires g c =
-    let s = c.args.self.now in (
-      search rules,
-      (
-        loosened_tree s.nodes c.remove_below-taken.new.nodes s.levels s.root _ c.requires.edge.some
-            s.whole.tree c.remove_below-taken.ensures.shrinks,
-        c.remove_below-taken.ensures.edge,
-      ),
-    )
+    let s = c.args.self.now in
+    record {
+      tree = loosened_tree s.nodes c.remove_below-taken.new.nodes s.levels s.root _ c.requires.edge.some
+          s.whole.tree c.remove_below-taken.ensures.shrinks;
+      edge = c.remove_below-taken.ensures.edge;
+    }
 
 shrunk : (g : Over) (c : After-shrink_root g)
     → items_below c.shrink_root.new.nodes c.shrink_root.result.root.levels

@@ -1,21 +1,8 @@
-use Rattle.std.proofs.Common.{◌≡◌, ℕ, ◌+◌, ◌-◌, ◌%◌, ◌<◌, ◌^◌, ◌≤◌, true, List, [], ◌∷◌, ◌++◌, length, get_or, take, sym, ◌∙◌, rules, arith}
+use Rattle.std.proofs.Common.{◌≡◌, ℕ, ◌+◌, ◌-◌, ◌<◌, ◌≤◌, true, List, [], ◌∷◌, ◌++◌, length, get_or, take, sym, ◌∙◌, rules, arith}
 use Rattle.std.specs.List.{AllZip}
 use Rattle.std.proofs.lemmas.List.{length_push, take_all}
 use Rattle.std.proofs.lemmas.List.Edits.{insert_end}
 use Rattle.std.proofs.lemmas.List.Elements.{all_zip_more}
-use denote.Builtin.{unit}
-use denote.Param.{layout, number, param}
-use denote.RattleType.{RattleType}
-use mir.Syntax.{Ty, Width, w8, w16, w32, w64, w128}
-use mir.Val.{bytes}
-use native.Mathlib.Nat.{mod-lt}
-use prog.Align.{align-bytes, align_pos, align_w, up-ge}
-use prog.Memory.{align, size, up}
-use Rattle.arrayvec.specs.contracts.array_vec.ArrayVec
-use Rattle.std.specs.contracts.option.Option
-use Rattle.range_store.specs.contracts.btree.BoxStorage
-use Rattle.range_store.specs.contracts.btree.nodes.Node
-use Rattle.range_store.specs.contracts.btree.nodes.Nodes
 use Rattle.range_store.specs.Holding.{box_items, box_room, good_in_range}
 use Rattle.range_store.proofs.btree.BoxStorageStorage.clone.Goals as goal
 
@@ -56,16 +43,15 @@ some_room n m room within space = omega arith
 
 pub insert_at-requires : goal.insert_at-requires
 insert_at-requires g c =
-    let here = rw c.in-Some.is at c.loop-at.invariant.position in (
-      search rules,
-      (
-        (λ x none. search rules),
-        some_room (length (box_items c.args.self.now)) (length (box_items c.loop-at.copy))
-            (box_room c.loop-at.copy)
-            (rw here.1 at (good_in_range c.args.self.now c.in-Some.p here.0))
-            c.loop-at.invariant.space,
-      ),
-    )
+    let here = rw c.in-Some.is at c.loop-at.invariant.position in
+    record {
+      good = λ x none. search rules;
+      has_room =
+          some_room (length (box_items c.args.self.now)) (length (box_items c.loop-at.copy))
+          (box_room c.loop-at.copy)
+          (rw here.1 at (good_in_range c.args.self.now c.in-Some.p here.0))
+          c.loop-at.invariant.space;
+    }
 
 fewer_left : (n m k : ℕ) → k ≡ m + 1 → m < n → n - k < n - m
 fewer_left n m k count within = omega arith

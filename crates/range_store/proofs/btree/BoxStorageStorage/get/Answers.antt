@@ -1,4 +1,3 @@
-use Rattle.std.proofs.Common.{rules}
 use Rattle.range_store.specs.Holding.{good_home}
 use Rattle.range_store.proofs.Lent.{item_home}
 use Rattle.range_store.proofs.btree.BoxStorageStorage.get.Goals as goal
@@ -6,7 +5,7 @@ use Rattle.range_store.proofs.btree.BoxStorageStorage.get.Goals as goal
 pub item_at-requires : goal.item_at-requires
 item_at-requires g c =
     let home = good_home c.args.self.now c.args.p c.requires in
-    (search rules, rw c.home-home.ensures (home.present, home.within))
+    rw c.home-home.ensures (record { present = home.present; within = home.within })
 
 pub returns : goal.returns
 returns g c =

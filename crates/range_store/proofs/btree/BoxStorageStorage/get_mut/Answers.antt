@@ -1,4 +1,4 @@
-use Rattle.std.proofs.Common.{refl, rules}
+use Rattle.std.proofs.Common.{refl}
 use Rattle.range_store.specs.Holding.{good_home}
 use Rattle.range_store.proofs.Lent.{counted_at, item_home, roomy_at, same_storage, written_at}
 use Rattle.range_store.proofs.btree.BoxStorageStorage.get_mut.Goals as goal
@@ -6,7 +6,7 @@ use Rattle.range_store.proofs.btree.BoxStorageStorage.get_mut.Goals as goal
 pub item_mut-requires : goal.item_mut-requires
 item_mut-requires g c =
     let home = good_home c.args.self.now c.args.p c.requires in
-    (search rules, rw c.home-home.ensures (home.present, home.within))
+    rw c.home-home.ensures (record { present = home.present; within = home.within })
 
 pub invariant_of-self-lent : goal.invariant_of-self-lent
 invariant_of-self-lent g c w =

@@ -1,4 +1,4 @@
-use Rattle.std.proofs.Common.{refl, rules}
+use Rattle.std.proofs.Common.{refl}
 use Rattle.range_store.specs.Holding.{good_home, rank_is, written_items, written_nodes}
 use Rattle.range_store.specs.Written.{SameShape}
 use Rattle.range_store.proofs.Lent.{counted_at, good_same, item_home, roomy_at, written_at}
@@ -7,7 +7,7 @@ use Rattle.range_store.proofs.btree.BoxStorageStorage.replace.Goals as goal
 pub replace_item-requires : goal.replace_item-requires
 replace_item-requires g c =
     let home = good_home c.args.self.now c.args.p c.requires in
-    (search rules, rw c.home-home.ensures (home.present, home.within))
+    rw c.home-home.ensures (record { present = home.present; within = home.within })
 
 pub invariant_of-self : goal.invariant_of-self
 invariant_of-self g c =

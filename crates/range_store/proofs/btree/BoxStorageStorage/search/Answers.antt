@@ -1,14 +1,11 @@
-use Rattle.std.proofs.Common.{rules}
 use Rattle.range_store.specs.Holding.{box_items}
 use Rattle.range_store.proofs.Front.{falls_partitioned}
 use Rattle.range_store.proofs.Positions.{front_found}
 use Rattle.range_store.proofs.btree.BoxStorageStorage.search.Goals as goal
 
 pub edge_after_passing-requires : goal.edge_after_passing-requires
-edge_after_passing-requires g c = (
-  search rules,
-  falls_partitioned (g.P.Probe.test c.args.probe.now) (box_items c.args.self.now) c.requires,
-)
+edge_after_passing-requires g c =
+    falls_partitioned (g.P.Probe.test c.args.probe.now) (box_items c.args.self.now) c.requires
 
 pub returns-clause-found : goal.returns-clause-found
 returns-clause-found g c =

@@ -1,4 +1,4 @@
-use Rattle.std.proofs.Common.{◌+◌, ◌-◌, get_or, rules, ◌∙◌, arith, Some, None}
+use Rattle.std.proofs.Common.{◌+◌, ◌-◌, get_or, ◌∙◌, arith, Some, None}
 use Rattle.std.specs.List.{insert}
 use Rattle.std.proofs.lemmas.List.Edits.{length-insert}
 use Rattle.range_store.specs.Heap.{node_of, items_of, children_of}
@@ -31,33 +31,22 @@ put_or_cut-requires g t c =
     let long =
     length-insert (items_of (node_of s c.args.number)) c.args.edge.index c.args.item low in
     let content = leaf_content s c.args.number c.args.edge.index c.args.item shaped owned in
-    let seat = leaf_seat s _ _ (c.args.edge.index + 1) c.args.edge (omega (arith, low, long)) in (
-      search rules,
-      (
-        c.requires.shaped.node.present,
-        (
-          low,
-          (
-            c.requires.shaped.node.fits,
-            (
-              shaped.node.branches,
-              (
-                rw c.if-below-eq0.true content,
-                (
-                  (λ full. content_room s s 0 c.args.number
-                      (insert (items_of (node_of s c.args.number)) c.args.edge.index c.args.item)
-                      (children_of (node_of s c.args.number))
-                      (leaf_moved s c.args.number c.args.edge.index c.args.item shaped) content
-                      (leaf_longer s c.args.number c.args.edge.index c.args.item shaped low)
-                      (rw c.if-below-eq0.true at c.requires.room) (omega (arith, long, full))),
-                  (c.requires.deep, rw c.if-below-eq0.true seat),
-                ),
-              ),
-            ),
-          ),
-        ),
-      ),
-    )
+    let seat = leaf_seat s _ _ (c.args.edge.index + 1) c.args.edge (omega (arith, low, long)) in
+    record {
+      present = c.requires.shaped.node.present;
+      within = low;
+      fits = c.requires.shaped.node.fits;
+      child = shaped.node.branches;
+      content = rw c.if-below-eq0.true content;
+      room = (λ full. content_room s s 0 c.args.number
+          (insert (items_of (node_of s c.args.number)) c.args.edge.index c.args.item)
+          (children_of (node_of s c.args.number))
+          (leaf_moved s c.args.number c.args.edge.index c.args.item shaped) content
+          (leaf_longer s c.args.number c.args.edge.index c.args.item shaped low)
+          (rw c.if-below-eq0.true at c.requires.room) (omega (arith, long, full)));
+      deep = c.requires.deep;
+      seat = rw c.if-below-eq0.true seat;
+    }
 
 pub returns-then-below-eq0-clause-replaces : goal.returns-then-below-eq0-clause-replaces
 returns-then-below-eq0-clause-replaces g t c =
@@ -82,16 +71,14 @@ returns-then-below-eq0-clause-place g t c =
     (at ∙ leaf_seat_place c.args.nodes.now _ _ (c.args.edge.index + 1) c.args.edge)
 
 pub child_at-child-requires : goal.child_at-child-requires
-child_at-child-requires g t c = (
-  search rules,
-  (
-    c.requires.shaped.node.present,
-    rw c.first_turn-index.ensures
-        (child_within c.args.nodes.now c.args.below c.args.number c.if-below-eq0.false
-        c.requires.shaped _ (below_turn c.args.nodes.now c.args.below c.args.number
-        c.if-below-eq0.false c.requires.shaped c.args.edge c.requires.edge)),
-  ),
-)
+child_at-child-requires g t c =
+    record {
+      present = c.requires.shaped.node.present;
+      within = rw c.first_turn-index.ensures
+          (child_within c.args.nodes.now c.args.below c.args.number c.if-below-eq0.false
+          c.requires.shaped _ (below_turn c.args.nodes.now c.args.below c.args.number
+          c.if-below-eq0.false c.requires.shaped c.args.edge c.requires.edge));
+    }
 
 pub insert_below-inserted-requires : goal.insert_below-inserted-requires
 insert_below-inserted-requires g t c κs inside =
@@ -118,12 +105,9 @@ insert_below-inserted-requires g t c κs inside =
       omega (arith, c.if-below-eq0.false),
       (
         inside,
-        (
-          search rules,
-          rw (c.child_at-child.ensures, c.first_turn-index.ensures, c.seen_inside.ensures) (
-            kid,
-            (rw (← back) at owned, (is, (omega (arith, c.requires.deep), rw (← back) at room))),
-          ),
+        rw (c.child_at-child.ensures, c.first_turn-index.ensures, c.seen_inside.ensures) (
+          kid,
+          (rw (← back) at owned, (is, (omega (arith, c.requires.deep), rw (← back) at room))),
         ),
       ),
     )
@@ -305,32 +289,21 @@ put_or_cut-requires-in-Some g t c =
     let up =
     (grown_seat s u c.args.below c.args.number i rest c.args.item
     (Some c.in-Some.cut) c.if-below-eq0.false c.requires.shaped c.requires.owned low within
-    child c.insert_below-inserted.result.side c.insert_below-inserted.result.edge seat).0 in (
-      search rules,
-      (
-        rw kept c.requires.shaped.node.present,
-        (
-          rw kept (omega (arith, low, c.first_turn-index.ensures)),
-          (
-            rw kept c.requires.shaped.node.fits,
-            (
-              rw kept (children_length 1 CAPACITY s c.args.below c.args.number
-                  (omega (arith, c.if-below-eq0.false)) c.requires.shaped),
-              (
-                rw (c.first_turn-index.ensures, ← items, ← children) content,
-                (
-                  (λ full.
-                      content_room s u c.args.below c.args.number _ _ moved content longer
-                      c.requires.room
-                      (omega (arith, long, rw kept at full))),
-                  (c.requires.deep, rw (c.first_turn-index.ensures, ← items, ← children) up),
-                ),
-              ),
-            ),
-          ),
-        ),
-      ),
-    )
+    child c.insert_below-inserted.result.side c.insert_below-inserted.result.edge seat).0 in
+    record {
+      present = rw kept c.requires.shaped.node.present;
+      within = rw kept (omega (arith, low, c.first_turn-index.ensures));
+      fits = rw kept c.requires.shaped.node.fits;
+      child = rw kept (children_length 1 CAPACITY s c.args.below c.args.number
+          (omega (arith, c.if-below-eq0.false)) c.requires.shaped);
+      content = rw (c.first_turn-index.ensures, ← items, ← children) content;
+      room = (λ full.
+          content_room s u c.args.below c.args.number _ _ moved content longer
+          c.requires.room
+          (omega (arith, long, rw kept at full)));
+      deep = c.requires.deep;
+      seat = rw (c.first_turn-index.ensures, ← items, ← children) up;
+    }
 
 pub returns-in-Some-clause-replaces : goal.returns-in-Some-clause-replaces
 returns-in-Some-clause-replaces g t c =

@@ -1,4 +1,4 @@
-use Rattle.std.proofs.Common.{◌≡◌, ◌+◌, ◌-◌, ◌<◌, length, map, refl, rules, ◌∙◌, arith}
+use Rattle.std.proofs.Common.{◌≡◌, ◌+◌, ◌-◌, ◌<◌, length, map, refl, ◌∙◌, arith}
 use Rattle.range_store.specs.Heap.{node_of, items_of, children_of}
 use Rattle.range_store.specs.Nodes.{before, items_below}
 use Rattle.range_store.specs.Edges.{turn}
@@ -7,16 +7,14 @@ use Rattle.range_store.proofs.Paths.{level_of_children, child_within, below_kid,
 use Rattle.range_store.proofs.btree.path.+edge_before.Goals as goal
 
 pub child_at-child-requires : goal.child_at-child-requires
-child_at-child-requires g t c = (
-  search rules,
-  (
-    c.requires.shaped.node.present,
-    rw c.first_turn-index.ensures
-        (child_within c.args.nodes.now c.args.below c.args.number c.if-below-eq0.false
-        c.requires.shaped _ (below_turn c.args.nodes.now c.args.below c.args.number
-        c.if-below-eq0.false c.requires.shaped c.args.edge c.requires.edge)),
-  ),
-)
+child_at-child-requires g t c =
+    record {
+      present = c.requires.shaped.node.present;
+      within = rw c.first_turn-index.ensures
+          (child_within c.args.nodes.now c.args.below c.args.number c.if-below-eq0.false
+          c.requires.shaped _ (below_turn c.args.nodes.now c.args.below c.args.number
+          c.if-below-eq0.false c.requires.shaped c.args.edge c.requires.edge));
+    }
 
 pub edge_before-requires : goal.edge_before-requires
 edge_before-requires g t c κs within =
@@ -32,11 +30,8 @@ edge_before-requires g t c κs within =
       omega (arith, c.if-below-eq0.false),
       (
         within,
-        (
-          search rules,
-          rw (c.child_at-child.ensures, c.first_turn-index.ensures, c.seen_inside.ensures)
-              (kid, (omega (arith, c.requires.deep), is)),
-        ),
+        rw (c.child_at-child.ensures, c.first_turn-index.ensures, c.seen_inside.ensures)
+            (kid, (omega (arith, c.requires.deep), is)),
       ),
     )
 
@@ -128,36 +123,32 @@ returns-then-index-eq0 g t c =
     )
 
 pub child_at-last-requires : goal.child_at-last-requires
-child_at-last-requires g t c = (
-  search rules,
-  (
-    c.requires.shaped.node.present,
-    child_within c.args.nodes.now c.args.below c.args.number c.if-below-eq0.false
-        c.requires.shaped _ (omega (
-          arith,
-          c.first_turn-index.ensures,
-          below_turn c.args.nodes.now c.args.below c.args.number c.if-below-eq0.false
-              c.requires.shaped c.args.edge c.requires.edge,
-        )),
-  ),
-)
+child_at-last-requires g t c =
+    record {
+      present = c.requires.shaped.node.present;
+      within = child_within c.args.nodes.now c.args.below c.args.number c.if-below-eq0.false
+          c.requires.shaped _ (omega (
+            arith,
+            c.first_turn-index.ensures,
+            below_turn c.args.nodes.now c.args.below c.args.number c.if-below-eq0.false
+                c.requires.shaped c.args.edge c.requires.edge,
+          ));
+    }
 
 pub end_edge-requires : goal.end_edge-requires
-end_edge-requires g t c = (
-  search rules,
-  (
-    rw c.child_at-last.ensures
-        (below_kid c.args.nodes.now c.args.below c.args.number c.if-below-eq0.false
-        c.requires.shaped (c.first_turn-index.result - 1)
-        (omega (
-          arith,
-          c.first_turn-index.ensures,
-          below_turn c.args.nodes.now c.args.below c.args.number c.if-below-eq0.false
-              c.requires.shaped c.args.edge c.requires.edge,
-        ))),
-    omega (arith, c.requires.deep),
-  ),
-)
+end_edge-requires g t c =
+    record {
+      shaped = rw c.child_at-last.ensures
+          (below_kid c.args.nodes.now c.args.below c.args.number c.if-below-eq0.false
+          c.requires.shaped (c.first_turn-index.result - 1)
+          (omega (
+            arith,
+            c.first_turn-index.ensures,
+            below_turn c.args.nodes.now c.args.below c.args.number c.if-below-eq0.false
+                c.requires.shaped c.args.edge c.requires.edge,
+          )));
+      deep = omega (arith, c.requires.deep);
+    }
 
 pub seen_above-requires-2-clause-index : goal.seen_above-requires-2-clause-index
 seen_above-requires-2-clause-index g t c =

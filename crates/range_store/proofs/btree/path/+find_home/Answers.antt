@@ -1,4 +1,4 @@
-use Rattle.std.proofs.Common.{rules, sym, ◌∙◌, arith}
+use Rattle.std.proofs.Common.{sym, ◌∙◌, arith}
 use Rattle.range_store.specs.Edges.{turn}
 use Rattle.range_store.proofs.Edges.{leaf_place}
 use Rattle.range_store.proofs.Paths.{below_inside, below_kid, below_turn, child_within, home_above, home_inside, home_leaf, inside_is_later, turn_is_later}
@@ -41,15 +41,13 @@ child_at-requires g t c =
     let s = c.args.nodes.now in
     let low =
     below_turn s c.args.below c.args.number c.if-below-eq0.false c.requires.shaped
-    c.args.edge c.requires.edge in (
-      search rules,
-      (
-        c.requires.shaped.node.present,
-        rw c.first_turn-index.ensures
-            (child_within s c.args.below c.args.number c.if-below-eq0.false c.requires.shaped _
-            low),
-      ),
-    )
+    c.args.edge c.requires.edge in
+    record {
+      present = c.requires.shaped.node.present;
+      within = rw c.first_turn-index.ensures
+          (child_within s c.args.below c.args.number c.if-below-eq0.false c.requires.shaped _
+          low);
+    }
 
 pub find_home-requires : goal.find_home-requires
 find_home-requires g t c κs within =
@@ -63,17 +61,14 @@ find_home-requires g t c κs within =
       omega (arith, c.if-below-eq0.false),
       (
         within,
-        (
-          search rules,
-          rw (c.child_at.ensures, c.first_turn-index.ensures, c.seen_inside-inner.ensures) (
-            below_kid s c.args.below c.args.number c.if-below-eq0.false c.requires.shaped
-                (turn c.args.edge) low,
-            (
-              below_inside s c.args.below c.args.number c.if-below-eq0.false c.requires.shaped
-                  c.args.edge c.requires.edge,
-              inside_is_later s c.args.below c.args.number c.if-below-eq0.false c.requires.shaped
-                  c.args.edge c.requires.edge start,
-            ),
+        rw (c.child_at.ensures, c.first_turn-index.ensures, c.seen_inside-inner.ensures) (
+          below_kid s c.args.below c.args.number c.if-below-eq0.false c.requires.shaped
+              (turn c.args.edge) low,
+          (
+            below_inside s c.args.below c.args.number c.if-below-eq0.false c.requires.shaped
+                c.args.edge c.requires.edge,
+            inside_is_later s c.args.below c.args.number c.if-below-eq0.false c.requires.shaped
+                c.args.edge c.requires.edge start,
           ),
         ),
       ),

@@ -1,4 +1,4 @@
-use Rattle.std.proofs.Common.{◌+◌, ◌-◌, ◌<◌, length, refl, rules, ap, ◌∙◌, arith}
+use Rattle.std.proofs.Common.{◌+◌, ◌-◌, ◌<◌, length, refl, ap, ◌∙◌, arith}
 use Rattle.range_store.specs.Heap.{items_of, node_of}
 use Rattle.range_store.specs.Edges.{turn}
 use Rattle.range_store.proofs.Below.{items_below_leaf}
@@ -52,15 +52,13 @@ child_at-child-requires g t c =
     let s = c.args.nodes.now in
     let low =
     below_turn s c.args.below c.args.number c.if-below-eq0.false c.requires.shaped
-    c.args.edge c.requires.edge in (
-      search rules,
-      (
-        c.requires.shaped.node.present,
-        rw c.first_turn-index.ensures
-            (child_within s c.args.below c.args.number c.if-below-eq0.false c.requires.shaped _
-            low),
-      ),
-    )
+    c.args.edge c.requires.edge in
+    record {
+      present = c.requires.shaped.node.present;
+      within = rw c.first_turn-index.ensures
+          (child_within s c.args.below c.args.number c.if-below-eq0.false c.requires.shaped _
+          low);
+    }
 
 pub following-requires : goal.following-requires
 following-requires g t c κs within =
@@ -77,11 +75,8 @@ following-requires g t c κs within =
       omega (arith, c.if-below-eq0.false),
       (
         within,
-        (
-          search rules,
-          rw (c.child_at-child.ensures, c.first_turn-index.ensures, c.seen_inside.ensures)
-              (kid, (omega (arith, c.requires.deep), is)),
-        ),
+        rw (c.child_at-child.ensures, c.first_turn-index.ensures, c.seen_inside.ensures)
+            (kid, (omega (arith, c.requires.deep), is)),
       ),
     )
 
@@ -157,42 +152,38 @@ child_at-next-requires g t c =
     let s = c.args.nodes.now in
     let low =
     below_turn s c.args.below c.args.number c.if-below-eq0.false c.requires.shaped
-    c.args.edge c.requires.edge in (
-      search rules,
-      (
-        c.requires.shaped.node.present,
-        child_within s c.args.below c.args.number c.if-below-eq0.false c.requires.shaped _
-            (omega (
-              arith,
-              low,
-              c.first_turn-index.ensures,
-              c.if-index-item_count.false,
-              c.item_count-2.ensures,
-            )),
-      ),
-    )
+    c.args.edge c.requires.edge in
+    record {
+      present = c.requires.shaped.node.present;
+      within = child_within s c.args.below c.args.number c.if-below-eq0.false c.requires.shaped _
+          (omega (
+            arith,
+            low,
+            c.first_turn-index.ensures,
+            c.if-index-item_count.false,
+            c.item_count-2.ensures,
+          ));
+    }
 
 pub first_edge-requires : goal.first_edge-requires
 first_edge-requires g t c =
     let s = c.args.nodes.now in
     let low =
     below_turn s c.args.below c.args.number c.if-below-eq0.false c.requires.shaped
-    c.args.edge c.requires.edge in (
-      search rules,
-      (
-        rw c.child_at-next.ensures
-            (below_kid s c.args.below c.args.number c.if-below-eq0.false c.requires.shaped
-            (c.first_turn-index.result + 1)
-            (omega (
-              arith,
-              low,
-              c.first_turn-index.ensures,
-              c.if-index-item_count.false,
-              c.item_count-2.ensures,
-            ))),
-        omega (arith, c.requires.deep),
-      ),
-    )
+    c.args.edge c.requires.edge in
+    record {
+      shaped = rw c.child_at-next.ensures
+          (below_kid s c.args.below c.args.number c.if-below-eq0.false c.requires.shaped
+          (c.first_turn-index.result + 1)
+          (omega (
+            arith,
+            low,
+            c.first_turn-index.ensures,
+            c.if-index-item_count.false,
+            c.item_count-2.ensures,
+          )));
+      deep = omega (arith, c.requires.deep);
+    }
 
 pub seen_above-requires-2-clause-index : goal.seen_above-requires-2-clause-index
 seen_above-requires-2-clause-index g t c =

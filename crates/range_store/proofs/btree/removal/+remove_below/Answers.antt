@@ -1,4 +1,4 @@
-use Rattle.std.proofs.Common.{◌≡◌, ◌+◌, ◌-◌, length, get_or, map, refl, ap, rules, ◌∙◌, arith}
+use Rattle.std.proofs.Common.{◌≡◌, ◌+◌, ◌-◌, length, get_or, map, refl, ap, ◌∙◌, arith}
 use Rattle.std.proofs.lemmas.List.Edits.{length-remove}
 use Rattle.range_store.specs.Heap.{node_of, items_of, children_of}
 use Rattle.range_store.specs.declared.btree.nodes.TheConstants.{CAPACITY, MIN_LEN}
@@ -13,18 +13,16 @@ use Rattle.range_store.proofs.Paths.{level_of_children, child_within, below_kid,
 use Rattle.range_store.proofs.btree.removal.+remove_below.Goals as goal
 
 pub take_item-item-requires : goal.take_item-item-requires
-take_item-item-requires g t c = (
-  search rules,
-  (
-    c.requires.shaped.node.present,
-    omega (
-      arith,
-      leaf_index c.args.nodes.now c.args.number c.args.edge
-          (rw c.if-below-eq0.true at c.requires.edge),
-      c.requires.in_leaf,
-    ),
-  ),
-)
+take_item-item-requires g t c =
+    record {
+      present = c.requires.shaped.node.present;
+      within = omega (
+        arith,
+        leaf_index c.args.nodes.now c.args.number c.args.edge
+            (rw c.if-below-eq0.true at c.requires.edge),
+        c.requires.in_leaf,
+      );
+    }
 
 pub returns-then-below-eq0-clause-item : goal.returns-then-below-eq0-clause-item
 returns-then-below-eq0-clause-item g t c =
@@ -73,16 +71,14 @@ returns-then-below-eq0-clause-place g t c =
     ))
 
 pub child_at-child-requires : goal.child_at-child-requires
-child_at-child-requires g t c = (
-  search rules,
-  (
-    c.requires.shaped.node.present,
-    rw c.first_turn-index.ensures
-        (child_within c.args.nodes.now c.args.below c.args.number c.if-below-eq0.false
-        c.requires.shaped _ (below_turn c.args.nodes.now c.args.below c.args.number
-        c.if-below-eq0.false c.requires.shaped c.args.edge c.requires.edge)),
-  ),
-)
+child_at-child-requires g t c =
+    record {
+      present = c.requires.shaped.node.present;
+      within = rw c.first_turn-index.ensures
+          (child_within c.args.nodes.now c.args.below c.args.number c.if-below-eq0.false
+          c.requires.shaped _ (below_turn c.args.nodes.now c.args.below c.args.number
+          c.if-below-eq0.false c.requires.shaped c.args.edge c.requires.edge));
+    }
 
 pub remove_below-taken-requires : goal.remove_below-taken-requires
 remove_below-taken-requires g t c κs inside =
@@ -106,14 +102,11 @@ remove_below-taken-requires g t c κs inside =
       omega (arith, c.if-below-eq0.false),
       (
         inside,
-        (
-          search rules,
-          rw (c.child_at-child.ensures, c.first_turn-index.ensures, c.seen_inside.ensures) (
-            kid,
-            (
-              rw (← back) at owned,
-              (omega (arith, c.requires.deep), (is, c.requires.in_leaf)),
-            ),
+        rw (c.child_at-child.ensures, c.first_turn-index.ensures, c.seen_inside.ensures) (
+          kid,
+          (
+            rw (← back) at owned,
+            (omega (arith, c.requires.deep), (is, c.requires.in_leaf)),
           ),
         ),
       ),
@@ -142,20 +135,16 @@ rebalance-edge-requires g t c =
     (child.shape (MIN_LEN - 1) (omega (arith, enough))) in
     let edge =
     rw (c.child_at-child.ensures, c.first_turn-index.ensures) at
-    c.remove_below-taken.ensures.edge in (
-      search rules,
-      (
-        rw c.first_turn-index.ensures short,
-        (
-          omega (arith, c.requires.deep, c.if-below-eq0.false),
-          rw (
-            c.first_turn-index.ensures,
-            kid_kept s c.remove_below-taken.new.nodes c.args.below c.args.number i _
-                c.if-below-eq0.false c.requires.shaped c.requires.owned low listed moved,
-          ) edge,
-        ),
-      ),
-    )
+    c.remove_below-taken.ensures.edge in
+    record {
+      short = rw c.first_turn-index.ensures short;
+      deep = omega (arith, c.requires.deep, c.if-below-eq0.false);
+      edge = rw (
+        c.first_turn-index.ensures,
+        kid_kept s c.remove_below-taken.new.nodes c.args.below c.args.number i _
+            c.if-below-eq0.false c.requires.shaped c.requires.owned low listed moved,
+      ) edge;
+    }
 
 pub returns-clause-shrinks : goal.returns-clause-shrinks
 returns-clause-shrinks g t c =

@@ -1,4 +1,4 @@
-use Rattle.std.proofs.Common.{◌-◌, rules, arith}
+use Rattle.std.proofs.Common.{◌-◌, arith}
 use Rattle.range_store.proofs.Edges.{path_low}
 use Rattle.range_store.proofs.Pairs.{seat_low}
 use Rattle.range_store.specs.declared.btree.nodes.TheConstants.{MIN_LEN}
@@ -6,25 +6,19 @@ use Rattle.range_store.proofs.Rotating.{has_pair, moved_path, next_edge, next_ke
 use Rattle.range_store.proofs.btree.removal.borrow_from_left.Goals as goal
 
 pub child_at-right-requires : goal.child_at-right-requires
-child_at-right-requires g c = (
-  search rules,
-  (
-    c.requires.levelled.node.present,
-    omega (arith, c.requires.levelled.within, c.requires.levelled.node.branches),
-  ),
-)
+child_at-right-requires g c =
+    record {
+      present = c.requires.levelled.node.present;
+      within = omega (arith, c.requires.levelled.within, c.requires.levelled.node.branches);
+    }
 
 pub rotate_right-requires : goal.rotate_right-requires
-rotate_right-requires g c = (
-  search rules,
-  (
-    has_pair c.args.nodes.now c.args.low c.args.number c.args.index c.requires.levelled,
-    (
-      omega (arith, c.requires.spare),
-      omega (arith, c.requires.levelled.fits, c.requires.spare),
-    ),
-  ),
-)
+rotate_right-requires g c =
+    record {
+      pair = has_pair c.args.nodes.now c.args.low c.args.number c.args.index c.requires.levelled;
+      some = omega (arith, c.requires.spare);
+      room = omega (arith, c.requires.levelled.fits, c.requires.spare);
+    }
 
 pub overflow_add-index-2 : goal.overflow_add-index-2
 overflow_add-index-2 g c = omega (arith, c.requires.levelled.within, c.requires.levelled.node.fits)

@@ -1,19 +1,15 @@
-use Rattle.std.proofs.Common.{rules, arith}
+use Rattle.std.proofs.Common.{arith}
 use Rattle.range_store.proofs.Edges.{path_small}
 use Rattle.range_store.proofs.Rotating.{has_pair, previous_edge, previous_kept, previous_shrinks}
 use Rattle.range_store.proofs.btree.removal.borrow_from_right.Goals as goal
 
 pub rotate_left-requires : goal.rotate_left-requires
-rotate_left-requires g c = (
-  search rules,
-  (
-    has_pair c.args.nodes.now c.args.low c.args.number c.args.index c.requires.levelled,
-    (
-      omega (arith, c.requires.spare),
-      omega (arith, c.requires.levelled.fits, c.requires.spare),
-    ),
-  ),
-)
+rotate_left-requires g c =
+    record {
+      pair = has_pair c.args.nodes.now c.args.low c.args.number c.args.index c.requires.levelled;
+      some = omega (arith, c.requires.spare);
+      room = omega (arith, c.requires.levelled.fits, c.requires.spare);
+    }
 
 pub seen_above-requires-clause-index : goal.seen_above-requires-clause-index
 seen_above-requires-clause-index g c =

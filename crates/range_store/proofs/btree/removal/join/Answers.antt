@@ -1,30 +1,26 @@
-use Rattle.std.proofs.Common.{rules, arith}
+use Rattle.std.proofs.Common.{arith}
 use Rattle.range_store.proofs.Edges.{path_low}
 use Rattle.range_store.proofs.Pairs.{near_seat}
 use Rattle.range_store.proofs.Rotating.{has_pair, joined_edge, joined_shrinks, moved_path}
 use Rattle.range_store.proofs.btree.removal.join.Goals as goal
 
 pub child_at-left-requires : goal.child_at-left-requires
-child_at-left-requires g c = (
-  search rules,
-  (
-    c.requires.levelled.node.present,
-    omega (arith, c.requires.levelled.within, c.requires.levelled.node.branches),
-  ),
-)
+child_at-left-requires g c =
+    record {
+      present = c.requires.levelled.node.present;
+      within = omega (arith, c.requires.levelled.within, c.requires.levelled.node.branches);
+    }
 
 pub item_count-many-requires : goal.item_count-many-requires
 item_count-many-requires g c =
-    (search rules, rw c.child_at-left.ensures c.requires.levelled.left.node.present)
+    rw c.child_at-left.ensures c.requires.levelled.left.node.present
 
 pub merge-requires : goal.merge-requires
-merge-requires g c = (
-  search rules,
-  (
-    has_pair c.args.nodes.now c.args.low c.args.number c.args.index c.requires.levelled,
-    c.requires.few,
-  ),
-)
+merge-requires g c =
+    record {
+      pair = has_pair c.args.nodes.now c.args.low c.args.number c.args.index c.requires.levelled;
+      room = c.requires.few;
+    }
 
 pub joined_seat-seat-requires-clause-many : goal.joined_seat-seat-requires-clause-many
 joined_seat-seat-requires-clause-many g c =

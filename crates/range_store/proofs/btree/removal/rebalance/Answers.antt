@@ -1,4 +1,4 @@
-use Rattle.std.proofs.Common.{◌≡◌, ◌+◌, ◌-◌, ◌<◌, ◌≤◌, length, refl, sym, ap, ◌∙◌, inl, inr, rules, arith}
+use Rattle.std.proofs.Common.{◌≡◌, ◌+◌, ◌-◌, ◌<◌, ◌≤◌, length, refl, sym, ap, ◌∙◌, inl, inr, arith}
 use Rattle.std.proofs.lemmas.Bool.{cases_lt}
 use Rattle.range_store.specs.Nodes.{child_size}
 use Rattle.range_store.specs.Heap.{node_of, items_of}
@@ -54,26 +54,20 @@ short_child g c =
     )
 
 pub item_count-requires-then-index-gt0 : goal.item_count-requires-then-index-gt0
-item_count-requires-then-index-gt0 g c = (
-  search rules,
-  rw c.child_at-before.ensures
-      (all_present c.args.nodes.now c.args.low c.args.number c.args.index c.requires.short
-      (c.args.index - 1) 0 (omega
-      (arith, c.requires.short.within, c.requires.short.node.branches))),
-)
+item_count-requires-then-index-gt0 g c = rw c.child_at-before.ensures
+    (all_present c.args.nodes.now c.args.low c.args.number c.args.index c.requires.short
+    (c.args.index - 1) 0 (omega
+    (arith, c.requires.short.within, c.requires.short.node.branches)))
 
 pub item_count-requires-then-index-item_count : goal.item_count-requires-then-index-item_count
-item_count-requires-then-index-item_count g c = (
-  search rules,
-  rw c.child_at-behind.ensures
-      (all_present c.args.nodes.now c.args.low c.args.number c.args.index c.requires.short
-      (c.args.index + 1) 0 (omega (
-        arith,
-        c.requires.short.within,
-        c.requires.short.node.branches,
-        c.if-index-item_count.true,
-      ))),
-)
+item_count-requires-then-index-item_count g c = rw c.child_at-behind.ensures
+    (all_present c.args.nodes.now c.args.low c.args.number c.args.index c.requires.short
+    (c.args.index + 1) 0 (omega (
+      arith,
+      c.requires.short.within,
+      c.requires.short.node.branches,
+      c.if-index-item_count.true,
+    )))
 
 pub borrow_from_left-requires : goal.borrow_from_left-requires
 borrow_from_left-requires g c =
@@ -82,21 +76,18 @@ borrow_from_left-requires g c =
     let levelled =
     pair_levelled c.args.nodes.now c.args.low c.args.number c.args.index c.requires.short
     (c.args.index - 1) (omega (arith, c.if-index-gt0.true, c.requires.short.within))
-    (inr next) short in (
-      search rules,
-      (
-        levelled,
-        (
-          omega (
-            arith,
-            c.if-item_count-gt-MIN_LEN.true,
-            c.item_count-then-index-gt0.ensures,
-            ap (λ k. length (items_of (node_of c.args.nodes.now k))) c.child_at-before.ensures,
-          ),
-          (c.requires.deep, rw next c.requires.edge),
-        ),
-      ),
-    )
+    (inr next) short in
+    record {
+      levelled = levelled;
+      spare = omega (
+        arith,
+        c.if-item_count-gt-MIN_LEN.true,
+        c.item_count-then-index-gt0.ensures,
+        ap (λ k. length (items_of (node_of c.args.nodes.now k))) c.child_at-before.ensures,
+      );
+      deep = c.requires.deep;
+      edge = rw next c.requires.edge;
+    }
 
 pub borrow_from_right-requires : goal.borrow_from_right-requires
 borrow_from_right-requires g c =
@@ -104,21 +95,18 @@ borrow_from_right-requires g c =
     let levelled =
     pair_levelled c.args.nodes.now c.args.low c.args.number c.args.index c.requires.short
     c.args.index (omega (arith, c.if-index-item_count.true, c.item_count-2.ensures))
-    (inl refl) short in (
-      search rules,
-      (
-        levelled,
-        (
-          omega (
-            arith,
-            c.if-item_count-gt-MIN_LEN-2.true,
-            c.item_count-then-index-item_count.ensures,
-            ap (λ k. length (items_of (node_of c.args.nodes.now k))) c.child_at-behind.ensures,
-          ),
-          (c.requires.deep, c.requires.edge),
-        ),
-      ),
-    )
+    (inl refl) short in
+    record {
+      levelled = levelled;
+      spare = omega (
+        arith,
+        c.if-item_count-gt-MIN_LEN-2.true,
+        c.item_count-then-index-item_count.ensures,
+        ap (λ k. length (items_of (node_of c.args.nodes.now k))) c.child_at-behind.ensures,
+      );
+      deep = c.requires.deep;
+      edge = c.requires.edge;
+    }
 
 -- no neighbour has an item to spare
 none_before : (g : Over) (c : After-saturating_sub g) → 0 < c.args.index
@@ -163,16 +151,14 @@ join-requires g c =
           let next : c.args.index - 1 + 1 ≡ c.args.index = omega (arith, some) in
           let levelled =
           pair_levelled c.args.nodes.now c.args.low c.args.number c.args.index m
-          (c.args.index - 1) (omega (arith, some, m.within)) (inr next) short in (
-            search rules,
-            (
-              rw less levelled,
-              (
-                rw (less, next) (omega (arith, none_before g a some, short)),
-                (c.requires.deep, (inr (omega (arith, less, some)), c.requires.edge)),
-              ),
-            ),
-          )
+          (c.args.index - 1) (omega (arith, some, m.within)) (inr next) short in
+          record {
+            levelled = rw less levelled;
+            few = rw (less, next) (omega (arith, none_before g a some, short));
+            deep = c.requires.deep;
+            near = inr (omega (arith, less, some));
+            edge = c.requires.edge;
+          }
       | inr first ↦
           let start : c.args.index ≡ 0 = omega (arith, first) in
           let same : c.saturating_sub.result ≡ c.args.index = omega (arith, less, start) in
@@ -180,16 +166,14 @@ join-requires g c =
           omega (arith, start, m.node.enough) in
           let levelled =
           pair_levelled c.args.nodes.now c.args.low c.args.number c.args.index m
-          c.args.index within (inl refl) short in (
-            search rules,
-            (
-              rw same levelled,
-              (
-                rw same (omega (arith, none_behind g a within, short)),
-                (c.requires.deep, (inl (omega (arith, same)), c.requires.edge)),
-              ),
-            ),
-          )
+          c.args.index within (inl refl) short in
+          record {
+            levelled = rw same levelled;
+            few = rw same (omega (arith, none_behind g a within, short));
+            deep = c.requires.deep;
+            near = inl (omega (arith, same));
+            edge = c.requires.edge;
+          }
     ]
 
 pub returns-clause-lent : goal.returns-clause-lent

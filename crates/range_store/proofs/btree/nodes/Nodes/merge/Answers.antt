@@ -1,4 +1,4 @@
-use Rattle.std.proofs.Common.{arith, rules}
+use Rattle.std.proofs.Common.{arith}
 use Rattle.range_store.proofs.Siblings.{merged, merged_children, merged_places}
 use Rattle.range_store.proofs.btree.nodes.Nodes.merge.Goals as goal
 
@@ -17,26 +17,15 @@ append-requires g c =
     let pair = c.requires.pair in
     let left = c.take_beside-down.ensures.rest.others _ pair.left_apart in
     let right = c.take_beside-down.ensures.rest.others _ pair.right_apart in
-    rw (c.child_at-left.ensures, c.child_at-right.ensures, left, right) (
-      search rules,
-      (
-        pair.left,
-        (
-          pair.right,
-          (
-            pair.apart,
-            (
-              c.requires.room,
-              (
-                merged_children s n i pair,
-                merged_places s n i pair
-                    c.requires.room,
-              ),
-            ),
-          ),
-        ),
-      ),
-    )
+    rw (c.child_at-left.ensures, c.child_at-right.ensures, left, right) (record {
+      left = pair.left;
+      right = pair.right;
+      apart = pair.apart;
+      room = c.requires.room;
+      children = merged_children s n i pair;
+      places = merged_places s n i pair
+          c.requires.room;
+    })
 
 pub returns : goal.returns
 returns g c =

@@ -1,4 +1,4 @@
-use Rattle.std.proofs.Common.{length, sym, ap, subst, arith, rules}
+use Rattle.std.proofs.Common.{length, sym, ap, subst, arith}
 use Rattle.std.proofs.Math.ListN.{set}
 use Rattle.range_store.specs.Heap.{HasNode, node_of, items_of, children_of, Writes, left_items, left_children, right_items, right_children}
 use Rattle.range_store.proofs.Heaps.{writes_item}
@@ -13,7 +13,7 @@ replace_item-down-requires g c =
     let pair = c.requires.pair in
     let one = rw c.child_at-right.ensures at c.take_beside-up.ensures.rest in
     let same = one.others c.args.number (λ e. pair.right_apart (sym e)) in
-    (search rules, (rw same pair.parent, rw same pair.item))
+    record { present = rw same pair.parent; within = rw same pair.item }
 
 pub returns : goal.returns
 returns g c =
@@ -45,7 +45,7 @@ item_count-end-requires g c =
     c.args.number c.args.index c.requires.pair c.take_beside-up.result.0 c.child_at-left.result
     c.child_at-right.result c.child_at-left.ensures c.child_at-right.ensures
     c.replace_item-down.ensures.after _ _ c.take_beside-up.ensures.rest in
-    (search rules, rw same c.requires.pair.left)
+    rw same c.requires.pair.left
 
 pub overflow_add-end : goal.overflow_add-end
 overflow_add-end g c =
@@ -71,19 +71,11 @@ put_beside-requires g c =
     c.child_at-right.result c.child_at-left.ensures c.child_at-right.ensures
     c.replace_item-down.ensures.after _ _ c.take_beside-up.ensures.rest in
     let fits = fits_first pair.below (left_items s n i) (left_children s n i) (right_items s n i)
-    (right_children s n i) pair.left_branches pair.right_branches in (
-      search rules,
-      (
-        rw same pair.left,
-        (
-          omega (arith, c.item_count-end.ensures),
-          (
-            omega (arith, c.item_count-end.ensures),
-            (
-              rw same c.requires.room,
-              rw (c.take_beside-up.ensures.child, same, c.child_at-right.ensures) fits,
-            ),
-          ),
-        ),
-      ),
-    )
+    (right_children s n i) pair.left_branches pair.right_branches in
+    record {
+      present = rw same pair.left;
+      within = omega (arith, c.item_count-end.ensures);
+      near = omega (arith, c.item_count-end.ensures);
+      room = rw same c.requires.room;
+      child = rw (c.take_beside-up.ensures.child, same, c.child_at-right.ensures) fits;
+    }

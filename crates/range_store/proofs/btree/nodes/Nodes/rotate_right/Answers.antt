@@ -1,4 +1,4 @@
-use Rattle.std.proofs.Common.{sym, subst, arith, rules}
+use Rattle.std.proofs.Common.{sym, subst, arith}
 use Rattle.std.proofs.Math.ListN.{set}
 use Rattle.range_store.specs.Heap.{HasNode, node_of, items_of, children_of, Writes, left_items, left_children, right_items, right_children}
 use Rattle.range_store.proofs.Heaps.{writes_item}
@@ -13,7 +13,7 @@ replace_item-down-requires g c =
     let pair = c.requires.pair in
     let one = rw c.child_at-left.ensures at c.take_beside-up.ensures.rest in
     let same = one.others c.args.number (λ e. pair.left_apart (sym e)) in
-    (search rules, (rw same pair.parent, rw same pair.item))
+    record { present = rw same pair.parent; within = rw same pair.item }
 
 pub returns : goal.returns
 returns g c =
@@ -52,25 +52,17 @@ put_beside-requires g c =
     c.child_at-right.result c.child_at-left.ensures c.child_at-right.ensures
     c.replace_item-down.ensures.after _ _ c.take_beside-up.ensures.rest in
     let fits = fits_last pair.below (right_items s n i) (right_children s n i) (left_items s n i)
-    (left_children s n i) pair.right_branches pair.left_branches in (
-      search rules,
-      (
-        rw same pair.right,
-        (
-          omega arith,
-          (
-            omega arith,
-            (
-              rw same c.requires.room,
-              rw (
-                c.take_beside-up.ensures.child,
-                same,
-                c.item_count-end.ensures,
-                c.child_at-left.ensures,
-              )
-                  fits,
-            ),
-          ),
-        ),
-      ),
-    )
+    (left_children s n i) pair.right_branches pair.left_branches in
+    record {
+      present = rw same pair.right;
+      within = omega arith;
+      near = omega arith;
+      room = rw same c.requires.room;
+      child = rw (
+        c.take_beside-up.ensures.child,
+        same,
+        c.item_count-end.ensures,
+        c.child_at-left.ensures,
+      )
+          fits;
+    }

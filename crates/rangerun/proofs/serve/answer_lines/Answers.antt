@@ -8,13 +8,13 @@ use Rattle.rangerun.specs.Replies.{Writes}
 use Rattle.rangerun.specs.Conversation.{Conversation}
 use Rattle.rangerun.proofs.Progress.{HasAnswered, answered_none, answered_more, answered_all, if_some_as, stopped_at, line_of, none_of_none, first_line_of}
 use Rattle.rangerun.proofs.Runs.{answers_runs}
-use Rattle.rangerun.proofs.serve.serve_lines.Goals as goal
+use Rattle.rangerun.proofs.serve.answer_lines.Goals as goal
 
 pub loop-init : goal.loop-init
 loop-init g c =
     answered_none g.K.MaybeBounded.order g.K.SpelledKey.as_number g.K.Json.shape g.K.Json.reads
     g.K.Json.is_read (g.R.Read.remaining c.args.input.now) (g.W.Write.contents c.args.out.now)
-    (box_items c.new-map.result) c.new-map.ensures
+    (box_items c.args.map.now) c.requires
 
 pub returns-then-count-eq0-clause-ended : goal.returns-then-count-eq0-clause-ended
 returns-then-count-eq0-clause-ended g c =
