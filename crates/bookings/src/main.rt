@@ -17,23 +17,33 @@ use reply::answer_line;
 
 const BUFFER_BYTES: usize = 4096;
 
-/// Answers each line of the input.
-fn serve<R: BufRead, W: Write>(alloc: Global, input: &mut R, out: &mut W) -> io::Result<()> {
-    let mut calendar = Calendar::new(alloc);
-    let mut line = Vec::new(alloc);
+/// Answers each line of the input; `line` is the buffer of one.
+fn answer_lines<R: BufRead, W: Write>(
+    alloc: Global,
+    calendar: &mut Calendar,
+    line: &mut Vec<u8>,
+    input: &mut R,
+    out: &mut W,
+) -> io::Result<()> {
     for _ in 0..u64::MAX {
         line.clear();
-        if input.read_until(b'\n', &mut line)? == 0 {
+        if input.read_until(b'\n', line)? == 0 {
             break;
         }
         let text = line.as_slice();
         let text = text.strip_suffix(b"\n").unwrap_or(text);
         match str::from_utf8(text) {
-            Ok(text) => answer_line(alloc, &mut calendar, text, out)?,
+            Ok(text) => answer_line(alloc, calendar, text, out)?,
             Err(_) => out.write_all(b"bad line\n")?,
         }
     }
     out.flush()
+}
+
+fn serve<R: BufRead, W: Write>(alloc: Global, input: &mut R, out: &mut W) -> io::Result<()> {
+    let mut calendar = Calendar::new(alloc);
+    let mut line = Vec::new(alloc);
+    answer_lines(alloc, &mut calendar, &mut line, input, out)
 }
 
 fn main(rt: HostRuntime) -> io::Result<()> {
