@@ -4,6 +4,7 @@ use Rattle.std.specs.Prelude.{slice_index}
 use Rattle.std.proofs.Math.ListN.{set}
 use Rattle.std.proofs.lemmas.Bool.{cases_lt, false≢true}
 use Rattle.std.proofs.lemmas.List.{length-append, length-replicate, length-set, length_push, get_or_append_left, get_or_push, get_or_past, get_or-set_same, get_or-set_other}
+use Rattle.std.proofs.lemmas.List.Sums.{get_or-le-sum_by}
 use Rattle.std.proofs.lemmas.Option.{none-some, same_Some}
 use Rattle.range_store.specs.declared.btree.blocks.Record.{Record}
 use Rattle.range_store.specs.declared.btree.nodes.TheConstants.{CAPACITY}
@@ -31,6 +32,16 @@ no_number m comes =
       | inl some ↦ absurd (false≢true (comes some))
       | inr none ↦ omega arith
     ]
+
+pub some_counted : (records : List (Option Record)) (n : ℕ) (kept : Record)
+    → record_at records n ≡ Some kept → 0 < count_by is_some records
+some_counted records n kept is =
+    omega (
+      arith,
+      get_or-le-sum_by (λ (o : Option Record). cond (is_some o) 1 0) records n None
+          (record_within records n kept is),
+      bit_some (record_at records n) kept is,
+    )
 
 -- a record without items
 abbrev pub empty_record : ℕ → Record
