@@ -14,7 +14,10 @@ use Rattle.range_store.proofs.FullCells.{IsFull-from, items_are}
 use Rattle.range_store.proofs.Counts.{bit, count_moved}
 use Rattle.range_store.proofs.Arena.{block_read, blocks_count, length-blocks, length-under, record_within, IsFound}
 
-bit_some : {X : Type 0} (slot : Option X) (x : X) → slot ≡ Some x → ◌≡◌ {A = ℕ}
+pub bit_none : {X : Type 0} (slot : Option X) → slot ≡ None → ◌≡◌ {A = ℕ} (cond (is_some slot) 1 0) 0
+bit_none slot is = rw is refl
+
+pub bit_some : {X : Type 0} (slot : Option X) (x : X) → slot ≡ Some x → ◌≡◌ {A = ℕ}
     (cond (is_some slot) 1 0) 1
 bit_some slot x is = rw is refl
 
