@@ -1,8 +1,8 @@
 -- A node that took over another's items and children.
-use Rattle.std.proofs.Common.{◌≡◌, ◌≢◌, ◌⊎◌, ℕ, ◌+◌, ◌<◌, List, [], ◌∷◌, ◌++◌, length, drop, None, sym, ap, subst, ◌∙◌, arith}
+use Rattle.std.proofs.Common.{◌≡◌, ◌≢◌, ◌⊎◌, ℕ, ◌+◌, ◌<◌, List, [], ◌∷◌, ◌++◌, length, None, sym, ap, subst, ◌∙◌, arith}
 use Rattle.std.specs.List.{insert}
-use Rattle.std.proofs.lemmas.List.{append_assoc, drop_all, take_all}
-use Rattle.std.proofs.lemmas.List.Edits.{length-insert}
+use Rattle.std.proofs.lemmas.List.{append_assoc}
+use Rattle.std.proofs.lemmas.List.Edits.{insert_end, length-insert}
 use Rattle.slab.specs.Slab.{Slab}
 use Rattle.arrayvec.specs.ArrayVec.{ArrayVec}
 use Rattle.range_store.specs.declared.btree.nodes.TheConstants.{NO_LIST}
@@ -20,11 +20,10 @@ children_alike rights lefts others those right left either =
     subst (λ ks. (length ks ≡ 0) ⊎ (0 < length those)) right
     (subst (λ ks. (length rights ≡ 0) ⊎ (0 < length ks)) left either)
 
-insert_end : {X : Type 0} (xs ys : List X) (i : ℕ) (x : X) → i ≡ length xs
+end_joined : {X : Type 0} (xs ys : List X) (i : ℕ) (x : X) → i ≡ length xs
     → insert xs i x ++ ys ≡ xs ++ x ∷ ys
-insert_end xs ys i x at =
-    ap (λ zs. (zs ++ x ∷ drop i xs) ++ ys) (take_all i xs (omega arith))
-    ∙ ap (λ zs. (xs ++ x ∷ zs) ++ ys) (drop_all i xs (omega arith))
+end_joined xs ys i x at =
+    ap (λ j. insert xs j x ++ ys) at ∙ ap (λ zs. zs ++ ys) (insert_end xs x)
     ∙ append_assoc xs (x ∷ []) ys
 
 -- the block l got an item at its end, and then all that r had
@@ -46,7 +45,7 @@ module _ {T : Type 0} (s t : Table T) (l r i : ℕ) (middle : T) (apart : l ≢ 
         (items_held (block_of s l) ++ middle ∷ items_held (block_of s r)) []
     joined =
         subst (λ xs. WritesBoth s u l r xs [])
-        (insert_end (items_held (block_of s l)) (items_held (block_of s r)) i middle at)
+        (end_joined (items_held (block_of s l)) (items_held (block_of s r)) i middle at)
         (moved_left s t u l r 0 (insert (items_held (block_of s l)) i middle)
         (items_held (block_of s r)) apart after_put moves)
 

@@ -3,7 +3,7 @@
 use Rattle.std.proofs.Common.{◌≡◌, ◌≢◌, ℕ, suc, ◌+◌, ◌-◌, ◌<◌, ◌≤◌, List, [], ◌++◌, length, get_or, take, drop, sym, ap, subst, ◌∙◌, arith}
 use Rattle.std.specs.List.{insert, remove}
 use Rattle.std.proofs.lemmas.List.{append-nil, drop_all, get_or-take, length-drop, length-take, take-take}
-use Rattle.std.proofs.lemmas.List.Edits.{get_or-insert_above, get_or-insert_at, get_or-insert_below}
+use Rattle.std.proofs.lemmas.List.Edits.{get_or-insert_above, get_or-insert_below}
 use Rattle.range_store.specs.Blocks.{Table, block_of, HasBlock, items_held, WritesBlock, MovesEnd}
 use Rattle.range_store.specs.Division.{WritesBoth}
 use Rattle.range_store.proofs.Halves.{take_insert_before, take_insert_after, drop_insert_after, drop_insert_before}

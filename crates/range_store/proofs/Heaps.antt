@@ -1,53 +1,26 @@
 -- Changes of several nodes, in another order.
-use Rattle.std.proofs.Common.{◌≡◌, ◌≢◌, ℕ, ◌+◌, ◌<◌, List, length, cond, Option, Some, None, is_some, IsSome, refl, sym, ap, ◌∙◌, inl, inr, arith}
+use Rattle.std.proofs.Common.{◌≡◌, ◌≢◌, ℕ, ◌+◌, List, Option, Some, None, IsSome, refl, sym, ap, ◌∙◌, inl, inr, arith}
 use Rattle.std.proofs.Math.ListN.{set}
-use Rattle.std.proofs.lemmas.Bool.{cases_eq, cases_lt, false≢true}
-use Rattle.std.proofs.lemmas.List.{get_or-set_same, get_or-set_other, get_or_past}
-use Rattle.std.proofs.lemmas.List.Sums.{sum_by-set}
+use Rattle.std.proofs.lemmas.Bool.{cases_eq}
+use Rattle.std.proofs.lemmas.List.{get_or-set_other}
 use Rattle.range_store.specs.Heap.{Heap, Content, node_of, HasNode, items_of, children_of, node_count, with_item, Writes, Removes}
+use Rattle.range_store.proofs.Slots.{slot_count, slot_read}
 
 module _ {T : Type 0} where
   abbrev pub with_slot : Heap T → ℕ → Option (Content T) → Heap T
   with_slot s n slot = record s { slots = set s.slots n slot }
 
-  node_within : (s : Heap T) (n : ℕ) → HasNode s n → n < length s.slots
-  node_within s n present =
-      elim (cases_lt n (length s.slots)) [
-        | inl less ↦ less
-        | inr past ↦ let none : node_of s n ≡ None = get_or_past s.slots n None past in absurd
-            (false≢true (rw none at present))
-      ]
-
-  slot_read : (s : Heap T) (n : ℕ) (slot : Option (Content T)) → HasNode s n
-      → node_of (with_slot s n slot) n ≡ slot
-  slot_read s n slot present = get_or-set_same s.slots n slot None (node_within s n present)
-
-  slot_other : (s : Heap T) (n k : ℕ) (slot : Option (Content T)) → k ≢ n
-      → node_of (with_slot s n slot) k ≡ node_of s k
-  slot_other s n k slot other = get_or-set_other s.slots n k slot None other
-
-  slot_count : (s : Heap T) (n : ℕ) (slot : Option (Content T)) → HasNode s n
-      → node_count (with_slot s n slot) + 1 ≡ node_count s + cond (is_some slot) 1 0
-  slot_count s n slot present =
-      let one : ◌≡◌ {A = ℕ} (cond (is_some (node_of s n)) 1 0) 1 = rw present refl in
-      omega (
-        arith,
-        one,
-        sum_by-set (λ o. cond (is_some o) 1 0) s.slots n slot None
-            (node_within s n present),
-      )
-
   pub writes_slot : (s : Heap T) (n : ℕ) (node : Content T) → HasNode s n
       → Writes s (with_slot s n (Some node)) n node.items node.children
   writes_slot s n node present =
-      let here = slot_read s n (Some node) present in
+      let here = slot_read s.slots n present (Some node) in
       record {
         was = present;
         present = rw here refl;
         items_are = ap items_of here;
         children_are = ap children_of here;
-        others = λ k other. slot_other s n k (Some node) other;
-        len = omega (arith, slot_count s n (Some node) present);
+        others = λ k other. get_or-set_other s.slots n k (Some node) None other;
+        len = omega (arith, slot_count s.slots n present (Some node));
         capacity = refl;
       }
 
@@ -55,19 +28,19 @@ module _ {T : Type 0} where
   removes_slot s n present =
       record {
         was = present;
-        gone = slot_read s n None present;
-        others = λ k other. slot_other s n k None other;
-        len = omega (arith, slot_count s n None present);
+        gone = slot_read s.slots n present None;
+        others = λ k other. get_or-set_other s.slots n k None None other;
+        len = omega (arith, slot_count s.slots n present None);
         capacity = refl;
       }
 
   pub item_other : (s : Heap T) (n i k : ℕ) (x : T) → k ≢ n
       → node_of (with_item s n i x) k ≡ node_of s k
-  item_other s n i k x other = slot_other s n k
+  item_other s n i k x other = get_or-set_other s.slots n k
       (Some (record {
         items = set (items_of (node_of s n)) i x;
         children = children_of (node_of s n);
-      })) other
+      })) None other
 
   -- a write to an item is one of its node
   pub writes_item : (s : Heap T) (n i : ℕ) (x : T) → HasNode s n

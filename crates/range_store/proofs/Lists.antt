@@ -1,13 +1,12 @@
 -- A slab with another value under a key, and lists of children under keys.
-use Rattle.std.proofs.Common.{◌≡◌, ◌≢◌, ℕ, ◌+◌, ◌<◌, List, [], ◌++◌, length, take, drop, cond, Option, Some, None, is_some, IsSome, refl, sym, ap, subst, ◌∙◌, inl, inr, arith}
-use Rattle.std.proofs.lemmas.Bool.{cases_lt, ne_eqb}
-use Rattle.std.proofs.lemmas.List.{get_or-set_same, get_or-set_other, get_or_past}
-use Rattle.std.proofs.lemmas.List.Sums.{sum_by-set}
-use Rattle.std.proofs.lemmas.Option.{none-some}
+use Rattle.std.proofs.Common.{◌≡◌, ◌≢◌, ℕ, ◌+◌, ◌<◌, List, [], ◌++◌, length, take, drop, Option, Some, None, is_some, IsSome, refl, sym, ap, subst, ◌∙◌, arith}
+use Rattle.std.proofs.lemmas.Bool.{ne_eqb}
+use Rattle.std.proofs.lemmas.List.{get_or-set_other}
 use Rattle.slab.specs.Slab.{Slab, get, slab_len, with_value, Updates}
 use Rattle.range_store.specs.declared.btree.nodes.TheConstants.{NO_LIST}
 use Rattle.arrayvec.specs.ArrayVec.{ArrayVec}
 use Rattle.range_store.specs.ChildLists.{numbers_of, list_in, list_count, WritesList, StoresList, DropsList, DividesList, AppendsList}
+use Rattle.range_store.proofs.Slots.{slot_count, slot_read}
 
 module _ {X : Type 0} where
   pub some_value : (slot : Option X) → IsSome slot → (value : X) × (slot ≡ Some value)
@@ -15,29 +14,17 @@ module _ {X : Type 0} where
   some_value (Some value) present = (value, refl)
 
   module _ (s : Slab X) (n : ℕ) (old new : X) (found : get s n ≡ Some old) where
-    within : n < length s.slots
-    within =
-        elim (cases_lt n (length s.slots)) [
-          | inl less ↦ less
-          | inr past ↦ let none : get s n ≡ None = get_or_past s.slots n None past in absurd
-              (none-some old (sym none ∙ found))
-        ]
+    present : IsSome (get s n)
+    present = rw found refl
 
     pub value_here : get (with_value s n new) n ≡ Some new
-    value_here = get_or-set_same s.slots n (Some new) None within
+    value_here = slot_read s.slots n present (Some new)
 
     pub value_other : (k : ℕ) → k ≢ n → get (with_value s n new) k ≡ get s k
     value_other k other = get_or-set_other s.slots n k (Some new) None other
 
     pub value_len : slab_len (with_value s n new) ≡ slab_len s
-    value_len =
-        let one : ◌≡◌ {A = ℕ} (cond (is_some (get s n)) 1 0) 1 = rw found refl in
-        omega (
-          arith,
-          one,
-          sum_by-set (λ slot. cond (is_some slot) 1 0) s.slots n (Some new) None
-              within,
-        )
+    value_len = omega (arith, slot_count s.slots n present (Some new))
 
 pub found_list : (slot : Option (ArrayVec ℕ)) → 0 < length (numbers_of slot)
     → (list : ArrayVec ℕ) × (slot ≡ Some list)

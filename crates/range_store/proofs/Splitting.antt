@@ -1,11 +1,11 @@
 -- A node cut in two.
 use Rattle.std.proofs.Common.{◌≡◌, ℕ, ◌+◌, ◌≤◌, List, length, get_or, take, drop, Option, Some, None, sym, ap, ◌∙◌, arith}
-use Rattle.slab.specs.Slab.{Slab, get, slab_len}
+use Rattle.slab.specs.Slab.{Slab}
 use Rattle.arrayvec.specs.ArrayVec.{ArrayVec}
-use Rattle.range_store.specs.Blocks.{Table, block_of, HasBlock, items_held, list_held, block_count, StoresBlock}
+use Rattle.range_store.specs.Blocks.{Table, block_of, HasBlock, list_held, block_count, StoresBlock}
 use Rattle.range_store.specs.Division.{WritesBoth}
-use Rattle.range_store.specs.Heap.{node_of, items_of, children_of, FitsChild, Divides}
-use Rattle.range_store.specs.ChildLists.{list_in, heap_of, IsWhole, FitsPlaces, WritesList, StoresList, DividesList}
+use Rattle.range_store.specs.Heap.{FitsChild, Divides}
+use Rattle.range_store.specs.ChildLists.{heap_of, IsWhole, FitsPlaces, DividesList}
 use Rattle.range_store.proofs.Steps.{stored, stored_whole, written, written_whole}
 use Rattle.range_store.proofs.Tables.{AddsBlock, with_items, writes_items, adds_after}
 

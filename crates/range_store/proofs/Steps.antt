@@ -1,14 +1,14 @@
 -- A node written, a node stored and a node taken away, each with its list.
-use Rattle.std.proofs.Common.{◌≡◌, ◌≢◌, ℕ, ◌+◌, ◌≤◌, false, List, min, Option, Some, None, is_some, IsSome, refl, sym, ap, ◌∙◌, inl, inr, arith}
+use Rattle.std.proofs.Common.{◌≡◌, ◌≢◌, ℕ, ◌+◌, ◌≤◌, false, List, Option, Some, None, is_some, IsSome, refl, sym, ap, ◌∙◌, inl, inr, arith}
 use Rattle.std.proofs.lemmas.Bool.{cases_eq}
-use Rattle.slab.specs.Slab.{Slab, get, slab_len}
+use Rattle.slab.specs.Slab.{Slab, get}
 use Rattle.arrayvec.specs.ArrayVec.{ArrayVec}
 use Rattle.range_store.specs.declared.btree.nodes.TheConstants.{NO_LIST}
-use Rattle.range_store.specs.Blocks.{Table, block_of, list_held, items_held, block_count, WritesBlock, RemovesBlock}
-use Rattle.range_store.specs.Heap.{items_of, children_of, Writes, Stores, Removes}
+use Rattle.range_store.specs.Blocks.{Table, block_of, list_held, block_count, WritesBlock, RemovesBlock}
+use Rattle.range_store.specs.Heap.{Writes, Stores, Removes}
 use Rattle.range_store.specs.ChildLists.{list_in, list_count, heap_of, IsWhole, WritesList, StoresList, DropsList}
 use Rattle.range_store.proofs.Tables.{AddsBlock}
-use Rattle.range_store.proofs.Wholes.{IsChange, lists_of, without_list, lists_counted, node_read, node_items, node_children, there_node, nodes_count, whole_after, frame_after}
+use Rattle.range_store.proofs.Wholes.{IsChange, without_list, lists_counted, node_read, node_items, node_children, there_node, nodes_count, whole_after, frame_after}
 
 none_from : {X : Type 0} (slot : Option X) → is_some slot ≡ false → slot ≡ None
 none_from None none = refl

@@ -1,12 +1,12 @@
 -- Changes of several blocks, in another order.
-use Rattle.std.proofs.Common.{◌≡◌, ◌≢◌, ℕ, ◌+◌, ◌<◌, List, [], ◌∷◌, ◌++◌, length, take, drop, cond, Option, Some, None, is_some, IsSome, refl, sym, ap, subst, ◌∙◌, inl, inr, arith}
+use Rattle.std.proofs.Common.{◌≡◌, ◌≢◌, ℕ, ◌+◌, List, [], ◌∷◌, ◌++◌, take, drop, Option, Some, None, IsSome, refl, sym, ap, subst, ◌∙◌, inl, inr, arith}
 use Rattle.std.proofs.Math.ListN.{set}
 use Rattle.std.specs.List.{insert}
-use Rattle.std.proofs.lemmas.Bool.{cases_eq, cases_lt, false≢true}
-use Rattle.std.proofs.lemmas.List.{get_or-set_same, get_or-set_other, get_or_past}
-use Rattle.std.proofs.lemmas.List.Sums.{sum_by-set}
+use Rattle.std.proofs.lemmas.Bool.{cases_eq, false≢true}
+use Rattle.std.proofs.lemmas.List.{get_or-set_other}
 use Rattle.range_store.specs.Blocks.{Block, Table, block_of, HasBlock, items_held, list_held, block_count, with_block_item, WritesBlock, StoresBlock, RemovesBlock, MovesEnd}
 use Rattle.range_store.specs.Division.{WritesBoth}
+use Rattle.range_store.proofs.Slots.{slot_count, slot_read}
 
 module _ {T : Type 0} where
   abbrev pub with_block : Table T → ℕ → Option (Block T) → Table T
@@ -22,33 +22,6 @@ module _ {T : Type 0} where
     pub len : block_count new ≡ block_count old + 1
     pub capacity : new.capacity ≡ old.capacity
 
-  block_within : (s : Table T) (n : ℕ) → HasBlock s n → n < length s.slots
-  block_within s n present =
-      elim (cases_lt n (length s.slots)) [
-        | inl less ↦ less
-        | inr past ↦ let none : block_of s n ≡ None = get_or_past s.slots n None past in absurd
-            (false≢true (rw none at present))
-      ]
-
-  block_read : (s : Table T) (n : ℕ) (slot : Option (Block T)) → HasBlock s n
-      → block_of (with_block s n slot) n ≡ slot
-  block_read s n slot present = get_or-set_same s.slots n slot None (block_within s n present)
-
-  block_other : (s : Table T) (n k : ℕ) (slot : Option (Block T)) → k ≢ n
-      → block_of (with_block s n slot) k ≡ block_of s k
-  block_other s n k slot other = get_or-set_other s.slots n k slot None other
-
-  counted_after : (s : Table T) (n : ℕ) (slot : Option (Block T)) → HasBlock s n
-      → block_count (with_block s n slot) + 1 ≡ block_count s + cond (is_some slot) 1 0
-  counted_after s n slot present =
-      let one : ◌≡◌ {A = ℕ} (cond (is_some (block_of s n)) 1 0) 1 = rw present refl in
-      omega (
-        arith,
-        one,
-        sum_by-set (λ o. cond (is_some o) 1 0) s.slots n slot None
-            (block_within s n present),
-      )
-
   -- the block n with other items
   abbrev pub with_items : Table T → ℕ → List T → Table T
   with_items s n xs = with_block s n (Some
@@ -59,14 +32,14 @@ module _ {T : Type 0} where
   writes_items s n xs present =
       let slot : Option (Block T) = Some
       (record { items = xs; list = list_held (block_of s n) }) in
-      let here : block_of (with_items s n xs) n ≡ slot = block_read s n slot present in
+      let here : block_of (with_items s n xs) n ≡ slot = slot_read s.slots n present slot in
       record {
         was = present;
         present = rw here refl;
         items_are = ap items_held here;
         list_is = ap list_held here;
-        others = λ k other. block_other s n k slot other;
-        len = omega (arith, counted_after s n slot present);
+        others = λ k other. get_or-set_other s.slots n k slot None other;
+        len = omega (arith, slot_count s.slots n present slot);
         capacity = refl;
       }
 
@@ -75,9 +48,9 @@ module _ {T : Type 0} where
   removes_slot s n present =
       record {
         was = present;
-        gone = block_read s n None present;
-        others = λ k other. block_other s n k None other;
-        len = omega (arith, counted_after s n None present);
+        gone = slot_read s.slots n present None;
+        others = λ k other. get_or-set_other s.slots n k None None other;
+        len = omega (arith, slot_count s.slots n present None);
         capacity = refl;
       }
 

@@ -1,5 +1,5 @@
 //! The steps of a change of nodes in their lists of children.
-ghost use Rattle.std.specs.Prelude.{◌≡◌, ◌≢◌, ◌⊎◌, ℕ, ◌+◌, ◌<◌, ◌≤◌, length, take, drop, slice_get, insert, remove, None, Some};
+ghost use Rattle.std.specs.Prelude.{◌≡◌, ◌≢◌, ◌⊎◌, ◌+◌, ◌<◌, ◌≤◌, length, take, drop, slice_get, insert, remove, None, Some};
 ghost use Rattle.std.specs.Option.{ForSome};
 ghost use Rattle.slab.specs.Slab.{get, HasRoomFor};
 ghost use Rattle.range_store.specs.Heap.{with_child};

@@ -1,7 +1,6 @@
-//! The nodes of a tree under numbers, each with its items in it.
-ghost use Rattle.std.specs.Prelude.{◌≡◌, ◌≢◌, ◌⊎◌, ℕ, ◌+◌, ◌-◌, ◌<◌, ◌≤◌, List, [], ◌∷◌, ◌++◌, length, take, drop, slice_get, slice_index, slice_index_or, slice_set, insert, remove, IsOk, IsSome, OnOk, IfSome, All, None, Some};
+//! The nodes of a tree under numbers, each with its items and its children.
+ghost use Rattle.std.specs.Prelude.{◌≡◌, ◌≢◌, ◌⊎◌, ◌+◌, ◌-◌, ◌<◌, ◌≤◌, [], ◌∷◌, length, slice_get, slice_index, slice_index_or, insert, remove, IsOk, OnOk};
 ghost use Rattle.std.specs.Borrow.{Lends, sem};
-ghost use Rattle.slab.specs.Slab.{get, ContainsKey};
 ghost use Rattle.range_store.specs.Heap.{node_of, HasNode, items_of, children_of, full_cells, node_count, HasRoomFor, with_child, with_item, FitsChild, Writes, Stores, Removes, Divides, left_items, right_items, HasPair, RotatesLeft, RotatesRight, Merges, Absorbs};
 
 use crate::btree::blocks::Blocks;

@@ -1,5 +1,4 @@
 use Rattle.std.proofs.Common.{length, get_or, sym, ap, ◌∙◌, arith}
-use Rattle.slab.specs.Slab.{get}
 use Rattle.range_store.specs.ChildLists.{list_in, numbers_of}
 use Rattle.range_store.proofs.Wholes.{node_there, node_children, list_there}
 use Rattle.range_store.proofs.btree.nodes.Nodes.child_at.Goals as goal

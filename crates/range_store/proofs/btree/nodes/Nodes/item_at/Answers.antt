@@ -1,4 +1,4 @@
-use Rattle.std.proofs.Common.{get_or, length, sym, ap, ◌∙◌, arith, rules}
+use Rattle.std.proofs.Common.{get_or, length, sym, ap, ◌∙◌, arith}
 use Rattle.range_store.proofs.Wholes.{node_there, node_items}
 use Rattle.range_store.proofs.btree.nodes.Nodes.item_at.Goals as goal
 

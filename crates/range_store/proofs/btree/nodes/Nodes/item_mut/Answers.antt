@@ -1,4 +1,4 @@
-use Rattle.std.proofs.Common.{get_or, length, refl, sym, ap, ◌∙◌, arith, rules}
+use Rattle.std.proofs.Common.{get_or, length, refl, sym, ap, ◌∙◌, arith}
 use Rattle.std.proofs.Math.ListN.{set}
 use Rattle.range_store.specs.Blocks.{block_of, items_held, list_held, with_block_item}
 use Rattle.range_store.specs.ChildLists.{list_in}

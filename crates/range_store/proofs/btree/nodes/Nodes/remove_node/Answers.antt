@@ -1,4 +1,3 @@
-use Rattle.range_store.specs.ChildLists.{DropsList, IsListKey}
 use Rattle.range_store.proofs.Steps.{removed, removed_whole}
 use Rattle.range_store.proofs.Wholes.{list_key, node_there}
 use Rattle.range_store.proofs.btree.nodes.Nodes.remove_node.Goals as goal

@@ -1,9 +1,9 @@
-use Rattle.std.proofs.Common.{◌≡◌, ◌+◌, length, take, drop, get_or, refl, sym, ap, subst, ◌∙◌, arith}
+use Rattle.std.proofs.Common.{◌+◌, length, take, drop, get_or, refl, sym, ap, subst, ◌∙◌, arith}
 use Rattle.std.specs.List.{insert}
 use Rattle.range_store.specs.Blocks.{block_of, items_held, list_held}
 use Rattle.range_store.specs.Division.{WritesBoth}
 use Rattle.range_store.specs.Heap.{node_of, items_of, children_of, with_child}
-use Rattle.range_store.specs.ChildLists.{heap_of, list_in, DividesList, FitsPlaces}
+use Rattle.range_store.specs.ChildLists.{heap_of, list_in, DividesList}
 use Rattle.range_store.proofs.Splitting.{divided, divided_whole, fits_places}
 use Rattle.range_store.proofs.Tables.{stored_apart}
 use Rattle.range_store.proofs.Wholes.{block_room, fewer_lists, list_room, node_children, node_items, node_there}

@@ -1,4 +1,4 @@
-use Rattle.std.proofs.Common.{[], ◌∷◌, ◌++◌, refl, ap, ◌∙◌, subst, arith, rules}
+use Rattle.std.proofs.Common.{[], ◌∷◌, ◌++◌, refl, ap, ◌∙◌, subst, arith}
 use Rattle.range_store.specs.ChildLists.{StoresList}
 use Rattle.range_store.proofs.Steps.{stored, stored_whole}
 use Rattle.range_store.proofs.Tables.{adds_first}

@@ -1,4 +1,4 @@
-use Rattle.std.proofs.Common.{get_or, length, ap, subst, sym, ◌∙◌, arith, rules}
+use Rattle.std.proofs.Common.{get_or, length, ap, subst, sym, ◌∙◌, arith}
 use Rattle.std.specs.List.{remove}
 use Rattle.range_store.specs.Blocks.{WritesBlock}
 use Rattle.range_store.specs.Heap.{node_of, items_of, children_of}
