@@ -1,7 +1,7 @@
-use Rattle.std.proofs.Common.{◌≡◌, ◌∙◌, ℕ, ◌+◌, ◌≤◌, refl, sym, ap, subst, List, length, ◌++◌, ◌∷◌, [], arith}
+use Rattle.std.proofs.Common.{◌≡◌, ◌∙◌, ℕ, ◌+◌, ◌≤◌, ◌<◌, refl, sym, ap, subst, List, length, ◌++◌, ◌∷◌, [], arith}
 use Rattle.std.specs.List.{insert}
 use Rattle.std.specs.declared.ops.Bound.TheVariants.{Included}
-use Rattle.std.proofs.lemmas.List.{append_assoc}
+use Rattle.std.proofs.lemmas.List.{append_assoc, append-nil, length-append}
 use Rattle.std.proofs.lemmas.List.Edits.{insert_end}
 use Rattle.range_keys.specs.Position.{start_position}
 use Rattle.range_keys.specs.PositionOrder.{position_total}
@@ -46,6 +46,20 @@ room_moved rest others new last room less same put h k = rw (put, same) (omega a
 first_such : {X : Type 0} (P : X → Type 0) (rest others new : List X) (last : X) → others ≡ rest
     → new ≡ last ∷ others → P last → Every P rest → Every P new
 first_such P rest others new last same put such all = rw (put, same) (such, all)
+
+room_left : (n room more : ℕ) → n ≤ room → room ≤ more → n ≤ more
+room_left n room more h k = omega arith
+
+room_one : (room more : ℕ) → room + 1 ≤ more → 1 ≤ more
+room_one room more h = omega arith
+
+shorter : {X : Type 0} (stored front : List X) (last : X) → stored ≡ front ++ last ∷ []
+    → length front < length stored
+shorter stored front last split = rw split (omega (arith, length-append front (last ∷ [])))
+
+none_last : {X : Type 0} (front : List X) (last : X) → [] ≡ front ++ last ∷ [] → ⊥
+none_last [] last e = cc
+none_last (x ∷ front) last e = cc
 
 pub returns-then-starts_before-clause-list : goal.returns-then-starts_before-clause-list
 returns-then-starts_before-clause-list g c =
@@ -130,3 +144,42 @@ loop-last-preserved g c =
           c.if-starts_before.false in absurd (cc)))
           c.loop-last.invariant.from;
     }
+
+pub loop-last-init : goal.loop-last-init
+loop-last-init g c = record {
+  list = rw c.requires (append-nil (g.C.Storage.items c.args.stored.now));
+  room = rw c.requires (omega arith);
+  from = rw c.requires tt;
+}
+
+pub loop-last-smaller : goal.loop-last-smaller
+loop-last-smaller g c =
+    shorter (g.C.Storage.items c.loop-last.stored) (g.C.Storage.items c.pop_last.new.self)
+    c.in-Some.last c.in-Some.ensures.list
+
+pub insert_at-position-requires-clause-has_room : goal.insert_at-position-requires-clause-has_room
+insert_at-position-requires-clause-has_room g c =
+    room_one (g.C.Storage.room c.loop-last.stored) (g.C.Storage.room c.pop_last.new.self)
+    c.in-Some.ensures.space
+
+pub insert_at-position-requires-then-is_err-clause-has_room :
+    goal.insert_at-position-requires-then-is_err-clause-has_room
+insert_at-position-requires-then-is_err-clause-has_room g c =
+    room_one (g.C.Storage.room c.loop-last.stored) (g.C.Storage.room c.pop_last.new.self)
+    c.in-Some.ensures.space
+
+pub returns-clause-list : goal.returns-clause-list
+returns-clause-list g c =
+    rw c.in_default.ensures.list.1 (rw c.in_default.ensures.list.0 at c.loop-last.invariant.list)
+
+pub returns-clause-room : goal.returns-clause-room
+returns-clause-room g c =
+    room_left (length (g.C.Storage.items c.loop-last.others)) (g.C.Storage.room c.loop-last.stored)
+    (g.C.Storage.room c.pop_last.new.self) c.loop-last.invariant.room c.in_default.ensures.space
+
+pub returns-clause-from : goal.returns-clause-from
+returns-clause-from g c = c.loop-last.invariant.from
+
+pub returns-clause-below : goal.returns-clause-below
+returns-clause-below g c =
+    λ front last ends. absurd (none_last front last (rw c.in_default.ensures.list.1 at ends))
