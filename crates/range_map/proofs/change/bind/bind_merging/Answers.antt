@@ -38,11 +38,11 @@ run_length-requires-clause-fits g c =
     let right_joins =
     ap joined_count after.at ∙ seam_count joins.after c.args.reach.now.last after.cut in
     omega (
-    arith,
-    planned_count c.requires.reach.window left right c.requires.apart,
-    left_joins,
-    right_joins,
-    g.met.C.Storage.length_fits c.args.stored.now,
+      arith,
+      planned_count c.requires.reach.window left right c.requires.apart,
+      left_joins,
+      right_joins,
+      g.met.C.Storage.length_fits c.args.stored.now,
     )
 
 pub change-requires : goal.change-requires

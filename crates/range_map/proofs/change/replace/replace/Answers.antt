@@ -61,7 +61,8 @@ run_start-requires-clause-first g c = (run_can_start c.requires.reach).1
 
 pub run_length-requires-clause-fits : goal.run_length-requires-clause-fits
 run_length-requires-clause-fits g c =
-    let plan = plan_is_replacement g (goal.at.run_length-requires-clause-fits g c).After-run_start in
+    let at = goal.at.run_length-requires-clause-fits g c in
+    let plan = plan_is_replacement g at.After-run_start in
     omega (arith, plan.upto, plan.within, g.met.C.Storage.length_fits c.args.stored.now)
 
 pub change_to-requires : goal.change_to-requires

@@ -27,9 +27,9 @@ run_start-requires-clause-first g c = (run_can_start c.requires.reach).1
 pub run_length-requires-clause-fits : goal.run_length-requires-clause-fits
 run_length-requires-clause-fits g c =
     omega (
-    arith,
-    c.requires.reach.window.in_range,
-    g.met.C.Storage.length_fits c.args.stored.now,
+      arith,
+      c.requires.reach.window.in_range,
+      g.met.C.Storage.length_fits c.args.stored.now,
     )
 
 pub change-requires : goal.change-requires
