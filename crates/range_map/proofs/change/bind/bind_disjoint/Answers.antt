@@ -57,3 +57,6 @@ pub bind_outside-requires-clause-reach : goal.bind_outside-requires-clause-reach
 bind_outside-requires-clause-reach g c =
     let none : c.find_window-window.result.count ≡ 0 = omega (arith, c.if-window-gt0.false) in
     free_reach c.find_window-window.ensures.window none
+
+pub bind_outside-requires-clause-apart : goal.bind_outside-requires-clause-apart
+bind_outside-requires-clause-apart g c = omega arith

@@ -14,12 +14,14 @@ seam_at-requires g c = c.requires.keys
 pub seam_at-requires-2 : goal.seam_at-requires-2
 seam_at-requires-2 g c = c.requires.keys
 
-pub run_start-requires : goal.run_start-requires
-run_start-requires g c = let start =
-    run_can_start c.requires.reach in record { from = start.0; first = start.1 }
+pub run_start-requires-clause-from : goal.run_start-requires-clause-from
+run_start-requires-clause-from g c = (run_can_start c.requires.reach).0
 
-pub run_length-requires : goal.run_length-requires
-run_length-requires g c =
+pub run_start-requires-clause-first : goal.run_start-requires-clause-first
+run_start-requires-clause-first g c = (run_can_start c.requires.reach).1
+
+pub run_length-requires-clause-fits : goal.run_length-requires-clause-fits
+run_length-requires-clause-fits g c =
     let lawful = g.met.K.PartialEnum.lawful in
     let equal = g.met.V.Eq.laws in
     let before = c.in_ok-left.ensures in
@@ -35,17 +37,13 @@ run_length-requires g c =
     ap joined_count before.at ∙ seam_count joins.before c.args.reach.now.first before.cut in
     let right_joins =
     ap joined_count after.at ∙ seam_count joins.after c.args.reach.now.last after.cut in
-    record {
-      apart = c.requires.apart;
-      fits =
-          omega (
-            arith,
-            planned_count c.requires.reach.window left right c.requires.apart,
-            left_joins,
-            right_joins,
-            g.met.C.Storage.length_fits c.args.stored.now,
-          );
-    }
+    omega (
+      arith,
+      planned_count c.requires.reach.window left right c.requires.apart,
+      left_joins,
+      right_joins,
+      g.met.C.Storage.length_fits c.args.stored.now,
+    )
 
 pub change-requires : goal.change-requires
 change-requires g c =

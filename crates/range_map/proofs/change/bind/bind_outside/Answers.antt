@@ -11,3 +11,6 @@ pub bind_isolated-requires-clause-after : goal.bind_isolated-requires-clause-aft
 bind_isolated-requires-clause-after g c =
     let after : c.joins_after-after.result ≡ None = grind (arith, common_steps) in
     rw after at c.joins_after-after.ensures.joins
+
+pub returns-clause-counted : goal.returns-clause-counted
+returns-clause-counted g c = grind (arith, common_steps)

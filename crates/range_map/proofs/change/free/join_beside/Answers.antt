@@ -8,9 +8,11 @@ use Rattle.range_map.proofs.JoinedMiddle.{seam_count}
 use Rattle.range_map.proofs.Surrounded.{run_can_start, none_reach}
 use Rattle.range_map.proofs.change.free.join_beside.Goals as goal
 
-pub run_start-requires : goal.run_start-requires
-run_start-requires g c = let start =
-    run_can_start c.requires.reach in record { from = start.0; first = start.1 }
+pub run_start-requires-clause-from : goal.run_start-requires-clause-from
+run_start-requires-clause-from g c = (run_can_start c.requires.reach).0
+
+pub run_start-requires-clause-first : goal.run_start-requires-clause-first
+run_start-requires-clause-first g c = (run_can_start c.requires.reach).1
 
 pub run_length-requires : goal.run_length-requires
 run_length-requires g c =

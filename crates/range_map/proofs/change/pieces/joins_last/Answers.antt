@@ -12,7 +12,8 @@ returns-else-touching g c =
     }
 
 pub returns-in-None : goal.returns-in-None
-returns-in-None g c = record { joins = λ h. absurd (false≢true h); apart = grind (arith, common_steps) }
+returns-in-None g c =
+    record { joins = λ h. absurd (false≢true h); apart = grind (arith, common_steps) }
 
 pub returns-then-touching : goal.returns-then-touching
 returns-then-touching g c =

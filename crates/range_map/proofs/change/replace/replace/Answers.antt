@@ -59,14 +59,11 @@ run_start-requires-clause-from g c = (run_can_start c.requires.reach).0
 pub run_start-requires-clause-first : goal.run_start-requires-clause-first
 run_start-requires-clause-first g c = (run_can_start c.requires.reach).1
 
-pub run_length-requires : goal.run_length-requires
-run_length-requires g c =
-    let plan = plan_is_replacement g (goal.at.run_length-requires g c).After-run_start in
-    record {
-      apart = c.requires.apart;
-      fits =
-          omega (arith, plan.upto, plan.within, g.met.C.Storage.length_fits c.args.stored.now);
-    }
+pub run_length-requires-clause-fits : goal.run_length-requires-clause-fits
+run_length-requires-clause-fits g c =
+    let at = goal.at.run_length-requires-clause-fits g c in
+    let plan = plan_is_replacement g at.After-run_start in
+    omega (arith, plan.upto, plan.within, g.met.C.Storage.length_fits c.args.stored.now)
 
 pub change_to-requires : goal.change_to-requires
 change_to-requires g c =
@@ -162,17 +159,13 @@ returns g c =
       refused = tt;
     }
 
-pub returns-in_err-reserve-clause-ok : goal.returns-in_err-reserve-clause-ok
-returns-in_err-reserve-clause-ok g c =
-    error_has_no_value _ c.from_residual.result c.from_residual.ensures.0
-
-pub returns-in_err-reserve-clause-spelled : goal.returns-in_err-reserve-clause-spelled
-returns-in_err-reserve-clause-spelled g c =
-    λ kept. error_has_no_value _ c.from_residual.result c.from_residual.ensures.0
-
-pub returns-in_err-reserve-clause-refused : goal.returns-in_err-reserve-clause-refused
-returns-in_err-reserve-clause-refused g c =
-    on_error _ c.from_residual.result c.reserve.ensures.list
+pub returns-in_err-reserve : goal.returns-in_err-reserve
+returns-in_err-reserve g c =
+    record {
+      ok = error_has_no_value _ c.from_residual.result c.from_residual.ensures.0;
+      spelled = λ kept. error_has_no_value _ c.from_residual.result c.from_residual.ensures.0;
+      refused = on_error _ c.from_residual.result c.reserve.ensures.list;
+    }
 
 pub joined_left-before-requires-clause-within : goal.joined_left-before-requires-clause-within
 joined_left-before-requires-clause-within g c = grind (arith, common_steps)

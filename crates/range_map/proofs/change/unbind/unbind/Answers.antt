@@ -1,3 +1,4 @@
+use Rattle.std.proofs.lemmas.Grind.{common_steps}
 use Rattle.std.proofs.Common.{arith}
 use Rattle.range_map.proofs.CutOut.{unmet_is_unbound}
 use Rattle.range_map.proofs.InsertionFrames.{none_meets, some_meets, not_cut}
@@ -30,3 +31,18 @@ returns-clause-unmet_unchanged g c =
     some_meets g.met.K.PartialEnum.lawful g.met.V.Eq.laws
     c.find_window-window.ensures.window (omega (arith, c.if-window-eq0.false)) in
     λ none. absurd (met none)
+
+pub unbind_met-requires-clause-some : goal.unbind_met-requires-clause-some
+unbind_met-requires-clause-some g c = omega (arith, c.if-window-eq0.false)
+
+pub returns-clause-most : goal.returns-clause-most
+returns-clause-most g c = grind (arith, common_steps)
+
+pub returns-clause-least : goal.returns-clause-least
+returns-clause-least g c = grind (arith, common_steps)
+
+pub returns-then-window-eq0-clause-most : goal.returns-then-window-eq0-clause-most
+returns-then-window-eq0-clause-most g c = grind (arith, common_steps)
+
+pub returns-then-window-eq0-clause-least : goal.returns-then-window-eq0-clause-least
+returns-then-window-eq0-clause-least g c = grind (arith, common_steps)

@@ -18,21 +18,19 @@ seam_at-requires g c = c.requires.keys
 pub seam_at-requires-2 : goal.seam_at-requires-2
 seam_at-requires-2 g c = c.requires.keys
 
-pub run_start-requires : goal.run_start-requires
-run_start-requires g c = let start =
-    run_can_start c.requires.reach in record { from = start.0; first = start.1 }
+pub run_start-requires-clause-from : goal.run_start-requires-clause-from
+run_start-requires-clause-from g c = (run_can_start c.requires.reach).0
 
-pub run_length-requires : goal.run_length-requires
-run_length-requires g c =
-    record {
-      apart = c.requires.apart;
-      fits =
-          omega (
-            arith,
-            c.requires.reach.window.in_range,
-            g.met.C.Storage.length_fits c.args.stored.now,
-          );
-    }
+pub run_start-requires-clause-first : goal.run_start-requires-clause-first
+run_start-requires-clause-first g c = (run_can_start c.requires.reach).1
+
+pub run_length-requires-clause-fits : goal.run_length-requires-clause-fits
+run_length-requires-clause-fits g c =
+    omega (
+      arith,
+      c.requires.reach.window.in_range,
+      g.met.C.Storage.length_fits c.args.stored.now,
+    )
 
 pub change-requires : goal.change-requires
 change-requires g c =

@@ -35,17 +35,14 @@ returns g c =
       refused = tt;
     }
 
-pub returns-in_err-parts-clause-ok : goal.returns-in_err-parts-clause-ok
-returns-in_err-parts-clause-ok g c =
-    error_has_no_value _ c.from_residual.result c.from_residual.ensures.0
-
-pub returns-in_err-parts-clause-few : goal.returns-in_err-parts-clause-few
-returns-in_err-parts-clause-few g c =
-    error_has_no_value _ c.from_residual.result c.from_residual.ensures.0
-
-pub returns-in_err-parts-clause-refused : goal.returns-in_err-parts-clause-refused
-returns-in_err-parts-clause-refused g c =
-    on_error _ c.from_residual.result c.prepare_parts.ensures.list
+pub returns-in_err-parts : goal.returns-in_err-parts
+returns-in_err-parts g c =
+    record {
+      ok = error_has_no_value _ c.from_residual.result c.from_residual.ensures.0;
+      few = error_has_no_value _ c.from_residual.result c.from_residual.ensures.0;
+      refused =
+          on_error _ c.from_residual.result c.prepare_parts.ensures.list;
+    }
 
 pub prepare_parts-requires-clause-good : goal.prepare_parts-requires-clause-good
 prepare_parts-requires-clause-good g c = c.requires.within.good

@@ -4,13 +4,12 @@ use Rattle.range_map.proofs.Results.{on_error}
 use Rattle.range_map.proofs.Tests.{either_way, error_is_no_value, not_both, not_both_answers, same_value}
 use Rattle.range_map.proofs.inner.disjoint.insert_disjoint.Goals as goal
 
-pub bind_disjoint-requires : goal.bind_disjoint-requires
-bind_disjoint-requires g c =
-    record {
-      keys = c.requires.keys;
-      stored = rw c.map.view_is c.in_form.ensures;
-      nonempty = λ empty. not_both c.if-is_empty.false (c.is_empty.ensures.by_position.1 empty);
-    }
+pub bind_disjoint-requires-clause-stored : goal.bind_disjoint-requires-clause-stored
+bind_disjoint-requires-clause-stored g c = rw c.map.view_is c.in_form.ensures
+
+pub bind_disjoint-requires-clause-nonempty : goal.bind_disjoint-requires-clause-nonempty
+bind_disjoint-requires-clause-nonempty g c =
+    λ empty. not_both c.if-is_empty.false (c.is_empty.ensures.by_position.1 empty)
 
 pub returns-then-is_empty : goal.returns-then-is_empty
 returns-then-is_empty g c =

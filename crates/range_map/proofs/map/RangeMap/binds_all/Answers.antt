@@ -1,3 +1,4 @@
+use Rattle.std.proofs.lemmas.Bool.{false≢true}
 use Rattle.std.proofs.Common.{refl}
 use Rattle.range_map.proofs.BindingAll.{full_binds, bound_is_full, shown_is_free}
 use Rattle.range_map.proofs.map.RangeMap.binds_all.Goals as goal
@@ -22,8 +23,8 @@ returns g c =
     shown_is_free order g.met.K.PartialEnum.lawful items r c.gaps_within-gaps.result _ _
     c.in-Some.ensures.steps c.gaps_within-gaps.ensures.gaps in
     record {
-      free = (λ h. absurd (cc), λ none. absurd (none _ free));
-      bound = λ h. absurd (cc);
+      free = (λ h. absurd (false≢true h), λ none. absurd (none _ free));
+      bound = λ h. absurd (false≢true h);
       complete =
           λ complete bound. absurd (bound_is_full order g.met.K.PartialEnum.lawful items r complete
           bound _ free);

@@ -76,8 +76,10 @@ returns-clause-complete g c =
     found.1
 
 pub returns-then-is_empty-clause-meets : goal.returns-then-is_empty-clause-meets
-returns-then-is_empty-clause-meets g c =
-    (λ h. absurd (false≢true h), λ h. absurd (h.0 (c.is_empty.ensures.by_position.0 c.if-is_empty.true)))
+returns-then-is_empty-clause-meets g c = (
+  λ h. absurd (false≢true h),
+  λ h. absurd (h.0 (c.is_empty.ensures.by_position.0 c.if-is_empty.true)),
+)
 
 pub returns-then-is_empty-clause-bound : goal.returns-then-is_empty-clause-bound
 returns-then-is_empty-clause-bound g c =
