@@ -1,13 +1,13 @@
 -- What is read of the blocks whose cells follow each other.
-use Rattle.std.proofs.Common.{◌≡◌, ◌≢◌, ℕ, zero, suc, ◌+◌, ◌*◌, ◌<◌, ◌≤◌, cond, List, [], ◌∷◌, ◌++◌, length, get_or, take, drop, Option, Some, None, is_some, IsSome, count_by, refl, sym, ap, ◌∙◌, inl, inr, arith}
+use Rattle.std.proofs.Common.{◌≡◌, ℕ, zero, suc, ◌+◌, ◌*◌, ◌<◌, ◌≤◌, cond, List, [], ◌∷◌, length, get_or, take, drop, Option, Some, None, is_some, IsSome, count_by, refl, sym, ap, ◌∙◌, inl, inr, arith}
 use Rattle.std.proofs.lemmas.Bool.{cases_lt}
-use Rattle.std.proofs.lemmas.List.{drop-drop, length-drop, length-take, length-take-le, take-take, get_or_past}
+use Rattle.std.proofs.lemmas.List.{drop-drop, length-drop, length-take-le, get_or_past}
 use Rattle.std.proofs.lemmas.List.Sums.{sum_by-cons}
 use Rattle.std.proofs.lemmas.Option.{none-some}
 use Rattle.range_store.specs.declared.btree.blocks.Record.{Record}
 use Rattle.range_store.specs.declared.btree.nodes.TheConstants.{CAPACITY}
 use Rattle.range_store.specs.Heap.{full_cells}
-use Rattle.range_store.specs.Blocks.{Block, block_of, HasBlock, items_held, list_held, block_count}
+use Rattle.range_store.specs.Blocks.{Block, block_of, HasBlock, items_held, list_held}
 use Rattle.range_store.specs.Arena.{record_at, items_in, cells_under, block_in, blocks_in, table_of, IsArena}
 use Rattle.range_store.proofs.FullCells.{full_length}
 
@@ -93,7 +93,7 @@ module _ {T : Type 0} where
       let full = arena.full n kept is in
       let front = take kept.len (cells_under cells n) in
       let long : length front ≡ kept.len = length-take-le kept.len (cells_under cells n)
-          (omega (arith, length-under cells n room)) in
+      (omega (arith, length-under cells n room)) in
       let len : length (items_in front) ≡ kept.len = sym (full_length front full) ∙ long in
       record {
         kept = kept;
@@ -106,10 +106,11 @@ module _ {T : Type 0} where
         room = room;
       }
 
-  pub found : (cells : List (Option T)) (records : List (Option Record)) (free : List ℕ)
-      (capacity n : ℕ) → IsArena cells records free → HasBlock (table_of cells records capacity) n
+  pub found : {cells : List (Option T)} {records : List (Option Record)} {free : List ℕ}
+      → IsArena cells records free → (capacity n : ℕ)
+      → HasBlock (table_of cells records capacity) n
       → IsFound cells records n (block_of (table_of cells records capacity) n)
-  found cells records free capacity n arena there =
+  found {cells} {records} {free} arena capacity n there =
       let read = block_read records cells n in
       rw read (found_in cells records free n arena (record_at records n) refl (rw read at there))
 

@@ -59,7 +59,7 @@ module _ {T : Type 0} where
       let ds = drop (CAPACITY * n) cells in
       let post = drop k (drop i ds) in
       let long : length (take i ds) ≡ i = length-take-le i ds
-          (omega (arith, length-drop (CAPACITY * n) cells)) in
+      (omega (arith, length-drop (CAPACITY * n) cells)) in
       take-take len CAPACITY (drop (CAPACITY * n) (put_mid (CAPACITY * n + i) k cells part)) fits
       ∙ ap (take len) (part_under n i k cells part (omega arith)
       ∙ ap (λ zs. take i ds ++ (zs ++ post)) parts
@@ -109,7 +109,7 @@ module _ {T : Type 0} where
         ≡ full_cells (remove items i)
     removed some is =
         let rest = drop 1 (take (len - i) (drop (CAPACITY * n + i) cells)) in
-      let next : i + 1 ≡ suc i = omega arith in
+        let next : i + 1 ≡ suc i = omega arith in
         front_written n i k (len - 1) cells part rest (None ∷ []) is room (omega arith)
         (omega arith)
         (omega (arith, length-drop 1 (take (len - i) (drop (CAPACITY * n + i) cells)), part_long))

@@ -1,20 +1,21 @@
 -- What a change of one number's cells, and of its record, leaves of the blocks.
-use Rattle.std.proofs.Common.{◌≡◌, ◌≢◌, ℕ, zero, suc, ◌+◌, ◌*◌, ◌<◌, ◌≤◌, cond, List, [], ◌∷◌, ◌++◌, length, get_or, take, drop, Option, Some, None, is_some, IsSome, count_by, refl, sym, ap, subst, ◌∙◌, inl, inr, arith}
+use Rattle.std.proofs.Common.{◌≡◌, ◌≢◌, ℕ, ◌*◌, ◌<◌, ◌≤◌, cond, List, length, get_or, take, Option, Some, None, is_some, count_by, refl, sym, ap, ◌∙◌, inl, inr, arith}
 use Rattle.std.specs.Prelude.{slice_index}
 use Rattle.std.proofs.Math.ListN.{set}
 use Rattle.std.proofs.lemmas.Bool.{cases_eq}
-use Rattle.std.proofs.lemmas.List.{length-take-le, length-set, ext_get_or, get_or-set_same, get_or-set_other}
+use Rattle.std.proofs.lemmas.List.{length-set, ext_get_or, get_or-set_same, get_or-set_other}
 use Rattle.std.proofs.lemmas.Option.{none-some, same_Some}
 use Rattle.range_store.specs.declared.btree.blocks.Record.{Record}
 use Rattle.range_store.specs.declared.btree.nodes.TheConstants.{CAPACITY}
 use Rattle.range_store.specs.Heap.{full_cells}
-use Rattle.range_store.specs.Blocks.{Block, block_of, HasBlock, items_held, list_held, block_count, with_block_item, WritesBlock}
-use Rattle.range_store.specs.Arena.{record_at, items_in, IsFull, cells_under, block_in, blocks_in, table_of, IsArena}
+use Rattle.range_store.specs.Blocks.{Block, block_of, items_held, list_held, WritesBlock}
+use Rattle.range_store.specs.Arena.{record_at, IsFull, cells_under, block_in, blocks_in, table_of, IsArena}
 use Rattle.range_store.proofs.FullCells.{IsFull-from, items_are}
-use Rattle.range_store.proofs.Counts.{bit, count_moved}
-use Rattle.range_store.proofs.Arena.{block_read, blocks_count, length-blocks, length-under, record_within, IsFound}
+use Rattle.range_store.proofs.Counts.{count_moved}
+use Rattle.range_store.proofs.Arena.{block_read, blocks_count, length-blocks, record_within}
 
-pub bit_none : {X : Type 0} (slot : Option X) → slot ≡ None → ◌≡◌ {A = ℕ} (cond (is_some slot) 1 0) 0
+pub bit_none : {X : Type 0} (slot : Option X) → slot ≡ None
+    → ◌≡◌ {A = ℕ} (cond (is_some slot) 1 0) 0
 bit_none slot is = rw is refl
 
 pub bit_some : {X : Type 0} (slot : Option X) (x : X) → slot ≡ Some x → ◌≡◌ {A = ℕ}
@@ -51,7 +52,7 @@ module _ {T : Type 0} where
   pub full_but : (cells new : List (Option T)) (records later : List (Option Record))
       (free : List ℕ) (n : ℕ) → IsArena cells records free → IsChange cells new records later n
       → ((kept : Record) → record_at later n ≡ Some kept
-          → IsFull (take kept.len (cells_under new n))) → (m : ℕ)
+      → IsFull (take kept.len (cells_under new n))) → (m : ℕ)
       → (kept : Record) → record_at later m ≡ Some kept
       → IsFull (take kept.len (cells_under new m))
   full_but cells new records later free n arena change here m kept is =
@@ -108,7 +109,8 @@ module _ {T : Type 0} where
       counted = omega (arith, arena.counted, counted_later, written.same_length);
     }
 
-    block_now : get_or (blocks_in later new) n None ≡ Some (record { items = items; list = kept.list })
+    block_now : get_or (blocks_in later new) n None
+        ≡ Some (record { items = items; list = kept.list })
     block_now =
         block_read later new n ∙ ap (block_in (cells_under new n)) written.is
         ∙ ap (λ xs. Some (record { items = xs; list = kept.list }))
@@ -140,8 +142,13 @@ module _ {T : Type 0} where
         let many = length-blocks records cells in
         let within = record_within records n written.old written.was in
         ext_get_or None (blocks_in later new) (set (blocks_in records cells) n block)
-        (omega (arith, length-blocks later new, written.same_length, many,
-            length-set (blocks_in records cells) n block))
+        (omega (
+          arith,
+          length-blocks later new,
+          written.same_length,
+          many,
+          length-set (blocks_in records cells) n block,
+        ))
         (λ k below. elim (cases_eq k n) [
           | inl same ↦
               rw same (block_now

@@ -1,5 +1,5 @@
 -- The blocks after an item came to one of them, after one went, and after one changed.
-use Rattle.std.proofs.Common.{◌≡◌, ◌≢◌, ℕ, ◌+◌, ◌-◌, ◌*◌, ◌<◌, ◌≤◌, List, [], ◌∷◌, ◌++◌, length, get_or, take, drop, Option, Some, None, refl, sym, ap, ◌∙◌, arith}
+use Rattle.std.proofs.Common.{◌≡◌, ℕ, ◌+◌, ◌-◌, ◌*◌, ◌<◌, ◌≤◌, List, [], ◌∷◌, ◌++◌, length, get_or, take, drop, Option, Some, None, refl, sym, ap, ◌∙◌, arith}
 use borrow.Rule.Slice.PartMut.{put_mid}
 use Rattle.std.specs.List.{insert, remove}
 use Rattle.std.proofs.Math.ListN.{set}
@@ -8,9 +8,9 @@ use Rattle.range_store.specs.declared.btree.blocks.Record.{Record}
 use Rattle.range_store.specs.declared.btree.nodes.TheConstants.{CAPACITY}
 use Rattle.range_store.specs.Heap.{full_cells}
 use Rattle.range_store.specs.Blocks.{block_of, HasBlock, items_held, list_held}
-use Rattle.range_store.specs.Arena.{record_at, cells_under, table_of, IsArena}
+use Rattle.range_store.specs.Arena.{cells_under, table_of, IsArena}
 use Rattle.range_store.proofs.FullCells.{full_set, Standing}
-use Rattle.range_store.proofs.Arena.{IsFound, found}
+use Rattle.range_store.proofs.Arena.{found}
 use Rattle.range_store.proofs.ArenaCells.{other_part, part_read, length-part, inserted, removed, other_set, front_set}
 use Rattle.range_store.proofs.ArenaChanges.{IsChange, IsRewritten}
 
@@ -28,8 +28,12 @@ module _ {T : Type 0} where
       → IsChange cells (put_mid a k cells part) records (set records n kept) n
   part_change cells part records free n a k kept arena room from to long =
       record {
-        cells_are = omega (arith, arena.cells_are,
-          length-part a k cells part (omega arith) long, length-set records n kept);
+        cells_are = omega (
+          arith,
+          arena.cells_are,
+          length-part a k cells part (omega arith) long,
+          length-set records n kept,
+        );
         others = other_part n a k cells part from to (omega arith) long;
         other_records = λ m other. get_or-set_other records n m kept None other;
       }
@@ -45,22 +49,26 @@ module _ {T : Type 0} where
     pub inserting : (item : T) → i ≤ len → len < CAPACITY
         → k ≡ CAPACITY * n + len + 1 - (CAPACITY * n + i)
         → part ≡ Some item ∷ take (length (take k (drop (CAPACITY * n + i) cells)) - 1)
-            (take k (drop (CAPACITY * n + i) cells))
+        (take k (drop (CAPACITY * n + i) cells))
         → IsRewritten cells (put_mid (CAPACITY * n + i) k cells part) records
-            (set records n (Some (record { len = len + 1; list = list }))) n
-            (record { len = len + 1; list = list }) (insert (held cells records capacity n) i item)
+        (set records n (Some (record { len = len + 1; list = list }))) n
+        (record { len = len + 1; list = list }) (insert (held cells records capacity n) i item)
     inserting item within more many is =
-        let here = found cells records free capacity n arena there in
+        let here = found arena capacity n there in
         let kept : Record = record { len = len + 1; list = list } in
         let ds = drop (CAPACITY * n + i) cells in
         let all : length (take k ds) ≡ k = length-take-le k ds
-            (omega (arith, here.room, length-drop (CAPACITY * n + i) cells)) in
+        (omega (arith, here.room, length-drop (CAPACITY * n + i) cells)) in
         let first : take (length (take k ds) - 1) (take k ds) ≡ take (len - i) ds =
-            take-take (length (take k ds) - 1) k ds (omega arith)
-            ∙ ap (λ j. take j ds) (omega arith) in
+        take-take (length (take k ds) - 1) k ds (omega arith)
+        ∙ ap (λ j. take j ds) (omega arith) in
         let part_is = is ∙ ap (λ xs. Some item ∷ xs) first in
-        let long : length part ≡ k = omega (arith, ap length part_is, length-take-le (len - i) ds
-            (omega (arith, here.room, length-drop (CAPACITY * n + i) cells))) in
+        let long : length part ≡ k = omega (
+          arith,
+          ap length part_is,
+          length-take-le (len - i) ds
+              (omega (arith, here.room, length-drop (CAPACITY * n + i) cells)),
+        ) in
         record {
           change = part_change cells part records free n (CAPACITY * n + i) k (Some kept) arena
               here.room (omega arith) (omega arith) long;
@@ -77,18 +85,22 @@ module _ {T : Type 0} where
     pub removing : i < len → k ≡ CAPACITY * n + len - (CAPACITY * n + i)
         → part ≡ drop 1 (take k (drop (CAPACITY * n + i) cells)) ++ None ∷ []
         → IsRewritten cells (put_mid (CAPACITY * n + i) k cells part) records
-            (set records n (Some (record { len = len - 1; list = list }))) n
-            (record { len = len - 1; list = list }) (remove (held cells records capacity n) i)
+        (set records n (Some (record { len = len - 1; list = list }))) n
+        (record { len = len - 1; list = list }) (remove (held cells records capacity n) i)
     removing within many is =
-        let here = found cells records free capacity n arena there in
+        let here = found arena capacity n there in
         let kept : Record = record { len = len - 1; list = list } in
         let ds = drop (CAPACITY * n + i) cells in
         let few : len ≤ CAPACITY = omega (arith, here.few) in
         let same : k ≡ len - i = omega arith in
         let all : length (take k ds) ≡ k = length-take-le k ds
-            (omega (arith, here.room, length-drop (CAPACITY * n + i) cells)) in
-        let long : length part ≡ k = omega (arith, ap length is,
-            length-append (drop 1 (take k ds)) (None ∷ []), length-drop 1 (take k ds)) in
+        (omega (arith, here.room, length-drop (CAPACITY * n + i) cells)) in
+        let long : length part ≡ k = omega (
+          arith,
+          ap length is,
+          length-append (drop 1 (take k ds)) (None ∷ []),
+          length-drop 1 (take k ds),
+        ) in
         record {
           change = part_change cells part records free n (CAPACITY * n + i) k (Some kept) arena
               here.room (omega arith) (omega arith) long;
@@ -107,7 +119,7 @@ module _ {T : Type 0} where
         → taken ≡ get_or (take k (drop (CAPACITY * n + i) cells)) 0 taken
         → taken ≡ Some stands.item
     first_is within many stands taken is =
-        let here = found cells records free capacity n arena there in
+        let here = found arena capacity n there in
         let ds = drop (CAPACITY * n + i) cells in
         let same : k ≡ len - i = omega arith in
         let at : i + 0 ≡ i = omega arith in
@@ -125,7 +137,7 @@ module _ {T : Type 0} where
       → (stands : Standing (held cells records capacity n) i) (cell : Option T)
       → cell ≡ get_or cells (CAPACITY * n + i) cell → cell ≡ Some stands.item
   cell_read cells records free capacity n i arena there within stands cell is =
-      let here = found cells records free capacity n arena there in
+      let here = found arena capacity n there in
       let items = held cells records capacity n in
       is ∙ sym (get_or-drop (CAPACITY * n) cells i cell)
       ∙ sym (get_or-take CAPACITY (drop (CAPACITY * n) cells) i cell (omega (arith, here.few)))
@@ -139,7 +151,7 @@ module _ {T : Type 0} where
       → many ≡ length (held cells records capacity n)
       → take many (drop (CAPACITY * n) cells) ≡ full_cells (held cells records capacity n)
   cells_read cells records free capacity n many arena there is =
-      let here = found cells records free capacity n arena there in
+      let here = found arena capacity n there in
       sym (take-take many CAPACITY (drop (CAPACITY * n) cells) (omega (arith, here.few)))
       ∙ ap (λ j. take j (cells_under cells n)) is ∙ here.full
 
@@ -148,12 +160,12 @@ module _ {T : Type 0} where
       (there : HasBlock (table_of cells records capacity) n)
       → i < length (held cells records capacity n)
       → IsRewritten cells (set cells (CAPACITY * n + i) (Some item)) records records n
-          (record {
-            len = length (held cells records capacity n);
-            list = list_held (block_of (table_of cells records capacity) n);
-          }) (set (held cells records capacity n) i item)
+      (record {
+        len = length (held cells records capacity n);
+        list = list_held (block_of (table_of cells records capacity) n);
+      }) (set (held cells records capacity n) i item)
   setting cells records free capacity n i item arena there within =
-      let here = found cells records free capacity n arena there in
+      let here = found arena capacity n there in
       let items = held cells records capacity n in
       let kept : Record = record {
         len = length items;

@@ -1,5 +1,5 @@
 -- The blocks after a number was given to a new one, and after a number was given back.
-use Rattle.std.proofs.Common.{◌≡◌, ◌≢◌, ℕ, ◌+◌, ◌*◌, ◌<◌, ◌≤◌, true, false, cond, List, [], ◌∷◌, ◌++◌, length, get_or, take, replicate, Option, Some, None, is_some, count_by, refl, sym, ap, subst, ◌∙◌, inl, inr, arith}
+use Rattle.std.proofs.Common.{◌≡◌, ◌≢◌, ℕ, ◌+◌, ◌<◌, ◌≤◌, true, false, cond, List, [], ◌∷◌, ◌++◌, length, take, replicate, Option, Some, None, is_some, count_by, refl, sym, ap, ◌∙◌, inl, inr, arith}
 use Rattle.std.specs.Prelude.{slice_index}
 use Rattle.std.proofs.Math.ListN.{set}
 use Rattle.std.proofs.lemmas.Bool.{cases_lt, false≢true}
@@ -75,7 +75,8 @@ module _ {T : Type 0} where
     }
 
     fits_here : (other : Record) → record_at later n ≡ Some other → other.len ≤ CAPACITY
-    fits_here other found = rw (← same_Some (empty_record list) other (sym is ∙ found)) (omega arith)
+    fits_here other found =
+        rw (← same_Some (empty_record list) other (sym is ∙ found)) (omega arith)
 
     full_here : (other : Record) → record_at later n ≡ Some other
         → IsFull (take other.len (cells_under new n))
@@ -134,8 +135,8 @@ module _ {T : Type 0} where
     left_others : (i : ℕ) → i < length left → slice_index left i ≢ n
     left_others i below same =
         let equal : i ≡ length left = arena.apart i (length left)
-            (omega (arith, length_push left n)) (omega (arith, length_push left n))
-            (number_before left n i below ∙ same ∙ sym last) in
+        (omega (arith, length_push left n)) (omega (arith, length_push left n))
+        (number_before left n i below ∙ same ∙ sym last) in
         absurd (omega arith)
 
     pub given_out : (capacity : ℕ) → StoresBlock (table_of cells records capacity)
@@ -230,10 +231,18 @@ module _ {T : Type 0} where
         → slice_index (free ++ n ∷ []) i < length (set records n None)
     within_later i below =
         elim (cases_lt i (length free)) [
-          | inl less ↦ omega (arith, number_before free n i less, arena.within i less,
-              length-set records n None)
-          | inr past ↦ omega (arith, number_last free n i past below,
-              record_within records n kept was, length-set records n None)
+          | inl less ↦ omega (
+            arith,
+            number_before free n i less,
+            arena.within i less,
+            length-set records n None,
+          )
+          | inr past ↦ omega (
+            arith,
+            number_last free n i past below,
+            record_within records n kept was,
+            length-set records n None,
+          )
         ]
 
     vacant_later : (i : ℕ) → i < length (free ++ n ∷ [])
@@ -276,8 +285,13 @@ module _ {T : Type 0} where
       within = within_later;
       vacant = vacant_later;
       apart = apart_later;
-      counted = omega (arith, arena.counted, counted_less, length_push free n,
-        length-set records n None);
+      counted = omega (
+        arith,
+        arena.counted,
+        counted_less,
+        length_push free n,
+        length-set records n None,
+      );
     }
 
     pub removed_block : (capacity : ℕ) → RemovesBlock (table_of cells records capacity)

@@ -17,7 +17,8 @@ module _ {T : Type 0} where
       → block ≡ Some (record { items = items; list = list })
   same_block None items list there is list_is = absurd (cc)
   same_block (Some block) items list there is list_is =
-      ap {B = Option (Block T)} (λ (xs : List T). Some (record { items = xs; list = block.list })) is
+      ap {B = Option (Block T)} (λ (xs : List T). Some (record { items = xs; list = block.list }))
+      is
       ∙ ap {B = Option (Block T)} (λ (key : ℕ). Some (record { items = items; list = key })) list_is
 
   -- the items of `from` between `start` and `done` are at the end of `to`
@@ -52,7 +53,8 @@ module _ {T : Type 0} where
         capacity = refl;
       }
 
-  module _ (old new : Table T) (from start to done : ℕ) (moving : IsMoving old new from start to done)
+  module _ (old new : Table T) (from start to done : ℕ)
+      (moving : IsMoving old new from start to done)
       (apart : from ≢ to) (least : start ≤ done)
       (within : done < length (items_held (block_of old from))) where
     pub from_length : start < length (items_held (block_of new from))
@@ -71,7 +73,7 @@ module _ {T : Type 0} where
     to_length =
         let items = items_held (block_of old from) in
         let part : length (take (done - start) (drop start items)) ≡ done - start = length-take-le
-            (done - start) (drop start items) (omega (arith, length-drop start items)) in
+        (done - start) (drop start items) (omega (arith, length-drop start items)) in
         omega (
           arith,
           ap length moving.to_items,
@@ -122,8 +124,8 @@ module _ {T : Type 0} where
           let at : start + (done - start) ≡ done = omega arith in
           let step : done - start + 1 ≡ done + 1 - start = omega arith in
           let reads : get_or rest (done - start) item ≡ item =
-              get_or-drop start items (done - start) item
-              ∙ ap (λ j. get_or items j item) at ∙ sym item_stood in
+          get_or-drop start items (done - start) item
+          ∙ ap (λ j. get_or items j item) at ∙ sym item_stood in
           put.items_are
           ∙ ap (λ j. insert (items_held (block_of next to)) j item) index_is
           ∙ insert_end (items_held (block_of next to)) item
@@ -149,7 +151,8 @@ module _ {T : Type 0} where
             capacity = put.capacity ∙ taken.capacity ∙ moving.capacity;
           }
 
-  module _ (old new : Table T) (from start to done : ℕ) (moving : IsMoving old new from start to done)
+  module _ (old new : Table T) (from start to done : ℕ)
+      (moving : IsMoving old new from start to done)
       (apart : from ≢ to) (from_there : HasBlock old from) (to_there : HasBlock old to)
       (all : length (items_held (block_of old from)) ≤ done) where
     abbrev shorter : Block T

@@ -1,4 +1,4 @@
-use Rattle.std.proofs.Common.{◌≡◌, ◌+◌, ◌≤◌, ◌++◌, length, replicate, vec_capacity, None}
+use Rattle.std.proofs.Common.{◌≡◌, ◌++◌, replicate, vec_capacity, None}
 use Rattle.range_store.proofs.btree.blocks.add_cells.Given as goal
 
 abbrev pub invariant-loop : goal.invariant-loop

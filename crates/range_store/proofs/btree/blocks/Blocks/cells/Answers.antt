@@ -7,15 +7,15 @@ use Rattle.range_store.proofs.btree.blocks.Blocks.cells.Goals as goal
 pub overflow_mul-start : goal.overflow_mul-start
 overflow_mul-start g c =
     let s = c.self.inside in
-    let here = found s.cells.items s.records.items s.free.items s.capacity c.args.number
-    c.self.invariant.0 (rw (← c.self.view_is) at c.requires) in
+    let here = found c.self.invariant.0 s.capacity c.args.number
+    (rw (← c.self.view_is) at c.requires) in
     omega (arith, here.room, s.cells.ok)
 
 pub overflow_add-end : goal.overflow_add-end
 overflow_add-end g c =
     let s = c.self.inside in
-    let here = found s.cells.items s.records.items s.free.items s.capacity c.args.number
-    c.self.invariant.0 (rw (← c.self.view_is) at c.requires) in
+    let here = found c.self.invariant.0 s.capacity c.args.number
+    (rw (← c.self.view_is) at c.requires) in
     omega (
       arith,
       here.room,
@@ -27,15 +27,15 @@ overflow_add-end g c =
 pub offset_bounds-cells-start : goal.offset_bounds-cells-start
 offset_bounds-cells-start g c =
     let s = c.self.inside in
-    let here = found s.cells.items s.records.items s.free.items s.capacity c.args.number
-    c.self.invariant.0 (rw (← c.self.view_is) at c.requires) in
+    let here = found c.self.invariant.0 s.capacity c.args.number
+    (rw (← c.self.view_is) at c.requires) in
     omega (arith, here.room, ap length c.as_slice-cells.ensures.value)
 
 pub slice_bounds-result-end : goal.slice_bounds-result-end
 slice_bounds-result-end g c =
     let s = c.self.inside in
-    let here = found s.cells.items s.records.items s.free.items s.capacity c.args.number
-    c.self.invariant.0 (rw (← c.self.view_is) at c.requires) in
+    let here = found c.self.invariant.0 s.capacity c.args.number
+    (rw (← c.self.view_is) at c.requires) in
     let room : CAPACITY * c.args.number + c.record.result.len ≤ length c.as_slice-cells.result.now =
     omega (
       arith,

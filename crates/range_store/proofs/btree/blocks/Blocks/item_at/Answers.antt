@@ -1,4 +1,4 @@
-use Rattle.std.proofs.Common.{◌≡◌, ◌+◌, ◌*◌, ◌<◌, length, get_or, Some, None, rules, arith, ap, sym, ◌∙◌}
+use Rattle.std.proofs.Common.{◌+◌, ◌*◌, length, get_or, arith, ap, sym, ◌∙◌}
 use Rattle.std.proofs.lemmas.Option.{none-some, same_Some}
 use Rattle.range_store.specs.declared.btree.nodes.TheConstants.{CAPACITY}
 use Rattle.range_store.proofs.FullCells.{standing}
@@ -9,22 +9,22 @@ use Rattle.range_store.proofs.btree.blocks.Blocks.item_at.Goals as goal
 pub overflow_mul-number : goal.overflow_mul-number
 overflow_mul-number g c =
     let s = c.self.inside in
-    let here = found s.cells.items s.records.items s.free.items s.capacity c.args.number
-    c.self.invariant.0 (rw (← c.self.view_is) at c.requires.present) in
+    let here = found c.self.invariant.0 s.capacity c.args.number
+    (rw (← c.self.view_is) at c.requires.present) in
     omega (arith, here.room, s.cells.ok)
 
 pub overflow_add-number : goal.overflow_add-number
 overflow_add-number g c =
     let s = c.self.inside in
-    let here = found s.cells.items s.records.items s.free.items s.capacity c.args.number
-    c.self.invariant.0 (rw (← c.self.view_is) at c.requires.present) in
+    let here = found c.self.invariant.0 s.capacity c.args.number
+    (rw (← c.self.view_is) at c.requires.present) in
     omega (arith, here.room, s.cells.ok, here.few, rw (← c.self.view_is) at c.requires.within)
 
 pub offset_bounds-as_slice-number : goal.offset_bounds-as_slice-number
 offset_bounds-as_slice-number g c =
     let s = c.self.inside in
-    let here = found s.cells.items s.records.items s.free.items s.capacity c.args.number
-    c.self.invariant.0 (rw (← c.self.view_is) at c.requires.present) in
+    let here = found c.self.invariant.0 s.capacity c.args.number
+    (rw (← c.self.view_is) at c.requires.present) in
     omega (
       arith,
       here.room,
@@ -36,8 +36,8 @@ offset_bounds-as_slice-number g c =
 pub bounds-as_slice-number : goal.bounds-as_slice-number
 bounds-as_slice-number g c =
     let s = c.self.inside in
-    let here = found s.cells.items s.records.items s.free.items s.capacity c.args.number
-    c.self.invariant.0 (rw (← c.self.view_is) at c.requires.present) in
+    let here = found c.self.invariant.0 s.capacity c.args.number
+    (rw (← c.self.view_is) at c.requires.present) in
     omega (
       arith,
       here.room,

@@ -1,7 +1,6 @@
-use Rattle.std.proofs.Common.{◌≡◌, ◌+◌, ◌*◌, ◌<◌, length, get_or, Some, None, rules, arith, ap, refl, sym, ◌∙◌}
+use Rattle.std.proofs.Common.{arith, ap, refl, sym, ◌∙◌}
 use Rattle.std.proofs.lemmas.Bool.{false≢true}
-use Rattle.std.proofs.lemmas.Option.{none-some, same_Some}
-use Rattle.range_store.specs.declared.btree.nodes.TheConstants.{CAPACITY}
+use Rattle.std.proofs.lemmas.Option.{same_Some}
 use Rattle.range_store.proofs.FullCells.{standing}
 use Rattle.range_store.proofs.Arena.{found}
 use Rattle.range_store.proofs.ArenaEdits.{held, cell_read, setting}
@@ -11,22 +10,22 @@ use Rattle.range_store.proofs.btree.blocks.Blocks.item_mut.Goals as goal
 pub overflow_mul-number : goal.overflow_mul-number
 overflow_mul-number g c =
     let s = c.self.inside in
-    let here = found s.cells.items s.records.items s.free.items s.capacity c.args.number
-    c.self.invariant.0 (rw (← c.self.view_is) at c.requires.present) in
+    let here = found c.self.invariant.0 s.capacity c.args.number
+    (rw (← c.self.view_is) at c.requires.present) in
     omega (arith, here.room, s.cells.ok)
 
 pub overflow_add-number : goal.overflow_add-number
 overflow_add-number g c =
     let s = c.self.inside in
-    let here = found s.cells.items s.records.items s.free.items s.capacity c.args.number
-    c.self.invariant.0 (rw (← c.self.view_is) at c.requires.present) in
+    let here = found c.self.invariant.0 s.capacity c.args.number
+    (rw (← c.self.view_is) at c.requires.present) in
     omega (arith, here.room, s.cells.ok, here.few, rw (← c.self.view_is) at c.requires.within)
 
 pub unreachable-requires : goal.unreachable-requires
 unreachable-requires g c =
     let s = c.self.inside in
-    let here = found s.cells.items s.records.items s.free.items s.capacity c.args.number
-    c.self.invariant.0 (rw (← c.self.view_is) at c.requires.present) in
+    let here = found c.self.invariant.0 s.capacity c.args.number
+    (rw (← c.self.view_is) at c.requires.present) in
     false≢true (c.in-None.ensures.variant.1 (omega (
       arith,
       here.room,

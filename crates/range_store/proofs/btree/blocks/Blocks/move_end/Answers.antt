@@ -27,8 +27,12 @@ insert-requires-clause-present g c =
 pub insert-requires-clause-room : goal.insert-requires-clause-room
 insert-requires-clause-room g c =
     rw (c.remove-item.ensures.rest.others c.args.to (λ same. c.requires.apart (sym same)))
-    (omega (arith, c.requires.room, to_length c.args.self.now c.loop.self c.args.from c.args.start
-    c.args.to c.loop.counter c.loop.invariant c.requires.apart (omega arith) (omega arith)))
+    (omega (
+      arith,
+      c.requires.room,
+      to_length c.args.self.now c.loop.self c.args.from c.args.start
+          c.args.to c.loop.counter c.loop.invariant c.requires.apart (omega arith) (omega arith),
+    ))
 
 pub loop-preserved : goal.loop-preserved
 loop-preserved g c =

@@ -1,6 +1,3 @@
-use Rattle.std.proofs.Common.{◌≡◌, [], List, Option, refl}
-use Rattle.range_store.specs.declared.btree.blocks.Record.{Record}
-use Rattle.range_store.specs.Arena.{blocks_in}
 use Rattle.range_store.proofs.Arena.{no_blocks}
 use Rattle.range_store.proofs.btree.blocks.Blocks.new.Goals as goal
 

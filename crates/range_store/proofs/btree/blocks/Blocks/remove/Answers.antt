@@ -1,4 +1,4 @@
-use Rattle.std.proofs.Common.{Some, None, ◌≡◌, ◌+◌, ◌-◌, ◌*◌, ◌<◌, ◌≤◌, length, rules, arith, ap, refl, ◌∙◌, sym}
+use Rattle.std.proofs.Common.{Some, None, ◌+◌, ◌-◌, ◌*◌, ◌<◌, ◌≤◌, length, rules, arith, ap, refl, ◌∙◌, sym}
 use borrow.Rule.Slice.PartMut.{put_mid}
 use borrow.Author.Rules.{scaled_fits≤}
 use Rattle.std.proofs.lemmas.List.{with_items_is}
@@ -13,22 +13,22 @@ use Rattle.range_store.proofs.btree.blocks.Blocks.remove.Goals as goal
 pub overflow_mul-start : goal.overflow_mul-start
 overflow_mul-start g c =
     let s = c.self.inside in
-    let here = found s.cells.items s.records.items s.free.items s.capacity c.args.number
-    c.self.invariant.0 (rw (← c.self.view_is) at c.requires.present) in
+    let here = found c.self.invariant.0 s.capacity c.args.number
+    (rw (← c.self.view_is) at c.requires.present) in
     omega (arith, here.room, s.cells.ok)
 
 pub overflow_add-start : goal.overflow_add-start
 overflow_add-start g c =
     let s = c.self.inside in
-    let here = found s.cells.items s.records.items s.free.items s.capacity c.args.number
-    c.self.invariant.0 (rw (← c.self.view_is) at c.requires.present) in
+    let here = found c.self.invariant.0 s.capacity c.args.number
+    (rw (← c.self.view_is) at c.requires.present) in
     omega (arith, here.room, s.cells.ok, here.few, rw (← c.self.view_is) at c.requires.within)
 
 pub overflow_add-start-2 : goal.overflow_add-start-2
 overflow_add-start-2 g c =
     let s = c.self.inside in
-    let here = found s.cells.items s.records.items s.free.items s.capacity c.args.number
-    c.self.invariant.0 (rw (← c.self.view_is) at c.requires.present) in
+    let here = found c.self.invariant.0 s.capacity c.args.number
+    (rw (← c.self.view_is) at c.requires.present) in
     omega (
       arith,
       here.room,
@@ -40,8 +40,8 @@ overflow_add-start-2 g c =
 pub offset_bounds-deref_mut-start : goal.offset_bounds-deref_mut-start
 offset_bounds-deref_mut-start g c =
     let s = c.self.inside in
-    let here = found s.cells.items s.records.items s.free.items s.capacity c.args.number
-    c.self.invariant.0 (rw (← c.self.view_is) at c.requires.present) in
+    let here = found c.self.invariant.0 s.capacity c.args.number
+    (rw (← c.self.view_is) at c.requires.present) in
     let room : CAPACITY * c.args.number + c.args.index ≤ length c.deref_mut.result.now =
     omega (
       arith,
@@ -56,8 +56,8 @@ offset_bounds-deref_mut-start g c =
 pub slice_bounds-take_first-end : goal.slice_bounds-take_first-end
 slice_bounds-take_first-end g c =
     let s = c.self.inside in
-    let here = found s.cells.items s.records.items s.free.items s.capacity c.args.number
-    c.self.invariant.0 (rw (← c.self.view_is) at c.requires.present) in
+    let here = found c.self.invariant.0 s.capacity c.args.number
+    (rw (← c.self.view_is) at c.requires.present) in
     let less : c.args.index < c.record-len.result.len =
     omega (arith, c.requires.within, c.record-len.ensures.len) in
     let room : CAPACITY * c.args.number + c.record-len.result.len ≤ length c.deref_mut.result.now =
@@ -75,8 +75,8 @@ unreachable-requires g c =
     let s = c.self.inside in
     let there = rw (← c.self.view_is) at c.requires.present in
     let same = rw (← c.self.view_is) at c.record-len.ensures.len in
-    let here = found s.cells.items s.records.items s.free.items s.capacity c.args.number
-    c.self.invariant.0 there in
+    let here = found c.self.invariant.0 s.capacity c.args.number
+    there in
     let within = rw (← c.self.view_is) at c.requires.within in
     let stands = standing (held s.cells.items s.records.items s.capacity c.args.number)
     c.args.index within in
@@ -123,8 +123,8 @@ returns-clause-value g c =
     let s = c.self.inside in
     let there = rw (← c.self.view_is) at c.requires.present in
     let same = rw (← c.self.view_is) at c.record-len.ensures.len in
-    let here = found s.cells.items s.records.items s.free.items s.capacity c.args.number
-    c.self.invariant.0 there in
+    let here = found c.self.invariant.0 s.capacity c.args.number
+    there in
     let within = rw (← c.self.view_is) at c.requires.within in
     let stands = standing (held s.cells.items s.records.items s.capacity c.args.number)
     c.args.index within in

@@ -1,4 +1,4 @@
-use Rattle.std.proofs.Common.{None, ◌≡◌, ◌+◌, ◌-◌, ◌*◌, ◌≤◌, ◌∷◌, ◌++◌, [], length, drop, rules, arith, ap, ◌∙◌}
+use Rattle.std.proofs.Common.{None, ◌≡◌, ◌+◌, ◌-◌, ◌*◌, ◌≤◌, length, drop, rules, arith, ap, ◌∙◌}
 use borrow.Rule.Slice.PartMut.{put_mid}
 use borrow.Author.Rules.{scaled_fits≤}
 use Rattle.std.proofs.lemmas.List.{with_items_is, length-take-le, length-drop, length-set}
@@ -11,15 +11,15 @@ use Rattle.range_store.proofs.btree.blocks.Blocks.remove_block.Goals as goal
 pub overflow_mul-start : goal.overflow_mul-start
 overflow_mul-start g c =
     let s = c.self.inside in
-    let here = found s.cells.items s.records.items s.free.items s.capacity c.args.number
-    c.self.invariant.0 (rw (← c.self.view_is) at c.requires) in
+    let here = found c.self.invariant.0 s.capacity c.args.number
+    (rw (← c.self.view_is) at c.requires) in
     omega (arith, here.room, s.cells.ok)
 
 pub overflow_add-start : goal.overflow_add-start
 overflow_add-start g c =
     let s = c.self.inside in
-    let here = found s.cells.items s.records.items s.free.items s.capacity c.args.number
-    c.self.invariant.0 (rw (← c.self.view_is) at c.requires) in
+    let here = found c.self.invariant.0 s.capacity c.args.number
+    (rw (← c.self.view_is) at c.requires) in
     omega (
       arith,
       here.room,
@@ -31,8 +31,8 @@ overflow_add-start g c =
 pub offset_bounds-deref_mut-start : goal.offset_bounds-deref_mut-start
 offset_bounds-deref_mut-start g c =
     let s = c.self.inside in
-    let here = found s.cells.items s.records.items s.free.items s.capacity c.args.number
-    c.self.invariant.0 (rw (← c.self.view_is) at c.requires) in
+    let here = found c.self.invariant.0 s.capacity c.args.number
+    (rw (← c.self.view_is) at c.requires) in
     let room : CAPACITY * c.args.number ≤ length c.deref_mut.result.now =
     omega (arith, here.room, ap length c.deref_mut.ensures.value) in
     scaled_fits≤ (CAPACITY * c.args.number) (length c.deref_mut.result.now) _ room
@@ -41,8 +41,8 @@ offset_bounds-deref_mut-start g c =
 pub slice_bounds-clear-end : goal.slice_bounds-clear-end
 slice_bounds-clear-end g c =
     let s = c.self.inside in
-    let here = found s.cells.items s.records.items s.free.items s.capacity c.args.number
-    c.self.invariant.0 (rw (← c.self.view_is) at c.requires) in
+    let here = found c.self.invariant.0 s.capacity c.args.number
+    (rw (← c.self.view_is) at c.requires) in
     let room : CAPACITY * c.args.number + c.record-len.result.len ≤ length c.deref_mut.result.now =
     omega (
       arith,
@@ -56,15 +56,15 @@ slice_bounds-clear-end g c =
 pub index_mut-requires : goal.index_mut-requires
 index_mut-requires g c =
     let s = c.self.inside in
-    let here = found s.cells.items s.records.items s.free.items s.capacity c.args.number
-    c.self.invariant.0 (rw (← c.self.view_is) at c.requires) in
+    let here = found c.self.invariant.0 s.capacity c.args.number
+    (rw (← c.self.view_is) at c.requires) in
     omega (arith, here.within, s.records.ok)
 
 pub push_reserved-requires : goal.push_reserved-requires
 push_reserved-requires g c =
     let s = c.self.inside in
-    let here = found s.cells.items s.records.items s.free.items s.capacity c.args.number
-    c.self.invariant.0 (rw (← c.self.view_is) at c.requires) in
+    let here = found c.self.invariant.0 s.capacity c.args.number
+    (rw (← c.self.view_is) at c.requires) in
     omega (
       arith,
       some_counted s.records.items c.args.number here.kept here.is,
@@ -77,8 +77,8 @@ push_reserved-requires g c =
 pub invariant_of-self : goal.invariant_of-self
 invariant_of-self g c =
     let s = c.self.inside in
-    let here = found s.cells.items s.records.items s.free.items s.capacity c.args.number
-    c.self.invariant.0 (rw (← c.self.view_is) at c.requires) in
+    let here = found c.self.invariant.0 s.capacity c.args.number
+    (rw (← c.self.view_is) at c.requires) in
     let start = CAPACITY * c.args.number in
     let many = start + c.record-len.result.len - start in
     let same = rw (← c.self.view_is) at c.record-len.ensures.len in
@@ -109,8 +109,8 @@ invariant_of-self g c =
 pub returns-clause-rest : goal.returns-clause-rest
 returns-clause-rest g c =
     let s = c.self.inside in
-    let here = found s.cells.items s.records.items s.free.items s.capacity c.args.number
-    c.self.invariant.0 (rw (← c.self.view_is) at c.requires) in
+    let here = found c.self.invariant.0 s.capacity c.args.number
+    (rw (← c.self.view_is) at c.requires) in
     let start = CAPACITY * c.args.number in
     let many = start + c.record-len.result.len - start in
     let same = rw (← c.self.view_is) at c.record-len.ensures.len in

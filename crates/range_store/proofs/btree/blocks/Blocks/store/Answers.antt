@@ -1,7 +1,5 @@
-use Rattle.std.proofs.Common.{Some, ◌≡◌, ◌+◌, ◌*◌, ◌≤◌, ◌∷◌, ◌++◌, [], length, rules, arith, ap, ◌∙◌, sym}
-use Rattle.std.proofs.lemmas.List.{append-nil, length-set, length-append, length_push, length-replicate}
-use Rattle.range_store.specs.declared.btree.nodes.TheConstants.{CAPACITY}
-use Rattle.range_store.specs.Blocks.{block_count}
+use Rattle.std.proofs.Common.{Some, ◌≡◌, length, arith, ap, ◌∙◌}
+use Rattle.std.proofs.lemmas.List.{append-nil, length-set, length_push}
 use Rattle.range_store.proofs.Arena.{blocks_count}
 use Rattle.range_store.proofs.ArenaNumbers.{given_out, given_arena, added, added_arena, empty_record, no_number}
 use Rattle.range_store.proofs.btree.blocks.Blocks.store.Goals as goal
