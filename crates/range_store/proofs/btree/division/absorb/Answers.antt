@@ -2,6 +2,9 @@ use Rattle.std.proofs.Common.{length, ap, sym, arith}
 use Rattle.range_store.proofs.Absorbing.{absorbed_block, after_put, joined, put_length}
 use Rattle.range_store.proofs.btree.division.absorb.Goals as goal
 
+pub item_count-end-requires : goal.item_count-end-requires
+item_count-end-requires g c = c.requires.left
+
 pub insert-requires-clause-present : goal.insert-requires-clause-present
 insert-requires-clause-present g c = c.requires.left
 
