@@ -7,7 +7,7 @@ use Rattle.slab.specs.Slab.{Slab}
 use Rattle.arrayvec.specs.ArrayVec.{ArrayVec}
 use Rattle.range_store.specs.declared.btree.nodes.TheConstants.{NO_LIST}
 use Rattle.range_store.specs.Blocks.{Table, block_of, HasBlock, items_held, list_held, WritesBlock, RemovesBlock, MovesEnd}
-use Rattle.range_store.specs.Division.{WritesBoth}
+use Rattle.range_store.specs.Division.{WritesBoth, AbsorbsBlock}
 use Rattle.range_store.specs.Heap.{node_of, items_of, children_of, Absorbs}
 use Rattle.range_store.specs.ChildLists.{list_in, heap_of, IsWhole, WritesList, AppendsList}
 use Rattle.range_store.proofs.Steps.{removed, removed_whole, written, written_whole}
@@ -26,7 +26,7 @@ end_joined xs ys i x at =
     ap (λ j. insert xs j x ++ ys) at ∙ ap (λ zs. zs ++ ys) (insert_end xs x)
     ∙ append_assoc xs (x ∷ []) ys
 
--- the block l got an item at its end, and then all that r had
+-- the block l got an item at its end, then all that r had, and r went
 module _ {T : Type 0} (s t : Table T) (l r i : ℕ) (middle : T) (apart : l ≢ r)
     (left : HasBlock s l) (right : HasBlock s r) (at : i ≡ length (items_held (block_of s l)))
     (put : WritesBlock s t l (insert (items_held (block_of s l)) i middle)) where
@@ -49,25 +49,26 @@ module _ {T : Type 0} (s t : Table T) (l r i : ℕ) (middle : T) (apart : l ≢ 
         (moved_left s t u l r 0 (insert (items_held (block_of s l)) i middle)
         (items_held (block_of s r)) apart after_put moves)
 
+    pub absorbed_block : (v : Table T) → RemovesBlock u v r → AbsorbsBlock s v l middle r
+    absorbed_block v removes =
+        record {
+          between = with_block s r None;
+          right = removes_slot s r right;
+          left = writes_after s u v l r
+              (items_held (block_of s l) ++ middle ∷ items_held (block_of s r)) [] apart joined
+              left right removes;
+        }
+
 module _ {T : Type 0} (blocks : Table T) (lists : Slab (ArrayVec ℕ)) (whole : IsWhole blocks lists)
     (l r : ℕ) (apart : l ≢ r) where
   pub lists_apart : list_held (block_of blocks r) ≢ NO_LIST
       → list_held (block_of blocks l) ≢ list_held (block_of blocks r)
   lists_apart some same = apart (sym (whole.apart r l some (sym same)))
 
-  module _ (moved new : Table T) (new_lists : Slab (ArrayVec ℕ)) (middle : T)
-      (left : HasBlock blocks l) (right : HasBlock blocks r) (rest : List T)
-      (both : WritesBoth blocks moved l r
-      (items_held (block_of blocks l) ++ middle ∷ items_held (block_of blocks r)) rest)
-      (removes : RemovesBlock moved new r)
+  module _ (new : Table T) (new_lists : Slab (ArrayVec ℕ)) (middle : T)
+      (absorbs : AbsorbsBlock blocks new l middle r)
       (appends : AppendsList lists new_lists (list_held (block_of blocks l))
       (list_held (block_of blocks r))) where
-    abbrev between : Table T
-    between = with_block blocks r None
-
-    abbrev all : List T
-    all = items_held (block_of blocks l) ++ middle ∷ items_held (block_of blocks r)
-
     abbrev items : List T
     items = items_of (node_of (heap_of blocks lists) l) ++ middle ∷ items_of
         (node_of (heap_of blocks lists) r)
@@ -76,7 +77,7 @@ module _ {T : Type 0} (blocks : Table T) (lists : Slab (ArrayVec ℕ)) (whole : 
     children = children_of (node_of (heap_of blocks lists) l) ++ children_of
         (node_of (heap_of blocks lists) r)
 
-    same_items : all ≡ items
+    same_items : items_held (block_of blocks l) ++ middle ∷ items_held (block_of blocks r) ≡ items
     same_items =
         ap (λ xs. xs ++ middle ∷ items_held (block_of blocks r))
         (sym (node_items blocks lists l))
@@ -91,34 +92,32 @@ module _ {T : Type 0} (blocks : Table T) (lists : Slab (ArrayVec ℕ)) (whole : 
         ∙ ap (λ ks. children_of (node_of (heap_of blocks lists) l) ++ ks)
         (sym (node_children blocks lists whole r))
 
-    without : IsWhole between appends.between
-    without = removed_whole blocks between lists appends.between r whole
-        (removes_slot blocks r right) appends.dropped
+    without : IsWhole absorbs.between appends.between
+    without = removed_whole blocks absorbs.between lists appends.between r whole absorbs.right
+        appends.dropped
 
-    still : list_held (block_of between l) ≡ list_held (block_of blocks l)
-    still = ap list_held ((removes_slot blocks r right).others l apart)
+    still : list_held (block_of absorbs.between l) ≡ list_held (block_of blocks l)
+    still = ap list_held (absorbs.right.others l apart)
 
-    writes : WritesList appends.between new_lists (list_held (block_of between l)) children
-    writes =
+    list : WritesList appends.between new_lists (list_held (block_of absorbs.between l)) children
+    list =
         subst (λ key. WritesList appends.between new_lists key children) (sym still)
         (subst (λ ks. WritesList appends.between new_lists (list_held (block_of blocks l)) ks)
         same_children appends.written)
 
-    block : WritesBlock between new l items
-    block =
-        subst (λ xs. WritesBlock between new l xs) same_items
-        (writes_after blocks moved new l r all rest apart both left right removes)
+    block : WritesBlock absorbs.between new l items
+    block = subst (λ xs. WritesBlock absorbs.between new l xs) same_items absorbs.left
 
     pub absorbed_whole : IsWhole new new_lists
-    absorbed_whole = written_whole between new appends.between new_lists l without items children
-        block writes
+    absorbed_whole = written_whole absorbs.between new appends.between new_lists l without items
+        children block list
 
     pub absorbed : Absorbs (heap_of blocks lists) (heap_of new new_lists) l middle r
     absorbed =
         record {
-          between = heap_of between appends.between;
-          right = removed blocks between lists appends.between r whole
-              (removes_slot blocks r right) appends.dropped;
-          left = written between new appends.between new_lists l without items children block
-              writes;
+          between = heap_of absorbs.between appends.between;
+          right = removed blocks absorbs.between lists appends.between r whole absorbs.right
+              appends.dropped;
+          left = written absorbs.between new appends.between new_lists l without items children
+              block list;
         }

@@ -7,7 +7,7 @@ use crate::btree::blocks::Blocks;
 use crate::btree::child_lists::{
     append_list, divide_children, drop_list, put_child, store_list, take_child,
 };
-use crate::btree::division::divide;
+use crate::btree::division::{absorb, divide};
 use arrayvec::ArrayVec;
 use slab::Slab;
 use std::alloc::{AllocError, Global};
@@ -349,11 +349,9 @@ impl<T: Drop> Nodes<T> {
             + length (children_of (node_of self.old right)) ≤ CHILD_PLACES }
         ensures { Absorbs self.old self.new left middle right }
     {
-        let end = self.blocks.item_count(left);
-        self.blocks.insert(left, end, middle);
-        self.blocks.move_end(right, 0, left);
-        let upper = self.blocks.remove_block(right);
         let lower = self.blocks.list(left);
+        let upper = self.blocks.list(right);
         append_list(&mut self.lists, lower, upper);
+        absorb(&mut self.blocks, left, middle, right);
     }
 }
