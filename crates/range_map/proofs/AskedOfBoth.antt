@@ -1,5 +1,5 @@
--- A closure that may be asked of the items of two lists one by one, of each item of either with none
--- beside it, and of each two, may be asked what `combine` may ask.
+-- A closure that may be asked of the items of two lists one by one, of each item of either with
+-- none beside it, and of each two, may be asked what `combine` may ask.
 use Rattle.std.proofs.Common.{◌≡◌, refl, ap, subst, List, Option, Some, None}
 use Rattle.std.specs.Fn.{Shared}
 use Rattle.std.specs.Option.{option_copied}

@@ -79,3 +79,13 @@ returns-clause-few g c =
     c.move_all.ensures.list ∙ c.move_first.ensures.list
     ∙ ap (λ xs. appended order same xs others) c.reserve.ensures.list in
     rw (← c.self.view_is, ← c.other.view_is, whole) (appended_length order same items others)
+
+pub returns-then-not-lies_before-clause-out_of_order :
+    goal.returns-then-not-lies_before-clause-out_of_order
+returns-then-not-lies_before-clause-out_of_order g c = search rules
+
+pub returns-in_err-reserve-clause-out_of_order : goal.returns-in_err-reserve-clause-out_of_order
+returns-in_err-reserve-clause-out_of_order g c = search rules
+
+pub returns-clause-out_of_order : goal.returns-clause-out_of_order
+returns-clause-out_of_order g c = search rules

@@ -1,7 +1,15 @@
-use Rattle.std.proofs.Common.{◌++◌, ◌∷◌, []}
+use Rattle.std.proofs.Common.{◌≡◌, refl, List, ◌++◌, ◌∷◌, []}
+use Rattle.range_algebra.specs.Intervals.{Every}
+use Rattle.range_algebra.specs.Relations.{LiesBefore}
 use Rattle.range_map.specs.Iteration.{shown_item}
 use Rattle.range_map.proofs.Appending.{ends_tell}
 use Rattle.range_map.proofs.map.RangeMap.lies_before.Goals as goal
+
+-- each of the ones stands so to each of no others
+to_none : {X Y : Type 0} (R : X → Y → Type 0) (xs : List X) (ys : List Y) → ys ≡ []
+    → Every (λ x. Every (λ y. R x y) ys) xs
+to_none R [] ys e = tt
+to_none R (x ∷ xs) ys e = (rw e tt, to_none R xs ys e)
 
 pub returns : goal.returns
 returns g c =
@@ -15,3 +23,14 @@ returns g c =
     (shown_item (c.in-Some-first_range_value.first, c.in-Some-first_range_value.field-0-1))
     (rw last.1 at c.in_form.ensures) (rw first.1 at c.in_form-2.ensures) in
     rw (last.1, first.1) (λ h. all.0 (ends.0 h), λ h. ends.1 (all.1 h))
+
+pub returns-in_default : goal.returns-in_default
+returns-in_default g c = rw c.in_default.ensures.last (λ h. tt, λ h. refl)
+
+pub returns-in_default-first_range_value : goal.returns-in_default-first_range_value
+returns-in_default-first_range_value g c = (
+  λ h. to_none (λ i j. LiesBefore g.K.MaybeBounded.order i.key j.key)
+      (g.C.Storage.items c.args.self.now) (g.D.Storage.items c.args.other.now)
+      c.in_default-first_range_value.ensures.first,
+  λ h. refl,
+)

@@ -1,4 +1,4 @@
-use Rattle.std.proofs.Common.{◌∙◌}
+use Rattle.std.proofs.Common.{rules, ◌∙◌}
 use Rattle.range_map.proofs.StoredLists.{stored_coarse, stored_only}
 use Rattle.range_map.proofs.map.RangeMap.split_off.Goals as goal
 
@@ -37,3 +37,9 @@ returns-in-Err-clause-only g c complete =
     rw (c.move_all.ensures.list ∙ c.in-Err.ensures.list) (stored_only g.K.MaybeBounded.order
     g.met.K.PartialEnum.lawful g.V.PartialEq.eq g.met.V.Eq.laws complete
     (g.C.Storage.items c.self.inside.stored) c.self.invariant)
+
+pub move_all-requires : goal.move_all-requires
+move_all-requires g c = search rules
+
+pub returns-in-Err-clause-refused : goal.returns-in-Err-clause-refused
+returns-in-Err-clause-refused g c = search rules

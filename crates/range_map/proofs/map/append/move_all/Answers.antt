@@ -1,0 +1,33 @@
+use Rattle.std.proofs.Common.{◌≡◌, ◌∙◌, ℕ, ◌+◌, ◌≤◌, List, length, ◌++◌, ◌∷◌, [], arith}
+use Rattle.std.specs.List.{insert}
+use Rattle.std.proofs.lemmas.List.{append_assoc}
+use Rattle.std.proofs.lemmas.List.Edits.{insert_end}
+use Rattle.range_map.proofs.map.append.move_all.Goals as goal
+
+-- the first of the others comes to be the last that is stored
+put_next : {X : Type 0} (stored new others rest whole : List X) (item : X) → others ≡ item ∷ rest
+    → new ≡ insert stored (length stored) item → stored ++ others ≡ whole → new ++ rest ≡ whole
+put_next stored new others rest whole item split put all =
+    let last : new ≡ stored ++ item ∷ [] = put ∙ insert_end stored item in
+    rw last (append_assoc stored (item ∷ []) rest ∙ (rw split at all))
+
+room_next : {X : Type 0} (others rest : List X) (item : X) (room less : ℕ) → others ≡ item ∷ rest
+    → length others ≤ room → room ≡ less + 1 → length rest ≤ less
+room_next others rest item room less split h e =
+    let all : length (item ∷ rest) ≤ room = rw split at h in omega arith
+
+pub loop-item-preserved : goal.loop-item-preserved
+loop-item-preserved g c =
+    let items = g.C.Storage.items in
+    let others = g.D.Storage.items in
+    record {
+      list =
+          put_next (items c.loop-item.stored) (items c.insert_at-position.new.self)
+          (others c.loop-item.others) (others c.pop_first.new.self)
+          (items c.args.stored.now ++ others c.args.others.now) c.in-Some.item
+          c.in-Some.ensures.list c.insert_at-position.ensures.list c.loop-item.invariant.list;
+      room =
+          room_next (others c.loop-item.others) (others c.pop_first.new.self) c.in-Some.item
+          (g.C.Storage.room c.loop-item.stored) (g.C.Storage.room c.insert_at-position.new.self)
+          c.in-Some.ensures.list c.loop-item.invariant.room c.insert_at-position.ensures.space;
+    }
