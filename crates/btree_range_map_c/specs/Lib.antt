@@ -1,0 +1,4 @@
+pub mod Flags
+pub mod Held
+pub mod Lists
+pub mod Seals
