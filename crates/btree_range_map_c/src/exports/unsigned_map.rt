@@ -258,9 +258,10 @@ pub extern "C" fn range_map_u64_last(alloc: Global, handle: &mut Handle, entry: 
     status
 }
 
-/// Writes the first stored range that ends at the key or after it, with its value. Costs one search.
+/// Writes the first stored range that ends at the key or after it, with its value.
 ///
-/// It is the first of those that meet the keys from this one on, and all before it end below the key.
+/// It is the first of those that meet the keys from this one on; all before it end below the key.
+/// Costs one search.
 #[unsafe(no_mangle)]
 pub extern "C" fn range_map_u64_next(
     alloc: Global,
