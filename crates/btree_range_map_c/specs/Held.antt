@@ -1,5 +1,5 @@
 -- What an open handle holds.
-use Rattle.std.specs.Prelude.{ℕ, List, [], length, Option, Some, None, ⊤}
+use Rattle.std.specs.Prelude.{ℕ, [], length, Option, Some, None, ⊤}
 use Rattle.btree_range_map_c.specs.Lists.{Ranges, SignedRanges, KeyRanges}
 use Rattle.btree_range_map_c.specs.declared.collection.Collection.{Collection}
 use Rattle.btree_range_map_c.specs.declared.collection.Collection.TheVariants.{Unsigned, Signed, Set}
