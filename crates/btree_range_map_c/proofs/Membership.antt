@@ -8,8 +8,8 @@ use Rattle.btree_range_map.specs.Order.{KeyOrder}
 use Rattle.btree_range_map.specs.AnyRange.{AnyRange}
 use Rattle.btree_range_map.specs.Item.{Item}
 use Rattle.btree_range_map.specs.Range.{Holds, StartHolds, EndHolds}
-use Rattle.btree_range_map.specs.Bindings.{IsBound, BindsTo, IsBoundAfter, IsUnboundAfter}
-use Rattle.btree_range_map.specs.KeySets.{HoldsKey, HoldsAlso, HoldsWithout}
+use Rattle.btree_range_map.specs.Bindings.{IsBound, BindsTo, BindAlike, IsBoundAfter, IsUnboundAfter}
+use Rattle.btree_range_map.specs.KeySets.{HoldsKey, HoldsAlso, HoldsWithout, HoldAlike}
 
 abbrev all_same : Unit {0} → Unit {0} → Bool
 all_same a b = true
@@ -91,3 +91,12 @@ module _ {K : Type 0} (order : KeyOrder K) where
         λ b. let out : ¬ Holds order r k = λ held. gone held b in ((old out).0 b, out),
         λ b. (old b.1).1 b.0,
       )
+
+  pub bound_alike : (items others : Items) → HoldAlike order items others
+      → BindAlike order all_same items others
+  bound_alike items others h k key None =
+      (λ free held. free ((h k key).1 held), λ free held. free ((h k key).0 held))
+  bound_alike items others h k key (Some v) = (
+    λ b. bound_to others k ((h k key).0 (binds_bound items k b)),
+    λ b. bound_to items k ((h k key).1 (binds_bound others k b)),
+  )

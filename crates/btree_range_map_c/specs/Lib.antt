@@ -1,3 +1,4 @@
+pub mod Fewest
 pub mod Flags
 pub mod Held
 pub mod Lists

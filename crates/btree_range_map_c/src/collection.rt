@@ -1,5 +1,6 @@
 //! What an open handle leads to.
 ghost use Rattle.std.specs.Prelude.{◌≡◌, Some};
+ghost use Rattle.btree_range_map_c.specs.Fewest.{IsLeastRangeCount};
 ghost use Rattle.btree_range_map_c.specs.Held.{range_count, emptied};
 
 use crate::signed_map::SignedMap;
@@ -18,7 +19,8 @@ pub enum Collection {
 impl Collection {
     /// How many ranges are stored.
     pub fn range_count(&self) -> usize
-        ensures { result ≡ range_count (Some self.now) }
+        ensures value { result ≡ range_count (Some self.now) }
+        ensures least { IsLeastRangeCount (Some self.now) result }
     {
         match self {
             Collection::Unsigned(map) => map.range_count(),

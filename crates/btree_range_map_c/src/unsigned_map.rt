@@ -1,7 +1,7 @@
 //! Maps of `u64` keys to `u64` values, and the calls on a collection that may be one.
 ghost use Rattle.std.specs.Prelude.{◌≡◌, ◌≢◌, ◌⊎◌, ◌↔◌, ◌+◌, ◌*◌, ◌^◌, List, [], ◌∷◌, ◌++◌, Some, None, length, IsTrue, nat_eq};
 ghost use Rattle.btree_range_map.specs.Apart.{IsConnectedError};
-ghost use Rattle.btree_range_map.specs.Bindings.{Binds, IsBound, IsItemFor, IsBoundAfter, IsUnboundAfter};
+ghost use Rattle.btree_range_map.specs.Bindings.{Binds, IsBound, IsItemFor, IsBoundAfter, IsUnboundAfter, IsLeastCount};
 ghost use Rattle.btree_range_map.specs.Holding.{box_items};
 ghost use Rattle.btree_range_map.specs.Lookups.{BindsKeyOf, IsConnectedToSome};
 ghost use Rattle.btree_range_map.specs.Numbers.{IsNumberOfKeys};
@@ -50,7 +50,8 @@ impl UnsignedMap {
     }
 
     pub fn range_count(&self) -> usize
-        ensures { result ≡ length self.now }
+        ensures value { result ≡ length self.now }
+        ensures least { IsLeastCount unsigned_keys nat_eq self.now result }
     {
         self.map.range_count()
     }

@@ -1,5 +1,6 @@
 //! The calls on a handle of any kind.
 ghost use Rattle.std.specs.Prelude.{◌≡◌, Some, None, true, false};
+ghost use Rattle.btree_range_map_c.specs.Fewest.{IsLeastRangeCount};
 ghost use Rattle.btree_range_map_c.specs.Held.{range_count, emptied};
 
 use crate::handle::Handle;
@@ -35,11 +36,12 @@ pub extern "C" fn range_handle_clear(alloc: Global, handle: &mut Handle) -> u32
     DONE
 }
 
-/// How many ranges are stored, none of a closed handle.
+/// How many ranges are stored, none of a closed handle. No fewer ranges would do.
 #[unsafe(no_mangle)]
 pub extern "C" fn range_handle_count(alloc: Global, handle: &mut Handle) -> usize
     ensures unchanged { handle.new.seal.held ≡ handle.old.seal.held }
     ensures value { result ≡ range_count handle.old.seal.held }
+    ensures least { IsLeastRangeCount handle.old.seal.held result }
 {
     if !handle.is_open {
         return 0;
