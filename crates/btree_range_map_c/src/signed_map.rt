@@ -75,6 +75,10 @@ pub fn insert(collection: &mut Collection, range: &SignedBounds, value: u64) -> 
     ensures bound { result ≡ DONE
         → IsBoundAfter signed_keys nat_eq (signed_items (Some collection.old))
         (signed_items (Some collection.new)) (signed_range_of range.now) value }
+    ensures empty { IsEmptyRange signed_keys (signed_range_of range.now)
+        → HoldsSignedMap (Some collection.old) → result ≡ DONE }
+    ensures empty_unchanged { IsEmptyRange signed_keys (signed_range_of range.now)
+        → collection.new ≡ collection.old }
     ensures kind { HoldsSignedMap (Some collection.old) → HoldsSignedMap (Some collection.new) }
     ensures refused { result ≢ DONE → collection.new ≡ collection.old }
     ensures answer { HoldsSignedMap (Some collection.old) → (result ≡ DONE) ⊎ (result ≡ NO_MEMORY) }
@@ -98,6 +102,10 @@ pub fn insert_disconnected(collection: &mut Collection, range: &SignedBounds, va
         ↔ (¬ IsEmptyRange signed_keys (signed_range_of range.now))
         × IsConnectedToSome signed_keys (signed_items (Some collection.old))
         (signed_range_of range.now)) }
+    ensures empty { IsEmptyRange signed_keys (signed_range_of range.now)
+        → HoldsSignedMap (Some collection.old) → result ≡ DONE }
+    ensures empty_unchanged { IsEmptyRange signed_keys (signed_range_of range.now)
+        → collection.new ≡ collection.old }
     ensures kind { HoldsSignedMap (Some collection.old) → HoldsSignedMap (Some collection.new) }
     ensures refused { result ≢ DONE → collection.new ≡ collection.old }
     ensures answer { HoldsSignedMap (Some collection.old)
@@ -119,6 +127,10 @@ pub fn remove(collection: &mut Collection, range: &SignedBounds) -> u32
     ensures unbound { result ≡ DONE
         → IsUnboundAfter signed_keys nat_eq (signed_items (Some collection.old))
         (signed_items (Some collection.new)) (signed_range_of range.now) }
+    ensures empty { IsEmptyRange signed_keys (signed_range_of range.now)
+        → HoldsSignedMap (Some collection.old) → result ≡ DONE }
+    ensures empty_unchanged { IsEmptyRange signed_keys (signed_range_of range.now)
+        → collection.new ≡ collection.old }
     ensures kind { HoldsSignedMap (Some collection.old) → HoldsSignedMap (Some collection.new) }
     ensures refused { result ≢ DONE → collection.new ≡ collection.old }
     ensures answer { HoldsSignedMap (Some collection.old) → (result ≡ DONE) ⊎ (result ≡ NO_MEMORY) }

@@ -75,6 +75,10 @@ pub fn insert(collection: &mut Collection, range: &Bounds, value: u64) -> u32
     ensures bound { result ≡ DONE
         → IsBoundAfter unsigned_keys nat_eq (map_items (Some collection.old))
         (map_items (Some collection.new)) (range_of range.now) value }
+    ensures empty { IsEmptyRange unsigned_keys (range_of range.now)
+        → HoldsMap (Some collection.old) → result ≡ DONE }
+    ensures empty_unchanged { IsEmptyRange unsigned_keys (range_of range.now)
+        → collection.new ≡ collection.old }
     ensures kind { HoldsMap (Some collection.old) → HoldsMap (Some collection.new) }
     ensures refused { result ≢ DONE → collection.new ≡ collection.old }
     ensures answer { HoldsMap (Some collection.old) → (result ≡ DONE) ⊎ (result ≡ NO_MEMORY) }
@@ -97,6 +101,10 @@ pub fn insert_disconnected(collection: &mut Collection, range: &Bounds, value: u
     ensures connected { HoldsMap (Some collection.old) → (result ≡ CONNECTED
         ↔ (¬ IsEmptyRange unsigned_keys (range_of range.now))
         × IsConnectedToSome unsigned_keys (map_items (Some collection.old)) (range_of range.now)) }
+    ensures empty { IsEmptyRange unsigned_keys (range_of range.now)
+        → HoldsMap (Some collection.old) → result ≡ DONE }
+    ensures empty_unchanged { IsEmptyRange unsigned_keys (range_of range.now)
+        → collection.new ≡ collection.old }
     ensures kind { HoldsMap (Some collection.old) → HoldsMap (Some collection.new) }
     ensures refused { result ≢ DONE → collection.new ≡ collection.old }
     ensures answer { HoldsMap (Some collection.old)
@@ -118,6 +126,10 @@ pub fn remove(collection: &mut Collection, range: &Bounds) -> u32
     ensures unbound { result ≡ DONE
         → IsUnboundAfter unsigned_keys nat_eq (map_items (Some collection.old))
         (map_items (Some collection.new)) (range_of range.now) }
+    ensures empty { IsEmptyRange unsigned_keys (range_of range.now)
+        → HoldsMap (Some collection.old) → result ≡ DONE }
+    ensures empty_unchanged { IsEmptyRange unsigned_keys (range_of range.now)
+        → collection.new ≡ collection.old }
     ensures kind { HoldsMap (Some collection.old) → HoldsMap (Some collection.new) }
     ensures refused { result ≢ DONE → collection.new ≡ collection.old }
     ensures answer { HoldsMap (Some collection.old) → (result ≡ DONE) ⊎ (result ≡ NO_MEMORY) }

@@ -1,10 +1,11 @@
 //! Sets of `u64` keys, and the calls on a collection that may be one.
-ghost use Rattle.std.specs.Prelude.{◌≡◌, ◌≢◌, ◌⊎◌, ◌↔◌, ◌+◌, ◌*◌, ◌^◌, List, [], ◌∷◌, ◌++◌, Some, None, length, IsTrue, OnOk, OnErr};
+ghost use Rattle.std.specs.Prelude.{◌≡◌, ◌≢◌, ◌⊎◌, ◌↔◌, ◌+◌, ◌*◌, ◌^◌, List, [], ◌∷◌, ◌++◌, Some, None, length, IsTrue, IsOk, OnOk, OnErr};
 ghost use Rattle.btree_range_map.specs.Bindings.{IsItemFor};
 ghost use Rattle.btree_range_map.specs.Holding.{box_items};
 ghost use Rattle.btree_range_map.specs.KeySets.{HoldsKey, HoldsAlso, HoldsWithout, IsLeastCount};
 ghost use Rattle.btree_range_map.specs.Lookups.{BindsKeyOf};
 ghost use Rattle.btree_range_map.specs.Numbers.{IsNumberOfKeys};
+ghost use Rattle.btree_range_map.specs.Range.{IsEmptyRange};
 ghost use Rattle.btree_range_map.specs.Overlapping.{AreOverlapping};
 ghost use Rattle.btree_range_map_c.specs.Flags.{range_of, key_item, number_of, from_key};
 ghost use Rattle.btree_range_map_c.specs.Held.{HoldsSet, set_items};
@@ -57,6 +58,8 @@ impl UnsignedSet {
 
     fn insert(&mut self, range: AnyRange<u64>) -> Result<(), MapError>
         ensures added { OnOk result (HoldsAlso unsigned_keys self.old self.new range) }
+        ensures empty { IsEmptyRange unsigned_keys range → IsOk result }
+        ensures empty_unchanged { IsEmptyRange unsigned_keys range → self.new ≡ self.old }
         ensures refused { OnErr result (self.new ≡ self.old) }
     {
         self.set.insert(range, ())
@@ -64,6 +67,8 @@ impl UnsignedSet {
 
     fn remove(&mut self, range: AnyRange<u64>) -> Result<(), MapError>
         ensures removed { OnOk result (HoldsWithout unsigned_keys self.old self.new range) }
+        ensures empty { IsEmptyRange unsigned_keys range → IsOk result }
+        ensures empty_unchanged { IsEmptyRange unsigned_keys range → self.new ≡ self.old }
         ensures refused { OnErr result (self.new ≡ self.old) }
     {
         self.set.remove(range)
@@ -88,6 +93,10 @@ pub fn insert(collection: &mut Collection, range: &Bounds) -> u32
     ensures added { result ≡ DONE
         → HoldsAlso unsigned_keys (set_items (Some collection.old))
         (set_items (Some collection.new)) (range_of range.now) }
+    ensures empty { IsEmptyRange unsigned_keys (range_of range.now)
+        → HoldsSet (Some collection.old) → result ≡ DONE }
+    ensures empty_unchanged { IsEmptyRange unsigned_keys (range_of range.now)
+        → collection.new ≡ collection.old }
     ensures kind { HoldsSet (Some collection.old) → HoldsSet (Some collection.new) }
     ensures refused { result ≢ DONE → collection.new ≡ collection.old }
     ensures answer { HoldsSet (Some collection.old) → (result ≡ DONE) ⊎ (result ≡ NO_MEMORY) }
@@ -107,6 +116,10 @@ pub fn remove(collection: &mut Collection, range: &Bounds) -> u32
     ensures removed { result ≡ DONE
         → HoldsWithout unsigned_keys (set_items (Some collection.old))
         (set_items (Some collection.new)) (range_of range.now) }
+    ensures empty { IsEmptyRange unsigned_keys (range_of range.now)
+        → HoldsSet (Some collection.old) → result ≡ DONE }
+    ensures empty_unchanged { IsEmptyRange unsigned_keys (range_of range.now)
+        → collection.new ≡ collection.old }
     ensures kind { HoldsSet (Some collection.old) → HoldsSet (Some collection.new) }
     ensures refused { result ≢ DONE → collection.new ≡ collection.old }
     ensures answer { HoldsSet (Some collection.old) → (result ≡ DONE) ⊎ (result ≡ NO_MEMORY) }

@@ -48,6 +48,10 @@ pub extern "C" fn range_map_i64_insert(
     ensures bound { result ≡ DONE
         → IsBoundAfter signed_keys nat_eq (signed_items handle.old.seal.held)
         (signed_items handle.new.seal.held) (signed_range_of range.now) value }
+    ensures empty { IsEmptyRange signed_keys (signed_range_of range.now)
+        → HoldsSignedMap handle.old.seal.held → result ≡ DONE }
+    ensures empty_unchanged { IsEmptyRange signed_keys (signed_range_of range.now)
+        → handle.new.seal.held ≡ handle.old.seal.held }
     ensures kind { HoldsSignedMap handle.old.seal.held → HoldsSignedMap handle.new.seal.held }
     ensures refused { result ≢ DONE → handle.new.seal.held ≡ handle.old.seal.held }
     ensures answer { HoldsSignedMap handle.old.seal.held → (result ≡ DONE) ⊎ (result ≡ NO_MEMORY) }
@@ -79,6 +83,10 @@ pub extern "C" fn range_map_i64_insert_disconnected(
         ↔ (¬ IsEmptyRange signed_keys (signed_range_of range.now))
         × IsConnectedToSome signed_keys (signed_items handle.old.seal.held)
         (signed_range_of range.now)) }
+    ensures empty { IsEmptyRange signed_keys (signed_range_of range.now)
+        → HoldsSignedMap handle.old.seal.held → result ≡ DONE }
+    ensures empty_unchanged { IsEmptyRange signed_keys (signed_range_of range.now)
+        → handle.new.seal.held ≡ handle.old.seal.held }
     ensures kind { HoldsSignedMap handle.old.seal.held → HoldsSignedMap handle.new.seal.held }
     ensures refused { result ≢ DONE → handle.new.seal.held ≡ handle.old.seal.held }
     ensures answer { HoldsSignedMap handle.old.seal.held
@@ -106,6 +114,10 @@ pub extern "C" fn range_map_i64_remove(
     ensures unbound { result ≡ DONE
         → IsUnboundAfter signed_keys nat_eq (signed_items handle.old.seal.held)
         (signed_items handle.new.seal.held) (signed_range_of range.now) }
+    ensures empty { IsEmptyRange signed_keys (signed_range_of range.now)
+        → HoldsSignedMap handle.old.seal.held → result ≡ DONE }
+    ensures empty_unchanged { IsEmptyRange signed_keys (signed_range_of range.now)
+        → handle.new.seal.held ≡ handle.old.seal.held }
     ensures kind { HoldsSignedMap handle.old.seal.held → HoldsSignedMap handle.new.seal.held }
     ensures refused { result ≢ DONE → handle.new.seal.held ≡ handle.old.seal.held }
     ensures answer { HoldsSignedMap handle.old.seal.held → (result ≡ DONE) ⊎ (result ≡ NO_MEMORY) }

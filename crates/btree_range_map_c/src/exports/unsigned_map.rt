@@ -48,6 +48,10 @@ pub extern "C" fn range_map_u64_insert(
     ensures bound { result ≡ DONE
         → IsBoundAfter unsigned_keys nat_eq (map_items handle.old.seal.held)
         (map_items handle.new.seal.held) (range_of range.now) value }
+    ensures empty { IsEmptyRange unsigned_keys (range_of range.now)
+        → HoldsMap handle.old.seal.held → result ≡ DONE }
+    ensures empty_unchanged { IsEmptyRange unsigned_keys (range_of range.now)
+        → handle.new.seal.held ≡ handle.old.seal.held }
     ensures kind { HoldsMap handle.old.seal.held → HoldsMap handle.new.seal.held }
     ensures refused { result ≢ DONE → handle.new.seal.held ≡ handle.old.seal.held }
     ensures answer { HoldsMap handle.old.seal.held → (result ≡ DONE) ⊎ (result ≡ NO_MEMORY) }
@@ -78,6 +82,10 @@ pub extern "C" fn range_map_u64_insert_disconnected(
     ensures connected { HoldsMap handle.old.seal.held → (result ≡ CONNECTED
         ↔ (¬ IsEmptyRange unsigned_keys (range_of range.now))
         × IsConnectedToSome unsigned_keys (map_items handle.old.seal.held) (range_of range.now)) }
+    ensures empty { IsEmptyRange unsigned_keys (range_of range.now)
+        → HoldsMap handle.old.seal.held → result ≡ DONE }
+    ensures empty_unchanged { IsEmptyRange unsigned_keys (range_of range.now)
+        → handle.new.seal.held ≡ handle.old.seal.held }
     ensures kind { HoldsMap handle.old.seal.held → HoldsMap handle.new.seal.held }
     ensures refused { result ≢ DONE → handle.new.seal.held ≡ handle.old.seal.held }
     ensures answer { HoldsMap handle.old.seal.held
@@ -101,6 +109,10 @@ pub extern "C" fn range_map_u64_remove(alloc: Global, handle: &mut Handle, range
     ensures unbound { result ≡ DONE
         → IsUnboundAfter unsigned_keys nat_eq (map_items handle.old.seal.held)
         (map_items handle.new.seal.held) (range_of range.now) }
+    ensures empty { IsEmptyRange unsigned_keys (range_of range.now)
+        → HoldsMap handle.old.seal.held → result ≡ DONE }
+    ensures empty_unchanged { IsEmptyRange unsigned_keys (range_of range.now)
+        → handle.new.seal.held ≡ handle.old.seal.held }
     ensures kind { HoldsMap handle.old.seal.held → HoldsMap handle.new.seal.held }
     ensures refused { result ≢ DONE → handle.new.seal.held ≡ handle.old.seal.held }
     ensures answer { HoldsMap handle.old.seal.held → (result ≡ DONE) ⊎ (result ≡ NO_MEMORY) }

@@ -4,6 +4,7 @@ ghost use Rattle.btree_range_map.specs.Bindings.{IsItemFor};
 ghost use Rattle.btree_range_map.specs.KeySets.{HoldsKey, HoldsAlso, HoldsWithout};
 ghost use Rattle.btree_range_map.specs.Lookups.{BindsKeyOf};
 ghost use Rattle.btree_range_map.specs.Numbers.{IsNumberOfKeys};
+ghost use Rattle.btree_range_map.specs.Range.{IsEmptyRange};
 ghost use Rattle.btree_range_map.specs.Overlapping.{AreOverlapping};
 ghost use Rattle.btree_range_map_c.specs.Flags.{range_of, key_item, number_of, from_key};
 ghost use Rattle.btree_range_map_c.specs.Held.{HoldsSet, set_items};
@@ -43,6 +44,10 @@ pub extern "C" fn range_set_u64_insert(alloc: Global, handle: &mut Handle, range
     ensures added { result ≡ DONE
         → HoldsAlso unsigned_keys (set_items handle.old.seal.held)
         (set_items handle.new.seal.held) (range_of range.now) }
+    ensures empty { IsEmptyRange unsigned_keys (range_of range.now)
+        → HoldsSet handle.old.seal.held → result ≡ DONE }
+    ensures empty_unchanged { IsEmptyRange unsigned_keys (range_of range.now)
+        → handle.new.seal.held ≡ handle.old.seal.held }
     ensures kind { HoldsSet handle.old.seal.held → HoldsSet handle.new.seal.held }
     ensures refused { result ≢ DONE → handle.new.seal.held ≡ handle.old.seal.held }
     ensures answer { HoldsSet handle.old.seal.held → (result ≡ DONE) ⊎ (result ≡ NO_MEMORY) }
@@ -65,6 +70,10 @@ pub extern "C" fn range_set_u64_remove(alloc: Global, handle: &mut Handle, range
     ensures removed { result ≡ DONE
         → HoldsWithout unsigned_keys (set_items handle.old.seal.held)
         (set_items handle.new.seal.held) (range_of range.now) }
+    ensures empty { IsEmptyRange unsigned_keys (range_of range.now)
+        → HoldsSet handle.old.seal.held → result ≡ DONE }
+    ensures empty_unchanged { IsEmptyRange unsigned_keys (range_of range.now)
+        → handle.new.seal.held ≡ handle.old.seal.held }
     ensures kind { HoldsSet handle.old.seal.held → HoldsSet handle.new.seal.held }
     ensures refused { result ≢ DONE → handle.new.seal.held ≡ handle.old.seal.held }
     ensures answer { HoldsSet handle.old.seal.held → (result ≡ DONE) ⊎ (result ≡ NO_MEMORY) }
