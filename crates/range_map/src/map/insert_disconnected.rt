@@ -3,18 +3,18 @@ ghost use Rattle.std.specs.Prelude.{◌≡◌, ◌↔◌, ◌+◌, ◌≤◌, le
 ghost use Rattle.range_store.specs.Places.{place_before};
 ghost use Rattle.range_keys.specs.Order.{IsComplete};
 ghost use Rattle.range_algebra.specs.Range.{IsEmptyRange};
-ghost use Rattle.range_map.specs.Stored.{IsStored};
-ghost use Rattle.range_map.specs.Bindings.{IsBoundAfter, IsCoarse, IsOnlyCoarse};
-ghost use Rattle.range_map.specs.Lookups.{IsConnectedToSome, IsPutInto, MeetAlso};
-ghost use Rattle.range_map.specs.Apart.{IsGap, IsConnectedError, handed_back};
+ghost use Rattle.range_change.specs.Stored.{IsStored};
+ghost use Rattle.range_change.specs.Bindings.{IsBoundAfter, IsCoarse, IsOnlyCoarse};
+ghost use Rattle.range_change.specs.Lookups.{IsConnectedToSome, IsPutInto, MeetAlso};
+ghost use Rattle.range_change.specs.Apart.{IsGap, IsConnectedError, handed_back};
 
-use crate::change::append::{is_clear_after, is_clear_before};
-use crate::change::window::find;
-use crate::error::NotInserted;
 use crate::map::RangeMap;
 use range_algebra::any::AnyRange;
 use range_algebra::inner;
 use range_algebra::range::IntoRange;
+use range_change::append::{is_clear_after, is_clear_before};
+use range_change::error::NotInserted;
+use range_change::window::find;
 use range_keys::bound::Directed;
 use range_keys::traits::{Measure, PartialEnum};
 use range_store::storage::{Item, Steps, Storage};

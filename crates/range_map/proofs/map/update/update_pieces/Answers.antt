@@ -1,8 +1,8 @@
 use Rattle.std.proofs.Common.{arith, refl}
 use Rattle.std.proofs.lemmas.Grind.{common_steps}
-use Rattle.range_map.proofs.Surrounded.{reach_is_met, surrounded_by}
-use Rattle.range_map.proofs.UpdatedLists.{by_middle}
-use Rattle.range_map.proofs.Results.{error_has_no_value, on_error}
+use Rattle.range_change.proofs.Surrounded.{reach_is_met, surrounded_by}
+use Rattle.range_change.proofs.UpdatedLists.{by_middle}
+use Rattle.range_change.proofs.Results.{error_has_no_value, on_error}
 use Rattle.range_map.proofs.map.update.update_pieces.Goals as goal
 
 pub returns : goal.returns
