@@ -11,7 +11,7 @@ use Rattle.range_store.specs.Places.{IsAt}
 use Rattle.range_change.specs.Stored.{item_lower, item_upper}
 use Rattle.range_change.specs.Lookups.{IsConnectedToSome}
 use Rattle.range_algebra.specs.Relations.{LiesBefore, Touches}
-use Rattle.range_map.specs.declared.map.insert_disconnected.Gap.{Gap}
+use Rattle.range_change.specs.declared.apart.Gap.{Gap}
 use Rattle.range_change.specs.declared.error.NotInserted.{NotInserted}
 use Rattle.range_change.specs.declared.error.NotInserted.TheVariants.{Connected, Memory}
 

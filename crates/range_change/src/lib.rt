@@ -2,6 +2,7 @@
 //! memory and the clones that it wants, and then the change itself, which cannot fail any more.
 #![tactic(auto)]
 
+pub mod apart;
 pub mod append;
 pub mod bind;
 pub mod cut;

@@ -5,7 +5,7 @@ use Rattle.range_store.specs.Places.{place_before}
 use Rattle.range_store.specs.declared.storage.Item.{Item}
 use Rattle.range_change.proofs.CoveredPlaces.{meets_put}
 use Rattle.range_change.proofs.ApartRanges.{free_not, put_at, put_in}
-use Rattle.range_map.proofs.map.insert_disconnected.bind_apart.Goals as goal
+use Rattle.range_change.proofs.apart.bind_apart.Goals as goal
 
 pub returns-in-Err-clause-connected : goal.returns-in-Err-clause-connected
 returns-in-Err-clause-connected g c =

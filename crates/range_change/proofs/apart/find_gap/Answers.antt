@@ -1,8 +1,8 @@
 use Rattle.std.proofs.Common.{◌≡◌, ◌&&◌, ap, rules}
 use Rattle.range_keys.specs.Position.{bound_of, start_position}
 use Rattle.range_change.proofs.ApartRanges.{gap_is}
-use Rattle.range_map.proofs.map.insert_disconnected.find_gap.Goals as goal
-use Rattle.range_map.proofs.map.insert_disconnected.find_gap.Goals.{then-clear_before, else-clear_before}
+use Rattle.range_change.proofs.apart.find_gap.Goals as goal
+use Rattle.range_change.proofs.apart.find_gap.Goals.{then-clear_before, else-clear_before}
 
 pub returns : goal.returns
 returns g c =
