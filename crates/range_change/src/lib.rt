@@ -1,5 +1,5 @@
-//! One change to the ranges that a container stores: what a range meets, the edges of the change, the
-//! memory and the clones that it wants, and then the change itself, which cannot fail any more.
+//! One change to the ranges that a container stores: what a range meets, the edges of the change,
+//! the memory and the clones that it wants, and then the change itself, which cannot fail any more.
 #![tactic(auto)]
 
 pub mod apart;
