@@ -1,4 +1,4 @@
-//! What the README shows of JSON.
+//! What the tour shows of JSON.
 
 use btree_range_map::RangeMap;
 use btree_range_map::json::{JsonError, map_from_json, map_to_json};

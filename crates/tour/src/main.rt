@@ -1,24 +1,16 @@
-//! The first program of the README, and as tests its other blocks and the examples of the calls.
+//! The first program of the README, and as tests what the pages show of the calls.
 #![tactic(auto)]
 
 #[cfg(test)]
-mod commands;
-#[cfg(test)]
 mod json_values;
 #[cfg(test)]
-mod map_calls;
-#[cfg(test)]
 mod maps;
-#[cfg(test)]
-mod multimap_calls;
 #[cfg(test)]
 mod multimaps;
 #[cfg(test)]
 mod ranges;
 #[cfg(test)]
 mod round_trip;
-#[cfg(test)]
-mod set_calls;
 #[cfg(test)]
 mod sets;
 

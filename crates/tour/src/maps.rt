@@ -1,12 +1,16 @@
 //! What the tour shows of a map.
 
-use crate::map_calls::{Entry, Map};
-use btree_range_map::storage::Storage;
-use btree_range_map::{MapError, RangeFromExcluded, RangeMap};
+use btree_range_map::storage::{Item, Storage};
+use btree_range_map::{AnyRange, MapError, RangeFromExcluded, RangeMap, generic};
 use std::process::Abort;
 use std::test::Fail;
 
-fn joined_and_cut<R: Abort, C: Storage<Entry>>(rt: &R, map: &mut Map<C>) -> Result<(), MapError> {
+type Map<C> = generic::RangeMap<i32, i64, C>;
+
+fn joined_and_cut<R: Abort, C: Storage<Item<AnyRange<i32>, i64>>>(
+    rt: &R,
+    map: &mut Map<C>,
+) -> Result<(), MapError> {
     // of a map that binds no key
     map.insert(..=3, 1)?;
     map.insert(RangeFromExcluded::new(3), 1)?; // the keys above 3

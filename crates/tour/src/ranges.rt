@@ -1,4 +1,4 @@
-//! What the README shows of ranges.
+//! What the tour shows of ranges.
 
 use btree_range_map::{AnyRange, AsRange, Difference, IntoRange, RangeFromExcluded};
 use std::ops::Bound;

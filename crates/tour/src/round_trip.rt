@@ -33,7 +33,8 @@ fn read_back<
 
 #[test]
 fn a_map_is_read_back(rt: HostRuntime) -> Result<(), Fail> {
-    let map = crate::map_calls::ones(rt.alloc())?; // binds 0..=5 to 1
+    let mut map: btree_range_map::RangeMap<i32, i64> = RangeMap::new(rt.alloc());
+    map.insert(0..=5, 1)?;
     assert!(rt; read_back(rt.alloc(), &map)? == map);
     Ok(())
 }

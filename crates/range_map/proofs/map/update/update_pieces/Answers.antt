@@ -49,7 +49,7 @@ returns-in_err-middle g c =
       ok = error_has_no_value _ c.from_residual.result c.from_residual.ensures.0;
       spelled = error_has_no_value _ c.from_residual.result c.from_residual.ensures.0;
       form = c.requires.stored;
-      closure = grind (arith, common_steps);
+      closure = λ e failed. c.gather.ensures.closure e (grind (arith, common_steps));
       refused = on_error _ c.from_residual.result refl;
     }
 
