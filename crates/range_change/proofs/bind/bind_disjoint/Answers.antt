@@ -1,5 +1,5 @@
 use Rattle.std.proofs.lemmas.Grind.{common_steps}
-use Rattle.std.proofs.Common.{◌≡◌, refl, arith, rules}
+use Rattle.std.proofs.Common.{◌≡◌, refl, sym, arith, rules}
 use Rattle.range_algebra.proofs.Lists.{any_none}
 use Rattle.range_change.specs.Lookups.{Overlap}
 use Rattle.range_change.proofs.FreeReach.{free_reach}
@@ -60,3 +60,12 @@ bind_outside-requires-clause-reach g c =
 
 pub bind_outside-requires-clause-apart : goal.bind_outside-requires-clause-apart
 bind_outside-requires-clause-apart g c = omega arith
+
+pub returns-then-window-gt0-clause-met_unchanged : goal.returns-then-window-gt0-clause-met_unchanged
+returns-then-window-gt0-clause-met_unchanged g c = λ _. refl
+
+pub returns-then-window-gt0-clause-bound : goal.returns-then-window-gt0-clause-bound
+returns-then-window-gt0-clause-bound g c = λ e. absurd (not_both_answers (sym e))
+
+pub returns-then-window-gt0-clause-refused : goal.returns-then-window-gt0-clause-refused
+returns-then-window-gt0-clause-refused g c = tt

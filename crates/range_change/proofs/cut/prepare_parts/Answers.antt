@@ -89,3 +89,20 @@ returns-clause-value g c = λ d.
     rw (← get_or_read items (storage.rank stored p) x
     (g.met.C.Storage.good_is_in_range stored p c.requires.good) read d)
     (c.requires.values x.value c.in_ok-clone.field-0 c.in_ok-clone.ensures.cases)
+
+pub returns-clause-end : goal.returns-clause-end
+returns-clause-end g c =
+    (c.in_ok-cut_bound.ensures.known, c.in_ok-cut_bound.ensures.flipped)
+
+pub returns-clause-start : goal.returns-clause-start
+returns-clause-start g c =
+    (c.in_ok-cut_bound-2.ensures.known, c.in_ok-cut_bound-2.ensures.flipped)
+
+pub returns-clause-list : goal.returns-clause-list
+returns-clause-list g c = c.reserve.ensures.list
+
+pub returns-clause-space : goal.returns-clause-space
+returns-clause-space g c = c.in_ok-reserve.ensures.ok
+
+pub returns-clause-positions : goal.returns-clause-positions
+returns-clause-positions g c = c.reserve.ensures.positions

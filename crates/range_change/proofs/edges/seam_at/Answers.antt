@@ -29,3 +29,12 @@ returns-in-None-None g c =
       flipped =
           same_turned order lawful bound;
     }
+
+pub returns-in_ok-cut-in-None-Some : goal.returns-in_ok-cut-in-None-Some
+returns-in_ok-cut-in-None-Some g c =
+    record {
+      cut = c.in_ok-cut-in-None-Some.cut;
+      at = rw (c.in-None-Some.is-0, c.in-None-Some.is-1) refl;
+      known = c.in_ok-cut-in-None-Some.ensures.known;
+      flipped = c.in_ok-cut-in-None-Some.ensures.flipped;
+    }

@@ -1,6 +1,12 @@
+use Rattle.std.proofs.Common.{inr}
 use Rattle.range_algebra.specs.References.{range_of}
+use Rattle.range_change.proofs.CoveredPlaces.{on_ok}
 use Rattle.range_change.proofs.pieces.ask_gap.Goals as goal
 
 pub returns-in-Some-clause-closure : goal.returns-in-Some-clause-closure
 returns-in-Some-clause-closure g c =
     λ e failed. (range_of c.in-Some.gap, c.in-Some.ensures, c.ask.ensures.closure e failed)
+
+pub returns-in-Some-clause-ok : goal.returns-in-Some-clause-ok
+returns-in-Some-clause-ok g c =
+    on_ok _ _ c.ask.result (λ h. inr (range_of c.in-Some.gap, c.in-Some.ensures, h)) c.ask.ensures.ok
