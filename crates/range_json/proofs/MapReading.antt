@@ -12,11 +12,11 @@ use Rattle.range_algebra.proofs.Lists.{all_more}
 use Rattle.range_algebra.proofs.Pieces.{empty_or_not}
 use Rattle.range_algebra.proofs.Meeting.{held_or_not}
 use Rattle.range_store.specs.declared.storage.Item.{Item}
-use Rattle.range_map.specs.Bindings.{IsBound, BindsTo, Binds, BindAlike, IsBoundAfter}
-use Rattle.range_map.specs.Frames.{IsInsertionFrame}
-use Rattle.range_map.specs.Lookups.{MeetsSome, MeetAlso}
-use Rattle.range_map.specs.Stored.{IsStored}
-use Rattle.range_map.proofs.Overlaps.{binding_meets, binds_bound}
+use Rattle.range_change.specs.Bindings.{IsBound, BindsTo, Binds, BindAlike, IsBoundAfter}
+use Rattle.range_change.specs.Frames.{IsInsertionFrame}
+use Rattle.range_change.specs.Lookups.{MeetsSome, MeetAlso}
+use Rattle.range_change.specs.Stored.{IsStored}
+use Rattle.range_change.proofs.Overlaps.{binding_meets, binds_bound}
 use Rattle.range_json.specs.declared.error.JsonError.{JsonError}
 use Rattle.range_json.specs.declared.error.JsonError.TheVariants.{Meets}
 use Rattle.range_json.specs.MapFaults.{element_fault, IsElementRead, MeetNonempty, MeetsOne, AreApart, AreRead, IsFirstFault}

@@ -12,7 +12,7 @@ use Rattle.serde_json.specs.Data.{Data}
 use Rattle.range_keys.specs.Order.{KeyOrder, IsLawful}
 use Rattle.range_algebra.specs.declared.any.AnyRange.{AnyRange}
 use Rattle.range_store.specs.declared.storage.Item.{Item}
-use Rattle.range_map.specs.Stored.{IsStored}
+use Rattle.range_change.specs.Stored.{IsStored}
 use Rattle.range_sets.specs.ListedMembers.{tree_void}
 use Rattle.range_sets.specs.Pairs.{HasNoEmptySet}
 use Rattle.range_json.specs.declared.error.JsonError.{JsonError}

@@ -1,7 +1,7 @@
 -- What is read of a list while a loop goes over it.
 use Rattle.range_keys.specs.Order.{IsLawful}
 use Rattle.range_algebra.specs.Range.{IsEmptyRange, IsKnownRange}
-use Rattle.range_map.specs.Frames.{IsInsertionFrame}
+use Rattle.range_change.specs.Frames.{IsInsertionFrame}
 use Rattle.range_json.proofs.Keeping.{of_last, stored_before, stands_last}
 use Rattle.std.proofs.Common.{◌≡◌, refl, sym, ap, subst, ◌∙◌, ℕ, suc, ◌+◌, List, [], ◌∷◌, ◌++◌, map, length, Bool, true, Option, Some, None, arith, rules}
 use Rattle.std.proofs.lemmas.List.{map-append}

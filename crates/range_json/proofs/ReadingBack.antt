@@ -17,7 +17,7 @@ use Rattle.range_algebra.specs.RangeOrder.{range_cmp}
 use Rattle.range_store.specs.declared.storage.Item.{Item}
 use Rattle.range_map.specs.FreeRanges.{item_ranges}
 use Rattle.range_map.specs.ListOrder.{same_list}
-use Rattle.range_map.specs.Stored.{IsStored}
+use Rattle.range_change.specs.Stored.{IsStored}
 use Rattle.range_map.proofs.CloneLists.{equal_items_are_copy, copy_stored, item_clone}
 use Rattle.range_sets.proofs.Likeness.{same_sets}
 use Rattle.range_sets.specs.KeySets.{IsStoredSet}
@@ -29,7 +29,7 @@ use Rattle.range_json.specs.MapFaults.{element_fault, IsElementRead, IsMapRead, 
 use Rattle.range_json.specs.Values.{IsBoundValue, IsRangeValue, AreRangeValues, AreItemValues}
 use Rattle.range_json.proofs.Keeping.{apart_from_last, stored_front, one_between}
 use Rattle.range_algebra.proofs.Lists.{any_none, all_more}
-use Rattle.range_map.specs.Frames.{JoinsOrMeets}
+use Rattle.range_change.specs.Frames.{JoinsOrMeets}
 use Rattle.range_sets.proofs.Filling.{all_equal}
 use Rattle.range_json.specs.SetReadBack.{list_back}
 

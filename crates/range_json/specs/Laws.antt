@@ -9,7 +9,7 @@ use Rattle.range_algebra.specs.declared.any.AnyRange.{AnyRange}
 use Rattle.range_algebra.specs.RangeOrder.{range_cmp}
 use Rattle.range_store.specs.declared.storage.Item.{Item}
 use Rattle.range_map.specs.ListOrder.{same_list}
-use Rattle.range_map.specs.Stored.{IsStored}
+use Rattle.range_change.specs.Stored.{IsStored}
 use Rattle.range_sets.specs.KeySets.{IsStoredSet}
 use Rattle.range_sets.specs.Pairs.{HasNoEmptySet}
 use Rattle.range_sets.specs.SetOrder.{same_ranges}

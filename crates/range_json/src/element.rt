@@ -2,10 +2,10 @@
 ghost use Rattle.std.specs.Prelude.{◌≡◌, ◌⊎◌, Some, None, IfOk, OnOk, IfErr};
 ghost use Rattle.serde_json.specs.View.{view};
 ghost use Rattle.range_algebra.specs.Range.{ClonesAreEqual, IsEmptyRange, IsKnownRange};
-ghost use Rattle.range_map.specs.Bindings.{IsBoundAfter};
-ghost use Rattle.range_map.specs.Frames.{IsInsertionFrame};
-ghost use Rattle.range_map.specs.Lookups.{MeetsSome, MeetAlso};
-ghost use Rattle.range_map.specs.Stored.{IsStored};
+ghost use Rattle.range_change.specs.Bindings.{IsBoundAfter};
+ghost use Rattle.range_change.specs.Frames.{IsInsertionFrame};
+ghost use Rattle.range_change.specs.Lookups.{MeetsSome, MeetAlso};
+ghost use Rattle.range_change.specs.Stored.{IsStored};
 ghost use Rattle.range_json.specs.MapFaults.{IsElementRead, element_fault, value_fault};
 ghost use Rattle.range_json.specs.declared.error.JsonError.TheVariants.{Memory, Meets};
 

@@ -2,7 +2,7 @@
 ghost use Rattle.std.specs.Prelude.{◌≡◌, ◌⊎◌, IfOk, OnOk, IfErr};
 ghost use Rattle.serde_json.specs.View.{view};
 ghost use Rattle.range_algebra.specs.Range.{ClonesAreEqual};
-ghost use Rattle.range_map.specs.Stored.{IsStored};
+ghost use Rattle.range_change.specs.Stored.{IsStored};
 ghost use Rattle.range_json.specs.Shapes.{map_shape, pair_shape, range_shape};
 ghost use Rattle.range_json.specs.MapFaults.{IsMapRead, IsMapFault};
 ghost use Rattle.range_json.specs.Values.{IsRangeValue, AreItemValues};

@@ -13,11 +13,11 @@ use Rattle.range_algebra.specs.declared.any.AnyRange.{AnyRange}
 use Rattle.range_algebra.proofs.Lists.{every_append, every_right, every_weaker}
 use Rattle.range_store.specs.declared.storage.Item.{Item}
 use Rattle.range_map.specs.Appending.{LieBefore, appended, are_one, as_one, joined}
-use Rattle.range_map.specs.Bindings.{BindAlike}
-use Rattle.range_map.specs.Chains.{line_of, Leads, Follows, Has, Respects}
-use Rattle.range_map.specs.Stored.{IsStored, item_lower, item_upper}
-use Rattle.range_map.proofs.Chains.{same_is_symmetric, follows_like, chain_before, chain_right, chain_above}
-use Rattle.range_map.proofs.Forms.{places, Known, Chained, Hold, before_is, touches_is, stored_chain, stored_known, chain_stored, same_binds}
+use Rattle.range_change.specs.Bindings.{BindAlike}
+use Rattle.range_change.specs.Chains.{line_of, Leads, Follows, Has, Respects}
+use Rattle.range_change.specs.Stored.{IsStored, item_lower, item_upper}
+use Rattle.range_change.proofs.Chains.{same_is_symmetric, follows_like, chain_before, chain_right, chain_above}
+use Rattle.range_change.proofs.Forms.{places, Known, Chained, Hold, before_is, touches_is, stored_chain, stored_known, chain_stored, same_binds}
 
 both_true : (a b : Bool) → IsTrue (a && b) → IsTrue a × IsTrue b
 both_true true true h = (refl, refl)

@@ -8,7 +8,7 @@ use Rattle.range_algebra.specs.Intervals.{Any, Every}
 use Rattle.range_algebra.specs.declared.any.AnyRange.{AnyRange}
 use Rattle.range_store.specs.declared.storage.Item.{Item}
 use Rattle.range_map.specs.Combining.{AreValuesOf, MayBeAskedBoth, MayBeAskedOfBoth}
-use Rattle.range_map.proofs.RangePieces.{any_use}
+use Rattle.range_change.proofs.RangePieces.{any_use}
 
 module _ {K F V W A : Type 0} (calls : Shared F (Option (Bor V) × (Option (Bor W) × Unit {0})) A)
     (f : F) (items : List (Item (AnyRange K) V)) (others : List (Item (AnyRange K) W))

@@ -16,12 +16,12 @@ use Rattle.range_algebra.proofs.Holding.{holds_by_position}
 use Rattle.range_algebra.proofs.Lists.{any_none, every_weaker}
 use Rattle.range_algebra.proofs.Pieces.{start_decided, end_decided}
 use Rattle.range_store.specs.declared.storage.Item.{Item}
-use Rattle.range_map.specs.Bindings.{IsBound}
-use Rattle.range_map.specs.Lookups.{Overlap, BindsAllOf}
+use Rattle.range_change.specs.Bindings.{IsBound}
+use Rattle.range_change.specs.Lookups.{Overlap, BindsAllOf}
 use Rattle.range_map.specs.PieceLists.{AreGapsWithin}
-use Rattle.range_map.specs.Pieces.{LiesIn, IsCommonPart, IsFreePart, IsPiece, ArePieces, later, earlier}
-use Rattle.range_map.proofs.RangePieces.{any_use, later_over, earlier_under}
-use Rattle.range_map.proofs.Overlaps.{binding_meets}
+use Rattle.range_change.specs.Pieces.{LiesIn, IsCommonPart, IsFreePart, IsPiece, ArePieces, later, earlier}
+use Rattle.range_change.proofs.RangePieces.{any_use, later_over, earlier_under}
+use Rattle.range_change.proofs.Overlaps.{binding_meets}
 
 module _ {K : Type 0} (order : KeyOrder K) (lawful : IsLawful order) {V : Type 0}
     (items : List (Item (AnyRange K) V)) (r : AnyRange K) where

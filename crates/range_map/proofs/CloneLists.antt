@@ -22,9 +22,9 @@ use Rattle.range_algebra.specs.declared.any.AnyRange.{AnyRange}
 use Rattle.range_store.specs.declared.storage.Item.{Item}
 use Rattle.range_map.specs.ListOrder.{IsCopyOf}
 use Rattle.range_algebra.specs.Relations.{LiesBefore, Touches}
-use Rattle.range_map.specs.Stored.{IsStored}
-use Rattle.range_map.proofs.Forms.{before_is, nonempty_good, touches_is}
-use Rattle.range_map.proofs.Listed.{IsListed, stored_list_is_listed, stored_by}
+use Rattle.range_change.specs.Stored.{IsStored}
+use Rattle.range_change.proofs.Forms.{before_is, nonempty_good, touches_is}
+use Rattle.range_change.proofs.Listed.{IsListed, stored_list_is_listed, stored_by}
 
 module _ {K : Type 0} (order : KeyOrder K) (lawful : IsLawful order) where
   abbrev Same : Position K → Position K → Type 0

@@ -12,10 +12,10 @@ use Rattle.range_keys.proofs.Orderings.{not_not_less}
 use Rattle.range_algebra.specs.Range.{StartHolds, EndHolds, Holds, IsKeyless}
 use Rattle.range_algebra.specs.declared.any.AnyRange.{AnyRange}
 use Rattle.range_algebra.proofs.Holding.{below_up, up_below}
-use Rattle.range_map.proofs.Overlaps.{binds_bound}
+use Rattle.range_change.proofs.Overlaps.{binds_bound}
 use Rattle.range_store.specs.declared.storage.Item.{Item}
 use Rattle.range_algebra.specs.Relations.{LiesBetween}
-use Rattle.range_map.specs.Bindings.{IsBound, BindsTo, BindAlike, AreDisjoint, IsCoarse, AreAlike}
+use Rattle.range_change.specs.Bindings.{IsBound, BindsTo, BindAlike, AreDisjoint, IsCoarse, AreAlike}
 
 -- what is decided may be shown by two denials
 

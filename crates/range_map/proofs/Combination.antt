@@ -18,22 +18,22 @@ use Rattle.range_algebra.specs.declared.any.AnyRange.{AnyRange}
 use Rattle.range_algebra.proofs.Lists.{any_none, any_left, any_split, every_append, every_weaker}
 use Rattle.range_algebra.proofs.Places.{held_between, unbounded_start, unbounded_end}
 use Rattle.range_store.specs.declared.storage.Item.{Item}
-use Rattle.range_map.specs.Answers.{Answered, IsAsAnswered}
-use Rattle.range_map.specs.Questions.{IsPut}
-use Rattle.range_map.specs.Bindings.{IsBound, Binds, BindsTo}
+use Rattle.range_change.specs.Answers.{Answered, IsAsAnswered}
+use Rattle.range_change.specs.Questions.{IsPut}
+use Rattle.range_change.specs.Bindings.{IsBound, Binds, BindsTo}
 use Rattle.range_map.specs.Combining.{IsValueOf, MayBeAskedBoth, MayBeAskedOfBoth, Combined, IsConstantOn, IsSharedPart, AreCombined, IsCombination}
 use Rattle.range_map.specs.FreeRanges.{full_range}
 use Rattle.range_map.specs.Merged.{IsCutFrom, IsFirstPiece}
-use Rattle.range_map.specs.Neighbours.{EachNext}
-use Rattle.range_map.specs.Pieces.{LiesIn}
-use Rattle.range_map.specs.Stored.{IsStored}
-use Rattle.range_map.specs.Window.{option_items}
+use Rattle.range_change.specs.Neighbours.{EachNext}
+use Rattle.range_change.specs.Pieces.{LiesIn}
+use Rattle.range_change.specs.Stored.{IsStored}
+use Rattle.range_change.specs.Window.{option_items}
 use Rattle.range_map.proofs.Combining.{cmp, Lo, Hi, HoldsAt, Gives, Alike, IsLeftFrom, IsFirstOf, all_left, left_past, left_seen, constant_on}
-use Rattle.range_map.proofs.RangePieces.{any_end, any_map, any_over, any_use, any_with, next_last}
-use Rattle.range_map.proofs.AnswerLists.{IsFilledUpTo, filled_none, fill_more, Gives as GivesAnswer}
-use Rattle.range_map.proofs.Forms.{Known, Hold, before_is, nonempty_good, stored_known, stored_chain, chain_stored, binds_hold, bound_hold}
+use Rattle.range_change.proofs.RangePieces.{any_end, any_map, any_over, any_use, any_with, next_last}
+use Rattle.range_change.proofs.AnswerLists.{IsFilledUpTo, filled_none, fill_more, Gives as GivesAnswer}
+use Rattle.range_change.proofs.Forms.{Known, Hold, before_is, nonempty_good, stored_known, stored_chain, chain_stored, binds_hold, bound_hold}
 use Rattle.range_map.proofs.KeysTogether.{inside_holds}
-use Rattle.range_map.proofs.Overlaps.{binding_meets}
+use Rattle.range_change.proofs.Overlaps.{binding_meets}
 
 any_unmap : {X Y : Type 0} (f : X → Y) (P : Y → Type 0) (xs : List X) → Any P (map f xs)
     → Any (λ x. P (f x)) xs

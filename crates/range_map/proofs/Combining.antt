@@ -16,17 +16,17 @@ use Rattle.range_algebra.specs.Range.{IsKnownRange}
 use Rattle.range_algebra.specs.declared.any.AnyRange.{AnyRange}
 use Rattle.range_algebra.proofs.Lists.{any_none, every_left, every_weaker}
 use Rattle.range_store.specs.declared.storage.Item.{Item}
-use Rattle.range_map.specs.Chains.{line_of, Respects}
+use Rattle.range_change.specs.Chains.{line_of, Respects}
 use Rattle.range_map.specs.Combining.{IsConstantOn}
-use Rattle.range_map.specs.Lookups.{MeetsSome}
+use Rattle.range_change.specs.Lookups.{MeetsSome}
 use Rattle.range_map.specs.Merged.{IsPlaced, IsPlacedIn, IsCutFrom, IsUsedUp, StartAlike, IsFirstPiece}
-use Rattle.range_map.specs.Pieces.{LiesIn}
-use Rattle.range_map.specs.Stored.{IsStored, item_lower}
-use Rattle.range_map.specs.Window.{option_items}
-use Rattle.range_map.proofs.Chains.{chain_left, chain_above, chain_tail, follows_above, follows_like}
-use Rattle.range_map.proofs.CoveredPlaces.{met_range_is_covered, chained_items_have_places}
-use Rattle.range_map.proofs.RangePieces.{any_with, any_over, lies_in}
-use Rattle.range_map.proofs.Forms.{Known, Chained, Hold, stored_chain, stored_known, chain_stored}
+use Rattle.range_change.specs.Pieces.{LiesIn}
+use Rattle.range_change.specs.Stored.{IsStored, item_lower}
+use Rattle.range_change.specs.Window.{option_items}
+use Rattle.range_change.proofs.Chains.{chain_left, chain_above, chain_tail, follows_above, follows_like}
+use Rattle.range_change.proofs.CoveredPlaces.{met_range_is_covered, chained_items_have_places}
+use Rattle.range_change.proofs.RangePieces.{any_with, any_over, lies_in}
+use Rattle.range_change.proofs.Forms.{Known, Chained, Hold, stored_chain, stored_known, chain_stored}
 
 -- the option gives a value that is such
 abbrev pub Gives : {V : Type 0} → (V → Bool) → Option V → Type 0

@@ -4,7 +4,7 @@ use Rattle.std.specs.Prelude.{nat_lt}
 use Rattle.std.proofs.lemmas.Bool.Decides.{leb_tells}
 use Rattle.range_store.specs.declared.btree.nodes.TheConstants.{MIN_LEN}
 use Rattle.range_store.proofs.Levels.{pow_more}
-use Rattle.range_map.specs.Costs.{IsGreatestLevel, greatest_level, greatest_level_to}
+use Rattle.range_change.specs.Costs.{IsGreatestLevel, greatest_level, greatest_level_to}
 
 -- a level that may be reached is no greater than the number
 reached_level_is_at_most_number : (many level : ℕ) → 1 ≤ level

@@ -4,7 +4,7 @@ use Rattle.range_keys.specs.Order.{KeyOrder}
 use Rattle.range_algebra.specs.Range.{Holds}
 use Rattle.range_algebra.specs.declared.any.AnyRange.{AnyRange}
 use Rattle.range_store.specs.declared.storage.Item.{Item}
-use Rattle.range_map.specs.Bindings.{Binds, IsBound, IsBoundAfter, IsSomeOf}
+use Rattle.range_change.specs.Bindings.{Binds, IsBound, IsBoundAfter, IsSomeOf}
 use Rattle.range_map.specs.Extending.{AreBoundAfter}
 
 -- where the last of a list stands, that is parted at an item

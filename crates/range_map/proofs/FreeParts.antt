@@ -24,14 +24,14 @@ use Rattle.range_algebra.proofs.Pieces.{start_decided, end_decided, flipped_end,
 use Rattle.range_algebra.proofs.Places.{flipped_bound_is_past, flipped_back, flipped_known, unbounded_start}
 use Rattle.range_store.specs.declared.storage.Item.{Item}
 use Rattle.range_map.specs.FreeRanges.{full_range, item_ranges, IsHeldOnce, AreGaps, between, free_from}
-use Rattle.range_map.specs.Neighbours.{BeforeFirst, EachNext}
-use Rattle.range_map.specs.Pieces.{LiesIn, IsFreePart, IsPiece}
-use Rattle.range_map.specs.Lookups.{Overlap}
-use Rattle.range_map.specs.Stored.{IsStored}
-use Rattle.range_map.proofs.RangePieces.{every_with}
-use Rattle.range_map.proofs.Forms.{before_is}
+use Rattle.range_change.specs.Neighbours.{BeforeFirst, EachNext}
+use Rattle.range_change.specs.Pieces.{LiesIn, IsFreePart, IsPiece}
+use Rattle.range_change.specs.Lookups.{Overlap}
+use Rattle.range_change.specs.Stored.{IsStored}
+use Rattle.range_change.proofs.RangePieces.{every_with}
+use Rattle.range_change.proofs.Forms.{before_is}
 use Rattle.range_map.proofs.JustBefore.{ends_before, ends_full}
-use Rattle.range_map.proofs.Listed.{IsListed, stored_list_is_listed}
+use Rattle.range_change.proofs.Listed.{IsListed, stored_list_is_listed}
 
 -- what holds between each member and those after it
 abbrev pub Pairs : {X : Type 0} → (X → X → Type 0) → List X → Type 0

@@ -25,15 +25,15 @@ use Rattle.range_algebra.proofs.Holding.{holds_by_position}
 use Rattle.range_algebra.proofs.Meeting.{past_is_start}
 use Rattle.range_algebra.proofs.Places.{held_between, flipped_bound_is_past, reaching_is_before_past, flipped_known, unbounded_end}
 use Rattle.range_store.specs.declared.storage.Item.{Item}
-use Rattle.range_map.specs.Bindings.{IsBound}
-use Rattle.range_map.specs.Chains.{line_of}
-use Rattle.range_map.specs.Pieces.{LiesIn}
-use Rattle.range_map.specs.Stored.{IsStored, item_lower}
+use Rattle.range_change.specs.Bindings.{IsBound}
+use Rattle.range_change.specs.Chains.{line_of}
+use Rattle.range_change.specs.Pieces.{LiesIn}
+use Rattle.range_change.specs.Stored.{IsStored, item_lower}
 use Rattle.range_map.specs.Together.{MeetNowhere, LieInside, ShareNoKey, BindKeysOf}
-use Rattle.range_map.proofs.Chains.{chain_above}
-use Rattle.range_map.proofs.RangePieces.{lies_in}
-use Rattle.range_map.proofs.Forms.{Known, Chained, nonempty_good, stored_chain, stored_known}
-use Rattle.range_map.proofs.Overlaps.{binding_meets, meeting_binds}
+use Rattle.range_change.proofs.Chains.{chain_above}
+use Rattle.range_change.proofs.RangePieces.{lies_in}
+use Rattle.range_change.proofs.Forms.{Known, Chained, nonempty_good, stored_chain, stored_known}
+use Rattle.range_change.proofs.Overlaps.{binding_meets, meeting_binds}
 
 abbrev any_same : {V : Type 0} → V → V → Bool
 any_same _ _ = true

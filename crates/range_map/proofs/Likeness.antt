@@ -23,12 +23,12 @@ use Rattle.range_algebra.specs.Orders.{eq_le, eq_ge, le_trans, lt_le_trans, le_l
 use Rattle.range_algebra.proofs.Lists.{every_weaker}
 use Rattle.range_algebra.proofs.Holding.{holds_by_position}
 use Rattle.range_store.specs.declared.storage.Item.{Item}
-use Rattle.range_map.specs.Answers.{piece_of, FailsAt, IsUpdated}
-use Rattle.range_map.specs.Frames.{IsMergedInto}
-use Rattle.range_map.specs.Pieces.{later, earlier, IsCommonPart, LiesIn, IsFreePart, IsPiece}
-use Rattle.range_map.specs.Lookups.{Overlap}
-use Rattle.range_map.proofs.RangePieces.{PLe, any_over, later_over, earlier_under, either_choice_holds}
-use Rattle.range_map.proofs.MergedItems.{way_follows}
+use Rattle.range_change.specs.Answers.{piece_of, FailsAt, IsUpdated}
+use Rattle.range_change.specs.Frames.{IsMergedInto}
+use Rattle.range_change.specs.Pieces.{later, earlier, IsCommonPart, LiesIn, IsFreePart, IsPiece}
+use Rattle.range_change.specs.Lookups.{Overlap}
+use Rattle.range_change.proofs.RangePieces.{PLe, any_over, later_over, earlier_under, either_choice_holds}
+use Rattle.range_change.proofs.MergedItems.{way_follows}
 
 not_false_is_greater : (o : Ordering) → (is_gt o ≡ false → ⊥) → o ≡ Greater
 not_false_is_greater Less h = absurd (h refl)

@@ -15,10 +15,10 @@ use Rattle.range_algebra.proofs.MeasureSums.{list_measure_fits, list_measure_is_
 use Rattle.range_algebra.proofs.Measuring.{full_measure}
 use Rattle.range_algebra.proofs.Numbers.{number_same}
 use Rattle.range_store.specs.declared.storage.Item.{Item}
-use Rattle.range_map.specs.Bindings.{IsBound}
+use Rattle.range_change.specs.Bindings.{IsBound}
 use Rattle.range_map.specs.FreeRanges.{item_ranges}
-use Rattle.range_map.specs.Stored.{IsStored}
-use Rattle.range_map.proofs.Listed.{IsListed, stored_list_is_listed}
+use Rattle.range_change.specs.Stored.{IsStored}
+use Rattle.range_change.proofs.Listed.{IsListed, stored_list_is_listed}
 
 zero_sum : (o : Option ℕ) → o ≡ measure_sum (Some 0) o
 zero_sum (Some n) = ap Some (omega arith)

@@ -18,16 +18,16 @@ use Rattle.range_algebra.specs.Range.{IsEmptyRange, IsKnownRange, with_bounds}
 use Rattle.range_algebra.proofs.Lists.{any_none, any_left, any_right, any_split, every_at, every_append, every_left, every_right, every_weaker, list_is_take_and_drop, drop_all}
 use Rattle.range_store.specs.declared.storage.Item.{Item}
 use Rattle.range_store.specs.Places.{place_before}
-use Rattle.range_map.specs.Lookups.{MeetsSome, Overlap}
+use Rattle.range_change.specs.Lookups.{MeetsSome, Overlap}
 use Rattle.range_map.specs.Overlapping.{AreOverlapping, IsLastStarting, place_after}
-use Rattle.range_map.specs.Stored.{IsStored}
-use Rattle.range_map.specs.Window.{IsFound, IsJustBefore}
-use Rattle.range_map.proofs.RangePieces.{every_with}
-use Rattle.range_map.proofs.Found.{starts_rise, stored_tail, every_nonempty, stored_drop}
-use Rattle.range_map.proofs.PieceAnswers.{take_one_more}
+use Rattle.range_change.specs.Stored.{IsStored}
+use Rattle.range_change.specs.Window.{IsFound, IsJustBefore}
+use Rattle.range_change.proofs.RangePieces.{every_with}
+use Rattle.range_change.proofs.Found.{starts_rise, stored_tail, every_nonempty, stored_drop}
+use Rattle.range_change.proofs.PieceAnswers.{take_one_more}
 use Rattle.range_map.proofs.JustBefore.{ends_full}
-use Rattle.range_map.proofs.Listed.{IsListed, stored_list_is_listed}
-use Rattle.range_map.proofs.Windows.{first_of_run, last_of_run}
+use Rattle.range_change.proofs.Listed.{IsListed, stored_list_is_listed}
+use Rattle.range_change.proofs.Windows.{first_of_run, last_of_run}
 
 module _ {K : Type 0} (order : KeyOrder K) (lawful : IsLawful order) where
   abbrev PLe : Position K → Position K → Type 0

@@ -21,18 +21,18 @@ use Rattle.range_algebra.proofs.Commons.{later_is, earlier_is}
 use Rattle.range_algebra.proofs.Lists.{any_left, any_right, every_weaker, every_append, every_left, every_right}
 use Rattle.range_algebra.proofs.Places.{reaching_is_before_past, flipped_bound_is_past, flipped_back, flipped_known, unbounded_start, unbounded_end}
 use Rattle.range_store.specs.declared.storage.Item.{Item}
-use Rattle.range_map.specs.Answers.{Answered, piece_of}
-use Rattle.range_map.specs.Chains.{line_of, Leads}
+use Rattle.range_change.specs.Answers.{Answered, piece_of}
+use Rattle.range_change.specs.Chains.{line_of, Leads}
 use Rattle.range_map.specs.FreeRanges.{between}
-use Rattle.range_map.specs.Lookups.{Overlap}
+use Rattle.range_change.specs.Lookups.{Overlap}
 use Rattle.range_map.specs.PieceLists.{free_piece, bound_piece, free_between, pieces_from}
 use Rattle.range_map.specs.Overlapping.{AreOverlapping}
-use Rattle.range_map.specs.Pieces.{IsCommonPart, IsFreePart, ArePieces}
-use Rattle.range_map.specs.Stored.{item_lower, IsStored}
-use Rattle.range_map.proofs.Chains.{chain_before, chain_right, follows_above}
-use Rattle.range_map.proofs.RangePieces.{PLe, PLt, Lo, Hi, IsFull, IsOpenPart, IsRight, IsInside, IsCutUpTo, cut_none, cut_more, cut_all, shared_is, common_within, any_end, any_with, any_use, every_with, free_apart, free_inside, common_place_is_not_clear}
-use Rattle.range_map.proofs.Forms.{Chained, before_is, stored_chain, stored_known, nonempty_good}
-use Rattle.range_map.proofs.PieceAnswers.{all_full}
+use Rattle.range_change.specs.Pieces.{IsCommonPart, IsFreePart, ArePieces}
+use Rattle.range_change.specs.Stored.{item_lower, IsStored}
+use Rattle.range_change.proofs.Chains.{chain_before, chain_right, follows_above}
+use Rattle.range_change.proofs.RangePieces.{PLe, PLt, Lo, Hi, IsFull, IsOpenPart, IsRight, IsInside, IsCutUpTo, cut_none, cut_more, cut_all, shared_is, common_within, any_end, any_with, any_use, every_with, free_apart, free_inside, common_place_is_not_clear}
+use Rattle.range_change.proofs.Forms.{Chained, before_is, stored_chain, stored_known, nonempty_good}
+use Rattle.range_change.proofs.PieceAnswers.{all_full}
 
 -- a piece to which no answer was given
 abbrev told : {K V : Type 0} → Item (AnyRange K) (Option V) → Answered K V

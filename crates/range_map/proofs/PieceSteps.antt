@@ -21,13 +21,13 @@ use Rattle.range_algebra.proofs.Lists.{any_left, any_right, every_append, every_
 use Rattle.range_algebra.proofs.Places.{flipped_bound_is_past, flipped_back, flipped_known}
 use Rattle.range_store.specs.declared.storage.Item.{Item}
 use Rattle.range_map.specs.FreeRanges.{between}
-use Rattle.range_map.specs.Neighbours.{BeforeFirst, EachNext}
+use Rattle.range_change.specs.Neighbours.{BeforeFirst, EachNext}
 use Rattle.range_map.specs.Overlapping.{AreOverlapping}
 use Rattle.range_map.specs.PieceLists.{free_piece, bound_piece, free_between, pieces_from, range_if_free, free_ranges, AreGapsWithin}
-use Rattle.range_map.specs.Pieces.{IsPiece, IsFreePart, ArePieces}
-use Rattle.range_map.specs.Stored.{IsStored}
+use Rattle.range_change.specs.Pieces.{IsPiece, IsFreePart, ArePieces}
+use Rattle.range_change.specs.Stored.{IsStored}
 use Rattle.range_map.proofs.BindingAll.{no_pieces, no_free_part}
-use Rattle.range_map.proofs.Forms.{before_is}
+use Rattle.range_change.proofs.Forms.{before_is}
 use Rattle.range_map.proofs.PieceLists.{pieces_are, free_shows}
 
 module _ {K : Type 0} (order : KeyOrder K) (lawful : IsLawful order) where

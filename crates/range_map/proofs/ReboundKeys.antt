@@ -17,10 +17,10 @@ use Rattle.range_algebra.specs.Range.{Holds, IsEmptyRange}
 use Rattle.range_algebra.specs.declared.any.AnyRange.{AnyRange}
 use Rattle.range_algebra.proofs.Holding.{holds_by_position, empty_is_keyless}
 use Rattle.range_store.specs.declared.storage.Item.{Item}
-use Rattle.range_map.specs.Answers.{Answered, IsAsAnswered, MayAnswer, IsUpdated, piece_of}
-use Rattle.range_map.specs.Bindings.{Binds, BindsTo, IsBound}
-use Rattle.range_map.specs.Pieces.{IsPiece, IsCommonPart, later, earlier}
-use Rattle.range_map.specs.Lookups.{Overlap}
+use Rattle.range_change.specs.Answers.{Answered, IsAsAnswered, MayAnswer, IsUpdated, piece_of}
+use Rattle.range_change.specs.Bindings.{Binds, BindsTo, IsBound}
+use Rattle.range_change.specs.Pieces.{IsPiece, IsCommonPart, later, earlier}
+use Rattle.range_change.specs.Lookups.{Overlap}
 use Rattle.range_map.specs.Rebinding.{IsRebound, AreRebound}
 
 module _ {K : Type 0} (order : KeyOrder K) (lawful : IsLawful order) (k : K)

@@ -11,12 +11,12 @@ use Rattle.range_algebra.specs.Intervals.{Le, Lt, Every}
 use Rattle.range_algebra.specs.Orders.{le_lt_trans, lt_le_trans}
 use Rattle.range_algebra.specs.declared.any.AnyRange.{AnyRange}
 use Rattle.range_store.specs.declared.storage.Item.{Item}
-use Rattle.range_map.specs.Bindings.{IsBound, BindsTo, Binds}
-use Rattle.range_map.specs.Chains.{Line, Good, Follows, IsChain, line_of}
+use Rattle.range_change.specs.Bindings.{IsBound, BindsTo, Binds}
+use Rattle.range_change.specs.Chains.{Line, Good, Follows, IsChain, line_of}
 use Rattle.range_map.specs.Retaining.{BindOnlyAsBefore}
-use Rattle.range_map.specs.Stored.{IsStored}
-use Rattle.range_map.proofs.Chains.{strictly_leads}
-use Rattle.range_map.proofs.Forms.{stored_known, stored_chain, chain_stored}
+use Rattle.range_change.specs.Stored.{IsStored}
+use Rattle.range_change.proofs.Chains.{strictly_leads}
+use Rattle.range_change.proofs.Forms.{stored_known, stored_chain, chain_stored}
 use Rattle.range_map.proofs.Once.{bound_once}
 
 every_kept : {X : Type 0} (P : X → Type 0) (bs : List Bool) (xs : List X) → Every P xs

@@ -7,7 +7,7 @@ use Rattle.range_keys.specs.Order.{KeyOrder}
 use Rattle.range_algebra.specs.Range.{Holds}
 use Rattle.range_algebra.specs.declared.any.AnyRange.{AnyRange}
 use Rattle.range_store.specs.declared.storage.Item.{Item}
-use Rattle.range_map.specs.Bindings.{IsBound, BindsTo}
+use Rattle.range_change.specs.Bindings.{IsBound, BindsTo}
 
 module _ {K : Type 0} (order : KeyOrder K) {V : Type 0} (same_value : V → V → Bool) where
   -- an item that holds the key binds it to its value

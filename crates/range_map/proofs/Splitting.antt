@@ -21,14 +21,14 @@ use Rattle.range_algebra.specs.declared.any.AnyRange.{AnyRange}
 use Rattle.range_algebra.proofs.Lists.{every_append, every_left, every_right, every_weaker}
 use Rattle.range_algebra.proofs.Places.{held_between}
 use Rattle.range_store.specs.declared.storage.Item.{Item}
-use Rattle.range_map.specs.Chains.{line_of, IsLeft, IsRight}
-use Rattle.range_map.specs.Edits.{with_start}
+use Rattle.range_change.specs.Chains.{line_of, IsLeft, IsRight}
+use Rattle.range_change.specs.Edits.{with_start}
 use Rattle.range_map.specs.Splitting.{IsDivided, IsSplitAt}
-use Rattle.range_map.specs.Stored.{IsStored, item_lower, item_upper}
-use Rattle.range_map.proofs.Chains.{same_is_symmetric, chain_before}
-use Rattle.range_map.proofs.ChainSides.{left_whole, left_cut, right_whole, right_cut, none_above, none_below}
-use Rattle.range_map.proofs.CutParts.{cut_end}
-use Rattle.range_map.proofs.Forms.{places, Known, bound_hold, chain_stored, same_binds, stored_chain, stored_known}
+use Rattle.range_change.specs.Stored.{IsStored, item_lower, item_upper}
+use Rattle.range_change.proofs.Chains.{same_is_symmetric, chain_before}
+use Rattle.range_change.proofs.ChainSides.{left_whole, left_cut, right_whole, right_cut, none_above, none_below}
+use Rattle.range_change.proofs.CutParts.{cut_end}
+use Rattle.range_change.proofs.Forms.{places, Known, bound_hold, chain_stored, same_binds, stored_chain, stored_known}
 
 then_equal : (o : Ordering) → ordering_then o Equal ≡ o
 then_equal Less = refl

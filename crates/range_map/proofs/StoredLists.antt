@@ -17,10 +17,10 @@ use Rattle.range_algebra.proofs.Completeness.{nonempty_holds}
 use Rattle.range_algebra.proofs.Canonical.{same_is_equal, equal_is_same}
 use Rattle.range_algebra.proofs.Meeting.{not_greater}
 use Rattle.range_store.specs.declared.storage.Item.{Item}
-use Rattle.range_map.specs.Bindings.{IsBound, BindsTo, Binds, BindAlike, IsCoarse, AreAlike, IsOnlyCoarse, IsLeastCount}
-use Rattle.range_map.specs.Stored.{IsStored}
+use Rattle.range_change.specs.Bindings.{IsBound, BindsTo, Binds, BindAlike, IsCoarse, AreAlike, IsOnlyCoarse, IsLeastCount}
+use Rattle.range_change.specs.Stored.{IsStored}
 use Rattle.range_map.specs.ListOrder.{same_list, list_cmp, lists_tied, lists_order}
-use Rattle.range_map.proofs.Overlaps.{binds_bound}
+use Rattle.range_change.proofs.Overlaps.{binds_bound}
 use Rattle.range_map.proofs.Coarse.{coarse_alike, coarse_shortest, Follows}
 use Rattle.range_algebra.proofs.Joined.{before_is, ends_below, joined_touch, is_before_of}
 

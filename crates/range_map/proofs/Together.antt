@@ -17,12 +17,12 @@ use Rattle.range_algebra.specs.declared.any.AnyRange.{AnyRange}
 use Rattle.range_algebra.proofs.Lists.{any_none, every_weaker}
 use Rattle.range_store.specs.declared.storage.Item.{Item}
 use Rattle.range_map.specs.Iteration.{shown_item}
-use Rattle.range_map.specs.Lookups.{Overlap, MeetsSome}
-use Rattle.range_map.specs.Pieces.{LiesIn}
-use Rattle.range_map.specs.Stored.{IsStored}
+use Rattle.range_change.specs.Lookups.{Overlap, MeetsSome}
+use Rattle.range_change.specs.Pieces.{LiesIn}
+use Rattle.range_change.specs.Stored.{IsStored}
 use Rattle.range_map.specs.Together.{MeetNowhere, LieInside}
-use Rattle.range_map.specs.Window.{option_items}
-use Rattle.range_map.proofs.Listed.{IsListed, stored_list_is_listed}
+use Rattle.range_change.specs.Window.{option_items}
+use Rattle.range_change.proofs.Listed.{IsListed, stored_list_is_listed}
 
 -- an iterator and what it gave next, as the list of both
 pub stepped : {K V : Type 0} (before after : List (Item (AnyRange K) V))

@@ -7,8 +7,8 @@ use Rattle.range_algebra.specs.Intervals.{Every}
 use Rattle.range_algebra.specs.Relations.{LiesBefore}
 use Rattle.range_algebra.specs.declared.any.AnyRange.{AnyRange}
 use Rattle.range_store.specs.declared.storage.Item.{Item}
-use Rattle.range_map.specs.declared.error.NotAppended.{NotAppended}
-use Rattle.range_map.specs.declared.error.NotAppended.TheVariants.{OutOfOrder, Memory}
+use Rattle.range_change.specs.declared.error.NotAppended.{NotAppended}
+use Rattle.range_change.specs.declared.error.NotAppended.TheVariants.{OutOfOrder, Memory}
 
 -- refused since some range of the one does not lie before all of the other
 abbrev pub IsOutOfOrder : NotAppended → Type 0

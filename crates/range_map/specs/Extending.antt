@@ -6,7 +6,7 @@ use Rattle.range_keys.specs.Order.{KeyOrder}
 use Rattle.range_algebra.specs.Range.{Holds, IsEmptyRange}
 use Rattle.range_algebra.specs.declared.any.AnyRange.{AnyRange}
 use Rattle.range_store.specs.declared.storage.Item.{Item}
-use Rattle.range_map.specs.Bindings.{Binds, IsBound, IsSomeOf}
+use Rattle.range_change.specs.Bindings.{Binds, IsBound, IsSomeOf}
 
 -- the item that what is read as a range and a value are
 abbrev pub item_of : {R K V : Type 0} → (R → AnyRange K) → R × V → Item (AnyRange K) V

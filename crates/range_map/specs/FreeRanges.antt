@@ -14,8 +14,8 @@ use Rattle.range_algebra.specs.RangeOrder.{range_cmp}
 use Rattle.range_algebra.specs.Relations.{LiesBefore}
 use Rattle.range_algebra.specs.declared.any.AnyRange.{AnyRange}
 use Rattle.range_store.specs.declared.storage.Item.{Item}
-use Rattle.range_map.specs.Neighbours.{EachNext}
-use Rattle.range_map.specs.Pieces.{IsPiece}
+use Rattle.range_change.specs.Neighbours.{EachNext}
+use Rattle.range_change.specs.Pieces.{IsPiece}
 
 abbrev pub full_range : {K : Type 0} → AnyRange K
 full_range = record { start = Unbounded; end = Unbounded }

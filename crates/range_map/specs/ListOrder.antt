@@ -11,8 +11,8 @@ use Rattle.range_keys.specs.Order.{KeyOrder, IsLawful}
 use Rattle.range_algebra.specs.RangeOrder.{range_cmp, range_total, range_input, range_respects}
 use Rattle.range_algebra.specs.declared.any.AnyRange.{AnyRange}
 use Rattle.range_store.specs.declared.storage.Item.{Item}
-use Rattle.range_map.specs.Bindings.{BindAlike}
-use Rattle.range_map.specs.Stored.{IsStored}
+use Rattle.range_change.specs.Bindings.{BindAlike}
+use Rattle.range_change.specs.Stored.{IsStored}
 
 module _ {K : Type 0} (order : KeyOrder K) {V : Type 0} where
   -- equal ranges, by position, with equal values

@@ -14,8 +14,8 @@ use Rattle.range_algebra.specs.Range.{IsKnownRange}
 use Rattle.range_algebra.specs.References.{range_of}
 use Rattle.range_algebra.specs.declared.any.AnyRange.{AnyRange}
 use Rattle.range_store.specs.declared.storage.Item.{Item}
-use Rattle.range_map.specs.Stored.{item_lower, item_upper}
-use Rattle.range_map.specs.declared.change.merged.Piece.{Piece}
+use Rattle.range_change.specs.Stored.{item_lower, item_upper}
+use Rattle.range_map.specs.declared.map.merged.Piece.{Piece}
 
 -- the item that a range over references and a value show
 abbrev pub part_item : {K V : Type 0} → AnyRange (Bor K) × Bor V → Item (AnyRange K) V

@@ -7,8 +7,8 @@ use Rattle.range_algebra.specs.Intervals.{Le, Lt, Every}
 use Rattle.range_algebra.specs.Relations.{LiesBefore}
 use Rattle.range_algebra.specs.declared.any.AnyRange.{AnyRange}
 use Rattle.range_store.specs.declared.storage.Item.{Item}
-use Rattle.range_map.specs.Lookups.{Overlap}
-use Rattle.range_map.specs.Window.{IsJustBefore}
+use Rattle.range_change.specs.Lookups.{Overlap}
+use Rattle.range_change.specs.Window.{IsJustBefore}
 
 module _ {K : Type 0} (order : KeyOrder K) {V : Type 0} where
   -- the list is what lies before the range, what meets it, and what lies after it

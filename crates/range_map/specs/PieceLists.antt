@@ -15,8 +15,8 @@ use Rattle.range_algebra.specs.Relations.{LiesBefore}
 use Rattle.range_algebra.specs.declared.any.AnyRange.{AnyRange}
 use Rattle.range_store.specs.declared.storage.Item.{Item}
 use Rattle.range_map.specs.FreeRanges.{between}
-use Rattle.range_map.specs.Neighbours.{EachNext}
-use Rattle.range_map.specs.Pieces.{IsPiece}
+use Rattle.range_change.specs.Neighbours.{EachNext}
+use Rattle.range_change.specs.Pieces.{IsPiece}
 
 -- the piece that a range over references shows, with its value if it is bound
 abbrev pub shown_piece : {K V : Type 0} → AnyRange (Bor K) × Option (Bor V)

@@ -1,10 +1,10 @@
 //! A map from ranges of keys to values.
 ghost use Rattle.std.specs.Prelude.{◌≡◌, ◌+◌, [], length, IfSome};
 ghost use Rattle.std.specs.Option.{option_copied, option_map};
-ghost use Rattle.range_map.specs.Stored.{IsStored};
+ghost use Rattle.range_change.specs.Stored.{IsStored};
 ghost use Rattle.range_keys.specs.Order.{IsComplete};
 ghost use Rattle.range_store.specs.Counting.{AddsSteps};
-ghost use Rattle.range_map.specs.Bindings.{Binds, IsCoarse, IsItemFor, IsStoredFor, IsOnlyCoarse, IsLeastCount};
+ghost use Rattle.range_change.specs.Bindings.{Binds, IsCoarse, IsItemFor, IsStoredFor, IsOnlyCoarse, IsLeastCount};
 ghost use Rattle.range_map.specs.Iteration.{shown_item};
 
 mod append;
@@ -23,6 +23,7 @@ mod iter;
 mod len;
 mod levels;
 mod lookup;
+mod merged;
 mod overlapping;
 mod pieces;
 mod remove;
@@ -33,8 +34,6 @@ mod text;
 mod try_insert;
 mod update;
 
-use crate::change::window::{find, starts_past};
-pub use crate::error::{MapError, NotAppended, NotInserted, UpdateError};
 pub use crate::laws::{
     coarse_lists_are_shortest, coarse_lists_are_unique, stored_lists_are_coarse,
     stored_lists_bind_once,
@@ -48,6 +47,8 @@ pub use levels::one_level_is_greatest;
 pub use overlapping::Overlapping;
 pub use pieces::Pieces;
 use range_algebra::any::AnyRange;
+pub use range_change::error::{MapError, NotAppended, NotInserted, UpdateError};
+use range_change::window::{find, starts_past};
 use range_keys::bound::Directed;
 use range_keys::traits::PartialEnum;
 use range_store::storage::{Item, Steps, Storage};
@@ -76,7 +77,7 @@ pub struct RangeMap<K: PartialEnum, V: Eq, C: Storage<Item<AnyRange<K>, V>>> {
 }
 
 impl<K: PartialEnum, V: Eq, C: Storage<Item<AnyRange<K>, V>>> Model for RangeMap<K, V, C> {
-    ghost use Rattle.range_map.specs.Stored.{IsStored};
+    ghost use Rattle.range_change.specs.Stored.{IsStored};
 
     ghost Value = { C };
 

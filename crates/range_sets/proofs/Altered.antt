@@ -2,7 +2,7 @@
 use Rattle.std.proofs.Common.{◌≡◌, refl, sym, ap, ◌∙◌, ◌↔◌, ◌⊎◌, inl, inr, Bool, true, false, not, ◌&&◌, ◌||◌, IsTrue, Option, Some, None}
 use Rattle.std.specs.Prelude.{IfSome}
 use Rattle.std.specs.Cmp.{IsEquivalence}
-use Rattle.range_map.specs.Answers.{IsAsAnswered}
+use Rattle.range_change.specs.Answers.{IsAsAnswered}
 use Rattle.range_sets.specs.Members.{HasNone, HaveSame, HasAlso, HasAllBut, among}
 
 pub never_both : (b : Bool) → b ≡ true → b ≡ false → ⊥

@@ -16,11 +16,11 @@ use Rattle.range_algebra.proofs.Places.{unbounded_start}
 use Rattle.range_store.specs.declared.storage.Item.{Item}
 use Rattle.range_map.specs.FreeRanges.{full_range, AreGaps, free_from}
 use Rattle.range_map.specs.ListOrder.{same_list}
-use Rattle.range_map.specs.Pieces.{LiesIn, IsFreePart, IsPiece}
-use Rattle.range_map.specs.Lookups.{Overlap}
+use Rattle.range_change.specs.Pieces.{LiesIn, IsFreePart, IsPiece}
+use Rattle.range_change.specs.Lookups.{Overlap}
 use Rattle.range_map.proofs.FreeParts.{IsFull, IsRow, gaps_are, stored_row}
 use Rattle.range_map.proofs.JustBefore.{ends_full}
-use Rattle.range_map.proofs.Listed.{stored_list_is_listed}
+use Rattle.range_change.proofs.Listed.{stored_list_is_listed}
 use Rattle.range_sets.specs.Complements.{EqualGapsOf}
 use Rattle.range_sets.specs.KeySets.{IsStoredSet}
 use Rattle.range_sets.proofs.Enclosing.{missing_gaps_is_within_item}

@@ -18,12 +18,12 @@ use Rattle.range_algebra.specs.Relations.{LiesBefore, Touches}
 use Rattle.range_algebra.specs.declared.any.AnyRange.{AnyRange}
 use Rattle.range_store.specs.declared.storage.Item.{Item}
 use Rattle.range_map.specs.FreeRanges.{full_range, AreGaps}
-use Rattle.range_map.specs.Neighbours.{EachNext}
-use Rattle.range_map.specs.Pieces.{IsFreePart, IsPiece}
-use Rattle.range_map.specs.Lookups.{Overlap}
-use Rattle.range_map.specs.Stored.{IsStored}
-use Rattle.range_map.proofs.Forms.{before_is, nonempty_good, touches_is}
-use Rattle.range_map.proofs.Listed.{IsListed, stored_list_is_listed, stored_by}
+use Rattle.range_change.specs.Neighbours.{EachNext}
+use Rattle.range_change.specs.Pieces.{IsFreePart, IsPiece}
+use Rattle.range_change.specs.Lookups.{Overlap}
+use Rattle.range_change.specs.Stored.{IsStored}
+use Rattle.range_change.proofs.Forms.{before_is, nonempty_good, touches_is}
+use Rattle.range_change.proofs.Listed.{IsListed, stored_list_is_listed, stored_by}
 use Rattle.range_sets.specs.KeySets.{IsStoredSet}
 
 -- the ranges as the items of a set

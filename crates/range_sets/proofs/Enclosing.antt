@@ -16,12 +16,12 @@ use Rattle.range_algebra.specs.Range.{IsKnownBound, IsKnownRange, IsEmptyRange}
 use Rattle.range_algebra.proofs.Places.{reaching_is_before_past, flipped_bound_is_past, flipped_back, flipped_known, unbounded_start}
 use Rattle.range_store.specs.declared.storage.Item.{Item}
 use Rattle.range_map.specs.FreeRanges.{between, free_from}
-use Rattle.range_map.specs.Pieces.{LiesIn}
-use Rattle.range_map.specs.Lookups.{Overlap}
-use Rattle.range_map.proofs.Forms.{before_is, nonempty_good, touches_is}
+use Rattle.range_change.specs.Pieces.{LiesIn}
+use Rattle.range_change.specs.Lookups.{Overlap}
+use Rattle.range_change.proofs.Forms.{before_is, nonempty_good, touches_is}
 use Rattle.range_map.proofs.FreeParts.{From, IsFull, between_is}
 use Rattle.range_map.proofs.JustBefore.{ends_before, ends_full}
-use Rattle.range_map.proofs.Listed.{IsListed}
+use Rattle.range_change.proofs.Listed.{IsListed}
 
 module _ {K : Type 0} (order : KeyOrder K) (lawful : IsLawful order) where
   abbrev PLe : Position K → Position K → Type 0

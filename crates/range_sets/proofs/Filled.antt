@@ -7,7 +7,7 @@ use Rattle.range_algebra.specs.Intervals.{Every}
 use Rattle.range_algebra.specs.Range.{IsEmptyRange}
 use Rattle.range_algebra.specs.declared.any.AnyRange.{AnyRange}
 use Rattle.range_store.specs.declared.storage.Item.{Item}
-use Rattle.range_map.specs.Frames.{IsInsertionFrame, IsNewItem}
+use Rattle.range_change.specs.Frames.{IsInsertionFrame, IsNewItem}
 use Rattle.range_sets.specs.Pairs.{HasNoEmptySet}
 use Rattle.range_keys.proofs.Orderings.{greater_or_not}
 

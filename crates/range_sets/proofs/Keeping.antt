@@ -23,10 +23,10 @@ use Rattle.range_algebra.specs.Intervals.{Every}
 use Rattle.range_algebra.specs.declared.any.AnyRange.{AnyRange}
 use Rattle.range_algebra.proofs.Lists.{every_weaker}
 use Rattle.range_store.specs.declared.storage.Item.{Item}
-use Rattle.range_map.specs.Answers.{Answered, IsAsAnswered, IsGivenBy, MayAnswer, IsUpdated}
-use Rattle.range_map.specs.Frames.{IsMergeFrame, HasValue}
-use Rattle.range_map.proofs.RangePieces.{any_use}
-use Rattle.range_map.proofs.MergedItems.{way_follows}
+use Rattle.range_change.specs.Answers.{Answered, IsAsAnswered, IsGivenBy, MayAnswer, IsUpdated}
+use Rattle.range_change.specs.Frames.{IsMergeFrame, HasValue}
+use Rattle.range_change.proofs.RangePieces.{any_use}
+use Rattle.range_change.proofs.MergedItems.{way_follows}
 use Rattle.range_sets.specs.Members.{HaveSame, HasAlso, HasAllBut, among}
 use Rattle.range_sets.proofs.Altered.{but_true}
 

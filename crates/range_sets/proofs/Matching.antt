@@ -14,9 +14,9 @@ use Rattle.range_algebra.specs.Intervals.{Any, Every}
 use Rattle.range_algebra.specs.Orders.{eq_le, eq_ge, lt_le, le_trans, lt_not_le, lt_le_trans, le_lt_trans, lt_trans}
 use Rattle.range_algebra.specs.RangeOrder.{range_cmp}
 use Rattle.range_algebra.specs.Relations.{LiesBefore}
-use Rattle.range_map.specs.Neighbours.{EachNext}
-use Rattle.range_map.specs.Pieces.{LiesIn}
-use Rattle.range_map.specs.Lookups.{Overlap}
+use Rattle.range_change.specs.Neighbours.{EachNext}
+use Rattle.range_change.specs.Pieces.{LiesIn}
+use Rattle.range_change.specs.Lookups.{Overlap}
 use Rattle.range_map.proofs.FreeParts.{Pairs, IsFull, same_range}
 
 module _ {K : Type 0} (order : KeyOrder K) (lawful : IsLawful order) where

@@ -12,10 +12,10 @@ use Rattle.range_algebra.specs.Intervals.{Every}
 use Rattle.range_algebra.specs.Range.{Holds, IsEmptyRange}
 use Rattle.range_algebra.specs.declared.any.AnyRange.{AnyRange}
 use Rattle.range_store.specs.declared.storage.Item.{Item}
-use Rattle.range_map.specs.Answers.{IsAsAnswered, MayAnswer, IsUpdated}
-use Rattle.range_map.specs.Bindings.{IsBound, BindsTo, Binds}
+use Rattle.range_change.specs.Answers.{IsAsAnswered, MayAnswer, IsUpdated}
+use Rattle.range_change.specs.Bindings.{IsBound, BindsTo, Binds}
 use Rattle.range_map.specs.ListOrder.{IsCopyOf}
-use Rattle.range_map.specs.Frames.{IsMergeFrame, HasValue}
+use Rattle.range_change.specs.Frames.{IsMergeFrame, HasValue}
 use Rattle.range_map.specs.Rebinding.{AreRebound}
 use Rattle.range_sets.specs.Members.{HasNone, HaveSame, HasAlso, HasAllBut, among}
 use Rattle.range_sets.specs.Pairs.{HasNoEmptySet, HasPair, IsUnpaired, AreValuesAt, HasPairsAlso, HasPairsWithout, StayBound}
@@ -23,8 +23,8 @@ use Rattle.range_sets.proofs.Altered.{or_true, but_true}
 use Rattle.range_sets.proofs.Keeping.{gave_way_to_such}
 use Rattle.range_algebra.proofs.Lists.{every_weaker, every_append, every_left, every_right}
 use Rattle.range_algebra.proofs.Meeting.{held_or_not}
-use Rattle.range_map.proofs.RangePieces.{any_use}
-use Rattle.range_map.proofs.Overlaps.{binds_bound}
+use Rattle.range_change.proofs.RangePieces.{any_use}
+use Rattle.range_change.proofs.Overlaps.{binds_bound}
 
 module _ {K : Type 0} (order : KeyOrder K) {S V : Type 0} (same : S → S → Bool)
     (equal : IsEquivalence same) (has : S → V → Bool)

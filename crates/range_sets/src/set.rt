@@ -4,7 +4,7 @@ ghost use Rattle.range_keys.specs.Order.{IsComplete};
 ghost use Rattle.range_algebra.specs.Range.{IsEmptyRange};
 ghost use Rattle.range_map.specs.FreeRanges.{AreGaps, IsHeldOnce, item_ranges};
 ghost use Rattle.range_store.specs.Counting.{AddsSteps};
-ghost use Rattle.range_map.specs.Lookups.{MeetsSome, BindsKeyOf};
+ghost use Rattle.range_change.specs.Lookups.{MeetsSome, BindsKeyOf};
 ghost use Rattle.range_sets.specs.KeySets.{HoldsKey, IsLeastCount, IsStoredSet};
 
 mod algebra;

@@ -1,16 +1,16 @@
 //! Ranges that are stored only where they intersect no other.
 ghost use Rattle.std.specs.Prelude.{◌≡◌, ◌↔◌, OnErr, Ok, true, false};
 ghost use Rattle.range_algebra.specs.Range.{ClonesAreEqual, IsEmptyRange};
-ghost use Rattle.range_map.specs.Bindings.{IsBoundAfter};
-ghost use Rattle.range_map.specs.Frames.{IsInsertionFrame};
-ghost use Rattle.range_map.specs.Lookups.{MeetsSome, MeetAlso};
-ghost use Rattle.range_map.specs.Stored.{IsStored};
+ghost use Rattle.range_change.specs.Bindings.{IsBoundAfter};
+ghost use Rattle.range_change.specs.Frames.{IsInsertionFrame};
+ghost use Rattle.range_change.specs.Lookups.{MeetsSome, MeetAlso};
+ghost use Rattle.range_change.specs.Stored.{IsStored};
 
-use crate::change::bind::bind_disjoint;
-use crate::error::MapError;
 use crate::map::RangeMap;
 use range_algebra::any::AnyRange;
 use range_algebra::inner;
+use range_change::bind::bind_disjoint;
+use range_change::error::MapError;
 use range_keys::traits::Measure;
 use range_store::storage::{Item, Storage};
 

@@ -3,13 +3,13 @@ ghost use Rattle.std.specs.Prelude.{◌≡◌, ◌↔◌, ◌+◌, ◌≤◌, �
 ghost use Rattle.range_algebra.specs.Relations.{LiesBefore};
 ghost use Rattle.range_keys.specs.Order.{IsComplete};
 ghost use Rattle.range_map.specs.Appending.{IsOutOfOrder, LieBefore, appended, are_one, as_one, joined};
-ghost use Rattle.range_map.specs.Bindings.{BindAlike, IsCoarse, IsOnlyCoarse};
-ghost use Rattle.range_map.specs.Stored.{IsStored};
+ghost use Rattle.range_change.specs.Bindings.{BindAlike, IsCoarse, IsOnlyCoarse};
+ghost use Rattle.range_change.specs.Stored.{IsStored};
 
-use crate::error::NotAppended;
 use crate::map::RangeMap;
 use range_algebra::any::AnyRange;
 use range_algebra::inner::starts_at_end;
+use range_change::error::NotAppended;
 use range_keys::bound::Directed;
 use range_keys::traits::PartialEnum;
 use range_store::storage::{Item, Storage};

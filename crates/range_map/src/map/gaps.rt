@@ -5,12 +5,12 @@ ghost use Rattle.std.specs.Option.{option_map};
 ghost use Rattle.range_keys.specs.Position.{bound_of};
 ghost use Rattle.range_algebra.specs.References.{range_of};
 ghost use Rattle.range_map.specs.FreeRanges.{between, free_after, item_ranges, AreGaps, IsHeldOnce};
-ghost use Rattle.range_map.specs.Window.{option_items};
+ghost use Rattle.range_change.specs.Window.{option_items};
 
-use crate::change::cut::flip;
 use crate::map::RangeMap;
 use crate::map::iter::Iter;
 use range_algebra::any::AnyRange;
+use range_change::cut::flip;
 use range_keys::traits::PartialEnum;
 use range_store::storage::{Item, Storage};
 use std::marker::Model;

@@ -5,10 +5,10 @@ ghost use Rattle.std.specs.Option.{option_map};
 ghost use Rattle.range_keys.specs.Order.{IsComplete};
 ghost use Rattle.range_algebra.specs.References.{range_of};
 ghost use Rattle.range_algebra.specs.declared.any.AnyRange.{AnyRange};
-ghost use Rattle.range_map.specs.Lookups.{BindsAllOf};
+ghost use Rattle.range_change.specs.Lookups.{BindsAllOf};
 ghost use Rattle.range_map.specs.PieceLists.{AreGapsWithin, free_ranges};
-ghost use Rattle.range_map.specs.Pieces.{IsFreePart};
-ghost use Rattle.range_map.specs.Window.{option_items};
+ghost use Rattle.range_change.specs.Pieces.{IsFreePart};
+ghost use Rattle.range_change.specs.Window.{option_items};
 
 use crate::map::RangeMap;
 use crate::map::pieces::Pieces;

@@ -2,18 +2,18 @@
 ghost use Rattle.std.specs.Prelude.{◌≡◌, ◌+◌, ◌≤◌, length, OnOk, OnErr, IsOk};
 ghost use Rattle.range_keys.specs.Order.{IsComplete};
 ghost use Rattle.range_algebra.specs.Range.{ClonesAreEqual, IsEmptyRange};
-ghost use Rattle.range_map.specs.Stored.{IsStored};
-ghost use Rattle.range_map.specs.Costs.{TakesAtLeast, TakesAsChange};
-ghost use Rattle.range_map.specs.Frames.{IsInsertionFrame};
-ghost use Rattle.range_map.specs.Bindings.{IsBoundAfter, IsCoarse, IsOnlyCoarse};
-ghost use Rattle.range_map.specs.Lookups.{MeetAlso};
+ghost use Rattle.range_change.specs.Stored.{IsStored};
+ghost use Rattle.range_change.specs.Costs.{TakesAtLeast, TakesAsChange};
+ghost use Rattle.range_change.specs.Frames.{IsInsertionFrame};
+ghost use Rattle.range_change.specs.Bindings.{IsBoundAfter, IsCoarse, IsOnlyCoarse};
+ghost use Rattle.range_change.specs.Lookups.{MeetAlso};
 
-use crate::change::bind::{bind, bind_in_order};
-use crate::error::MapError;
 use crate::map::RangeMap;
 use range_algebra::any::AnyRange;
 use range_algebra::inner;
 use range_algebra::range::IntoRange;
+use range_change::bind::{bind, bind_in_order};
+use range_change::error::MapError;
 use range_keys::traits::Measure;
 use range_store::storage::{Item, Steps, Storage};
 

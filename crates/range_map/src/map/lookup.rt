@@ -3,14 +3,14 @@ ghost use Rattle.std.specs.Prelude.{◌≡◌, ◌↔◌, ◌+◌, [], IsTrue};
 ghost use Rattle.range_keys.specs.Order.{IsComplete};
 ghost use Rattle.range_store.specs.Counting.{AddsSteps};
 ghost use Rattle.range_algebra.specs.Range.{IsEmptyRange};
-ghost use Rattle.range_map.specs.Bindings.{IsBound};
-ghost use Rattle.range_map.specs.Lookups.{MeetsSome, BindsKeyOf};
+ghost use Rattle.range_change.specs.Bindings.{IsBound};
+ghost use Rattle.range_change.specs.Lookups.{MeetsSome, BindsKeyOf};
 
-use crate::change::window::{find, starts_past};
 use crate::map::RangeMap;
 use range_algebra::any::AnyRange;
 use range_algebra::inner;
 use range_algebra::range::AsRange;
+use range_change::window::{find, starts_past};
 use range_keys::bound::Directed;
 use range_keys::traits::{Measure, PartialEnum};
 use range_store::storage::{Item, Steps, Storage};

@@ -9,16 +9,16 @@ ghost use Rattle.range_keys.specs.Position.{position_cmp, start_position};
 ghost use Rattle.range_algebra.specs.Range.{IsEmptyRange, with_bounds};
 ghost use Rattle.range_store.specs.Places.{IsAt, place_before};
 ghost use Rattle.range_map.specs.Iteration.{shown_item};
-ghost use Rattle.range_map.specs.Lookups.{BindsKeyOf};
+ghost use Rattle.range_change.specs.Lookups.{BindsKeyOf};
 ghost use Rattle.range_map.specs.Overlapping.{AreOverlapping, IsLastStarting, IsRun, place_after, run_items};
-ghost use Rattle.range_map.specs.Stored.{IsStored};
-ghost use Rattle.range_map.specs.Window.{IsJustBefore};
+ghost use Rattle.range_change.specs.Stored.{IsStored};
+ghost use Rattle.range_change.specs.Window.{IsJustBefore};
 
-use crate::change::window::{find, starts_past};
 use crate::map::RangeMap;
 use range_algebra::any::AnyRange;
 use range_algebra::inner;
 use range_algebra::range::AsRange;
+use range_change::window::{find, starts_past};
 use range_keys::bound::Directed;
 use range_keys::traits::{Measure, PartialEnum};
 use range_store::storage::{Item, Steps, Storage};
@@ -41,7 +41,7 @@ impl<'a, K: PartialEnum + 'a, V: Eq + 'a, C: Storage<Item<AnyRange<K>, V>> + 'a>
     ghost use Rattle.range_algebra.specs.declared.any.AnyRange.{AnyRange};
     ghost use Rattle.range_store.specs.declared.storage.Item.{Item};
     ghost use Rattle.range_map.specs.Overlapping.{IsRun, run_items};
-    ghost use Rattle.range_map.specs.Stored.{IsStored};
+    ghost use Rattle.range_change.specs.Stored.{IsStored};
 
     ghost Value = { List (Item (AnyRange K) V) };
 

@@ -6,15 +6,15 @@ ghost use Rattle.range_algebra.specs.Intervals.{Any};
 ghost use Rattle.range_algebra.specs.References.{range_of};
 ghost use Rattle.range_algebra.specs.declared.any.AnyRange.{AnyRange};
 ghost use Rattle.range_map.specs.PieceLists.{shown_piece};
-ghost use Rattle.range_map.specs.Pieces.{ArePieces, IsFreePart};
+ghost use Rattle.range_change.specs.Pieces.{ArePieces, IsFreePart};
 
-use crate::change::cut::flip;
 use crate::map::RangeMap;
 use crate::map::gaps::range_between;
 use crate::map::overlapping::Overlapping;
 use range_algebra::any::AnyRange;
 use range_algebra::inner;
 use range_algebra::range::AsRange;
+use range_change::cut::flip;
 use range_keys::bound::Directed;
 use range_keys::traits::{Measure, PartialEnum};
 use range_store::storage::{Item, Storage};

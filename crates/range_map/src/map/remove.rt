@@ -2,19 +2,19 @@
 ghost use Rattle.std.specs.Prelude.{◌≡◌, ◌+◌, ◌≤◌, length, OnOk, OnErr, IsOk};
 ghost use Rattle.range_keys.specs.Order.{IsComplete};
 ghost use Rattle.range_algebra.specs.Range.{ClonesAreEqual, IsEmptyRange};
-ghost use Rattle.range_map.specs.Stored.{IsStored};
+ghost use Rattle.range_change.specs.Stored.{IsStored};
 ghost use Rattle.range_algebra.specs.Intervals.{Every};
-ghost use Rattle.range_map.specs.Lookups.{Overlap};
-ghost use Rattle.range_map.specs.Costs.{TakesAtLeast, TakesAsChange};
-ghost use Rattle.range_map.specs.Frames.{IsRemovalFrame};
-ghost use Rattle.range_map.specs.Bindings.{IsUnboundAfter, IsCoarse, IsOnlyCoarse};
+ghost use Rattle.range_change.specs.Lookups.{Overlap};
+ghost use Rattle.range_change.specs.Costs.{TakesAtLeast, TakesAsChange};
+ghost use Rattle.range_change.specs.Frames.{IsRemovalFrame};
+ghost use Rattle.range_change.specs.Bindings.{IsUnboundAfter, IsCoarse, IsOnlyCoarse};
 
-use crate::change::unbind::unbind;
-use crate::error::MapError;
 use crate::map::RangeMap;
 use range_algebra::any::AnyRange;
 use range_algebra::inner;
 use range_algebra::range::AsRange;
+use range_change::error::MapError;
+use range_change::unbind::unbind;
 use range_keys::traits::Measure;
 use range_store::storage::{Item, Steps, Storage};
 

@@ -2,19 +2,19 @@
 ghost use Rattle.std.specs.Prelude.{◌≡◌, ◌↔◌, IsErrAnd, IfErr, OnOk, OnErr, IsOk};
 ghost use Rattle.range_keys.specs.Order.{IsComplete};
 ghost use Rattle.range_algebra.specs.Range.{IsEmptyRange};
-ghost use Rattle.range_map.specs.Bindings.{IsBoundAfter, IsCoarse, IsOnlyCoarse};
-ghost use Rattle.range_map.specs.Changes.{IsInserted};
-ghost use Rattle.range_map.specs.Frames.{IsInsertionFrame};
+ghost use Rattle.range_change.specs.Bindings.{IsBoundAfter, IsCoarse, IsOnlyCoarse};
+ghost use Rattle.range_change.specs.Changes.{IsInserted};
+ghost use Rattle.range_change.specs.Frames.{IsInsertionFrame};
 ghost use Rattle.range_map.specs.Freeing.{IsOccupied, given_back};
-ghost use Rattle.range_map.specs.Lookups.{MeetsSome, MeetAlso};
-ghost use Rattle.range_map.specs.Stored.{IsStored};
+ghost use Rattle.range_change.specs.Lookups.{MeetsSome, MeetAlso};
+ghost use Rattle.range_change.specs.Stored.{IsStored};
 
-use crate::change::free::bind_free;
-use crate::change::window::find_window;
 use crate::map::RangeMap;
 use range_algebra::any::AnyRange;
 use range_algebra::inner;
 use range_algebra::range::IntoRange;
+use range_change::free::bind_free;
+use range_change::window::find_window;
 use range_keys::traits::Measure;
 use range_store::storage::{Item, Steps, Storage};
 

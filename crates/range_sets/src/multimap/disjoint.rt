@@ -1,10 +1,10 @@
 //! Sets that are bound only where their range intersects no stored one.
 ghost use Rattle.std.specs.Prelude.{◌≡◌, ◌↔◌, OnErr, Ok, true, false};
 ghost use Rattle.range_algebra.specs.Range.{ClonesAreEqual, IsEmptyRange};
-ghost use Rattle.range_map.specs.Bindings.{IsBoundAfter};
-ghost use Rattle.range_map.specs.Frames.{IsInsertionFrame};
-ghost use Rattle.range_map.specs.Lookups.{MeetsSome, MeetAlso};
-ghost use Rattle.range_map.specs.Stored.{IsStored};
+ghost use Rattle.range_change.specs.Bindings.{IsBoundAfter};
+ghost use Rattle.range_change.specs.Frames.{IsInsertionFrame};
+ghost use Rattle.range_change.specs.Lookups.{MeetsSome, MeetAlso};
+ghost use Rattle.range_change.specs.Stored.{IsStored};
 ghost use Rattle.range_sets.specs.Pairs.{HasNoEmptySet};
 
 use super::RangeMultiMap;

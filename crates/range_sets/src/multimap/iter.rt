@@ -2,9 +2,9 @@
 ghost use Rattle.std.specs.Prelude.{◌≡◌};
 ghost use Rattle.std.specs.Iterator.{YieldsFirstBy, YieldsLastBy, item_count};
 ghost use Rattle.range_keys.specs.Order.{IsComplete};
-ghost use Rattle.range_map.specs.Bindings.{IsOnlyCoarse};
+ghost use Rattle.range_change.specs.Bindings.{IsOnlyCoarse};
 ghost use Rattle.range_map.specs.Iteration.{pair_item};
-ghost use Rattle.range_map.specs.Stored.{IsStored};
+ghost use Rattle.range_change.specs.Stored.{IsStored};
 ghost use Rattle.range_sets.specs.Pairs.{HasNoEmptySet};
 
 use super::{Iter, RangeMultiMap};

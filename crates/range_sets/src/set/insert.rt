@@ -1,9 +1,9 @@
 //! Adding the keys of a range.
 ghost use Rattle.std.specs.Prelude.{◌≡◌, ◌+◌, ◌≤◌, true, length, IsOk, OnOk, OnErr};
 ghost use Rattle.range_algebra.specs.Range.{ClonesAreEqual, IsEmptyRange};
-ghost use Rattle.range_map.specs.Costs.{TakesAtLeast, TakesAsChange};
-ghost use Rattle.range_map.specs.Frames.{IsInsertionFrame};
-ghost use Rattle.range_map.specs.Lookups.{MeetAlso};
+ghost use Rattle.range_change.specs.Costs.{TakesAtLeast, TakesAsChange};
+ghost use Rattle.range_change.specs.Frames.{IsInsertionFrame};
+ghost use Rattle.range_change.specs.Lookups.{MeetAlso};
 ghost use Rattle.range_sets.specs.KeySets.{HoldsAlso, IsStoredSet};
 
 use super::RangeSet;

@@ -2,9 +2,9 @@
 ghost use Rattle.std.specs.Prelude.{◌≡◌, ◌+◌, ◌≤◌, true, length, IsOk, OnOk, OnErr};
 ghost use Rattle.range_algebra.specs.Range.{ClonesAreEqual, IsEmptyRange};
 ghost use Rattle.range_algebra.specs.Intervals.{Every};
-ghost use Rattle.range_map.specs.Costs.{TakesAtLeast, TakesAsChange};
-ghost use Rattle.range_map.specs.Frames.{IsRemovalFrame};
-ghost use Rattle.range_map.specs.Lookups.{Overlap};
+ghost use Rattle.range_change.specs.Costs.{TakesAtLeast, TakesAsChange};
+ghost use Rattle.range_change.specs.Frames.{IsRemovalFrame};
+ghost use Rattle.range_change.specs.Lookups.{Overlap};
 ghost use Rattle.range_sets.specs.KeySets.{HoldsWithout, IsStoredSet};
 
 use super::RangeSet;

@@ -1,5 +1,5 @@
-use Rattle.range_map.specs.Bindings.{IsBound}
-use Rattle.range_map.proofs.Overlaps.{binds_bound}
+use Rattle.range_change.specs.Bindings.{IsBound}
+use Rattle.range_change.proofs.Overlaps.{binds_bound}
 use Rattle.range_commands.proofs.Replies.{binds_alike, on_err}
 use Rattle.range_commands.proofs.command.get_cloned.Goals as goal
 

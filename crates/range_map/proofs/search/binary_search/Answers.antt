@@ -1,7 +1,7 @@
 use Rattle.std.proofs.lemmas.Grind.{common_steps}
 use Rattle.std.proofs.Common.{◌+◌, ◌-◌, ◌/◌, ap, sym, ◌∙◌, arith}
 use Rattle.range_algebra.specs.Compared.{is_before}
-use Rattle.range_map.proofs.Comparisons.{before_from}
+use Rattle.range_change.proofs.Comparisons.{before_from}
 use Rattle.range_map.proofs.search.binary_search.Goals as goal
 
 pub loop-low-preserved-then-is_before : goal.loop-low-preserved-then-is_before

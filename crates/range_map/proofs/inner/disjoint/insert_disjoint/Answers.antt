@@ -1,7 +1,7 @@
 use Rattle.std.proofs.lemmas.Grind.{common_steps}
 use Rattle.std.proofs.Common.{◌≡◌, refl, ap, Ok, true, false, arith}
-use Rattle.range_map.proofs.Results.{on_error}
-use Rattle.range_map.proofs.Tests.{either_way, error_is_no_value, not_both, not_both_answers, same_value}
+use Rattle.range_change.proofs.Results.{on_error}
+use Rattle.range_change.proofs.Tests.{either_way, error_is_no_value, not_both, not_both_answers, same_value}
 use Rattle.range_map.proofs.inner.disjoint.insert_disjoint.Goals as goal
 
 pub bind_disjoint-requires-clause-stored : goal.bind_disjoint-requires-clause-stored

@@ -1,9 +1,9 @@
 use Rattle.std.proofs.lemmas.Bool.{false≢true}
 use Rattle.std.proofs.Common.{◌∙◌, arith}
 use Rattle.range_algebra.specs.Relations.{LiesBefore}
-use Rattle.range_map.specs.Pieces.{LiesIn}
+use Rattle.range_change.specs.Pieces.{LiesIn}
 use Rattle.range_map.proofs.Together.{stepped, drained, shorter, inside_begins, inside_goes_left, inside_goes_right, not_inside}
-use Rattle.range_map.proofs.Tests.{not_both}
+use Rattle.range_change.proofs.Tests.{not_both}
 use Rattle.range_map.proofs.inner.relate.lie_inside.Goals as goal
 
 pub loop-next-init : goal.loop-next-init

@@ -2,7 +2,7 @@ use Rattle.std.proofs.Common.{subst}
 use Rattle.std.proofs.lemmas.List.Elements.{All-more}
 use Rattle.range_algebra.specs.Range.{Holds}
 use Rattle.range_map.proofs.Scans.{binds_item, none_holds}
-use Rattle.range_map.proofs.Tests.{not_both}
+use Rattle.range_change.proofs.Tests.{not_both}
 use Rattle.range_map.proofs.inner.scan.find.Goals as goal
 
 pub returns-then-holds : goal.returns-then-holds

@@ -1,5 +1,5 @@
 use Rattle.std.proofs.Common.{rules}
-use Rattle.range_map.proofs.Overlaps.{holding_is}
+use Rattle.range_change.proofs.Overlaps.{holding_is}
 use Rattle.range_map.proofs.map.RangeMap.contains_key_counted.Goals as goal
 
 pub returns-clause-value : goal.returns-clause-value

@@ -2,9 +2,9 @@ use Rattle.std.proofs.Common.{◌<◌, length, refl, ap, rules, arith}
 use Rattle.std.proofs.lemmas.Bool.{false≢true}
 use Rattle.range_keys.specs.Position.{bound_of, start_position, end_position}
 use Rattle.range_algebra.specs.Range.{IsEmptyRange}
-use Rattle.range_map.specs.Lookups.{MeetsSome}
-use Rattle.range_map.proofs.Overlaps.{binding_meets, meeting_binds, first_not_before_decides, none_decides}
-use Rattle.range_map.proofs.Tests.{not_both}
+use Rattle.range_change.specs.Lookups.{MeetsSome}
+use Rattle.range_change.proofs.Overlaps.{binding_meets, meeting_binds, first_not_before_decides, none_decides}
+use Rattle.range_change.proofs.Tests.{not_both}
 use Rattle.range_map.proofs.map.RangeMap.intersects_counted.Goals as goal
 
 pub returns-in-None : goal.returns-in-None

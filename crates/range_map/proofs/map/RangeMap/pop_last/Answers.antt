@@ -4,8 +4,8 @@ use Rattle.std.specs.List.{AllByRecursion}
 use Rattle.range_keys.specs.Order.{KeyOrder}
 use Rattle.range_algebra.specs.declared.any.AnyRange.{AnyRange}
 use Rattle.range_store.specs.declared.storage.Item.{Item}
-use Rattle.range_map.specs.Neighbours.{EachNext}
-use Rattle.range_map.specs.Stored.{IsStored}
+use Rattle.range_change.specs.Neighbours.{EachNext}
+use Rattle.range_change.specs.Stored.{IsStored}
 use Rattle.range_map.proofs.map.RangeMap.pop_last.Goals as goal
 
 module _ {X : Type 0} where

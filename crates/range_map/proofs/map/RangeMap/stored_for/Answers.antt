@@ -1,5 +1,5 @@
 use Rattle.std.proofs.Common.{◌<◌, length, refl}
-use Rattle.range_map.proofs.Found.{none_bound, other_bound, bound_at, holds_at, item_at, past_not}
+use Rattle.range_change.proofs.Found.{none_bound, other_bound, bound_at, holds_at, item_at, past_not}
 use Rattle.range_map.proofs.map.RangeMap.stored_for.Goals as goal
 
 pub returns-in-None-clause-value : goal.returns-in-None-clause-value

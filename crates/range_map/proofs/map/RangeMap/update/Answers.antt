@@ -3,17 +3,17 @@ use Rattle.std.proofs.Common.{sym, refl, ◌∙◌, arith}
 use Rattle.std.specs.Cmp.{Equal-is}
 use Rattle.range_algebra.specs.Clones.{bound_clone}
 use Rattle.range_algebra.specs.Range.{IsEmptyRange}
-use Rattle.range_map.specs.Answers.{MayAnswer, IsUpdated}
-use Rattle.range_map.proofs.CoveredPlaces.{on_ok}
+use Rattle.range_change.specs.Answers.{MayAnswer, IsUpdated}
+use Rattle.range_change.proofs.CoveredPlaces.{on_ok}
 use Rattle.range_map.proofs.Likeness.{clone_empty, updated_too, fails_too}
-use Rattle.range_map.specs.Frames.{IsUpdateFrame}
+use Rattle.range_change.specs.Frames.{IsUpdateFrame}
 use Rattle.range_map.specs.Rebinding.{AreRebound}
-use Rattle.range_map.proofs.MergedItems.{unchanged_stands}
-use Rattle.range_map.proofs.SpelledChanges.{list_keeps_spelling}
-use Rattle.range_map.proofs.UpdatedLists.{updated_stands}
+use Rattle.range_change.proofs.MergedItems.{unchanged_stands}
+use Rattle.range_change.proofs.SpelledChanges.{list_keeps_spelling}
+use Rattle.range_change.proofs.UpdatedLists.{updated_stands}
 use Rattle.range_map.proofs.ReboundKeys.{update_rebinds, none_rebound}
 use Rattle.range_map.proofs.StoredLists.{stored_coarse, stored_only}
-use Rattle.range_map.proofs.Results.{error_has_no_value, on_error}
+use Rattle.range_change.proofs.Results.{error_has_no_value, on_error}
 use Rattle.range_map.proofs.map.RangeMap.update.Goals as goal
 
 pub update_pieces-requires : goal.update_pieces-requires

@@ -7,7 +7,7 @@ use Rattle.range_algebra.specs.References.{range_of}
 use Rattle.range_map.specs.Combining.{MayAnswerBoth}
 use Rattle.range_map.specs.FreeRanges.{full_range}
 use Rattle.range_map.specs.Merged.{part_item}
-use Rattle.range_map.specs.Window.{option_items}
+use Rattle.range_change.specs.Window.{option_items}
 use Rattle.range_map.proofs.Combination.{combined_none, combined_more, combined_all, is_shared, asked_of_part}
 use Rattle.range_map.proofs.Combining.{first_placed, fewer_steps_at, unmapped, nothing_listed}
 use Rattle.range_map.proofs.map.combine.gather_both.Goals as goal

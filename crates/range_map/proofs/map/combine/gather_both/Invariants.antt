@@ -5,7 +5,7 @@ use Rattle.range_keys.specs.Order.{IsLawful}
 use Rattle.range_keys.specs.declared.inner.position.Position.{Position}
 use Rattle.range_map.specs.Combining.{MayAnswerBoth}
 use Rattle.range_map.specs.Merged.{part_item}
-use Rattle.range_map.specs.Window.{option_items}
+use Rattle.range_change.specs.Window.{option_items}
 use Rattle.range_map.proofs.Combination.{IsCombinedUpTo}
 use Rattle.range_map.proofs.Combining.{steps_left}
 use Rattle.range_map.proofs.map.combine.gather_both.Given as goal

@@ -1,6 +1,6 @@
 use Rattle.std.proofs.Common.{◌≡◌, ◌∷◌, ◌++◌, [], length, ap, sym, ◌∙◌, arith, append_assoc}
 use Rattle.range_map.proofs.Combining.{next_stored}
-use Rattle.range_map.proofs.OuterBounds.{prefix_is_all}
+use Rattle.range_change.proofs.OuterBounds.{prefix_is_all}
 use Rattle.range_map.proofs.map.combine.map_of.Goals as goal
 
 pub loop-item-init : goal.loop-item-init

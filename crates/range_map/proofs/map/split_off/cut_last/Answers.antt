@@ -5,7 +5,7 @@ use Rattle.range_algebra.specs.declared.any.AnyRange.{AnyRange}
 use Rattle.range_store.specs.declared.storage.Item.{Item}
 use Rattle.range_store.specs.Places.{place_before}
 use Rattle.range_store.proofs.Places.{place_at}
-use Rattle.range_map.specs.Edits.{with_start}
+use Rattle.range_change.specs.Edits.{with_start}
 use Rattle.range_map.proofs.Splitting.{parted, last_parted, last_cut}
 use Rattle.range_map.proofs.map.split_off.cut_last.Goals as goal
 

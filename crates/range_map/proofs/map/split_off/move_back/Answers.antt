@@ -9,8 +9,8 @@ use Rattle.range_algebra.specs.Intervals.{Le, Lt, Every}
 use Rattle.range_algebra.specs.Orders.{not_lt}
 use Rattle.range_store.specs.Places.{place_before}
 use Rattle.range_store.proofs.Places.{place_at}
-use Rattle.range_map.specs.Stored.{item_lower}
-use Rattle.range_map.proofs.Forms.{places}
+use Rattle.range_change.specs.Stored.{item_lower}
+use Rattle.range_change.proofs.Forms.{places}
 use Rattle.range_map.proofs.Splitting.{last_same}
 use Rattle.range_map.proofs.map.split_off.move_back.Goals as goal
 

@@ -1,8 +1,8 @@
 use Rattle.std.proofs.Common.{◌≡◌, refl, arith, rules}
 use Rattle.std.proofs.lemmas.Grind.{common_steps}
 use Rattle.range_algebra.proofs.Lists.{any_none}
-use Rattle.range_map.specs.Lookups.{Overlap}
-use Rattle.range_map.proofs.InsertionFrames.{meets_some, none_meets}
+use Rattle.range_change.specs.Lookups.{Overlap}
+use Rattle.range_change.proofs.InsertionFrames.{meets_some, none_meets}
 use Rattle.range_map.proofs.map.try_insert.bind_where_free.Goals as goal
 
 pub returns-then-window-gt0-clause-occupied : goal.returns-then-window-gt0-clause-occupied

@@ -1,4 +1,4 @@
-use Rattle.range_map.proofs.Results.{error_has_no_value}
+use Rattle.range_change.proofs.Results.{error_has_no_value}
 use Rattle.range_map.proofs.map.update.clone_range.Goals as goal
 
 pub returns : goal.returns

@@ -1,8 +1,8 @@
 use Rattle.std.proofs.Common.{arith, refl}
 use Rattle.std.proofs.lemmas.Grind.{common_steps}
-use Rattle.range_map.proofs.Surrounded.{reach_is_met, surrounded_by}
-use Rattle.range_map.proofs.UpdatedLists.{by_middle}
-use Rattle.range_map.proofs.Results.{error_has_no_value, on_error}
+use Rattle.range_change.proofs.Surrounded.{reach_is_met, surrounded_by}
+use Rattle.range_change.proofs.UpdatedLists.{by_middle}
+use Rattle.range_change.proofs.Results.{error_has_no_value, on_error}
 use Rattle.range_map.proofs.map.update.update_pieces.Goals as goal
 
 pub returns : goal.returns
@@ -49,7 +49,7 @@ returns-in_err-middle g c =
       ok = error_has_no_value _ c.from_residual.result c.from_residual.ensures.0;
       spelled = error_has_no_value _ c.from_residual.result c.from_residual.ensures.0;
       form = c.requires.stored;
-      closure = grind (arith, common_steps);
+      closure = λ e failed. c.gather.ensures.closure e (grind (arith, common_steps));
       refused = on_error _ c.from_residual.result refl;
     }
 

@@ -1,10 +1,10 @@
 use Rattle.std.proofs.lemmas.Grind.{common_steps}
 use Rattle.std.proofs.Common.{rules, refl, arith, Some, None, Ok, Err}
-use Rattle.range_map.specs.Answers.{MayAnswer}
-use Rattle.range_map.proofs.Results.{error_has_no_value, on_error}
-use Rattle.range_map.proofs.Surrounded.{alone, piece, answer_is_to_piece}
-use Rattle.range_map.proofs.SpelledChanges.{inserted_keeps_spelling, removed_keeps_spelling}
-use Rattle.range_map.proofs.UpdatedLists.{by_insertion, by_removal}
+use Rattle.range_change.specs.Answers.{MayAnswer}
+use Rattle.range_change.proofs.Results.{error_has_no_value, on_error}
+use Rattle.range_change.proofs.Surrounded.{alone, piece, answer_is_to_piece}
+use Rattle.range_change.proofs.SpelledChanges.{inserted_keeps_spelling, removed_keeps_spelling}
+use Rattle.range_change.proofs.UpdatedLists.{by_insertion, by_removal}
 use Rattle.range_map.proofs.map.update.update_within.Goals as goal
 
 pub returns-in_ok-bind_inside-in-Ok-Some : goal.returns-in_ok-bind_inside-in-Ok-Some

@@ -1,5 +1,5 @@
 use Rattle.std.proofs.Common.{refl, subst, IsTrue}
-use Rattle.range_map.specs.Answers.{IsAsAnswered}
+use Rattle.range_change.specs.Answers.{IsAsAnswered}
 use Rattle.range_sets.specs.Members.{HasAlso, among}
 use Rattle.range_sets.specs.Pairs.{HasPair}
 use Rattle.range_map.proofs.ClosureAnswers.{every_one}

@@ -1,5 +1,5 @@
 use Rattle.std.proofs.Common.{ap}
-use Rattle.range_map.proofs.RangePieces.{any_over}
+use Rattle.range_change.proofs.RangePieces.{any_over}
 use Rattle.range_sets.proofs.set.RangeSet.get.Goals as goal
 
 pub returns-in-Some : goal.returns-in-Some

@@ -2,7 +2,7 @@ use Rattle.std.proofs.lemmas.Grind.{common_steps}
 use Rattle.std.proofs.Common.{◌≡◌, ◌+◌, arith, length, sym, ◌∙◌, ap, take, drop, ◌-◌, ◌∷◌, rules}
 use Rattle.range_store.specs.Places.{place_before}
 use Rattle.range_store.proofs.Places.{place_at}
-use Rattle.range_map.proofs.Windows.{first_of_run}
+use Rattle.range_change.proofs.Windows.{first_of_run}
 use Rattle.range_map.proofs.map.iter.IterIterator.next.Goals as goal
 
 pub returns-clause-steps : goal.returns-clause-steps

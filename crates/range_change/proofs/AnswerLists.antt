@@ -1,0 +1,416 @@
+-- Answers put one after the other, those that touch with equal values as one.
+use Rattle.std.proofs.Common.{◌≡◌, refl, sym, ap, ◌∙◌, ℕ, zero, suc, ◌+◌, ◌-◌, ◌<◌, Option, Some, None, Bool, true, List, [], ◌∷◌, ◌++◌, inl, inr, ◌↔◌, length, get_or, arith}
+use Rattle.std.specs.Prelude.{slice_set}
+use Rattle.std.specs.declared.ops.Bound.{Bound}
+use Rattle.std.specs.declared.cmp.Ordering.TheVariants.{Equal}
+use Rattle.std.specs.Cmp.{IsEquivalence, tied_back}
+use Rattle.range_keys.specs.Order.{KeyOrder, IsLawful}
+use Rattle.range_keys.specs.Position.{start_position, end_position, position_cmp}
+use Rattle.range_keys.specs.PositionOrder.{position_total}
+use Rattle.range_keys.specs.declared.inner.position.Position.{Position}
+use Rattle.range_algebra.specs.declared.any.AnyRange.{AnyRange}
+use Rattle.range_algebra.specs.Cuts.{past}
+use Rattle.range_algebra.specs.Clones.{IsBoundClone, SameBound, same_start}
+use Rattle.range_algebra.specs.Range.{IsKnownRange}
+use Rattle.range_algebra.specs.Intervals.{Any, Every}
+use Rattle.range_algebra.specs.Orders.{lt_le, eq_le, eq_ge, le_trans, cases, le_lt_trans, lt_le_trans}
+use Rattle.range_algebra.proofs.Lists.{any_left, any_right, any_split, every_weaker, every_append, every_left, every_right}
+use Rattle.range_change.specs.Chains.{line_of, Leads, Respects}
+use Rattle.range_change.proofs.Chains.{strictly_leads, chain_left, chain_right, chain_before, chains_join, same_is_symmetric}
+use Rattle.range_algebra.specs.Relations.{Touches}
+use Rattle.range_store.specs.declared.storage.Item.{Item}
+use Rattle.range_change.specs.Answers.{Answered}
+use Rattle.range_change.specs.Questions.{JoinsNoLast, IsPut}
+use Rattle.range_change.specs.Edits.{with_end}
+use Rattle.range_change.specs.Stored.{item_lower}
+use Rattle.range_change.proofs.CutParts.{same_past}
+use Rattle.range_change.proofs.RangePieces.{PLe, PLt, Lo, Hi, any_end}
+use Rattle.range_change.proofs.Forms.{Known, Chained, Hold, touches_is}
+
+split_last : {X : Type 0} (xs : List X) (k : ℕ) → k + 1 ≡ length xs
+    → (front : List X) × (last : X) × (xs ≡ front ++ last ∷ []) × ((d : X) → get_or xs k d ≡ last)
+    × ((y : X) → slice_set xs k y ≡ front ++ y ∷ [])
+split_last [] k size = absurd (omega (arith, size))
+split_last (x ∷ []) zero size = ([], x, refl, λ d. refl, λ y. refl)
+split_last (x ∷ []) (suc k) size = absurd (omega (arith, size))
+split_last (x ∷ z ∷ zs) zero size = absurd (omega (arith, size))
+split_last (x ∷ z ∷ zs) (suc k) size =
+    let rest = split_last (z ∷ zs) k (omega (arith, size)) in
+    (x ∷ rest.0, rest.1, ap (λ ys. x ∷ ys) rest.2, rest.3, λ y. ap (λ ys. x ∷ ys) (rest.4 y))
+
+module _ {K : Type 0} (order : KeyOrder K) (lawful : IsLawful order) {V : Type 0}
+    (same : V → V → Bool) (equal : IsEquivalence same) (r : AnyRange K) where
+  abbrev past_of : Bound K → Position K
+  past_of e = past order (end_position order e)
+
+  -- the answer gives a value that is such
+  abbrev pub Gives : (V → Bool) → Option V → Type 0
+  Gives W None = ⊥
+  Gives W (Some v) = W v ≡ true
+
+  abbrev pub Alike : (V → Bool) → Type 0
+  Alike W = Respects (line_of order lawful same equal) W
+
+  -- a nonempty part between the places of the range
+  abbrev pub IsWithin : AnyRange K → Type 0
+  IsWithin key =
+      IsKnownRange order key × PLe order lawful (Lo order lawful r) (Lo order lawful key)
+      × PLt order lawful (Lo order lawful key) (Hi order lawful key)
+      × PLe order lawful (Hi order lawful key) (Hi order lawful r)
+
+  abbrev HoldsAt : Position K → AnyRange K → Type 0
+  HoldsAt p key =
+      PLe order lawful (Lo order lawful key) p × PLt order lawful p (Hi order lawful key)
+
+  -- the range of an item lies in the range, and before the place
+  abbrev LiesUpTo : Position K → Item (AnyRange K) V → Type 0
+  LiesUpTo m j =
+      PLe order lawful (Lo order lawful r) (Lo order lawful j.key)
+      × PLe order lawful (Hi order lawful j.key) (Hi order lawful r)
+      × PLe order lawful (Hi order lawful j.key) m
+
+  -- the items bind what the answers so far say
+  pub record IsFilledUpTo (m : Position K) (answers : List (Answered K V))
+      (middle : List (Item (AnyRange K) V)) : Type 0 where
+    pub known : Known order lawful same equal middle
+    pub chain : Chained order lawful same equal middle
+    pub inside : Every (LiesUpTo m) middle
+    pub has : (p : Position K) (W : V → Bool) → Alike W → Hold order lawful same equal W p middle
+        ↔ Any (λ a. HoldsAt p a.key × Gives W a.answer) answers
+    pub valued : Every (λ j. Any (λ a. a.answer ≡ Some j.value) answers) middle
+
+  pub filled_none : (m : Position K) → IsFilledUpTo m [] []
+  filled_none m =
+      record {
+        known = tt;
+        chain = tt;
+        inside = tt;
+        has = λ p W alike. (λ h. h, λ h. h);
+        valued = tt;
+      }
+
+  module _ (m n : Position K) (answers : List (Answered K V)) (key : AnyRange K)
+      (inside : IsWithin key) (from : PLe order lawful m (Lo order lawful key))
+      (upto : PLe order lawful (Hi order lawful key) n) where
+    later_place_is_not_before : PLe order lawful m n
+    later_place_is_not_before =
+        let cmp = position_cmp order.cmp in
+        let total = position_total order.cmp lawful.total in
+        le_trans cmp total m (Lo order lawful key) n
+        from (le_trans cmp total (Lo order lawful key) (Hi order lawful key) n
+        (lt_le cmp total (Lo order lawful key) (Hi order lawful key) inside.2) upto)
+
+    lies_up_to_later_place : (j : Item (AnyRange K) V) → LiesUpTo m j → LiesUpTo n j
+    lies_up_to_later_place j h = (
+      h.0,
+      h.1,
+      le_trans (position_cmp order.cmp) (position_total order.cmp lawful.total)
+          (Hi order lawful j.key) m n h.2 later_place_is_not_before,
+    )
+
+    more_valued : (a : Answered K V) (middle : List (Item (AnyRange K) V))
+        → Every (λ j. Any (λ b. b.answer ≡ Some j.value) answers) middle
+        → Every (λ j. Any (λ b. b.answer ≡ Some j.value) (answers ++ a ∷ [])) middle
+    more_valued a middle h =
+        every_weaker (λ j. Any (λ b. b.answer ≡ Some j.value) answers)
+        (λ j. Any (λ b. b.answer ≡ Some j.value) (answers ++ a ∷ [])) middle
+        (λ j g. any_left (λ b. b.answer ≡ Some j.value) answers (a ∷ []) g) h
+
+    filled_free : (value : Option V) (middle : List (Item (AnyRange K) V))
+        → IsFilledUpTo m answers middle
+        → IsFilledUpTo n (answers ++ record { key = key; value = value; answer = None } ∷ []) middle
+    filled_free value middle was =
+        let a : Answered K V = record { key = key; value = value; answer = None } in
+        record {
+          known = was.known;
+          chain = was.chain;
+          inside = every_weaker (LiesUpTo m) (LiesUpTo n) middle lies_up_to_later_place was.inside;
+          has = λ p W alike.
+              let P = λ (b : Answered K V). HoldsAt p b.key × Gives W b.answer in
+              let old = was.has p W alike in (
+                λ h. any_left P answers (a ∷ []) (old.0 h),
+                λ h.
+                    elim (any_split P answers (a ∷ []) h) [
+                      | inl g ↦ old.1 g
+                      | inr g ↦ elim g [ inl e ↦ absurd e.1 | inr e ↦ absurd e ]
+                    ],
+              );
+          valued = more_valued a middle was.valued;
+        }
+
+    lead_all : (v : V) (j : Item (AnyRange K) V)
+        → position_cmp order.cmp (Lo order lawful j.key) (Lo order lawful key) ≡ Equal → j.value ≡ v
+        → (xs : List (Item (AnyRange K) V)) → Chained order lawful same equal xs
+        → Every (LiesUpTo m) xs
+        → ((k : ℕ) (d : Item (AnyRange K) V) → k + 1 ≡ length xs
+        → Touches order (get_or xs k d).key key → same (get_or xs k d).value v ≡ true → ⊥)
+        → Every (λ x. Leads (line_of order lawful same equal) x (item_lower order j) j.value) xs
+    lead_all v j at is [] chain within apart = tt
+    lead_all v j at is (x ∷ []) chain within apart =
+        let cmp = position_cmp order.cmp in
+        let total = position_total order.cmp lawful.total in
+        let before =
+        le_trans cmp total (Hi order lawful x.key) m
+        (Lo order lawful key) within.0.2 from in (
+          (
+            le_trans cmp total (Hi order lawful x.key) (Lo order lawful key)
+                (Lo order lawful j.key) before
+                (eq_ge cmp total (Lo order lawful j.key) (Lo order lawful key) at),
+            λ le alike. apart 0 x refl
+                ((touches_is order lawful x.key.end key inside.0 inside.2 before).1
+                (le_trans cmp total (Lo order lawful key) (Lo order lawful j.key)
+                (Hi order lawful x.key) (eq_ge cmp total (Lo order lawful j.key)
+                (Lo order lawful key) at) le)) (rw is at alike),
+          ),
+          tt,
+        )
+    lead_all v j at is (x ∷ y ∷ ys) chain within apart =
+        let cmp = position_cmp order.cmp in
+        let total = position_total order.cmp lawful.total in
+        let rest =
+        lead_all v j at is (y ∷ ys) chain.1.1 within.1
+        (λ k d size. apart (suc k) d (omega (arith, size))) in
+        let strict =
+        le_lt_trans cmp total (Hi order lawful x.key) (Lo order lawful y.key)
+        (Lo order lawful j.key) chain.1.0.0
+        (lt_le_trans cmp total (Lo order lawful y.key) (Hi order lawful y.key)
+        (Lo order lawful j.key) chain.1.1.0 rest.0.0) in (
+          strictly_leads (line_of order lawful same equal) x (item_lower order j) j.value strict,
+          rest,
+        )
+
+    filled_with_item_after : (v : V) (value : Option V) (j : Item (AnyRange K) V)
+        (middle : List (Item (AnyRange K) V)) → IsFilledUpTo m answers middle
+        → IsKnownRange order j.key
+        → position_cmp order.cmp (Lo order lawful j.key) (Lo order lawful key) ≡ Equal
+        → position_cmp order.cmp (Hi order lawful j.key) (Hi order lawful key) ≡ Equal → j.value ≡ v
+        → JoinsNoLast order same middle key v
+        → IsFilledUpTo n (answers ++ record { key = key; value = value; answer = Some v } ∷ [])
+        (middle ++ j ∷ [])
+    filled_with_item_after v value j middle was known at to is apart =
+        let cmp = position_cmp order.cmp in
+        let total = position_total order.cmp lawful.total in
+        let a : Answered K V = record { key = key; value = value; answer = Some v } in
+        let lo = Lo order lawful key in
+        let hi = Hi order lawful key in
+        let p0 = Lo order lawful j.key in
+        let q0 = Hi order lawful j.key in
+        let good =
+        lt_le_trans cmp total p0 hi q0
+        (le_lt_trans cmp total p0 lo hi (eq_le cmp total p0 lo at) inside.2)
+        (eq_ge cmp total q0 hi to) in
+        record {
+          known =
+              every_append (λ i. IsKnownRange order i.key) middle (j ∷ []) was.known (known, tt);
+          chain =
+              chains_join (line_of order lawful same equal) middle j [] was.chain (good, tt)
+              (lead_all v j at is middle was.chain was.inside
+              (λ k d size. let last : k
+              ≡ length middle - 1 =
+              omega (arith, size) in rw last (apart d (omega (arith, size)))));
+          inside =
+              every_append (LiesUpTo n) middle (j ∷ [])
+              (every_weaker (LiesUpTo m) (LiesUpTo n) middle lies_up_to_later_place was.inside) (
+                (
+                  le_trans cmp total (Lo order lawful r) lo p0 inside.1 (eq_ge cmp total p0 lo at),
+                  le_trans cmp total q0 hi (Hi order lawful r) (eq_le cmp total q0 hi to) inside.3,
+                  le_trans cmp total q0 hi n (eq_le cmp total q0 hi to) upto,
+                ),
+                tt,
+              );
+          has = λ p W alike.
+              let P = λ (b : Answered K V). HoldsAt p b.key × Gives W b.answer in
+              let Q = λ (i : Item (AnyRange K) V). HoldsAt p i.key × (W i.value ≡ true) in
+              let old = was.has p W alike in (
+                λ h. elim (any_split Q middle (j ∷ []) h) [
+                  | inl g ↦ any_left P answers (a ∷ []) (old.0 g)
+                  | inr g ↦ elim g [
+                    | inl e ↦
+                        any_end P answers a (
+                          (
+                            le_trans cmp total lo p0 p (eq_ge cmp total p0 lo at) e.0.0,
+                            lt_le_trans cmp total p q0 hi e.0.1 (eq_le cmp total q0 hi to),
+                          ),
+                          rw is at e.1,
+                        )
+                    | inr e ↦ absurd e
+                  ]
+                ],
+                λ h. elim (any_split P answers (a ∷ []) h) [
+                  | inl g ↦ any_left Q middle (j ∷ []) (old.1 g)
+                  | inr g ↦ elim g [
+                    | inl e ↦
+                        any_end Q middle j (
+                          (
+                            le_trans cmp total p0 lo p (eq_le cmp total p0 lo at) e.0.0,
+                            lt_le_trans cmp total p hi q0 e.0.1 (eq_ge cmp total q0 hi to),
+                          ),
+                          rw is e.1,
+                        )
+                    | inr e ↦ absurd e
+                  ]
+                ],
+              );
+          valued =
+              every_append (λ i. Any (λ b. b.answer ≡ Some i.value) (answers ++ a ∷ [])) middle
+              (j ∷ []) (more_valued a middle was.valued)
+              (any_end (λ b. b.answer ≡ Some j.value) answers a (ap Some (sym is)), tt);
+        }
+
+    filled_on : (v : V) (value : Option V) (front : List (Item (AnyRange K) V))
+        (last j : Item (AnyRange K) V) → IsFilledUpTo m answers (front ++ last ∷ [])
+        → IsKnownRange order j.key → Lo order lawful j.key ≡ Lo order lawful last.key
+        → position_cmp order.cmp (Hi order lawful j.key) (Hi order lawful key) ≡ Equal
+        → j.value ≡ last.value → PLe order lawful (Lo order lawful key) (Hi order lawful last.key)
+        → same last.value v ≡ true
+        → IsFilledUpTo n (answers ++ record { key = key; value = value; answer = Some v } ∷ [])
+        (front ++ j ∷ [])
+    filled_on v value front last j was known at to is touches alike_values =
+        let cmp = position_cmp order.cmp in
+        let total = position_total order.cmp lawful.total in
+        let a : Answered K V = record { key = key; value = value; answer = Some v } in
+        let lo = Lo order lawful key in
+        let hi = Hi order lawful key in
+        let q0 = Hi order lawful j.key in
+        let low = Lo order lawful last.key in
+        let high = Hi order lawful last.key in
+        let tail = chain_right (line_of order lawful same equal) front (last ∷ []) was.chain in
+        let within = every_right (LiesUpTo m) front (last ∷ []) was.inside in
+        let before : PLe order lawful high lo = le_trans cmp total high m lo within.0.2 from in
+        let past_lo : PLt order lawful low hi =
+        lt_le_trans cmp total low high hi tail.0
+        (le_trans cmp total high lo hi before (lt_le cmp total lo hi inside.2)) in
+        let good : PLt order lawful (Lo order lawful j.key) q0 =
+        rw at (lt_le_trans cmp total low hi q0 past_lo (eq_ge cmp total q0 hi to)) in
+        let leads = chain_before (line_of order lawful same equal) front last [] was.chain in
+        let old_valued =
+        every_right (λ i. Any (λ b. b.answer ≡ Some i.value) answers) front
+        (last ∷ []) was.valued in
+        record {
+          known =
+              every_append (λ i. IsKnownRange order i.key) front (j ∷ [])
+              (every_left (λ i. IsKnownRange order i.key) front (last ∷ []) was.known) (known, tt);
+          chain =
+              chains_join (line_of order lawful same equal) front j []
+              (chain_left (line_of order lawful same equal) front (last ∷ []) was.chain) (good, tt)
+              (rw (at, is) leads);
+          inside =
+              every_append (LiesUpTo n) front (j ∷ [])
+              (every_weaker (LiesUpTo m) (LiesUpTo n) front lies_up_to_later_place
+              (every_left (LiesUpTo m) front (last ∷ []) was.inside)) (
+                (
+                  rw at within.0.0,
+                  le_trans cmp total q0 hi (Hi order lawful r) (eq_le cmp total q0 hi to) inside.3,
+                  le_trans cmp total q0 hi n (eq_le cmp total q0 hi to) upto,
+                ),
+                tt,
+              );
+          has = λ p W alike.
+              let P = λ (b : Answered K V). HoldsAt p b.key × Gives W b.answer in
+              let Q = λ (i : Item (AnyRange K) V). HoldsAt p i.key × (W i.value ≡ true) in
+              let old = was.has p W alike in
+              let into : PLt order lawful p hi → PLt order lawful p q0 =
+              λ l. lt_le_trans cmp total p hi q0 l (eq_ge cmp total q0 hi to) in (
+                λ h. elim (any_split Q front (j ∷ []) h) [
+                  | inl g ↦ any_left P answers (a ∷ []) (old.0 (any_left Q front (last ∷ []) g))
+                  | inr g ↦ elim g [
+                    | inl e ↦ elim (cases cmp total p high) [
+                      | inl l ↦
+                          any_left P answers (a ∷ [])
+                          (old.0 (any_right Q front (last ∷ [])
+                          (inl ((rw at at e.0.0, l), rw is at e.1))))
+                      | inr le ↦
+                          any_end P answers a (
+                            (
+                              le_trans cmp total lo high p touches le,
+                              lt_le_trans cmp total p q0 hi e.0.1 (eq_le cmp total q0 hi to),
+                            ),
+                            alike last.value v alike_values (rw is at e.1),
+                          )
+                    ]
+                    | inr e ↦ absurd e
+                  ]
+                ],
+                λ h. elim (any_split P answers (a ∷ []) h) [
+                  | inl g ↦ elim (any_split Q front (last ∷ []) (old.1 g)) [
+                    | inl f ↦ any_left Q front (j ∷ []) f
+                    | inr f ↦ elim f [
+                      | inl e ↦
+                          any_end Q front j (
+                            (
+                              rw at e.0.0,
+                              into (lt_le_trans cmp total p high hi e.0.1
+                                  (le_trans cmp total high lo hi before
+                                  (lt_le cmp total lo hi inside.2))),
+                            ),
+                            rw is e.1,
+                          )
+                      | inr e ↦ absurd e
+                    ]
+                  ]
+                  | inr g ↦ elim g [
+                    | inl e ↦
+                        any_end Q front j (
+                          (
+                            rw at (le_trans cmp total low lo p
+                                (le_trans cmp total low high lo
+                                (lt_le cmp total low high tail.0) before)
+                                e.0.0),
+                            into e.0.1,
+                          ),
+                          rw is (alike v last.value
+                              (same_is_symmetric (line_of order lawful same equal) last.value v
+                              alike_values) e.1),
+                        )
+                    | inr e ↦ absurd e
+                  ]
+                ],
+              );
+          valued =
+              every_append (λ i. Any (λ b. b.answer ≡ Some i.value) (answers ++ a ∷ [])) front
+              (j ∷ []) (more_valued a front
+              (every_left (λ i. Any (λ b. b.answer ≡ Some i.value) answers) front
+              (last ∷ []) was.valued))
+              (any_left (λ b. b.answer ≡ Some j.value) answers (a ∷ []) (rw is old_valued.0), tt);
+        }
+
+    module _ (is_clone : K → K → Type 0)
+        (clones : (a b : Bound K) → IsBoundClone is_clone a b → SameBound order a b) where
+      -- one answer more
+      pub fill_more : (value answer : Option V) (old new : List (Item (AnyRange K) V))
+          → IsFilledUpTo m answers old → IsPut order same is_clone old new key answer
+          → IsFilledUpTo n (answers ++ record { key = key; value = value; answer = answer } ∷ [])
+          new
+      fill_more value None old new was put = rw put (filled_free value old was)
+      fill_more value (Some v) old new was (inl put) =
+          rw put.list (filled_with_item_after v value
+          (record { key = record { start = put.start; end = put.end }; value = v }) old was
+          put.known (tied_back (position_total order.cmp lawful.total) (Lo order lawful key)
+          (start_position order put.start)
+          (same_start order lawful key.start put.start
+          (clones key.start put.start put.start_clone)))
+          (tied_back (position_total order.cmp lawful.total) (Hi order lawful key)
+          (past_of put.end) (same_past order lawful key.end put.end
+          (clones key.end put.end put.end_clone))) refl put.apart)
+      fill_more value (Some v) old new was (inr put) =
+          let some : 0 < length old = put.joins.0 in
+          let parts = split_last old (length old - 1) (omega (arith, some)) in
+          let last = parts.1 in
+          let joins = rw (parts.3 last) at (put.joins.1 last) in
+          let j = with_end last put.end in
+          let list : new ≡ parts.0 ++ j ∷ [] = rw (parts.3 last) at (put.list last) ∙ parts.4 j in
+          let was_parts : IsFilledUpTo m answers (parts.0 ++ last ∷ []) = rw parts.2 at was in
+          let cmp = position_cmp order.cmp in
+          let total = position_total order.cmp lawful.total in
+          let within = every_right (LiesUpTo m) parts.0 (last ∷ []) was_parts.inside in
+          let known =
+          every_right (λ i. IsKnownRange order i.key) parts.0 (last ∷ []) was_parts.known in
+          let before =
+          le_trans cmp total (Hi order lawful last.key) m
+          (Lo order lawful key) within.0.2 from in
+          rw list (filled_on v value parts.0 last j was_parts (known.0.0, put.known) refl
+          (tied_back (position_total order.cmp lawful.total) (Hi order lawful key)
+          (past_of put.end) (same_past order lawful key.end put.end
+          (clones key.end put.end put.end_clone))) refl
+          ((touches_is order lawful last.key.end key inside.0 inside.2 before).0 joins.0)
+          joins.1)

@@ -1,0 +1,474 @@
+-- A range that lies apart from all stored ones, and the list with it.
+use Rattle.std.proofs.Common.{◌≡◌, ℕ, zero, suc, ◌+◌, ◌<◌, List, [], ◌∷◌, ◌++◌, length, take, drop, get_or, refl, ap, sym, subst, ◌∙◌, arith, Option, Some, None, Bool, true, false, ◌&&◌, IsTrue, ◌⊎◌, inl, inr}
+use Rattle.std.specs.Prelude.{insert, MatchOption}
+use Rattle.std.specs.Cmp.{IsEquivalence, tied_itself}
+use Rattle.std.proofs.lemmas.List.{drop_more, take_more}
+use Rattle.std.proofs.Math.Seq.{take-length}
+use Rattle.range_keys.specs.Order.{KeyOrder, IsLawful}
+use Rattle.range_keys.specs.Position.{end_position, position_cmp}
+use Rattle.range_keys.specs.PositionOrder.{position_total}
+use Rattle.range_keys.specs.declared.inner.position.Position.{Position}
+use Rattle.range_keys.proofs.Orderings.{less_or_not}
+use Rattle.range_change.specs.Chains.{line_of}
+use Rattle.range_change.proofs.Chains.{chain_above, chain_before, chain_right, strictly_leads, strictly_trails}
+use Rattle.range_change.proofs.ChainSides.{left_whole, right_whole}
+use Rattle.range_change.proofs.ChainJoins.{places_between_are_bound, left_apart, right_apart}
+use Rattle.range_algebra.specs.Compared.{starts_at_end}
+use Rattle.range_algebra.specs.Cuts.{lower, upper}
+use Rattle.range_algebra.specs.Intervals.{Every, Le, Lt}
+use Rattle.range_algebra.specs.Orders.{eq_ge, eq_le, le_lt_trans, le_refl, lt_le, lt_le_trans, lt_not_le, lt_trans, not_le}
+use Rattle.range_algebra.specs.Range.{IsEmptyRange, IsKnownRange}
+use Rattle.range_algebra.specs.declared.any.AnyRange.{AnyRange}
+use Rattle.range_algebra.proofs.Lists.{drop_all, list_is_take_and_drop, any_none, any_split, every_append, every_left, every_right, every_weaker}
+use Rattle.range_store.proofs.Places.{kept_at, place_at}
+use Rattle.range_store.specs.Places.{IsAt, place_before}
+use Rattle.range_store.specs.declared.storage.Item.{Item}
+use Rattle.range_change.specs.Bindings.{IsBoundAfter}
+use Rattle.range_change.specs.Apart.{IsAnswerAt, IsGap, LiesApart}
+use Rattle.range_change.specs.Stored.{item_lower, item_upper, IsStored}
+use Rattle.range_change.specs.Lookups.{IsConnectedTo, IsConnectedToSome, Overlap}
+use Rattle.range_algebra.specs.Relations.{LiesBefore, Touches}
+use Rattle.range_change.specs.Window.{IsFound, IsJustBefore}
+use Rattle.range_change.proofs.Forms.{Chained, Known, before_is, bound_after, chain_stored, nonempty_good, stored_chain, stored_known, touches_is}
+use Rattle.range_change.proofs.Overlaps.{any_at}
+use Rattle.range_change.proofs.Comparisons.{touching_same}
+use Rattle.range_change.proofs.Windows.{every_both}
+
+-- where an item was put once capacity was reserved, by the list from before
+pub put_at : {T P : Type 0} (is_good good_after : P → Type 0) (rank rank_after : P → ℕ)
+    (items ready new : List T) (from : Option P) (x : T)
+    → IsAt is_good rank (length items) from (place_before rank (length items) from) → ready ≡ items
+    → ((p : P) → is_good p → good_after p × (rank_after p ≡ rank p))
+    → new ≡ insert ready (place_before rank_after (length ready) from) x
+    → new ≡ insert items (place_before rank (length items) from) x
+put_at is_good good_after rank rank_after items ready new from x at same kept done =
+    let place = place_before rank (length items) from in
+    let here : place_before rank_after (length ready) from ≡ place =
+    ap (λ n. place_before rank_after n from) (ap length same)
+    ∙ place_at good_after rank_after (length items) from place
+    (kept_at is_good good_after rank rank_after (length items) from place kept at) in
+    done ∙ (ap (λ n. insert ready n x) here ∙ ap (λ xs. insert xs place x) same)
+
+last_place : {X P : Type 0} (is_good : P → Type 0) (rank : P → ℕ) (items : List X) (last : Option P)
+    → MatchOption last (items ≡ []) (λ p. is_good p × (rank p + 1 ≡ length items))
+    → IsJustBefore is_good rank last (length items)
+last_place is_good rank items None at = rw at refl
+last_place is_good rank items (Some p) at = at
+
+item_at : {X : Type 0} (xs : List X) (n : ℕ) → n < length xs → (x : X) × (x ≡ get_or xs n x)
+item_at [] n within = absurd (omega arith)
+item_at (x ∷ xs) zero within = (x, refl)
+item_at (x ∷ xs) (suc n) within = item_at xs n (omega arith)
+
+every_last : {X : Type 0} (P : X → Type 0) (xs : List X) (x : X) → Every P (xs ++ x ∷ []) → P x
+every_last P [] x h = h.0
+every_last P (y ∷ ys) x h = every_last P ys x h.1
+
+true_by : (b : Bool) → (IsTrue b → ⊥) ⊎ IsTrue b
+true_by true = inr refl
+true_by false = inl (λ e. cc)
+
+must_touch : (A : Type 0) (t : Bool) → A → (A × (IsTrue t → ⊥) → ⊥) → IsTrue t
+must_touch A t a h = elim (true_by t) [ inl k ↦ absurd (h (a, k)) | inr k ↦ k ]
+
+one_fails : (free a b : Bool) → free ≡ (a && b) → free ≡ false → (a ≡ false) ⊎ (b ≡ false)
+one_fails free true b e f = inr (sym e ∙ f)
+one_fails free false b e f = inl refl
+
+both_hold : (free a b : Bool) → free ≡ (a && b) → IsTrue free → IsTrue a × IsTrue b
+both_hold free true b e f = (refl, sym e ∙ f)
+both_hold free false b e f = absurd (let clash : false ≡ true = sym e ∙ f in cc)
+
+module _ {K : Type 0} (order : KeyOrder K) (lawful : IsLawful order) where
+  abbrev PLe : Position K → Position K → Type 0
+  PLe p q = Le (position_cmp order.cmp) p q
+
+  abbrev PLt : Position K → Position K → Type 0
+  PLt p q = Lt (position_cmp order.cmp) p q
+
+  apart_is : (r s : AnyRange K) → IsKnownRange order r → IsKnownRange order s
+      → (IsEmptyRange order s → ⊥) → LiesApart order r s → PLt (upper order r) (lower order s)
+  apart_is r s known others full h =
+      let le = (before_is order lawful r.end s.start known.1 others.0).0 h.0 in
+      let touch =
+      touches_is order lawful r.end s others
+      ((nonempty_good order lawful s others).0 full) le in
+      not_le (position_cmp order.cmp) (position_total order.cmp lawful.total) (upper order r)
+      (lower order s) (λ back. h.1 (touch.1 back))
+
+  -- ranges with a place between are not connected
+  pub apart_not : (r s : AnyRange K) → IsKnownRange order r → IsKnownRange order s
+      → PLt (lower order r) (upper order r) → PLt (lower order s) (upper order s)
+      → PLt (upper order r) (lower order s)
+      → (Overlap order r s → ⊥) × (Touches order r s → ⊥) × (Touches order s r → ⊥)
+      × (LiesBefore order r s)
+  apart_not r s known others good good_s l =
+      let cmp = position_cmp order.cmp in
+      let total = position_total order.cmp lawful.total in
+      let before =
+      (before_is order lawful r.end s.start known.1 others.0).1
+      (lt_le cmp total (upper order r) (lower order s) l) in (
+        λ meets. meets.0 before,
+        λ t. lt_not_le cmp total (upper order r) (lower order s) l
+            (eq_ge cmp total (upper order r) (lower order s)
+            (touching_same order lawful r.end (lower order s) t)),
+        λ t. lt_not_le cmp total (lower order r) (upper order s)
+            (lt_trans cmp total (lower order r) (upper order r) (upper order s) good
+            (lt_trans cmp total (upper order r) (lower order s) (upper order s) l good_s))
+            (eq_le cmp total (upper order s) (lower order r)
+            (touching_same order lawful s.end (lower order r) t)),
+        before,
+      )
+
+  module _ {V : Type 0} (same : V → V → Bool) (equal : IsEquivalence same) where
+    abbrev Before : AnyRange K → Item (AnyRange K) V → Type 0
+    Before r i = PLt (item_upper order i) (lower order r)
+
+    abbrev Behind : AnyRange K → Item (AnyRange K) V → Type 0
+    Behind r i = PLt (upper order r) (item_lower order i)
+
+    abbrev Good : Item (AnyRange K) V → Type 0
+    Good i = PLt (item_lower order i) (item_upper order i)
+
+    follows_good : (i : Item (AnyRange K) V) (rest : List (Item (AnyRange K) V))
+        → Chained order lawful same equal (i ∷ rest) → Every Good (i ∷ rest)
+    follows_good i [] h = (h.0, tt)
+    follows_good i (j ∷ rest) h = (h.0, follows_good j rest h.1.1)
+
+    chain_good : (items : List (Item (AnyRange K) V)) → Chained order lawful same equal items
+        → Every Good items
+    chain_good [] h = tt
+    chain_good (i ∷ rest) h = follows_good i rest h
+
+    module _ (items : List (Item (AnyRange K) V)) (r : AnyRange K)
+        (stored : IsStored order same items) (known : IsKnownRange order r)
+        (full : IsEmptyRange order r → ⊥) where
+      clear_front : (n : ℕ) (x : Item (AnyRange K) V) → n < length items → x ≡ get_or items n x
+          → LiesApart order x.key r → Every (Before r) (take (n + 1) items)
+      clear_front n x within read apart =
+          let cmp = position_cmp order.cmp in
+          let total = position_total order.cmp lawful.total in
+          let more : drop n items ≡ x ∷ drop (n + 1) items =
+          drop_more items n x within ∙ ap (λ y. y ∷ drop (n + 1) items) (sym read) in
+          let split : items ≡ take n items ++ x ∷ drop (n + 1) items =
+          list_is_take_and_drop items n ∙ ap (λ ys. take n items ++ ys) more in
+          let whole : Chained order lawful same equal (take n items ++ x ∷ drop (n + 1) items) =
+          rw split at (stored_chain order lawful same equal items stored) in
+          let all_known : Known order lawful same equal (take n items ++ x ∷ drop (n + 1) items) =
+          rw split at (stored_known order lawful same equal items stored) in
+          let good =
+          chain_right (line_of order lawful same equal) (take n items)
+          (x ∷ drop (n + 1) items) whole in
+          let before =
+          chain_before (line_of order lawful same equal) (take n items) x
+          (drop (n + 1) items) whole in
+          let own =
+          apart_is x.key r (every_right (λ i. IsKnownRange order i.key) (take n items)
+          (x ∷ drop (n + 1) items) all_known).0 known full apart in
+          let longer : take (n + 1) items ≡ take n items ++ x ∷ [] =
+          take_more items n x within ∙ ap (λ y. take n items ++ y ∷ []) (sym read) in
+          rw longer (every_append (Before r) (take n items) (x ∷ [])
+          (every_weaker _ _ (take n items)
+          (λ y h. le_lt_trans cmp total (item_upper order y) (item_lower order x)
+          (lower order r) h.0 (lt_trans cmp total (item_lower order x) (item_upper order x)
+          (lower order r) good.0 own)) before) (own, tt))
+
+      clear_back : (n : ℕ) (x : Item (AnyRange K) V) → n < length items → x ≡ get_or items n x
+          → LiesApart order r x.key → Every (Behind r) (drop n items)
+      clear_back n x within read apart =
+          let cmp = position_cmp order.cmp in
+          let total = position_total order.cmp lawful.total in
+          let more : drop n items ≡ x ∷ drop (n + 1) items =
+          drop_more items n x within ∙ ap (λ y. y ∷ drop (n + 1) items) (sym read) in
+          let split : items ≡ take n items ++ x ∷ drop (n + 1) items =
+          list_is_take_and_drop items n ∙ ap (λ ys. take n items ++ ys) more in
+          let whole : Chained order lawful same equal (take n items ++ x ∷ drop (n + 1) items) =
+          rw split at (stored_chain order lawful same equal items stored) in
+          let all_known : Known order lawful same equal (take n items ++ x ∷ drop (n + 1) items) =
+          rw split at (stored_known order lawful same equal items stored) in
+          let chain =
+          chain_right (line_of order lawful same equal) (take n items)
+          (x ∷ drop (n + 1) items) whole in
+          let above =
+          chain_above (line_of order lawful same equal) (item_lower order x) x
+          (drop (n + 1) items) chain (le_refl cmp total (item_lower order x)) in
+          let known_x =
+          (every_right (λ i. IsKnownRange order i.key) (take n items)
+          (x ∷ drop (n + 1) items) all_known).0 in
+          let own =
+          apart_is r x.key known known_x
+          ((nonempty_good order lawful x.key known_x).1 chain.0) apart in
+          rw more (every_weaker _ _ (x ∷ drop (n + 1) items)
+          (λ y h. lt_le_trans cmp total (upper order r) (item_lower order x)
+          (item_lower order y) own h) above)
+
+      clear_before : {P : Type 0} (is_good : P → Type 0) (rank : P → ℕ)
+          (good_in_range : (p : P) → is_good p → rank p < length items) (before : Option P)
+          (place : ℕ) (b : Bool) → IsJustBefore is_good rank before place
+          → IsAnswerAt order (λ i. LiesApart order i.key r) rank items before b → IsTrue b
+          → Every (Before r) (take place items)
+      clear_before is_good rank good_in_range None place b at answer h = rw at tt
+      clear_before is_good rank good_in_range (Some q) place b at answer h =
+          let within = good_in_range q at.0 in
+          let found = item_at items (rank q) within in
+          rw (← at.1) (clear_front (rank q) found.0 within found.1 ((answer found.0 found.1).0 h))
+
+      clear_after : {P : Type 0} (is_good : P → Type 0) (rank : P → ℕ)
+          (good_in_range : (p : P) → is_good p → rank p < length items) (from : Option P)
+          (place : ℕ) (b : Bool) → IsAt is_good rank (length items) from place
+          → IsAnswerAt order (λ i. LiesApart order r i.key) rank items from b → IsTrue b
+          → Every (Behind r) (drop place items)
+      clear_after is_good rank good_in_range None place b at answer h =
+          rw (drop_all items place at) tt
+      clear_after is_good rank good_in_range (Some q) place b at answer h =
+          let within = good_in_range q at.0 in
+          let found = item_at items (rank q) within in
+          rw (← at.1) (clear_back (rank q) found.0 within found.1 ((answer found.0 found.1).0 h))
+
+      -- where the last of all lies apart, each ends before the range
+      pub all_before : {P : Type 0} (is_good : P → Type 0) (rank : P → ℕ)
+          (good_in_range : (p : P) → is_good p → rank p < length items) (last : Option P) (b : Bool)
+          → MatchOption last (items ≡ []) (λ p. is_good p × (rank p + 1 ≡ length items))
+          → IsAnswerAt order (λ i. LiesApart order i.key r) rank items last b → IsTrue b
+          → Every (Before r) items
+      all_before is_good rank good_in_range last b at answer h =
+          rw (take-length items) at
+          (clear_before is_good rank good_in_range last (length items) b
+          (last_place is_good rank items last at) answer h)
+
+      refused_previous_is_connected : {P : Type 0} (is_good : P → Type 0) (rank : P → ℕ)
+          (good_in_range : (p : P) → is_good p → rank p < length items) (before : Option P)
+          (place : ℕ) (b : Bool) → IsJustBefore is_good rank before place
+          → IsAnswerAt order (λ i. LiesApart order i.key r) rank items before b
+          → Every (λ i. PLt (end_position order i.key.end) (lower order r)) (take place items)
+          → b ≡ false → IsConnectedToSome order items r
+      refused_previous_is_connected is_good rank good_in_range None place b at answer below f =
+          absurd (let clash : false ≡ true = sym f ∙ answer in cc)
+      refused_previous_is_connected is_good rank good_in_range (Some q) place b at answer below f =
+          let within = good_in_range q at.0 in
+          let found = item_at items (rank q) within in
+          let x = found.0 in
+          let longer : take place items ≡ take (rank q) items ++ x ∷ [] =
+          ap (λ n. take n items) (sym at.1)
+          ∙ (take_more items (rank q) x within
+          ∙ ap (λ y. take (rank q) items ++ y ∷ []) (sym found.1)) in
+          let ends : Every (λ i. PLt (end_position order i.key.end) (lower order r))
+          (take (rank q) items ++ x ∷ []) = rw longer at below in
+          let last : LiesBefore order x.key r =
+          every_last (λ i. PLt (end_position order i.key.end) (lower order r))
+          (take (rank q) items) x ends in
+          let refused : LiesApart order x.key r → ⊥ = λ h. let t =
+          (answer x found.1).1 h in let clash : false ≡ true = sym f ∙ t in cc in
+          any_at (λ i. IsConnectedTo order i.key r) items (rank q) x within found.1
+          (inr
+          (inl (must_touch (LiesBefore order x.key r)
+          (starts_at_end order x.key.end (lower order r)) last refused)))
+
+      refused_next_is_connected : {P : Type 0} (is_good : P → Type 0) (rank : P → ℕ)
+          (good_in_range : (p : P) → is_good p → rank p < length items) (from : Option P)
+          (place : ℕ) (b : Bool) → IsAt is_good rank (length items) from place
+          → IsAnswerAt order (λ i. LiesApart order r i.key) rank items from b
+          → Every (λ i. PLe (lower order r) (end_position order i.key.end)) (drop place items)
+          → b ≡ false → IsConnectedToSome order items r
+      refused_next_is_connected is_good rank good_in_range None place b at answer above f =
+          absurd (let clash : false ≡ true = sym f ∙ answer in cc)
+      refused_next_is_connected is_good rank good_in_range (Some q) place b at answer above f =
+          let cmp = position_cmp order.cmp in
+          let total = position_total order.cmp lawful.total in
+          let within = good_in_range q at.0 in
+          let found = item_at items (rank q) within in
+          let x = found.0 in
+          let more : drop place items ≡ x ∷ drop (rank q + 1) items =
+          ap (λ n. drop n items) (sym at.1)
+          ∙ (drop_more items (rank q) x within
+          ∙ ap (λ y. y ∷ drop (rank q + 1) items) (sym found.1)) in
+          let ends : Every (λ i. PLe (lower order r) (end_position order i.key.end))
+          (x ∷ drop (rank q + 1) items) = rw more at above in
+          let refused : LiesApart order r x.key → ⊥ = λ h. let t =
+          (answer x found.1).1 h in let clash : false ≡ true = sym f ∙ t in cc in
+          any_at (λ i. IsConnectedTo order i.key r) items (rank q) x within found.1
+          (elim (less_or_not (cmp (end_position order r.end) (lower order x.key))) [
+            | inl l ↦
+                inr
+                (inr (must_touch (LiesBefore order r x.key)
+                (starts_at_end order r.end (lower order x.key)) l refused))
+            | inr l ↦
+                inl (
+                  λ k. lt_not_le cmp total (end_position order x.key.end)
+                      (lower order r) k ends.0,
+                  l,
+                )
+          ])
+
+      taken_by : {P : Type 0} (is_good : P → Type 0) (rank : P → ℕ)
+          (good_in_range : (p : P) → is_good p → rank p < length items) (before from : Option P)
+          (place : ℕ) (free a b : Bool) → IsJustBefore is_good rank before place
+          → IsAt is_good rank (length items) from place
+          → Every (λ i. PLt (end_position order i.key.end) (lower order r)) (take place items)
+          → Every (λ i. PLe (lower order r) (end_position order i.key.end)) (drop place items)
+          → IsAnswerAt order (λ i. LiesApart order i.key r) rank items before a
+          → IsAnswerAt order (λ i. LiesApart order r i.key) rank items from b → free ≡ (a && b)
+          → free ≡ false → IsConnectedToSome order items r
+      taken_by is_good rank good_in_range before from place free a b previous position below above
+          first second both f =
+          elim (one_fails free a b both f) [
+            | inl e ↦
+                refused_previous_is_connected is_good rank good_in_range before place a previous
+                first below e
+            | inr e ↦
+                refused_next_is_connected is_good rank good_in_range from place b position second
+                above e
+          ]
+
+      -- what the answers for its neighbours say of a range
+      pub gap_is : {P : Type 0} (is_good : P → Type 0) (rank : P → ℕ)
+          (good_in_range : (p : P) → is_good p → rank p < length items) (p : Position K)
+          (before from : Option P) (free a b : Bool) → p ≡ lower order r
+          → IsFound order is_good rank items p before from → IsAnswerAt order
+          (λ i. LiesApart order i.key r) rank items before a
+          → IsAnswerAt order (λ i. LiesApart order r i.key) rank items from b → free ≡ (a && b)
+          → IsGap order is_good rank items r (record { is_free = free; from = from })
+          (place_before rank (length items) from)
+      gap_is is_good rank good_in_range p before from free a b start found first second both =
+          let place = place_before rank (length items) from in
+          record {
+            position = found.position;
+            in_range = found.in_range;
+            before =
+                λ h. clear_before is_good rank good_in_range before place a found.previous first
+                (both_hold free a b both h).0;
+            behind =
+                λ h. clear_after is_good rank good_in_range from place b found.position second
+                (both_hold free a b both h).1;
+            taken =
+                λ f.
+                taken_by is_good rank good_in_range before from place free a b found.previous
+                found.position (rw start at found.below)
+                (rw start at found.above) first second both f;
+          }
+
+      module _ (place : ℕ) (front : Every (Before r) (take place items))
+          (back : Every (Behind r) (drop place items)) where
+        range_good : PLt (lower order r) (upper order r)
+        range_good = (nonempty_good order lawful r known).0 full
+
+        item_before_is_unconnected : (i : Item (AnyRange K) V)
+            → (IsKnownRange order i.key × Good i) × Before r i → IsConnectedTo order i.key r → ⊥
+        item_before_is_unconnected i h (inl meets) =
+            (apart_not i.key r h.0.0 known h.0.1 range_good h.1).0 meets
+        item_before_is_unconnected i h (inr (inl t)) =
+            (apart_not i.key r h.0.0 known h.0.1 range_good h.1).1 t
+        item_before_is_unconnected i h (inr (inr t)) =
+            (apart_not i.key r h.0.0 known h.0.1 range_good h.1).2 t
+
+        item_after_is_unconnected : (i : Item (AnyRange K) V)
+            → (IsKnownRange order i.key × Good i) × Behind r i → IsConnectedTo order i.key r → ⊥
+        item_after_is_unconnected i h (inl meets) =
+            (apart_not r i.key known h.0.0 range_good h.0.1 h.1).0 (meets.1, meets.0)
+        item_after_is_unconnected i h (inr (inl t)) =
+            (apart_not r i.key known h.0.0 range_good h.0.1 h.1).2 t
+        item_after_is_unconnected i h (inr (inr t)) =
+            (apart_not r i.key known h.0.0 range_good h.0.1 h.1).1 t
+
+        -- a range with such a place is connected to no item
+        pub free_not : IsConnectedToSome order items r → ⊥
+        free_not h =
+            let split : items ≡ take place items ++ drop place items =
+            list_is_take_and_drop items place in
+            let all_known : Known order lawful same equal (take place items ++ drop place items) =
+            rw split at (stored_known order lawful same equal items stored) in
+            let whole : Chained order lawful same equal (take place items ++ drop place items) =
+            rw split at (stored_chain order lawful same equal items stored) in
+            let both =
+            every_both (λ i. IsKnownRange order i.key) Good
+            (take place items ++ drop place items) all_known
+            (chain_good (take place items ++ drop place items) whole) in
+            let some : IsConnectedToSome order (take place items ++ drop place items) r =
+            rw split at h in
+            let first =
+            every_both (λ i. IsKnownRange order i.key × Good i) (Before r)
+            (take place items) (every_left (λ i. IsKnownRange order i.key × Good i)
+            (take place items) (drop place items) both) front in
+            let second =
+            every_both (λ i. IsKnownRange order i.key × Good i) (Behind r)
+            (drop place items) (every_right (λ i. IsKnownRange order i.key × Good i)
+            (take place items) (drop place items) both) back in
+            elim (any_split (λ i. IsConnectedTo order i.key r) (take place items)
+            (drop place items) some) [
+              | inl k ↦
+                  any_none (λ i. IsConnectedTo order i.key r)
+                  (λ i. (IsKnownRange order i.key × Good i) × Before r i)
+                  (take place items) first item_before_is_unconnected k
+              | inr k ↦
+                  any_none (λ i. IsConnectedTo order i.key r)
+                  (λ i. (IsKnownRange order i.key × Good i) × Behind r i)
+                  (drop place items) second item_after_is_unconnected k
+            ]
+
+        -- and can be put in there
+        pub put_in : (v : V) → let x : Item (AnyRange K) V =
+            record { key = r; value = v } in IsStored order same
+            (take place items ++ x ∷ drop place items)
+            × IsBoundAfter order same items (take place items ++ x ∷ drop place items) r v
+        put_in v =
+            let cmp = position_cmp order.cmp in
+            let total = position_total order.cmp lawful.total in
+            let x : Item (AnyRange K) V = record { key = r; value = v } in
+            let c = lower order r in
+            let d = upper order r in
+            let split : items ≡ take place items ++ drop place items =
+            list_is_take_and_drop items place in
+            let all_known : Known order lawful same equal (take place items ++ drop place items) =
+            rw split at (stored_known order lawful same equal items stored) in
+            let whole : Chained order lawful same equal (take place items ++ drop place items) =
+            rw split at (stored_chain order lawful same equal items stored) in
+            let left =
+            left_whole (line_of order lawful same equal) (take place items)
+            (drop place items) c whole
+            (every_weaker _ _ (take place items)
+            (λ i h. lt_le cmp total (item_upper order i) c h) front)
+            (every_weaker _ _ (drop place items)
+            (λ i h. lt_le cmp total c (item_lower order i)
+            (lt_trans cmp total c d (item_lower order i) range_good h)) back) in
+            let right =
+            right_whole (line_of order lawful same equal) (take place items)
+            (drop place items) d whole
+            (every_weaker _ _ (take place items)
+            (λ i h. lt_le cmp total (item_upper order i) d
+            (lt_trans cmp total (item_upper order i) c d h range_good)) front)
+            (every_weaker _ _ (drop place items)
+            (λ i h. lt_le cmp total d (item_lower order i) h) back) in
+            let on_left =
+            left_apart (line_of order lawful same equal)
+            (take place items ++ drop place items) (take place items) c v left
+            (every_weaker _ _ (take place items)
+            (λ i h. strictly_leads (line_of order lawful same equal) i c v h) front) in
+            let on_right =
+            right_apart (line_of order lawful same equal)
+            (take place items ++ drop place items) (drop place items) d v right
+            (every_weaker _ _ (drop place items)
+            (λ i h. strictly_trails (line_of order lawful same equal) i d v h) back) in
+            let changed =
+            places_between_are_bound (line_of order lawful same equal)
+            (take place items ++ drop place items) (take place items)
+            (drop place items) x c d c d v on_left on_right range_good (tied_itself total c)
+            (tied_itself total d) (equal.refl v) in
+            let new_known : Known order lawful same equal
+            (take place items ++ x ∷ drop place items) =
+            every_append (λ i. IsKnownRange order i.key) (take place items)
+            (x ∷ drop place items) (every_left (λ i. IsKnownRange order i.key)
+            (take place items) (drop place items) all_known) (
+              known,
+              every_right (λ i. IsKnownRange order i.key) (take place items)
+                  (drop place items) all_known,
+            ) in
+            let after =
+            bound_after order lawful same equal (take place items ++ drop place items)
+            (take place items ++ x ∷ drop place items) r v known all_known new_known changed
+            in
+            let joined : take place items ++ drop place items ≡ items = sym split in (
+              chain_stored order lawful same equal
+                  (take place items ++ x ∷ drop place items) new_known changed.chain,
+              subst (λ xs. IsBoundAfter order same xs
+                  (take place items ++ x ∷ drop place items) r v) joined after,
+            )

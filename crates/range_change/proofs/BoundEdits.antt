@@ -1,0 +1,254 @@
+-- How edits of one bound on each side of a run change a list.
+use Rattle.std.proofs.Common.{◌≡◌, ℕ, ◌+◌, ◌<◌, ◌≤◌, List, [], ◌∷◌, ◌++◌, length, take, drop, get_or, refl, ap, sym, ◌∙◌, arith, Option, Some, None, append_assoc}
+use Rattle.std.proofs.Math.ListN.{set, length-set}
+use Rattle.std.proofs.lemmas.List.{append-nil, get_or-drop, take-set, take-set-le, take_more_set, drop-set, drop-set-lt}
+use Rattle.std.specs.declared.ops.Bound.{Bound}
+use Rattle.std.specs.declared.ops.Bound.TheVariants.{Unbounded}
+use Rattle.range_algebra.specs.declared.any.AnyRange.{AnyRange}
+use Rattle.range_store.specs.declared.storage.Item.{Item}
+use Rattle.std.specs.Option.{ForSome}
+use Rattle.range_store.specs.Places.{place_before}
+use Rattle.range_change.specs.Edits.{with_start, with_end}
+use Rattle.range_change.specs.Window.{option_items}
+use Rattle.range_algebra.proofs.Lists.{parts_at}
+use Rattle.range_change.specs.Edges.{joined_count, edge_at, IsGoodEdge, IsLeftShape, IsRightShape, IsLeftEdited, IsRightEdited}
+use Rattle.range_change.specs.declared.edges.Edge.{Edge}
+use Rattle.range_change.specs.declared.edges.Edge.TheVariants.{Plain, Cut, Joined}
+
+pub opening_regroups : {X : Type 0} (a b c e : List X) (m : X)
+    → (a ++ b) ++ m ∷ (c ++ e) ≡ a ++ b ++ (m ∷ []) ++ c ++ e
+opening_regroups a b c e m =
+    sym (append_assoc (a ++ b ++ (m ∷ [])) c e ∙ append_assoc (a ++ b) (m ∷ []) (c ++ e))
+
+pub regrouped_out : {X : Type 0} (a b c e : List X) → (a ++ b) ++ (c ++ e) ≡ a ++ b ++ [] ++ c ++ e
+regrouped_out a b c e = sym (rw (append-nil (a ++ b)) (append_assoc (a ++ b) c e))
+
+-- an item that stands where it stood
+pub standing_item_splits_list : {X : Type 0} (xs : List X) (n m : ℕ) (x : X) → n < length xs
+    → x ≡ get_or xs n x → m ≡ n + 1 → xs ≡ take n xs ++ [] ++ (x ∷ []) ++ [] ++ drop m xs
+standing_item_splits_list xs n m x within read next =
+    let split : xs ≡ take n xs ++ x ∷ drop m xs =
+    parts_at xs n x within
+    ∙ (ap (λ y. take n xs ++ y ∷ drop (n + 1) xs) (sym read)
+    ∙ ap (λ k. take n xs ++ x ∷ drop k xs) (sym next)) in
+    split
+    ∙ (ap (λ ys. ys ++ x ∷ drop m xs) (sym (append-nil (take n xs)))
+    ∙ opening_regroups (take n xs) [] [] (drop m xs) x)
+
+pub cut_joins_none : {K P : Type 0} (item : Option P) (b : Bound K)
+    → joined_count (edge_at item b) ≡ 0
+cut_joins_none None b = refl
+cut_joins_none (Some p) b = refl
+
+-- a change that keeps positions and the length keeps places
+pub kept_place : {P : Type 0} (is_good is_good' : P → Type 0) (rank rank' : P → ℕ) (len len' : ℕ)
+    (at : Option P) → ((p : P) → is_good p → is_good' p × (rank' p ≡ rank p)) → len' ≡ len
+    → ForSome at is_good → place_before rank' len' at ≡ place_before rank len at
+kept_place is_good is_good' rank rank' len len' None kept size h = size
+kept_place is_good is_good' rank rank' len len' (Some p) kept size h = (kept p (h p refl)).1
+
+same_at : {X : Type 0} (xs ys : List X) (n : ℕ) (d : X) → drop n xs ≡ drop n ys
+    → get_or xs n d ≡ get_or ys n d
+same_at xs ys n d e =
+    let plus : n + 0 ≡ n = omega arith in
+    ap (λ m. get_or xs m d) (sym plus)
+    ∙ (sym (get_or-drop n xs 0 d)
+    ∙ (ap (λ zs. get_or zs 0 d) e ∙ (get_or-drop n ys 0 d ∙ ap (λ m. get_or ys m d) plus)))
+
+module _ {K V P : Type 0} (is_good : P → Type 0) (rank : P → ℕ) (items : List (Item (AnyRange K) V))
+    (in_range : (p : P) → is_good p → rank p < length items) where
+  -- what the first edit leaves of the list
+  pub record IsOpenedLeft (new : List (Item (AnyRange K) V)) (edge : Edge K P) (at from : ℕ)
+      (rest : Option (Item (AnyRange K) V)) (start given : Option (Bound K)) : Type 0 where
+    pub front : take from new ≡ take at items ++ option_items rest
+    pub behind : (n : ℕ) → from + joined_count edge ≤ n → drop n new ≡ drop n items
+    pub same_start : given ≡ start
+    pub size : length new ≡ length items
+
+  pub left_opened : (new : List (Item (AnyRange K) V)) (edge : Edge K P) (at from : ℕ)
+      (rest : Option (Item (AnyRange K) V)) (start given : Option (Bound K))
+      → IsLeftShape is_good rank items edge at from rest start
+      → IsLeftEdited rank items new edge given → IsOpenedLeft new edge at from rest start given
+  left_opened new Plain at from rest start given shape edited = record {
+    front = rw (edited.0, shape.0, shape.1) (sym (append-nil (take at items)));
+    behind = λ n le. ap (drop n) edited.0;
+    same_start = edited.1 ∙ sym shape.2;
+    size = ap length edited.0;
+  }
+  left_opened new (Cut p b) at from rest start given shape edited =
+      let x = shape.4.0 in
+      let item : get_or items (rank p) x ≡ x = ap (λ n. get_or items n x) shape.1 ∙ sym shape.4.1 in
+      let new_is : new ≡ set items at (with_end x b) =
+      edited.0 x
+      ∙ (ap (λ y. set items (rank p) (with_end y b)) item
+      ∙ ap (λ n. set items n (with_end x b)) shape.1) in
+      let within : at < length items = omega (arith, shape.1, in_range p shape.0) in
+      record {
+        front = rw (shape.2, new_is, shape.4.2) (take_more_set items at (with_end x b) within);
+        behind = λ n le. let lt : at < n =
+            omega (arith, shape.2, le) in rw new_is (drop-set-lt n items at (with_end x b) lt);
+        same_start = edited.1 ∙ sym shape.3;
+        size = rw new_is (length-set items at (with_end x b));
+      }
+  left_opened new (Joined p) at from rest start given shape edited =
+      let x = shape.4.0 in
+      let item : get_or items (rank p) x ≡ x = ap (λ n. get_or items n x) shape.1 ∙ sym shape.4.1 in
+      let new_is : new ≡ set items at (with_start x Unbounded) =
+      (edited x).0
+      ∙ (ap (λ y. set items (rank p) (with_start y Unbounded)) item
+      ∙ ap (λ n. set items n (with_start x Unbounded)) shape.1) in
+      record {
+        front =
+            rw (shape.2, shape.3, new_is)
+            (take-set items at (with_start x Unbounded) ∙ sym (append-nil (take at items)));
+        behind = λ n le. let lt : at < n =
+            omega (arith, shape.2, le) in rw new_is
+            (drop-set-lt n items at (with_start x Unbounded) lt);
+        same_start =
+            (edited x).1
+            ∙ (ap (λ (y : Item (AnyRange K) V). Some y.key.start) item ∙ sym shape.4.2);
+        size = rw new_is (length-set items at (with_start x Unbounded));
+      }
+
+  -- what the second edit leaves of the list that the first one left
+  pub record IsOpenedRight (base new : List (Item (AnyRange K) V)) (edge : Edge K P) (upto end : ℕ)
+      (rest : Option (Item (AnyRange K) V)) (finish given : Option (Bound K)) : Type 0 where
+    pub front : (n : ℕ) → n + joined_count edge ≤ upto → take n new ≡ take n base
+    pub behind : drop upto new ≡ option_items rest ++ drop end items
+    pub same_end : given ≡ finish
+    pub size : length new ≡ length base
+
+  pub right_opened : (base new : List (Item (AnyRange K) V)) (rank' : P → ℕ) (clear : ℕ)
+      → ((p : P) → is_good p → rank' p ≡ rank p)
+      → ((n : ℕ) → clear ≤ n → drop n base ≡ drop n items) → length base ≡ length items
+      → (edge : Edge K P) (upto end : ℕ) (rest : Option (Item (AnyRange K) V))
+      (finish given : Option (Bound K)) → clear + joined_count edge ≤ upto
+      → IsRightShape is_good rank items edge upto end rest finish
+      → IsRightEdited rank' base new edge given
+      → IsOpenedRight base new edge upto end rest finish given
+  right_opened base new rank' clear ranks kept same_size Plain upto end rest finish given le shape
+      edited = record {
+        front = λ n l. ap (take n) edited.0;
+        behind = rw (edited.0, shape.1) (kept upto (omega arith) ∙ ap (λ n. drop n items) shape.0);
+        same_end = edited.1 ∙ sym shape.2;
+        size = ap length edited.0;
+      }
+  right_opened base new rank' clear ranks kept same_size
+      (Cut p b) upto end rest finish given le shape edited =
+      let x = shape.4.0 in
+      let index : rank' p ≡ upto = ranks p shape.0 ∙ shape.1 in
+      let item : get_or base (rank' p) x ≡ x =
+      ap (λ n. get_or base n x) index
+      ∙ (same_at base items upto x (kept upto (omega arith)) ∙ sym shape.4.1) in
+      let new_is : new ≡ set base upto (with_start x b) =
+      edited.0 x
+      ∙ (ap (λ y. set base (rank' p) (with_start y b)) item
+      ∙ ap (λ n. set base n (with_start x b)) index) in
+      let within : upto < length base = omega (arith, shape.1, in_range p shape.0, same_size) in
+      record {
+        front = λ n l. let below : n ≤ upto =
+            omega arith in rw new_is (take-set-le n base upto (with_start x b) below);
+        behind =
+            rw (new_is, shape.4.2) (drop-set base upto (with_start x b) within
+            ∙ ap (λ ys. with_start x b ∷ ys)
+            (kept (upto + 1) (omega arith) ∙ ap (λ n. drop n items) (sym shape.2)));
+        same_end = edited.1 ∙ sym shape.3;
+        size = rw new_is (length-set base upto (with_start x b));
+      }
+  right_opened base new rank' clear ranks kept same_size
+      (Joined p) upto end rest finish given le shape edited =
+      let x = shape.4.0 in
+      let i = rank p in
+      let index : rank' p ≡ i = ranks p shape.0 in
+      let from : clear ≤ i = omega (arith, shape.1) in
+      let item : get_or base (rank' p) x ≡ x =
+      ap (λ n. get_or base n x) index
+      ∙ (same_at base items i x (kept i from) ∙ sym shape.4.1) in
+      let new_is : new ≡ set base i (with_end x Unbounded) =
+      (edited x).0
+      ∙ (ap (λ y. set base (rank' p) (with_end y Unbounded)) item
+      ∙ ap (λ n. set base n (with_end x Unbounded)) index) in
+      let lt : i < upto = omega (arith, shape.1) in
+      record {
+        front = λ n l. let below : n ≤ i =
+            omega (arith, shape.1) in rw new_is (take-set-le n base i (with_end x Unbounded) below);
+        behind =
+            rw (new_is, shape.3) (drop-set-lt upto base i (with_end x Unbounded) lt
+            ∙ (kept upto (omega arith) ∙ ap (λ n. drop n items) shape.2));
+        same_end =
+            (edited x).1 ∙ (ap (λ (y : Item (AnyRange K) V). Some y.key.end) item ∙ sym shape.4.2);
+        size = rw new_is (length-set base i (with_end x Unbounded));
+      }
+
+module _ {K V P : Type 0} (is_good is_good' : P → Type 0) (rank rank' : P → ℕ)
+    (items items' : List (Item (AnyRange K) V))
+    (kept : (p : P) → is_good p → is_good' p × (rank' p ≡ rank p)) (same : items' ≡ items) where
+  -- a change that keeps positions and items keeps what is planned
+  pub left_kept : (edge : Edge K P) (at from : ℕ) (rest : Option (Item (AnyRange K) V))
+      (start : Option (Bound K)) → IsLeftShape is_good rank items edge at from rest start
+      → IsLeftShape is_good' rank' items' edge at from rest start
+  left_kept Plain at from rest start h = h
+  left_kept (Cut p b) at from rest start h = let k =
+      kept p h.0 in (
+        k.0,
+        k.1 ∙ h.1,
+        h.2,
+        h.3,
+        (h.4.0, h.4.1 ∙ ap (λ ys. get_or ys at h.4.0) (sym same), h.4.2),
+      )
+  left_kept (Joined p) at from rest start h = let k =
+      kept p h.0 in (
+        k.0,
+        k.1 ∙ h.1,
+        h.2,
+        h.3,
+        (h.4.0, h.4.1 ∙ ap (λ ys. get_or ys at h.4.0) (sym same), h.4.2),
+      )
+
+  pub right_kept : (edge : Edge K P) (upto end : ℕ) (rest : Option (Item (AnyRange K) V))
+      (finish : Option (Bound K)) → IsRightShape is_good rank items edge upto end rest finish
+      → IsRightShape is_good' rank' items' edge upto end rest finish
+  right_kept Plain upto end rest finish h = h
+  right_kept (Cut p b) upto end rest finish h = let k =
+      kept p h.0 in (
+        k.0,
+        k.1 ∙ h.1,
+        h.2,
+        h.3,
+        (h.4.0, h.4.1 ∙ ap (λ ys. get_or ys upto h.4.0) (sym same), h.4.2),
+      )
+  right_kept (Joined p) upto end rest finish h = let k =
+      kept p h.0 in (
+        k.0,
+        ap (λ n. n + 1) k.1 ∙ h.1,
+        h.2,
+        h.3,
+        (
+          h.4.0,
+          h.4.1
+              ∙ (ap (λ ys. get_or ys (rank p) h.4.0) (sym same)
+              ∙ ap (λ n. get_or items' n h.4.0) (sym k.1)),
+          h.4.2,
+        ),
+      )
+
+  pub left_good : (edge : Edge K P) (at from : ℕ) (rest : Option (Item (AnyRange K) V))
+      (start : Option (Bound K)) → IsLeftShape is_good rank items edge at from rest start
+      → IsGoodEdge is_good' edge
+  left_good Plain at from rest start h = tt
+  left_good (Cut p b) at from rest start h = (kept p h.0).0
+  left_good (Joined p) at from rest start h = (kept p h.0).0
+
+  pub right_good : (edge : Edge K P) (upto end : ℕ) (rest : Option (Item (AnyRange K) V))
+      (finish : Option (Bound K)) → IsRightShape is_good rank items edge upto end rest finish
+      → IsGoodEdge is_good' edge
+  right_good Plain upto end rest finish h = tt
+  right_good (Cut p b) upto end rest finish h = (kept p h.0).0
+  right_good (Joined p) upto end rest finish h = (kept p h.0).0
+
+  pub upto_end : (edge : Edge K P) (upto end : ℕ) (rest : Option (Item (AnyRange K) V))
+      (finish : Option (Bound K)) → IsRightShape is_good rank items edge upto end rest finish
+      → upto ≤ end
+  upto_end Plain upto end rest finish h = omega (arith, h.0)
+  upto_end (Cut p b) upto end rest finish h = omega (arith, h.2)
+  upto_end (Joined p) upto end rest finish h = omega (arith, h.2)

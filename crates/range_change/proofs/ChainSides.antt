@@ -1,0 +1,190 @@
+-- What stands on each side of a range that is cut out of a chain.
+use Rattle.std.proofs.Common.{◌≡◌, ◌∙◌, Bool, true, List, [], ◌∷◌, ◌++◌, ◌⊎◌, inl, inr}
+use Rattle.std.specs.declared.cmp.Ordering.TheVariants.{Equal}
+use Rattle.range_algebra.specs.Intervals.{Le, Lt, Every}
+use Rattle.range_algebra.specs.Orders.{lt_le, eq_le, eq_ge, le_trans, lt_not_le, lt_le_trans, le_lt_trans}
+use Rattle.range_algebra.proofs.Lists.{any_left, any_right, any_split, any_none, every_weaker, every_append}
+use Rattle.range_change.specs.Chains.{Line, IsChain, Has, Leading, IsLeft, IsRight}
+use Rattle.range_change.proofs.Chains.{same_is_symmetric, chain_left, chain_right, follows_above, chain_before, chains_join, follows_like}
+
+pub only_first : {A B : Type 0} → (B → ⊥) → A ⊎ B → A
+only_first f (inl a) = a
+only_first f (inr b) = absurd (f b)
+
+pub only_second : {A B : Type 0} → (A → ⊥) → A ⊎ B → B
+only_second f (inl a) = absurd (f a)
+only_second f (inr b) = b
+
+module _ {L V X : Type 0} (line : Line L V X) where
+  -- nothing holds a place below where all start
+  pub none_below : (p c : L) (W : V → Bool) (xs : List X) → Lt line.cmp p c
+      → Every (λ x. Le line.cmp c (line.lo x)) xs → Has line W p xs → ⊥
+  none_below p c W xs l all h =
+      any_none _ (λ x. Le line.cmp c (line.lo x)) xs all
+      (λ x le held. lt_not_le line.cmp line.total p c l
+      (le_trans line.cmp line.total c (line.lo x) p le held.0.0)) h
+
+  pub none_above : (p d : L) (W : V → Bool) (xs : List X) → Le line.cmp d p
+      → Every (λ x. Le line.cmp (line.hi x) d) xs → Has line W p xs → ⊥
+  none_above p d W xs l all h =
+      any_none _ (λ x. Le line.cmp (line.hi x) d) xs all
+      (λ x le held. lt_not_le line.cmp line.total p (line.hi x) held.0.1
+      (le_trans line.cmp line.total (line.hi x) d p le l)) h
+
+  -- a front that ends at the place at most, before what starts there at least
+  pub left_whole : (front rest : List X) (c : L) → IsChain line (front ++ rest)
+      → Every (λ x. Le line.cmp (line.hi x) c) front → Every (λ x. Le line.cmp c (line.lo x)) rest
+      → IsLeft line (front ++ rest) front c
+  left_whole front rest c chain ends starts = record {
+    chain = chain_left line front rest chain;
+    ends = ends;
+    holds =
+        λ p W alike l. (
+          any_left _ front rest,
+          λ h.
+              only_first (none_below p c W rest l starts) (any_split _ front rest h),
+        );
+  }
+
+  -- the front with the lower part of the item that the place cuts
+  pub left_cut : (front : List X) (x : X) (rest : List X) (y : X) (c : L)
+      → IsChain line (front ++ x ∷ rest) → Lt line.cmp (line.lo x) c → Le line.cmp c (line.hi x)
+      → line.cmp (line.lo y) (line.lo x) ≡ Equal → line.cmp (line.hi y) c ≡ Equal
+      → line.same (line.value y) (line.value x) ≡ true
+      → IsLeft line (front ++ x ∷ rest) (front ++ y ∷ []) c
+  left_cut front x rest y c chain starts reaches at_lo at_hi alike_value =
+      let whole = chain_right line front (x ∷ rest) chain in
+      let above = follows_above line x rest whole.1 in
+      let good : Lt line.cmp (line.lo y) (line.hi y) =
+      le_lt_trans line.cmp line.total (line.lo y) (line.lo x) (line.hi y)
+      (eq_le line.cmp line.total (line.lo y) (line.lo x) at_lo)
+      (lt_le_trans line.cmp line.total (line.lo x) c (line.hi y) starts
+      (eq_ge line.cmp line.total (line.hi y) c at_hi)) in
+      let before = chain_before line front x rest chain in
+      let leads : Leading line (line.lo y) (line.value y) front =
+      every_weaker _ _ front (λ z h. (
+        le_trans line.cmp line.total (line.hi z) (line.lo x) (line.lo y) h.0
+            (eq_ge line.cmp line.total (line.lo y) (line.lo x) at_lo),
+        λ k s.
+            h.1 (le_trans line.cmp line.total (line.lo x) (line.lo y) (line.hi z)
+            (eq_ge line.cmp line.total (line.lo y) (line.lo x) at_lo) k)
+            (line.equal.congr (line.value z) (line.value y) (line.value x) s ∙ alike_value),
+      ))
+      before in
+      record {
+        chain =
+            chains_join line front y [] (chain_left line front (x ∷ rest) chain) (good, tt) leads;
+        ends =
+            every_append _ front (y ∷ [])
+            (every_weaker _ _ front (λ z h.
+            le_trans line.cmp line.total (line.hi z) (line.lo y) c h.0
+            (le_trans line.cmp line.total (line.lo y) (line.lo x) c
+            (eq_le line.cmp line.total (line.lo y) (line.lo x) at_lo)
+            (lt_le line.cmp line.total (line.lo x) c starts))) leads)
+            (eq_le line.cmp line.total (line.hi y) c at_hi, tt);
+        holds = λ p W alike l. (
+          λ h. elim (any_split _ front (y ∷ []) h) [
+            | inl k ↦ any_left _ front (x ∷ rest) k
+            | inr k ↦ let held =
+                only_first (λ e. e) k in any_right _ front (x ∷ rest)
+                (inl (
+                  (
+                    le_trans line.cmp line.total (line.lo x) (line.lo y) p
+                        (eq_ge line.cmp line.total (line.lo y) (line.lo x) at_lo) held.0.0,
+                    lt_le_trans line.cmp line.total p c (line.hi x) l reaches,
+                  ),
+                  alike (line.value y) (line.value x) alike_value held.1,
+                ))
+          ],
+          λ h. elim (any_split _ front (x ∷ rest) h) [
+            | inl k ↦ any_left _ front (y ∷ []) k
+            | inr k ↦ let held =
+                only_first (none_below p (line.hi x) W rest
+                (lt_le_trans line.cmp line.total p c (line.hi x) l reaches) above) k in any_right
+                _ front (y ∷ [])
+                (inl (
+                  (
+                    le_trans line.cmp line.total (line.lo y) (line.lo x) p
+                        (eq_le line.cmp line.total (line.lo y) (line.lo x) at_lo) held.0.0,
+                    lt_le_trans line.cmp line.total p c (line.hi y) l
+                        (eq_ge line.cmp line.total (line.hi y) c at_hi),
+                  ),
+                  alike (line.value x) (line.value y)
+                      (same_is_symmetric line (line.value y) (line.value x) alike_value) held.1,
+                ))
+          ],
+        );
+      }
+
+  -- a back that starts at the place at least, after what ends there at most
+  pub right_whole : (rest back : List X) (d : L) → IsChain line (rest ++ back)
+      → Every (λ x. Le line.cmp (line.hi x) d) rest → Every (λ x. Le line.cmp d (line.lo x)) back
+      → IsRight line (rest ++ back) back d
+  right_whole rest back d chain ends starts = record {
+    chain = chain_right line rest back chain;
+    starts = starts;
+    holds =
+        λ p W alike l. (
+          any_right _ rest back,
+          λ h.
+              only_second (none_above p d W rest l ends) (any_split _ rest back h),
+        );
+  }
+
+  -- the upper part of the item that the place cuts, with the back
+  pub right_cut : (rest : List X) (x : X) (behind : List X) (y : X) (d : L)
+      → IsChain line (rest ++ x ∷ behind) → Le line.cmp (line.lo x) d → Lt line.cmp d (line.hi x)
+      → line.cmp (line.lo y) d ≡ Equal → line.cmp (line.hi y) (line.hi x) ≡ Equal
+      → line.same (line.value y) (line.value x) ≡ true
+      → IsRight line (rest ++ x ∷ behind) (y ∷ behind) d
+  right_cut rest x behind y d chain reaches ends at_lo at_hi alike_value =
+      let whole = chain_right line rest (x ∷ behind) chain in
+      let before = chain_before line rest x behind chain in
+      let good : Lt line.cmp (line.lo y) (line.hi y) =
+      le_lt_trans line.cmp line.total (line.lo y) d (line.hi y)
+      (eq_le line.cmp line.total (line.lo y) d at_lo)
+      (lt_le_trans line.cmp line.total d (line.hi x) (line.hi y) ends
+      (eq_ge line.cmp line.total (line.hi y) (line.hi x) at_hi)) in
+      let follows = follows_like line x y behind at_hi alike_value whole.1 in
+      let above = follows_above line x behind whole.1 in
+      let d_low = lt_le line.cmp line.total d (line.hi x) ends in
+      record {
+        chain = (good, follows);
+        starts = (
+          eq_ge line.cmp line.total (line.lo y) d at_lo,
+          every_weaker _ _ behind (λ z h.
+              le_trans line.cmp line.total d (line.hi x) (line.lo z) d_low h) above,
+        );
+        holds = λ p W alike l. (
+          λ h. any_right _ rest (x ∷ behind) (elim h [
+            | inl k ↦
+                inl (
+                  (
+                    le_trans line.cmp line.total (line.lo x) d p reaches l,
+                    lt_le_trans line.cmp line.total p (line.hi y) (line.hi x) k.0.1
+                        (eq_le line.cmp line.total (line.hi y) (line.hi x) at_hi),
+                  ),
+                  alike (line.value y) (line.value x) alike_value k.1,
+                )
+            | inr k ↦ inr k
+          ]),
+          λ h.
+              elim (only_second (none_above p d W rest l
+              (every_weaker _ _ rest (λ z e.
+              le_trans line.cmp line.total (line.hi z) (line.lo x) d e.0 reaches) before))
+              (any_split _ rest (x ∷ behind) h)) [
+                | inl k ↦
+                    inl (
+                      (
+                        le_trans line.cmp line.total (line.lo y) d p
+                            (eq_le line.cmp line.total (line.lo y) d at_lo) l,
+                        lt_le_trans line.cmp line.total p (line.hi x) (line.hi y) k.0.1
+                            (eq_ge line.cmp line.total (line.hi y) (line.hi x) at_hi),
+                      ),
+                      alike (line.value x) (line.value y)
+                          (same_is_symmetric line (line.value y) (line.value x) alike_value) k.1,
+                    )
+                | inr k ↦ inr k
+              ],
+        );
+      }

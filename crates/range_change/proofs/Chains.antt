@@ -1,0 +1,112 @@
+-- Chains in parts, and chains that are joined.
+use Rattle.std.proofs.Common.{◌≡◌, ◌∙◌, true, List, [], ◌∷◌, ◌++◌}
+use Rattle.std.specs.declared.cmp.Ordering.TheVariants.{Equal}
+use Rattle.range_algebra.specs.Intervals.{Le, Lt, Every}
+use Rattle.range_algebra.specs.Orders.{le_refl, lt_le, eq_le, le_trans, lt_not_le, lt_le_trans, le_lt_trans}
+use Rattle.range_change.specs.Chains.{Line, Leads, Trails, Follows, IsChain}
+
+module _ {L V X : Type 0} (line : Line L V X) where
+  pub same_is_symmetric : (a b : V) → line.same a b ≡ true → line.same b a ≡ true
+  same_is_symmetric a b h = line.equal.symm b a ∙ h
+
+  pub chain_left : (xs ys : List X) → IsChain line (xs ++ ys) → IsChain line xs
+  chain_left [] ys h = tt
+  chain_left (x ∷ []) ys h = (h.0, tt)
+  chain_left (x ∷ x' ∷ xs) ys h = (h.0, (h.1.0, chain_left (x' ∷ xs) ys h.1.1))
+
+  pub chain_tail : (x : X) (xs : List X) → Follows line x xs → IsChain line xs
+  chain_tail x [] h = tt
+  chain_tail x (y ∷ ys) h = h.1
+
+  pub chain_right : (xs ys : List X) → IsChain line (xs ++ ys) → IsChain line ys
+  chain_right [] ys h = h
+  chain_right (x ∷ xs) ys h = chain_right xs ys (chain_tail x (xs ++ ys) h.1)
+
+  follows_from : (low : L) (x : X) (xs : List X) → Le line.cmp low (line.hi x) → Follows line x xs
+      → Every (λ y. Le line.cmp low (line.lo y)) xs
+  follows_from low x [] h f = tt
+  follows_from low x (y ∷ ys) h f =
+      let first = le_trans line.cmp line.total low (line.hi x) (line.lo y) h f.0.0 in (
+        first,
+        follows_from low y ys (le_trans line.cmp line.total low (line.lo y) (line.hi y) first
+            (lt_le line.cmp line.total (line.lo y) (line.hi y) f.1.0)) f.1.1,
+      )
+
+  -- what follows an item starts at its end at least
+  pub follows_above : (x : X) (xs : List X) → Follows line x xs
+      → Every (λ y. Le line.cmp (line.hi x) (line.lo y)) xs
+  follows_above x xs f = follows_from (line.hi x) x xs (le_refl line.cmp line.total (line.hi x)) f
+
+  pub chain_above : (low : L) (x : X) (xs : List X) → IsChain line (x ∷ xs)
+      → Le line.cmp low (line.lo x) → Every (λ y. Le line.cmp low (line.lo y)) (x ∷ xs)
+  chain_above low x xs h le = (
+    le,
+    follows_from low x xs (le_trans line.cmp line.total low (line.lo x) (line.hi x) le
+        (lt_le line.cmp line.total (line.lo x) (line.hi x) h.0)) h.1,
+  )
+
+  pub strictly_leads : (x : X) (p : L) (v : V) → Lt line.cmp (line.hi x) p → Leads line x p v
+  strictly_leads x p v h = (
+    lt_le line.cmp line.total (line.hi x) p h,
+    λ k _. absurd (lt_not_le line.cmp line.total (line.hi x) p h k),
+  )
+
+  pub strictly_trails : (x : X) (p : L) (v : V) → Lt line.cmp p (line.lo x) → Trails line p v x
+  strictly_trails x p v h = (
+    lt_le line.cmp line.total p (line.lo x) h,
+    λ k _. absurd (lt_not_le line.cmp line.total p (line.lo x) h k),
+  )
+
+  -- all that stand before an item lead to it
+  pub chain_before : (xs : List X) (y : X) (ys : List X) → IsChain line (xs ++ y ∷ ys)
+      → Every (λ x. Leads line x (line.lo y) (line.value y)) xs
+  chain_before [] y ys h = tt
+  chain_before (x ∷ []) y ys h = (h.1.0, tt)
+  chain_before (x ∷ x' ∷ xs) y ys h =
+      let rest = chain_before (x' ∷ xs) y ys h.1.1 in
+      let strict =
+      le_lt_trans line.cmp line.total (line.hi x) (line.lo x') (line.lo y) h.1.0.0
+      (lt_le_trans line.cmp line.total (line.lo x') (line.hi x')
+      (line.lo y) h.1.1.0 rest.0.0) in
+      (strictly_leads x (line.lo y) (line.value y) strict, rest)
+
+  pub chains_join : (xs : List X) (y : X) (ys : List X) → IsChain line xs → IsChain line (y ∷ ys)
+      → Every (λ x. Leads line x (line.lo y) (line.value y)) xs → IsChain line (xs ++ y ∷ ys)
+  chains_join [] y ys h k e = k
+  chains_join (x ∷ []) y ys h k e = (h.0, (e.0, k))
+  chains_join (x ∷ x' ∷ xs) y ys h k e = (h.0, (h.1.0, chains_join (x' ∷ xs) y ys h.1.1 k e.1))
+
+  strict_follows : (x : X) (ys : List X) (c d : L) → Le line.cmp (line.hi x) c → Lt line.cmp c d
+      → IsChain line ys → Every (λ y. Le line.cmp d (line.lo y)) ys → Follows line x ys
+  strict_follows x [] c d h l k e = tt
+  strict_follows x (y ∷ ys) c d h l k e = (
+    strictly_leads x (line.lo y) (line.value y)
+        (le_lt_trans line.cmp line.total (line.hi x) c (line.lo y) h
+        (lt_le_trans line.cmp line.total c d (line.lo y) l e.0)),
+    k,
+  )
+
+  pub join_apart : (xs ys : List X) (c d : L) → Lt line.cmp c d → IsChain line xs → IsChain line ys
+      → Every (λ x. Le line.cmp (line.hi x) c) xs → Every (λ y. Le line.cmp d (line.lo y)) ys
+      → IsChain line (xs ++ ys)
+  join_apart [] ys c d l h k e f = k
+  join_apart (x ∷ []) ys c d l h k e f = (h.0, strict_follows x ys c d e.0 l k f)
+  join_apart (x ∷ x' ∷ xs) ys c d l h k e f =
+      (h.0, (h.1.0, join_apart (x' ∷ xs) ys c d l h.1.1 k e.1 f))
+
+  -- an item that follows at the same end with an equal value
+  pub follows_like : (x y : X) (ys : List X) → line.cmp (line.hi y) (line.hi x) ≡ Equal
+      → line.same (line.value y) (line.value x) ≡ true → Follows line x ys → Follows line y ys
+  follows_like x y [] e s f = tt
+  follows_like x y (z ∷ zs) e s f = (
+    (
+      le_trans line.cmp line.total (line.hi y) (line.hi x) (line.lo z)
+          (eq_le line.cmp line.total (line.hi y) (line.hi x) e) f.0.0,
+      λ k t.
+          f.0.1 (le_trans line.cmp line.total (line.lo z) (line.hi y) (line.hi x) k
+          (eq_le line.cmp line.total (line.hi y) (line.hi x) e))
+          (line.equal.congr (line.value x) (line.value y) (line.value z)
+          (same_is_symmetric (line.value y) (line.value x) s) ∙ t),
+    ),
+    f.1,
+  )

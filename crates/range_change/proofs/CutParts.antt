@@ -1,0 +1,153 @@
+-- What is left of an item that a range cuts, by places.
+use Rattle.std.proofs.Common.{◌≡◌, refl, sym, ◌∙◌, ◌↔◌, Some, None, false, IsTrue}
+use Rattle.std.specs.declared.ops.Bound.{Bound}
+use Rattle.std.specs.declared.ops.Bound.TheVariants.{Included, Excluded, Unbounded}
+use Rattle.std.specs.declared.cmp.Ordering.{Ordering}
+use Rattle.std.specs.declared.cmp.Ordering.TheVariants.{Less, Equal, Greater}
+use Rattle.std.specs.Ordering.{is_gt, is_le}
+use Rattle.std.specs.Cmp.{tied_back, tied_itself}
+use Rattle.range_keys.specs.Order.{KeyOrder, IsLawful}
+use Rattle.range_keys.specs.Position.{start_position, end_position}
+use Rattle.range_keys.specs.PositionOrder.{position_total}
+use Rattle.range_algebra.specs.declared.any.AnyRange.{AnyRange}
+use Rattle.range_algebra.specs.Range.{IsKnownBound, IsKnownRange}
+use Rattle.range_algebra.specs.Compared.{flipped}
+use Rattle.range_algebra.specs.Clones.{SameBound, same_start}
+use Rattle.range_algebra.specs.Intervals.{Lt}
+use Rattle.range_algebra.specs.Orders.{eq_le, eq_ge, le_lt_trans, lt_not_le}
+use Rattle.range_algebra.specs.Cuts.{past, upper}
+use Rattle.range_change.specs.Edits.{flipped_bound}
+use Rattle.range_algebra.proofs.Places.{reaching_is_before_past, flipped_bound_is_past, flipped_known, unbounded_start, unbounded_end}
+use Rattle.range_change.proofs.Forms.{places}
+
+module _ {K : Type 0} (order : KeyOrder K) (lawful : IsLawful order) where
+  -- bounds of one kind with equal values have equal places past them
+  pub same_past : (a b : Bound K) → SameBound order a b
+      → places order lawful (past order (end_position order a)) (past order (end_position order b))
+      ≡ Equal
+  same_past (Included a) (Included b) h = same_start order lawful (Excluded a) (Excluded b) h
+  same_past (Excluded a) (Excluded b) h =
+      let total = position_total order.cmp lawful.total in
+      let at = flipped_bound_is_past order lawful (Excluded a) (Included a) refl in
+      let other = flipped_bound_is_past order lawful (Excluded b) (Included b) refl in
+      let starts = same_start order lawful (Included a) (Included b) h in
+      total.congr (past order (end_position order (Excluded a))) (start_position order (Included a))
+      (past order (end_position order (Excluded b))) at
+      ∙ (total.congr (start_position order (Included a)) (start_position order (Included b))
+      (past order (end_position order (Excluded b))) starts
+      ∙ tied_back total (past order (end_position order (Excluded b)))
+      (start_position order (Included b)) other)
+  same_past Unbounded Unbounded h =
+      tied_itself (position_total order.cmp lawful.total)
+      (past order (end_position order Unbounded))
+  same_past (Included a) (Excluded b) h = absurd h
+  same_past (Included a) Unbounded h = absurd h
+  same_past (Excluded a) (Included b) h = absurd h
+  same_past (Excluded a) Unbounded h = absurd h
+  same_past Unbounded (Included b) h = absurd h
+  same_past Unbounded (Excluded b) h = absurd h
+
+  same_itself : (b : Bound K) → SameBound order b b
+  same_itself (Included a) = tied_itself lawful.total a
+  same_itself (Excluded a) = tied_itself lawful.total a
+  same_itself Unbounded = tt
+
+  pub known_turned : (b : Bound K) → IsKnownBound order b → IsKnownBound order (flipped_bound b)
+  known_turned (Included a) h = h
+  known_turned (Excluded a) h = h
+  known_turned Unbounded h = h
+
+  end_by : (s t b : Bound K)
+      → places order lawful (past order (end_position order t)) (start_position order s) ≡ Equal
+      → SameBound order t b
+      → places order lawful (past order (end_position order b)) (start_position order s) ≡ Equal
+  end_by s t b at h =
+      sym ((position_total order.cmp lawful.total).congr (past order (end_position order t))
+      (past order (end_position order b)) (start_position order s) (same_past t b h)) ∙ at
+
+  -- the end just before a start bound that is not the first of all
+  pub cut_end : (a s b : Bound K) → IsKnownBound order a
+      → Lt (places order lawful) (start_position order a) (start_position order s)
+      → SameBound order (flipped_bound s) b
+      → places order lawful (past order (end_position order b)) (start_position order s) ≡ Equal
+  cut_end a (Included k) b known l h =
+      end_by (Included k) (Excluded k) b
+      (flipped_bound_is_past order lawful (Excluded k) (Included k) refl) h
+  cut_end a (Excluded k) b known l h =
+      end_by (Excluded k) (Included k) b
+      (flipped_bound_is_past order lawful (Included k) (Excluded k) refl) h
+  cut_end a Unbounded b known l h =
+      absurd (lt_not_le (places order lawful) (position_total order.cmp lawful.total)
+      (start_position order a) (start_position order Unbounded) l
+      (unbounded_start order lawful a known))
+
+  start_by : (e t b : Bound K)
+      → places order lawful (past order (end_position order e)) (start_position order t) ≡ Equal
+      → SameBound order t b
+      → places order lawful (start_position order b) (past order (end_position order e)) ≡ Equal
+  start_by e t b at h =
+      let total = position_total order.cmp lawful.total in
+      tied_back total (past order (end_position order e)) (start_position order b)
+      (total.congr (past order (end_position order e)) (start_position order t)
+      (start_position order b) at ∙ same_start order lawful t b h)
+
+  -- the start just after an end bound that is not the last of all
+  pub cut_start : (a e b : Bound K) → IsKnownBound order a
+      → Lt (places order lawful) (past order (end_position order e))
+      (past order (end_position order a)) → SameBound order (flipped_bound e) b
+      → places order lawful (start_position order b) (past order (end_position order e)) ≡ Equal
+  cut_start a (Included k) b known l h =
+      start_by (Included k) (Excluded k) b
+      (flipped_bound_is_past order lawful (Included k) (Excluded k) refl) h
+  cut_start a (Excluded k) b known l h =
+      start_by (Excluded k) (Included k) b
+      (flipped_bound_is_past order lawful (Excluded k) (Included k) refl) h
+  cut_start a Unbounded b known l h =
+      absurd (lt_not_le (places order lawful) (position_total order.cmp lawful.total)
+      (past order (end_position order Unbounded)) (past order (end_position order a)) l
+      (unbounded_end order lawful a known))
+
+  pub same_turned : (b : Bound K) → SameBound order (flipped_bound b) (flipped_bound b)
+  same_turned b = same_itself (flipped_bound b)
+
+  not_past_all : (e a : Bound K) → None ≡ flipped e → IsKnownBound order a
+      → Lt (places order lawful) (past order (end_position order e))
+      (past order (end_position order a)) → ⊥
+  not_past_all (Included k) a turns known l = cc
+  not_past_all (Excluded k) a turns known l = cc
+  not_past_all Unbounded a turns known l =
+      lt_not_le (places order lawful) (position_total order.cmp lawful.total)
+      (past order (end_position order Unbounded)) (past order (end_position order a)) l
+      (unbounded_end order lawful a known)
+
+  -- nothing ends after an unbounded end
+  pub ends_never : (r i : AnyRange K) → IsKnownRange order i → None ≡ flipped r.end → IsTrue false
+      ↔ Lt (places order lawful) (upper order r) (upper order i)
+  ends_never r i known turns =
+      (λ h. absurd (cc), λ l. absurd (not_past_all r.end i.end turns known.1 l))
+
+  pub le_is : (o : Ordering) → IsTrue (is_le o) ↔ is_gt o ≡ false
+  le_is Less = (λ h. refl, λ h. refl)
+  le_is Equal = (λ h. refl, λ h. refl)
+  le_is Greater = (λ h. absurd (cc), λ h. absurd (cc))
+
+  -- a range ends after another where it reaches the start just after it
+  pub ends_after_is : (r i : AnyRange K) (s : Bound K) → IsKnownRange order r → IsKnownRange order i
+      → Some s ≡ flipped r.end
+      → IsTrue (is_le (places order lawful (start_position order s) (end_position order i.end)))
+      ↔ Lt (places order lawful) (upper order r) (upper order i)
+  ends_after_is r i s known others turns =
+      let total = position_total order.cmp lawful.total in
+      let cmp = places order lawful in
+      let at = flipped_bound_is_past order lawful r.end s (sym turns) in
+      let reach =
+      reaching_is_before_past order lawful s i.end
+      (flipped_known order lawful r.end s (sym turns) known.1) others.1 in
+      let test = le_is (cmp (start_position order s) (end_position order i.end)) in (
+        λ h. le_lt_trans cmp total (upper order r) (start_position order s) (upper order i)
+            (eq_le cmp total (upper order r) (start_position order s) at) (reach.0 (test.0 h)),
+        λ l.
+            test.1
+            (reach.1 (le_lt_trans cmp total (start_position order s) (upper order r) (upper order i)
+            (eq_ge cmp total (upper order r) (start_position order s) at) l)),
+      )

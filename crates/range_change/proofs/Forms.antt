@@ -1,0 +1,261 @@
+-- What is stored and bound, by places.
+use Rattle.std.proofs.Common.{◌≡◌, refl, sym, ◌∙◌, ◌↔◌, Option, Some, None, Bool, true, IsTrue, List, [], ◌∷◌, ◌⊎◌, inl, inr}
+use Rattle.std.specs.declared.ops.Bound.{Bound}
+use Rattle.std.specs.declared.ops.Bound.TheVariants.{Included, Excluded, Unbounded}
+use Rattle.std.specs.declared.cmp.Ordering.{Ordering}
+use Rattle.std.specs.declared.cmp.Ordering.TheVariants.{Less}
+use Rattle.std.specs.Cmp.{IsEquivalence}
+use Rattle.range_keys.specs.Order.{KeyOrder, IsLawful}
+use Rattle.range_keys.specs.Position.{start_position, end_position, position_cmp}
+use Rattle.range_keys.specs.PositionOrder.{position_total}
+use Rattle.range_keys.specs.declared.inner.position.Position.{Position}
+use Rattle.range_keys.specs.declared.inner.position.Position.TheVariants.{Beside}
+use Rattle.range_keys.specs.declared.inner.position.Side.TheVariants.{At}
+use Rattle.range_keys.proofs.Orderings.{not_both_greater_and_not, eq_is_equal, not_greater}
+use Rattle.range_algebra.specs.declared.any.AnyRange.{AnyRange}
+use Rattle.range_algebra.specs.Range.{Holds, IsKnownBound, IsKnownRange, IsEmptyRange}
+use Rattle.range_algebra.specs.Compared.{flipped, start_is_at, starts_at_end}
+use Rattle.range_store.specs.declared.storage.Item.{Item}
+use Rattle.range_algebra.specs.Intervals.{Le, Lt, Every}
+use Rattle.range_algebra.specs.Orders.{eq_ge, le_trans, lt_not_le, cases, not_le, not_lt, both}
+use Rattle.range_change.specs.Chains.{line_of, IsChain, Has, Respects, IsBoundTo, IsUnbound}
+use Rattle.range_algebra.specs.Cuts.{past, lower, upper}
+use Rattle.range_change.specs.Stored.{IsStored}
+use Rattle.range_change.specs.Bindings.{IsBound, BindsTo, Binds, IsSomeOf, IsBoundAfter, IsUnboundAfter}
+use Rattle.range_change.proofs.Listed.{IsListed, stored_list_is_listed, stored_by}
+use Rattle.range_algebra.proofs.Places.{reaching_is_before_past, flipped_bound_is_past, unbounded_end, held_between}
+
+module _ {K : Type 0} (order : KeyOrder K) (lawful : IsLawful order) where
+  abbrev pub places : Position K → Position K → Ordering
+  places = position_cmp order.cmp
+
+  -- a nonempty range starts below the place where it ends
+  pub nonempty_good : (r : AnyRange K) → IsKnownRange order r → (IsEmptyRange order r → ⊥)
+      ↔ Lt places (lower order r) (upper order r)
+  nonempty_good r known =
+      let reach = reaching_is_before_past order lawful r.start r.end known.0 known.1 in (
+        λ h.
+            reach.0 (not_greater (places (start_position order r.start) (end_position order r.end))
+            h),
+        λ h. not_both_greater_and_not
+            (places (start_position order r.start) (end_position order r.end)) (reach.1 h),
+      )
+
+  pub before_is : (e s : Bound K) → IsKnownBound order e → IsKnownBound order s
+      → places (end_position order e) (start_position order s) ≡ Less
+      ↔ Le places (past order (end_position order e)) (start_position order s)
+  before_is e s known others =
+      let total = position_total order.cmp lawful.total in
+      let reach = reaching_is_before_past order lawful s e others known in (
+        λ h. not_lt places total (past order (end_position order e)) (start_position order s)
+            (λ k. lt_not_le places total (end_position order e) (start_position order s) h
+            (reach.1 k)),
+        λ h. not_le places total (end_position order e) (start_position order s)
+            (λ k. lt_not_le places total (start_position order s)
+            (past order (end_position order e)) (reach.0 k) h),
+      )
+
+  touches_by : (e i : Bound K) (s : AnyRange K) → flipped e ≡ Some i
+      → Le places (past order (end_position order e)) (lower order s)
+      → IsTrue (start_is_at order (Some i) (lower order s))
+      ↔ Le places (lower order s) (past order (end_position order e))
+  touches_by e i s turns le =
+      let total = position_total order.cmp lawful.total in
+      let at = flipped_bound_is_past order lawful e i turns in
+      let other = eq_is_equal (places (start_position order i) (lower order s)) in (
+        λ h. le_trans places total (lower order s) (start_position order i)
+            (past order (end_position order e))
+            (eq_ge places total (start_position order i) (lower order s) (other.0 h))
+            (eq_ge places total (past order (end_position order e)) (start_position order i) at),
+        λ h.
+            other.1
+            (sym (total.congr (past order (end_position order e)) (start_position order i)
+            (lower order s) at)
+            ∙ both places total (past order (end_position order e)) (lower order s) le h),
+      )
+
+  -- a range touches another where the place past it is that of the other
+  pub touches_is : (e : Bound K) (s : AnyRange K) → IsKnownRange order s
+      → Lt places (lower order s) (upper order s)
+      → Le places (past order (end_position order e)) (lower order s)
+      → IsTrue (starts_at_end order e (lower order s))
+      ↔ Le places (lower order s) (past order (end_position order e))
+  touches_is (Included a) s known good le = touches_by (Included a) (Excluded a) s refl le
+  touches_is (Excluded a) s known good le = touches_by (Excluded a) (Included a) s refl le
+  touches_is Unbounded s known good le =
+      let total = position_total order.cmp lawful.total in (
+        λ h. absurd (cc),
+        λ h.
+            absurd (lt_not_le places total (lower order s) (upper order s) good
+            (le_trans places total (upper order s) (past order (end_position order Unbounded))
+            (lower order s) (unbounded_end order lawful s.end known.1) le)),
+      )
+
+  module _ {V : Type 0} (same : V → V → Bool) (equal : IsEquivalence same) where
+    abbrev pub Known : List (Item (AnyRange K) V) → Type 0
+    Known items = Every (λ i. IsKnownRange order i.key) items
+
+    abbrev pub Chained : List (Item (AnyRange K) V) → Type 0
+    Chained items = IsChain (line_of order lawful same equal) items
+
+    abbrev pub Hold : (V → Bool) → Position K → List (Item (AnyRange K) V) → Type 0
+    Hold W p items = Has (line_of order lawful same equal) W p items
+
+    listed_known : (items : List (Item (AnyRange K) V)) → IsListed order lawful same items
+        → Known items
+    listed_known [] h = tt
+    listed_known (i ∷ []) h = (h.0, tt)
+    listed_known (i ∷ j ∷ rest) h = (h.0, listed_known (j ∷ rest) h.4)
+
+    pub stored_known : (items : List (Item (AnyRange K) V)) → IsStored order same items
+        → Known items
+    stored_known items h = listed_known items (stored_list_is_listed order lawful same items h)
+
+    listed_chain : (items : List (Item (AnyRange K) V)) → IsListed order lawful same items
+        → Chained items
+    listed_chain [] h = tt
+    listed_chain (i ∷ []) h = ((nonempty_good i.key h.0).0 h.1, tt)
+    listed_chain (i ∷ j ∷ rest) h =
+        let known = listed_known (j ∷ rest) h.4 in
+        let chain = listed_chain (j ∷ rest) h.4 in
+        let le = (before_is i.key.end j.key.start h.0.1 known.0.0).0 h.2 in (
+          (nonempty_good i.key h.0).0 h.1,
+          ((le, λ k s. h.3 ((touches_is i.key.end j.key known.0 chain.0 le).1 k) s), chain),
+        )
+
+    pub stored_chain : (items : List (Item (AnyRange K) V)) → IsStored order same items
+        → Chained items
+    stored_chain items h = listed_chain items (stored_list_is_listed order lawful same items h)
+
+    chain_listed : (items : List (Item (AnyRange K) V)) → Known items → Chained items
+        → IsListed order lawful same items
+    chain_listed [] known chain = tt
+    chain_listed (i ∷ []) known chain = (known.0, (nonempty_good i.key known.0).1 chain.0)
+    chain_listed (i ∷ j ∷ rest) known chain = (
+      known.0,
+      (nonempty_good i.key known.0).1 chain.0,
+      (before_is i.key.end j.key.start known.0.1 known.1.0.0).1 chain.1.0.0,
+      λ touching s. chain.1.0.1
+          ((touches_is i.key.end j.key known.1.0 chain.1.1.0 chain.1.0.0).0 touching) s,
+      chain_listed (j ∷ rest) known.1 chain.1.1,
+    )
+
+    pub chain_stored : (items : List (Item (AnyRange K) V)) → Known items → Chained items
+        → IsStored order same items
+    chain_stored items known chain =
+        stored_by order lawful same items (chain_listed items known chain)
+
+    pub binds_hold : (items : List (Item (AnyRange K) V)) (k : K) (v : V) → Known items
+        → order.is_key k → BindsTo order same items k v ↔ Hold (λ u. same u v) (Beside k At) items
+    binds_hold [] k v known key = (λ h. h, λ h. h)
+    binds_hold (i ∷ rest) k v known key =
+        let own = held_between order lawful i.key k known.0 key in
+        let others = binds_hold rest k v known.1 key in (
+          λ h. elim h [ inl e ↦ inl (own.0 e.0, e.1) | inr e ↦ inr (others.0 e) ],
+          λ h. elim h [ inl e ↦ inl (own.1 e.0, e.1) | inr e ↦ inr (others.1 e) ],
+        )
+
+    pub bound_hold : (items : List (Item (AnyRange K) V)) (k : K) → Known items → order.is_key k
+        → IsBound order items k ↔ Hold (λ u. true) (Beside k At) items
+    bound_hold [] k known key = (λ h. h, λ h. h)
+    bound_hold (i ∷ rest) k known key =
+        let own = held_between order lawful i.key k known.0 key in
+        let others = bound_hold rest k known.1 key in (
+          λ h. elim h [ inl e ↦ inl (own.0 e, refl) | inr e ↦ inr (others.0 e) ],
+          λ h. elim h [ inl e ↦ inl (own.1 e.0) | inr e ↦ inr (others.1 e) ],
+        )
+
+    respects_same : (v : V) → Respects (line_of order lawful same equal) (λ u. same u v)
+    respects_same v a b s h = sym (equal.congr a b v s) ∙ h
+
+    pub respects_any : Respects (line_of order lawful same equal) (λ u. true)
+    respects_any a b s h = h
+
+    pub unheld_lies_outside : (r : AnyRange K) (k : K) → IsKnownRange order r → order.is_key k
+        → (Holds order r k → ⊥)
+        → Lt places (Beside k At) (lower order r) ⊎ Le places (upper order r) (Beside k At)
+    unheld_lies_outside r k known key h =
+        let total = position_total order.cmp lawful.total in
+        elim (cases places total (Beside k At) (lower order r)) [
+          | inl l ↦ inl l
+          | inr from ↦
+              inr (not_lt places total (upper order r) (Beside k At)
+              (λ upto. h ((held_between order lawful r k known key).1 (from, upto))))
+        ]
+
+    pub same_binds : (before after : List (Item (AnyRange K) V)) (k : K) → Known before
+        → Known after → order.is_key k
+        → ((W : V → Bool) → Respects (line_of order lawful same equal) W
+        → Hold W (Beside k At) after ↔ Hold W (Beside k At) before) → (b : Option V)
+        → Binds order same after k b ↔ Binds order same before k b
+    same_binds before after k known known' key f (Some v) =
+        let own = f (λ u. same u v) (respects_same v) in
+        let old = binds_hold before k v known key in
+        let new = binds_hold after k v known' key in
+        (λ h. old.1 (own.0 (new.0 h)), λ h. new.1 (own.1 (old.0 h)))
+    same_binds before after k known known' key f None =
+        let own = f (λ u. true) respects_any in
+        let old = bound_hold before k known key in
+        let new = bound_hold after k known' key in
+        (λ h e. h (new.1 (own.1 (old.0 e))), λ h e. h (old.1 (own.0 (new.0 e))))
+
+    inside_bound : (before after : List (Item (AnyRange K) V)) (r : AnyRange K) (v : V) (k : K)
+        → Known after → order.is_key k
+        → IsBoundTo (line_of order lawful same equal) before after (lower order r) (upper order r) v
+        → Le places (lower order r) (Beside k At) → Lt places (Beside k At) (upper order r)
+        → (b : Option V) → Binds order same after k b ↔ IsSomeOf order same v b
+    inside_bound before after r v k known key changed from upto (Some w) =
+        let own = changed.inside (Beside k At) (λ u. same u w) (respects_same w) from upto in
+        let new = binds_hold after k w known key in
+        (λ h. own.0 (new.0 h), λ h. new.1 (own.1 h))
+    inside_bound before after r v k known key changed from upto None = (
+      λ h.
+          h ((bound_hold after k known key).1
+          ((changed.inside (Beside k At) (λ u. true) respects_any from upto).1 refl)),
+      λ h. absurd h,
+    )
+
+    pub bound_after : (before after : List (Item (AnyRange K) V)) (r : AnyRange K) (v : V)
+        → IsKnownRange order r → Known before → Known after
+        → IsBoundTo (line_of order lawful same equal) before after (lower order r) (upper order r) v
+        → IsBoundAfter order same before after r v
+    bound_after before after r v known_range known known' changed = record {
+      held = λ k key h. let within =
+          (held_between order lawful r k known_range key).0 h in inside_bound before after r v k
+          known' key changed within.0 within.1;
+      others =
+          λ k key h. same_binds before after k known known' key
+          (λ W alike. changed.outside (Beside k At) W alike
+          (unheld_lies_outside r k known_range key h));
+    }
+
+    inside_unbound : (before after : List (Item (AnyRange K) V)) (r : AnyRange K) (k : K)
+        → Known after → order.is_key k
+        → IsUnbound (line_of order lawful same equal) before after (lower order r) (upper order r)
+        → Le places (lower order r) (Beside k At) → Lt places (Beside k At) (upper order r)
+        → (b : Option V) → Binds order same after k b ↔ (b ≡ None)
+    inside_unbound before after r k known key changed from upto (Some w) = (
+      λ h.
+          absurd (changed.inside (Beside k At) (λ u. same u w) from upto
+          ((binds_hold after k w known key).0 h)),
+      λ h. absurd (cc),
+    )
+    inside_unbound before after r k known key changed from upto None = (
+      λ h. refl,
+      λ h e. changed.inside (Beside k At) (λ u. true) from upto
+          ((bound_hold after k known key).0 e),
+    )
+
+    pub unbound_after : (before after : List (Item (AnyRange K) V)) (r : AnyRange K)
+        → IsKnownRange order r → Known before → Known after
+        → IsUnbound (line_of order lawful same equal) before after (lower order r) (upper order r)
+        → IsUnboundAfter order same before after r
+    unbound_after before after r known_range known known' changed = record {
+      held = λ k key h. let within =
+          (held_between order lawful r k known_range key).0 h in inside_unbound before after r k
+          known' key changed within.0 within.1;
+      others =
+          λ k key h. same_binds before after k known known' key
+          (λ W alike. changed.outside (Beside k At) W alike
+          (unheld_lies_outside r k known_range key h));
+    }

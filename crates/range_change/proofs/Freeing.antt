@@ -1,0 +1,25 @@
+-- Where a range meets no stored one, no item is cut beside it, and what is made of the list is in
+-- its
+-- form.
+use Rattle.std.proofs.Common.{◌≡◌, refl, Bool, List, Option, Some, None, Result, Ok, Err, OnOk, OnErr}
+use Rattle.std.specs.declared.ops.Bound.{Bound}
+use Rattle.range_keys.specs.Order.{KeyOrder}
+use Rattle.range_algebra.specs.declared.any.AnyRange.{AnyRange}
+use Rattle.range_store.specs.declared.storage.Item.{Item}
+use Rattle.range_change.specs.Changes.{IsInserted}
+use Rattle.range_change.specs.Edges.{seam_edge}
+use Rattle.range_change.specs.Stored.{IsStored}
+
+-- so it is the same where it would be cut
+pub seam_alike : {K P : Type 0} (found : Option P) (b c : Bound K)
+    → seam_edge found None b ≡ seam_edge found None c
+seam_alike None b c = refl
+seam_alike (Some q) b c = refl
+
+module _ {K : Type 0} (order : KeyOrder K) {V : Type 0} (same : V → V → Bool) where
+  -- what was inserted or refused is in stored form
+  pub form_after : {A E : Type 0} (answer : Result A E) (items new : List (Item (AnyRange K) V))
+      (r : AnyRange K) (v : V) → OnOk answer (IsInserted order same items new r v)
+      → OnErr answer (new ≡ items) → IsStored order same items → IsStored order same new
+  form_after (Ok a) items new r v done refused form = done.stored
+  form_after (Err e) items new r v done refused form = rw refused form

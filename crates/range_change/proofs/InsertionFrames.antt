@@ -1,0 +1,453 @@
+-- Which items give way to a range, and what stands in their place.
+use Rattle.std.proofs.Common.{◌≡◌, ℕ, zero, suc, ◌+◌, ◌-◌, ◌<◌, ◌≤◌, List, [], ◌∷◌, ◌++◌, length, take, drop, get_or, refl, ap, sym, ◌∙◌, arith, subst, Option, Some, None, Bool, true, IsTrue, ◌⊎◌, inl, inr, length-append, length-drop, append_assoc}
+use Rattle.std.proofs.lemmas.List.{append-nil, get_or-drop, get_or-take, drop-take, drop-drop, take_more, length-take-le}
+use Rattle.std.specs.Cmp.{IsEquivalence}
+use Rattle.std.specs.Option.{unwrap_or}
+use Rattle.std.specs.declared.ops.Bound.{Bound}
+use Rattle.range_keys.specs.Order.{KeyOrder, IsLawful}
+use Rattle.range_keys.specs.PositionOrder.{position_total}
+use Rattle.range_algebra.specs.declared.any.AnyRange.{AnyRange}
+use Rattle.range_algebra.specs.Range.{IsKnownRange}
+use Rattle.range_algebra.specs.Intervals.{Le, Lt, Any, Every}
+use Rattle.range_algebra.specs.Orders.{lt_trans, lt_not_le, le_lt_trans}
+use Rattle.range_change.specs.Chains.{line_of}
+use Rattle.range_change.proofs.Chains.{chain_before}
+use Rattle.range_algebra.specs.Cuts.{lower, upper}
+use Rattle.range_algebra.proofs.Lists.{list_is_take_and_drop, parts_at, every_at, any_left, any_right, any_none, every_weaker, every_append, every_left, every_right}
+use Rattle.range_change.proofs.RangeSides.{element_at}
+use Rattle.range_store.specs.declared.storage.Item.{Item}
+use Rattle.range_change.specs.Stored.{item_lower, item_upper}
+use Rattle.range_algebra.specs.Relations.{LiesBefore}
+use Rattle.range_change.specs.Lookups.{MeetsSome, Overlap}
+use Rattle.range_change.specs.Window.{IsWindow, option_items}
+use Rattle.range_change.specs.declared.window.Window.{Window}
+use Rattle.range_change.specs.Frames.{IsStartOf, IsEndOf, HasValue, IsNewItem, IsInsertionFrame, IsPart, IsRemovalFrame}
+use Rattle.range_change.specs.Plans.{IsLeftFrame, IsRightFrame}
+use Rattle.range_change.proofs.Forms.{places, before_is, Chained, stored_known, stored_chain}
+use Rattle.range_change.proofs.Windows.{every_both}
+use Rattle.range_change.proofs.CutOut.{known_take, known_drop}
+
+any_at : {X : Type 0} (P : X → Type 0) (xs : List X) (k : ℕ) (d : X) → k < length xs
+    → P (get_or xs k d) → Any P xs
+any_at P [] k d within h = absurd (omega arith)
+any_at P (x ∷ xs) zero d within h = inl h
+any_at P (x ∷ xs) (suc k) d within h = inr (any_at P xs k d (omega arith) h)
+
+pub run_size : {X : Type 0} (xs : List X) (place count : ℕ) → place + count ≤ length xs
+    → length (take count (drop place xs)) ≡ count
+run_size xs place count within =
+    length-take-le count (drop place xs) (omega (arith, length-drop place xs))
+
+-- an item of a run
+pub any_of_run : {X : Type 0} (P : X → Type 0) (xs : List X) (place count k : ℕ) (x : X)
+    → place + count ≤ length xs → k < count → x ≡ get_or xs (place + k) x → P x
+    → Any P (take count (drop place xs))
+any_of_run P xs place count k x within lt read h =
+    let size = run_size xs place count within in
+    let there : get_or (take count (drop place xs)) k x ≡ x =
+    get_or-take count (drop place xs) k x lt ∙ (get_or-drop place xs k x ∙ sym read) in
+    any_at P (take count (drop place xs)) k x (omega (arith, size)) (rw there h)
+
+none_left : {X : Type 0} (xs ys : List X) → xs ++ ys ≡ [] → xs ≡ []
+none_left [] ys e = refl
+none_left (x ∷ xs) ys e = absurd (cc)
+
+none_right : {X : Type 0} (xs ys : List X) → xs ++ ys ≡ [] → ys ≡ []
+none_right [] ys e = e
+none_right (x ∷ xs) ys e = absurd (cc)
+
+-- a run of some items is not empty
+pub run_some : {X : Type 0} (xs : List X) (place count : ℕ) → place + count ≤ length xs → 0 < count
+    → take count (drop place xs) ≡ [] → ⊥
+run_some xs place count within some e =
+    let size = run_size xs place count within in
+    let none : length (take count (drop place xs)) ≡ 0 = ap length e in
+    omega (arith, size, none)
+
+pub parts_of : {X : Type 0} (xs : List X) (place count : ℕ)
+    → drop place xs ≡ take count (drop place xs) ++ drop (place + count) xs
+parts_of xs place count =
+    list_is_take_and_drop (drop place xs) count
+    ∙ ap (λ ys. take count (drop place xs) ++ ys) (drop-drop count place xs)
+
+pub append_reassociates : {X : Type 0} (a b c d e : List X)
+    → (a ++ b) ++ (c ++ (d ++ e)) ≡ a ++ (b ++ c ++ d) ++ e
+append_reassociates a b c d e = simp append_assoc
+
+pub reassociate_pieces : {X : Type 0} (a b c d e : List X)
+    → a ++ b ++ c ++ d ++ e ≡ a ++ (b ++ c ++ d) ++ e
+reassociate_pieces a b c d e = simp append_assoc
+
+item_is : {K V : Type 0} (m : Item (AnyRange K) V) (r : AnyRange K) (v : V) → m.key.start ≡ r.start
+    → m.key.end ≡ r.end → m.value ≡ v → m ≡ record { key = r; value = v }
+item_is {K} {V} m r v e f h =
+    let by_start : Bound K → Item (AnyRange K) V =
+    λ b. record { key = record { start = b; end = m.key.end }; value = m.value } in
+    let by_end : Bound K → Item (AnyRange K) V =
+    λ b. record { key = record { start = r.start; end = b }; value = m.value } in
+    let by_value : V → Item (AnyRange K) V = λ u. record { key = r; value = u } in
+    ap by_start e ∙ (ap by_end f ∙ ap by_value h)
+
+module _ {K : Type 0} {order : KeyOrder K} (lawful : IsLawful order) {V : Type 0}
+    {same : V → V → Bool} (equal : IsEquivalence same) where
+  abbrev Stored : Type 0
+  Stored = Item (AnyRange K) V
+
+  start_more : (run more : List (Item (AnyRange K) V)) (r : AnyRange K) (b : Bound K)
+      → IsStartOf order run r b → IsStartOf order (run ++ more) r b
+  start_more run more r b (inl h) = inl h
+  start_more run more r b (inr (inl h)) = inr (inl (any_left (λ i. b ≡ i.key.start) run more h))
+  start_more run more r b (inr (inr h)) = inr (inr h)
+
+  start_later : (more run : List (Item (AnyRange K) V)) (r : AnyRange K) (b : Bound K)
+      → IsStartOf order run r b → IsStartOf order (more ++ run) r b
+  start_later more run r b (inl h) = inl h
+  start_later more run r b (inr (inl h)) = inr (inl (any_right (λ i. b ≡ i.key.start) more run h))
+  start_later more run r b (inr (inr h)) = inr (inr h)
+
+  end_more : (run more : List (Item (AnyRange K) V)) (r : AnyRange K) (b : Bound K)
+      → IsEndOf order run r b → IsEndOf order (run ++ more) r b
+  end_more run more r b (inl h) = inl h
+  end_more run more r b (inr (inl h)) = inr (inl (any_left (λ i. b ≡ i.key.end) run more h))
+  end_more run more r b (inr (inr h)) = inr (inr h)
+
+  end_later : (more run : List (Item (AnyRange K) V)) (r : AnyRange K) (b : Bound K)
+      → IsEndOf order run r b → IsEndOf order (more ++ run) r b
+  end_later more run r b (inl h) = inl h
+  end_later more run r b (inr (inl h)) = inr (inl (any_right (λ i. b ≡ i.key.end) more run h))
+  end_later more run r b (inr (inr h)) = inr (inr h)
+
+  value_more : (run more : List (Item (AnyRange K) V)) (v u : V)
+      → IsTrue (same u v) ⊎ HasValue order same run u
+      → IsTrue (same u v) ⊎ HasValue order same (run ++ more) u
+  value_more run more v u (inl h) = inl h
+  value_more run more v u (inr h) = inr (any_left (λ i. IsTrue (same u i.value)) run more h)
+
+  value_later : (more run : List (Item (AnyRange K) V)) (v u : V)
+      → IsTrue (same u v) ⊎ HasValue order same run u
+      → IsTrue (same u v) ⊎ HasValue order same (more ++ run) u
+  value_later more run v u (inl h) = inl h
+  value_later more run v u (inr h) = inr (any_right (λ i. IsTrue (same u i.value)) more run h)
+
+  made_more : (run more made : List (Item (AnyRange K) V)) (r : AnyRange K) (v : V)
+      → Every (IsNewItem order same run r v) made
+      → Every (IsNewItem order same (run ++ more) r v) made
+  made_more run more made r v all =
+      every_weaker _ _ made (λ j h.
+      record {
+        start = start_more run more r j.key.start h.start;
+        end = end_more run more r j.key.end h.end;
+        value = value_more run more v j.value h.value;
+      })
+      all
+
+  made_later : (more run made : List (Item (AnyRange K) V)) (r : AnyRange K) (v : V)
+      → Every (IsNewItem order same run r v) made
+      → Every (IsNewItem order same (more ++ run) r v) made
+  made_later more run made r v all =
+      every_weaker _ _ made (λ j h.
+      record {
+        start = start_later more run r j.key.start h.start;
+        end = end_later more run r j.key.end h.end;
+        value = value_later more run v j.value h.value;
+      })
+      all
+
+  -- a value that a run has equals v where all values of the run do
+  has_equal : (run : List Stored) (u v : V) → IsTrue (same u v) ⊎ HasValue order same run u
+      → Every (λ i. IsTrue (same i.value v)) run → IsTrue (same u v)
+  has_equal run u v (inl h) all = h
+  has_equal [] u v (inr h) all = absurd h
+  has_equal (x ∷ xs) u v (inr (inl h)) all = equal.congr u x.value v h ∙ all.0
+  has_equal (x ∷ xs) u v (inr (inr h)) all = has_equal xs u v (inr h) all.1
+
+  -- so such a run leaves no rest with another value
+  no_rest : (run : List Stored) (r : AnyRange K) (v : V) (rest : Option Stored)
+      → Every (λ i. IsTrue (same i.value v)) run
+      → Every (IsNewItem order same run r v) (option_items rest)
+      → Every (λ i. ¬ IsTrue (same i.value v)) (option_items rest) → length (option_items rest) ≡ 0
+  no_rest run r v None all made apart = refl
+  no_rest run r v (Some y) all made apart =
+      absurd (apart.0 (has_equal run y.value v made.0.value all))
+
+  front_items_have_places : (xs ys : List (Item (AnyRange K) V))
+      → Chained order lawful same equal (xs ++ ys)
+      → Every (λ i. Lt (places order lawful) (item_lower order i) (item_upper order i)) xs
+  front_items_have_places [] ys h = tt
+  front_items_have_places (x ∷ []) ys h = (h.0, tt)
+  front_items_have_places (x ∷ y ∷ xs) ys h = (h.0, front_items_have_places (y ∷ xs) ys h.1.1)
+
+  module _ {P : Type 0} {is_good : P → Type 0} {rank : P → ℕ} {items : List (Item (AnyRange K) V)}
+      {r : AnyRange K} {w : Window P} {place : ℕ}
+      (window : IsWindow order same is_good rank items r w place) where
+    not_before : Every (λ i. LiesBefore order i.key r → ⊥) (drop place items)
+    not_before =
+        let cmp = places order lawful in
+        let total = position_total order.cmp lawful.total in
+        every_weaker _ _ (drop place items)
+        (λ i h k. lt_not_le cmp total (lower order r) (item_upper order i) h.1
+        ((before_is order lawful i.key.end r.start h.0.1 window.known.0).0 k))
+        (every_both (λ i. IsKnownRange order i.key) _ (drop place items)
+        (known_drop order lawful same equal items place
+        (stored_known order lawful same equal items window.stored)) window.above)
+
+    window_items_reach_range : (d : Item (AnyRange K) V) → 0 < w.count
+        → Every (λ i. LiesBefore order r i.key → ⊥) (take (place + w.count) items)
+    window_items_reach_range d some =
+        let cmp = places order lawful in
+        let total = position_total order.cmp lawful.total in
+        let chain = stored_chain order lawful same equal items window.stored in
+        let all = stored_known order lawful same equal items window.stored in
+        let end = place + w.count in
+        let last = get_or items (end - 1) d in
+        let next : end - 1 + 1 ≡ end = omega (arith, some) in
+        let within : end - 1 < length items = omega (arith, some, window.in_range) in
+        let split = parts_at items (end - 1) d within in
+        let ordered =
+        chain_before (line_of order lawful same equal) (take (end - 1) items) last
+        (drop (end - 1 + 1) items) (rw split at chain) in
+        let meets = window.meets d some in
+        let full =
+        front_items_have_places (take (end - 1) items) (last ∷ drop (end - 1 + 1) items)
+        (rw split at chain) in
+        every_weaker _ _ (take end items)
+        (λ i h k. lt_not_le cmp total (item_lower order i) (upper order r) h.1
+        ((before_is order lawful r.end i.key.start window.known.1 h.0.0).0 k))
+        (every_both (λ i. IsKnownRange order i.key) _ (take end items)
+        (known_take order lawful same equal items end all)
+        (subst (λ (ys : List (Item (AnyRange K) V)). Every
+        (λ i. Lt cmp (item_lower order i) (upper order r)) ys)
+        (sym (take_more items (end - 1) d within) ∙ ap (λ n. take n items) next)
+        (every_append _ (take (end - 1) items) (last ∷ [])
+        (every_weaker _ _ (take (end - 1) items)
+        (λ i h. lt_trans cmp total (item_lower order i) (item_upper order i) (upper order r) h.1
+        (le_lt_trans cmp total (item_upper order i) (item_lower order last)
+        (upper order r) h.0.0 meets)) (every_both _ _ (take (end - 1) items) ordered full))
+        (meets, tt))))
+
+    -- each item of the window meets the range
+    pub window_meets : (d : Item (AnyRange K) V) → 0 < w.count
+        → Every (λ i. Overlap order i.key r) (take w.count (drop place items))
+    window_meets d some =
+        let before =
+        every_left (λ i. LiesBefore order i.key r → ⊥) (take w.count (drop place items))
+        (drop w.count (drop place items))
+        (rw (list_is_take_and_drop (drop place items) w.count) at not_before) in
+        let front = take (place + w.count) items in
+        let behind =
+        every_right (λ i. LiesBefore order r i.key → ⊥) (take place front)
+        (drop place front) (rw (list_is_take_and_drop front place) at
+        (window_items_reach_range d some)) in
+        every_both (λ i. LiesBefore order i.key r → ⊥) (λ i. LiesBefore order r i.key → ⊥)
+        (take w.count (drop place items)) before (rw (drop-take place w.count items) at behind)
+
+    meets_by : (n : ℕ) → w.count ≡ n
+        → Every (λ i. Overlap order i.key r) (take w.count (drop place items))
+    meets_by zero e = rw e tt
+    meets_by (suc n) e =
+        window_meets (element_at items place (omega (arith, e, window.in_range))) (omega arith)
+
+    pub all_meet : Every (λ i. Overlap order i.key r) (take w.count (drop place items))
+    all_meet = meets_by w.count refl
+
+    -- a window that is not empty holds an item that meets the range
+    pub meets_some : 0 < w.count → MeetsSome order items r
+    meets_some some =
+        let within : place < length items = omega (arith, some, window.in_range) in
+        let x = element_at items place within in
+        let size = run_size items place w.count window.in_range in
+        let met =
+        every_at (λ i. Overlap order i.key r) (take w.count (drop place items)) 0 x all_meet
+        (omega (arith, size)) in
+        let plus : place + 0 ≡ place = omega arith in
+        let there : get_or (take w.count (drop place items)) 0 x ≡ get_or items place x =
+        get_or-take w.count (drop place items) 0 x some
+        ∙ (get_or-drop place items 0 x ∙ ap (λ n. get_or items n x) plus) in
+        any_at (λ i. Overlap order i.key r) items place x within
+        (subst (λ (y : Item (AnyRange K) V). Overlap order y.key r) there met)
+
+    pub some_meets : 0 < w.count → Every (λ i. Overlap order i.key r → ⊥) items → ⊥
+    some_meets some none =
+        any_none (λ i. Overlap order i.key r) (λ i. Overlap order i.key r → ⊥) items none
+        (λ i no met. no met) (meets_some some)
+
+    -- an empty window leaves no item that meets the range
+    pub none_meets : w.count ≡ 0 → Every (λ i. Overlap order i.key r → ⊥) items
+    none_meets none =
+        let all = stored_known order lawful same equal items window.stored in
+        let at : place + w.count ≡ place = omega (arith, none) in
+        let behind : Every (λ i. Le (places order lawful) (upper order r) (item_lower order i))
+        (drop place items) = rw at at window.behind in
+        let before =
+        every_weaker _ _ (take place items)
+        (λ i h m.
+        m.0 ((before_is order lawful i.key.end r.start h.0.1 window.known.0).1 h.1))
+        (every_both (λ i. IsKnownRange order i.key) _ (take place items)
+        (known_take order lawful same equal items place all) window.below) in
+        let after =
+        every_weaker _ _ (drop place items)
+        (λ i h m.
+        m.1 ((before_is order lawful r.end i.key.start window.known.1 h.0.0).1 h.1))
+        (every_both (λ i. IsKnownRange order i.key) _ (drop place items)
+        (known_drop order lawful same equal items place all) behind) in
+        rw (list_is_take_and_drop items place)
+        (every_append (λ i. Overlap order i.key r → ⊥) (take place items)
+        (drop place items) before after)
+
+    -- nothing gives way to nothing
+    pub not_cut : IsRemovalFrame order same items items r
+    not_cut = record {
+      front = items;
+      run = [];
+      others = [];
+      behind = [];
+      before = sym (append-nil (items ++ []) ∙ append-nil items);
+      after = sym (append-nil (items ++ []) ∙ append-nil items);
+      such = record { concerned = tt; few = omega arith; whole = λ e. refl; made = tt };
+    }
+
+    pub cut_way : (new : List (Item (AnyRange K) V)) (left right : Option (Item (AnyRange K) V))
+        → 0 < w.count →
+        Every (IsPart order same (take w.count (drop place items)) r) (option_items left)
+        → Every (IsPart order same (take w.count (drop place items)) r) (option_items right) →
+        length (option_items left) ≤ 1 → length (option_items right) ≤ 1 →
+        new ≡ take place items ++ option_items left ++ [] ++ option_items right
+        ++ drop (place + w.count) items →
+        IsRemovalFrame order same items new r
+    cut_way new left right some made_left made_right few_left few_right list =
+        let met = take w.count (drop place items) in
+        let size = run_size items place w.count window.in_range in
+        record {
+          front = take place items;
+          run = met;
+          others = option_items left ++ option_items right;
+          behind = drop (place + w.count) items;
+          before =
+              list_is_take_and_drop items place
+              ∙ (ap (λ ys. take place items ++ ys) (parts_of items place w.count)
+              ∙ sym (append_assoc (take place items) met (drop (place + w.count) items)));
+          after =
+              list
+              ∙ rw (append-nil (take place items ++ option_items left))
+              (ap (λ ys. ys ++ drop (place + w.count) items)
+              (append_assoc (take place items) (option_items left) (option_items right)));
+          such = record {
+            concerned = all_meet;
+            few =
+                omega (
+                  arith,
+                  some,
+                  size,
+                  few_left,
+                  few_right,
+                  length-append (option_items left) (option_items right),
+                );
+            whole = λ e. absurd (run_some items place w.count window.in_range some e);
+            made = every_append _ (option_items left) (option_items right) made_left made_right;
+          };
+        }
+
+    pub insertion_frame : (new : List (Item (AnyRange K) V)) (v : V) (m : Item (AnyRange K) V)
+        (at end : ℕ)
+        (left right : Option (Item (AnyRange K) V)) (start finish : Option (Bound K)) →
+        IsLeftFrame order same items r v place w.count at left start
+        → IsRightFrame order same items r v place w.count end right finish →
+        length (option_items left) + length (option_items right) ≤ w.count + 1 →
+        m.key.start ≡ unwrap_or start r.start → m.key.end ≡ unwrap_or finish r.end
+        → same m.value v ≡ true → (w.count ≡ 0 → m.value ≡ v) →
+        new ≡ take at items ++ option_items left ++ option_items (Some m) ++ option_items right
+        ++ drop end items →
+        IsInsertionFrame order same items new r v
+    insertion_frame new v m at end left right start finish on_left on_right few starts ends values
+        own_value list =
+        let met = take w.count (drop place items) in
+        let run = on_left.extra ++ met ++ on_right.extra in
+        let pieces = option_items left ++ option_items (Some m) ++ option_items right in
+        let size = run_size items place w.count window.in_range in
+        let regroup : run ≡ on_left.extra ++ (met ++ on_right.extra) =
+        append_assoc on_left.extra met on_right.extra in
+        let middle : drop place items ≡ met ++ drop (place + w.count) items =
+        parts_of items place w.count in
+        let made_left =
+        made_more (on_left.extra ++ met) on_right.extra
+        (option_items left) r v on_left.made in
+        let made_right : Every (IsNewItem order same run r v) (option_items right) =
+        rw regroup (made_later on_left.extra (met ++ on_right.extra)
+        (option_items right) r v on_right.made) in
+        let own_end : IsEndOf order run r m.key.end =
+        rw (
+          regroup,
+          ends,
+        ) (end_later on_left.extra (met ++ on_right.extra) r
+        (unwrap_or finish r.end) on_right.end_of) in
+        let own : IsNewItem order same run r v m = record {
+          start =
+              rw starts (start_more (on_left.extra ++ met) on_right.extra r
+              (unwrap_or start r.start) on_left.start_of);
+          end = own_end;
+          value = inl values;
+        } in
+        record {
+          front = take at items;
+          run = run;
+          others = pieces;
+          behind = drop end items;
+          before =
+              list_is_take_and_drop items place
+              ∙ (ap (λ ys. ys ++ drop place items) on_left.split
+              ∙ (ap (λ ys. (take at items ++ on_left.extra) ++ ys)
+              (middle ∙ ap (λ ys. met ++ ys) on_right.split)
+              ∙ append_reassociates (take at items) on_left.extra met on_right.extra
+              (drop end items)));
+          after =
+              list
+              ∙ reassociate_pieces (take at items) (option_items left) (option_items (Some m))
+              (option_items right) (drop end items);
+          such = record {
+            concerned =
+                every_append _ (on_left.extra ++ met) on_right.extra
+                (every_append _ on_left.extra met
+                (every_weaker _ _ on_left.extra (λ i h. inr (inl h.0, h.1)) on_left.touched)
+                (every_weaker _ _ met (λ i h. inl h) all_meet))
+                (every_weaker _ _ on_right.extra (λ i h. inr (inr h.0, h.1)) on_right.touched);
+            few =
+                omega (
+                  arith,
+                  few,
+                  size,
+                  length-append (on_left.extra ++ met) on_right.extra,
+                  length-append on_left.extra met,
+                  length-append (option_items left ++ option_items (Some m)) (option_items right),
+                  length-append (option_items left) (option_items (Some m)),
+                );
+            whole = λ e. let l =
+                on_left.whole (none_left (on_left.extra ++ met) on_right.extra e) in let k =
+                on_right.whole (none_right on_left.extra (met ++ on_right.extra)
+                (sym regroup ∙ e)) in let none : w.count ≡ 0 = sym size
+                ∙ ap length (none_right on_left.extra met
+                (none_left (on_left.extra ++ met) on_right.extra e)) in let item = item_is m r v
+                (starts ∙ ap (λ o. unwrap_or o r.start) l.1)
+                (ends ∙ ap (λ o. unwrap_or o r.end) k.1) (own_value none) in rw (l.0, k.0)
+                (ap (λ y. y ∷ []) item);
+            one = λ all.
+                let on_left_none =
+                no_rest (on_left.extra ++ met) r v left
+                (every_left (λ i. IsTrue (same i.value v))
+                (on_left.extra ++ met) on_right.extra all) on_left.made on_left.apart in
+                let on_right_none =
+                no_rest (met ++ on_right.extra) r v right
+                (every_right (λ i. IsTrue (same i.value v)) on_left.extra
+                (met ++ on_right.extra) (rw regroup at all)) on_right.made on_right.apart in
+                omega (
+                  arith,
+                  on_left_none,
+                  on_right_none,
+                  length-append (option_items left ++ option_items (Some m)) (option_items right),
+                  length-append (option_items left) (option_items (Some m)),
+                );
+            made =
+                every_append _ (option_items left ++ option_items (Some m)) (option_items right)
+                (every_append _ (option_items left) (option_items (Some m)) made_left (own, tt))
+                made_right;
+          };
+        }

@@ -1,0 +1,666 @@
+-- A middle that comes to stand within a range, and what joins it there.
+use Rattle.std.proofs.Common.{◌≡◌, ℕ, ◌+◌, ◌-◌, ◌<◌, ◌≤◌, List, [], ◌∷◌, ◌++◌, length, take, drop, refl, ap, sym, ◌∙◌, arith, subst, Option, Some, None, Bool, true, false, IsTrue, Bor, ◌⊎◌, inl, inr, append_assoc}
+use Rattle.std.proofs.lemmas.List.{append-nil}
+use Rattle.std.specs.Prelude.{slice_get, option_copied, MatchOption}
+use Rattle.std.specs.Cmp.{IsEquivalence, tied_itself}
+use Rattle.std.specs.Option.{unwrap_or}
+use Rattle.std.specs.declared.cmp.Ordering.TheVariants.{Equal}
+use Rattle.std.specs.declared.ops.Bound.{Bound}
+use Rattle.range_keys.specs.Order.{KeyOrder, IsLawful}
+use Rattle.range_keys.specs.Position.{start_position, end_position}
+use Rattle.range_keys.specs.PositionOrder.{position_total}
+use Rattle.range_keys.specs.declared.inner.position.Position.{Position}
+use Rattle.range_algebra.proofs.Lists.{any_left, any_right, every_weaker, every_append, every_left, every_right}
+use Rattle.range_change.specs.Chains.{line_of, IsLeftOf, IsRightOf}
+use Rattle.range_change.proofs.Chains.{chain_before, chain_right, follows_above}
+use Rattle.range_algebra.specs.Clones.{SameBound}
+use Rattle.range_algebra.specs.Compared.{flipped}
+use Rattle.range_algebra.specs.Cuts.{past, lower, upper}
+use Rattle.range_algebra.specs.Intervals.{Le, Lt, Any, Every}
+use Rattle.range_algebra.specs.Orders.{eq_ge, le_lt_trans, le_refl, lt_le, eq_le, le_trans, lt_trans, lt_le_trans, lt_not_le, not_lt}
+use Rattle.range_algebra.specs.Range.{IsKnownBound, IsKnownRange}
+use Rattle.range_algebra.specs.Relations.{Touches}
+use Rattle.range_algebra.specs.declared.any.AnyRange.{AnyRange}
+use Rattle.range_algebra.proofs.Places.{reaching_is_before_past, flipped_bound_is_past, flipped_known}
+use Rattle.range_store.specs.declared.storage.Item.{Item}
+use Rattle.range_store.specs.Places.{IsAt}
+use Rattle.range_change.specs.declared.edges.Edge.{Edge}
+use Rattle.range_change.specs.declared.edges.Edge.TheVariants.{Plain, Cut, Joined}
+use Rattle.range_change.specs.declared.window.Window.{Window}
+use Rattle.range_change.specs.Edges.{IsLeftShape, IsRightShape, IsRunStart, joined_count, edge_at, seam_edge, edge_start, edge_end, TouchesBefore, TouchesNoneBefore, TouchesAfter, TouchesNoneAfter}
+use Rattle.range_change.specs.Edits.{flipped_bound, with_start}
+use Rattle.range_change.specs.Frames.{HasValue}
+use Rattle.range_change.specs.Stored.{item_lower, item_upper, IsStored}
+use Rattle.range_change.specs.Pieces.{LiesIn}
+use Rattle.range_change.specs.Plans.{IsLeftPlan, IsRightPlan}
+use Rattle.range_change.specs.Reach.{ReachesBefore, ReachesAfter}
+use Rattle.range_change.specs.Replaced.{AreWithin}
+use Rattle.range_change.specs.Seams.{with_first_start, with_last_end, IsLeftCutting, IsRightCutting, IsLeftSeam, IsRightSeam}
+use Rattle.range_change.specs.Window.{IsWindow, option_items}
+use Rattle.range_change.proofs.CutOut.{known_take, known_drop}
+use Rattle.range_change.proofs.CutParts.{ends_never}
+use Rattle.range_change.proofs.OuterBounds.{last_of, regrouped_last, item_with_end, with_last, started_last}
+use Rattle.range_change.proofs.Forms.{places, Known, Chained, stored_known, stored_chain}
+use Rattle.range_change.proofs.BoundEdits.{cut_joins_none}
+use Rattle.range_change.proofs.InsertionPlans.{left_cut_plan, right_cut_plan, left_plan_free, left_joined_at, right_joined_at, right_plan_plain}
+use Rattle.range_change.proofs.Splices.{IsFilled, IsSpliced, filled_apart, filled_joined, spliced_apart, spliced_joined}
+
+pub got_only : {X : Type 0} (P : X → Type 0) (o : Option (Bor X)) (i : Bor X) → o ≡ Some i → P i.now
+    → (m : X) → option_copied o ≡ Some m → P m
+got_only P o i is h m e = let at = sym (ap option_copied is) ∙ e in let item : i.now ≡ m =
+    cc in subst P item h
+
+pub got_none : {X : Type 0} (P : X → Type 0) (o : Option (Bor X)) → o ≡ None → (m : X)
+    → option_copied o ≡ Some m → P m
+got_none P o is m e = absurd (let at = sym (ap option_copied is) ∙ e in cc)
+
+module _ {K : Type 0} (order : KeyOrder K) (lawful : IsLawful order) where
+  within_by : (part r : AnyRange K) (o : Option (Bound K)) → o ≡ flipped r.end
+      → IsKnownRange order part → IsKnownRange order r
+      → Le (places order lawful) (end_position order part.end) (end_position order r.end)
+      → Lt (places order lawful) (upper order r) (upper order part) → ⊥
+  within_by part r None turns known others within over =
+      absurd (let h : IsTrue false = (ends_never order lawful r part known turns).1 over in cc)
+  within_by part r (Some s) turns known others within over =
+      let cmp = places order lawful in
+      let total = position_total order.cmp lawful.total in
+      let at = flipped_bound_is_past order lawful r.end s (sym turns) in
+      let known_s = flipped_known order lawful r.end s (sym turns) others.1 in
+      let reach =
+      (reaching_is_before_past order lawful s part.end known_s known.1).1
+      (le_lt_trans cmp total (start_position order s) (upper order r) (upper order part)
+      (eq_ge cmp total (upper order r) (start_position order s) at) over) in
+      let back =
+      (reaching_is_before_past order lawful s r.end known_s others.1).0
+      (le_trans cmp total (start_position order s) (end_position order part.end)
+      (end_position order r.end) reach within) in
+      lt_not_le cmp total (start_position order s) (upper order r) back
+      (eq_le cmp total (upper order r) (start_position order s) at)
+
+  -- a range that ends by another's end ends by its place
+  pub within_end : (part r : AnyRange K) → IsKnownRange order part → IsKnownRange order r
+      → LiesIn order part r → Le (places order lawful) (upper order part) (upper order r)
+  within_end part r known others within =
+      not_lt (places order lawful) (position_total order.cmp lawful.total) (upper order part)
+      (upper order r) (λ over.
+      within_by part r (flipped r.end) refl known others within.ends over)
+
+joins_none_before : {K V P : Type 0} (is_good : P → Type 0) (rank : P → ℕ)
+    (items : List (Item (AnyRange K) V)) (edge : Edge K P) (at from : ℕ)
+    (rest : Option (Item (AnyRange K) V)) → IsLeftShape is_good rank items edge at from rest None
+    → joined_count edge ≡ 0
+joins_none_before is_good rank items Plain at from rest shape = refl
+joins_none_before is_good rank items (Cut p b) at from rest shape = refl
+joins_none_before is_good rank items (Joined p) at from rest shape =
+    absurd (let e = shape.4.2 in cc)
+
+joins_none_after : {K V P : Type 0} (is_good : P → Type 0) (rank : P → ℕ)
+    (items : List (Item (AnyRange K) V)) (edge : Edge K P) (upto end : ℕ)
+    (rest : Option (Item (AnyRange K) V)) → IsRightShape is_good rank items edge upto end rest None
+    → joined_count edge ≡ 0
+joins_none_after is_good rank items Plain upto end rest shape = refl
+joins_none_after is_good rank items (Cut p b) upto end rest shape = refl
+joins_none_after is_good rank items (Joined p) upto end rest shape =
+    absurd (let e = shape.4.2 in cc)
+
+-- only an item that joins gives way beyond the window
+pub seam_count : {K P : Type 0} (joined reaching : Option P) (b : Bound K)
+    → joined_count (seam_edge joined reaching b) ≡ length (option_items joined)
+seam_count None reaching b = cut_joins_none reaching b
+seam_count (Some q) reaching b = refl
+
+module _ {K : Type 0} (order : KeyOrder K) (lawful : IsLawful order) {V : Type 0}
+    (same : V → V → Bool) (equal : IsEquivalence same) where
+  abbrev pub Filled : List (Item (AnyRange K) V) → List (Item (AnyRange K) V)
+      → List (Item (AnyRange K) V) → Position K → Type 0
+  Filled items middle new c = IsFilled (line_of order lawful same equal) items middle new c
+
+  abbrev pub Spliced : List (Item (AnyRange K) V) → List (Item (AnyRange K) V)
+      → List (Item (AnyRange K) V) → AnyRange K → Type 0
+  Spliced items middle new r =
+      IsSpliced (line_of order lawful same equal) items middle new (lower order r) (upper order r)
+
+  module _ {P : Type 0} (is_good : P → Type 0) (rank : P → ℕ) (items : List (Item (AnyRange K) V))
+      (r : AnyRange K) (place count : ℕ) where
+    -- the item starts before the range ends, and ends after the range starts
+    abbrev pub Crosses : Item (AnyRange K) V → Type 0
+    Crosses i =
+        Lt (places order lawful) (item_lower order i) (upper order r)
+        × Lt (places order lawful) (lower order r) (item_upper order i)
+
+    -- one that crosses the range has the start of an item, and an equal value
+    abbrev pub TakesStartOf : Item (AnyRange K) V → List (Item (AnyRange K) V) → Type 0
+    TakesStartOf i xs =
+        Any (λ j. (j.key.start ≡ i.key.start) × Crosses j × IsTrue (same i.value j.value)) xs
+
+    abbrev pub TakesEndOf : Item (AnyRange K) V → List (Item (AnyRange K) V) → Type 0
+    TakesEndOf i xs =
+        Any (λ j. (j.key.end ≡ i.key.end) × Crosses j × IsTrue (same i.value j.value)) xs
+
+    -- the items up to the range, and the middle with the start that it joins
+    pub record IsLeftFill (middle : List (Item (AnyRange K) V)) (first : Option P) (edge : Edge K P)
+        (from : Option P) : Type 0 where
+      pub at : ℕ
+      pub begin : ℕ
+      pub rest : Option (Item (AnyRange K) V)
+      pub start : Option (Bound K)
+      pub shape : IsLeftShape is_good rank items edge at begin rest start
+      pub run : IsAt is_good rank (length items) from begin
+      pub begins : begin + joined_count edge ≡ place + length (option_items first)
+      pub filled : Filled items middle
+          ((take at items ++ option_items rest) ++ with_first_start start middle) (lower order r)
+      pub known : Known order lawful same equal
+          ((take at items ++ option_items rest) ++ with_first_start start middle)
+      pub extra : List (Item (AnyRange K) V)
+      pub split : take place items ≡ take at items ++ extra
+      pub touched : Every (λ i. Touches order i.key r
+          × TakesStartOf i (with_first_start start middle)) extra
+      pub valued : Every (λ j.
+          HasValue order same (extra ++ take count (drop place items)) j.value ⊎ HasValue order same
+          middle j.value) (option_items rest)
+
+    -- the middle with the end that it joins too, and the items after the range
+    pub record IsRightFill (middle front : List (Item (AnyRange K) V)) (start : Option (Bound K))
+        (last : Option P) (edge : Edge K P) : Type 0 where
+      pub upto : ℕ
+      pub end : ℕ
+      pub rest : Option (Item (AnyRange K) V)
+      pub finish : Option (Bound K)
+      pub shape : IsRightShape is_good rank items edge upto end rest finish
+      pub ends : upto + length (option_items last) ≡ place + count + joined_count edge
+      pub in_range : end ≤ length items
+      pub spliced : Spliced items middle
+          ((front ++ with_last_end finish (with_first_start start middle))
+          ++ (option_items rest ++ drop end items)) r
+      pub known : Known order lawful same equal
+          ((front ++ with_last_end finish (with_first_start start middle))
+          ++ (option_items rest ++ drop end items))
+      pub extra : List (Item (AnyRange K) V)
+      pub split : drop (place + count) items ≡ extra ++ drop end items
+      pub touched : Every (λ i. Touches order r i.key
+          × TakesEndOf i (with_last_end finish (with_first_start start middle))) extra
+      pub reaches : (b : Bound K) → finish ≡ Some b
+          → Lt (places order lawful) (lower order r) (past order (end_position order b))
+      pub valued : Every (λ j.
+          HasValue order same (take count (drop place items) ++ extra) j.value ⊎ HasValue order same
+          middle j.value) (option_items rest)
+
+    start_filled : (start : Option (Bound K)) (front ms : List (Item (AnyRange K) V))
+        (m : Item (AnyRange K) V) (s : Position K)
+        → places order lawful (edge_start order same start r) s ≡ Equal
+        → IsLeftOf (line_of order lawful same equal) items front (lower order r) s m.value
+        → Chained order lawful same equal (m ∷ ms)
+        → places order lawful (item_lower order m) (lower order r) ≡ Equal
+        → Filled items (m ∷ ms) (front ++ with_first_start start (m ∷ ms)) (lower order r)
+    start_filled None front ms m s starts left chain at =
+        let total = position_total order.cmp lawful.total in
+        filled_joined (line_of order lawful same equal) items front m m ms
+        (lower order r) s left chain at
+        (total.congr (item_lower order m) (lower order r) s at ∙ starts)
+        (tied_itself total (item_upper order m)) (equal.refl m.value)
+    start_filled (Some b) front ms m s starts left chain at =
+        let total = position_total order.cmp lawful.total in
+        filled_joined (line_of order lawful same equal) items front m (with_start m b) ms
+        (lower order r) s left chain at starts (tied_itself total (item_upper order m))
+        (equal.refl m.value)
+
+    start_known : (start : Option (Bound K)) (m : Item (AnyRange K) V)
+        (ms : List (Item (AnyRange K) V)) → IsKnownBound order (unwrap_or start r.start)
+        → Known order lawful same equal (m ∷ ms)
+        → Known order lawful same equal (with_first_start start (m ∷ ms))
+    start_known None m ms known all = all
+    start_known (Some b) m ms known all = ((known, all.0.1), all.1)
+
+    takes_start : (start : Option (Bound K)) (m : Item (AnyRange K) V)
+        (ms : List (Item (AnyRange K) V)) (i : Item (AnyRange K) V) → start ≡ Some i.key.start
+        → Le (places order lawful) (edge_start order same start r) (lower order r)
+        → Lt (places order lawful) (lower order r) (upper order r)
+        → Lt (places order lawful) (lower order r) (item_upper order m)
+        → IsTrue (same i.value m.value) → TakesStartOf i (with_first_start start (m ∷ ms))
+    takes_start None m ms i is le good over alike = absurd (cc)
+    takes_start (Some b) m ms i is le good over alike =
+        let bound : b ≡ i.key.start = cc in
+        inl (
+          bound,
+          (
+            le_lt_trans (places order lawful) (position_total order.cmp lawful.total)
+                (start_position order b) (lower order r) (upper order r) le good,
+            over,
+          ),
+          alike,
+        )
+
+    left_joining : (m : Item (AnyRange K) V) (ms : List (Item (AnyRange K) V)) (first : Option P)
+        (edge : Edge K P) (from : Option P)
+        → Lt (places order lawful) (lower order r) (upper order r) → IsStored order same items
+        → IsStored order same (m ∷ ms)
+        → places order lawful (item_lower order m) (lower order r) ≡ Equal
+        → IsLeftPlan order same lawful equal is_good rank items r m.value place count first edge
+        from → IsLeftFill (m ∷ ms) first edge from
+    left_joining m ms first edge from good stored middle at plan =
+        let cmp = places order lawful in
+        let total = position_total order.cmp lawful.total in
+        let chain = stored_chain order lawful same equal (m ∷ ms) middle in
+        let le =
+        le_trans cmp total (edge_start order same plan.start r) plan.side.s (lower order r)
+        (eq_le cmp total (edge_start order same plan.start r) plan.side.s plan.side.starts)
+        plan.side.left.below in
+        let over =
+        le_lt_trans cmp total (lower order r) (item_lower order m) (item_upper order m)
+        (eq_ge cmp total (item_lower order m) (lower order r) at) chain.0 in
+        record {
+          at = plan.at;
+          begin = plan.begin;
+          rest = plan.rest;
+          start = plan.start;
+          shape = plan.shape;
+          run = plan.run;
+          begins = plan.begins;
+          filled =
+              start_filled plan.start (take plan.at items ++ option_items plan.rest) ms m
+              plan.side.s plan.side.starts plan.side.left chain at;
+          known =
+              every_append _ (take plan.at items ++ option_items plan.rest)
+              (with_first_start plan.start (m ∷ ms))
+              (every_append _ (take plan.at items) (option_items plan.rest)
+              (known_take order lawful same equal items plan.at
+              (stored_known order lawful same equal items stored)) plan.side.known)
+              (start_known plan.start m ms plan.side.known_start
+              (stored_known order lawful same equal (m ∷ ms) middle));
+          extra = plan.frame.extra;
+          split = plan.frame.split;
+          touched =
+              every_weaker _ _ plan.frame.extra
+              (λ i h. (h.0, takes_start plan.start m ms i h.2 le good over h.1)) plan.frame.touched;
+          valued =
+              every_weaker _ _ (option_items plan.rest)
+              (λ j h. elim h.value [ inl e ↦ inr (inl e) | inr k ↦ inl k ]) plan.frame.made;
+        }
+
+    left_cutting : (middle : List (Item (AnyRange K) V)) (first : Option P) (edge : Edge K P)
+        (from : Option P) → IsStored order same items → IsStored order same middle
+        → Every (λ i. Lt (places order lawful) (lower order r) (item_lower order i)) middle
+        → IsLeftCutting order same lawful equal is_good rank items r place count first edge from →
+        IsLeftFill middle first edge from
+    left_cutting middle first edge from stored others starts cut =
+        let none =
+        joins_none_before is_good rank items edge place
+        (place + length (option_items first)) cut.rest cut.shape in
+        record {
+          at = place;
+          begin = place + length (option_items first);
+          rest = cut.rest;
+          start = None;
+          shape = cut.shape;
+          run = cut.run;
+          begins = omega (arith, none);
+          filled =
+              filled_apart (line_of order lawful same equal) items
+              (take place items ++ option_items cut.rest) middle (lower order r) cut.side.left
+              (stored_chain order lawful same equal middle others) starts;
+          known =
+              every_append _ (take place items ++ option_items cut.rest) middle
+              (every_append _ (take place items) (option_items cut.rest)
+              (known_take order lawful same equal items place
+              (stored_known order lawful same equal items stored)) cut.side.known)
+              (stored_known order lawful same equal middle others);
+          extra = [];
+          split = sym (append-nil (take place items));
+          touched = tt;
+          valued = every_weaker _ _ (option_items cut.rest) (λ j h. inl h) cut.valued;
+        }
+
+    all_later : (m : Item (AnyRange K) V) (ms : List (Item (AnyRange K) V))
+        → Chained order lawful same equal (m ∷ ms)
+        → Lt (places order lawful) (lower order r) (item_lower order m)
+        → Every (λ i. Lt (places order lawful) (lower order r) (item_lower order i)) (m ∷ ms)
+    all_later m ms chain later =
+        let cmp = places order lawful in
+        let total = position_total order.cmp lawful.total in
+        let above = follows_above (line_of order lawful same equal) m ms chain.1 in (
+          later,
+          every_weaker _ _ ms (λ i h.
+              lt_le_trans cmp total (lower order r) (item_upper order m) (item_lower order i)
+              (lt_trans cmp total (lower order r) (item_lower order m)
+              (item_upper order m) later chain.0) h) above,
+        )
+
+    pub left_fill : (middle : List (Item (AnyRange K) V)) (first : Option P) (edge : Edge K P)
+        (from : Option P) → Lt (places order lawful) (lower order r) (upper order r)
+        → IsStored order same items → IsStored order same middle
+        → IsLeftSeam order same lawful equal is_good rank items r place count
+        (slice_get middle 0) first edge from → IsLeftFill middle first edge from
+    left_fill [] first edge from good stored others (inl h) = absurd (let e = h.1 in cc)
+    left_fill [] first edge from good stored others (inr h) =
+        left_cutting [] first edge from stored others tt h.1
+    left_fill (m ∷ ms) first edge from good stored others (inl h) =
+        let item : h.0 ≡ m = let e = h.1 in cc in
+        left_joining m ms first edge from good stored others
+        (subst (λ (i : Item (AnyRange K) V). places order lawful (item_lower order i)
+        (lower order r) ≡ Equal) item h.2)
+        (subst (λ (i : Item (AnyRange K) V). IsLeftPlan order same lawful equal is_good rank
+        items r i.value place count first edge from) item h.3)
+    left_fill (m ∷ ms) first edge from good stored others (inr h) =
+        left_cutting (m ∷ ms) first edge from stored others
+        (all_later m ms (stored_chain order lawful same equal (m ∷ ms) others) (h.0 m refl)) h.1
+
+    alike_value : (xs : List (Item (AnyRange K) V)) (v u : V) → same u v ≡ true
+        → HasValue order same xs v → HasValue order same xs u
+    alike_value [] v u e h = h
+    alike_value (x ∷ xs) v u e (inl h) = inl (equal.congr u v x.value e ∙ h)
+    alike_value (x ∷ xs) v u e (inr h) = inr (alike_value xs v u e h)
+
+    ended_lower : (finish : Option (Bound K)) (z : Item (AnyRange K) V)
+        → places order lawful (item_lower order (item_with_end finish z)) (item_lower order z)
+        ≡ Equal
+    ended_lower None z = tied_itself (position_total order.cmp lawful.total) (item_lower order z)
+    ended_lower (Some b) z =
+        tied_itself (position_total order.cmp lawful.total) (item_lower order z)
+
+    ended_upper : (finish : Option (Bound K)) (z : Item (AnyRange K) V) (e : Position K)
+        → places order lawful (edge_end order same finish r) e ≡ Equal
+        → places order lawful (item_upper order z) (upper order r) ≡ Equal
+        → places order lawful (item_upper order (item_with_end finish z)) e ≡ Equal
+    ended_upper None z e ends at =
+        (position_total order.cmp lawful.total).congr (item_upper order z) (upper order r) e at
+        ∙ ends
+    ended_upper (Some b) z e ends at = ends
+
+    ended_value : (finish : Option (Bound K)) (z : Item (AnyRange K) V)
+        → same (item_with_end finish z).value z.value ≡ true
+    ended_value None z = equal.refl z.value
+    ended_value (Some b) z = equal.refl z.value
+
+    ended_known : (finish : Option (Bound K)) (z : Item (AnyRange K) V) → IsKnownRange order z.key
+        → IsKnownBound order (unwrap_or finish r.end)
+        → IsKnownRange order (item_with_end finish z).key
+    ended_known None z known end = known
+    ended_known (Some b) z known end = (known.0, end)
+
+    ended_end : (finish : Option (Bound K)) (z i : Item (AnyRange K) V) → finish ≡ Some i.key.end
+        → (item_with_end finish z).key.end ≡ i.key.end
+    ended_end None z i is = absurd (cc)
+    ended_end (Some b) z i is = cc
+
+    ended_same : (finish : Option (Bound K)) (z : Item (AnyRange K) V)
+        → (item_with_end finish z).value ≡ z.value
+    ended_same None z = refl
+    ended_same (Some b) z = refl
+
+    right_joining : (middle front init : List (Item (AnyRange K) V)) (m : Item (AnyRange K) V)
+        (start : Option (Bound K)) (last : Option P) (edge : Edge K P) → IsStored order same items
+        → Lt (places order lawful) (lower order r) (upper order r) → middle ≡ init ++ m ∷ []
+        → Filled items middle (front ++ with_first_start start middle) (lower order r)
+        → Known order lawful same equal (front ++ with_first_start start middle)
+        → places order lawful (item_upper order m) (upper order r) ≡ Equal
+        → IsRightPlan order same lawful equal is_good rank items r m.value place count last edge
+        → IsRightFill middle front start last edge
+    right_joining middle front init m start last edge stored good split fill known at plan =
+        let own =
+        subst (λ ys. HasValue order same ys m.value) (sym split)
+        (any_right _ init (m ∷ []) (inl (equal.refl m.value))) in
+        let total = position_total order.cmp lawful.total in
+        let s = started_last start init m in
+        let z = s.1 in
+        let body : with_first_start start middle ≡ s.0 ++ z ∷ [] =
+        ap (with_first_start start) split ∙ s.2 in
+        let other = item_with_end plan.finish z in
+        let behind = option_items plan.rest ++ drop plan.end items in
+        let grouped : front ++ with_first_start start middle ≡ (front ++ s.0) ++ z ∷ [] =
+        ap (λ ys. front ++ ys) body ∙ sym (append_assoc front s.0 (z ∷ [])) in
+        let list : (front ++ with_last_end plan.finish (with_first_start start middle))
+        ++ behind ≡ (front ++ s.0) ++ other ∷ behind =
+        ap (λ ys. (front ++ ys) ++ behind)
+        (ap (with_last_end plan.finish) body ∙ with_last plan.finish s.0 z)
+        ∙ regrouped_last front s.0 behind other in
+        let z_ends : places order lawful (item_upper order z) (upper order r) ≡ Equal =
+        subst (λ (b : Bound K). places order lawful (past order (end_position order b))
+        (upper order r) ≡ Equal) (sym s.3) at in
+        let right =
+        subst (λ (v : V). IsRightOf (line_of order lawful same equal) items behind
+        (upper order r) plan.side.e v) (sym s.4) plan.side.right in
+        let filled = subst (λ ys. Filled items middle ys (lower order r)) grouped fill in
+        let all = subst (λ ys. Known order lawful same equal ys) grouped known in
+        let known_z = every_right _ (front ++ s.0) (z ∷ []) all in
+        let cmp = places order lawful in
+        let body_end : with_last_end plan.finish (with_first_start start middle) ≡ s.0
+        ++ other ∷ [] = ap (with_last_end plan.finish) body ∙ with_last plan.finish s.0 z in
+        let full =
+        (chain_right (line_of order lawful same equal) (front ++ s.0)
+        (z ∷ []) filled.chain).0 in
+        let under =
+        le_lt_trans cmp total (item_lower order other) (item_lower order z) (upper order r)
+        (eq_le cmp total (item_lower order other) (item_lower order z)
+        (ended_lower plan.finish z))
+        (lt_le_trans cmp total (item_lower order z) (item_upper order z)
+        (upper order r) full (eq_le cmp total (item_upper order z) (upper order r) z_ends))
+        in
+        let above =
+        lt_le_trans cmp total (lower order r)
+        (upper order r) plan.side.e good plan.side.right.above in
+        let over =
+        lt_le_trans cmp total (lower order r) plan.side.e (item_upper order other) above
+        (eq_ge cmp total (item_upper order other) plan.side.e
+        (ended_upper plan.finish z plan.side.e plan.side.ends z_ends)) in
+        let same_value : m.value ≡ other.value = sym (ended_same plan.finish z ∙ s.4) in
+        let beyond =
+        lt_le_trans cmp total (lower order r) plan.side.e
+        (edge_end order same plan.finish r) above
+        (eq_ge cmp total (edge_end order same plan.finish r) plan.side.e plan.side.ends) in
+        let done =
+        spliced_joined (line_of order lawful same equal) items middle
+        (front ++ s.0) behind z other (lower order r)
+        (upper order r) plan.side.e filled good z_ends right (ended_lower plan.finish z)
+        (ended_upper plan.finish z plan.side.e plan.side.ends z_ends)
+        (ended_value plan.finish z) in
+        let known_new =
+        every_append _ (front ++ s.0) (other ∷ behind)
+        (every_left _ (front ++ s.0) (z ∷ []) all) (
+          ended_known plan.finish z known_z.0 plan.side.known_end,
+          every_append _ (option_items plan.rest) (drop plan.end items) plan.side.known
+              (known_drop order lawful same equal items plan.end
+              (stored_known order lawful same equal items stored)),
+        ) in
+        record {
+          upto = plan.upto;
+          end = plan.end;
+          rest = plan.rest;
+          finish = plan.finish;
+          shape = plan.shape;
+          ends = plan.ends;
+          in_range = plan.side.in_range;
+          spliced = subst (λ ys. Spliced items middle ys r) (sym list) done;
+          known = subst (λ ys. Known order lawful same equal ys) (sym list) known_new;
+          extra = plan.frame.extra;
+          split = plan.frame.split;
+          touched =
+              every_weaker _ _ plan.frame.extra
+              (λ i h. (
+                h.0,
+                subst (λ ys. TakesEndOf i ys) (sym body_end)
+                    (any_right _ s.0 (other ∷ [])
+                    (inl (
+                      ended_end plan.finish z i h.2,
+                      (under, over),
+                      subst (λ v. IsTrue (same i.value v)) same_value h.1,
+                    ))),
+              )) plan.frame.touched;
+          reaches = λ b is. subst (λ o. Lt cmp (lower order r) (edge_end order same o r)) is beyond;
+          valued =
+              every_weaker _ _ (option_items plan.rest)
+              (λ j h.
+              elim h.value [
+                | inl e ↦ inr (alike_value middle m.value j.value e own)
+                | inr k ↦ inl k
+              ]) plan.frame.made;
+        }
+
+    right_cutting : (middle front : List (Item (AnyRange K) V)) (start : Option (Bound K))
+        (last : Option P) (edge : Edge K P) (u : Position K) → IsStored order same items
+        → place + count ≤ length items → Le (places order lawful) (lower order r) u
+        → Lt (places order lawful) u (upper order r)
+        → Every (λ i. Le (places order lawful) (item_upper order i) u) middle
+        → Filled items middle (front ++ with_first_start start middle) (lower order r)
+        → Known order lawful same equal (front ++ with_first_start start middle)
+        → IsRightCutting order same lawful equal is_good rank items r place count last edge
+        → IsRightFill middle front start last edge
+    right_cutting middle front start last edge u stored within le lt all fill known cut =
+        let none =
+        joins_none_after is_good rank items edge cut.upto
+        (place + count) cut.rest cut.shape in
+        let behind = option_items cut.rest ++ drop (place + count) items in
+        record {
+          upto = cut.upto;
+          end = place + count;
+          rest = cut.rest;
+          finish = None;
+          shape = cut.shape;
+          ends = omega (arith, none, cut.ends);
+          in_range = within;
+          spliced =
+              spliced_apart (line_of order lawful same equal) items middle
+              (front ++ with_first_start start middle) behind (lower order r) u
+              (upper order r) fill le lt all cut.side.right;
+          known =
+              every_append _ (front ++ with_first_start start middle) behind known
+              (every_append _ (option_items cut.rest) (drop (place + count) items) cut.side.known
+              (known_drop order lawful same equal items (place + count)
+              (stored_known order lawful same equal items stored)));
+          extra = [];
+          split = refl;
+          touched = tt;
+          reaches = λ b is. absurd (cc);
+          valued =
+              every_weaker _ _ (option_items cut.rest)
+              (λ j h. inl (any_left _ (take count (drop place items)) [] h)) cut.valued;
+        }
+
+    pub right_fill : (middle front : List (Item (AnyRange K) V)) (start : Option (Bound K))
+        (last : Option P) (edge : Edge K P) → IsStored order same items → IsStored order same middle
+        → AreWithin order middle r → Lt (places order lawful) (lower order r) (upper order r)
+        → place + count ≤ length items
+        → Filled items middle (front ++ with_first_start start middle) (lower order r)
+        → Known order lawful same equal (front ++ with_first_start start middle)
+        → IsRightSeam order same lawful equal is_good rank items r place count
+        (slice_get middle (length middle - 1)) last edge → IsRightFill middle front start last edge
+    right_fill [] front start last edge stored others within good in_range fill known (inl h) =
+        absurd (let e = h.1 in cc)
+    right_fill [] front start last edge stored others within good in_range fill known (inr h) =
+        right_cutting [] front start last edge (lower order r) stored in_range
+        (le_refl (places order lawful) (position_total order.cmp lawful.total) (lower order r))
+        good tt fill known h.1
+    right_fill (x ∷ xs) front start last edge stored others within good in_range fill known
+        (inl h) =
+        let end = last_of x xs in
+        let item : h.0 ≡ end.1 = let e = sym end.3 ∙ h.1 in cc in
+        right_joining (x ∷ xs) front end.0 end.1 start last edge stored good end.2 fill known
+        (subst (λ (i : Item (AnyRange K) V). places order lawful (item_upper order i)
+        (upper order r) ≡ Equal) item h.2)
+        (subst (λ (i : Item (AnyRange K) V). IsRightPlan order same lawful equal is_good rank
+        items r i.value place count last edge) item h.3)
+    right_fill (x ∷ xs) front start last edge stored others within good in_range fill known
+        (inr h) =
+        let cmp = places order lawful in
+        let total = position_total order.cmp lawful.total in
+        let end = last_of x xs in
+        let m = end.1 in
+        let chain =
+        subst (λ ys. Chained order lawful same equal ys) end.2
+        (stored_chain order lawful same equal (x ∷ xs) others) in
+        let full = (chain_right (line_of order lawful same equal) end.0 (m ∷ []) chain).0 in
+        let before = chain_before (line_of order lawful same equal) end.0 m [] chain in
+        let below =
+        every_append (λ i. Le cmp (item_upper order i) (item_upper order m)) end.0 (m ∷ [])
+        (every_weaker _ _ end.0 (λ i k.
+        le_trans cmp total (item_upper order i) (item_lower order m)
+        (item_upper order m) k.0
+        (lt_le cmp total (item_lower order m) (item_upper order m) full)) before)
+        (le_refl cmp total (item_upper order m), tt) in
+        let inside =
+        every_right (λ i. LiesIn order i.key r) end.0 (m ∷ [])
+        (subst (λ ys. Every (λ (i : Item (AnyRange K) V). LiesIn order i.key r) ys) end.2
+        within) in
+        right_cutting (x ∷ xs) front start last edge (item_upper order m) stored in_range
+        (le_trans cmp total (lower order r) (item_lower order m)
+        (item_upper order m) inside.0.starts
+        (lt_le cmp total (item_lower order m) (item_upper order m) full)) (h.0 m end.3)
+        (subst (λ ys.
+        Every (λ (i : Item (AnyRange K) V). Le cmp (item_upper order i) (item_upper order m))
+        ys) (sym end.2) below) fill known h.1
+
+module _ {K : Type 0} {order : KeyOrder K} (lawful : IsLawful order) {V : Type 0}
+    {same : V → V → Bool} (equal : IsEquivalence same) {P : Type 0} {is_good : P → Type 0}
+    {rank : P → ℕ} {items : List (Item (AnyRange K) V)} {r : AnyRange K} {w : Window P} {place : ℕ}
+    (window : IsWindow order same is_good rank items r w place) where
+  -- an item that reaches out of the range is cut
+  pub left_cut_out : (first : Option P) (b : Bound K) (from : Option P)
+      → ReachesBefore order is_good rank items r place w.count first → IsKnownBound order b
+      → SameBound order (flipped_bound r.start) b
+      → IsAt is_good rank (length items) from (place + length (option_items first))
+      → IsLeftCutting order same lawful equal is_good rank items r place w.count first
+      (edge_at first b) from
+  left_cut_out first b from reach known_b same_b next =
+      let cut = left_cut_plan lawful equal window first b reach known_b same_b in
+      record {
+        rest = cut.rest;
+        shape = cut.shape;
+        side = cut.side;
+        run = next;
+        valued = every_weaker _ _ (option_items cut.rest) (λ j h. h.value) cut.made;
+      }
+
+  -- no item reaches out of it, and the one before may join
+  pub left_touched : (v : V) (joined : Option P) (b : Bound K) (at : Option P)
+      → ((p : P) → is_good p → rank p < length items)
+      → ReachesBefore order is_good rank items r place w.count None
+      → MatchOption joined (TouchesNoneBefore order same items place r v)
+      (λ q. is_good q × (rank q + 1 ≡ place) × TouchesBefore order same items place r v)
+      → IsRunStart is_good rank (length items) place None joined at
+      → IsLeftPlan order same lawful equal is_good rank items r v place w.count None
+      (seam_edge joined None b) at
+  left_touched v None b at in_range reach none start =
+      let plus : place + 0 ≡ place = omega arith in
+      left_plan_free lawful equal window v at
+      (subst (λ n. IsAt is_good rank (length items) at n) plus start) reach none
+  left_touched v (Some q) b at in_range reach found start =
+      rw start (left_joined_at lawful equal window v q reach found.0 found.1
+      (in_range q found.0) found.2)
+
+  right_cut_from : (last : Option P) (b : Bound K) (upto : ℕ)
+      → upto + length (option_items last) ≡ place + w.count
+      → ReachesAfter order is_good rank items r place w.count last → IsKnownBound order b
+      → SameBound order (flipped_bound r.end) b
+      → IsRightCutting order same lawful equal is_good rank items r place w.count last
+      (edge_at last b)
+  right_cut_from last b upto at reach known_b same_b =
+      let cut = right_cut_plan lawful equal window last b upto at reach known_b same_b in
+      record {
+        upto = upto;
+        rest = cut.rest;
+        shape = cut.shape;
+        side = cut.side;
+        valued = every_weaker _ _ (option_items cut.rest) (λ j h. h.value) cut.made;
+        ends = at;
+      }
+
+  pub right_cut_any : (last : Option P) (b : Bound K)
+      → ReachesAfter order is_good rank items r place w.count last → IsKnownBound order b
+      → SameBound order (flipped_bound r.end) b
+      → IsRightCutting order same lawful equal is_good rank items r place w.count last
+      (edge_at last b)
+  right_cut_any None b reach known_b same_b =
+      right_cut_from None b (place + w.count) (omega arith) reach known_b same_b
+  right_cut_any (Some p) b reach known_b same_b =
+      right_cut_from (Some p) b (place + w.count - 1) (omega (arith, reach.2)) reach known_b same_b
+
+  pub right_touched : (v : V) (joined : Option P) (b : Bound K)
+      → ((p : P) → is_good p → rank p < length items)
+      → ReachesAfter order is_good rank items r place w.count None
+      → MatchOption joined (TouchesNoneAfter order same items (place + w.count) r v)
+      (λ q. is_good q × (rank q ≡ place + w.count)
+      × TouchesAfter order same items (place + w.count) r v)
+      → IsRightPlan order same lawful equal is_good rank items r v place w.count None
+      (seam_edge joined None b)
+  right_touched v None b in_range reach none = right_plan_plain lawful equal window v reach none
+  right_touched v (Some q) b in_range reach found =
+      right_joined_at lawful equal window v q reach found.0 found.1 (in_range q found.0) found.2

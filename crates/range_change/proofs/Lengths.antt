@@ -1,0 +1,58 @@
+-- How long a list is once it was changed.
+use Rattle.std.proofs.Common.{◌≡◌, ℕ, ◌+◌, ◌≤◌, List, ◌++◌, length, take, drop, ap, arith, length-append, length-drop}
+use Rattle.std.specs.Prelude.{Option, Some, None}
+use Rattle.std.specs.declared.ops.Bound.{Bound}
+use Rattle.std.proofs.lemmas.List.{length-take-le}
+use Rattle.range_algebra.specs.declared.any.AnyRange.{AnyRange}
+use Rattle.range_store.specs.declared.storage.Item.{Item}
+use Rattle.range_change.specs.declared.edges.Edge.{Edge}
+use Rattle.range_change.specs.declared.edges.Edge.TheVariants.{Plain, Cut, Joined}
+use Rattle.range_change.specs.Edges.{IsLeftShape, IsRightShape}
+use Rattle.range_change.specs.Window.{option_items}
+
+-- an option names at most one item
+pub one_item : {T : Type 0} (o : Option T) → length (option_items o) ≤ 1
+one_item None = omega arith
+one_item (Some x) = omega arith
+
+-- what stands in the place of the items between two places
+pub changed_length : {T : Type 0} (items new a b d : List T) (at end : ℕ) → at ≤ length items
+    → end ≤ length items → new ≡ take at items ++ a ++ b ++ d ++ drop end items
+    → length new + end ≡ at + length a + length b + length d + length items
+changed_length items new a b d at end within within_end made =
+    omega (
+      arith,
+      ap length made,
+      length-append (take at items ++ a ++ b ++ d) (drop end items),
+      length-append (take at items ++ a ++ b) d,
+      length-append (take at items ++ a) b,
+      length-append (take at items) a,
+      length-take-le at items within,
+      length-drop end items,
+    )
+
+pub le_sum : (a b : ℕ) → a ≤ a + b
+le_sum a b = omega arith
+
+module _ {K V P : Type 0} (is_good : P → Type 0) (rank : P → ℕ)
+    (items : List (Item (AnyRange K) V)) where
+  -- the items that stand before a run, with the rest of a cut one
+  pub left_length : (edge : Edge K P) (at from : ℕ) (rest : Option (Item (AnyRange K) V))
+      (start : Option (Bound K)) → IsLeftShape is_good rank items edge at from rest start
+      → at + length (option_items rest) ≡ from
+  left_length Plain at from rest start h = omega (arith, h.0, ap (λ o. length (option_items o)) h.1)
+  left_length (Cut p b) at from rest start h =
+      omega (arith, h.2, ap (λ o. length (option_items o)) h.4.2)
+  left_length (Joined p) at from rest start h =
+      omega (arith, h.2, ap (λ o. length (option_items o)) h.3)
+
+  -- those after it
+  pub right_length : (edge : Edge K P) (upto end : ℕ) (rest : Option (Item (AnyRange K) V))
+      (finish : Option (Bound K)) → IsRightShape is_good rank items edge upto end rest finish
+      → end ≡ upto + length (option_items rest)
+  right_length Plain upto end rest finish h =
+      omega (arith, h.0, ap (λ o. length (option_items o)) h.1)
+  right_length (Cut p b) upto end rest finish h =
+      omega (arith, h.2, ap (λ o. length (option_items o)) h.4.2)
+  right_length (Joined p) upto end rest finish h =
+      omega (arith, h.2, ap (λ o. length (option_items o)) h.3)

@@ -1,0 +1,175 @@
+-- A list whose first item has another start, and its last another end.
+use Rattle.std.proofs.Common.{◌≡◌, ◌+◌, ◌-◌, ◌<◌, ◌≤◌, ℕ, suc, List, [], ◌∷◌, ◌++◌, length, take, drop, get_or, refl, ap, sym, ◌∙◌, arith, Option, Some, None, Bool, inl, inr, length-append, append_assoc}
+use Rattle.std.proofs.lemmas.List.{append-nil, take_at, drop_at, drop-drop, length-take-le}
+use Rattle.std.proofs.Math.ListN.{set}
+use Rattle.std.specs.Prelude.{slice_get}
+use Rattle.std.specs.Cmp.{IsEquivalence}
+use Rattle.std.specs.declared.ops.Bound.{Bound}
+use Rattle.range_keys.specs.Order.{KeyOrder}
+use Rattle.range_algebra.proofs.Lists.{every_weaker}
+use Rattle.range_algebra.specs.Intervals.{Any, Every}
+use Rattle.range_algebra.specs.declared.any.AnyRange.{AnyRange}
+use Rattle.range_store.specs.declared.storage.Item.{Item}
+use Rattle.range_change.specs.Edits.{with_start, with_end}
+use Rattle.range_change.specs.Frames.{HasValue}
+use Rattle.range_change.specs.Seams.{with_first_start, with_last_end}
+
+-- the last of some items
+pub last_of : {X : Type 0} (x : X) (xs : List X)
+    → (front : List X) × (m : X) × (x ∷ xs ≡ front ++ m ∷ [])
+    × (slice_get (x ∷ xs) (length (x ∷ xs) - 1) ≡ Some m)
+last_of x [] = ([], x, refl, refl)
+last_of x (y ∷ ys) =
+    let rest = last_of y ys in
+    let at : length (x ∷ y ∷ ys) - 1 ≡ suc (length (y ∷ ys) - 1) = omega arith in
+    (x ∷ rest.0, rest.1, ap (λ zs. x ∷ zs) rest.2, ap (slice_get (x ∷ y ∷ ys)) at ∙ rest.3)
+
+pub regrouped_last : {X : Type 0} (a b c : List X) (z : X)
+    → (a ++ (b ++ z ∷ [])) ++ c ≡ (a ++ b) ++ z ∷ c
+regrouped_last a b c z = simp append_assoc
+
+-- some of a run gave way to the items before, and one more gives way
+pub put_next : {X : Type 0} (before now new done : List X) (place left less fewer : ℕ) (x : X)
+    → now ≡ take place before ++ done ++ drop (place + (left - less)) before
+    → less ≡ left - length done → place + left ≤ length before → fewer ≡ less - 1
+    → new ≡ take (place + length done) now ++ x ∷ drop (place + length done + (less - fewer)) now
+    → new ≡ take place before ++ (done ++ x ∷ []) ++ drop (place + (left - fewer)) before
+put_next before now new done place left less fewer x was few within one changed =
+    let size : length (take place before ++ done) ≡ place + length done =
+    length-append (take place before) done
+    ∙ ap (λ n. n + length done) (length-take-le place before (omega (arith, within))) in
+    let kept : take (place + length done) now ≡ take place before ++ done =
+    ap (take (place + length done)) was
+    ∙ take_at (take place before ++ done) (drop (place + (left - less)) before)
+    (place + length done) size in
+    let rest : drop (place + length done) now ≡ drop (place + (left - less)) before =
+    ap (drop (place + length done)) was
+    ∙ drop_at (take place before ++ done) (drop (place + (left - less)) before)
+    (place + length done) size in
+    let index : place + (left - less) + (less - fewer) ≡ place + (left - fewer) =
+    omega (arith, few, one) in
+    let tail : drop (place + length done + (less - fewer)) now
+    ≡ drop (place + (left - fewer)) before =
+    sym (drop-drop (less - fewer) (place + length done) now)
+    ∙ (ap (drop (less - fewer)) rest
+    ∙ (drop-drop (less - fewer) (place + (left - less)) before ∙ ap (λ n. drop n before) index))
+    in
+    changed
+    ∙ (ap (λ ys. ys ++ x ∷ drop (place + length done + (less - fewer)) now) kept
+    ∙ (ap (λ ys. (take place before ++ done) ++ x ∷ ys) tail
+    ∙ sym (regrouped_last (take place before) done (drop (place + (left - fewer)) before) x)))
+
+-- the rest of the run is removed
+pub put_all : {X : Type 0} (before now new done : List X) (place left less : ℕ)
+    → now ≡ take place before ++ done ++ drop (place + (left - less)) before
+    → less ≡ left - length done → place + left ≤ length before
+    → new ≡ take (place + length done) now ++ drop (place + length done + less) now
+    → new ≡ take place before ++ done ++ drop (place + left) before
+put_all before now new done place left less was few within changed =
+    let size : length (take place before ++ done) ≡ place + length done =
+    length-append (take place before) done
+    ∙ ap (λ n. n + length done) (length-take-le place before (omega (arith, within))) in
+    let kept : take (place + length done) now ≡ take place before ++ done =
+    ap (take (place + length done)) was
+    ∙ take_at (take place before ++ done) (drop (place + (left - less)) before)
+    (place + length done) size in
+    let rest : drop (place + length done) now ≡ drop (place + (left - less)) before =
+    ap (drop (place + length done)) was
+    ∙ drop_at (take place before ++ done) (drop (place + (left - less)) before)
+    (place + length done) size in
+    let index : place + (left - less) + less ≡ place + left = omega (arith, few) in
+    let tail : drop (place + length done + less) now ≡ drop (place + left) before =
+    sym (drop-drop less (place + length done) now)
+    ∙ (ap (drop less) rest
+    ∙ (drop-drop less (place + (left - less)) before ∙ ap (λ n. drop n before) index)) in
+    changed
+    ∙ (ap (λ ys. ys ++ drop (place + length done + less) now) kept
+    ∙ ap (λ ys. (take place before ++ done) ++ ys) tail)
+
+module _ {K V : Type 0} where
+  abbrev pub item_with_end : Option (Bound K) → Item (AnyRange K) V → Item (AnyRange K) V
+  item_with_end None z = z
+  item_with_end (Some b) z = with_end z b
+
+  pub with_last : (finish : Option (Bound K)) (front : List (Item (AnyRange K) V))
+      (z : Item (AnyRange K) V)
+      → with_last_end finish (front ++ z ∷ []) ≡ front ++ item_with_end finish z ∷ []
+  with_last None front z = refl
+  with_last (Some b) [] z = refl
+  with_last (Some b) (i ∷ []) z = refl
+  with_last (Some b) (i ∷ j ∷ rest) z = ap (λ ys. i ∷ ys) (with_last (Some b) (j ∷ rest) z)
+
+  -- another start at the front leaves the last item its end and its value
+  pub started_last : (start : Option (Bound K)) (front : List (Item (AnyRange K) V))
+      (m : Item (AnyRange K) V)
+      → (more : List (Item (AnyRange K) V)) × (z : Item (AnyRange K) V)
+      × (with_first_start start (front ++ m ∷ []) ≡ more ++ z ∷ []) × (z.key.end ≡ m.key.end)
+      × (z.value ≡ m.value)
+  started_last None front m = (front, m, refl, refl, refl)
+  started_last (Some b) [] m = ([], with_start m b, refl, refl, refl)
+  started_last (Some b) (i ∷ rest) m = (with_start i b ∷ rest, m, refl, refl, refl)
+
+  pub length_started : (start : Option (Bound K)) (xs : List (Item (AnyRange K) V))
+      → length (with_first_start start xs) ≡ length xs
+  length_started None xs = refl
+  length_started (Some b) [] = refl
+  length_started (Some b) (i ∷ rest) = refl
+
+  pub length_ended : (finish : Option (Bound K)) (xs : List (Item (AnyRange K) V))
+      → length (with_last_end finish xs) ≡ length xs
+  length_ended None xs = refl
+  length_ended (Some b) [] = refl
+  length_ended (Some b) (i ∷ []) = refl
+  length_ended (Some b) (i ∷ j ∷ rest) = let more =
+      length_ended (Some b) (j ∷ rest) in omega (arith, more)
+
+  pub every_started : (P : V → Type 0) (start : Option (Bound K)) (xs : List (Item (AnyRange K) V))
+      → Every (λ j. P j.value) xs → Every (λ j. P j.value) (with_first_start start xs)
+  every_started P None xs h = h
+  every_started P (Some b) [] h = h
+  every_started P (Some b) (i ∷ rest) h = h
+
+  pub every_ended : (P : V → Type 0) (finish : Option (Bound K)) (xs : List (Item (AnyRange K) V))
+      → Every (λ j. P j.value) xs → Every (λ j. P j.value) (with_last_end finish xs)
+  every_ended P None xs h = h
+  every_ended P (Some b) [] h = h
+  every_ended P (Some b) (i ∷ []) h = h
+  every_ended P (Some b) (i ∷ j ∷ rest) h = (h.0, every_ended P (Some b) (j ∷ rest) h.1)
+
+  pub any_ended : (P : Item (AnyRange K) V → Type 0) (finish : Option (Bound K))
+      (xs : List (Item (AnyRange K) V))
+      → ((i : Item (AnyRange K) V) (b : Bound K) → finish ≡ Some b → P i → P (with_end i b))
+      → Any P xs → Any P (with_last_end finish xs)
+  any_ended P None xs f h = h
+  any_ended P (Some b) [] f h = h
+  any_ended P (Some b) (i ∷ []) f (inl h) = inl (f i b refl h)
+  any_ended P (Some b) (i ∷ []) f (inr h) = absurd h
+  any_ended P (Some b) (i ∷ j ∷ rest) f (inl h) = inl h
+  any_ended P (Some b) (i ∷ j ∷ rest) f (inr h) = inr (any_ended P (Some b) (j ∷ rest) f h)
+
+  -- a write of the last item's end
+  pub set_last : (xs : List (Item (AnyRange K) V)) (x : Item (AnyRange K) V) (b : Bound K)
+      → 0 < length xs → x ≡ get_or xs (length xs - 1) x
+      → set xs (length xs - 1) (with_end x b) ≡ with_last_end (Some b) xs
+  set_last [] x b some e = absurd (omega arith)
+  set_last (i ∷ []) x b some e = ap (λ y. with_end y b ∷ []) e
+  set_last (i ∷ j ∷ rest) x b some e =
+      let at : length (i ∷ j ∷ rest) - 1 ≡ suc (length (j ∷ rest) - 1) = omega arith in
+      let read : x ≡ get_or (j ∷ rest) (length (j ∷ rest) - 1) x =
+      e ∙ ap (λ n. get_or (i ∷ j ∷ rest) n x) at in
+      ap (λ n. set (i ∷ j ∷ rest) n (with_end x b)) at
+      ∙ ap (λ ys. i ∷ ys) (set_last (j ∷ rest) x b (omega arith) read)
+
+  -- each item has the value of one of them
+  pub own_values : (order : KeyOrder K) (same : V → V → Bool) → IsEquivalence same
+      → (xs : List (Item (AnyRange K) V)) → Every (λ j. HasValue order same xs j.value) xs
+  own_values order same equal [] = tt
+  own_values order same equal (x ∷ xs) = (
+    inl (equal.refl x.value),
+    every_weaker _ _ xs (λ j h. inr h) (own_values order same equal xs),
+  )
+
+pub prefix_is_all : {X : Type 0} (done rest all : List X) → done ++ rest ≡ all → length rest ≡ 0
+    → done ≡ all
+prefix_is_all done [] all e h = sym (append-nil done) ∙ e
+prefix_is_all done (x ∷ rest) all e h = absurd (omega arith)

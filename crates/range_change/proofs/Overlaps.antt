@@ -1,0 +1,295 @@
+-- Which stored ranges a range meets, and which keys both then hold.
+use Rattle.std.proofs.Common.{◌≡◌, ℕ, zero, suc, ◌+◌, ◌<◌, ◌≤◌, Bool, List, [], ◌∷◌, ◌++◌, length, take, drop, get_or, refl, ap, sym, ◌∙◌, arith, true, false, inl, inr, not, IsTrue, ◌↔◌, Option, Some, None}
+use Rattle.std.specs.Borrow.{Bor}
+use Rattle.std.specs.List.{AllByRecursion}
+use Rattle.std.specs.Option.{option_copied, is_some}
+use Rattle.std.specs.declared.ops.Bound.{Bound}
+use Rattle.std.specs.Ordering.{is_gt}
+use Rattle.std.specs.Cmp.{IsEquivalence}
+use Rattle.std.proofs.lemmas.List.{drop_more, take_all}
+use Rattle.range_keys.specs.Order.{KeyOrder, IsLawful, IsComplete}
+use Rattle.range_keys.specs.Position.{start_position, end_position, position_cmp}
+use Rattle.range_keys.specs.PositionOrder.{position_total}
+use Rattle.range_keys.specs.declared.inner.position.Position.{Position}
+use Rattle.range_keys.specs.declared.inner.position.Position.TheVariants.{Beside}
+use Rattle.range_keys.specs.declared.inner.position.Side.TheVariants.{At}
+use Rattle.range_keys.proofs.Orderings.{not_both_greater_and_not, not_greater}
+use Rattle.range_algebra.specs.declared.any.AnyRange.{AnyRange}
+use Rattle.range_algebra.specs.Range.{Holds, IsKnownBound, IsKnownRange, IsEmptyRange}
+use Rattle.range_algebra.specs.Intervals.{Le, Lt, Any, Every}
+use Rattle.range_algebra.specs.Orders.{le_refl, lt_le, le_trans, lt_not_le, cases, not_le, not_lt, lt_le_trans}
+use Rattle.range_change.specs.Chains.{line_of}
+use Rattle.range_change.proofs.Chains.{chain_above, chain_right}
+use Rattle.range_algebra.proofs.Completeness.{nonempty_holds}
+use Rattle.range_algebra.proofs.Holding.{holds_by_position}
+use Rattle.range_algebra.proofs.Lists.{list_is_take_and_drop, any_none, any_split, every_weaker}
+use Rattle.range_store.specs.declared.storage.Item.{Item}
+use Rattle.range_change.specs.Bindings.{IsBound, BindsTo, Binds}
+use Rattle.range_change.specs.Stored.{IsStored}
+use Rattle.range_change.specs.Lookups.{MeetsSome, BindsKeyOf, Overlap}
+use Rattle.range_change.proofs.Forms.{Chained, stored_chain}
+
+-- an item that is such is some item
+pub any_at : {X : Type 0} (P : X → Type 0) (xs : List X) (place : ℕ) (x : X) → place < length xs
+    → x ≡ get_or xs place x → P x → Any P xs
+any_at P [] place x within read h = absurd (omega arith)
+any_at P (y ∷ ys) zero x within read h = let at : x ≡ y = read in inl (rw at at h)
+any_at P (y ∷ ys) (suc place) x within read h = inr (any_at P ys place x (omega arith) read h)
+
+module _ {K : Type 0} (order : KeyOrder K) (lawful : IsLawful order) where
+  abbrev PLe : Position K → Position K → Type 0
+  PLe p q = Le (position_cmp order.cmp) p q
+
+  abbrev PLt : Position K → Position K → Type 0
+  PLt p q = Lt (position_cmp order.cmp) p q
+
+  abbrev Start : AnyRange K → Position K
+  Start r = start_position order r.start
+
+  abbrev End : AnyRange K → Position K
+  End r = end_position order r.end
+
+  -- ranges that hold the same key meet
+  shared_meets : (r s : AnyRange K) (k : K) → order.is_key k → Holds order r k → Holds order s k
+      → Overlap order r s
+  shared_meets r s k key h g =
+      let total = position_total order.cmp lawful.total in
+      let cmp = position_cmp order.cmp in
+      let in_r = (holds_by_position order lawful r k key).0 h in
+      let in_s = (holds_by_position order lawful s k key).0 g in (
+        λ l. lt_not_le cmp total (End r) (Start s) l
+            (le_trans cmp total (Start s) (Beside k At) (End r) in_s.0 in_r.1),
+        λ l. lt_not_le cmp total (End s) (Start r) l
+            (le_trans cmp total (Start r) (Beside k At) (End s) in_r.0 in_s.1),
+      )
+
+  held_nonempty : (r : AnyRange K) (k : K) → order.is_key k → Holds order r k → IsEmptyRange order r
+      → ⊥
+  held_nonempty r k key h e =
+      let within = (holds_by_position order lawful r k key).0 h in
+      not_both_greater_and_not (position_cmp order.cmp (Start r) (End r))
+      (le_trans (position_cmp order.cmp) (position_total order.cmp lawful.total) (Start r)
+      (Beside k At) (End r) within.0 within.1) e
+
+  -- the later of two starts
+  later_start_exists : (a b : Bound K) → IsKnownBound order a → IsKnownBound order b
+      → (c : Bound K) × IsKnownBound order c × PLe (start_position order a) (start_position order c)
+      × PLe (start_position order b) (start_position order c)
+      × ((p : Position K) → PLe (start_position order a) p → PLe (start_position order b) p
+      → PLe (start_position order c) p)
+  later_start_exists a b known others =
+      let total = position_total order.cmp lawful.total in
+      let cmp = position_cmp order.cmp in
+      elim (cases cmp total (start_position order a) (start_position order b)) [
+        | inl l ↦ (
+          b,
+          others,
+          lt_le cmp total (start_position order a) (start_position order b) l,
+          le_refl cmp total (start_position order b),
+          λ p h k. k,
+        )
+        | inr l ↦ (a, known, le_refl cmp total (start_position order a), l, λ p h k. h)
+      ]
+
+  -- the earlier of two ends
+  earlier_end_exists : (a b : Bound K) → IsKnownBound order a → IsKnownBound order b
+      → (c : Bound K) × IsKnownBound order c × PLe (end_position order c) (end_position order a)
+      × PLe (end_position order c) (end_position order b)
+      × ((p : Position K) → PLe p (end_position order a) → PLe p (end_position order b)
+      → PLe p (end_position order c))
+  earlier_end_exists a b known others =
+      let total = position_total order.cmp lawful.total in
+      let cmp = position_cmp order.cmp in
+      elim (cases cmp total (end_position order a) (end_position order b)) [
+        | inl l ↦ (
+          a,
+          known,
+          le_refl cmp total (end_position order a),
+          lt_le cmp total (end_position order a) (end_position order b) l,
+          λ p h k. h,
+        )
+        | inr l ↦ (b, others, l, le_refl cmp total (end_position order b), λ p h k. k)
+      ]
+
+  -- over complete keys ranges that meet share a key
+  shared_key : (r s : AnyRange K) → IsComplete order → IsKnownRange order r → IsKnownRange order s
+      → (IsEmptyRange order r → ⊥) → (IsEmptyRange order s → ⊥) → Overlap order r s
+      → (k : K) × order.is_key k × Holds order r k × Holds order s k
+  shared_key r s complete known others full full_s meets =
+      let total = position_total order.cmp lawful.total in
+      let cmp = position_cmp order.cmp in
+      let from = later_start_exists r.start s.start known.0 others.0 in
+      let upto = earlier_end_exists r.end s.end known.1 others.1 in
+      let first =
+      from.4 (End r) (not_greater (cmp (Start r) (End r)) full)
+      (not_lt cmp total (Start s) (End r) meets.0) in
+      let second =
+      from.4 (End s) (not_lt cmp total (Start r) (End s) meets.1)
+      (not_greater (cmp (Start s) (End s)) full_s) in
+      let both : AnyRange K = record { start = from.0; end = upto.0 } in
+      let found =
+      nonempty_holds order lawful complete both (from.1, upto.1)
+      (upto.4 (start_position order from.0) first second) in
+      let within = (holds_by_position order lawful both found.0 found.1).0 found.2 in
+      let k : K = found.0 in (
+        k,
+        found.1,
+        (holds_by_position order lawful r k found.1).1 (
+          le_trans cmp total (Start r) (start_position order from.0)
+              (Beside k At) from.2 within.0,
+          le_trans cmp total (Beside k At) (end_position order upto.0) (End r) within.1 upto.2,
+        ),
+        (holds_by_position order lawful s k found.1).1 (
+          le_trans cmp total (Start s) (start_position order from.0)
+              (Beside k At) from.3 within.0,
+          le_trans cmp total (Beside k At) (end_position order upto.0) (End s) within.1 upto.3,
+        ),
+      )
+
+  -- what starts past an end lies after it
+  not_le_end : (p q : Position K) → true ≡ is_gt (position_cmp order.cmp p q) → PLt q p
+  not_le_end p q past =
+      not_le (position_cmp order.cmp) (position_total order.cmp lawful.total) q p
+      (λ h. let clash : true ≡ false = past ∙ h in cc)
+
+  module _ {V : Type 0} where
+    bound_meets : (items : List (Item (AnyRange K) V)) (r : AnyRange K) (k : K) → order.is_key k
+        → Holds order r k → IsBound order items k → MeetsSome order items r
+    bound_meets [] r k key held h = h
+    bound_meets (i ∷ rest) r k key held (inl h) = inl (shared_meets i.key r k key h held)
+    bound_meets (i ∷ rest) r k key held (inr h) = inr (bound_meets rest r k key held h)
+
+    -- a range of which a key is bound is nonempty and meets some item
+    pub binding_meets : (items : List (Item (AnyRange K) V)) (r : AnyRange K)
+        → BindsKeyOf order items r → (IsEmptyRange order r → ⊥) × MeetsSome order items r
+    binding_meets items r (k, key, held, bound) =
+        (held_nonempty r k key held, bound_meets items r k key held bound)
+
+    meeting_by : (items : List (Item (AnyRange K) V)) (r : AnyRange K) → IsComplete order
+        → AllByRecursion (λ i. IsKnownRange order i.key) items
+        → AllByRecursion (λ i. IsEmptyRange order i.key → ⊥) items → IsKnownRange order r
+        → (IsEmptyRange order r → ⊥) → MeetsSome order items r → BindsKeyOf order items r
+    meeting_by [] r complete known full others full_r h = absurd h
+    meeting_by (i ∷ rest) r complete known full others full_r (inl h) =
+        let found = shared_key i.key r complete known.0 others full.0 full_r h in
+        (found.0, found.1, found.3, inl found.2)
+    meeting_by (i ∷ rest) r complete known full others full_r (inr h) =
+        let found = meeting_by rest r complete known.1 full.1 others full_r h in
+        (found.0, found.1, found.2, inr found.3)
+
+    -- over complete keys a nonempty range that meets some item has a bound key
+    pub meeting_binds : (same : V → V → Bool) (items : List (Item (AnyRange K) V)) (r : AnyRange K)
+        → IsComplete order → IsStored order same items → IsKnownRange order r
+        → (IsEmptyRange order r → ⊥) → MeetsSome order items r → BindsKeyOf order items r
+    meeting_binds same items r complete stored known full h =
+        meeting_by items r complete stored.known stored.nonempty known full h
+
+    -- all end before the range
+    pub none_meets : (items : List (Item (AnyRange K) V)) (r : AnyRange K) (place : ℕ)
+        → Every (λ i. PLt (End i.key) (Start r)) (take place items) → place ≡ length items
+        → MeetsSome order items r → ⊥
+    none_meets items r place below at h =
+        let le : length items ≤ place = omega arith in
+        let all : Every (λ i. PLt (End i.key) (Start r)) items =
+        rw (take_all place items le) at below in
+        any_none (λ i. Overlap order i.key r) (λ i. PLt (End i.key) (Start r)) items all
+        (λ i l meets. meets.0 l) h
+
+    -- it starts within the range at the latest
+    pub met_at : (items : List (Item (AnyRange K) V)) (r : AnyRange K) (place : ℕ)
+        (x : Item (AnyRange K) V) → place < length items → x ≡ get_or items place x
+        → Every (λ i. PLe (Start r) (End i.key)) (drop place items)
+        → false ≡ is_gt (position_cmp order.cmp (Start x.key) (End r)) → MeetsSome order items r
+    met_at items r place x within read above starts =
+        let total = position_total order.cmp lawful.total in
+        let cmp = position_cmp order.cmp in
+        let more : drop place items ≡ x ∷ drop (place + 1) items =
+        drop_more items place x within ∙ ap (λ y. y ∷ drop (place + 1) items) (sym read) in
+        let ends : Every (λ i. PLe (Start r) (End i.key)) (x ∷ drop (place + 1) items) =
+        rw more at above in
+        any_at (λ i. Overlap order i.key r) items place x within read (
+          λ l. lt_not_le cmp total (End x.key) (Start r) l ends.0,
+          λ l. lt_not_le cmp total (End r) (Start x.key) l (sym starts),
+        )
+
+    module _ (same : V → V → Bool) (equal : IsEquivalence same) where
+      -- the first that does not end before the range starts past it
+      pub past_meets : (items : List (Item (AnyRange K) V)) (r : AnyRange K) (place : ℕ)
+          (x : Item (AnyRange K) V) → IsStored order same items → place < length items
+          → x ≡ get_or items place x → Every (λ i. PLt (End i.key) (Start r)) (take place items)
+          → true ≡ is_gt (position_cmp order.cmp (Start x.key) (End r)) → MeetsSome order items r
+          → ⊥
+      past_meets items r place x stored within read below past h =
+          let total = position_total order.cmp lawful.total in
+          let cmp = position_cmp order.cmp in
+          let more : drop place items ≡ x ∷ drop (place + 1) items =
+          drop_more items place x within
+          ∙ ap (λ y. y ∷ drop (place + 1) items) (sym read) in
+          let split : items ≡ take place items ++ x ∷ drop (place + 1) items =
+          list_is_take_and_drop items place ∙ ap (λ ys. take place items ++ ys) more in
+          let whole : Chained order lawful same equal
+          (take place items ++ x ∷ drop (place + 1) items) =
+          rw split at (stored_chain order lawful same equal items stored) in
+          let chain =
+          chain_right (line_of order lawful same equal) (take place items)
+          (x ∷ drop (place + 1) items) whole in
+          let above =
+          chain_above (line_of order lawful same equal) (Start x.key) x
+          (drop (place + 1) items) chain (le_refl cmp total (Start x.key)) in
+          let over : PLt (End r) (Start x.key) = not_le_end (Start x.key) (End r) past in
+          let behind : Every (λ i. PLt (End r) (Start i.key)) (x ∷ drop (place + 1) items) =
+          every_weaker _ _ (x ∷ drop (place + 1) items)
+          (λ i l. lt_le_trans cmp total (End r) (Start x.key) (Start i.key) over l) above in
+          let parted : MeetsSome order (take place items ++ x ∷ drop (place + 1) items) r =
+          rw split at h in
+          elim (any_split (λ i. Overlap order i.key r) (take place items)
+          (x ∷ drop (place + 1) items) parted) [
+            | inl k ↦
+                any_none (λ i. Overlap order i.key r) (λ i. PLt (End i.key) (Start r))
+                (take place items) below (λ i l meets. meets.0 l) k
+            | inr k ↦
+                any_none (λ i. Overlap order i.key r) (λ i. PLt (End r) (Start i.key))
+                (x ∷ drop (place + 1) items) behind (λ i l meets. meets.1 l) k
+          ]
+
+      -- the first that does not end before a nonempty range decides
+      pub first_not_before_decides : (items : List (Item (AnyRange K) V)) (r : AnyRange K)
+          (p e : Position K) (place : ℕ) (x : Item (AnyRange K) V) (past : Bool) → p ≡ Start r
+          → e ≡ End r → IsStored order same items → (IsEmptyRange order r → ⊥)
+          → place < length items → x ≡ get_or items place x
+          → Every (λ i. PLt (End i.key) p) (take place items)
+          → Every (λ i. PLe p (End i.key)) (drop place items)
+          → past ≡ is_gt (position_cmp order.cmp (Start x.key) e) → IsTrue (not past)
+          ↔ ((IsEmptyRange order r → ⊥) × MeetsSome order items r)
+      first_not_before_decides items r p e place x true start end stored full within read below
+          above past = (
+            λ h. absurd (cc),
+            λ h.
+                absurd (past_meets items r place x stored within read (rw start at below)
+                (rw end at past) h.1),
+          )
+      first_not_before_decides items r p e place x false start end stored full within read below
+          above past = (
+            λ h. (full, met_at items r place x within read (rw start at above) (rw end at past)),
+            λ h. refl,
+          )
+
+    -- there is none
+    pub none_decides : (items : List (Item (AnyRange K) V)) (r : AnyRange K) (p : Position K)
+        → p ≡ Start r → Every (λ i. PLt (End i.key) p) (take (length items) items)
+        → MeetsSome order items r → ⊥
+    none_decides items r p start below h =
+        none_meets items r (length items) (rw start at below) refl h
+
+module _ {K : Type 0} (order : KeyOrder K) {V : Type 0} (same : V → V → Bool) where
+  pub binds_bound : (items : List (Item (AnyRange K) V)) (k : K) (v : V)
+      → BindsTo order same items k v → IsBound order items k
+  binds_bound [] k v h = h
+  binds_bound (i ∷ rest) k v (inl h) = inl h.0
+  binds_bound (i ∷ rest) k v (inr h) = inr (binds_bound rest k v h)
+
+  -- a key is bound where its binding is to some value
+  pub holding_is : (items : List (Item (AnyRange K) V)) (k : K) (b : Option (Bor V))
+      → Binds order same items k (option_copied b) → IsTrue (is_some b) ↔ IsBound order items k
+  holding_is items k None h = (λ e. absurd (cc), λ e. absurd (h e))
+  holding_is items k (Some v) h = (λ e. binds_bound items k v.now h, λ e. refl)

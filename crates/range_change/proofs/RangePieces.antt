@@ -1,0 +1,611 @@
+-- The pieces of a range, cut from its start on.
+use Rattle.std.proofs.Common.{◌≡◌, refl, sym, ap, ◌∙◌, Option, Some, None, Bool, true, false, List, [], ◌∷◌, ◌++◌, ◌⊎◌, inl, inr, map, if◌then◌else◌}
+use Rattle.std.specs.declared.cmp.Ordering.TheVariants.{Equal}
+use Rattle.std.specs.Ordering.{is_gt}
+use Rattle.std.specs.Cmp.{IsEquivalence, tied_back}
+use Rattle.range_keys.specs.Order.{KeyOrder, IsLawful}
+use Rattle.range_keys.specs.Position.{start_position, end_position, position_cmp}
+use Rattle.range_keys.specs.PositionOrder.{position_total}
+use Rattle.range_keys.specs.declared.inner.position.Position.{Position}
+use Rattle.range_keys.proofs.Orderings.{gt_is_greater, equal_then_equal}
+use Rattle.range_algebra.specs.declared.any.AnyRange.{AnyRange}
+use Rattle.range_algebra.specs.Range.{IsKnownRange}
+use Rattle.range_algebra.specs.RangeOrder.{range_cmp}
+use Rattle.range_algebra.specs.Intervals.{Le, Lt, Any, Every}
+use Rattle.range_algebra.specs.Orders.{le_refl, lt_le, eq_le, eq_ge, le_trans, lt_not_le, cases, both, le_lt_trans, lt_le_trans}
+use Rattle.range_algebra.proofs.Lists.{any_left, every_weaker, every_append}
+use Rattle.range_change.specs.Chains.{line_of}
+use Rattle.range_change.proofs.Chains.{follows_above, chain_tail}
+use Rattle.range_algebra.specs.Combined.{common}
+use Rattle.range_algebra.proofs.Commons.{gt_le, later_is, earlier_is, later_over as starts_over, earlier_under as ends_under}
+use Rattle.range_algebra.specs.Cuts.{lower, upper}
+use Rattle.range_algebra.specs.Relations.{LiesBefore}
+use Rattle.range_store.specs.declared.storage.Item.{Item}
+use Rattle.range_change.specs.Answers.{Answered, piece_of, AreAnswersTo}
+use Rattle.range_change.specs.Neighbours.{EachNext}
+use Rattle.range_change.specs.Pieces.{later, earlier, IsCommonPart, LiesIn, IsFreePart, IsPiece}
+use Rattle.range_change.specs.Lookups.{Overlap}
+use Rattle.range_change.proofs.Extents.{past_le, end_le}
+use Rattle.range_change.proofs.Forms.{Chained, before_is, nonempty_good}
+
+-- some item is such and is used so
+pub any_use : {X R : Type 0} (P Q : X → Type 0) (xs : List X) → Any P xs → Every Q xs
+    → ((x : X) → P x → Q x → R) → R
+any_use P Q [] h e f = absurd h
+any_use P Q (x ∷ xs) (inl h) e f = f x h e.0
+any_use P Q (x ∷ xs) (inr h) e f = any_use P Q xs h e.1 f
+
+pub any_with : {X : Type 0} (P Q R : X → Type 0) (xs : List X) → Any P xs → Every Q xs
+    → ((x : X) → P x → Q x → R x) → Any R xs
+any_with P Q R [] h e f = h
+any_with P Q R (x ∷ xs) (inl h) e f = inl (f x h e.0)
+any_with P Q R (x ∷ xs) (inr h) e f = inr (any_with P Q R xs h e.1 f)
+
+pub any_over : {X : Type 0} (P R : X → Type 0) (xs : List X) → ((x : X) → P x → R x) → Any P xs
+    → Any R xs
+any_over P R [] f h = h
+any_over P R (x ∷ xs) f (inl h) = inl (f x h)
+any_over P R (x ∷ xs) f (inr h) = inr (any_over P R xs f h)
+
+pub every_with : {X : Type 0} (P Q R : X → Type 0) (xs : List X) → Every P xs → Every Q xs
+    → ((x : X) → P x → Q x → R x) → Every R xs
+every_with P Q R [] h e f = tt
+every_with P Q R (x ∷ xs) h e f = (f x h.0 e.0, every_with P Q R xs h.1 e.1 f)
+
+pub every_map : {X Y : Type 0} (f : X → Y) (P : Y → Type 0) (xs : List X) → Every (λ x. P (f x)) xs
+    → Every P (map f xs)
+every_map f P [] h = tt
+every_map f P (x ∷ xs) h = (h.0, every_map f P xs h.1)
+
+pub any_map : {X Y : Type 0} (f : X → Y) (P : Y → Type 0) (xs : List X) → Any (λ x. P (f x)) xs
+    → Any P (map f xs)
+any_map f P [] h = h
+any_map f P (x ∷ xs) (inl h) = inl h
+any_map f P (x ∷ xs) (inr h) = inr (any_map f P xs h)
+
+next_map : {X Y : Type 0} (f : X → Y) (S : X → X → Type 0) (T : Y → Y → Type 0) (P : X → Type 0)
+    (xs : List X) → ((x y : X) → P x → P y → S x y → T (f x) (f y)) → Every P xs → EachNext S xs
+    → EachNext T (map f xs)
+next_map f S T P [] g e h = tt
+next_map f S T P (x ∷ []) g e h = (tt, tt)
+next_map f S T P (x ∷ y ∷ ys) g e h = (g x y e.0 e.1.0 h.0, next_map f S T P (y ∷ ys) g e.1 h.1)
+
+pub next_last : {X : Type 0} (S : X → X → Type 0) (xs : List X) (y : X) → EachNext S xs
+    → Every (λ x. S x y) xs → EachNext S (xs ++ y ∷ [])
+next_last S [] y h e = (tt, tt)
+next_last S (x ∷ []) y h e = (e.0, (tt, tt))
+next_last S (x ∷ z ∷ zs) y h e = (h.0, next_last S (z ∷ zs) y h.1 e.1)
+
+pub any_end : {X : Type 0} (P : X → Type 0) (xs : List X) (y : X) → P y → Any P (xs ++ y ∷ [])
+any_end P [] y h = inl h
+any_end P (x ∷ xs) y h = inr (any_end P xs y h)
+
+module _ {K : Type 0} (order : KeyOrder K) (lawful : IsLawful order) where
+  abbrev pub PLe : Position K → Position K → Type 0
+  PLe p q = Le (position_cmp order.cmp) p q
+
+  abbrev pub PLt : Position K → Position K → Type 0
+  PLt p q = Lt (position_cmp order.cmp) p q
+
+  abbrev pub Lo : AnyRange K → Position K
+  Lo r = lower order r
+
+  abbrev pub Hi : AnyRange K → Position K
+  Hi r = upper order r
+
+  later_by : (p q : Position K) (b : Bool) → is_gt (position_cmp order.cmp p q) ≡ b
+      → PLe p (if b then p else q) × PLe q (if b then p else q)
+  later_by p q true e = (
+    le_refl (position_cmp order.cmp) (position_total order.cmp lawful.total) p,
+    gt_le (position_cmp order.cmp) (position_total order.cmp lawful.total) p q
+        (gt_is_greater (position_cmp order.cmp p q) e),
+  )
+  later_by p q false e =
+      (e, le_refl (position_cmp order.cmp) (position_total order.cmp lawful.total) q)
+
+  pub later_over : (p q : Position K) → PLe p (later order p q) × PLe q (later order p q)
+  later_over p q = later_by p q (is_gt (position_cmp order.cmp p q)) refl
+
+  earlier_by : (p q : Position K) (b : Bool) → is_gt (position_cmp order.cmp p q) ≡ b
+      → PLe (if b then q else p) p × PLe (if b then q else p) q
+  earlier_by p q true e = (
+    gt_le (position_cmp order.cmp) (position_total order.cmp lawful.total) p q
+        (gt_is_greater (position_cmp order.cmp p q) e),
+    le_refl (position_cmp order.cmp) (position_total order.cmp lawful.total) q,
+  )
+  earlier_by p q false e =
+      (le_refl (position_cmp order.cmp) (position_total order.cmp lawful.total) p, e)
+
+  pub earlier_under : (p q : Position K) → PLe (earlier order p q) p × PLe (earlier order p q) q
+  earlier_under p q = earlier_by p q (is_gt (position_cmp order.cmp p q)) refl
+
+  pub either_choice_holds : (P : Position K → Type 0) (b : Bool) (p q : Position K) → P p → P q
+      → P (if b then p else q)
+  either_choice_holds P true p q h k = h
+  either_choice_holds P false p q h k = k
+
+  -- the common part of two ranges starts at the later start and ends at the earlier end
+  pub common_is : (r i : AnyRange K) → IsCommonPart order r i (common order i r)
+  common_is r i =
+      let cmp = position_cmp order.cmp in
+      let total = position_total order.cmp lawful.total in
+      let c = common order i r in
+      let s = start_position order c.start in
+      let e = end_position order c.end in
+      let over = starts_over order lawful i.start r.start in
+      let under = ends_under order lawful i.end r.end in
+      let p = start_position order r.start in
+      let q = start_position order i.start in
+      let u = end_position order r.end in
+      let v = end_position order i.end in
+      let latest = later_over p q in
+      let first = earlier_under u v in
+      record {
+        starts =
+            both cmp total s (later order p q)
+            (later_is order lawful i.start r.start
+            (λ b. PLe (start_position order b) (later order p q)) latest.1 latest.0)
+            (either_choice_holds (λ x. PLe x s) (is_gt (cmp p q)) p q over.1 over.0);
+        ends =
+            both cmp total e (earlier order u v)
+            (either_choice_holds (λ x. PLe e x) (is_gt (cmp u v)) v u under.0 under.1)
+            (earlier_is order lawful i.end r.end
+            (λ b. PLe (earlier order u v) (end_position order b)) first.1 first.0);
+      }
+
+  -- likewise with the bounds of the range where they lie at the same place
+  pub shared_is : (r i : AnyRange K) → IsCommonPart order r i (common order r i)
+  shared_is r i =
+      let cmp = position_cmp order.cmp in
+      let total = position_total order.cmp lawful.total in
+      let c = common order r i in
+      let s = start_position order c.start in
+      let e = end_position order c.end in
+      let over = starts_over order lawful r.start i.start in
+      let under = ends_under order lawful r.end i.end in
+      let p = start_position order r.start in
+      let q = start_position order i.start in
+      let u = end_position order r.end in
+      let v = end_position order i.end in
+      let latest = later_over p q in
+      let first = earlier_under u v in
+      record {
+        starts =
+            both cmp total s (later order p q)
+            (later_is order lawful r.start i.start
+            (λ b. PLe (start_position order b) (later order p q)) latest.0 latest.1)
+            (either_choice_holds (λ x. PLe x s) (is_gt (cmp p q)) p q over.0 over.1);
+        ends =
+            both cmp total e (earlier order u v)
+            (either_choice_holds (λ x. PLe e x) (is_gt (cmp u v)) v u under.1 under.0)
+            (earlier_is order lawful r.end i.end
+            (λ b. PLe (earlier order u v) (end_position order b)) first.0 first.1);
+      }
+
+  -- a common part lies in both
+  pub common_within : (r i part : AnyRange K) → IsKnownRange order r → IsKnownRange order i
+      → IsKnownRange order part → IsCommonPart order r i part
+      → PLe (Lo r) (Lo part) × PLe (Lo i) (Lo part) × PLe (Hi part) (Hi r) × PLe (Hi part) (Hi i)
+  common_within r i part known known' known'' h =
+      let cmp = position_cmp order.cmp in
+      let total = position_total order.cmp lawful.total in
+      let p = start_position order r.start in
+      let q = start_position order i.start in
+      let u = end_position order r.end in
+      let v = end_position order i.end in
+      let s = start_position order part.start in
+      let e = end_position order part.end in
+      let latest = later_over p q in
+      let first = earlier_under u v in
+      let at = eq_ge cmp total s (later order p q) h.starts in
+      let to = eq_le cmp total e (earlier order u v) h.ends in (
+        le_trans cmp total p (later order p q) s latest.0 at,
+        le_trans cmp total q (later order p q) s latest.1 at,
+        past_le order lawful part.end r.end known''.1 known.1
+            (le_trans cmp total e (earlier order u v) u to first.0),
+        past_le order lawful part.end i.end known''.1 known'.1
+            (le_trans cmp total e (earlier order u v) v to first.1),
+      )
+
+  lies_places : (r s : AnyRange K) → IsKnownRange order r → IsKnownRange order s → LiesIn order r s
+      → PLe (Lo s) (Lo r) × PLe (Hi r) (Hi s)
+  lies_places r s known known' h =
+      (h.starts, past_le order lawful r.end s.end known.1 known'.1 h.ends)
+
+  pub lies_in : (r s : AnyRange K) → IsKnownRange order r → IsKnownRange order s → PLe (Lo s) (Lo r)
+      → PLe (Hi r) (Hi s) → LiesIn order r s
+  lies_in r s known known' h k =
+      record { starts = h; ends = end_le order lawful r.end s.end known.1 known'.1 k }
+
+  -- ranges that do not meet lie one before the other
+  apart_of : (i r : AnyRange K) → IsKnownRange order i → IsKnownRange order r
+      → (Overlap order i r → ⊥) → PLe (Hi i) (Lo r) ⊎ PLe (Hi r) (Lo i)
+  apart_of i r known known' none =
+      let cmp = position_cmp order.cmp in
+      let total = position_total order.cmp lawful.total in
+      let first = before_is order lawful i.end r.start known.1 known'.0 in
+      let other = before_is order lawful r.end i.start known'.1 known.0 in
+      elim (cases cmp total (Lo r) (Hi i)) [
+        | inr le ↦ inl le
+        | inl l ↦ elim (cases cmp total (Lo i) (Hi r)) [
+          | inr le ↦ inr le
+          | inl m ↦
+              absurd
+              (none (
+                λ b. lt_not_le cmp total (Lo r) (Hi i) l (first.0 b),
+                λ b. lt_not_le cmp total (Lo i) (Hi r) m (other.0 b),
+              ))
+        ]
+      ]
+
+  pub apart_not : (i r : AnyRange K) → IsKnownRange order i → IsKnownRange order r
+      → PLe (Hi i) (Lo r) ⊎ PLe (Hi r) (Lo i) → Overlap order i r → ⊥
+  apart_not i r known known' (inl le) h =
+      h.0 ((before_is order lawful i.end r.start known.1 known'.0).1 le)
+  apart_not i r known known' (inr le) h =
+      h.1 ((before_is order lawful r.end i.start known'.1 known.0).1 le)
+
+  module _ {V : Type 0} (items : List (Item (AnyRange K) V)) (r : AnyRange K) where
+    abbrev pub IsFull : Item (AnyRange K) V → Type 0
+    IsFull i = IsKnownRange order i.key × PLt (Lo i.key) (Hi i.key)
+
+    -- an open part of the range: it meets no item, and is bounded by the range or by items
+    pub record IsOpenPart (key : AnyRange K) : Type 0 where
+      pub free : Every (λ i. PLe (Hi i.key) (Lo key) ⊎ PLe (Hi key) (Lo i.key)) items
+      pub left : PLe (Lo key) (Lo r) ⊎ Any
+          (λ i. PLe (Lo key) (Hi i.key) × PLe (Hi i.key) (Lo key)) items
+      pub right : PLe (Hi r) (Hi key) ⊎ Any
+          (λ i. PLe (Hi key) (Lo i.key) × PLe (Lo i.key) (Hi key)) items
+
+    -- what the items bind a part of the range to
+    abbrev pub IsRight : AnyRange K → Option V → Type 0
+    IsRight key (Some v) = Any (λ i. IsCommonPart order r i.key key × (i.value ≡ v)) items
+    IsRight key None = IsOpenPart key
+
+    -- a nonempty part between the places of the range
+    abbrev pub IsInside : AnyRange K → Type 0
+    IsInside key =
+        IsKnownRange order key × PLe (Lo r) (Lo key) × PLt (Lo key) (Hi key) × PLe (Hi key) (Hi r)
+
+    -- what the answers so far are to: the parts of the range before a place
+    pub record IsCutUpTo (m : Position K) (answers : List (Answered K V)) : Type 0 where
+      pub inside : Every (λ a. IsInside a.key × PLe (Hi a.key) m) answers
+      pub right : Every (λ a. IsRight a.key a.value) answers
+      pub rising : EachNext (λ a b. PLe (Hi a.key) (Lo b.key)) answers
+      pub covered : (p : Position K) → PLe (Lo r) p → PLt p (Hi r) → PLt p m
+          → Any (λ a. PLe (Lo a.key) p × PLt p (Hi a.key)) answers
+
+    pub cut_none : IsCutUpTo (Lo r) []
+    cut_none = record {
+      inside = tt;
+      right = tt;
+      rising = tt;
+      covered =
+          λ p from upto before. absurd
+          (lt_not_le (position_cmp order.cmp) (position_total order.cmp lawful.total) p
+          (Lo r) before from);
+    }
+
+    -- one part more
+    pub cut_more : (m n : Position K) (answers : List (Answered K V)) (a : Answered K V)
+        → IsCutUpTo m answers → IsInside a.key → IsRight a.key a.value → PLe m (Lo a.key)
+        → PLe (Hi a.key) n
+        → ((p : Position K) → PLe (Lo r) p → PLt p (Hi r) → PLt p n
+        → PLt p m ⊎ (PLe (Lo a.key) p × PLt p (Hi a.key))) → IsCutUpTo n (answers ++ a ∷ [])
+    cut_more m n answers a was inside right from upto split =
+        let cmp = position_cmp order.cmp in
+        let total = position_total order.cmp lawful.total in
+        let on =
+        le_trans cmp total m (Lo a.key) n
+        from (le_trans cmp total (Lo a.key) (Hi a.key) n
+        (lt_le cmp total (Lo a.key) (Hi a.key) inside.2) upto) in
+        record {
+          inside =
+              every_append (λ b. IsInside b.key × PLe (Hi b.key) n) answers (a ∷ [])
+              (every_weaker (λ b. IsInside b.key × PLe (Hi b.key) m)
+              (λ b. IsInside b.key × PLe (Hi b.key) n) answers
+              (λ b h. (h.0, le_trans cmp total (Hi b.key) m n h.1 on)) was.inside)
+              ((inside, upto), tt);
+          right = every_append (λ b. IsRight b.key b.value) answers (a ∷ []) was.right (right, tt);
+          rising =
+              next_last (λ b d. PLe (Hi b.key) (Lo d.key)) answers a was.rising
+              (every_weaker (λ b. IsInside b.key × PLe (Hi b.key) m)
+              (λ b. PLe (Hi b.key) (Lo a.key)) answers
+              (λ b h. le_trans cmp total (Hi b.key) m (Lo a.key) h.1 from) was.inside);
+          covered = λ p low high before. elim (split p low high before) [
+            | inl l ↦
+                any_left (λ b. PLe (Lo b.key) p × PLt p (Hi b.key)) answers (a ∷ [])
+                (was.covered p low high l)
+            | inr h ↦ any_end (λ b. PLe (Lo b.key) p × PLt p (Hi b.key)) answers a h
+          ];
+        }
+
+    module _ (known_r : IsKnownRange order r) where
+      module _ (full : Every IsFull items) where
+        free_part : (key : AnyRange K) → IsInside key → IsOpenPart key
+            → IsFreePart order items r key
+        free_part key inside h = record {
+          known = inside.0;
+          nonempty = (nonempty_good order lawful key inside.0).1 inside.2;
+          within = lies_in key r inside.0 known_r inside.1 inside.3;
+          free =
+              every_with (λ i. PLe (Hi i.key) (Lo key) ⊎ PLe (Hi key) (Lo i.key)) IsFull
+              (λ i. Overlap order i.key key → ⊥) items h.free full
+              (λ i a f. apart_not i.key key f.0 inside.0 a);
+        }
+
+        pub free_apart : (key : AnyRange K) → IsFreePart order items r key
+            → Every (λ i. IsFull i × (PLe (Hi i.key) (Lo key) ⊎ PLe (Hi key) (Lo i.key))) items
+        free_apart key h =
+            every_with (λ i. Overlap order i.key key → ⊥) IsFull
+            (λ i. IsFull i × (PLe (Hi i.key) (Lo key) ⊎ PLe (Hi key) (Lo i.key))) items h.free
+            full (λ i n f. (f, apart_of i.key key f.0 h.known n))
+
+        pub free_inside : (key : AnyRange K) → IsFreePart order items r key → IsInside key
+        free_inside key h =
+            let within = lies_places key r h.known known_r h.within in
+            (h.known, within.0, (nonempty_good order lawful key h.known).0 h.nonempty, within.1)
+
+        -- no free part begins before an open one that it meets, or ends after it
+        starts_after : (key other : AnyRange K) → IsOpenPart key → PLe (Lo r) (Lo other)
+            → Every (λ i. IsFull i × (PLe (Hi i.key) (Lo other) ⊎ PLe (Hi other) (Lo i.key))) items
+            → PLt (Lo key) (Hi other) → PLe (Lo key) (Lo other)
+        starts_after key other h from apart meets =
+            let cmp = position_cmp order.cmp in
+            let total = position_total order.cmp lawful.total in
+            elim h.left [
+              | inl le ↦ le_trans cmp total (Lo key) (Lo r) (Lo other) le from
+              | inr bounded ↦
+                  any_use (λ i. PLe (Lo key) (Hi i.key) × PLe (Hi i.key) (Lo key))
+                  (λ i. IsFull i × (PLe (Hi i.key) (Lo other) ⊎ PLe (Hi other) (Lo i.key))) items
+                  bounded apart (λ i at a. elim a.1 [
+                    | inl le ↦ le_trans cmp total (Lo key) (Hi i.key) (Lo other) at.0 le
+                    | inr le ↦
+                        absurd (lt_not_le cmp total (Lo key) (Hi other) meets
+                        (le_trans cmp total (Hi other) (Lo i.key) (Lo key) le
+                        (le_trans cmp total (Lo i.key) (Hi i.key) (Lo key)
+                        (lt_le cmp total (Lo i.key) (Hi i.key) a.0.1) at.1)))
+                  ])
+            ]
+
+        ends_before : (key other : AnyRange K) → IsOpenPart key → PLe (Hi other) (Hi r)
+            → Every (λ i. IsFull i × (PLe (Hi i.key) (Lo other) ⊎ PLe (Hi other) (Lo i.key))) items
+            → PLt (Lo other) (Hi key) → PLe (Hi other) (Hi key)
+        ends_before key other h upto apart meets =
+            let cmp = position_cmp order.cmp in
+            let total = position_total order.cmp lawful.total in
+            elim h.right [
+              | inl le ↦ le_trans cmp total (Hi other) (Hi r) (Hi key) upto le
+              | inr bounded ↦
+                  any_use (λ i. PLe (Hi key) (Lo i.key) × PLe (Lo i.key) (Hi key))
+                  (λ i. IsFull i × (PLe (Hi i.key) (Lo other) ⊎ PLe (Hi other) (Lo i.key))) items
+                  bounded apart (λ i at a. elim a.1 [
+                    | inl le ↦
+                        absurd (lt_not_le cmp total (Lo other) (Hi key) meets
+                        (le_trans cmp total (Hi key) (Lo i.key) (Lo other) at.0
+                        (le_trans cmp total (Lo i.key) (Hi i.key) (Lo other)
+                        (lt_le cmp total (Lo i.key) (Hi i.key) a.0.1) le)))
+                    | inr le ↦ le_trans cmp total (Hi other) (Lo i.key) (Hi key) le at.1
+                  ])
+            ]
+
+        -- what is right by places is a piece
+        pub a_piece : (key : AnyRange K) (value : Option V) → IsInside key → IsRight key value
+            → IsPiece order items r key value
+        a_piece key (Some v) inside h = ((nonempty_good order lawful key inside.0).1 inside.2, h)
+        a_piece key None inside h = (
+          free_part key inside h,
+          λ other free wide.
+              let cmp = position_cmp order.cmp in
+              let total = position_total order.cmp lawful.total in
+              let others = free_inside other free in
+              let apart = free_apart other free in
+              let over = lies_places key other inside.0 free.known wide in
+              lies_in other key free.known inside.0
+              (starts_after key other h others.1 apart
+              (lt_le_trans cmp total (Lo key) (Hi key) (Hi other) inside.2 over.1))
+              (ends_before key other h others.3 apart
+              (le_lt_trans cmp total (Lo other) (Lo key) (Hi key) over.0 inside.2)),
+        )
+
+        same_extent : (key part : AnyRange K) → LiesIn order key part → LiesIn order part key
+            → range_cmp order key part ≡ Equal
+        same_extent key part h k =
+            let cmp = position_cmp order.cmp in
+            let total = position_total order.cmp lawful.total in
+            equal_then_equal (cmp (start_position order key.start)
+            (start_position order part.start))
+            (cmp (end_position order key.end) (end_position order part.end))
+            (both cmp total (start_position order key.start)
+            (start_position order part.start) k.starts h.starts)
+            (both cmp total (end_position order key.end)
+            (end_position order part.end) h.ends k.ends)
+
+        same_common : (i key part : AnyRange K) → IsCommonPart order r i key
+            → IsCommonPart order r i part → range_cmp order key part ≡ Equal
+        same_common i key part h k =
+            let cmp = position_cmp order.cmp in
+            let total = position_total order.cmp lawful.total in
+            let s = later order (start_position order r.start) (start_position order i.start) in
+            let e = earlier order (end_position order r.end) (end_position order i.end) in
+            equal_then_equal (cmp (start_position order key.start)
+            (start_position order part.start))
+            (cmp (end_position order key.end) (end_position order part.end))
+            (total.congr (start_position order key.start) s
+            (start_position order part.start) h.starts
+            ∙ tied_back total (start_position order part.start) s k.starts)
+            (total.congr (end_position order key.end) e (end_position order part.end) h.ends
+            ∙ tied_back total (end_position order part.end) e k.ends)
+
+        -- the item that a place lies in
+        module _ (same : V → V → Bool) (equal : IsEquivalence same) where
+          abbrev Holding : Position K → Item (AnyRange K) V → Type 0
+          Holding p i = PLe (Lo i.key) p × PLt p (Hi i.key)
+
+          both_held : (p : Position K) (P Q : Item (AnyRange K) V → Type 0)
+              (xs : List (Item (AnyRange K) V)) → Chained order lawful same equal xs
+              → Any (λ i. P i × Holding p i) xs → Any (λ i. Q i × Holding p i) xs
+              → Any (λ i. P i × Q i) xs
+          both_held p P Q [] chain h k = h
+          both_held p P Q (x ∷ xs) chain (inl h) (inl k) = inl (h.0, k.0)
+          both_held p P Q (x ∷ xs) chain (inr h) (inr k) =
+              inr (both_held p P Q xs (chain_tail (line_of order lawful same equal) x xs chain.1) h
+              k)
+          both_held p P Q (x ∷ xs) chain (inl h) (inr k) =
+              let cmp = position_cmp order.cmp in
+              let total = position_total order.cmp lawful.total in
+              any_use (λ i. Q i × Holding p i) (λ i. PLe (Hi x.key) (Lo i.key)) xs k
+              (follows_above (line_of order lawful same equal) x xs chain.1)
+              (λ i g le.
+              absurd (lt_not_le cmp total p (Hi x.key) h.1.1
+              (le_trans cmp total (Hi x.key) (Lo i.key) p le g.1.0)))
+          both_held p P Q (x ∷ xs) chain (inr h) (inl k) =
+              let cmp = position_cmp order.cmp in
+              let total = position_total order.cmp lawful.total in
+              any_use (λ i. P i × Holding p i) (λ i. PLe (Hi x.key) (Lo i.key)) xs h
+              (follows_above (line_of order lawful same equal) x xs chain.1)
+              (λ i g le.
+              absurd (lt_not_le cmp total p (Hi x.key) k.1.1
+              (le_trans cmp total (Hi x.key) (Lo i.key) p le g.1.0)))
+
+          common_held : (p : Position K) (key : AnyRange K) (v : V) → IsKnownRange order key
+              → Any (λ i. IsCommonPart order r i.key key × (i.value ≡ v)) items → PLe (Lo key) p
+              → PLt p (Hi key)
+              → Any (λ i. (IsCommonPart order r i.key key × (i.value ≡ v)) × Holding p i) items
+          common_held p key v known h from upto =
+              let cmp = position_cmp order.cmp in
+              let total = position_total order.cmp lawful.total in
+              any_with (λ i. IsCommonPart order r i.key key × (i.value ≡ v)) IsFull
+              (λ i. (IsCommonPart order r i.key key × (i.value ≡ v)) × Holding p i) items h full
+              (λ i c f.
+              let within = common_within r i.key key known_r f.0 known c.0 in (
+                c,
+                (
+                  le_trans cmp total (Lo i.key) (Lo key) p within.1 from,
+                  lt_le_trans cmp total p (Hi key) (Hi i.key) upto within.3,
+                ),
+              ))
+
+          pub common_place_is_not_clear : (p : Position K) (key clear : AnyRange K) (v : V)
+              → IsKnownRange order key
+              → Any (λ i. IsCommonPart order r i.key key × (i.value ≡ v)) items → PLe (Lo key) p
+              → PLt p (Hi key)
+              → Every (λ i. PLe (Hi i.key) (Lo clear) ⊎ PLe (Hi clear) (Lo i.key)) items
+              → PLe (Lo clear) p → PLt p (Hi clear) → ⊥
+          common_place_is_not_clear p key clear v known h from upto free from' upto' =
+              let cmp = position_cmp order.cmp in
+              let total = position_total order.cmp lawful.total in
+              any_use (λ i. (IsCommonPart order r i.key key × (i.value ≡ v)) × Holding p i)
+              (λ i. PLe (Hi i.key) (Lo clear) ⊎ PLe (Hi clear) (Lo i.key)) items
+              (common_held p key v known h from upto) free (λ i g a. elim a [
+                | inl le ↦
+                    lt_not_le cmp total p (Hi i.key) g.1.1
+                    (le_trans cmp total (Hi i.key) (Lo clear) p le from')
+                | inr le ↦
+                    lt_not_le cmp total p (Hi clear) upto'
+                    (le_trans cmp total (Hi clear) (Lo i.key) p le g.1.0)
+              ])
+
+          any_here : {R : Type 0} (P : Item (AnyRange K) V → Type 0)
+              (xs : List (Item (AnyRange K) V)) → Any P xs → ((x : Item (AnyRange K) V) → P x → R)
+              → R
+          any_here P [] h f = absurd h
+          any_here P (x ∷ xs) (inl h) f = f x h
+          any_here P (x ∷ xs) (inr h) f = any_here P xs h f
+
+          -- a piece whose start lies in a part that is right is that part
+          same_piece : (key part : AnyRange K) (value binding : Option V)
+              → Chained order lawful same equal items → IsInside key → IsRight key value
+              → IsKnownRange order part → IsPiece order items r part binding
+              → PLe (Lo key) (Lo part) → PLt (Lo part) (Hi key)
+              → (range_cmp order key part ≡ Equal) × (value ≡ binding)
+          same_piece key part (Some w) (Some v) chain inside h known piece from upto =
+              let cmp = position_cmp order.cmp in
+              let total = position_total order.cmp lawful.total in
+              let good = (nonempty_good order lawful part known).0 piece.0 in
+              let held = common_held (Lo part) key w inside.0 h from upto in
+              let other =
+              common_held (Lo part) part v known piece.1
+              (le_refl cmp total (Lo part)) good in
+              any_here (λ i. (IsCommonPart order r i.key key × (i.value ≡ w))
+              × (IsCommonPart order r i.key part × (i.value ≡ v))) items
+              (both_held (Lo part) (λ i. IsCommonPart order r i.key key × (i.value ≡ w))
+              (λ i. IsCommonPart order r i.key part × (i.value ≡ v)) items chain held other)
+              (λ i g. (same_common i.key key part g.0.0 g.1.0, ap Some (sym g.0.1 ∙ g.1.1)))
+          same_piece key part (Some w) None chain inside h known piece from upto =
+              let cmp = position_cmp order.cmp in
+              let total = position_total order.cmp lawful.total in
+              let others = free_inside part piece.0 in
+              let apart =
+              every_weaker (λ i. IsFull i
+              × (PLe (Hi i.key) (Lo part) ⊎ PLe (Hi part) (Lo i.key)))
+              (λ i. PLe (Hi i.key) (Lo part) ⊎ PLe (Hi part) (Lo i.key)) items (λ i a. a.1)
+              (free_apart part piece.0) in
+              absurd (common_place_is_not_clear (Lo part) key part w inside.0 h from upto apart
+              (le_refl cmp total (Lo part)) others.2)
+          same_piece key part None (Some v) chain inside h known piece from upto =
+              let cmp = position_cmp order.cmp in
+              let total = position_total order.cmp lawful.total in
+              let good = (nonempty_good order lawful part known).0 piece.0 in
+              absurd (common_place_is_not_clear (Lo part) part key v known piece.1
+              (le_refl cmp total (Lo part)) good h.free from upto)
+          same_piece key part None None chain inside h known piece from upto =
+              let others = free_inside part piece.0 in
+              let inward =
+              lies_in part key known inside.0
+              from (ends_before key part h others.3 (free_apart part piece.0) upto) in
+              (same_extent key part (piece.1 key (free_part key inside h) inward) inward, refl)
+
+      piece_inside : (full : Every IsFull items) (part : AnyRange K) (binding : Option V)
+          → IsKnownRange order part → IsPiece order items r part binding
+          → PLe (Lo r) (Lo part) × PLt (Lo part) (Hi r)
+      piece_inside full part None known piece =
+          let h = free_inside full part piece.0 in (
+            h.1,
+            lt_le_trans (position_cmp order.cmp) (position_total order.cmp lawful.total) (Lo part)
+                (Hi part) (Hi r) h.2 h.3,
+          )
+      piece_inside full part (Some v) known piece =
+          any_use (λ i. IsCommonPart order r i.key part × (i.value ≡ v)) IsFull items piece.1 full
+          (λ i c f.
+          let within = common_within r i.key part known_r f.0 known c.0 in (
+            within.0,
+            lt_le_trans (position_cmp order.cmp) (position_total order.cmp lawful.total) (Lo part)
+                (Hi part) (Hi r) ((nonempty_good order lawful part known).0 piece.0) within.2,
+          ))
+
+      -- parts up to the end of the range are its pieces
+      pub cut_all : (same : V → V → Bool) (equal : IsEquivalence same) (full : Every IsFull items)
+          → Chained order lawful same equal items → (m : Position K) (answers : List (Answered K V))
+          → IsCutUpTo m answers → PLe (Hi r) m → AreAnswersTo order items r answers
+      cut_all same equal full chain m answers was upto =
+          let cmp = position_cmp order.cmp in
+          let total = position_total order.cmp lawful.total in
+          let each =
+          every_with (λ a. IsInside a.key × PLe (Hi a.key) m) (λ a. IsRight a.key a.value)
+          (λ a. IsInside a.key × IsRight a.key a.value) answers was.inside was.right
+          (λ a h k. (h.0, k)) in
+          record {
+            each =
+                every_map piece_of (λ p. IsPiece order items r p.key p.value) answers
+                (every_weaker (λ a. IsInside a.key × IsRight a.key a.value)
+                (λ a. IsPiece order items r a.key a.value) answers
+                (λ a h. a_piece full a.key a.value h.0 h.1) each);
+            rising =
+                next_map piece_of (λ a b. PLe (Hi a.key) (Lo b.key))
+                (λ p q. LiesBefore order p.key q.key)
+                (λ a. IsInside a.key × IsRight a.key a.value) answers
+                (λ a b h k le. (before_is order lawful a.key.end b.key.start h.0.0.1 k.0.0.0).1 le)
+                each was.rising;
+            all = λ part binding known piece.
+                let at = piece_inside full part binding known piece in
+                any_map piece_of (λ p. (range_cmp order p.key part ≡ Equal) × (p.value ≡ binding))
+                answers (any_with (λ a. PLe (Lo a.key) (Lo part) × PLt (Lo part) (Hi a.key))
+                (λ a. IsInside a.key × IsRight a.key a.value)
+                (λ a. (range_cmp order a.key part ≡ Equal) × (a.value ≡ binding)) answers
+                (was.covered (Lo part) at.0 at.1
+                (lt_le_trans cmp total (Lo part) (Hi r) m at.1 upto)) each
+                (λ a h k.
+                same_piece full same equal a.key part a.value binding chain k.0 k.1 known piece
+                h.0 h.1));
+          }

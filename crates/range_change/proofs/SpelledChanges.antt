@@ -1,0 +1,314 @@
+-- That what a change puts in the place of a range is spelled as what it replaces.
+use Rattle.std.proofs.Common.{◌≡◌, refl, sym, ap, subst, ◌∙◌, ℕ, ◌+◌, ◌-◌, ◌<◌, ◌≤◌, arith, Option, Some, None, Bool, List, [], ◌∷◌, ◌++◌, inl, inr, length, get_or, take, drop}
+use Rattle.std.proofs.lemmas.List.{drop_more}
+use Rattle.std.proofs.lemmas.Option.{same_Some}
+use Rattle.std.specs.Cmp.{IsEquivalence}
+use Rattle.std.specs.declared.ops.Bound.{Bound}
+use Rattle.range_keys.specs.Order.{KeyOrder, IsLawful}
+use Rattle.range_keys.specs.Position.{end_position}
+use Rattle.range_keys.specs.PositionOrder.{position_total}
+use Rattle.range_algebra.specs.declared.any.AnyRange.{AnyRange}
+use Rattle.range_algebra.specs.Clones.{same_itself}
+use Rattle.range_algebra.specs.Cuts.{lower, upper}
+use Rattle.range_algebra.specs.Intervals.{Lt, Every}
+use Rattle.range_algebra.specs.Orders.{lt_le, eq_le, eq_ge, lt_not_le, lt_trans}
+use Rattle.range_algebra.specs.Range.{IsKnownRange}
+use Rattle.range_algebra.proofs.Lists.{every_weaker, every_append, every_left, every_right, list_is_take_and_drop}
+use Rattle.range_algebra.proofs.Places.{reaching_is_before_past}
+use Rattle.range_store.specs.declared.storage.Item.{Item}
+use Rattle.range_change.specs.Changes.{IsInserted, IsRemoved}
+use Rattle.range_change.specs.Edges.{IsLeftShape, IsRightShape, joined_count, seam_edge}
+use Rattle.range_change.specs.Edits.{flipped_bound}
+use Rattle.range_change.specs.Frames.{IsStartOf, IsEndOf, IsNewItem, IsPart}
+use Rattle.range_change.specs.Reach.{ReachesBefore, ReachesAfter, IsReach, IsSurrounded}
+use Rattle.range_change.specs.Seams.{with_first_start, with_last_end}
+use Rattle.range_change.specs.Spelling.{IsStartAsIn, IsEndAsIn, IsSpelledAsIn, KeepsSpelling}
+use Rattle.range_change.specs.Stored.{IsStored, item_lower, item_upper}
+use Rattle.range_change.specs.Window.{option_items}
+use Rattle.range_change.specs.declared.reach.Reach.{Reach}
+use Rattle.range_change.specs.declared.window.Window.{Window}
+use Rattle.range_change.proofs.RangePieces.{any_use}
+use Rattle.range_change.proofs.Extents.{past_le, end_le}
+use Rattle.range_change.proofs.Forms.{places, Known, Chained, stored_known, stored_chain, nonempty_good}
+use Rattle.range_change.proofs.PieceAnswers.{listed_at, item_at}
+use Rattle.range_change.proofs.Spelling.{own_spelling, start_is_kept, end_is_kept, cut_end_is_kept, cut_start_is_kept}
+use Rattle.range_change.proofs.Surrounded.{reach_is_met}
+
+module _ {K : Type 0} (order : KeyOrder K) {V : Type 0} (items : List (Item (AnyRange K) V)) where
+  started_keeps : (start : Option (Bound K)) (xs : List (Item (AnyRange K) V))
+      → KeepsSpelling order items xs
+      → ((b : Bound K) → start ≡ Some b → IsStartAsIn order items b)
+      → KeepsSpelling order items (with_first_start start xs)
+  started_keeps None xs all on = all
+  started_keeps (Some b) [] all on = tt
+  started_keeps (Some b) (i ∷ rest) all on = ((on b refl, all.0.1), all.1)
+
+  ended_keeps : (finish : Option (Bound K)) (xs : List (Item (AnyRange K) V))
+      → KeepsSpelling order items xs
+      → ((b : Bound K) → finish ≡ Some b → IsEndAsIn order items b)
+      → KeepsSpelling order items (with_last_end finish xs)
+  ended_keeps None xs all on = all
+  ended_keeps (Some b) [] all on = tt
+  ended_keeps (Some b) (i ∷ []) all on = ((all.0.0, on b refl), tt)
+  ended_keeps (Some b) (i ∷ j ∷ rest) all on =
+      (all.0, ended_keeps (Some b) (j ∷ rest) all.1 on)
+
+module _ {K : Type 0} {order : KeyOrder K} (lawful : IsLawful order) {V : Type 0}
+    {same : V → V → Bool} (equal : IsEquivalence same) {items : List (Item (AnyRange K) V)}
+    (stored : IsStored order same items) where
+  known : Known order lawful same equal items
+  known = stored_known order lawful same equal items stored
+
+  chain : Chained order lawful same equal items
+  chain = stored_chain order lawful same equal items stored
+
+  abbrev IsSpelled : Item (AnyRange K) V → Type 0
+  IsSpelled j = IsSpelledAsIn order items j.key
+
+  pub list_keeps_spelling : KeepsSpelling order items items
+  list_keeps_spelling = own_spelling order lawful same equal items known chain
+
+  one_is_spelled : (k : ℕ) (x : Item (AnyRange K) V) → k < length items
+      → x ≡ get_or items k x → IsSpelled x
+  one_is_spelled k x within read = item_at IsSpelled items k x list_keeps_spelling within read
+
+  -- what the edges leave of the items beside a range, and the bounds that they give away
+  module _ {P : Type 0} {is_good : P → Type 0} {rank : P → ℕ} {r : AnyRange K} {reach : Reach P}
+      {place : ℕ} (found : IsReach order same is_good rank items r reach place) where
+    left_is_spelled : (joined first : Option P) (at begin : ℕ)
+        (rest : Option (Item (AnyRange K) V)) (start : Option (Bound K))
+        → IsLeftShape is_good rank items (seam_edge joined first (flipped_bound r.start)) at begin
+        rest start
+        → begin + joined_count (seam_edge joined first (flipped_bound r.start))
+        ≡ place + length (option_items first)
+        → length (option_items first) ≤ reach.window.count
+        → ReachesBefore order is_good rank items r place reach.window.count first
+        → KeepsSpelling order items (option_items rest)
+        × ((b : Bound K) → start ≡ Some b → IsStartAsIn order items b)
+    left_is_spelled None None at begin rest start (begins, none, free) size few before =
+        (rw none tt, λ b e. absurd (cc))
+    left_is_spelled None (Some p) at begin rest start (good, here, next, free, (x, read, is)) size
+        few before =
+        let at_is : at ≡ place = sym here ∙ before.1 in
+        let within : place < length items = omega (arith, found.window.in_range, before.2) in
+        let x_is : x ≡ get_or items place x = read ∙ ap (λ n. get_or items n x) at_is in
+        let above = rw (drop_more items place x within) at found.window.above in
+        let ends =
+        subst (λ y. Lt (places order lawful) (lower order r) (item_upper order y)) (sym x_is)
+        above.0 in
+        let spelled = one_is_spelled place x within x_is in (
+          rw is (
+            (
+              spelled.0,
+              cut_end_is_kept order lawful same equal items known chain (take place items)
+                  (drop (place + 1) items) x (listed_at items place x within x_is) r
+                  found.window.known (before.3 x x_is) ends (flipped_bound r.start)
+                  (same_itself order lawful (flipped_bound r.start)),
+            ),
+            tt,
+          ),
+          λ b e. absurd (cc),
+        )
+    left_is_spelled (Some q) first at begin rest start (good, here, next, none, (x, read, is)) size
+        few before =
+        let one : begin + 1 ≡ place + length (option_items first) = size in
+        let within : at < length items =
+        omega (arith, found.window.in_range, one, few, next) in
+        let spelled = one_is_spelled at x within read in (
+          rw none tt,
+          λ b e. subst (IsStartAsIn order items) (same_Some x.key.start b (sym is ∙ e)) spelled.0,
+        )
+
+    right_is_spelled : (joined last : Option P) (upto end : ℕ)
+        (rest : Option (Item (AnyRange K) V)) (finish : Option (Bound K))
+        → IsRightShape is_good rank items (seam_edge joined last (flipped_bound r.end)) upto end
+        rest finish → end ≤ length items
+        → ReachesAfter order is_good rank items r place reach.window.count last
+        → KeepsSpelling order items (option_items rest)
+        × ((b : Bound K) → finish ≡ Some b → IsEndAsIn order items b)
+    right_is_spelled None None upto end rest finish (ends, none, free) in_range after =
+        (rw none tt, λ b e. absurd (cc))
+    right_is_spelled None (Some p) upto end rest finish (good, here, next, free, (x, read, is))
+        in_range after =
+        let count = reach.window.count in
+        let at_is : upto ≡ place + count - 1 = omega (arith, here, after.1, after.2) in
+        let within : upto < length items = omega (arith, in_range, next) in
+        let x_is : x ≡ get_or items (place + count - 1) x =
+        read ∙ ap (λ n. get_or items n x) at_is in
+        let starts =
+        subst (λ y. Lt (places order lawful) (item_lower order y) (upper order r)) (sym x_is)
+        (found.window.meets x after.2) in
+        let spelled = one_is_spelled upto x within read in (
+          rw is (
+            (
+              cut_start_is_kept order lawful same equal items known chain (take upto items)
+                  (drop (upto + 1) items) x (listed_at items upto x within read) r
+                  found.window.known starts (after.3 x x_is) (flipped_bound r.end)
+                  (same_itself order lawful (flipped_bound r.end)),
+              spelled.1,
+            ),
+            tt,
+          ),
+          λ b e. absurd (cc),
+        )
+    right_is_spelled (Some q) last upto end rest finish (good, here, next, none, (x, read, is))
+        in_range after =
+        let within : rank q < length items = omega (arith, in_range, here, next) in
+        let spelled = one_is_spelled (rank q) x within read in (
+          rw none tt,
+          λ b e. subst (IsEndAsIn order items) (same_Some x.key.end b (sym is ∙ e)) spelled.1,
+        )
+
+    pub replaced_keeps_spelling : (joined other : Option P)
+        (new middle : List (Item (AnyRange K) V)) (at begin upto end : ℕ)
+        (rest beyond : Option (Item (AnyRange K) V))
+        (start finish : Option (Bound K))
+        → IsLeftShape is_good rank items (seam_edge joined reach.first (flipped_bound r.start)) at
+        begin rest start
+        → begin + joined_count (seam_edge joined reach.first (flipped_bound r.start))
+        ≡ place + length (option_items reach.first)
+        → IsRightShape is_good rank items
+        (seam_edge other reach.last (flipped_bound r.end)) upto end
+        beyond finish → end ≤ length items
+        → new ≡ take at items ++ option_items rest
+        ++ with_last_end finish (with_first_start start middle)
+        ++ option_items beyond ++ drop end items
+        → KeepsSpelling order items middle → KeepsSpelling order items new
+    replaced_keeps_spelling joined other new middle at begin upto end rest beyond start finish
+        on_left size on_right in_range changed kept =
+        let left =
+        left_is_spelled joined reach.first at begin rest start on_left size (reach_is_met found).0
+        found.first in
+        let right =
+        right_is_spelled other reach.last upto end beyond finish on_right in_range found.last in
+        let front = take at items in
+        let body = with_last_end finish (with_first_start start middle) in
+        let tail = drop end items in
+        let before =
+        every_left IsSpelled front (drop at items)
+        (subst (KeepsSpelling order items) (list_is_take_and_drop items at) list_keeps_spelling) in
+        let behind =
+        every_right IsSpelled (take end items) tail
+        (subst (KeepsSpelling order items) (list_is_take_and_drop items end) list_keeps_spelling) in
+        let inside =
+        ended_keeps order items finish (with_first_start start middle)
+        (started_keeps order items start middle kept left.1) right.1 in
+        rw changed (every_append IsSpelled
+        (front ++ option_items rest ++ body ++ option_items beyond) tail
+        (every_append IsSpelled (front ++ option_items rest ++ body) (option_items beyond)
+        (every_append IsSpelled (front ++ option_items rest) body
+        (every_append IsSpelled front (option_items rest) before left.0) inside) right.0) behind)
+
+  -- a range that one item surrounds
+  module _ {P : Type 0} {is_good : P → Type 0} {rank : P → ℕ} {r : AnyRange K} {w : Window P}
+      {place : ℕ} {p : P} (within : IsSurrounded order same is_good rank items r w place p)
+      (x : Item (AnyRange K) V) (read : x ≡ get_or items (rank p) x) where
+    here : x ≡ get_or items place x
+    here = read ∙ ap (λ n. get_or items n x) within.here
+
+    is_listed : place < length items
+    is_listed = omega (arith, within.window.in_range, within.one)
+
+    list : items ≡ take place items ++ x ∷ drop (place + 1) items
+    list = listed_at items place x is_listed here
+
+    known_x : IsKnownRange order x.key
+    known_x = item_at (λ i. IsKnownRange order i.key) items place x known is_listed here
+
+    some : Lt (places order lawful) (lower order r) (upper order r)
+    some = (nonempty_good order lawful r within.window.known).0 within.window.nonempty
+
+    starts : Lt (places order lawful) (lower order x.key) (lower order r)
+    starts = within.starts x here
+
+    ends : Lt (places order lawful) (upper order r) (upper order x.key)
+    ends = within.ends x here
+
+    starts_before_end : Lt (places order lawful) (lower order x.key) (upper order r)
+    starts_before_end =
+        lt_trans (places order lawful) (position_total order.cmp lawful.total)
+        (lower order x.key) (lower order r) (upper order r) starts some
+
+    ends_after_start : Lt (places order lawful) (lower order r) (upper order x.key)
+    ends_after_start =
+        lt_trans (places order lawful) (position_total order.cmp lawful.total)
+        (lower order r) (upper order r) (upper order x.key) some ends
+
+    start_within : IsStartAsIn order items r.start
+    start_within =
+        let known_r = within.window.known in
+        start_is_kept order lawful same equal items known chain (take place items)
+        (drop (place + 1) items) x list r.start r.start (same_itself order lawful r.start)
+        (lt_le (places order lawful) (position_total order.cmp lawful.total)
+        (lower order x.key) (lower order r) starts)
+        ((reaching_is_before_past order lawful r.start x.key.end known_r.0 known_x.1).1
+        ends_after_start) (λ e. absurd (lt_not_le (places order lawful)
+        (position_total order.cmp lawful.total) (lower order x.key) (lower order r) starts
+        (eq_ge (places order lawful) (position_total order.cmp lawful.total) (lower order x.key)
+        (lower order r) e)))
+
+    end_within : IsEndAsIn order items r.end
+    end_within =
+        let cmp = places order lawful in
+        let total = position_total order.cmp lawful.total in
+        let known_r = within.window.known in
+        end_is_kept order lawful same equal items known chain (take place items)
+        (drop (place + 1) items) x list r.end r.end (same_itself order lawful r.end)
+        ((reaching_is_before_past order lawful x.key.start r.end known_x.0 known_r.1).1
+        starts_before_end)
+        (end_le order lawful r.end x.key.end known_r.1 known_x.1
+        (lt_le cmp total (upper order r) (upper order x.key) ends))
+        (λ e. absurd (lt_not_le cmp total (upper order r) (upper order x.key) ends
+        (past_le order lawful x.key.end r.end known_x.1 known_r.1
+        (eq_le cmp total (end_position order x.key.end) (end_position order r.end) e))))
+
+    module _ (run : List (Item (AnyRange K) V)) (all : KeepsSpelling order items run)
+        (b : Bound K) where
+      start_of : IsStartOf order run r b → IsStartAsIn order items b
+      start_of (inl is) = subst (IsStartAsIn order items) (sym is) start_within
+      start_of (inr (inl one)) =
+          any_use (λ i. b ≡ i.key.start) IsSpelled run one all
+          (λ i is s. subst (IsStartAsIn order items) (sym is) s.0)
+      start_of (inr (inr turned)) =
+          cut_start_is_kept order lawful same equal items known chain (take place items)
+          (drop (place + 1) items) x list r within.window.known starts_before_end ends b turned
+
+      end_of : IsEndOf order run r b → IsEndAsIn order items b
+      end_of (inl is) = subst (IsEndAsIn order items) (sym is) end_within
+      end_of (inr (inl one)) =
+          any_use (λ i. b ≡ i.key.end) IsSpelled run one all
+          (λ i is s. subst (IsEndAsIn order items) (sym is) s.1)
+      end_of (inr (inr turned)) =
+          cut_end_is_kept order lawful same equal items known chain (take place items)
+          (drop (place + 1) items) x list r within.window.known starts ends_after_start b turned
+
+    run_keeps_spelling : (new front run others behind : List (Item (AnyRange K) V))
+        → items ≡ front ++ run ++ behind → new ≡ front ++ others ++ behind
+        → Every (λ j. IsStartOf order run r j.key.start × IsEndOf order run r j.key.end) others
+        → KeepsSpelling order items new
+    run_keeps_spelling new front run others behind before after made =
+        let all = subst (KeepsSpelling order items) before list_keeps_spelling in
+        let left = every_left IsSpelled (front ++ run) behind all in
+        let met = every_right IsSpelled front run left in
+        rw after (every_append IsSpelled (front ++ others) behind
+        (every_append IsSpelled front others (every_left IsSpelled front run left)
+        (every_weaker (λ j. IsStartOf order run r j.key.start × IsEndOf order run r j.key.end)
+        IsSpelled others
+        (λ j t. (start_of run met j.key.start t.0, end_of run met j.key.end t.1)) made))
+        (every_right IsSpelled (front ++ run) behind all))
+
+    pub inserted_keeps_spelling : {new : List (Item (AnyRange K) V)} {v : V}
+        → IsInserted order same items new r v → KeepsSpelling order items new
+    inserted_keeps_spelling {new} {v} h =
+        run_keeps_spelling new h.frame.front h.frame.run h.frame.others h.frame.behind
+        h.frame.before h.frame.after
+        (every_weaker (IsNewItem order same h.frame.run r v) _ h.frame.others
+        (λ j t. (t.start, t.end)) h.frame.such.made)
+
+    pub removed_keeps_spelling : {new : List (Item (AnyRange K) V)}
+        → IsRemoved order same items new r → KeepsSpelling order items new
+    removed_keeps_spelling {new} h =
+        run_keeps_spelling new h.frame.front h.frame.run h.frame.others h.frame.behind
+        h.frame.before h.frame.after
+        (every_weaker (IsPart order same h.frame.run r) _ h.frame.others
+        (λ j t. (t.start, t.end)) h.frame.such.made)

@@ -1,0 +1,270 @@
+-- What becomes of the one item that a range meets where it surrounds the range.
+use Rattle.std.proofs.Common.{◌≡◌, ℕ, ◌+◌, ◌-◌, ◌<◌, ◌≤◌, List, [], ◌∷◌, ◌++◌, length, take, drop, get_or, refl, ap, sym, ◌∙◌, arith, Option, Some, None, Bool, true, false, IsTrue, IsSome}
+use Rattle.std.specs.Cmp.{IsEquivalence}
+use Rattle.std.specs.Option.{ForSome}
+use Rattle.range_keys.specs.Order.{KeyOrder, IsLawful}
+use Rattle.range_keys.specs.Position.{position_cmp}
+use Rattle.range_algebra.specs.Clones.{SameBound}
+use Rattle.range_algebra.specs.Cuts.{lower, upper}
+use Rattle.range_algebra.specs.Intervals.{Lt, Every}
+use Rattle.range_algebra.specs.Range.{IsKnownBound}
+use Rattle.range_algebra.specs.declared.any.AnyRange.{AnyRange}
+use Rattle.range_store.proofs.Places.{good_at}
+use Rattle.range_store.specs.declared.storage.Item.{Item}
+use Rattle.range_change.specs.Answers.{AreAnswersTo}
+use Rattle.range_change.specs.Changes.{IsInserted, IsRemoved}
+use Rattle.range_change.specs.Edges.{IsDivided}
+use Rattle.range_change.specs.Edits.{flipped_bound, with_end}
+use Rattle.range_change.specs.Lookups.{Overlap, IsConnectedTo}
+use Rattle.range_change.specs.Pieces.{IsPiece}
+use Rattle.range_change.specs.Reach.{ReachesBefore, ReachesAfter, IsReach, IsSurrounded}
+use Rattle.range_change.specs.Stored.{item_upper}
+use Rattle.range_change.specs.Window.{option_items}
+use Rattle.range_change.specs.declared.cut.Parts.{Parts}
+use Rattle.range_change.specs.declared.reach.Reach.{Reach}
+use Rattle.range_change.specs.declared.window.Window.{Window}
+use Rattle.range_change.proofs.RangePieces.{IsFull}
+use Rattle.range_change.proofs.RangeSides.{edges_insert, edges_remove, left_edge_inside, right_edge_inside, left_rest_cut, right_rest_cut, left_edge_rest, right_edge_rest}
+use Rattle.range_change.proofs.Forms.{places, Chained, stored_known, stored_chain, nonempty_good}
+use Rattle.range_change.proofs.InsertionFrames.{insertion_frame, cut_way}
+use Rattle.range_change.proofs.PieceAnswers.{all_full, item_at, listed_at}
+use Rattle.range_change.proofs.Lengths.{changed_length}
+use Rattle.range_change.proofs.MergedItems.{surrounded_alone}
+use Rattle.range_change.proofs.BoundEdits.{standing_item_splits_list}
+use Rattle.range_change.proofs.InsertionPlans.{left_frame_inside, left_frame_cut, right_frame_inside, right_frame_cut, left_part, right_part}
+use Rattle.range_change.proofs.UpdatedLists.{whole_piece, whole_answer}
+
+none_of : {P : Type 0} (o : Option P) → length (option_items o) ≤ 0 → o ≡ None
+none_of None few = refl
+none_of (Some p) few = absurd (omega (arith, few))
+
+module _ {K : Type 0} (order : KeyOrder K) {V : Type 0} {P : Type 0} (is_good : P → Type 0)
+    (rank : P → ℕ) (items : List (Item (AnyRange K) V)) (r : AnyRange K) (place count : ℕ) where
+  few_before : (first : Option P) → ReachesBefore order is_good rank items r place count first
+      → length (option_items first) ≤ count
+  few_before None reach = omega arith
+  few_before (Some p) reach = omega (arith, reach.2)
+
+  few_after : (last : Option P) → ReachesAfter order is_good rank items r place count last
+      → length (option_items last) ≤ count
+  few_after None reach = omega arith
+  few_after (Some p) reach = omega (arith, reach.2)
+
+  ends_by : (last : Option P) → count ≡ 1 → IsSome last
+      → ReachesAfter order is_good rank items r place count last → (x : Item (AnyRange K) V)
+      → x ≡ get_or items place x → Lt (position_cmp order.cmp) (upper order r) (item_upper order x)
+  ends_by None one some reach x read = absurd (cc)
+  ends_by (Some p) one some reach x read = let at : place ≡ place + count - 1 =
+      omega (arith, one) in reach.3 x (read ∙ ap (λ n. get_or items n x) at)
+
+module _ {K : Type 0} {order : KeyOrder K} {V : Type 0} {same : V → V → Bool} {P : Type 0}
+    {is_good : P → Type 0} {rank : P → ℕ} {items : List (Item (AnyRange K) V)} {r : AnyRange K}
+    {place : ℕ} where
+  -- what reaches out of the range is among the items of the window
+  pub reach_is_met : {reach : Reach P} → IsReach order same is_good rank items r reach place
+      → (length (option_items reach.first) ≤ reach.window.count)
+      × (length (option_items reach.last) ≤ reach.window.count)
+  reach_is_met {reach} found = (
+    few_before order is_good rank items r place reach.window.count reach.first found.first,
+    few_after order is_good rank items r place reach.window.count reach.last found.last,
+  )
+
+  -- and a run can start there
+  pub run_can_start : {reach : Reach P} → IsReach order same is_good rank items r reach place
+      → ForSome reach.window.from is_good × ForSome reach.first (λ p. is_good p × (rank p ≡ place))
+  run_can_start {reach} found = (
+    good_at is_good rank (length items) reach.window.from place found.window.position,
+    λ p is. let first = rw is at found.first in (first.0, first.1),
+  )
+
+  -- so none does where the window is empty
+  pub none_reach : {reach : Reach P} → IsReach order same is_good rank items r reach place
+      → reach.window.count ≡ 0 → (reach.first ≡ None) × (reach.last ≡ None)
+  none_reach {reach} found none = let met =
+      reach_is_met found in (
+        none_of reach.first (rw none at met.0),
+        none_of reach.last (rw none at met.1),
+      )
+
+  -- the one item of a window, which reaches out of the range on both sides
+  pub surrounded_by : {reach : Reach P} {p : P}
+      → IsReach order same is_good rank items r reach place
+      → (reach.window.count ≡ 1) × (reach.first ≡ Some p) × IsSome reach.last
+      → IsSurrounded order same is_good rank items r reach.window place p
+  surrounded_by {reach} {p} found alone =
+      let first = rw alone.1 at found.first in
+      record {
+        window = found.window;
+        one = alone.0;
+        good = first.0;
+        here = first.1;
+        starts = first.3;
+        ends =
+            ends_by order is_good rank items r place reach.window.count reach.last alone.0 alone.2
+            found.last;
+      }
+
+module _ {K : Type 0} {order : KeyOrder K} (lawful : IsLawful order) {V : Type 0}
+    {same : V → V → Bool} (equal : IsEquivalence same) {P : Type 0} {is_good : P → Type 0}
+    {rank : P → ℕ} {items : List (Item (AnyRange K) V)} {r : AnyRange K} {w : Window P} {place : ℕ}
+    {p : P} (within : IsSurrounded order same is_good rank items r w place p)
+    (x : Item (AnyRange K) V) (read : x ≡ get_or items (rank p) x) where
+  here : x ≡ get_or items place x
+  here = read ∙ ap (λ n. get_or items n x) within.here
+
+  next : place + w.count ≡ place + 1
+  next = ap (λ n. place + n) within.one
+
+  here_end : x ≡ get_or items (place + w.count - 1) x
+  here_end = let at_end : place ≡ place + w.count - 1 =
+      omega (arith, next) in here ∙ ap (λ n. get_or items n x) at_end
+
+  some : 0 < w.count
+  some = omega (arith, within.one)
+
+  -- it has an equal value: nothing changes
+  pub stands : (v : V) → same x.value v ≡ true → IsInserted order same items items r v
+  stands v values =
+      let window = within.window in
+      let left = left_edge_inside lawful equal window v x here some (within.starts x here) values in
+      let right =
+      right_edge_inside lawful equal window v x here_end some (within.ends x here) values in
+      let list =
+      standing_item_splits_list items place (place + w.count) x
+      (omega (arith, window.in_range, some)) here next in
+      let frame =
+      insertion_frame lawful equal window items v x place (place + w.count) None None
+      (Some x.key.start) (Some x.key.end)
+      (left_frame_inside lawful equal window v x here some)
+      (right_frame_inside lawful equal window v x here_end some)
+      (omega arith) refl refl values (λ e. absurd (omega (arith, within.one, e))) list in
+      edges_insert lawful equal window items v x place (place + w.count) None None
+      (Some x.key.start) (Some x.key.end) left right refl refl values frame list
+
+  -- the range is cut out of it: what the copies are, and the list with the parts
+  module _ (parts : Parts K V)
+      (end_is : IsKnownBound order parts.end × SameBound order (flipped_bound r.start) parts.end)
+      (start_is : IsKnownBound order parts.start
+      × SameBound order (flipped_bound r.end) parts.start)
+      (alike : (d : Item (AnyRange K) V)
+      → IsTrue (same (get_or items (rank p) d).value parts.value))
+      (others new : List (Item (AnyRange K) V)) (at : ℕ) (same_list : others ≡ items)
+      (same_rank : at ≡ rank p) where
+    abbrev front : Item (AnyRange K) V
+    front = with_end x parts.end
+
+    abbrev behind : Item (AnyRange K) V
+    behind = record { key = record { start = parts.start; end = x.key.end }; value = parts.value }
+
+    copied : same parts.value x.value ≡ true
+    copied = equal.symm parts.value x.value ∙ rw (← read) at (alike x)
+
+    list_is : (middle : Option (Item (AnyRange K) V)) → IsDivided others new at parts middle
+        → new ≡ take place items ++ option_items (Some front) ++ option_items middle
+        ++ option_items (Some behind) ++ drop (place + w.count) items
+    list_is middle divided = let at_place : at ≡ place =
+        same_rank ∙ within.here in rw (same_list, at_place, sym here, sym next) at (divided x)
+
+    size_is : (middle : Option (Item (AnyRange K) V)) → IsDivided others new at parts middle
+        → length new ≡ length items + 1 + length (option_items middle)
+    size_is middle divided =
+        let window = within.window in
+        omega (
+          arith,
+          within.one,
+          changed_length items new (option_items (Some front)) (option_items middle)
+              (option_items (Some behind)) place (place + w.count)
+              (omega (arith, window.in_range)) window.in_range (list_is middle divided),
+        )
+
+    pub few_added : (middle : Option (Item (AnyRange K) V)) → IsDivided others new at parts middle
+        → length new ≤ length items + 1 + length (option_items middle)
+    few_added middle divided = omega (arith, size_is middle divided)
+
+    -- the range is bound to another value
+    pub divided_around : (v : V) → same x.value v ≡ false
+        → IsDivided others new at parts (Some (record { key = r; value = v }))
+        → IsInserted order same items new r v
+    divided_around v differs divided =
+        let window = within.window in
+        let m : Item (AnyRange K) V = record { key = r; value = v } in
+        let other : same parts.value v ≡ false =
+        equal.congr parts.value x.value v copied ∙ differs in
+        let left =
+        left_edge_rest lawful equal window v front
+        (left_rest_cut lawful equal window x here some
+        (within.starts x here) parts.end end_is.0 end_is.1) differs in
+        let right =
+        right_edge_rest lawful equal window (place + w.count) v behind window.in_range
+        (right_rest_cut lawful equal window x here_end some
+        (within.ends x here) parts.start start_is.0 start_is.1 parts.value copied) other in
+        let list = list_is (Some m) divided in
+        let frame =
+        insertion_frame lawful equal window new v m place (place + w.count) (Some front)
+        (Some behind) None None (left_frame_cut lawful equal window v x here some parts.end
+        end_is.1 differs) (right_frame_cut lawful equal window v x here_end some parts.start
+        parts.value start_is.1 copied other) (omega (arith, within.one)) refl refl
+        (equal.refl v) (λ e. refl) list in
+        edges_insert lawful equal window new v m place (place + w.count) (Some front)
+        (Some behind) None None left right refl refl (equal.refl v) frame list
+
+    -- the range is unbound
+    pub divided_alone : IsDivided others new at parts None → IsRemoved order same items new r
+    divided_alone divided =
+        let window = within.window in
+        let left =
+        left_rest_cut lawful equal window x here some
+        (within.starts x here) parts.end end_is.0 end_is.1 in
+        let right =
+        right_rest_cut lawful equal window x here_end some
+        (within.ends x here) parts.start start_is.0 start_is.1 parts.value copied in
+        let list = list_is None divided in
+        let frame =
+        cut_way lawful equal window new (Some front) (Some behind) some
+        (left_part lawful equal window x here some parts.end end_is.1, tt) (
+          right_part lawful equal window x here_end some parts.start parts.value start_is.1
+              copied,
+          tt,
+        ) (omega arith) (omega arith) list in
+        edges_remove lawful equal window new place (place + w.count) (Some front)
+        (Some behind) left right frame list
+
+  within_list : place < length items
+  within_list = omega (arith, within.window.in_range, some)
+
+  split : items ≡ take place items ++ x ∷ drop (place + 1) items
+  split = listed_at items place x within_list here
+
+  chain : Chained order lawful same equal items
+  chain = stored_chain order lawful same equal items within.window.stored
+
+  full : Every (IsFull order lawful items r) items
+  full =
+      all_full order lawful same equal r items
+      (stored_known order lawful same equal items within.window.stored) chain
+
+  good : Lt (places order lawful) (lower order r) (upper order r)
+  good = (nonempty_good order lawful r within.window.known).0 within.window.nonempty
+
+  -- no other item touches the range
+  pub alone : Every (λ i. IsConnectedTo order i.key r → Overlap order i.key r) items
+  alone =
+      surrounded_alone order lawful same equal items r within.window.known good full chain
+      (take place items) (drop (place + 1) items) x split (within.starts x here)
+      (within.ends x here)
+
+  -- the whole range is one piece
+  pub piece : IsPiece order items r r (Some x.value)
+  piece =
+      whole_piece order lawful same equal items r within.window.known full chain good
+      (take place items) (drop (place + 1) items) x split
+      (item_at (IsFull order lawful items r) items place x full within_list here).0
+      (within.starts x here) (within.ends x here)
+
+  pub answer_is_to_piece : (answer : Option V)
+      → AreAnswersTo order items r (record { key = r; value = Some x.value; answer = answer } ∷ [])
+  answer_is_to_piece answer =
+      whole_answer order lawful same equal items r within.window.known full chain good
+      (take place items) (drop (place + 1) items) x split
+      (item_at (IsFull order lawful items r) items place x full within_list here).0
+      (within.starts x here) (within.ends x here) answer

@@ -1,0 +1,235 @@
+-- A list that was changed as a closure answers, by what was put in the place of a range.
+use Rattle.std.proofs.Common.{◌≡◌, refl, sym, subst, ◌∙◌, Option, Some, None, Bool, true, IsTrue, List, [], ◌∷◌, ◌++◌, ◌⊎◌, inl, inr, ◌↔◌, Result, Ok}
+use Rattle.std.specs.Fn.{Shared}
+use denote.Ref.{Bor}
+use Rattle.std.specs.Ordering.{is_gt}
+use Rattle.std.specs.Cmp.{IsEquivalence}
+use Rattle.range_keys.specs.Order.{KeyOrder, IsLawful}
+use Rattle.range_keys.specs.Position.{start_position, end_position, position_cmp}
+use Rattle.range_keys.specs.PositionOrder.{position_total}
+use Rattle.range_algebra.specs.declared.any.AnyRange.{AnyRange}
+use Rattle.range_algebra.specs.Range.{Holds, IsKnownRange}
+use Rattle.range_algebra.specs.Intervals.{Any, Every}
+use Rattle.range_algebra.specs.Orders.{le_refl, lt_le, both}
+use Rattle.range_algebra.proofs.Lists.{any_right, every_weaker, every_left, every_right}
+use Rattle.range_store.specs.declared.storage.Item.{Item}
+use Rattle.range_change.specs.Answers.{MayAnswer, Answered, IsAsAnswered, IsGivenBy, IsGathered, IsUpdated, AreAnswersTo}
+use Rattle.range_change.specs.Bindings.{Binds, IsSomeOf}
+use Rattle.range_change.specs.Changes.{IsInserted, IsRemoved}
+use Rattle.range_change.specs.Frames.{IsUpdateFrame, IsMergedInto, IsMergeFrame, HasValue, JoinsOrMeets, IsNewItem, IsPart, IsInsertionFrame, IsRemovalFrame}
+use Rattle.range_change.specs.Lookups.{IsConnectedTo, Overlap}
+use Rattle.range_change.specs.Pieces.{later, earlier, IsCommonPart, IsPiece}
+use Rattle.range_change.specs.Replaced.{IsReplaced}
+use Rattle.range_change.proofs.RangePieces.{PLe, PLt, Lo, Hi, IsFull, IsInside, IsRight, any_use, any_over, every_with, later_over, earlier_under, either_choice_holds, cut_none, cut_more, cut_all, a_piece}
+use Rattle.range_change.proofs.Extents.{end_le}
+use Rattle.range_change.proofs.Forms.{Chained}
+use Rattle.range_change.proofs.MergedItems.{rest_stands, way_follows}
+
+module _ {K : Type 0} (order : KeyOrder K) {V : Type 0} (same : V → V → Bool)
+    (equal : IsEquivalence same) {F E : Type 0}
+    (calls : Shared F (Option (Bor V) × Unit {0}) (Result (Option V) E)) (f : F)
+    (items new : List (Item (AnyRange K) V)) (r : AnyRange K) where
+  same_is_symmetric : (a b : V) → IsTrue (same a b) → IsTrue (same b a)
+  same_is_symmetric a b h = equal.symm b a ∙ h
+
+  given_by : (answers : List (Answered K V)) (j : Item (AnyRange K) V) (v : V)
+      → same v j.value ≡ true → Any (λ a. a.answer ≡ Some j.value) answers
+      → IsGivenBy same answers v
+  given_by answers j v alike h =
+      any_over (λ a. a.answer ≡ Some j.value) (λ a. IsAsAnswered same a.answer (Some v)) answers
+      (λ a is. subst (λ o. IsAsAnswered same o (Some v)) (sym is)
+      (same_is_symmetric v j.value alike)) h
+
+  -- what was gathered stands in the place of the range
+  pub by_middle : (middle : List (Item (AnyRange K) V))
+      → IsGathered order same calls f items r middle → IsReplaced order same items new middle r
+      → IsUpdated order same calls f items new r
+  by_middle middle h put = record {
+    answered = record {
+      answers = h.answers;
+      pieces = h.pieces;
+      given = h.given;
+      held =
+          λ k key in_r.
+          any_over (λ a. Holds order a.key k
+          × ((b : Option V) → Binds order same middle k b ↔ IsAsAnswered same a.answer b))
+          (λ a. Holds order a.key k
+          × ((b : Option V) → Binds order same new k b ↔ IsAsAnswered same a.answer b)) h.answers
+          (λ a t. (
+            t.0,
+            λ b. let own =
+                put.held k key in_r b in (λ g. (t.1 b).0 (own.0 g), λ g. own.1 ((t.1 b).1 g)),
+          ))
+          (h.held k key in_r);
+      others = put.others;
+    };
+    frame = way_follows (λ run others way. record {
+      concerned = way.concerned;
+      valued =
+          every_weaker (λ j. HasValue order same run j.value ⊎ HasValue order same middle j.value)
+          (λ j. HasValue order same run j.value ⊎ IsGivenBy same h.answers j.value) others
+          (λ j t. elim t [
+            | inl old ↦ inl old
+            | inr own ↦
+                inr (any_use (λ i. IsTrue (same j.value i.value))
+                (λ i. Any (λ a. a.answer ≡ Some i.value) h.answers) middle own h.valued
+                (λ i alike from. given_by h.answers i j.value alike from))
+          ]) way.valued;
+    }) put.frame;
+  }
+
+  -- what an update does not meet stands or is merged
+  pub updated_stands : IsUpdated order same calls f items new r
+      → IsUpdateFrame order same items new r
+  updated_stands h =
+      rw (h.frame.before, h.frame.after)
+      (rest_stands order same r h.frame.front h.frame.run h.frame.others h.frame.behind
+      h.frame.such.concerned)
+
+  abbrev one_answer : V → Option V → List (Answered K V)
+  one_answer v answer = record { key = r; value = Some v; answer = answer } ∷ []
+
+  meets_alone : (i : Item (AnyRange K) V) (v : V) → JoinsOrMeets order same r v i
+      → (IsConnectedTo order i.key r → Overlap order i.key r) → Overlap order i.key r
+  meets_alone i v (inl meets) alone = meets
+  meets_alone i v (inr touches) alone = alone (inr touches.0)
+
+  module _ (old : V) where
+    inserted_frame : (v : V)
+        → Every (λ i. IsConnectedTo order i.key r → Overlap order i.key r) items
+        → IsInsertionFrame order same items new r v
+        → IsMergeFrame order same items new r (IsGivenBy same (one_answer old (Some v)))
+    inserted_frame v alone h =
+        let met =
+        every_right _ h.front h.run
+        (every_left _ (h.front ++ h.run) h.behind (rw h.before at alone)) in
+        record {
+          front = h.front;
+          run = h.run;
+          others = h.others;
+          behind = h.behind;
+          before = h.before;
+          after = h.after;
+          such = record {
+            concerned =
+                every_with (JoinsOrMeets order same r v) _
+                (λ i. Overlap order i.key r ⊎ IsMergedInto order same h.others r i) h.run
+                h.such.concerned met (λ i t a. inl (meets_alone i v t a));
+            valued =
+                every_weaker (IsNewItem order same h.run r v)
+                (λ j. HasValue order same h.run j.value ⊎ IsGivenBy same
+                (one_answer old (Some v)) j.value) h.others (λ j t. elim t.value [
+                  | inl own ↦ inr (inl (same_is_symmetric j.value v own))
+                  | inr other ↦ inl other
+                ]) h.such.made;
+          };
+        }
+
+    removed_frame : IsRemovalFrame order same items new r
+        → IsMergeFrame order same items new r (IsGivenBy same (one_answer old None))
+    removed_frame = way_follows (λ run others way. record {
+      concerned = every_weaker _ _ run (λ i t. inl t) way.concerned;
+      valued =
+          every_weaker (IsPart order same run r)
+          (λ j. HasValue order same run j.value ⊎ IsGivenBy same (one_answer old None) j.value)
+          others (λ j t. inl t.value) way.made;
+    })
+
+    some_of : (v : V) (k : K) (b : Option V) → Binds order same new k b ↔ IsSomeOf order same v b
+        → Binds order same new k b ↔ IsAsAnswered same (Some v) b
+    some_of v k None h = h
+    some_of v k (Some w) h = h
+
+    pub by_insertion : (v : V)
+        → Every (λ i. IsConnectedTo order i.key r → Overlap order i.key r) items
+        → AreAnswersTo order items r (one_answer old (Some v))
+        → MayAnswer calls f (Some old) (Ok (Some v)) → IsInserted order same items new r v
+        → IsUpdated order same calls f items new r
+    by_insertion v alone pieces says h = record {
+      answered = record {
+        answers = one_answer old (Some v);
+        pieces = pieces;
+        given = (says, tt);
+        held = λ k key in_r. inl (in_r, λ b. some_of v k b (h.bound.held k key in_r b));
+        others = h.bound.others;
+      };
+      frame = inserted_frame v alone h.frame;
+    }
+
+    pub by_removal : AreAnswersTo order items r (one_answer old None)
+        → MayAnswer calls f (Some old) (Ok None) → IsRemoved order same items new r
+        → IsUpdated order same calls f items new r
+    by_removal pieces says h = record {
+      answered = record {
+        answers = one_answer old None;
+        pieces = pieces;
+        given = (says, tt);
+        held = λ k key in_r. inl (in_r, λ b. h.unbound.held k key in_r b);
+        others = h.unbound.others;
+      };
+      frame = removed_frame h.frame;
+    }
+
+-- a range that one item surrounds is one piece
+module _ {K : Type 0} (order : KeyOrder K) (lawful : IsLawful order) {V : Type 0}
+    (same : V → V → Bool) (equal : IsEquivalence same) (items : List (Item (AnyRange K) V))
+    (r : AnyRange K) (known : IsKnownRange order r)
+    (full : Every (IsFull order lawful items r) items)
+    (chain : Chained order lawful same equal items)
+    (some : PLt order lawful (Lo order lawful r) (Hi order lawful r))
+    (done rest : List (Item (AnyRange K) V)) (x : Item (AnyRange K) V)
+    (list : items ≡ done ++ x ∷ rest) (known_x : IsKnownRange order x.key)
+    (starts : PLt order lawful (Lo order lawful x.key) (Lo order lawful r))
+    (ends : PLt order lawful (Hi order lawful r) (Hi order lawful x.key)) where
+  whole_inside : IsInside order lawful items r r
+  whole_inside = (
+    known,
+    le_refl (position_cmp order.cmp) (position_total order.cmp lawful.total) (Lo order lawful r),
+    some,
+    le_refl (position_cmp order.cmp) (position_total order.cmp lawful.total) (Hi order lawful r),
+  )
+
+  whole_common : IsCommonPart order r x.key r
+  whole_common =
+      let cmp = position_cmp order.cmp in
+      let total = position_total order.cmp lawful.total in
+      let p = start_position order r.start in
+      let q = start_position order x.key.start in
+      let u = end_position order r.end in
+      let v = end_position order x.key.end in
+      let under =
+      end_le order lawful r.end x.key.end known.1 known_x.1
+      (lt_le cmp total (Hi order lawful r) (Hi order lawful x.key) ends) in
+      record {
+        starts =
+            both cmp total p (later order p q) (later_over order lawful p q).0
+            (either_choice_holds order lawful (λ y. PLe order lawful y p) (is_gt (cmp p q)) p q
+            (le_refl cmp total p) (lt_le cmp total q p starts));
+        ends =
+            both cmp total u (earlier order u v)
+            (either_choice_holds order lawful (λ y. PLe order lawful u y)
+            (is_gt (cmp u v)) v u under (le_refl cmp total u)) (earlier_under order lawful u v).0;
+      }
+
+  whole_right : IsRight order lawful items r r (Some x.value)
+  whole_right =
+      rw list (any_right (λ i. IsCommonPart order r i.key r × (i.value ≡ x.value)) done (x ∷ rest)
+      (inl (whole_common, refl)))
+
+  pub whole_piece : IsPiece order items r r (Some x.value)
+  whole_piece = a_piece order lawful items r known full r (Some x.value) whole_inside whole_right
+
+  pub whole_answer : (answer : Option V)
+      → AreAnswersTo order items r (record { key = r; value = Some x.value; answer = answer } ∷ [])
+  whole_answer answer =
+      let cmp = position_cmp order.cmp in
+      let total = position_total order.cmp lawful.total in
+      let lo = Lo order lawful r in
+      let hi = Hi order lawful r in
+      let a : Answered K V = record { key = r; value = Some x.value; answer = answer } in
+      let cut =
+      cut_more order lawful items r lo hi [] a
+      (cut_none order lawful items r) whole_inside whole_right (le_refl cmp total lo)
+      (le_refl cmp total hi) (λ p low high before. inr (low, high)) in
+      cut_all order lawful items r known same equal full chain hi (a ∷ []) cut
+      (le_refl cmp total hi)

@@ -1,0 +1,48 @@
+use Rattle.std.proofs.Common.{sym, arith, Some}
+use Rattle.range_change.proofs.Results.{error_has_no_value, on_error}
+use Rattle.range_change.proofs.Surrounded.{stands, divided_around, few_added}
+use Rattle.range_change.proofs.bind.bind_inside.Goals as goal
+
+pub returns-then-joins-clause-ok : goal.returns-then-joins-clause-ok
+returns-then-joins-clause-ok g c =
+    stands g.met.K.PartialEnum.lawful g.met.V.Eq.laws c.requires.within c.get.result.now
+    c.get.ensures c.args.value (sym c.if-joins.ensures)
+
+pub returns : goal.returns
+returns g c =
+    let lawful = g.met.K.PartialEnum.lawful in
+    let equal = g.met.V.Eq.laws in
+    let storage = g.C.Storage in
+    let within = c.requires.within in
+    let x = c.get.result.now in
+    let parts = c.in_ok-parts.parts in
+    let cloned = c.in_ok-parts.ensures in
+    let end = rw (c.start_bound-start.ensures tt) at cloned.end in
+    let start = rw (c.end_bound-end.ensures tt) at cloned.start in
+    let rank = (c.prepare_parts.ensures.positions c.args.p within.good).1 in
+    let new = storage.items c.divide.new.stored in
+    record {
+      ok =
+          divided_around lawful equal within x c.get.ensures parts end start cloned.value _ new _
+          c.prepare_parts.ensures.list rank c.args.value (sym c.if-joins.ensures) c.divide.ensures;
+      few =
+          omega (
+            arith,
+            few_added lawful equal within x c.get.ensures parts end start cloned.value _ new _
+                c.prepare_parts.ensures.list rank (Some _) c.divide.ensures,
+          );
+      refused = tt;
+    }
+
+pub prepare_parts-requires-clause-good : goal.prepare_parts-requires-clause-good
+prepare_parts-requires-clause-good g c =
+    c.requires.within.good
+
+pub returns-in_err-parts : goal.returns-in_err-parts
+returns-in_err-parts g c =
+    record {
+      ok = error_has_no_value _ c.from_residual.result c.from_residual.ensures.0;
+      few = error_has_no_value _ c.from_residual.result c.from_residual.ensures.0;
+      refused =
+          on_error _ c.from_residual.result c.prepare_parts.ensures.list;
+    }

@@ -1,0 +1,27 @@
+use Rattle.std.proofs.Common.{sym}
+use Rattle.range_change.proofs.InsertionPlans.{left_plan_inside, left_plan_cut}
+use Rattle.range_change.proofs.JoinedMiddle.{left_touched}
+use Rattle.range_change.proofs.edges.joins_before.Goals as goal
+
+pub returns-then-eq-clause-joins : goal.returns-then-eq-clause-joins
+returns-then-eq-clause-joins g c = λ lawful equal b at known_b same_b start.
+    let is = c.in-Some.is in
+    rw (
+      is,
+      start,
+    ) (left_plan_inside lawful equal c.requires.window c.args.value.now c.in-Some.first
+    c.get.result.now (rw is at c.requires.first) c.get.ensures (sym c.if-eq.ensures))
+
+pub returns-else-eq-clause-joins : goal.returns-else-eq-clause-joins
+returns-else-eq-clause-joins g c = λ lawful equal b at known_b same_b start.
+    let is = c.in-Some.is in
+    rw is (left_plan_cut lawful equal c.requires.window c.args.value.now c.in-Some.first
+    c.get.result.now b at (rw is at c.requires.first) c.get.ensures
+    (sym c.if-eq.ensures) known_b same_b (rw is at start))
+
+pub returns-in-None-clause-joins : goal.returns-in-None-clause-joins
+returns-in-None-clause-joins g c = λ lawful equal b at known_b same_b start.
+    let is = c.in-None.is in
+    rw is (left_touched lawful equal c.requires.window c.args.value.now c.joined_before.result b at
+    (g.met.C.Storage.good_is_in_range c.args.stored.now)
+    (rw is at c.requires.first) c.joined_before.ensures.joined (rw is at start))

@@ -1,0 +1,31 @@
+use Rattle.std.proofs.Common.{refl}
+use Rattle.range_keys.specs.Position.{bound_of}
+use Rattle.range_change.specs.Edits.{flipped_bound}
+use Rattle.range_change.proofs.CutParts.{known_turned, same_turned}
+use Rattle.range_change.proofs.edges.seam_at.Goals as goal
+
+pub returns-in-Some-default : goal.returns-in-Some-default
+returns-in-Some-default g c =
+    let order = g.K.MaybeBounded.order in
+    let lawful = g.met.K.PartialEnum.lawful in
+    let bound = bound_of c.args.bound in
+    record {
+      cut = flipped_bound bound;
+      at = rw c.in-Some-default.is-0 refl;
+      known = known_turned order lawful bound c.known_bound.ensures;
+      flipped =
+          same_turned order lawful bound;
+    }
+
+pub returns-in-None-None : goal.returns-in-None-None
+returns-in-None-None g c =
+    let order = g.K.MaybeBounded.order in
+    let lawful = g.met.K.PartialEnum.lawful in
+    let bound = bound_of c.args.bound in
+    record {
+      cut = flipped_bound bound;
+      at = rw (c.in-None-None.is-0, c.in-None-None.is-1) refl;
+      known = known_turned order lawful bound c.known_bound.ensures;
+      flipped =
+          same_turned order lawful bound;
+    }

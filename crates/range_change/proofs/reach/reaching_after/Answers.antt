@@ -1,0 +1,39 @@
+use Rattle.std.proofs.lemmas.Grind.{common_steps}
+use Rattle.std.proofs.Common.{◌≡◌, ◌+◌, ◌-◌, ◌<◌, length, get_or, ap, sym, ◌∙◌, arith, IsTrue, subst}
+use Rattle.std.proofs.lemmas.List.{get_or_read}
+use Rattle.range_keys.specs.Position.{position_cmp}
+use Rattle.range_keys.specs.PositionOrder.{position_total}
+use Rattle.range_algebra.specs.Cuts.{upper}
+use Rattle.range_algebra.specs.Intervals.{Le}
+use Rattle.range_algebra.specs.Orders.{not_lt}
+use Rattle.range_store.specs.Places.{place_before}
+use Rattle.range_change.specs.Stored.{item_upper}
+use Rattle.range_change.proofs.Tests.{not_both}
+use Rattle.range_change.proofs.reach.reaching_after.Goals as goal
+
+pub returns-else-ends_after-clause-reaching : goal.returns-else-ends_after-clause-reaching
+returns-else-ends_after-clause-reaching g c = λ x some read.
+    let order = g.K.MaybeBounded.order in
+    let storage = g.C.Storage in
+    let stored = c.args.stored.now in
+    let items = storage.items stored in
+    let w = c.args.window.now in
+    let place = place_before (storage.rank stored) (length items) w.from in
+    let last = rw c.in-Some.is at c.requires.window.last_is in
+    let index : storage.rank stored c.in-Some.last ≡ place + w.count - 1 = omega (arith, last.1) in
+    let within : place + w.count - 1 < length items =
+    omega (arith, some, c.requires.window.in_range) in
+    let item = c.get.result.now in
+    let here : item ≡ get_or items (place + w.count - 1) item =
+    c.get.ensures ∙ ap (λ n. get_or items n item) index in
+    let same : x ≡ item = get_or_read items (place + w.count - 1) x within read item ∙ sym here in
+    let cmp = position_cmp order.cmp in
+    let ends : Le cmp (item_upper order item) (upper order (g.R.AsRange.range c.args.range.now)) =
+    not_lt cmp (position_total order.cmp g.met.K.PartialEnum.lawful.total)
+    (item_upper order item) (upper order (g.R.AsRange.range c.args.range.now))
+    (λ l. not_both c.if-ends_after.false (c.ends_after.ensures.1 l)) in
+    subst (λ y. Le cmp (item_upper order y) (upper order (g.R.AsRange.range c.args.range.now)))
+    (sym same) ends
+
+pub returns-then-ends_after-clause-reaching : goal.returns-then-ends_after-clause-reaching
+returns-then-ends_after-clause-reaching g c = grind (arith, common_steps)

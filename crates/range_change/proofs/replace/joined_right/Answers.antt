@@ -1,0 +1,55 @@
+use Rattle.std.proofs.lemmas.Bool.{false≢true}
+use Rattle.std.proofs.Common.{◌≡◌, refl, ap, inl, inr}
+use Rattle.std.specs.Prelude.{option_copied}
+use Rattle.std.specs.declared.cmp.Ordering.TheVariants.{Equal}
+use Rattle.range_keys.specs.PositionOrder.{position_total}
+use Rattle.range_algebra.specs.Cuts.{upper}
+use Rattle.range_algebra.specs.Intervals.{Lt}
+use Rattle.range_algebra.specs.Orders.{both, not_lt}
+use Rattle.range_algebra.specs.declared.any.AnyRange.{AnyRange}
+use Rattle.range_store.specs.declared.storage.Item.{Item}
+use Rattle.range_change.specs.Stored.{item_upper}
+use Rattle.range_change.proofs.Forms.{places}
+use Rattle.range_change.proofs.JoinedMiddle.{got_only, got_none, within_end, right_cut_any}
+use Rattle.range_change.proofs.replace.joined_right.Goals as goal
+
+pub returns-in_default : goal.returns-in_default
+returns-in_default g c = λ lawful equal b known_b same_b.
+    inr (
+      got_none _ c.args.previous c.in_default.is,
+      right_cut_any lawful equal c.requires.reach.window c.args.reach.now.last b
+          c.requires.reach.last known_b same_b,
+    )
+
+pub returns-then-ends_after : goal.returns-then-ends_after
+returns-then-ends_after g c = λ lawful equal b known_b same_b.
+    let order = g.K.MaybeBounded.order in
+    let Earlier =
+    λ (m : Item (AnyRange g.row.K.Denot) g.row.V.Denot). Lt (places order lawful)
+    (item_upper order m) (upper order c.args.range.now) in
+    inr (
+      got_only Earlier c.args.previous c.in-Some.item c.in-Some.is
+          (c.if-ends_after.ensures.0 refl),
+      right_cut_any lawful equal c.requires.reach.window c.args.reach.now.last b
+          c.requires.reach.last known_b same_b,
+    )
+
+pub returns : goal.returns
+returns g c = λ lawful equal b known_b same_b.
+    let order = g.K.MaybeBounded.order in
+    let cmp = places order lawful in
+    let total = position_total order.cmp lawful.total in
+    let m = c.in-Some.item.now in
+    let r = c.args.range.now in
+    let within = rw c.in-Some.is at c.requires.within in
+    let here : cmp (item_upper order m) (upper order r) ≡ Equal =
+    both cmp total (item_upper order m) (upper order r)
+    (within_end order lawful m.key r c.known.ensures c.requires.reach.window.known within)
+    (not_lt cmp total (upper order r) (item_upper order m)
+    (λ l. false≢true (c.if-ends_after.ensures.1 l))) in
+    inl (
+      m,
+      ap option_copied c.in-Some.is,
+      here,
+      c.joins_after.ensures.joins lawful equal b known_b same_b,
+    )

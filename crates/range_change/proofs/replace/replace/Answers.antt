@@ -1,0 +1,174 @@
+use Rattle.std.proofs.lemmas.Grind.{common_steps}
+use Rattle.std.proofs.Common.{◌≡◌, ◌+◌, ◌-◌, length, ap, ◌∙◌, arith}
+use Rattle.std.specs.Prelude.{slice_get, option_copied}
+use Rattle.range_store.specs.Places.{place_before}
+use Rattle.range_change.specs.Edges.{joined_count, seam_edge}
+use Rattle.range_change.specs.Edits.{flipped_bound}
+use Rattle.range_change.proofs.InsertionFrames.{all_meet}
+use Rattle.range_change.proofs.Planned.{plan_fits}
+use Rattle.range_change.proofs.Replaced.{IsReplacement, plans_replacement, replacement_is_made}
+use Rattle.range_change.proofs.Results.{error_has_no_value, on_error}
+use Rattle.range_change.proofs.JoinedMiddle.{seam_count}
+use Rattle.range_change.proofs.SpelledChanges.{replaced_keeps_spelling}
+use Rattle.range_change.proofs.Surrounded.{run_can_start}
+use Rattle.range_change.proofs.replace.replace.Given.{Over}
+use Rattle.range_change.proofs.replace.replace.Goals.{After-run_start}
+use Rattle.range_change.proofs.replace.replace.Goals as goal
+
+-- how the run is divided between the items that join and those that are cut
+plan_is_replacement : (g : Over) (c : After-run_start g)
+    → IsReplacement g.K.MaybeBounded.order g.met.K.PartialEnum.lawful g.V.PartialEq.eq
+    g.met.V.Eq.laws (g.C.Storage.is_good c.args.stored.now) (g.C.Storage.rank c.args.stored.now)
+    (g.C.Storage.items c.args.stored.now) c.args.range
+    (place_before (g.C.Storage.rank c.args.stored.now)
+    (length (g.C.Storage.items c.args.stored.now)) c.args.reach.now.window.from)
+    c.args.reach.now.window.count c.args.middle.items c.args.reach.now.first c.args.reach.now.last
+    c.joined_left-before.result c.joined_right-after.result c.run_start.result
+plan_is_replacement g c =
+    let order = g.K.MaybeBounded.order in
+    let lawful = g.met.K.PartialEnum.lawful in
+    let equal_values = g.V.PartialEq.eq in
+    let equal = g.met.V.Eq.laws in
+    let storage = g.C.Storage in
+    let stored = c.args.stored.now in
+    let items = storage.items stored in
+    let r = c.args.range in
+    let w = c.args.reach.now.window in
+    let place = place_before (storage.rank stored) (length items) w.from in
+    let middle = c.args.middle.items in
+    let first = c.args.reach.now.first in
+    let last = c.args.reach.now.last in
+    let joined = c.joined_left-before.result in
+    let other = c.joined_right-after.result in
+    let from = c.run_start.result in
+    let is_first = c.first.ensures.value ∙ ap (λ xs. slice_get xs 0) c.deref.ensures.value in
+    let is_last =
+    c.last.ensures.value
+    ∙ ap (λ xs. slice_get xs (length xs - 1)) c.deref-2.ensures.value in
+    plans_replacement order lawful equal_values equal (storage.is_good stored)
+    (storage.rank stored) items r place w.count middle first last joined other
+    from (option_copied c.first.result)
+    (option_copied c.last.result) c.requires.reach.window.stored c.requires.middle
+    c.requires.within c.requires.reach.window.known c.requires.reach.window.nonempty
+    c.requires.reach.window.in_range c.requires.apart is_first is_last c.run_start.ensures
+    (c.joined_left-before.ensures lawful equal) (c.joined_right-after.ensures lawful equal)
+
+pub run_start-requires-clause-from : goal.run_start-requires-clause-from
+run_start-requires-clause-from g c = (run_can_start c.requires.reach).0
+
+pub run_start-requires-clause-first : goal.run_start-requires-clause-first
+run_start-requires-clause-first g c = (run_can_start c.requires.reach).1
+
+pub run_length-requires-clause-fits : goal.run_length-requires-clause-fits
+run_length-requires-clause-fits g c =
+    let at = goal.at.run_length-requires-clause-fits g c in
+    let plan = plan_is_replacement g at.After-run_start in
+    omega (arith, plan.upto, plan.within, g.met.C.Storage.length_fits c.args.stored.now)
+
+pub change_to-requires : goal.change_to-requires
+change_to-requires g c =
+    let plan = plan_is_replacement g (goal.at.change_to-requires g c).After-run_start in
+    let order = g.K.MaybeBounded.order in
+    let reach = c.args.reach.now in
+    let r = c.args.range in
+    let joined = c.joined_left-before.result in
+    let other = c.joined_right-after.result in
+    let edge = seam_edge joined reach.first (flipped_bound r.start) in
+    let behind = seam_edge other reach.last (flipped_bound r.end) in
+    let edge_is : c.seam-left.result ≡ edge =
+    c.seam-left.ensures
+    ∙ ap (seam_edge joined reach.first)
+    (c.flip_bound.ensures ∙ ap flipped_bound c.into_bounds-start.ensures.start) in
+    let behind_is : c.seam-right.result ≡ behind =
+    c.seam-right.ensures
+    ∙ ap (seam_edge other reach.last)
+    (c.flip_bound-2.ensures ∙ ap flipped_bound c.into_bounds-start.ensures.end) in
+    let left = plan.left in
+    let right = plan.right in
+    let sum : left.begin + c.run_length.result ≡ right.upto =
+    omega (arith, plan.upto, c.run_length.ensures) in
+    let fit =
+    plan_fits c.reserve.ensures.positions c.reserve.ensures.list edge behind
+    c.run_start.result c.run_length.result left.at left.begin right.upto right.end left.rest
+    right.rest left.start right.finish left.shape right.shape left.run sum right.in_range in
+    record {
+      left = rw edge_is fit.left_good;
+      right = rw behind_is fit.right_good;
+      good = fit.good;
+      in_range = fit.in_range;
+      space = grind (arith, common_steps);
+    }
+
+pub returns : goal.returns
+returns g c =
+    let plan = plan_is_replacement g (goal.at.returns g c).After-run_start in
+    let order = g.K.MaybeBounded.order in
+    let reach = c.args.reach.now in
+    let r = c.args.range in
+    let joined = c.joined_left-before.result in
+    let other = c.joined_right-after.result in
+    let edge = seam_edge joined reach.first (flipped_bound r.start) in
+    let behind = seam_edge other reach.last (flipped_bound r.end) in
+    let edge_is : c.seam-left.result ≡ edge =
+    c.seam-left.ensures
+    ∙ ap (seam_edge joined reach.first)
+    (c.flip_bound.ensures ∙ ap flipped_bound c.into_bounds-start.ensures.start) in
+    let behind_is : c.seam-right.result ≡ behind =
+    c.seam-right.ensures
+    ∙ ap (seam_edge other reach.last)
+    (c.flip_bound-2.ensures ∙ ap flipped_bound c.into_bounds-start.ensures.end) in
+    let left = plan.left in
+    let right = plan.right in
+    let sum : left.begin + c.run_length.result ≡ right.upto =
+    omega (arith, plan.upto, c.run_length.ensures) in
+    let fit =
+    plan_fits c.reserve.ensures.positions c.reserve.ensures.list edge behind
+    c.run_start.result c.run_length.result left.at left.begin right.upto right.end left.rest
+    right.rest left.start right.finish left.shape right.shape left.run sum right.in_range in
+    let joins = seam_count joined reach.first (flipped_bound r.start) in
+    let joins_behind = seam_count other reach.last (flipped_bound r.end) in
+    let done =
+    c.change_to.ensures left.at right.end left.rest right.rest left.start right.finish
+    (rw edge_is fit.on_left) (rw behind_is fit.on_right)
+    (omega (
+      arith,
+      ap joined_count edge_is ∙ joins,
+      ap joined_count behind_is
+          ∙ joins_behind,
+      c.run_length.ensures,
+    )) in
+    let lawful = g.met.K.PartialEnum.lawful in
+    let equal = g.met.V.Eq.laws in
+    let stored = c.args.stored.now in
+    let items = g.C.Storage.items stored in
+    let window = c.requires.reach.window in
+    record {
+      ok =
+          replacement_is_made order lawful g.V.PartialEq.eq equal (g.C.Storage.is_good stored)
+          (g.C.Storage.rank stored) items r
+          (place_before (g.C.Storage.rank stored) (length items) reach.window.from)
+          reach.window.count (g.C.Storage.items c.change_to.new.stored) c.args.middle.items
+          reach.first reach.last edge behind c.run_start.result window.stored c.requires.middle
+          window.known (all_meet lawful equal window) left right
+          (rw c.reserve.ensures.list at done);
+      spelled =
+          replaced_keeps_spelling lawful equal window.stored c.requires.reach joined other
+          (g.C.Storage.items c.change_to.new.stored) c.args.middle.items left.at left.begin
+          right.upto right.end left.rest right.rest left.start right.finish left.shape left.begins
+          right.shape right.in_range (rw c.reserve.ensures.list at done);
+      refused = tt;
+    }
+
+pub returns-in_err-reserve : goal.returns-in_err-reserve
+returns-in_err-reserve g c =
+    record {
+      ok = error_has_no_value _ c.from_residual.result c.from_residual.ensures.0;
+      spelled = λ kept. error_has_no_value _ c.from_residual.result c.from_residual.ensures.0;
+      refused = on_error _ c.from_residual.result c.reserve.ensures.list;
+    }
+
+pub joined_left-before-requires-clause-within : goal.joined_left-before-requires-clause-within
+joined_left-before-requires-clause-within g c = grind (arith, common_steps)
+
+pub joined_right-after-requires-clause-within : goal.joined_right-after-requires-clause-within
+joined_right-after-requires-clause-within g c = grind (arith, common_steps)

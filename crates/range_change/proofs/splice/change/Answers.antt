@@ -1,0 +1,97 @@
+use Rattle.std.proofs.Common.{◌≡◌, ◌+◌, ◌∷◌, ◌++◌, length, take, drop, ap, ◌∙◌, arith}
+use Rattle.std.specs.Option.{unwrap_or}
+use Rattle.range_algebra.specs.declared.any.AnyRange.{AnyRange}
+use Rattle.range_store.specs.declared.storage.Item.{Item}
+use Rattle.range_store.specs.Places.{place_before}
+use Rattle.range_change.specs.Window.{option_items}
+use Rattle.range_change.proofs.BoundEdits.{kept_place, opening_regroups, regrouped_out}
+use Rattle.range_change.proofs.splice.change.Goals as goal
+
+pub replace_run-requires-clause-in_range : goal.replace_run-requires-clause-in_range
+replace_run-requires-clause-in_range g c =
+    let storage = g.C.Storage in
+    let stored = c.args.stored.now in
+    let ready = c.open_sides-start.new.stored in
+    let kept = c.open_sides-start.ensures in
+    let here =
+    kept_place (storage.is_good stored) (storage.is_good ready) (storage.rank stored)
+    (storage.rank ready) (length (storage.items stored))
+    (length (storage.items ready)) c.args.sides.run.at kept.positions kept.size
+    c.requires.good in
+    rw (here, kept.size) c.requires.in_range
+
+pub remove_rest-requires-clause-in_range : goal.remove_rest-requires-clause-in_range
+remove_rest-requires-clause-in_range g c =
+    let storage = g.C.Storage in
+    let stored = c.args.stored.now in
+    let ready = c.open_sides-start.new.stored in
+    let kept = c.open_sides-start.ensures in
+    let here =
+    kept_place (storage.is_good stored) (storage.is_good ready) (storage.rank stored)
+    (storage.rank ready) (length (storage.items stored))
+    (length (storage.items ready)) c.args.sides.run.at kept.positions kept.size
+    c.requires.good in
+    rw (here, kept.size) c.requires.in_range
+
+pub returns-in-Some : goal.returns-in-Some
+returns-in-Some g c = λ at end before behind start finish left_shape right_shape le.
+    let storage = g.C.Storage in
+    let stored = c.args.stored.now in
+    let items = storage.items stored in
+    let ready = c.open_sides-start.new.stored in
+    let kept = c.open_sides-start.ensures in
+    let from = place_before (storage.rank stored) (length items) c.args.sides.run.at in
+    let upto = from + c.args.sides.run.left in
+    let here =
+    kept_place (storage.is_good stored) (storage.is_good ready) (storage.rank stored)
+    (storage.rank ready) (length items)
+    (length (storage.items ready)) c.args.sides.run.at kept.positions kept.size
+    c.requires.good in
+    let opened =
+    kept.opened at from upto end before behind start finish left_shape right_shape
+    (omega (arith, le)) in
+    let own = c.into_bounds-own_start in
+    let starts : c.joined.result ≡ unwrap_or start c.in-Some.field-0.key.start =
+    c.joined.ensures
+    ∙ (ap (λ o. unwrap_or o own.result.0) opened.start_is
+    ∙ ap (unwrap_or start) own.ensures.start) in
+    let ends : c.joined-in-Some.result ≡ unwrap_or finish c.in-Some.field-0.key.end =
+    c.joined-in-Some.ensures
+    ∙ (ap (λ o. unwrap_or o own.result.1) opened.end_is
+    ∙ ap (unwrap_or finish) own.ensures.end) in
+    let done = rw here at c.replace_run.ensures in
+    let item : Item (AnyRange g.row.K.Denot) g.row.V.Denot =
+    record {
+      key = record { start = c.joined.result; end = c.joined-in-Some.result };
+      value = c.in-Some.field-0.value;
+    } in
+    rw (c.in-Some.is, ← starts, ← ends)
+    (done
+    ∙ (ap (λ ys. ys ++ item ∷ drop upto (storage.items ready)) opened.front
+    ∙ (ap (λ ys. (take at items ++ option_items before) ++ item ∷ ys) opened.behind
+    ∙ opening_regroups (take at items) (option_items before) (option_items behind)
+    (drop end items) item)))
+
+pub returns-in-None : goal.returns-in-None
+returns-in-None g c = λ at end before behind start finish left_shape right_shape le.
+    let storage = g.C.Storage in
+    let stored = c.args.stored.now in
+    let items = storage.items stored in
+    let ready = c.open_sides-start.new.stored in
+    let kept = c.open_sides-start.ensures in
+    let from = place_before (storage.rank stored) (length items) c.args.sides.run.at in
+    let upto = from + c.args.sides.run.left in
+    let here =
+    kept_place (storage.is_good stored) (storage.is_good ready) (storage.rank stored)
+    (storage.rank ready) (length items)
+    (length (storage.items ready)) c.args.sides.run.at kept.positions kept.size
+    c.requires.good in
+    let opened =
+    kept.opened at from upto end before behind start finish left_shape right_shape
+    (omega (arith, le)) in
+    let done = rw here at c.remove_rest.ensures.list in
+    rw c.in-None.is (done
+    ∙ (ap (λ ys. ys ++ drop upto (storage.items ready)) opened.front
+    ∙ (ap (λ ys. (take at items ++ option_items before) ++ ys) opened.behind
+    ∙ regrouped_out (take at items) (option_items before) (option_items behind)
+    (drop end items))))

@@ -1,0 +1,62 @@
+use Rattle.std.proofs.lemmas.Grind.{common_steps}
+use Rattle.std.proofs.Common.{◌≡◌, ◌+◌, ◌++◌, length, take, drop, ap, sym, ◌∙◌, arith, append_assoc}
+use Rattle.range_store.specs.Places.{place_before}
+use Rattle.range_change.specs.Seams.{with_first_start, with_last_end}
+use Rattle.range_change.specs.Window.{option_items}
+use Rattle.range_change.proofs.OuterBounds.{length_started, length_ended}
+use Rattle.range_change.proofs.BoundEdits.{kept_place}
+use Rattle.range_change.proofs.splice.change_to.Goals as goal
+
+pub replace_run_by-requires : goal.replace_run_by-requires
+replace_run_by-requires g c =
+    let started =
+    ap length c.start_at.ensures
+    ∙ length_started c.open_sides-start.result.0 c.args.items.items in
+    let size =
+    ap length c.end_at.ensures
+    ∙ length_ended c.open_sides-start.result.1 c.start_at.new.items.items in
+    record {
+      good = grind (arith, common_steps);
+      in_range = grind (arith, common_steps);
+      space = omega (arith, c.requires.space, size, started, c.open_sides-start.ensures.space);
+    }
+
+pub returns : goal.returns
+returns g c = λ at end before behind start finish left_shape right_shape le.
+    let storage = g.C.Storage in
+    let stored = c.args.stored.now in
+    let items = storage.items stored in
+    let ready = c.open_sides-start.new.stored in
+    let kept = c.open_sides-start.ensures in
+    let from = place_before (storage.rank stored) (length items) c.args.sides.run.at in
+    let upto = from + c.args.sides.run.left in
+    let here =
+    kept_place (storage.is_good stored) (storage.is_good ready) (storage.rank stored)
+    (storage.rank ready) (length items)
+    (length (storage.items ready)) c.args.sides.run.at kept.positions kept.size
+    c.requires.good in
+    let opened =
+    kept.opened at from upto end before behind start finish left_shape right_shape
+    (omega (arith, le)) in
+    let own = with_last_end finish (with_first_start start c.args.items.items) in
+    let put = c.end_at.new.items.items in
+    let put_is : put ≡ own =
+    c.end_at.ensures
+    ∙ (ap (λ o. with_last_end o c.start_at.new.items.items) opened.end_is
+    ∙ ap (with_last_end finish)
+    (c.start_at.ensures ∙ ap (λ o. with_first_start o c.args.items.items) opened.start_is))
+    in
+    let done = rw here at c.replace_run_by.ensures in
+    done
+    ∙ (ap (λ ys. ys ++ put ++ drop upto (storage.items ready)) opened.front
+    ∙ (ap (λ ys. (take at items ++ option_items before) ++ ys
+    ++ drop upto (storage.items ready)) put_is
+    ∙ (ap (λ ys. (take at items ++ option_items before ++ own) ++ ys) opened.behind
+    ∙ sym (append_assoc (take at items ++ option_items before ++ own) (option_items behind)
+    (drop end items)))))
+
+pub end_at-requires : goal.end_at-requires
+end_at-requires g c = grind (arith, common_steps)
+
+pub start_at-requires : goal.start_at-requires
+start_at-requires g c = grind (arith, common_steps)

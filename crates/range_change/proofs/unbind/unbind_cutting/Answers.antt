@@ -1,0 +1,141 @@
+use Rattle.std.proofs.Common.{refl, ◌≡◌, [], ◌+◌, length, ap, ◌∙◌, arith, None}
+use Rattle.range_store.specs.Places.{place_before}
+use Rattle.range_change.specs.Edges.{joined_count, seam_edge}
+use Rattle.range_change.specs.Window.{option_items}
+use Rattle.range_change.proofs.InsertionFrames.{cut_way}
+use Rattle.range_change.proofs.Lengths.{one_item, changed_length}
+use Rattle.range_change.proofs.RangeSides.{edges_remove}
+use Rattle.range_change.proofs.Planned.{plan_fits}
+use Rattle.range_change.proofs.InsertionPlans.{left_cut_plan, right_cut_plan}
+use Rattle.range_change.proofs.Results.{error_has_no_value, on_error}
+use Rattle.range_change.proofs.JoinedMiddle.{seam_count}
+use Rattle.range_change.proofs.Surrounded.{run_can_start}
+use Rattle.range_change.proofs.unbind.unbind_cutting.Goals as goal
+
+pub seam_at-requires : goal.seam_at-requires
+seam_at-requires g c = c.requires.keys
+
+pub seam_at-requires-2 : goal.seam_at-requires-2
+seam_at-requires-2 g c = c.requires.keys
+
+pub run_start-requires-clause-from : goal.run_start-requires-clause-from
+run_start-requires-clause-from g c = (run_can_start c.requires.reach).0
+
+pub run_start-requires-clause-first : goal.run_start-requires-clause-first
+run_start-requires-clause-first g c = (run_can_start c.requires.reach).1
+
+pub run_length-requires-clause-fits : goal.run_length-requires-clause-fits
+run_length-requires-clause-fits g c =
+    omega (
+      arith,
+      c.requires.reach.window.in_range,
+      g.met.C.Storage.length_fits c.args.stored.now,
+    )
+
+pub change-requires : goal.change-requires
+change-requires g c =
+    let lawful = g.met.K.PartialEnum.lawful in
+    let equal = g.met.V.Eq.laws in
+    let storage = g.C.Storage in
+    let stored = c.args.stored.now in
+    let items = storage.items stored in
+    let reach = c.args.reach.now in
+    let window = c.requires.reach.window in
+    let place = place_before (storage.rank stored) (length items) reach.window.from in
+    let end = place + reach.window.count in
+    let before = c.in_ok-left.ensures in
+    let behind = c.in_ok-right.ensures in
+    let begin = place + length (option_items reach.first) in
+    let upto : begin + c.run_length.result + length (option_items reach.last) ≡ end =
+    omega (arith, c.requires.apart, c.run_length.ensures) in
+    let left =
+    left_cut_plan lawful equal window reach.first before.cut c.requires.reach.first
+    before.known (rw c.start.ensures at before.flipped) in
+    let right =
+    right_cut_plan lawful equal window reach.last behind.cut
+    (begin + c.run_length.result) upto c.requires.reach.last behind.known
+    (rw c.end.ensures at behind.flipped) in
+    let fit =
+    plan_fits {is_good = storage.is_good stored} {is_good' = storage.is_good stored}
+    {rank = storage.rank stored} {rank' = storage.rank stored} {items = items}
+    {items' = items} (λ p h. (h, refl)) refl (seam_edge None reach.first before.cut)
+    (seam_edge None reach.last behind.cut) c.run_start.result c.run_length.result place
+    begin (begin + c.run_length.result) end left.rest right.rest None None left.shape
+    right.shape c.run_start.ensures refl window.in_range in
+    record {
+      left = rw before.at fit.left_good;
+      right = rw behind.at fit.right_good;
+      good = fit.good;
+      in_range = fit.in_range;
+      space = omega arith;
+    }
+
+pub returns : goal.returns
+returns g c =
+    let lawful = g.met.K.PartialEnum.lawful in
+    let equal = g.met.V.Eq.laws in
+    let storage = g.C.Storage in
+    let stored = c.args.stored.now in
+    let items = storage.items stored in
+    let reach = c.args.reach.now in
+    let window = c.requires.reach.window in
+    let place = place_before (storage.rank stored) (length items) reach.window.from in
+    let end = place + reach.window.count in
+    let before = c.in_ok-left.ensures in
+    let behind = c.in_ok-right.ensures in
+    let begin = place + length (option_items reach.first) in
+    let upto : begin + c.run_length.result + length (option_items reach.last) ≡ end =
+    omega (arith, c.requires.apart, c.run_length.ensures) in
+    let left =
+    left_cut_plan lawful equal window reach.first before.cut c.requires.reach.first
+    before.known (rw c.start.ensures at before.flipped) in
+    let right =
+    right_cut_plan lawful equal window reach.last behind.cut
+    (begin + c.run_length.result) upto c.requires.reach.last behind.known
+    (rw c.end.ensures at behind.flipped) in
+    let fit =
+    plan_fits {is_good = storage.is_good stored} {is_good' = storage.is_good stored}
+    {rank = storage.rank stored} {rank' = storage.rank stored} {items = items}
+    {items' = items} (λ p h. (h, refl)) refl (seam_edge None reach.first before.cut)
+    (seam_edge None reach.last behind.cut) c.run_start.result c.run_length.result place
+    begin (begin + c.run_length.result) end left.rest right.rest None None left.shape
+    right.shape c.run_start.ensures refl window.in_range in
+    let none = ap joined_count before.at ∙ seam_count None reach.first before.cut in
+    let none_behind = ap joined_count behind.at ∙ seam_count None reach.last behind.cut in
+    let done =
+    c.change.ensures place end left.rest right.rest None None (rw before.at fit.on_left)
+    (rw behind.at fit.on_right) (omega (arith, none, none_behind)) in
+    let new = storage.items c.change.new.stored in
+    let frame =
+    cut_way lawful equal window new left.rest right.rest c.requires.some left.made
+    right.made left.few right.few done in
+    let size =
+    changed_length items new (option_items left.rest) [] (option_items right.rest) place end
+    (omega (arith, window.in_range)) window.in_range done in
+    record {
+      ok =
+          edges_remove lawful equal window new place end left.rest right.rest left.side right.side
+          frame done;
+      few = omega (arith, size, one_item left.rest, one_item right.rest, c.requires.some);
+      refused = tt;
+    }
+
+pub returns-in_err-left : goal.returns-in_err-left
+returns-in_err-left g c =
+    record {
+      ok = error_has_no_value _ c.from_residual.result c.from_residual.ensures.0;
+      few = error_has_no_value _ c.from_residual.result c.from_residual.ensures.0;
+      refused =
+          on_error _ c.from_residual.result refl;
+    }
+
+pub returns-in_err-right : goal.returns-in_err-right
+returns-in_err-right g c =
+    record {
+      ok = error_has_no_value _ c.from_residual-in_err-right.result
+          c.from_residual-in_err-right.ensures.0;
+      few =
+          error_has_no_value _ c.from_residual-in_err-right.result
+          c.from_residual-in_err-right.ensures.0;
+      refused = on_error _ c.from_residual-in_err-right.result refl;
+    }

@@ -1,0 +1,103 @@
+use Rattle.std.proofs.lemmas.Bool.{true≢false}
+use Rattle.std.proofs.Common.{◌≡◌, ◌+◌, ◌-◌, ◌<◌, length, refl, arith, sym, ◌∙◌, true, false}
+use Rattle.std.proofs.lemmas.List.{get_or_read}
+use Rattle.range_keys.specs.Directed.{reference_position}
+use Rattle.range_keys.specs.Position.{start_position, position_cmp}
+use Rattle.range_keys.specs.PositionOrder.{position_total}
+use Rattle.range_algebra.specs.Intervals.{Lt}
+use Rattle.range_algebra.specs.Orders.{not_le}
+use Rattle.range_store.specs.Places.{place_before}
+use Rattle.range_store.proofs.Places.{at_place}
+use Rattle.range_change.proofs.WalkStarts.{place_is_in_range}
+use Rattle.range_change.proofs.window.walk.Goals as goal
+
+pub loop-at-init : goal.loop-at-init
+loop-at-init g c =
+    let storage = g.C.Storage in
+    let stored = c.args.stored.now in
+    let len = length (storage.items stored) in
+    let place = place_before (storage.rank stored) len c.args.from in
+    let none : place + 0 ≡ place = omega arith in
+    record {
+      position =
+          rw none (at_place (storage.is_good stored)
+          (storage.rank stored) len c.args.from c.requires);
+      in_range =
+          rw none (place_is_in_range (storage.is_good stored) (storage.rank stored) len c.args.from
+          (g.met.C.Storage.good_is_in_range stored) c.requires);
+      last_is = refl;
+      meets = λ d some. absurd (omega (arith, some));
+      counted = record { at_most = omega arith; at_least = omega arith };
+    }
+
+pub loop-at-preserved : goal.loop-at-preserved
+loop-at-preserved g c =
+    let storage = g.C.Storage in
+    let stored = c.args.stored.now in
+    let items = storage.items stored in
+    let place = place_before (storage.rank stored) (length items) c.args.from in
+    let here = rw c.in-Some.is at c.loop-at.invariant.position in
+    let within : storage.rank stored c.in-Some.p < length items =
+    g.met.C.Storage.good_is_in_range stored c.in-Some.p here.0 in
+    let next : storage.rank stored c.in-Some.p + 1 ≡ place + (c.loop-at.count + 1) =
+    omega (arith, here.1) in
+    let index : place + (c.loop-at.count + 1) - 1 ≡ storage.rank stored c.in-Some.p =
+    omega (arith, here.1) in
+    record {
+      position = rw next at c.next-at.ensures;
+      in_range = omega (arith, here.1, within);
+      last_is = (here.0, next, omega arith);
+      meets =
+          λ d some.
+          rw (
+            index,
+            ← get_or_read items (storage.rank stored c.in-Some.p) c.get.result.now within
+                c.get.ensures d,
+          ) (sym c.if-starts_past.ensures.past);
+      counted = record { at_most = omega arith; at_least = omega arith };
+    }
+
+pub returns-then-starts_past : goal.returns-then-starts_past
+returns-then-starts_past g c =
+    let order = g.K.MaybeBounded.order in
+    let storage = g.C.Storage in
+    let stored = c.args.stored.now in
+    let items = storage.items stored in
+    let place = place_before (storage.rank stored) (length items) c.args.from in
+    let was = c.loop-at.invariant in
+    let here = rw c.in-Some.is at was.position in
+    let within : storage.rank stored c.in-Some.p < length items =
+    g.met.C.Storage.good_is_in_range stored c.in-Some.p here.0 in
+    let index : place + c.loop-at.count ≡ storage.rank stored c.in-Some.p = sym here.1 in
+    let x = c.get.result.now in
+    let end = reference_position order c.args.end.now in
+    let start = start_position order x.key.start in
+    let past : Lt (position_cmp order.cmp) end start =
+    not_le (position_cmp order.cmp)
+    (position_total order.cmp g.met.K.PartialEnum.lawful.total) end start
+    (λ h. true≢false (c.if-starts_past.ensures.past ∙ h)) in
+    record {
+      walked = record {
+        in_range = was.in_range;
+        last_is = was.last_is;
+        after_is = here;
+        meets = was.meets;
+        stops =
+            λ d some.
+            rw (
+              index,
+              ← get_or_read items (storage.rank stored c.in-Some.p) x within c.get.ensures d,
+            ) past;
+      };
+      counted = record { at_most = omega arith; at_least = omega arith };
+    }
+
+pub returns-clause-counted : goal.returns-clause-counted
+returns-clause-counted g c = record { at_most = omega arith; at_least = omega arith }
+
+pub loop-at-smaller : goal.loop-at-smaller
+loop-at-smaller g c =
+    let stored = c.args.stored.now in
+    let here = rw c.in-Some.is at c.loop-at.invariant.position in
+    let within = g.met.C.Storage.good_is_in_range stored c.in-Some.p here.0 in
+    omega (arith, here.1, within)

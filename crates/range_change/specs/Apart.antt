@@ -1,0 +1,58 @@
+-- Where a range stands that neither meets nor touches a stored one, and what is said where there is
+-- no such place.
+use Rattle.std.specs.Prelude.{◌≡◌, ◌↔◌, ℕ, ◌≤◌, Bool, true, false, IsTrue, List, length, take, drop, slice_index_or, Option, Some, None, ⊤}
+use Rattle.range_keys.specs.Order.{KeyOrder}
+use Rattle.range_keys.specs.Position.{position_cmp}
+use Rattle.range_algebra.specs.Cuts.{lower, upper}
+use Rattle.range_algebra.specs.Intervals.{Lt, Every}
+use Rattle.range_algebra.specs.declared.any.AnyRange.{AnyRange}
+use Rattle.range_store.specs.declared.storage.Item.{Item}
+use Rattle.range_store.specs.Places.{IsAt}
+use Rattle.range_change.specs.Stored.{item_lower, item_upper}
+use Rattle.range_change.specs.Lookups.{IsConnectedToSome}
+use Rattle.range_algebra.specs.Relations.{LiesBefore, Touches}
+use Rattle.range_change.specs.declared.apart.Gap.{Gap}
+use Rattle.range_change.specs.declared.error.NotInserted.{NotInserted}
+use Rattle.range_change.specs.declared.error.NotInserted.TheVariants.{Connected, Memory}
+
+-- what a refused call hands back
+abbrev pub handed_back : {K V : Type 0} → NotInserted K V → AnyRange K × V
+handed_back (Connected r v) = (r, v)
+handed_back (Memory r v) = (r, v)
+
+-- refused since a stored range is in the way
+abbrev pub IsConnectedError : {K V : Type 0} → NotInserted K V → Type 0
+IsConnectedError (Connected r v) = ⊤
+IsConnectedError (Memory r v) = ⊥
+
+module _ {K : Type 0} (order : KeyOrder K) where
+  -- the one ends before the other, with a place between
+  abbrev pub LiesApart : AnyRange K → AnyRange K → Type 0
+  LiesApart r s = LiesBefore order r s × (¬ Touches order r s)
+
+  module _ {V : Type 0} where
+    -- each item ends before the range begins, with a place between
+    abbrev pub AllEndBefore : List (Item (AnyRange K) V) → AnyRange K → Type 0
+    AllEndBefore items r =
+        Every (λ i. Lt (position_cmp order.cmp) (item_upper order i) (lower order r)) items
+
+    -- the item, where there is one, passes the test exactly where the answer is true
+    abbrev pub IsAnswerAt : {P : Type 0} → (Item (AnyRange K) V → Type 0) → (P → ℕ)
+        → List (Item (AnyRange K) V) → Option P → Bool → Type 0
+    IsAnswerAt test rank items None answer = answer ≡ true
+    IsAnswerAt test rank items (Some p) answer = (x : Item (AnyRange K) V)
+        → x ≡ slice_index_or items (rank p) x → (IsTrue answer ↔ test x)
+
+    -- the range stands apart from all items before the place and from it on, or is connected to one
+    pub record IsGap {P : Type 0} (is_good : P → Type 0) (rank : P → ℕ)
+        (items : List (Item (AnyRange K) V)) (r : AnyRange K) (gap : Gap P)
+        (place : ℕ) : Type 0 where
+      pub position : IsAt is_good rank (length items) gap.from place
+      pub in_range : place ≤ length items
+      pub before : IsTrue gap.is_free
+          → Every (λ i. Lt (position_cmp order.cmp) (item_upper order i) (lower order r))
+          (take place items)
+      pub behind : IsTrue gap.is_free
+          → Every (λ i. Lt (position_cmp order.cmp) (upper order r) (item_lower order i))
+          (drop place items)
+      pub taken : gap.is_free ≡ false → IsConnectedToSome order items r

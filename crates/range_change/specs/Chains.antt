@@ -1,0 +1,125 @@
+-- Items over intervals of places, each before the next, and touching only beside another value:
+-- what is cut out of them and put
+-- between.
+use Rattle.std.specs.Prelude.{◌≡◌, Bool, true, List, [], ◌∷◌, ◌⊎◌, ◌↔◌}
+use Rattle.std.specs.declared.cmp.Ordering.{Ordering}
+use Rattle.std.specs.Cmp.{IsTotalOrder, IsEquivalence}
+use Rattle.range_keys.specs.Order.{KeyOrder, IsLawful}
+use Rattle.range_keys.specs.Position.{position_cmp}
+use Rattle.range_keys.specs.PositionOrder.{position_total}
+use Rattle.range_keys.specs.declared.inner.position.Position.{Position}
+use Rattle.range_algebra.specs.Intervals.{Le, Lt, Any, Every}
+use Rattle.range_algebra.specs.declared.any.AnyRange.{AnyRange}
+use Rattle.range_store.specs.declared.storage.Item.{Item}
+use Rattle.range_change.specs.Stored.{item_lower, item_upper}
+
+-- a line of places: their order, which values are equal, and of an item where it starts and ends
+-- and its value
+pub record Line (L V X : Type 0) : Type 0 where
+  pub cmp : L → L → Ordering
+  pub total : IsTotalOrder cmp
+  pub same : V → V → Bool
+  pub equal : IsEquivalence same
+  pub lo : X → L
+  pub hi : X → L
+  pub value : X → V
+
+module _ {L V X : Type 0} (line : Line L V X) where
+  abbrev pub Good : X → Type 0
+  Good x = Lt line.cmp (line.lo x) (line.hi x)
+
+  -- the item ends at the place at most, and just there only beside another value
+  abbrev pub Leads : X → L → V → Type 0
+  Leads x p v =
+      Le line.cmp (line.hi x) p
+      × (Le line.cmp p (line.hi x) → line.same (line.value x) v ≡ true → ⊥)
+
+  -- the item starts at the place at least, and just there only beside another value
+  abbrev pub Trails : L → V → X → Type 0
+  Trails p v x =
+      Le line.cmp p (line.lo x)
+      × (Le line.cmp (line.lo x) p → line.same v (line.value x) ≡ true → ⊥)
+
+  abbrev pub Follows : X → List X → Type 0
+  Follows x [] = Unit {0}
+  Follows x (y ∷ ys) = Leads x (line.lo y) (line.value y) × (Good y × Follows y ys)
+
+  abbrev pub IsChain : List X → Type 0
+  IsChain [] = Unit {0}
+  IsChain (x ∷ xs) = Good x × Follows x xs
+
+  abbrev pub Held : L → X → Type 0
+  Held p x = Le line.cmp (line.lo x) p × Lt line.cmp p (line.hi x)
+
+  -- some item holds the place with such a value
+  abbrev pub Has : (V → Bool) → L → List X → Type 0
+  Has W p = Any (λ x. Held p x × (W (line.value x) ≡ true))
+
+  -- what equal values share
+  abbrev pub Respects : (V → Bool) → Type 0
+  Respects W = (a b : V) → line.same a b ≡ true → W a ≡ true → W b ≡ true
+
+  -- each of the items leads to the place
+  abbrev pub Leading : L → V → List X → Type 0
+  Leading p v xs = Every (λ x. Leads x p v) xs
+
+  -- each of the items trails the place
+  abbrev pub Trailing : L → V → List X → Type 0
+  Trailing p v xs = Every (λ x. Trails p v x) xs
+
+  -- the items below a place are these
+  pub record IsLeft (items kept : List X) (c : L) : Type 0 where
+    pub chain : IsChain kept
+    pub ends : Every (λ x. Le line.cmp (line.hi x) c) kept
+    pub holds : (p : L) (W : V → Bool) → Respects W → Lt line.cmp p c → Has W p kept ↔ Has W p items
+
+  -- the items from a place on are these
+  pub record IsRight (items kept : List X) (d : L) : Type 0 where
+    pub chain : IsChain kept
+    pub starts : Every (λ x. Le line.cmp d (line.lo x)) kept
+    pub holds : (p : L) (W : V → Bool) → Respects W → Le line.cmp d p → Has W p kept ↔ Has W p items
+
+  -- the items below a place are these and the new one, which starts at `s`
+  pub record IsLeftOf (items kept : List X) (c s : L) (v : V) : Type 0 where
+    pub chain : IsChain kept
+    pub leads : Leading s v kept
+    pub below : Le line.cmp s c
+    pub holds : (p : L) (W : V → Bool) → Respects W → Lt line.cmp p c
+        → (Has W p kept ⊎ (Le line.cmp s p × (W v ≡ true))) ↔ Has W p items
+
+  -- the items from a place on are the new one, which ends at `e`, and these
+  pub record IsRightOf (items kept : List X) (d e : L) (v : V) : Type 0 where
+    pub chain : IsChain kept
+    pub trails : Trailing e v kept
+    pub above : Le line.cmp d e
+    pub holds : (p : L) (W : V → Bool) → Respects W → Le line.cmp d p
+        → (Has W p kept ⊎ (Lt line.cmp p e × (W v ≡ true))) ↔ Has W p items
+
+  -- what a chain becomes where a range from `c` up to `d` is bound to `v`
+  pub record IsBoundTo (items new : List X) (c d : L) (v : V) : Type 0 where
+    pub chain : IsChain new
+    pub inside : (p : L) (W : V → Bool) → Respects W → Le line.cmp c p → Lt line.cmp p d
+        → Has W p new ↔ (W v ≡ true)
+    pub outside : (p : L) (W : V → Bool) → Respects W → Lt line.cmp p c ⊎ Le line.cmp d p
+        → Has W p new ↔ Has W p items
+
+  -- what a chain becomes where a range from `c` up to `d` is unbound
+  pub record IsUnbound (items new : List X) (c d : L) : Type 0 where
+    pub chain : IsChain new
+    pub inside : (p : L) (W : V → Bool) → Le line.cmp c p → Lt line.cmp p d → Has W p new → ⊥
+    pub outside : (p : L) (W : V → Bool) → Respects W → Lt line.cmp p c ⊎ Le line.cmp d p
+        → Has W p new ↔ Has W p items
+
+-- the line of positions on which stored items lie
+abbrev pub line_of : {K : Type 0} (order : KeyOrder K) (lawful : IsLawful order) {V : Type 0}
+    (same : V → V → Bool) (equal : IsEquivalence same) → Line (Position K) V (Item (AnyRange K) V)
+line_of order lawful same equal =
+    record {
+      cmp = position_cmp order.cmp;
+      total = position_total order.cmp lawful.total;
+      same = same;
+      equal = equal;
+      lo = item_lower order;
+      hi = item_upper order;
+      value = λ i. i.value;
+    }

@@ -1,0 +1,269 @@
+-- How a range that is bound joins what stands beside it.
+use Rattle.std.specs.Prelude.{◌≡◌, ℕ, ◌+◌, ◌-◌, ◌<◌, ◌≤◌, Bool, true, List, ◌++◌, length, take, drop, slice_index_or, slice_set, Option, Some, None, MatchOption, ⊤}
+use Rattle.std.specs.declared.ops.Bound.{Bound}
+use Rattle.std.specs.declared.cmp.Ordering.TheVariants.{Equal}
+use Rattle.std.specs.Cmp.{IsEquivalence}
+use Rattle.range_keys.specs.Order.{KeyOrder, IsLawful}
+use Rattle.range_keys.specs.Position.{start_position, end_position, position_cmp}
+use Rattle.range_keys.specs.declared.inner.position.Position.{Position}
+use Rattle.range_algebra.specs.Range.{IsKnownRange, IsKnownBound}
+use Rattle.std.specs.Option.{unwrap_or}
+use Rattle.std.specs.declared.ops.Bound.TheVariants.{Unbounded}
+use Rattle.range_change.specs.declared.edges.Edge.{Edge}
+use Rattle.range_change.specs.declared.edges.Edge.TheVariants.{Plain, Cut, Joined}
+use Rattle.range_change.specs.declared.edges.Joins.{Joins}
+use Rattle.range_change.specs.declared.reach.Reach.{Reach}
+use Rattle.range_change.specs.Edits.{flipped_bound, with_start, with_end}
+use Rattle.range_algebra.specs.Clones.{SameBound}
+use Rattle.range_algebra.specs.declared.any.AnyRange.{AnyRange}
+use Rattle.range_store.specs.Places.{place_before, IsAt}
+use Rattle.range_store.specs.declared.inner.cursor.Cursor.{Cursor}
+use Rattle.range_store.specs.declared.storage.Item.{Item}
+use Rattle.range_change.specs.declared.cut.Parts.{Parts}
+use Rattle.range_change.specs.declared.window.Window.{Window}
+use Rattle.range_algebra.specs.Intervals.{Every, Le}
+use Rattle.range_change.specs.Chains.{line_of, IsLeft, IsRight, IsLeftOf, IsRightOf}
+use Rattle.range_algebra.specs.Cuts.{past, lower, upper}
+use Rattle.range_change.specs.Stored.{item_lower, item_upper}
+use Rattle.range_algebra.specs.Relations.{Touches}
+use Rattle.range_change.specs.Reach.{inner_count}
+use Rattle.range_change.specs.Window.{option_items}
+
+module _ {K : Type 0} (order : KeyOrder K) {V : Type 0} (same : V → V → Bool) where
+  -- where a range starts that has another start bound in the place of its own
+  abbrev pub edge_start : Option (Bound K) → AnyRange K → Position K
+  edge_start None r = lower order r
+  edge_start (Some b) r = start_position order b
+
+  abbrev pub edge_end : Option (Bound K) → AnyRange K → Position K
+  edge_end None r = upper order r
+  edge_end (Some b) r = past order (end_position order b)
+
+  -- no item just before the place touches the range with an equal value
+  abbrev pub TouchesNoneBefore : List (Item (AnyRange K) V) → ℕ → AnyRange K → V → Type 0
+  TouchesNoneBefore items place r v = (d : Item (AnyRange K) V) → 0 < place
+      → Touches order (slice_index_or items (place - 1) d).key r
+      → same (slice_index_or items (place - 1) d).value v ≡ true → ⊥
+
+  -- the item just before the place does
+  abbrev pub TouchesBefore : List (Item (AnyRange K) V) → ℕ → AnyRange K → V → Type 0
+  TouchesBefore items place r v = (d : Item (AnyRange K) V)
+      → Touches order (slice_index_or items (place - 1) d).key r
+      × (same (slice_index_or items (place - 1) d).value v ≡ true)
+
+  abbrev pub TouchesNoneAfter : List (Item (AnyRange K) V) → ℕ → AnyRange K → V → Type 0
+  TouchesNoneAfter items place r v = (d : Item (AnyRange K) V) → place < length items
+      → Touches order r (slice_index_or items place d).key
+      → same v (slice_index_or items place d).value ≡ true → ⊥
+
+  abbrev pub TouchesAfter : List (Item (AnyRange K) V) → ℕ → AnyRange K → V → Type 0
+  TouchesAfter items place r v = (d : Item (AnyRange K) V)
+      → Touches order r (slice_index_or items place d).key
+      × (same v (slice_index_or items place d).value ≡ true)
+
+  module _ (lawful : IsLawful order) (equal : IsEquivalence same) where
+    -- what stands before the range when it is cut out
+    pub record IsLeftRest (items : List (Item (AnyRange K) V)) (r : AnyRange K) (place : ℕ)
+        (rest : Option (Item (AnyRange K) V)) : Type 0 where
+      pub left : IsLeft (line_of order lawful same equal) items
+          (take place items ++ option_items rest) (lower order r)
+      pub known : Every (λ i. IsKnownRange order i.key) (option_items rest)
+      pub reaches : (y : Item (AnyRange K) V) → rest ≡ Some y
+          → Le (position_cmp order.cmp) (lower order r) (item_upper order y)
+
+    pub record IsRightRest (items : List (Item (AnyRange K) V)) (r : AnyRange K) (end : ℕ)
+        (rest : Option (Item (AnyRange K) V)) : Type 0 where
+      pub right : IsRight (line_of order lawful same equal) items
+          (option_items rest ++ drop end items) (upper order r)
+      pub known : Every (λ i. IsKnownRange order i.key) (option_items rest)
+      pub reaches : (y : Item (AnyRange K) V) → rest ≡ Some y
+          → Le (position_cmp order.cmp) (item_lower order y) (upper order r)
+
+    -- what stands before the range when it is bound to v: the first `at` items and a rest, after
+    -- which the range starts at `start`
+    pub record IsLeftEdge (items : List (Item (AnyRange K) V)) (r : AnyRange K) (v : V) (at : ℕ)
+        (rest : Option (Item (AnyRange K) V)) (start : Option (Bound K)) : Type 0 where
+      pub s : Position K
+      pub starts : position_cmp order.cmp (edge_start start r) s ≡ Equal
+      pub left : IsLeftOf (line_of order lawful same equal) items
+          (take at items ++ option_items rest) (lower order r) s v
+      pub known : Every (λ i. IsKnownRange order i.key) (option_items rest)
+      pub known_start : IsKnownBound order (unwrap_or start r.start)
+
+    -- what stands after it
+    pub record IsRightEdge (items : List (Item (AnyRange K) V)) (r : AnyRange K) (v : V) (end : ℕ)
+        (rest : Option (Item (AnyRange K) V)) (finish : Option (Bound K)) : Type 0 where
+      pub in_range : end ≤ length items
+      pub e : Position K
+      pub ends : position_cmp order.cmp (edge_end finish r) e ≡ Equal
+      pub right : IsRightOf (line_of order lawful same equal) items
+          (option_items rest ++ drop end items) (upper order r) e v
+      pub known : Every (λ i. IsKnownRange order i.key) (option_items rest)
+      pub known_end : IsKnownBound order (unwrap_or finish r.end)
+
+-- the bounds that a run joins, and the list before the run and after it
+pub record IsOpened {K V : Type 0} (items new : List (Item (AnyRange K) V))
+    (bounds : Option (Bound K) × Option (Bound K)) (at from upto end : ℕ)
+    (before after : Option (Item (AnyRange K) V)) (start finish : Option (Bound K)) : Type 0 where
+  pub start_is : bounds.0 ≡ start
+  pub end_is : bounds.1 ≡ finish
+  pub front : take from new ≡ take at items ++ option_items before
+  pub behind : drop upto new ≡ option_items after ++ drop end items
+
+module _ {K P : Type 0} where
+  -- how many items an edge adds to those that give way
+  abbrev pub joined_count : Edge K P → ℕ
+  joined_count Plain = 0
+  joined_count (Cut p b) = 0
+  joined_count (Joined p) = 1
+
+  -- an item that is cut at the bound, if there is one
+  abbrev pub edge_at : Option P → Bound K → Edge K P
+  edge_at None b = Plain
+  edge_at (Some p) b = Cut p b
+
+  -- what becomes of an item that joins, or else of one that reaches out and is cut at the bound
+  abbrev pub seam_edge : Option P → Option P → Bound K → Edge K P
+  seam_edge None reaching b = edge_at reaching b
+  seam_edge (Some q) reaching b = Joined q
+
+  -- the same where the cut is just outside the bound of a range
+  pub record IsSeamAt (order : KeyOrder K) (joined reaching : Option P) (bound : Bound K)
+      (edge : Edge K P) : Type 0 where
+    pub cut : Bound K
+    pub at : edge ≡ seam_edge joined reaching cut
+    pub known : IsKnownBound order cut
+    pub flipped : SameBound order (flipped_bound bound) cut
+
+  abbrev pub IsGoodEdge : (P → Type 0) → Edge K P → Type 0
+  IsGoodEdge is_good Plain = ⊤
+  IsGoodEdge is_good (Cut p b) = is_good p
+  IsGoodEdge is_good (Joined p) = is_good p
+
+  module _ {V : Type 0} where
+    -- how an edge before a range changes the items, and the start that it gives the range
+    abbrev pub IsLeftEdited : (P → ℕ) → List (Item (AnyRange K) V) → List (Item (AnyRange K) V)
+        → Edge K P → Option (Bound K) → Type 0
+    IsLeftEdited rank items new Plain start = (new ≡ items) × (start ≡ None)
+    IsLeftEdited rank items new (Cut p b) start =
+        ((d : Item (AnyRange K) V)
+        → new ≡ slice_set items (rank p) (with_end (slice_index_or items (rank p) d) b))
+        × (start ≡ None)
+    IsLeftEdited rank items new (Joined p) start = (d : Item (AnyRange K) V)
+        → (new ≡ slice_set items (rank p) (with_start (slice_index_or items (rank p) d) Unbounded))
+        × (start ≡ Some (slice_index_or items (rank p) d).key.start)
+
+    abbrev pub IsRightEdited : (P → ℕ) → List (Item (AnyRange K) V) → List (Item (AnyRange K) V)
+        → Edge K P → Option (Bound K) → Type 0
+    IsRightEdited rank items new Plain finish = (new ≡ items) × (finish ≡ None)
+    IsRightEdited rank items new (Cut p b) finish =
+        ((d : Item (AnyRange K) V)
+        → new ≡ slice_set items (rank p) (with_start (slice_index_or items (rank p) d) b))
+        × (finish ≡ None)
+    IsRightEdited rank items new (Joined p) finish = (d : Item (AnyRange K) V)
+        → (new ≡ slice_set items (rank p) (with_end (slice_index_or items (rank p) d) Unbounded))
+        × (finish ≡ Some (slice_index_or items (rank p) d).key.end)
+
+    -- `at` items and a rest stand before the run, which begins at `from`
+    abbrev pub IsLeftShape : (P → Type 0) → (P → ℕ) → List (Item (AnyRange K) V) → Edge K P → ℕ → ℕ
+        → Option (Item (AnyRange K) V) → Option (Bound K) → Type 0
+    IsLeftShape is_good rank items Plain at from rest start =
+        (from ≡ at) × (rest ≡ None) × (start ≡ None)
+    IsLeftShape is_good rank items (Cut p b) at from rest start =
+        is_good p × (rank p ≡ at) × (from ≡ at + 1) × (start ≡ None)
+        × ((x : Item (AnyRange K) V) × (x ≡ slice_index_or items at x)
+        × (rest ≡ Some (with_end x b)))
+    IsLeftShape is_good rank items (Joined p) at from rest start =
+        is_good p × (rank p ≡ at) × (from ≡ at) × (rest ≡ None)
+        × ((x : Item (AnyRange K) V) × (x ≡ slice_index_or items at x) × (start ≡ Some x.key.start))
+
+    -- a rest and the items from `end` on stand after the run, which ends at `upto`
+    abbrev pub IsRightShape : (P → Type 0) → (P → ℕ) → List (Item (AnyRange K) V) → Edge K P → ℕ → ℕ
+        → Option (Item (AnyRange K) V) → Option (Bound K) → Type 0
+    IsRightShape is_good rank items Plain upto end rest finish =
+        (upto ≡ end) × (rest ≡ None) × (finish ≡ None)
+    IsRightShape is_good rank items (Cut p b) upto end rest finish =
+        is_good p × (rank p ≡ upto) × (end ≡ upto + 1) × (finish ≡ None)
+        × ((x : Item (AnyRange K) V) × (x ≡ slice_index_or items upto x)
+        × (rest ≡ Some (with_start x b)))
+    IsRightShape is_good rank items (Joined p) upto end rest finish =
+        is_good p × (rank p + 1 ≡ upto) × (upto ≡ end) × (rest ≡ None)
+        × ((x : Item (AnyRange K) V) × (x ≡ slice_index_or items (rank p) x)
+        × (finish ≡ Some x.key.end))
+
+    -- the items beside a run are edited as the edges say
+    abbrev pub AreOpened : (P → Type 0) → (P → ℕ) → List (Item (AnyRange K) V)
+        → List (Item (AnyRange K) V) → Edge K P → Edge K P → Option (Bound K) × Option (Bound K)
+        → Type 0
+    AreOpened is_good rank items new left right bounds =
+        (at from upto end : ℕ) (before after : Option (Item (AnyRange K) V))
+        (start finish : Option (Bound K)) → IsLeftShape is_good rank items left at from before start
+        → IsRightShape is_good rank items right upto end after finish
+        → from + joined_count left + joined_count right ≤ upto
+        → IsOpened items new bounds at from upto end before after start finish
+
+    -- `put` stands in the place of the run, between what the edges leave of the items beside it
+    abbrev pub IsSpliced : (P → Type 0) → (P → ℕ) → List (Item (AnyRange K) V)
+        → List (Item (AnyRange K) V) → Edge K P → Edge K P → Cursor P
+        → (Option (Bound K) → Option (Bound K) → List (Item (AnyRange K) V)) → Type 0
+    IsSpliced is_good rank items new left right run put =
+        (at end : ℕ) (before after : Option (Item (AnyRange K) V)) (start finish : Option (Bound K))
+        → let from =
+        place_before rank (length items) run.at in IsLeftShape is_good rank items left at
+        from before start → IsRightShape is_good rank items right (from + run.left) end after finish
+        → joined_count left + joined_count right ≤ run.left
+        → new ≡ take at items ++ option_items before ++ put start finish ++ option_items after
+        ++ drop end items
+
+-- an item in two parts, with `middle` between them
+abbrev pub IsDivided : {K V : Type 0} → List (Item (AnyRange K) V) → List (Item (AnyRange K) V) → ℕ
+    → Parts K V → Option (Item (AnyRange K) V) → Type 0
+IsDivided {K} {V} items new place parts middle = (d : Item (AnyRange K) V) → let item =
+    slice_index_or items place d in new ≡ take place items
+    ++ option_items (Some (with_end item parts.end)) ++ option_items middle
+    ++ option_items
+    (Some (record {
+      key = record { start = parts.start; end = item.key.end };
+      value = parts.value;
+    })) ++ drop (place + 1) items
+
+-- an item with the bounds of those that it joins
+abbrev pub joined_item : {K V : Type 0} → Item (AnyRange K) V → Option (Bound K) → Option (Bound K)
+    → Item (AnyRange K) V
+joined_item i start finish =
+    record {
+      key = record { start = unwrap_or start i.key.start; end = unwrap_or finish i.key.end };
+      value = i.value;
+    }
+
+module _ {K : Type 0} (order : KeyOrder K) {V : Type 0} (same : V → V → Bool) {P : Type 0}
+    {S : Type 0} (is_good : S → P → Type 0) (rank : S → P → ℕ)
+    (items : S → List (Item (AnyRange K) V)) (stored : S) (r : AnyRange K) (v : V)
+    (w : Window P) where
+  -- the item just before the window, if the range touches it and has an equal value
+  abbrev pub IsJoinedBefore : Option P → Type 0
+  IsJoinedBefore found = let place =
+      place_before (rank stored) (length (items stored)) w.from in MatchOption found
+      (TouchesNoneBefore order same (items stored) place r v)
+      (λ q. is_good stored q × (rank stored q + 1 ≡ place)
+      × TouchesBefore order same (items stored) place r v)
+
+  -- the item just after it, if the range touches it and has an equal value
+  abbrev pub IsJoinedAfter : Option P → Type 0
+  IsJoinedAfter found = let end =
+      place_before (rank stored) (length (items stored)) w.from + w.count in MatchOption found
+      (TouchesNoneAfter order same (items stored) end r v)
+      (λ q. is_good stored q × (rank stored q ≡ end)
+      × TouchesAfter order same (items stored) end r v)
+
+module _ {P : Type 0} where
+  -- how many items are replaced
+  abbrev pub run_length : Reach P → Joins P → ℕ
+  run_length reach joins =
+      length (option_items joins.before) + inner_count reach + length (option_items joins.after)
+
+  -- they begin with the item that joins, or else after the one that reaches out
+  abbrev pub IsRunStart : (P → Type 0) → (P → ℕ) → ℕ → ℕ → Option P → Option P → Option P → Type 0
+  IsRunStart is_good rank len place first None at =
+      IsAt is_good rank len at (place + length (option_items first))
+  IsRunStart is_good rank len place first (Some q) at = at ≡ Some q

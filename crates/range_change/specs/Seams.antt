@@ -1,0 +1,105 @@
+-- What is to become of the items beside a range in which a list of items comes to stand.
+use Rattle.std.specs.Prelude.{◌≡◌, ℕ, ◌+◌, Bool, List, [], ◌∷◌, ◌⊎◌, length, take, drop, Option, Some, None}
+use Rattle.std.specs.Cmp.{IsEquivalence}
+use Rattle.std.specs.declared.cmp.Ordering.TheVariants.{Equal}
+use Rattle.std.specs.declared.ops.Bound.{Bound}
+use Rattle.range_keys.specs.Order.{KeyOrder, IsLawful}
+use Rattle.range_keys.specs.Position.{position_cmp}
+use Rattle.range_algebra.specs.Clones.{SameBound}
+use Rattle.range_algebra.specs.Cuts.{lower, upper}
+use Rattle.range_algebra.specs.Range.{IsKnownBound}
+use Rattle.range_algebra.specs.Intervals.{Lt, Every}
+use Rattle.range_algebra.specs.declared.any.AnyRange.{AnyRange}
+use Rattle.range_store.specs.declared.storage.Item.{Item}
+use Rattle.range_store.specs.Places.{IsAt, place_before}
+use Rattle.range_change.specs.declared.edges.Edge.{Edge}
+use Rattle.range_change.specs.Edges.{IsLeftRest, IsRightRest, IsLeftShape, IsRightShape, IsRunStart, seam_edge}
+use Rattle.range_change.specs.Edits.{flipped_bound, with_start, with_end}
+use Rattle.range_change.specs.Frames.{HasValue}
+use Rattle.range_change.specs.Stored.{item_lower, item_upper}
+use Rattle.range_change.specs.Plans.{IsLeftPlan, IsRightPlan}
+use Rattle.range_change.specs.Window.{option_items}
+use Rattle.range_change.specs.declared.reach.Reach.{Reach}
+
+module _ {K V : Type 0} where
+  -- the first item starts at the bound, if there are both
+  abbrev pub with_first_start : Option (Bound K) → List (Item (AnyRange K) V)
+      → List (Item (AnyRange K) V)
+  with_first_start None items = items
+  with_first_start (Some b) [] = []
+  with_first_start (Some b) (i ∷ rest) = with_start i b ∷ rest
+
+  -- the last item ends at the bound, if there are both
+  abbrev pub with_last_end : Option (Bound K) → List (Item (AnyRange K) V)
+      → List (Item (AnyRange K) V)
+  with_last_end None items = items
+  with_last_end (Some b) [] = []
+  with_last_end (Some b) (i ∷ []) = with_end i b ∷ []
+  with_last_end (Some b) (i ∷ j ∷ rest) = i ∷ with_last_end (Some b) (j ∷ rest)
+
+module _ {K : Type 0} (order : KeyOrder K) {V : Type 0} (same : V → V → Bool)
+    (lawful : IsLawful order) (equal : IsEquivalence same) {P : Type 0} (is_good : P → Type 0)
+    (rank : P → ℕ) (items : List (Item (AnyRange K) V)) (r : AnyRange K) (place count : ℕ) where
+  -- nothing joins the range from before: `first`, which reaches out of it, is cut
+  pub record IsLeftCutting (first : Option P) (edge : Edge K P) (from : Option P) : Type 0 where
+    pub rest : Option (Item (AnyRange K) V)
+    pub shape : IsLeftShape is_good rank items edge place
+        (place + length (option_items first)) rest None
+    pub side : IsLeftRest order same lawful equal items r place rest
+    pub run : IsAt is_good rank (length items) from (place + length (option_items first))
+    pub valued : Every (λ j. HasValue order same (take count (drop place items)) j.value)
+        (option_items rest)
+
+  -- nothing joins it on the other side: `last` is cut
+  pub record IsRightCutting (last : Option P) (edge : Edge K P) : Type 0 where
+    pub upto : ℕ
+    pub rest : Option (Item (AnyRange K) V)
+    pub shape : IsRightShape is_good rank items edge upto (place + count) rest None
+    pub side : IsRightRest order same lawful equal items r (place + count) rest
+    pub valued : Every (λ j. HasValue order same (take count (drop place items)) j.value)
+        (option_items rest)
+    pub ends : upto + length (option_items last) ≡ place + count
+
+  -- an item that starts where the range does may join, and before any other the range is cut out
+  abbrev pub IsLeftSeam : Option (Item (AnyRange K) V) → Option P → Edge K P → Option P → Type 0
+  IsLeftSeam next first edge from =
+      ((m : Item (AnyRange K) V) × (next ≡ Some m)
+      × (position_cmp order.cmp (item_lower order m) (lower order r) ≡ Equal)
+      × IsLeftPlan order same lawful equal is_good rank items r m.value place count first edge
+      from)
+      ⊎ (((m : Item (AnyRange K) V) → next ≡ Some m
+      → Lt (position_cmp order.cmp) (lower order r) (item_lower order m))
+      × IsLeftCutting first edge from)
+
+  abbrev pub IsRightSeam : Option (Item (AnyRange K) V) → Option P → Edge K P → Type 0
+  IsRightSeam previous last edge =
+      ((m : Item (AnyRange K) V) × (previous ≡ Some m)
+      × (position_cmp order.cmp (item_upper order m) (upper order r) ≡ Equal)
+      × IsRightPlan order same lawful equal is_good rank items r m.value place count last edge)
+      ⊎ (((m : Item (AnyRange K) V) → previous ≡ Some m
+      → Lt (position_cmp order.cmp) (item_upper order m) (upper order r))
+      × IsRightCutting last edge)
+
+module _ {K : Type 0} (order : KeyOrder K) {V : Type 0} (same : V → V → Bool) {P : Type 0}
+    {S : Type 0} (is_good : S → P → Type 0) (rank : S → P → ℕ)
+    (items : S → List (Item (AnyRange K) V)) (stored : S) (r : AnyRange K) (reach : Reach P) where
+  -- the item that the first of a run is to join, where there is one
+  abbrev pub IsJoiningFirst : Option (Item (AnyRange K) V) → Option P → Type 0
+  IsJoiningFirst next found = let place =
+      place_before (rank stored)
+      (length (items stored)) reach.window.from in (lawful : IsLawful order)
+      → (equal : IsEquivalence same) → (b : Bound K) (at : Option P) → IsKnownBound order b
+      → SameBound order (flipped_bound r.start) b
+      → IsRunStart (is_good stored) (rank stored) (length (items stored)) place reach.first found at
+      → IsLeftSeam order same lawful equal (is_good stored) (rank stored)
+      (items stored) r place reach.window.count next reach.first (seam_edge found reach.first b) at
+
+  -- the item that the last of a run is to join, where there is one
+  abbrev pub IsJoiningLast : Option (Item (AnyRange K) V) → Option P → Type 0
+  IsJoiningLast previous found = let place =
+      place_before (rank stored)
+      (length (items stored)) reach.window.from in (lawful : IsLawful order)
+      → (equal : IsEquivalence same) → (b : Bound K) → IsKnownBound order b
+      → SameBound order (flipped_bound r.end) b
+      → IsRightSeam order same lawful equal (is_good stored) (rank stored)
+      (items stored) r place reach.window.count previous reach.last (seam_edge found reach.last b)
