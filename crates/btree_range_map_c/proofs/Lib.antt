@@ -1,0 +1,4 @@
+mod AsBox
+mod Completeness
+mod Flags
+mod Membership
