@@ -82,6 +82,7 @@ uint32_t range_map_u64_len(range_handle *map, range_length *length);
 uint32_t range_map_u64_first(range_handle *map, range_entry_u64 *entry);
 uint32_t range_map_u64_last(range_handle *map, range_entry_u64 *entry);
 uint32_t range_map_u64_next(range_handle *map, uint64_t key, range_entry_u64 *entry);
+uint32_t range_map_u64_previous(range_handle *map, uint64_t key, range_entry_u64 *entry);
 uint32_t range_map_u64_pop_first(range_handle *map, range_entry_u64 *entry);
 uint32_t range_map_u64_pop_last(range_handle *map, range_entry_u64 *entry);
 
@@ -97,6 +98,7 @@ uint32_t range_map_i64_len(range_handle *map, range_length *length);
 uint32_t range_map_i64_first(range_handle *map, range_entry_i64 *entry);
 uint32_t range_map_i64_last(range_handle *map, range_entry_i64 *entry);
 uint32_t range_map_i64_next(range_handle *map, int64_t key, range_entry_i64 *entry);
+uint32_t range_map_i64_previous(range_handle *map, int64_t key, range_entry_i64 *entry);
 uint32_t range_map_i64_pop_first(range_handle *map, range_entry_i64 *entry);
 uint32_t range_map_i64_pop_last(range_handle *map, range_entry_i64 *entry);
 
@@ -111,6 +113,7 @@ uint32_t range_set_u64_len(range_handle *set, range_length *length);
 uint32_t range_set_u64_first(range_handle *set, range_u64 *range);
 uint32_t range_set_u64_last(range_handle *set, range_u64 *range);
 uint32_t range_set_u64_next(range_handle *set, uint64_t key, range_u64 *range);
+uint32_t range_set_u64_previous(range_handle *set, uint64_t key, range_u64 *range);
 uint32_t range_set_u64_pop_first(range_handle *set, range_u64 *range);
 uint32_t range_set_u64_pop_last(range_handle *set, range_u64 *range);
 

@@ -108,6 +108,15 @@ static void many(void) {
         EXPECT(is_entry(e, upto(10 * i, 10 * i + 5), i) && i < 5000);
     EXPECT(range_map_u64_next(&map, 49994, &e) == RANGE_DONE && e.value == 4999);
     EXPECT(range_map_u64_next(&map, 49995, &e) == RANGE_NONE && e.value == 4999);
+    uint64_t left = 2500;
+    for (uint64_t key = UINT64_MAX; range_map_u64_previous(&map, key, &e) == RANGE_DONE; key = e.range.start - 1) {
+        left--;
+        EXPECT(is_entry(e, upto(10 * (2 * left + 1), 10 * (2 * left + 1) + 5), 2 * left + 1));
+    }
+    EXPECT(left == 0);
+    EXPECT(range_map_u64_previous(&map, 10, &e) == RANGE_DONE && e.value == 1);
+    EXPECT(range_map_u64_previous(&map, 29, &e) == RANGE_DONE && e.value == 1);
+    EXPECT(range_map_u64_previous(&map, 9, &e) == RANGE_NONE && e.value == 1);
     for (uint64_t i = 1; range_map_u64_pop_first(&map, &e) == RANGE_DONE; i += 2)
         EXPECT(is_entry(e, upto(10 * i, 10 * i + 5), i));
     EXPECT(range_handle_count(&map) == 0);
@@ -159,6 +168,9 @@ static void signed_maps(void) {
     EXPECT(range_map_i64_intersects(&map, &low) == RANGE_NONE);
     EXPECT(range_map_i64_next(&map, INT64_MIN, &e) == RANGE_DONE && e.range.start == -5);
     EXPECT(range_map_i64_next(&map, 10, &e) == RANGE_NONE);
+    EXPECT(range_map_i64_previous(&map, -5, &e) == RANGE_NONE);
+    EXPECT(range_map_i64_previous(&map, INT64_MIN, &e) == RANGE_NONE);
+    EXPECT(range_map_i64_previous(&map, -4, &e) == RANGE_DONE && e.range.start == -5 && e.range.end == 10);
     EXPECT(range_map_i64_insert_disconnected(&map, &low, 2) == RANGE_CONNECTED);
     low.end = -6;
     EXPECT(range_map_i64_insert_disconnected(&map, &low, 2) == RANGE_DONE);
@@ -185,6 +197,9 @@ static void sets(void) {
     EXPECT(range_set_u64_last(&set, &found) == RANGE_DONE && found.start == 13);
     EXPECT(range_set_u64_next(&set, 12, &found) == RANGE_DONE && found.start == 13);
     EXPECT(range_set_u64_next(&set, 20, &found) == RANGE_NONE);
+    EXPECT(range_set_u64_previous(&set, 13, &found) == RANGE_DONE && found.start == 10 && found.end == 12);
+    EXPECT(range_set_u64_previous(&set, 14, &found) == RANGE_DONE && found.start == 13 && found.end == 20);
+    EXPECT(range_set_u64_previous(&set, 9, &found) == RANGE_NONE && found.start == 13);
     EXPECT(range_map_u64_create(&map) == RANGE_DONE);
     EXPECT(range_set_u64_next(&map, 0, &found) == RANGE_OTHER_KIND);
     EXPECT(range_set_u64_insert(&map, &r) == RANGE_OTHER_KIND && range_handle_count(&map) == 0);

@@ -88,6 +88,7 @@ def _load():
         declare(prefix + "intersects", _U32, bounds)
         declare(prefix + "len", _U32, length)
         declare(prefix + "next", _U32, key, entry)
+        declare(prefix + "previous", _U32, key, entry)
         for name in ("first", "last", "pop_first", "pop_last"):
             declare(prefix + name, _U32, entry)
         if value:
@@ -185,6 +186,10 @@ class _Collection:
     def next(self, key):
         """The first stored range that ends at the key or after it, `None` where there is none."""
         return self._found("next", self._key(key))
+
+    def previous(self, key):
+        """The last stored range that starts at the key or before it, `None` where there is none."""
+        return self._found("previous", self._key(key))
 
     def _walk(self):
         """What is stored, ascending. A step costs one search, and sees what was changed since the last."""

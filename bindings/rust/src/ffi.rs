@@ -28,7 +28,7 @@ impl RawLength {
 
 macro_rules! declare_map {
     ($key:ty, $create:ident, $insert:ident, $insert_disconnected:ident, $remove:ident, $get:ident, $contains:ident,
-     $intersects:ident, $len:ident, $first:ident, $last:ident, $next:ident, $pop_first:ident, $pop_last:ident) => {
+     $intersects:ident, $len:ident, $first:ident, $last:ident, $next:ident, $previous:ident, $pop_first:ident, $pop_last:ident) => {
         unsafe extern "C" {
             pub fn $create(map: *mut RawHandle) -> u32;
             pub fn $insert(map: *mut RawHandle, range: &RawRange<$key>, value: u64) -> u32;
@@ -41,6 +41,7 @@ macro_rules! declare_map {
             pub fn $first(map: *mut RawHandle, entry: &mut RawEntry<$key>) -> u32;
             pub fn $last(map: *mut RawHandle, entry: &mut RawEntry<$key>) -> u32;
             pub fn $next(map: *mut RawHandle, key: $key, entry: &mut RawEntry<$key>) -> u32;
+            pub fn $previous(map: *mut RawHandle, key: $key, entry: &mut RawEntry<$key>) -> u32;
             pub fn $pop_first(map: *mut RawHandle, entry: &mut RawEntry<$key>) -> u32;
             pub fn $pop_last(map: *mut RawHandle, entry: &mut RawEntry<$key>) -> u32;
         }
@@ -60,6 +61,7 @@ declare_map!(
     range_map_u64_first,
     range_map_u64_last,
     range_map_u64_next,
+    range_map_u64_previous,
     range_map_u64_pop_first,
     range_map_u64_pop_last
 );
@@ -76,6 +78,7 @@ declare_map!(
     range_map_i64_first,
     range_map_i64_last,
     range_map_i64_next,
+    range_map_i64_previous,
     range_map_i64_pop_first,
     range_map_i64_pop_last
 );
@@ -94,6 +97,7 @@ unsafe extern "C" {
     pub fn range_set_u64_first(set: *mut RawHandle, range: &mut RawRange<u64>) -> u32;
     pub fn range_set_u64_last(set: *mut RawHandle, range: &mut RawRange<u64>) -> u32;
     pub fn range_set_u64_next(set: *mut RawHandle, key: u64, range: &mut RawRange<u64>) -> u32;
+    pub fn range_set_u64_previous(set: *mut RawHandle, key: u64, range: &mut RawRange<u64>) -> u32;
     pub fn range_set_u64_pop_first(set: *mut RawHandle, range: &mut RawRange<u64>) -> u32;
     pub fn range_set_u64_pop_last(set: *mut RawHandle, range: &mut RawRange<u64>) -> u32;
 }

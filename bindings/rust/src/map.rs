@@ -101,6 +101,11 @@ impl<K: Key> RangeMap<K> {
         entry(|it| unsafe { K::next(self.handle.raw(), key, it) })
     }
 
+    /// The last stored range that starts at the key or before it, with its value.
+    pub fn previous(&self, key: K) -> Option<Entry<K>> {
+        entry(|it| unsafe { K::previous(self.handle.raw(), key, it) })
+    }
+
     /// The stored ranges with their values, ascending. A step costs one search.
     pub fn iter(&self) -> Iter<'_, K> {
         Iter { map: self, from: Some(K::LEAST) }

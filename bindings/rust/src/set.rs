@@ -90,6 +90,11 @@ impl RangeSet {
         found(|it| unsafe { ffi::range_set_u64_next(self.handle.raw(), key, it) })
     }
 
+    /// The last stored range that starts at the key or before it.
+    pub fn previous(&self, key: u64) -> Option<Range<u64>> {
+        found(|it| unsafe { ffi::range_set_u64_previous(self.handle.raw(), key, it) })
+    }
+
     /// The stored ranges, ascending. A step costs one search.
     pub fn iter(&self) -> impl Iterator<Item = Range<u64>> + '_ {
         std::iter::successors(self.first(), |range| self.next(range.past()?))

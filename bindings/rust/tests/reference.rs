@@ -50,6 +50,15 @@ impl Reference {
         self.0.range(..=last).next_back().is_some_and(|(_, (end, _))| end + 1 >= first)
     }
 
+    fn previous(&self, key: u64) -> Option<(u64, u64, u64)> {
+        self.0.range(..=key).next_back().map(|(start, (end, value))| (*start, *end, *value))
+    }
+
+    fn next(&self, key: u64) -> Option<(u64, u64, u64)> {
+        self.get(key)
+            .or_else(|| self.0.range(key..).next().map(|(start, (end, value))| (*start, *end, *value)))
+    }
+
     fn get(&self, key: u64) -> Option<(u64, u64, u64)> {
         let (start, (end, value)) = self.0.range(..=key).next_back()?;
         (*end >= key).then_some((*start, *end, *value))
@@ -97,7 +106,7 @@ fn random_changes_answer_as_the_reference() {
             let first = random.below(keys);
             let last = first + random.below(keys / 12);
             let value = random.below(3);
-            match random.below(8) {
+            match random.below(10) {
                 0..3 => {
                     map.insert(first..=last, value).unwrap();
                     reference.insert(first, last, value);
@@ -116,6 +125,8 @@ fn random_changes_answer_as_the_reference() {
                 }
                 5 => assert_eq!(map.get_entry(first).map(told), reference.get(first)),
                 6 => assert_eq!(map.contains_key(last), reference.get(last).is_some()),
+                7 => assert_eq!(map.previous(first).map(told), reference.previous(first)),
+                8 => assert_eq!(map.next(first).map(told), reference.next(first)),
                 _ => {
                     let meets =
                         reference.0.range(..=last).next_back().is_some_and(|(_, (end, _))| *end >= first);
@@ -180,4 +191,13 @@ fn sets_add_and_take_keys() {
     assert_eq!(set.last().map(first_and_last), Some((4, 14)));
     set.clear();
     assert!(set.is_empty());
+}
+
+#[test]
+fn sets_tell_what_lies_before() {
+    let set: RangeSet = [0..10, 20..30].into_iter().collect();
+    let before = |key| set.previous(key).map(first_and_last);
+    assert_eq!([before(0), before(15)], [Some((0, 9)); 2]);
+    assert_eq!([before(20), before(u64::MAX)], [Some((20, 29)); 2]);
+    assert_eq!(RangeSet::new().unwrap().previous(5), None);
 }

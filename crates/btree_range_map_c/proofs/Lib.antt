@@ -2,3 +2,4 @@ mod AsBox
 mod Completeness
 mod Flags
 mod Membership
+mod Upto

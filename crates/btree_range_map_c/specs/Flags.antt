@@ -70,3 +70,7 @@ key_item b = record { key = range_of b; value = tt }
 -- the keys from this one on
 abbrev pub from_key : {K : Type 0} → K → AnyRange K
 from_key key = record { start = Included key; end = Unbounded }
+
+-- the keys up to this one
+abbrev pub upto_key : {K : Type 0} → K → AnyRange K
+upto_key key = record { start = Unbounded; end = Included key }

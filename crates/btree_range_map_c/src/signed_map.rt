@@ -7,7 +7,7 @@ ghost use Rattle.btree_range_map.specs.Lookups.{BindsKeyOf, IsConnectedToSome};
 ghost use Rattle.btree_range_map.specs.Numbers.{IsNumberOfKeys};
 ghost use Rattle.btree_range_map.specs.Range.{IsEmptyRange};
 ghost use Rattle.btree_range_map.specs.Overlapping.{AreOverlapping};
-ghost use Rattle.btree_range_map_c.specs.Flags.{signed_range_of, signed_entry_item, number_of, from_key};
+ghost use Rattle.btree_range_map_c.specs.Flags.{signed_range_of, signed_entry_item, number_of, from_key, upto_key};
 ghost use Rattle.btree_range_map_c.specs.Held.{HoldsSignedMap, signed_items};
 ghost use Rattle.btree_range_map_c.specs.Lists.{signed_keys, SignedRanges};
 
@@ -280,6 +280,33 @@ pub fn next(collection: &Collection, key: i64, entry: &mut SignedEntry) -> u32
 {
     match collection {
         Collection::Signed(kept) => match kept.map.iter_from(key).next() {
+            Some((range, value)) => {
+                *entry = SignedEntry {
+                    range: SignedBounds::of(range),
+                    value: *value,
+                };
+                DONE
+            }
+            None => NONE,
+        },
+        _ => OTHER_KIND,
+    }
+}
+
+/// Writes the last stored range that starts at the key or before it, with its value.
+#[tactic(auto, using(crate::proofs::Upto::signed_upto))]
+pub fn previous(collection: &Collection, key: i64, entry: &mut SignedEntry) -> u32
+    ensures previous { result ≡ DONE → (front : SignedRanges)
+        × AreOverlapping signed_keys (signed_items (Some collection.now)) (upto_key key)
+        (front ++ signed_entry_item entry.new ∷ []) }
+    ensures none { result ≡ NONE
+        → AreOverlapping signed_keys (signed_items (Some collection.now)) (upto_key key) [] }
+    ensures unwritten { result ≢ DONE → entry.new ≡ entry.old }
+    ensures answer { HoldsSignedMap (Some collection.now) → (result ≡ DONE) ⊎ (result ≡ NONE) }
+    ensures other { (¬ HoldsSignedMap (Some collection.now)) → result ≡ OTHER_KIND }
+{
+    match collection {
+        Collection::Signed(kept) => match kept.map.overlapping(..=key).next_back() {
             Some((range, value)) => {
                 *entry = SignedEntry {
                     range: SignedBounds::of(range),

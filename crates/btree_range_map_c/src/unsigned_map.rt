@@ -7,7 +7,7 @@ ghost use Rattle.btree_range_map.specs.Lookups.{BindsKeyOf, IsConnectedToSome};
 ghost use Rattle.btree_range_map.specs.Numbers.{IsNumberOfKeys};
 ghost use Rattle.btree_range_map.specs.Range.{IsEmptyRange};
 ghost use Rattle.btree_range_map.specs.Overlapping.{AreOverlapping};
-ghost use Rattle.btree_range_map_c.specs.Flags.{range_of, entry_item, number_of, from_key};
+ghost use Rattle.btree_range_map_c.specs.Flags.{range_of, entry_item, number_of, from_key, upto_key};
 ghost use Rattle.btree_range_map_c.specs.Held.{HoldsMap, map_items};
 ghost use Rattle.btree_range_map_c.specs.Lists.{unsigned_keys, Ranges};
 
@@ -277,6 +277,33 @@ pub fn next(collection: &Collection, key: u64, entry: &mut Entry) -> u32
 {
     match collection {
         Collection::Unsigned(kept) => match kept.map.iter_from(key).next() {
+            Some((range, value)) => {
+                *entry = Entry {
+                    range: Bounds::of(range),
+                    value: *value,
+                };
+                DONE
+            }
+            None => NONE,
+        },
+        _ => OTHER_KIND,
+    }
+}
+
+/// Writes the last stored range that starts at the key or before it, with its value.
+#[tactic(auto, using(crate::proofs::Upto::unsigned_upto))]
+pub fn previous(collection: &Collection, key: u64, entry: &mut Entry) -> u32
+    ensures previous { result ≡ DONE → (front : Ranges)
+        × AreOverlapping unsigned_keys (map_items (Some collection.now)) (upto_key key)
+        (front ++ entry_item entry.new ∷ []) }
+    ensures none { result ≡ NONE
+        → AreOverlapping unsigned_keys (map_items (Some collection.now)) (upto_key key) [] }
+    ensures unwritten { result ≢ DONE → entry.new ≡ entry.old }
+    ensures answer { HoldsMap (Some collection.now) → (result ≡ DONE) ⊎ (result ≡ NONE) }
+    ensures other { (¬ HoldsMap (Some collection.now)) → result ≡ OTHER_KIND }
+{
+    match collection {
+        Collection::Unsigned(kept) => match kept.map.overlapping(..=key).next_back() {
             Some((range, value)) => {
                 *entry = Entry {
                     range: Bounds::of(range),

@@ -7,7 +7,7 @@ ghost use Rattle.btree_range_map.specs.Lookups.{BindsKeyOf};
 ghost use Rattle.btree_range_map.specs.Numbers.{IsNumberOfKeys};
 ghost use Rattle.btree_range_map.specs.Range.{IsEmptyRange};
 ghost use Rattle.btree_range_map.specs.Overlapping.{AreOverlapping};
-ghost use Rattle.btree_range_map_c.specs.Flags.{range_of, key_item, number_of, from_key};
+ghost use Rattle.btree_range_map_c.specs.Flags.{range_of, key_item, number_of, from_key, upto_key};
 ghost use Rattle.btree_range_map_c.specs.Held.{HoldsSet, set_items};
 ghost use Rattle.btree_range_map_c.specs.Lists.{unsigned_keys, KeyRanges};
 
@@ -255,6 +255,30 @@ pub fn next(collection: &Collection, key: u64, entry: &mut Bounds) -> u32
 {
     match collection {
         Collection::Set(kept) => match kept.set.iter_from(key).next() {
+            Some((range, _)) => {
+                *entry = Bounds::of(range);
+                DONE
+            }
+            None => NONE,
+        },
+        _ => OTHER_KIND,
+    }
+}
+
+/// Writes the last stored range that starts at the key or before it.
+#[tactic(auto, using(crate::proofs::Upto::unsigned_upto))]
+pub fn previous(collection: &Collection, key: u64, entry: &mut Bounds) -> u32
+    ensures previous { result ≡ DONE → (front : KeyRanges)
+        × AreOverlapping unsigned_keys (set_items (Some collection.now)) (upto_key key)
+        (front ++ key_item entry.new ∷ []) }
+    ensures none { result ≡ NONE
+        → AreOverlapping unsigned_keys (set_items (Some collection.now)) (upto_key key) [] }
+    ensures unwritten { result ≢ DONE → entry.new ≡ entry.old }
+    ensures answer { HoldsSet (Some collection.now) → (result ≡ DONE) ⊎ (result ≡ NONE) }
+    ensures other { (¬ HoldsSet (Some collection.now)) → result ≡ OTHER_KIND }
+{
+    match collection {
+        Collection::Set(kept) => match kept.set.overlapping(..=key).next_back() {
             Some((range, _)) => {
                 *entry = Bounds::of(range);
                 DONE

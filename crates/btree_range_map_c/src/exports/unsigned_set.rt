@@ -6,7 +6,7 @@ ghost use Rattle.btree_range_map.specs.Lookups.{BindsKeyOf};
 ghost use Rattle.btree_range_map.specs.Numbers.{IsNumberOfKeys};
 ghost use Rattle.btree_range_map.specs.Range.{IsEmptyRange};
 ghost use Rattle.btree_range_map.specs.Overlapping.{AreOverlapping};
-ghost use Rattle.btree_range_map_c.specs.Flags.{range_of, key_item, number_of, from_key};
+ghost use Rattle.btree_range_map_c.specs.Flags.{range_of, key_item, number_of, from_key, upto_key};
 ghost use Rattle.btree_range_map_c.specs.Held.{HoldsSet, set_items};
 ghost use Rattle.btree_range_map_c.specs.Lists.{unsigned_keys, KeyRanges};
 
@@ -256,6 +256,38 @@ pub extern "C" fn range_set_u64_next(
     }
     let collection = handle.take(alloc);
     let status = unsigned_set::next(collection.as_ref(), key, entry);
+    *handle = Handle::open(collection);
+    status
+}
+
+/// Writes the last stored range that starts at the key or before it.
+///
+/// It is the last of those that meet the keys up to this one; all after it start past the key.
+/// Costs two searches.
+#[unsafe(no_mangle)]
+pub extern "C" fn range_set_u64_previous(
+    alloc: Global,
+    handle: &mut Handle,
+    key: u64,
+    entry: &mut Bounds,
+) -> u32
+    ensures unchanged { handle.new.seal.held ≡ handle.old.seal.held }
+    ensures previous { result ≡ DONE → (front : KeyRanges)
+        × AreOverlapping unsigned_keys (set_items handle.old.seal.held) (upto_key key)
+        (front ++ key_item entry.new ∷ []) }
+    ensures none { result ≡ NONE
+        → AreOverlapping unsigned_keys (set_items handle.old.seal.held) (upto_key key) [] }
+    ensures unwritten { result ≢ DONE → entry.new ≡ entry.old }
+    ensures answer { HoldsSet handle.old.seal.held → (result ≡ DONE) ⊎ (result ≡ NONE) }
+    ensures closed { handle.old.is_open ≡ false → result ≡ CLOSED }
+    ensures other { handle.old.is_open ≡ true → (¬ HoldsSet handle.old.seal.held)
+        → result ≡ OTHER_KIND }
+{
+    if !handle.is_open {
+        return CLOSED;
+    }
+    let collection = handle.take(alloc);
+    let status = unsigned_set::previous(collection.as_ref(), key, entry);
     *handle = Handle::open(collection);
     status
 }
