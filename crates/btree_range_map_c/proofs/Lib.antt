@@ -1,0 +1,5 @@
+mod AsBox
+mod Completeness
+mod Flags
+mod Membership
+mod Upto

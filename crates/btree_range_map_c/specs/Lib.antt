@@ -1,0 +1,5 @@
+pub mod Fewest
+pub mod Flags
+pub mod Held
+pub mod Lists
+pub mod Seals

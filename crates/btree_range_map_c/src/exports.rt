@@ -1,0 +1,6 @@
+//! The calls for C. Each takes a handle that may be closed, and says so.
+
+mod any;
+mod signed_map;
+mod unsigned_map;
+mod unsigned_set;

@@ -1,0 +1,389 @@
+//! The calls on maps of `u64` keys to `u64` values.
+ghost use Rattle.std.specs.Prelude.{◌≡◌, ◌≢◌, ◌⊎◌, ◌↔◌, [], ◌∷◌, ◌++◌, IsSome, Some, None, true, false, nat_eq};
+ghost use Rattle.btree_range_map.specs.Bindings.{Binds, IsBound, IsItemFor, IsBoundAfter, IsUnboundAfter};
+ghost use Rattle.btree_range_map.specs.Lookups.{BindsKeyOf, IsConnectedToSome};
+ghost use Rattle.btree_range_map.specs.Numbers.{IsNumberOfKeys};
+ghost use Rattle.btree_range_map.specs.Range.{IsEmptyRange};
+ghost use Rattle.btree_range_map.specs.Overlapping.{AreOverlapping};
+ghost use Rattle.btree_range_map_c.specs.Flags.{range_of, entry_item, number_of, from_key, upto_key};
+ghost use Rattle.btree_range_map_c.specs.Held.{HoldsMap, map_items};
+ghost use Rattle.btree_range_map_c.specs.Lists.{unsigned_keys, Ranges};
+
+use crate::bounds::{Bounds, Entry, Length};
+use crate::collection::Collection;
+use crate::handle::Handle;
+use crate::status::{CLOSED, CONNECTED, DONE, NO_MEMORY, NONE, OPEN, OTHER_KIND};
+use crate::unsigned_map::{self, UnsignedMap};
+use std::alloc::Global;
+
+/// Opens a closed handle, on an empty map. Allocates one block.
+#[unsafe(no_mangle)]
+pub extern "C" fn range_map_u64_create(alloc: Global, handle: &mut Handle) -> u32
+    ensures created { result ≡ DONE → (HoldsMap handle.new.seal.held)
+        × (map_items handle.new.seal.held ≡ []) }
+    ensures refused { result ≢ DONE → handle.new.seal.held ≡ handle.old.seal.held }
+    ensures open { handle.old.is_open ≡ true → result ≡ OPEN }
+    ensures answer { handle.old.is_open ≡ false → (result ≡ DONE) ⊎ (result ≡ NO_MEMORY) }
+{
+    if handle.is_open {
+        return OPEN;
+    }
+    match Box::new(alloc, Collection::Unsigned(UnsignedMap::new(alloc))) {
+        Ok(collection) => {
+            *handle = Handle::open(collection);
+            DONE
+        }
+        Err(_) => NO_MEMORY,
+    }
+}
+
+/// Binds each key of the range to the value. An empty range changes nothing.
+#[unsafe(no_mangle)]
+pub extern "C" fn range_map_u64_insert(
+    alloc: Global,
+    handle: &mut Handle,
+    range: &Bounds,
+    value: u64,
+) -> u32
+    ensures bound { result ≡ DONE
+        → IsBoundAfter unsigned_keys nat_eq (map_items handle.old.seal.held)
+        (map_items handle.new.seal.held) (range_of range.now) value }
+    ensures empty { IsEmptyRange unsigned_keys (range_of range.now)
+        → HoldsMap handle.old.seal.held → result ≡ DONE }
+    ensures empty_unchanged { IsEmptyRange unsigned_keys (range_of range.now)
+        → handle.new.seal.held ≡ handle.old.seal.held }
+    ensures kind { HoldsMap handle.old.seal.held → HoldsMap handle.new.seal.held }
+    ensures refused { result ≢ DONE → handle.new.seal.held ≡ handle.old.seal.held }
+    ensures answer { HoldsMap handle.old.seal.held → (result ≡ DONE) ⊎ (result ≡ NO_MEMORY) }
+    ensures closed { handle.old.is_open ≡ false → result ≡ CLOSED }
+    ensures other { handle.old.is_open ≡ true → (¬ HoldsMap handle.old.seal.held)
+        → result ≡ OTHER_KIND }
+{
+    if !handle.is_open {
+        return CLOSED;
+    }
+    let mut collection = handle.take(alloc);
+    let status = unsigned_map::insert(collection.as_mut(), range, value);
+    *handle = Handle::open(collection);
+    status
+}
+
+/// Binds each key of a range that neither meets nor touches a stored one.
+#[unsafe(no_mangle)]
+pub extern "C" fn range_map_u64_insert_disconnected(
+    alloc: Global,
+    handle: &mut Handle,
+    range: &Bounds,
+    value: u64,
+) -> u32
+    ensures bound { result ≡ DONE
+        → IsBoundAfter unsigned_keys nat_eq (map_items handle.old.seal.held)
+        (map_items handle.new.seal.held) (range_of range.now) value }
+    ensures connected { HoldsMap handle.old.seal.held → (result ≡ CONNECTED
+        ↔ (¬ IsEmptyRange unsigned_keys (range_of range.now))
+        × IsConnectedToSome unsigned_keys (map_items handle.old.seal.held) (range_of range.now)) }
+    ensures empty { IsEmptyRange unsigned_keys (range_of range.now)
+        → HoldsMap handle.old.seal.held → result ≡ DONE }
+    ensures empty_unchanged { IsEmptyRange unsigned_keys (range_of range.now)
+        → handle.new.seal.held ≡ handle.old.seal.held }
+    ensures kind { HoldsMap handle.old.seal.held → HoldsMap handle.new.seal.held }
+    ensures refused { result ≢ DONE → handle.new.seal.held ≡ handle.old.seal.held }
+    ensures answer { HoldsMap handle.old.seal.held
+        → (result ≡ DONE) ⊎ ((result ≡ NO_MEMORY) ⊎ (result ≡ CONNECTED)) }
+    ensures closed { handle.old.is_open ≡ false → result ≡ CLOSED }
+    ensures other { handle.old.is_open ≡ true → (¬ HoldsMap handle.old.seal.held)
+        → result ≡ OTHER_KIND }
+{
+    if !handle.is_open {
+        return CLOSED;
+    }
+    let mut collection = handle.take(alloc);
+    let status = unsigned_map::insert_disconnected(collection.as_mut(), range, value);
+    *handle = Handle::open(collection);
+    status
+}
+
+/// Binds no key of the range. An empty range changes nothing.
+#[unsafe(no_mangle)]
+pub extern "C" fn range_map_u64_remove(alloc: Global, handle: &mut Handle, range: &Bounds) -> u32
+    ensures unbound { result ≡ DONE
+        → IsUnboundAfter unsigned_keys nat_eq (map_items handle.old.seal.held)
+        (map_items handle.new.seal.held) (range_of range.now) }
+    ensures empty { IsEmptyRange unsigned_keys (range_of range.now)
+        → HoldsMap handle.old.seal.held → result ≡ DONE }
+    ensures empty_unchanged { IsEmptyRange unsigned_keys (range_of range.now)
+        → handle.new.seal.held ≡ handle.old.seal.held }
+    ensures kind { HoldsMap handle.old.seal.held → HoldsMap handle.new.seal.held }
+    ensures refused { result ≢ DONE → handle.new.seal.held ≡ handle.old.seal.held }
+    ensures answer { HoldsMap handle.old.seal.held → (result ≡ DONE) ⊎ (result ≡ NO_MEMORY) }
+    ensures closed { handle.old.is_open ≡ false → result ≡ CLOSED }
+    ensures other { handle.old.is_open ≡ true → (¬ HoldsMap handle.old.seal.held)
+        → result ≡ OTHER_KIND }
+{
+    if !handle.is_open {
+        return CLOSED;
+    }
+    let mut collection = handle.take(alloc);
+    let status = unsigned_map::remove(collection.as_mut(), range);
+    *handle = Handle::open(collection);
+    status
+}
+
+/// Writes the stored range that holds the key, with its value.
+#[unsafe(no_mangle)]
+pub extern "C" fn range_map_u64_get(
+    alloc: Global,
+    handle: &mut Handle,
+    key: u64,
+    entry: &mut Entry,
+) -> u32
+    ensures unchanged { handle.new.seal.held ≡ handle.old.seal.held }
+    ensures found { result ≡ DONE
+        → IsItemFor unsigned_keys (map_items handle.old.seal.held) key (entry_item entry.new) }
+    ensures bound { result ≡ DONE
+        → Binds unsigned_keys nat_eq (map_items handle.old.seal.held) key (Some entry.new.value) }
+    ensures free { result ≢ DONE
+        → Binds unsigned_keys nat_eq (map_items handle.old.seal.held) key None }
+    ensures unwritten { result ≢ DONE → entry.new ≡ entry.old }
+    ensures answer { HoldsMap handle.old.seal.held → (result ≡ DONE) ⊎ (result ≡ NONE) }
+    ensures closed { handle.old.is_open ≡ false → result ≡ CLOSED }
+    ensures other { handle.old.is_open ≡ true → (¬ HoldsMap handle.old.seal.held)
+        → result ≡ OTHER_KIND }
+{
+    if !handle.is_open {
+        return CLOSED;
+    }
+    let collection = handle.take(alloc);
+    let status = unsigned_map::get(collection.as_ref(), key, entry);
+    *handle = Handle::open(collection);
+    status
+}
+
+/// Whether the key is bound: `DONE` where it is, `NONE` where it is not.
+#[unsafe(no_mangle)]
+pub extern "C" fn range_map_u64_contains(alloc: Global, handle: &mut Handle, key: u64) -> u32
+    ensures unchanged { handle.new.seal.held ≡ handle.old.seal.held }
+    ensures yes { result ≡ DONE → IsBound unsigned_keys (map_items handle.old.seal.held) key }
+    ensures no { result ≡ NONE → ¬ IsBound unsigned_keys (map_items handle.old.seal.held) key }
+    ensures answer { HoldsMap handle.old.seal.held → (result ≡ DONE) ⊎ (result ≡ NONE) }
+    ensures closed { handle.old.is_open ≡ false → result ≡ CLOSED }
+    ensures other { handle.old.is_open ≡ true → (¬ HoldsMap handle.old.seal.held)
+        → result ≡ OTHER_KIND }
+{
+    if !handle.is_open {
+        return CLOSED;
+    }
+    let collection = handle.take(alloc);
+    let status = unsigned_map::contains(collection.as_ref(), key);
+    *handle = Handle::open(collection);
+    status
+}
+
+/// Whether some key of the range is bound: `DONE` where one is, `NONE` where none is.
+#[unsafe(no_mangle)]
+pub extern "C" fn range_map_u64_intersects(
+    alloc: Global,
+    handle: &mut Handle,
+    range: &Bounds,
+) -> u32
+    ensures unchanged { handle.new.seal.held ≡ handle.old.seal.held }
+    ensures yes { result ≡ DONE
+        → BindsKeyOf unsigned_keys (map_items handle.old.seal.held) (range_of range.now) }
+    ensures no { result ≡ NONE
+        → ¬ BindsKeyOf unsigned_keys (map_items handle.old.seal.held) (range_of range.now) }
+    ensures answer { HoldsMap handle.old.seal.held → (result ≡ DONE) ⊎ (result ≡ NONE) }
+    ensures closed { handle.old.is_open ≡ false → result ≡ CLOSED }
+    ensures other { handle.old.is_open ≡ true → (¬ HoldsMap handle.old.seal.held)
+        → result ≡ OTHER_KIND }
+{
+    if !handle.is_open {
+        return CLOSED;
+    }
+    let collection = handle.take(alloc);
+    let status = unsigned_map::intersects(collection.as_ref(), range);
+    *handle = Handle::open(collection);
+    status
+}
+
+/// Writes how many keys are bound.
+#[unsafe(no_mangle)]
+pub extern "C" fn range_map_u64_len(alloc: Global, handle: &mut Handle, length: &mut Length) -> u32
+    ensures unchanged { handle.new.seal.held ≡ handle.old.seal.held }
+    ensures counted { result ≡ DONE → IsNumberOfKeys unsigned_keys
+        (IsBound unsigned_keys (map_items handle.old.seal.held)) (number_of length.new) }
+    ensures unwritten { result ≢ DONE → length.new ≡ length.old }
+    ensures answer { HoldsMap handle.old.seal.held → result ≡ DONE }
+    ensures closed { handle.old.is_open ≡ false → result ≡ CLOSED }
+    ensures other { handle.old.is_open ≡ true → (¬ HoldsMap handle.old.seal.held)
+        → result ≡ OTHER_KIND }
+{
+    if !handle.is_open {
+        return CLOSED;
+    }
+    let collection = handle.take(alloc);
+    let status = unsigned_map::len(collection.as_ref(), length);
+    *handle = Handle::open(collection);
+    status
+}
+
+/// Writes the first stored range, with its value.
+#[unsafe(no_mangle)]
+pub extern "C" fn range_map_u64_first(alloc: Global, handle: &mut Handle, entry: &mut Entry) -> u32
+    ensures unchanged { handle.new.seal.held ≡ handle.old.seal.held }
+    ensures first { result ≡ DONE → (rest : Ranges)
+        × (map_items handle.old.seal.held ≡ entry_item entry.new ∷ rest) }
+    ensures none { result ≢ DONE → map_items handle.old.seal.held ≡ [] }
+    ensures unwritten { result ≢ DONE → entry.new ≡ entry.old }
+    ensures answer { HoldsMap handle.old.seal.held → (result ≡ DONE) ⊎ (result ≡ NONE) }
+    ensures closed { handle.old.is_open ≡ false → result ≡ CLOSED }
+    ensures other { handle.old.is_open ≡ true → (¬ HoldsMap handle.old.seal.held)
+        → result ≡ OTHER_KIND }
+{
+    if !handle.is_open {
+        return CLOSED;
+    }
+    let collection = handle.take(alloc);
+    let status = unsigned_map::first(collection.as_ref(), entry);
+    *handle = Handle::open(collection);
+    status
+}
+
+/// Writes the last stored range, with its value.
+#[unsafe(no_mangle)]
+pub extern "C" fn range_map_u64_last(alloc: Global, handle: &mut Handle, entry: &mut Entry) -> u32
+    ensures unchanged { handle.new.seal.held ≡ handle.old.seal.held }
+    ensures last { result ≡ DONE → (front : Ranges)
+        × (map_items handle.old.seal.held ≡ front ++ entry_item entry.new ∷ []) }
+    ensures none { result ≢ DONE → map_items handle.old.seal.held ≡ [] }
+    ensures unwritten { result ≢ DONE → entry.new ≡ entry.old }
+    ensures answer { HoldsMap handle.old.seal.held → (result ≡ DONE) ⊎ (result ≡ NONE) }
+    ensures closed { handle.old.is_open ≡ false → result ≡ CLOSED }
+    ensures other { handle.old.is_open ≡ true → (¬ HoldsMap handle.old.seal.held)
+        → result ≡ OTHER_KIND }
+{
+    if !handle.is_open {
+        return CLOSED;
+    }
+    let collection = handle.take(alloc);
+    let status = unsigned_map::last(collection.as_ref(), entry);
+    *handle = Handle::open(collection);
+    status
+}
+
+/// Writes the first stored range that ends at the key or after it, with its value.
+///
+/// It is the first of those that meet the keys from this one on; all before it end below the key.
+/// Costs one search.
+#[unsafe(no_mangle)]
+pub extern "C" fn range_map_u64_next(
+    alloc: Global,
+    handle: &mut Handle,
+    key: u64,
+    entry: &mut Entry,
+) -> u32
+    ensures unchanged { handle.new.seal.held ≡ handle.old.seal.held }
+    ensures next { result ≡ DONE → (rest : Ranges)
+        × AreOverlapping unsigned_keys (map_items handle.old.seal.held) (from_key key)
+        (entry_item entry.new ∷ rest) }
+    ensures none { result ≡ NONE
+        → AreOverlapping unsigned_keys (map_items handle.old.seal.held) (from_key key) [] }
+    ensures unwritten { result ≢ DONE → entry.new ≡ entry.old }
+    ensures answer { HoldsMap handle.old.seal.held → (result ≡ DONE) ⊎ (result ≡ NONE) }
+    ensures closed { handle.old.is_open ≡ false → result ≡ CLOSED }
+    ensures other { handle.old.is_open ≡ true → (¬ HoldsMap handle.old.seal.held)
+        → result ≡ OTHER_KIND }
+{
+    if !handle.is_open {
+        return CLOSED;
+    }
+    let collection = handle.take(alloc);
+    let status = unsigned_map::next(collection.as_ref(), key, entry);
+    *handle = Handle::open(collection);
+    status
+}
+
+/// Writes the last stored range that starts at the key or before it, with its value.
+///
+/// It is the last of those that meet the keys up to this one; all after it start past the key.
+/// Costs two searches.
+#[unsafe(no_mangle)]
+pub extern "C" fn range_map_u64_previous(
+    alloc: Global,
+    handle: &mut Handle,
+    key: u64,
+    entry: &mut Entry,
+) -> u32
+    ensures unchanged { handle.new.seal.held ≡ handle.old.seal.held }
+    ensures previous { result ≡ DONE → (front : Ranges)
+        × AreOverlapping unsigned_keys (map_items handle.old.seal.held) (upto_key key)
+        (front ++ entry_item entry.new ∷ []) }
+    ensures none { result ≡ NONE
+        → AreOverlapping unsigned_keys (map_items handle.old.seal.held) (upto_key key) [] }
+    ensures unwritten { result ≢ DONE → entry.new ≡ entry.old }
+    ensures answer { HoldsMap handle.old.seal.held → (result ≡ DONE) ⊎ (result ≡ NONE) }
+    ensures closed { handle.old.is_open ≡ false → result ≡ CLOSED }
+    ensures other { handle.old.is_open ≡ true → (¬ HoldsMap handle.old.seal.held)
+        → result ≡ OTHER_KIND }
+{
+    if !handle.is_open {
+        return CLOSED;
+    }
+    let collection = handle.take(alloc);
+    let status = unsigned_map::previous(collection.as_ref(), key, entry);
+    *handle = Handle::open(collection);
+    status
+}
+
+/// Takes the first stored range out, and writes it with its value. Allocates nothing.
+#[unsafe(no_mangle)]
+pub extern "C" fn range_map_u64_pop_first(
+    alloc: Global,
+    handle: &mut Handle,
+    entry: &mut Entry,
+) -> u32
+    ensures first { result ≡ DONE → map_items handle.old.seal.held
+        ≡ entry_item entry.new ∷ map_items handle.new.seal.held }
+    ensures none { result ≢ DONE → map_items handle.old.seal.held ≡ [] }
+    ensures kind { HoldsMap handle.old.seal.held → HoldsMap handle.new.seal.held }
+    ensures unchanged { result ≢ DONE → handle.new.seal.held ≡ handle.old.seal.held }
+    ensures unwritten { result ≢ DONE → entry.new ≡ entry.old }
+    ensures answer { HoldsMap handle.old.seal.held → (result ≡ DONE) ⊎ (result ≡ NONE) }
+    ensures closed { handle.old.is_open ≡ false → result ≡ CLOSED }
+    ensures other { handle.old.is_open ≡ true → (¬ HoldsMap handle.old.seal.held)
+        → result ≡ OTHER_KIND }
+{
+    if !handle.is_open {
+        return CLOSED;
+    }
+    let mut collection = handle.take(alloc);
+    let status = unsigned_map::pop_first(collection.as_mut(), entry);
+    *handle = Handle::open(collection);
+    status
+}
+
+/// Takes the last stored range out, and writes it with its value. Allocates nothing.
+#[unsafe(no_mangle)]
+pub extern "C" fn range_map_u64_pop_last(
+    alloc: Global,
+    handle: &mut Handle,
+    entry: &mut Entry,
+) -> u32
+    ensures last { result ≡ DONE → map_items handle.old.seal.held
+        ≡ map_items handle.new.seal.held ++ entry_item entry.new ∷ [] }
+    ensures none { result ≢ DONE → map_items handle.old.seal.held ≡ [] }
+    ensures kind { HoldsMap handle.old.seal.held → HoldsMap handle.new.seal.held }
+    ensures unchanged { result ≢ DONE → handle.new.seal.held ≡ handle.old.seal.held }
+    ensures unwritten { result ≢ DONE → entry.new ≡ entry.old }
+    ensures answer { HoldsMap handle.old.seal.held → (result ≡ DONE) ⊎ (result ≡ NONE) }
+    ensures closed { handle.old.is_open ≡ false → result ≡ CLOSED }
+    ensures other { handle.old.is_open ≡ true → (¬ HoldsMap handle.old.seal.held)
+        → result ≡ OTHER_KIND }
+{
+    if !handle.is_open {
+        return CLOSED;
+    }
+    let mut collection = handle.take(alloc);
+    let status = unsigned_map::pop_last(collection.as_mut(), entry);
+    *handle = Handle::open(collection);
+    status
+}

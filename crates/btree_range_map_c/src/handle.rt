@@ -1,0 +1,57 @@
+//! What a caller in C keeps.
+ghost use Rattle.std.specs.Prelude.{◌≡◌, ◌↔◌, Option, Some, None, IsSome, IsTrue, true, false};
+
+use crate::collection::Collection;
+use crate::seal::Seal;
+use std::alloc::Global;
+use std::mem;
+use std::ptr::null_mut;
+
+/// A collection, while it is open.
+#[repr(C)]
+#[derive(Drop)]
+pub struct Handle {
+    pub is_open: bool,
+    pub seal: Seal,
+    pub ghost agrees: { IsTrue is_open ↔ IsSome seal.held },
+}
+
+impl Handle {
+    /// A handle of no collection.
+    pub fn closed(alloc: Global) -> Handle
+        ensures { (result.is_open ≡ false) × (result.seal.held ≡ None) }
+    {
+        let nowhere = null_mut();
+        Handle {
+            is_open: false,
+            seal: Seal::empty(nowhere, alloc),
+        }
+    }
+
+    /// A handle of the collection.
+    pub fn open(b: Box<Collection, Global>) -> Handle
+        ensures { (result.is_open ≡ true) × (result.seal.held ≡ Some b.value) }
+    {
+        Handle {
+            is_open: true,
+            seal: Seal::of(b),
+        }
+    }
+
+    /// The collection of an open handle.
+    pub fn into_box(self) -> Box<Collection, Global>
+        requires { self.is_open ≡ true }
+        ensures { self.seal.held ≡ Some result.value }
+    {
+        let Handle { is_open: _, seal } = self;
+        seal.into_box()
+    }
+
+    /// The collection of an open handle, which is closed until it comes back.
+    pub fn take(&mut self, alloc: Global) -> Box<Collection, Global>
+        requires { self.old.is_open ≡ true }
+        ensures { self.old.seal.held ≡ Some result.value }
+    {
+        mem::replace(self, Handle::closed(alloc)).into_box()
+    }
+}

@@ -1,0 +1,31 @@
+//! What a call answers.
+ghost use Rattle.std.specs.Prelude.{◌≡◌, ◌↔◌, IsTrue};
+
+/// The call did what it is for; to a question, yes.
+pub const DONE: u32 = 0;
+
+/// There was not enough memory, and nothing was changed.
+pub const NO_MEMORY: u32 = 1;
+
+/// The handle is closed, and nothing was done.
+pub const CLOSED: u32 = 2;
+
+/// There is none; to a question, no.
+pub const NONE: u32 = 3;
+
+/// The range meets or touches a stored one, and nothing was changed.
+pub const CONNECTED: u32 = 4;
+
+/// The handle is open on a collection of another kind, and nothing was done.
+pub const OTHER_KIND: u32 = 5;
+
+/// The handle is open already, and nothing was done.
+pub const OPEN: u32 = 6;
+
+/// The status that says yes or no.
+pub fn answer(yes: bool) -> u32
+    ensures yes { result ≡ DONE ↔ IsTrue yes }
+    ensures no { result ≡ NONE ↔ ¬ IsTrue yes }
+{
+    if yes { DONE } else { NONE }
+}
