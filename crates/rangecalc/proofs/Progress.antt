@@ -1,13 +1,13 @@
 -- How far a loop that writes answers has come.
 use Rattle.std.proofs.Common.{arith, ◌≡◌, ◌≢◌, ℕ, length, List, [], ◌∷◌, ◌++◌, ap, refl, sym, subst, ◌∙◌, append_assoc}
-use Rattle.std.specs.Prelude.{Option, None, Some, IfSome, Result, Ok, Err, OnOk}
+use Rattle.std.specs.Prelude.{Bool, true, false, Option, None, Some, IfSome, Result, Ok, Err, OnOk}
 use Rattle.std.specs.Io.KnownBytes.{Appends, Keeps}
 use Rattle.std.specs.Io.BufRead.{first_line, drop_through, take_through}
 use Rattle.std.specs.Str.{IsUtf8}
 use Rattle.btree_range_map.specs.Order.{KeyOrder}
 use Rattle.rangecalc.specs.Conversation.{AnswersLine, Conversation, Stored, none_stored}
 use Rattle.rangecalc.specs.Conversation.Conversation.{Ended, Answered}
-use Rattle.rangecalc.specs.Replies.{SpellsEach, Writes}
+use Rattle.rangecalc.specs.Replies.{SpellsEach, SpellsLines, Writes}
 use Rattle.rangecalc.specs.Text.{line_content}
 
 pub append_nil : (xs : List ℕ) → xs ++ [] ≡ xs
@@ -80,15 +80,56 @@ module _ {X : Type 0} (SpellsOne : X → List ℕ → Type 0) where
     shown.appended,
   )
 
-  -- the first line and then the others
-  pub shown_first : (x : X) (others : List X) (before now next : Option (List ℕ))
-      → Writes before now (SpellsOne x) → Writes now next (SpellsEach SpellsOne others)
-      → Writes before next (SpellsEach SpellsOne (x ∷ others))
-  shown_first x others before now next (line, spelled, first) (lines, rest, more) = (
-    line ++ lines,
-    (line, lines, spelled, rest, refl),
-    appends_then before now next line lines first more,
-  )
+  -- a listing so far: those before the ones that are left are written, and nothing else is yet
+  -- where there was none
+  pub record IsListing (all left : List X) (before now : Option (List ℕ)) (is_empty : Bool)
+      : Type 0 where
+    pub shown : HasShown all left before now
+    pub untouched : is_empty ≡ true → (left ≡ all) × (now ≡ before)
+    pub touched : is_empty ≡ false → all ≢ []
+
+  pub listing_none : (all : List X) (known : Option (List ℕ)) → IsListing all all known known true
+  listing_none all known = record {
+    shown = shown_none all known;
+    untouched = λ e. (refl, refl);
+    touched = λ e. absurd (cc);
+  }
+
+  some_listed : (all left : List X) (x : X) (before now : Option (List ℕ)) (is_empty : Bool)
+      → IsListing all (x ∷ left) before now is_empty → all ≢ []
+  some_listed all left x before now true listing = λ none.
+      let same = listing.untouched refl in absurd (cc)
+  some_listed all left x before now false listing = listing.touched refl
+
+  pub listing_more : (all left : List X) (x : X) (before now next : Option (List ℕ))
+      (is_empty : Bool) → IsListing all (x ∷ left) before now is_empty
+      → Writes now next (SpellsOne x) → IsListing all left before next false
+  listing_more all left x before now next is_empty listing more = record {
+    shown = shown_more all left x before now next listing.shown more;
+    untouched = λ e. absurd (cc);
+    touched = λ e. some_listed all left x before now is_empty listing;
+  }
+
+  lines_of_some : (none : List ℕ) (all : List X) (text : List ℕ) → all ≢ []
+      → SpellsEach SpellsOne all text → SpellsLines SpellsOne none all text
+  lines_of_some none [] text some each = absurd (some refl)
+  lines_of_some none (x ∷ rest) text some each = each
+
+  pub listed_some : (none : List ℕ) (all : List X) (before now : Option (List ℕ))
+      → IsListing all [] before now false → Writes before now (SpellsLines SpellsOne none all)
+  listed_some none all before now listing =
+      let (text, each, appended) = shown_all all before now listing.shown in
+      (text, lines_of_some none all text (listing.touched refl) each, appended)
+
+  pub listed_none : (none : List ℕ) (all : List X) (before now next : Option (List ℕ))
+      → IsListing all [] before now true → Appends now next none
+      → Writes before next (SpellsLines SpellsOne none all)
+  listed_none none all before now next listing appended =
+      let (ended, same) = listing.untouched refl in (
+        none,
+        subst (λ xs. SpellsLines SpellsOne none xs none) ended refl,
+        subst (λ known. Appends known next none) same appended,
+      )
 
 module _ {K : Type 0} (order : KeyOrder K) where
   -- the lines of the input before those that are left are answered

@@ -1,7 +1,7 @@
 //! What a line says.
 
-ghost use Rattle.std.specs.Prelude.{◌≡◌, ◌<◌, ◌∷◌, ◌++◌, [], IfSome};
-ghost use Rattle.rangecalc.specs.Lines.{Says, letter, words_of};
+ghost use Rattle.std.specs.Prelude.{◌≡◌, ◌<◌, ◌∷◌, ◌++◌, [], IfSome, codes};
+ghost use Rattle.rangecalc.specs.Lines.{Says, change_words, letter, words_of};
 
 use crate::number::{NumberKey, number};
 use btree_range_map::AnyRange;
@@ -94,11 +94,12 @@ pub fn range<K: NumberKey>(text: &str) -> Option<AnyRange<K>> {
     let after_dots = without_front(after_dot, '.')?;
     match without_front(after_dots, '.') {
         Some(tail) => {
-            let end = end(tail)?;
-            if head.is_empty() {
-                return Some(AnyRange::new(Bound::Unbounded, end));
-            }
-            Some(AnyRange::new(Bound::Excluded(key(head)?), end))
+            let start = if head.is_empty() {
+                Bound::Unbounded
+            } else {
+                Bound::Excluded(key(head)?)
+            };
+            Some(AnyRange::new(start, end(tail)?))
         }
         None => {
             let start = Bound::Included(key(head)?);
@@ -107,11 +108,15 @@ pub fn range<K: NumberKey>(text: &str) -> Option<AnyRange<K>> {
     }
 }
 
-/// A range and a number with a space between them.
-fn binding<K: NumberKey>(text: &str) -> Option<(AnyRange<K>, i64)> {
+/// An insertion, of a range and a number with a space between them.
+fn insertion<K: NumberKey>(text: &str) -> Option<Change<K>>
+    ensures { IfSome result (λ change. codes "insert" ≡ change_words change) }
+{
     let (spelled, value) = split_at_space(text)?;
-    let range = range(spelled)?;
-    Some((range, number(value)?))
+    match (range(spelled), number(value)) {
+        (Some(range), Some(value)) => Some(Change::Insert(range, value)),
+        _ => None,
+    }
 }
 
 fn name_of(word: &str) -> Option<Name>
@@ -145,25 +150,41 @@ fn without_fields<K: NumberKey>(words: &str) -> Option<Command<K>>
     }
 }
 
+/// A command of a word and a key.
+fn of_key<K: NumberKey>(word: &str, key: K) -> Option<Command<K>>
+    ensures { IfSome result (λ command. word.now ≡ words_of command) }
+{
+    match word {
+        "get" => Some(Command::Ask(Question::Get(key))),
+        "at" => Some(Command::Ask(Question::At(key))),
+        "has" => Some(Command::Ask(Question::Has(key))),
+        _ => None,
+    }
+}
+
+/// A command of a word and a range.
+fn of_range<K: NumberKey>(word: &str, range: AnyRange<K>) -> Option<Command<K>>
+    ensures { IfSome result (λ command. word.now ≡ words_of command) }
+{
+    match word {
+        "remove" => Some(Command::Change(Change::Remove(range))),
+        "meets" => Some(Command::Ask(Question::Meets(range))),
+        "all" => Some(Command::Ask(Question::All(range))),
+        "over" => Some(Command::List(Listing::Over(range))),
+        "free" => Some(Command::List(Listing::Free(range))),
+        "pieces" => Some(Command::List(Listing::Pieces(range))),
+        _ => None,
+    }
+}
+
 /// A command of a word and fields.
 fn with_fields<K: NumberKey>(word: &str, fields: &str) -> Option<Command<K>>
     ensures { IfSome result (λ command. word.now ≡ words_of command) }
 {
     match word {
-        "insert" => {
-            let (range, value) = binding(fields)?;
-            Some(Command::Change(Change::Insert(range, value)))
-        }
-        "remove" => Some(Command::Change(Change::Remove(range(fields)?))),
-        "get" => Some(Command::Ask(Question::Get(key(fields)?))),
-        "at" => Some(Command::Ask(Question::At(key(fields)?))),
-        "has" => Some(Command::Ask(Question::Has(key(fields)?))),
-        "meets" => Some(Command::Ask(Question::Meets(range(fields)?))),
-        "all" => Some(Command::Ask(Question::All(range(fields)?))),
-        "over" => Some(Command::List(Listing::Over(range(fields)?))),
-        "free" => Some(Command::List(Listing::Free(range(fields)?))),
-        "pieces" => Some(Command::List(Listing::Pieces(range(fields)?))),
-        _ => None,
+        "insert" => Some(Command::Change(insertion(fields)?)),
+        "get" | "at" | "has" => of_key(word, key(fields)?),
+        _ => of_range(word, range(fields)?),
     }
 }
 

@@ -6,8 +6,7 @@ ghost use Rattle.btree_range_map.specs.PieceLists.{shown_piece};
 ghost use Rattle.btree_range_map.specs.References.{range_of};
 ghost use Rattle.rangecalc.specs.Answers.{IsListed};
 ghost use Rattle.rangecalc.specs.Ranges.{item_of};
-ghost use Rattle.rangecalc.specs.Replies.{SpellsEach, SpellsGap, SpellsItem, SpellsLines, SpellsPiece, Writes};
-ghost use Rattle.rangecalc.specs.declared.line.Listing.TheVariants.{Free, Gaps as GapsListing, Over, Pieces as PiecesListing, Show};
+ghost use Rattle.rangecalc.specs.Replies.{SpellsGap, SpellsItem, SpellsLines, SpellsPiece, Writes};
 
 use crate::line::Listing;
 use crate::number::{NumberKey, span_between};
@@ -31,10 +30,16 @@ fn write_items<'a, K: NumberKey + 'a, C: Storage<Item<AnyRange<K>, i64>> + 'a, W
     out: &mut W,
 ) -> io::Result<()>
     ensures { OnOk result
-        (Writes (W.contents out.old) (W.contents out.new) (SpellsEach SpellsItem items.entry)) }
+        (Writes (W.contents out.old) (W.contents out.new)
+        (SpellsLines SpellsItem (codes "empty\n") items.entry)) }
 {
+    let mut is_empty = true;
     while let Some((range, value)) = items.next() {
+        is_empty = false;
         write_item(range, value, out)?;
+    }
+    if is_empty {
+        return out.write_all(b"empty\n");
     }
     Ok(())
 }
@@ -44,10 +49,16 @@ fn write_gaps<'a, K: NumberKey + 'a, C: Storage<Item<AnyRange<K>, i64>> + 'a, W:
     out: &mut W,
 ) -> io::Result<()>
     ensures { OnOk result
-        (Writes (W.contents out.old) (W.contents out.new) (SpellsEach SpellsGap gaps.entry)) }
+        (Writes (W.contents out.old) (W.contents out.new)
+        (SpellsLines SpellsGap (codes "full\n") gaps.entry)) }
 {
+    let mut is_empty = true;
     while let Some(gap) = gaps.next() {
+        is_empty = false;
         write_gap::<K, W>(gap, out)?;
+    }
+    if is_empty {
+        return out.write_all(b"full\n");
     }
     Ok(())
 }
@@ -57,61 +68,18 @@ fn write_met<'a, K: NumberKey + 'a, C: Storage<Item<AnyRange<K>, i64>> + 'a, W: 
     out: &mut W,
 ) -> io::Result<()>
     ensures { OnOk result
-        (Writes (W.contents out.old) (W.contents out.new) (SpellsEach SpellsItem items.entry)) }
+        (Writes (W.contents out.old) (W.contents out.new)
+        (SpellsLines SpellsItem (codes "empty\n") items.entry)) }
 {
+    let mut is_empty = true;
     while let Some((range, value)) = items.next() {
+        is_empty = false;
         write_item(range, value, out)?;
     }
+    if is_empty {
+        return out.write_all(b"empty\n");
+    }
     Ok(())
-}
-
-fn show<K: NumberKey, W: Write>(map: &RangeMap<K, i64>, out: &mut W) -> io::Result<()>
-    ensures { OnOk result
-        (Writes (W.contents out.old) (W.contents out.new)
-        (IsListed K.order Show (box_items map.now))) }
-{
-    let mut items = map.iter();
-    match items.next() {
-        None => out.write_all(b"empty\n"),
-        Some((range, value)) => {
-            write_item(range, value, out)?;
-            write_items(items, out)
-        }
-    }
-}
-
-fn show_gaps<K: NumberKey, W: Write>(map: &RangeMap<K, i64>, out: &mut W) -> io::Result<()>
-    ensures { OnOk result
-        (Writes (W.contents out.old) (W.contents out.new)
-        (IsListed K.order GapsListing (box_items map.now))) }
-{
-    let mut gaps = map.gaps();
-    match gaps.next() {
-        None => out.write_all(b"full\n"),
-        Some(gap) => {
-            write_gap::<K, W>(gap, out)?;
-            write_gaps(gaps, out)
-        }
-    }
-}
-
-fn show_met<K: NumberKey, W: Write>(
-    map: &RangeMap<K, i64>,
-    range: AnyRange<K>,
-    out: &mut W,
-) -> io::Result<()>
-    ensures { OnOk result
-        (Writes (W.contents out.old) (W.contents out.new)
-        (IsListed K.order (Over range) (box_items map.now))) }
-{
-    let mut items = map.overlapping(range);
-    match items.next() {
-        None => out.write_all(b"empty\n"),
-        Some((range, value)) => {
-            write_item(range, value, out)?;
-            write_met(items, out)
-        }
-    }
 }
 
 fn write_free<'a, K: NumberKey + 'a, C: Storage<Item<AnyRange<K>, i64>> + 'a, W: Write>(
@@ -119,31 +87,18 @@ fn write_free<'a, K: NumberKey + 'a, C: Storage<Item<AnyRange<K>, i64>> + 'a, W:
     out: &mut W,
 ) -> io::Result<()>
     ensures { OnOk result
-        (Writes (W.contents out.old) (W.contents out.new) (SpellsEach SpellsGap gaps.entry)) }
+        (Writes (W.contents out.old) (W.contents out.new)
+        (SpellsLines SpellsGap (codes "full\n") gaps.entry)) }
 {
+    let mut is_empty = true;
     while let Some(gap) = gaps.next() {
+        is_empty = false;
         write_gap::<K, W>(gap, out)?;
     }
-    Ok(())
-}
-
-fn show_free<K: NumberKey, W: Write>(
-    map: &RangeMap<K, i64>,
-    range: &AnyRange<K>,
-    out: &mut W,
-) -> io::Result<()>
-    ensures { OnOk result
-        (Writes (W.contents out.old) (W.contents out.new)
-        (IsListed K.order (Free range.now) (box_items map.now))) }
-{
-    let mut gaps = map.gaps_within(range);
-    match gaps.next() {
-        None => out.write_all(b"full\n"),
-        Some(gap) => {
-            write_gap::<K, W>(gap, out)?;
-            write_free(gaps, out)
-        }
+    if is_empty {
+        return out.write_all(b"full\n");
     }
+    Ok(())
 }
 
 /// Writes the line of a piece.
@@ -169,31 +124,18 @@ fn write_pieces<'a, K: NumberKey + 'a, C: Storage<Item<AnyRange<K>, i64>> + 'a, 
     out: &mut W,
 ) -> io::Result<()>
     ensures { OnOk result
-        (Writes (W.contents out.old) (W.contents out.new) (SpellsEach SpellsPiece pieces.entry)) }
+        (Writes (W.contents out.old) (W.contents out.new)
+        (SpellsLines SpellsPiece (codes "empty\n") pieces.entry)) }
 {
+    let mut is_empty = true;
     while let Some((piece, value)) = pieces.next() {
+        is_empty = false;
         write_piece::<K, W>(piece, value, out)?;
     }
-    Ok(())
-}
-
-fn show_pieces<K: NumberKey, W: Write>(
-    map: &RangeMap<K, i64>,
-    range: &AnyRange<K>,
-    out: &mut W,
-) -> io::Result<()>
-    ensures { OnOk result
-        (Writes (W.contents out.old) (W.contents out.new)
-        (IsListed K.order (PiecesListing range.now) (box_items map.now))) }
-{
-    let mut pieces = map.pieces(range);
-    match pieces.next() {
-        None => out.write_all(b"empty\n"),
-        Some((piece, value)) => {
-            write_piece::<K, W>(piece, value, out)?;
-            write_pieces(pieces, out)
-        }
+    if is_empty {
+        return out.write_all(b"empty\n");
     }
+    Ok(())
 }
 
 /// Writes the ranges that a listing names, each on a line.
@@ -207,10 +149,10 @@ pub fn list<K: NumberKey, W: Write>(
         (IsListed K.order listing (box_items map.now))) }
 {
     match listing {
-        Listing::Show => show(map, out),
-        Listing::Gaps => show_gaps(map, out),
-        Listing::Over(range) => show_met(map, range, out),
-        Listing::Free(range) => show_free(map, &range, out),
-        Listing::Pieces(range) => show_pieces(map, &range, out),
+        Listing::Show => write_items(map.iter(), out),
+        Listing::Gaps => write_gaps(map.gaps(), out),
+        Listing::Over(range) => write_met(map.overlapping(range), out),
+        Listing::Free(range) => write_free(map.gaps_within(&range), out),
+        Listing::Pieces(range) => write_pieces(map.pieces(&range), out),
     }
 }

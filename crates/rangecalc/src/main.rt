@@ -15,11 +15,11 @@ mod write;
 
 const BUFFER_BYTES: usize = 65536;
 
-/// The arguments without the program's name. One that isn't text is no word that the program knows,
-/// so then there are none.
+/// The program's name and its arguments. One that isn't text is no word that the program knows, so
+/// then there are none.
 fn words(rt: &HostRuntime) -> io::Result<Vec<String>> {
     match env::args(rt) {
-        Ok(arguments) => Ok(arguments.skip(1).collect(rt.alloc())?),
+        Ok(arguments) => Ok(arguments.collect(rt.alloc())?),
         Err(error) if error.kind() == ErrorKind::OutOfMemory => Err(error),
         Err(_) => Ok(Vec::new(rt.alloc())),
     }
@@ -40,7 +40,10 @@ fn reads_file(rt: &HostRuntime) -> bool {
 fn run(rt: &HostRuntime) -> io::Result<u8> {
     let alloc = rt.alloc();
     let words = words(rt)?;
-    let words = words.as_slice();
+    let words = match words.as_slice() {
+        [_, words @ ..] => words,
+        [] => &[],
+    };
     let input = BufReader::with_capacity(alloc, BUFFER_BYTES, rt.reader())?;
     let mut err = rt.stderr();
     if reads_file(rt) {

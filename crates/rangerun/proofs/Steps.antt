@@ -13,7 +13,7 @@ use Rattle.btree_range_map.specs.Reply.TheVariants.{Done, Memory, Connected, Clo
 use Rattle.btree_range_map.specs.Rebinding.{IsRebound, AreRebound}
 use Rattle.btree_range_map.specs.Runs.{IsStep}
 
-every_as : {A : Type 0} (P Q : A → Type 0) → ((x : A) → P x → Q x) → (xs : List A) → Every P xs
+pub every_as : {A : Type 0} (P Q : A → Type 0) → ((x : A) → P x → Q x) → (xs : List A) → Every P xs
     → Every Q xs
 every_as P Q follows [] held = tt
 every_as P Q follows (x ∷ xs) held = (follows x held.0, every_as P Q follows xs held.1)

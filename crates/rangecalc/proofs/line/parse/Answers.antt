@@ -11,3 +11,13 @@ returns-in-Some g c =
       c.in_ok-word.ensures ∙ ap (λ name. name ++ 32 ∷ c.in_ok-word.rest.now) c.in_ok-name.ensures
           ∙ ap (λ rest. front ∷ 32 ∷ rest) (c.in-Some.ensures ∙ sym (append_nil words)),
     )
+
+pub returns : goal.returns
+returns g c =
+    let front = letter c.in_ok-name.name in
+    let fields = c.in_ok-word-2.fields.now in (
+      32 ∷ fields,
+      c.in_ok-word.ensures ∙ ap (λ name. name ++ 32 ∷ c.in_ok-word.rest.now) c.in_ok-name.ensures
+          ∙ ap (λ rest. front ∷ 32 ∷ rest) (c.in_ok-word-2.ensures
+          ∙ ap (λ word. word ++ 32 ∷ fields) c.in_ok-with_fields.ensures),
+    )

@@ -1,11 +1,12 @@
 use Rattle.std.proofs.Common.{length}
 use Rattle.rangecalc.specs.Replies.{SpellsGap}
-use Rattle.rangecalc.proofs.Progress.{HasShown}
+use Rattle.rangecalc.proofs.Progress.{IsListing}
 use Rattle.rangecalc.proofs.listing.write_free.Given as goal
 
 abbrev pub invariant-loop-gap : goal.invariant-loop-gap
 invariant-loop-gap g l =
-    HasShown SpellsGap l.fn.gaps l.gaps (g.W.Write.contents l.fn.out) (g.W.Write.contents l.out)
+    IsListing SpellsGap l.fn.gaps l.gaps (g.W.Write.contents l.fn.out) (g.W.Write.contents l.out)
+    l.is_empty
 
 abbrev pub decreases-loop-gap : goal.decreases-loop-gap
 decreases-loop-gap g l = length l.gaps

@@ -1,8 +1,12 @@
-use Rattle.std.proofs.Common.{◌≡◌, ◌∷◌, subst, []}
+use Rattle.std.proofs.Common.{◌≡◌, ◌∷◌, [], subst}
+use Rattle.std.specs.Prelude.{Bool, codes}
 use Rattle.btree_range_map.specs.References.{range_of}
 use Rattle.rangecalc.specs.Replies.{SpellsGap}
-use Rattle.rangecalc.proofs.Progress.{HasShown, shown_more, shown_all}
+use Rattle.rangecalc.proofs.Progress.{IsListing, listed_none, listed_some, listing_more, listing_none, on_ok_as}
 use Rattle.rangecalc.proofs.listing.write_gaps.Goals as goal
+
+pub loop-gap-init : goal.loop-gap-init
+loop-gap-init g c = listing_none SpellsGap c.args.gaps (g.W.Write.contents c.args.out.now)
 
 pub loop-gap-preserved : goal.loop-gap-preserved
 loop-gap-preserved g c =
@@ -13,9 +17,22 @@ loop-gap-preserved g c =
     let now = g.W.Write.contents c.loop-gap.out in
     let next = g.W.Write.contents c.write_gap.new.out in
     let step : c.loop-gap.gaps ≡ gap ∷ left = c.in-Some.ensures.steps in
-    shown_more SpellsGap all left gap before now next
-    (subst (λ gaps. HasShown SpellsGap all gaps before now) step c.loop-gap.invariant)
-    c.in_ok-write_gap.ensures
+    listing_more SpellsGap all left gap before now next c.loop-gap.is_empty
+    (subst (λ gaps. IsListing SpellsGap all gaps before now c.loop-gap.is_empty) step
+    c.loop-gap.invariant) c.in_ok-write_gap.ensures
+
+pub returns-then-is_empty : goal.returns-then-is_empty
+returns-then-is_empty g c =
+    let all = c.args.gaps in
+    let before = g.W.Write.contents c.args.out.now in
+    let now = g.W.Write.contents c.loop-gap.out in
+    let next = g.W.Write.contents c.write_all.new.self in
+    let ended : c.loop-gap.gaps ≡ [] = c.in_default.ensures.steps.0 in
+    on_ok_as c.write_all.result _ _
+    (listed_none SpellsGap (codes "full\n") all before now next
+    (subst (λ (empty : Bool). IsListing SpellsGap all [] before now empty) c.if-is_empty.true
+    (subst (λ gaps. IsListing SpellsGap all gaps before now c.loop-gap.is_empty) ended
+    c.loop-gap.invariant))) c.write_all.ensures.bytes
 
 pub returns : goal.returns
 returns g c =
@@ -23,5 +40,7 @@ returns g c =
     let before = g.W.Write.contents c.args.out.now in
     let now = g.W.Write.contents c.loop-gap.out in
     let ended : c.loop-gap.gaps ≡ [] = c.in_default.ensures.steps.0 in
-    shown_all SpellsGap all before now
-    (subst (λ gaps. HasShown SpellsGap all gaps before now) ended c.loop-gap.invariant)
+    listed_some SpellsGap (codes "full\n") all before now
+    (subst (λ (empty : Bool). IsListing SpellsGap all [] before now empty) c.if-is_empty.false
+    (subst (λ gaps. IsListing SpellsGap all gaps before now c.loop-gap.is_empty) ended
+    c.loop-gap.invariant))

@@ -1,8 +1,12 @@
-use Rattle.std.proofs.Common.{◌≡◌, ◌∷◌, subst, []}
+use Rattle.std.proofs.Common.{◌≡◌, ◌∷◌, [], subst}
+use Rattle.std.specs.Prelude.{Bool, codes}
 use Rattle.rangecalc.specs.Ranges.{item_of}
 use Rattle.rangecalc.specs.Replies.{SpellsItem}
-use Rattle.rangecalc.proofs.Progress.{HasShown, shown_more, shown_all}
+use Rattle.rangecalc.proofs.Progress.{IsListing, listed_none, listed_some, listing_more, listing_none, on_ok_as}
 use Rattle.rangecalc.proofs.listing.write_met.Goals as goal
+
+pub loop-range-init : goal.loop-range-init
+loop-range-init g c = listing_none SpellsItem c.args.items (g.W.Write.contents c.args.out.now)
 
 pub loop-range-preserved : goal.loop-range-preserved
 loop-range-preserved g c =
@@ -13,9 +17,22 @@ loop-range-preserved g c =
     let now = g.W.Write.contents c.loop-range.out in
     let next = g.W.Write.contents c.write_item.new.out in
     let step : c.loop-range.items ≡ item ∷ left = c.in-Some.ensures.steps in
-    shown_more SpellsItem all left item before now next
-    (subst (λ items. HasShown SpellsItem all items before now) step c.loop-range.invariant)
-    c.in_ok-write_item.ensures
+    listing_more SpellsItem all left item before now next c.loop-range.is_empty
+    (subst (λ items. IsListing SpellsItem all items before now c.loop-range.is_empty) step
+    c.loop-range.invariant) c.in_ok-write_item.ensures
+
+pub returns-then-is_empty : goal.returns-then-is_empty
+returns-then-is_empty g c =
+    let all = c.args.items in
+    let before = g.W.Write.contents c.args.out.now in
+    let now = g.W.Write.contents c.loop-range.out in
+    let next = g.W.Write.contents c.write_all.new.self in
+    let ended : c.loop-range.items ≡ [] = c.in_default.ensures.steps.0 in
+    on_ok_as c.write_all.result _ _
+    (listed_none SpellsItem (codes "empty\n") all before now next
+    (subst (λ (empty : Bool). IsListing SpellsItem all [] before now empty) c.if-is_empty.true
+    (subst (λ items. IsListing SpellsItem all items before now c.loop-range.is_empty) ended
+    c.loop-range.invariant))) c.write_all.ensures.bytes
 
 pub returns : goal.returns
 returns g c =
@@ -23,5 +40,7 @@ returns g c =
     let before = g.W.Write.contents c.args.out.now in
     let now = g.W.Write.contents c.loop-range.out in
     let ended : c.loop-range.items ≡ [] = c.in_default.ensures.steps.0 in
-    shown_all SpellsItem all before now
-    (subst (λ items. HasShown SpellsItem all items before now) ended c.loop-range.invariant)
+    listed_some SpellsItem (codes "empty\n") all before now
+    (subst (λ (empty : Bool). IsListing SpellsItem all [] before now empty) c.if-is_empty.false
+    (subst (λ items. IsListing SpellsItem all items before now c.loop-range.is_empty) ended
+    c.loop-range.invariant))

@@ -1,8 +1,12 @@
-use Rattle.std.proofs.Common.{◌≡◌, ◌∷◌, subst, []}
+use Rattle.std.proofs.Common.{◌≡◌, ◌∷◌, [], subst}
+use Rattle.std.specs.Prelude.{Bool, codes}
 use Rattle.btree_range_map.specs.PieceLists.{shown_piece}
 use Rattle.rangecalc.specs.Replies.{SpellsPiece}
-use Rattle.rangecalc.proofs.Progress.{HasShown, shown_more, shown_all}
+use Rattle.rangecalc.proofs.Progress.{IsListing, listed_none, listed_some, listing_more, listing_none, on_ok_as}
 use Rattle.rangecalc.proofs.listing.write_pieces.Goals as goal
+
+pub loop-piece-init : goal.loop-piece-init
+loop-piece-init g c = listing_none SpellsPiece c.args.pieces (g.W.Write.contents c.args.out.now)
 
 pub loop-piece-preserved : goal.loop-piece-preserved
 loop-piece-preserved g c =
@@ -13,9 +17,22 @@ loop-piece-preserved g c =
     let now = g.W.Write.contents c.loop-piece.out in
     let next = g.W.Write.contents c.write_piece.new.out in
     let step : c.loop-piece.pieces ≡ piece ∷ left = c.in-Some.ensures.steps in
-    shown_more SpellsPiece all left piece before now next
-    (subst (λ pieces. HasShown SpellsPiece all pieces before now) step c.loop-piece.invariant)
-    c.in_ok-write_piece.ensures
+    listing_more SpellsPiece all left piece before now next c.loop-piece.is_empty
+    (subst (λ pieces. IsListing SpellsPiece all pieces before now c.loop-piece.is_empty) step
+    c.loop-piece.invariant) c.in_ok-write_piece.ensures
+
+pub returns-then-is_empty : goal.returns-then-is_empty
+returns-then-is_empty g c =
+    let all = c.args.pieces in
+    let before = g.W.Write.contents c.args.out.now in
+    let now = g.W.Write.contents c.loop-piece.out in
+    let next = g.W.Write.contents c.write_all.new.self in
+    let ended : c.loop-piece.pieces ≡ [] = c.in_default.ensures.steps.0 in
+    on_ok_as c.write_all.result _ _
+    (listed_none SpellsPiece (codes "empty\n") all before now next
+    (subst (λ (empty : Bool). IsListing SpellsPiece all [] before now empty) c.if-is_empty.true
+    (subst (λ pieces. IsListing SpellsPiece all pieces before now c.loop-piece.is_empty) ended
+    c.loop-piece.invariant))) c.write_all.ensures.bytes
 
 pub returns : goal.returns
 returns g c =
@@ -23,5 +40,7 @@ returns g c =
     let before = g.W.Write.contents c.args.out.now in
     let now = g.W.Write.contents c.loop-piece.out in
     let ended : c.loop-piece.pieces ≡ [] = c.in_default.ensures.steps.0 in
-    shown_all SpellsPiece all before now
-    (subst (λ pieces. HasShown SpellsPiece all pieces before now) ended c.loop-piece.invariant)
+    listed_some SpellsPiece (codes "empty\n") all before now
+    (subst (λ (empty : Bool). IsListing SpellsPiece all [] before now empty) c.if-is_empty.false
+    (subst (λ pieces. IsListing SpellsPiece all pieces before now c.loop-piece.is_empty) ended
+    c.loop-piece.invariant))

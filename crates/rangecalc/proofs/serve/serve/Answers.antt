@@ -10,3 +10,12 @@ returns-in-u8-clause-served g c = grind (arith, common_steps)
 
 pub returns-in-u8-clause-usage : goal.returns-in-u8-clause-usage
 returns-in-u8-clause-usage g c = grind (arith, common_steps)
+
+pub returns-in-i32-clause-unread : goal.returns-in-i32-clause-unread
+returns-in-i32-clause-unread g c = grind (arith, common_steps)
+
+pub returns-in-i32-clause-served : goal.returns-in-i32-clause-served
+returns-in-i32-clause-served g c = grind (arith, common_steps)
+
+pub returns-in-i32-clause-usage : goal.returns-in-i32-clause-usage
+returns-in-i32-clause-usage g c = grind (arith, common_steps)

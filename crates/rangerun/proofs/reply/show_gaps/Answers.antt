@@ -1,28 +1,22 @@
-use Rattle.std.proofs.Common.{rules, ◌≡◌, ◌∷◌, subst}
-use Rattle.btree_range_map.specs.FreeRanges.{AreGaps}
-use Rattle.btree_range_map.specs.References.{range_of}
-use Rattle.rangerun.specs.Replies.{SpellsSpan}
-use Rattle.rangerun.proofs.Progress.{on_ok_as, shown_first}
+use Rattle.std.specs.Prelude.{None}
+use Rattle.btree_range_map.specs.AnyRange.{AnyRange}
+use Rattle.btree_range_map.specs.FreeRanges.{full_range}
+use Rattle.btree_range_map.specs.Pieces.{IsPiece}
+use Rattle.btree_range_map.specs.Range.{IsEmptyRange}
+use Rattle.rangerun.proofs.Progress.{on_ok_as}
+use Rattle.rangerun.proofs.Steps.{every_as}
 use Rattle.rangerun.proofs.reply.show_gaps.Goals as goal
 
-pub returns-in_ok-write_gap-in-Some : goal.returns-in_ok-write_gap-in-Some
-returns-in_ok-write_gap-in-Some g c =
+pub write_gaps-requires : goal.write_gaps-requires
+write_gaps-requires g c =
     let order = g.K.MaybeBounded.order in
-    let Spells = SpellsSpan order g.K.SpelledKey.as_number in
     let items = g.C.Storage.items c.args.map.now in
-    let gap = range_of c.in-Some.gap in
-    let left = c.next.new.self in
-    let before = g.W.Write.contents c.args.out.now in
-    let now = g.W.Write.contents c.write_gap.new.out in
-    let next = g.W.Write.contents c.write_gaps.new.out in
-    let step : c.gaps-gaps.result ≡ gap ∷ left = c.in-Some.ensures.steps in
-    on_ok_as c.write_gaps.result _ _ (λ others.
-    let (text, spelled, appended) =
-    shown_first Spells gap left before now next c.in_ok-write_gap-in-Some.ensures others in (
-      text,
-      (gap ∷ left, subst (AreGaps order items) step c.gaps-gaps.ensures.gaps, spelled),
-      appended,
-    )) c.write_gaps.ensures
+    every_as (λ (gap : AnyRange _). IsPiece order items full_range gap None)
+    (λ (gap : AnyRange _). ¬ IsEmptyRange order gap) (λ gap piece. piece.0.nonempty)
+    c.gaps.result c.gaps.ensures.gaps.each
 
-pub returns-in-None : goal.returns-in-None
-returns-in-None g c = search rules
+pub returns : goal.returns
+returns g c =
+    on_ok_as c.write_gaps.result _ _
+    (λ (text, lines, appended). (text, (c.gaps.result, c.gaps.ensures.gaps, lines), appended))
+    c.write_gaps.ensures

@@ -13,3 +13,15 @@ returns-in-u8-clause-usage g c = grind (arith, common_steps)
 
 pub returns-in-u8-clause-run : goal.returns-in-u8-clause-run
 returns-in-u8-clause-run g c = grind (arith, common_steps)
+
+pub returns-in-i32-clause-unread : goal.returns-in-i32-clause-unread
+returns-in-i32-clause-unread g c = grind (arith, common_steps)
+
+pub returns-in-i32-clause-served : goal.returns-in-i32-clause-served
+returns-in-i32-clause-served g c = grind (arith, common_steps)
+
+pub returns-in-i32-clause-usage : goal.returns-in-i32-clause-usage
+returns-in-i32-clause-usage g c = grind (arith, common_steps)
+
+pub returns-in-i32-clause-run : goal.returns-in-i32-clause-run
+returns-in-i32-clause-run g c = grind (arith, common_steps)
