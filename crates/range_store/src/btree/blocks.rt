@@ -8,7 +8,6 @@ ghost use Rattle.range_store.specs.Blocks.{block_of, HasBlock, items_held, list_
 use crate::btree::nodes::CAPACITY;
 use std::alloc::{AllocError, Global};
 use std::marker::Model;
-use std::mem;
 
 // How many cells of a number hold an item, and the key of the list of its children.
 #[derive(Clone, Copy, Drop)]
