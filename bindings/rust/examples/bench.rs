@@ -91,6 +91,11 @@ fn look(found: Option<u64>) {
     black_box(found);
 }
 
+/// Has the compiler keep a number of ranges.
+fn count(ranges: usize) {
+    black_box(ranges);
+}
+
 fn main() {
     let mut sizes: Vec<u64> = std::env::args().skip(1).map(|it| it.parse().expect("a number")).collect();
     if sizes.is_empty() {
@@ -107,6 +112,12 @@ fn main() {
             "look-up",
             best(n, || order.iter().for_each(|i| look(ours.get(20 * i + 5)))),
             best(n, || order.iter().for_each(|i| look(theirs.get(20 * i + 5)))),
+        );
+        // what a call takes that looks at nothing but the handle
+        row(
+            "number of ranges",
+            best(n, || (0..n).for_each(|_| count(ours.range_count()))),
+            best(n, || (0..n).for_each(|_| count(black_box(&theirs).0.len()))),
         );
     }
 }

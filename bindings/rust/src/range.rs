@@ -143,13 +143,14 @@ pub(crate) mod sealed {
         unsafe fn first(map: *mut RawHandle, entry: &mut RawEntry<Self>) -> u32;
         unsafe fn last(map: *mut RawHandle, entry: &mut RawEntry<Self>) -> u32;
         unsafe fn next(map: *mut RawHandle, key: Self, entry: &mut RawEntry<Self>) -> u32;
+        unsafe fn previous(map: *mut RawHandle, key: Self, entry: &mut RawEntry<Self>) -> u32;
         unsafe fn pop_first(map: *mut RawHandle, entry: &mut RawEntry<Self>) -> u32;
         unsafe fn pop_last(map: *mut RawHandle, entry: &mut RawEntry<Self>) -> u32;
     }
 
     macro_rules! calls {
         ($key:ty, $create:ident, $insert:ident, $insert_disconnected:ident, $remove:ident, $get:ident,
-         $contains:ident, $intersects:ident, $len:ident, $first:ident, $last:ident, $next:ident, $pop_first:ident,
+         $contains:ident, $intersects:ident, $len:ident, $first:ident, $last:ident, $next:ident, $previous:ident, $pop_first:ident,
          $pop_last:ident) => {
             impl Calls for $key {
                 unsafe fn create(map: *mut RawHandle) -> u32 {
@@ -189,6 +190,9 @@ pub(crate) mod sealed {
                 unsafe fn next(map: *mut RawHandle, key: $key, entry: &mut RawEntry<$key>) -> u32 {
                     unsafe { ffi::$next(map, key, entry) }
                 }
+                unsafe fn previous(map: *mut RawHandle, key: $key, entry: &mut RawEntry<$key>) -> u32 {
+                    unsafe { ffi::$previous(map, key, entry) }
+                }
                 unsafe fn pop_first(map: *mut RawHandle, entry: &mut RawEntry<$key>) -> u32 {
                     unsafe { ffi::$pop_first(map, entry) }
                 }
@@ -212,6 +216,7 @@ pub(crate) mod sealed {
         range_map_u64_first,
         range_map_u64_last,
         range_map_u64_next,
+        range_map_u64_previous,
         range_map_u64_pop_first,
         range_map_u64_pop_last
     );
@@ -228,6 +233,7 @@ pub(crate) mod sealed {
         range_map_i64_first,
         range_map_i64_last,
         range_map_i64_next,
+        range_map_i64_previous,
         range_map_i64_pop_first,
         range_map_i64_pop_last
     );

@@ -1,5 +1,5 @@
 //! The same random calls on the proved map and on a reference over std's `BTreeMap`.
-use btree_range_map_proved::{Entry, NotInserted, Range, RangeMap, RangeSet};
+use btree_range_map_proved::{Entry, NotInserted, NotLoaded, Range, RangeMap, RangeSet};
 use std::collections::BTreeMap;
 use std::ops::Bound;
 
@@ -50,6 +50,15 @@ impl Reference {
         self.0.range(..=last).next_back().is_some_and(|(_, (end, _))| end + 1 >= first)
     }
 
+    fn previous(&self, key: u64) -> Option<(u64, u64, u64)> {
+        self.0.range(..=key).next_back().map(|(start, (end, value))| (*start, *end, *value))
+    }
+
+    fn next(&self, key: u64) -> Option<(u64, u64, u64)> {
+        self.get(key)
+            .or_else(|| self.0.range(key..).next().map(|(start, (end, value))| (*start, *end, *value)))
+    }
+
     fn get(&self, key: u64) -> Option<(u64, u64, u64)> {
         let (start, (end, value)) = self.0.range(..=key).next_back()?;
         (*end >= key).then_some((*start, *end, *value))
@@ -97,7 +106,7 @@ fn random_changes_answer_as_the_reference() {
             let first = random.below(keys);
             let last = first + random.below(keys / 12);
             let value = random.below(3);
-            match random.below(8) {
+            match random.below(10) {
                 0..3 => {
                     map.insert(first..=last, value).unwrap();
                     reference.insert(first, last, value);
@@ -116,6 +125,8 @@ fn random_changes_answer_as_the_reference() {
                 }
                 5 => assert_eq!(map.get_entry(first).map(told), reference.get(first)),
                 6 => assert_eq!(map.contains_key(last), reference.get(last).is_some()),
+                7 => assert_eq!(map.previous(first).map(told), reference.previous(first)),
+                8 => assert_eq!(map.next(first).map(told), reference.next(first)),
                 _ => {
                     let meets =
                         reference.0.range(..=last).next_back().is_some_and(|(_, (end, _))| *end >= first);
@@ -130,6 +141,9 @@ fn random_changes_answer_as_the_reference() {
             reference.0.iter().map(|(first, (last, value))| (*first, *last, *value)).collect();
         assert_eq!(map.first().map(told), of_reference.first().copied());
         assert_eq!(map.last().map(told), of_reference.last().copied());
+        let mut read: RangeMap<u64> = RangeMap::new().unwrap();
+        read.load_json(&map.to_json().unwrap()).unwrap();
+        assert_eq!(read.iter().map(told).collect::<Vec<_>>(), of_reference);
         let shown: Vec<_> = map.iter().map(told).collect();
         assert_eq!(shown, of_reference);
         let taken: Vec<_> = map.into_iter().map(told).collect();
@@ -180,4 +194,49 @@ fn sets_add_and_take_keys() {
     assert_eq!(set.last().map(first_and_last), Some((4, 14)));
     set.clear();
     assert!(set.is_empty());
+}
+
+#[test]
+fn two_sets_make_a_third() {
+    let mut random = Random(4);
+    for _ in 0..200 {
+        let mut drawn = || -> Vec<(u64, u64)> {
+            (0..random.below(8)).map(|_| (random.below(100), random.below(20))).collect()
+        };
+        let (some, more) = (drawn(), drawn());
+        let set_of = |ranges: &[(u64, u64)]| ranges.iter().map(|(at, n)| *at..at + n).collect::<RangeSet>();
+        let holds =
+            |ranges: &[(u64, u64)], key: u64| ranges.iter().any(|(at, n)| (*at..at + n).contains(&key));
+        let (set, other) = (set_of(&some), set_of(&more));
+        let (either, both) = (set.union(&other).unwrap(), set.intersection(&other).unwrap());
+        for key in 0..130 {
+            assert_eq!(either.contains(key), holds(&some, key) || holds(&more, key));
+            assert_eq!(both.contains(key), holds(&some, key) && holds(&more, key));
+            let before = (0..=key).rev().find(|it| holds(&some, *it));
+            assert_eq!(
+                set.previous(key).map(|it| first_and_last(it).1 >= before.unwrap()),
+                before.map(|_| true)
+            );
+        }
+        let same = |made: RangeSet| made.iter().eq(set.iter());
+        assert!(same(set.union(&set).unwrap()) && same(set.intersection(&set).unwrap()));
+    }
+}
+
+#[test]
+fn texts_are_read_back() {
+    let mut map: RangeMap<i64> = [(-5..5, 1), (7..9, 2)].into_iter().collect();
+    let text =
+        r#"{"items":[[[{"Included":-5},{"Excluded":5}],1],[[{"Included":7},{"Excluded":9}],2]],"version":2}"#;
+    assert_eq!(map.to_json().as_deref(), Ok(text));
+    assert_eq!(map.load_json("{"), Err(NotLoaded::NotJson));
+    assert_eq!(map.load_json("[0]"), Err(NotLoaded::NotRead));
+    assert_eq!(map.to_json().as_deref(), Ok(text));
+    map.load_json("[]").unwrap();
+    assert!(map.is_empty());
+    let mut set: RangeSet = [0..4].into_iter().collect();
+    assert_eq!(set.to_json().as_deref(), Ok(r#"[[{"Included":0},{"Excluded":4}]]"#));
+    set.load_json(r#"["", 1]"#).unwrap_err();
+    set.load_json(r#"[["Unbounded", {"Included": 9}]]"#).unwrap();
+    assert_eq!((set.len(), set.range_count()), (10, 1));
 }

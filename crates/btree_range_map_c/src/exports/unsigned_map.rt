@@ -5,7 +5,7 @@ ghost use Rattle.btree_range_map.specs.Lookups.{BindsKeyOf, IsConnectedToSome};
 ghost use Rattle.btree_range_map.specs.Numbers.{IsNumberOfKeys};
 ghost use Rattle.btree_range_map.specs.Range.{IsEmptyRange};
 ghost use Rattle.btree_range_map.specs.Overlapping.{AreOverlapping};
-ghost use Rattle.btree_range_map_c.specs.Flags.{range_of, entry_item, number_of, from_key};
+ghost use Rattle.btree_range_map_c.specs.Flags.{range_of, entry_item, number_of, from_key, upto_key};
 ghost use Rattle.btree_range_map_c.specs.Held.{HoldsMap, map_items};
 ghost use Rattle.btree_range_map_c.specs.Lists.{unsigned_keys, Ranges};
 
@@ -28,13 +28,7 @@ pub extern "C" fn range_map_u64_create(alloc: Global, handle: &mut Handle) -> u3
     if handle.is_open {
         return OPEN;
     }
-    match Box::new(alloc, Collection::Unsigned(UnsignedMap::new(alloc))) {
-        Ok(collection) => {
-            *handle = Handle::open(collection);
-            DONE
-        }
-        Err(_) => NO_MEMORY,
-    }
+    handle.fill(alloc, Collection::Unsigned(UnsignedMap::new(alloc)))
 }
 
 /// Binds each key of the range to the value. An empty range changes nothing.
@@ -298,6 +292,38 @@ pub extern "C" fn range_map_u64_next(
     }
     let collection = handle.take(alloc);
     let status = unsigned_map::next(collection.as_ref(), key, entry);
+    *handle = Handle::open(collection);
+    status
+}
+
+/// Writes the last stored range that starts at the key or before it, with its value.
+///
+/// It is the last of those that meet the keys up to this one; all after it start past the key.
+/// Costs two searches.
+#[unsafe(no_mangle)]
+pub extern "C" fn range_map_u64_previous(
+    alloc: Global,
+    handle: &mut Handle,
+    key: u64,
+    entry: &mut Entry,
+) -> u32
+    ensures unchanged { handle.new.seal.held ≡ handle.old.seal.held }
+    ensures previous { result ≡ DONE → (front : Ranges)
+        × AreOverlapping unsigned_keys (map_items handle.old.seal.held) (upto_key key)
+        (front ++ entry_item entry.new ∷ []) }
+    ensures none { result ≡ NONE
+        → AreOverlapping unsigned_keys (map_items handle.old.seal.held) (upto_key key) [] }
+    ensures unwritten { result ≢ DONE → entry.new ≡ entry.old }
+    ensures answer { HoldsMap handle.old.seal.held → (result ≡ DONE) ⊎ (result ≡ NONE) }
+    ensures closed { handle.old.is_open ≡ false → result ≡ CLOSED }
+    ensures other { handle.old.is_open ≡ true → (¬ HoldsMap handle.old.seal.held)
+        → result ≡ OTHER_KIND }
+{
+    if !handle.is_open {
+        return CLOSED;
+    }
+    let collection = handle.take(alloc);
+    let status = unsigned_map::previous(collection.as_ref(), key, entry);
     *handle = Handle::open(collection);
     status
 }
