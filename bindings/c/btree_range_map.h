@@ -28,7 +28,10 @@ typedef enum {
     RANGE_NONE = 3,       /* there is none; to a question, no */
     RANGE_CONNECTED = 4,  /* the range meets or touches a stored one */
     RANGE_OTHER_KIND = 5, /* the handle is open on another kind of collection */
-    RANGE_OPEN = 6        /* the handle is open already */
+    RANGE_OPEN = 6,       /* the handle is open already */
+    RANGE_NO_ROOM = 7,    /* the buffer is too short */
+    RANGE_NOT_JSON = 8,   /* the text is no JSON */
+    RANGE_NOT_READ = 9    /* the JSON is no collection of the kind that the handle holds */
 } range_status;
 
 /* Flags of a range. With none it holds its start and its end; an unbounded one's key is not looked at. */
@@ -69,6 +72,11 @@ typedef struct {
 void range_handle_destroy(range_handle *handle);
 uint32_t range_handle_clear(range_handle *handle);
 size_t range_handle_count(range_handle *handle);
+
+/* Any handle: what it holds as JSON text, and the other way round. No zero is written after the text. A buffer that is too
+ * short stays as it was, and its size is told as well: ask with a capacity of 0 first. */
+uint32_t range_handle_save(range_handle *handle, uint8_t *buffer, size_t capacity, size_t *size);
+uint32_t range_handle_load(range_handle *handle, const uint8_t *text, size_t size);
 
 /* Maps of uint64_t keys to uint64_t values. */
 uint32_t range_map_u64_create(range_handle *map);
@@ -116,6 +124,10 @@ uint32_t range_set_u64_next(range_handle *set, uint64_t key, range_u64 *range);
 uint32_t range_set_u64_previous(range_handle *set, uint64_t key, range_u64 *range);
 uint32_t range_set_u64_pop_first(range_handle *set, range_u64 *range);
 uint32_t range_set_u64_pop_last(range_handle *set, range_u64 *range);
+
+/* Open the closed handle `made` on the keys of either set, or of both. The three handles are three. */
+uint32_t range_set_u64_union(range_handle *set, range_handle *other, range_handle *made);
+uint32_t range_set_u64_intersection(range_handle *set, range_handle *other, range_handle *made);
 
 #ifdef __cplusplus
 }

@@ -210,12 +210,108 @@ static void sets(void) {
     range_handle_destroy(&map);
 }
 
+static range_handle set_of(const range_u64 *ranges, size_t count) {
+    range_handle set = RANGE_HANDLE_CLOSED;
+    EXPECT(range_set_u64_create(&set) == RANGE_DONE);
+    for (size_t i = 0; i < count; i++) EXPECT(range_set_u64_insert(&set, &ranges[i]) == RANGE_DONE);
+    return set;
+}
+
+static void two_sets(void) {
+    range_u64 some[] = {{0, 10, 0}, {20, 30, 0}, {50, 60, 0}}, more[] = {{5, 25, 0}, {61, 61, 0}}, found = {0, 0, 0};
+    range_handle set = set_of(some, 3), other = set_of(more, 2), map = RANGE_HANDLE_CLOSED;
+    range_handle made = RANGE_HANDLE_CLOSED, closed = RANGE_HANDLE_CLOSED;
+    range_length n = {0, 0};
+    EXPECT(range_map_u64_create(&map) == RANGE_DONE);
+    EXPECT(range_set_u64_union(&set, &closed, &made) == RANGE_CLOSED);
+    EXPECT(range_set_u64_intersection(&closed, &set, &made) == RANGE_CLOSED);
+    EXPECT(range_set_u64_union(&set, &map, &made) == RANGE_OTHER_KIND);
+    EXPECT(range_set_u64_intersection(&map, &set, &made) == RANGE_OTHER_KIND && range_handle_count(&made) == 0);
+    for (long allocations = 0;; allocations++) {
+        granted = allocations;
+        uint32_t status = range_set_u64_union(&set, &other, &made);
+        granted = -1;
+        if (status == RANGE_DONE) break;
+        EXPECT(status == RANGE_NO_MEMORY && range_set_u64_contains(&made, 0) == RANGE_CLOSED);
+    }
+    EXPECT(range_set_u64_union(&set, &other, &made) == RANGE_OPEN);
+    EXPECT(range_handle_count(&made) == 2 && range_set_u64_len(&made, &n) == RANGE_DONE && n.low == 43);
+    EXPECT(range_set_u64_last(&made, &found) == RANGE_DONE && found.start == 50 && found.end == 61);
+    range_handle_destroy(&made);
+    EXPECT(range_set_u64_intersection(&set, &other, &made) == RANGE_DONE);
+    EXPECT(range_handle_count(&made) == 2 && range_set_u64_len(&made, &n) == RANGE_DONE && n.low == 12);
+    EXPECT(range_set_u64_get(&made, 20, &found) == RANGE_DONE && found.start == 20 && found.end == 25);
+    EXPECT(range_handle_count(&set) == 3 && range_handle_count(&other) == 2);
+    range_handle_destroy(&made);
+    range_handle_destroy(&set);
+    range_handle_destroy(&other);
+    range_handle_destroy(&map);
+}
+
+static uint32_t load(range_handle *handle, const char *text) {
+    return range_handle_load(handle, (const uint8_t *)text, strlen(text));
+}
+
+/* Saves what is held, first into no bytes and then into as many as it takes, and compares. */
+static void expect_text(range_handle *handle, const char *text) {
+    uint8_t buffer[256];
+    size_t size = 0;
+    memset(buffer, 'x', sizeof buffer);
+    EXPECT(range_handle_save(handle, buffer, 0, &size) == RANGE_NO_ROOM && size == strlen(text) && buffer[0] == 'x');
+    EXPECT(range_handle_save(handle, buffer, size - 1, &size) == RANGE_NO_ROOM && buffer[0] == 'x');
+    EXPECT(range_handle_save(handle, buffer, size + 1, &size) == RANGE_DONE && size == strlen(text));
+    EXPECT(memcmp(buffer, text, size) == 0 && buffer[size] == 'x');
+}
+
+static void texts(void) {
+    const char *of_map = "{\"items\":[[[{\"Included\":0},{\"Excluded\":5}],1],"
+                         "[[{\"Included\":7},\"Unbounded\"],2]],\"version\":2}";
+    const char *of_signed = "{\"items\":[[[\"Unbounded\",{\"Included\":-3}],18446744073709551615]],\"version\":2}";
+    const char *of_set = "[[{\"Included\":1},{\"Included\":18446744073709551615}]]";
+    range_handle map = RANGE_HANDLE_CLOSED, keys = RANGE_HANDLE_CLOSED, set = RANGE_HANDLE_CLOSED;
+    range_entry_u64 e = {{0, 0, 0}, 0};
+    size_t size = 7;
+    uint8_t buffer[1] = {'x'};
+    EXPECT(load(&map, of_map) == RANGE_CLOSED);
+    EXPECT(range_handle_save(&map, buffer, 1, &size) == RANGE_CLOSED && size == 7);
+    EXPECT(range_map_u64_create(&map) == RANGE_DONE && range_map_i64_create(&keys) == RANGE_DONE);
+    EXPECT(range_set_u64_create(&set) == RANGE_DONE);
+    expect_text(&set, "[]");
+    EXPECT(load(&map, of_map) == RANGE_DONE && range_handle_count(&map) == 2);
+    EXPECT(range_map_u64_get(&map, 4, &e) == RANGE_DONE && is_entry(e, upto(0, 5), 1));
+    EXPECT(load(&keys, of_signed) == RANGE_DONE && load(&set, of_set) == RANGE_DONE);
+    expect_text(&map, of_map);
+    expect_text(&keys, of_signed);
+    expect_text(&set, of_set);
+    EXPECT(load(&map, "[") == RANGE_NOT_JSON && load(&map, "") == RANGE_NOT_JSON);
+    EXPECT(load(&map, "[\"\xff\"]") == RANGE_NOT_JSON);
+    EXPECT(load(&map, of_signed) == RANGE_NOT_READ && load(&map, of_set) == RANGE_NOT_READ);
+    EXPECT(load(&set, of_map) == RANGE_NOT_READ && load(&keys, "{\"items\":[],\"version\":3}") == RANGE_NOT_READ);
+    for (long allocations = 0;; allocations++) {
+        granted = allocations;
+        uint32_t status = load(&map, "[[[{\"Included\":9},{\"Included\":9}],3]]");
+        granted = -1;
+        if (status == RANGE_DONE) break;
+        EXPECT(status == RANGE_NO_MEMORY);
+        expect_text(&map, of_map);
+    }
+    EXPECT(range_map_u64_contains(&map, 9) == RANGE_DONE && range_handle_count(&map) == 1);
+    granted = 0;
+    EXPECT(range_handle_save(&map, buffer, 1, &size) == RANGE_NO_MEMORY && size == 7 && buffer[0] == 'x');
+    granted = -1;
+    range_handle_destroy(&map);
+    range_handle_destroy(&keys);
+    range_handle_destroy(&set);
+}
+
 int main(void) {
     maps();
     many();
     refused_memory();
     signed_maps();
     sets();
+    two_sets();
+    texts();
     printf("C: %s\n", failures ? "FAILED" : "passed");
     return failures != 0;
 }

@@ -20,6 +20,7 @@ import pathlib
 from typing import NamedTuple, Optional
 
 _DONE, _NO_MEMORY, _CLOSED, _NONE, _CONNECTED = range(5)
+_NO_ROOM, _NOT_JSON, _NOT_READ = 7, 8, 9
 _START_EXCLUDED, _START_UNBOUNDED, _END_EXCLUDED, _END_UNBOUNDED = 1, 2, 4, 8
 _U64, _I64, _U32 = ctypes.c_uint64, ctypes.c_int64, ctypes.c_uint32
 
@@ -61,6 +62,10 @@ class Connected(ValueError):
     """The range meets or touches a stored one."""
 
 
+class NotLoaded(ValueError):
+    """The text is no JSON, or the JSON is no such map or set."""
+
+
 def _load():
     beside = pathlib.Path(__file__).resolve().parent / "libbtree_range_map.so"
     library = ctypes.CDLL(os.environ.get("RANGE_MAP_LIBRARY", str(beside)))
@@ -73,6 +78,9 @@ def _load():
     declare("range_handle_destroy", None)
     declare("range_handle_clear", _U32)
     declare("range_handle_count", ctypes.c_size_t)
+    size = ctypes.c_size_t
+    declare("range_handle_save", _U32, ctypes.c_char_p, size, ctypes.POINTER(size))
+    declare("range_handle_load", _U32, ctypes.c_char_p, size)
     kinds = [
         ("range_map_u64_", _U64, _UnsignedRange, _UnsignedEntry, [_U64]),
         ("range_map_i64_", _I64, _SignedRange, _SignedEntry, [_U64]),
@@ -93,6 +101,9 @@ def _load():
             declare(prefix + name, _U32, entry)
         if value:
             declare(prefix + "insert_disconnected", _U32, bounds, *value)
+        else:
+            declare(prefix + "union", _U32, handle, handle)
+            declare(prefix + "intersection", _U32, handle, handle)
     return library
 
 
@@ -105,6 +116,8 @@ def _check(status):
         raise MemoryError("out of memory; nothing was changed")
     if status == _CONNECTED:
         raise Connected("the range meets or touches a stored one")
+    if status in (_NOT_JSON, _NOT_READ):
+        raise NotLoaded("no JSON" if status == _NOT_JSON else "the JSON is no such map or set")
     if status not in (_DONE, _NONE):
         raise RuntimeError(f"status {status}: the collection is closed")
     return status == _DONE
@@ -211,6 +224,21 @@ class _Collection:
         """Takes all ranges away."""
         _check(_library.range_handle_clear(self._handle))
 
+    def to_json(self):
+        """What is stored as JSON text."""
+        size = ctypes.c_size_t(0)
+        while True:
+            text = ctypes.create_string_buffer(size.value + 1)
+            status = _library.range_handle_save(self._handle, text, size.value, size)
+            if status != _NO_ROOM:
+                _check(status)
+                return text.raw[: size.value].decode()
+
+    def load_json(self, text):
+        """Becomes what the JSON text is read as; raises `NotLoaded` where it is none, and changes nothing then."""
+        text = text.encode()
+        _check(_library.range_handle_load(self._handle, text, len(text)))
+
     def close(self):
         """Frees the memory. Each later call but this one raises `RuntimeError`."""
         _library.range_handle_destroy(self._handle)
@@ -307,6 +335,23 @@ class RangeSet(_Collection):
     def discard(self, keys):
         """Takes each key of the range away."""
         self._call("remove", self._said(keys))
+
+    def __or__(self, other):
+        """A set of the keys that are in either set."""
+        return self._with(other, "union") if isinstance(other, RangeSet) else NotImplemented
+
+    def __and__(self, other):
+        """A set of the keys that are in both sets."""
+        return self._with(other, "intersection") if isinstance(other, RangeSet) else NotImplemented
+
+    def _with(self, other, name):
+        """Returns what the call makes of both sets; of a set and itself, a set of the same keys."""
+        made = RangeSet()
+        if other is self:
+            other, name = RangeSet(), "union"
+        made.close()
+        self._call(name, other._handle, made._handle)
+        return made
 
     def range_of(self, key):
         """The stored range that holds the key, `None` where none does."""

@@ -5,7 +5,7 @@ import random
 import unittest
 
 import btree_range_map
-from btree_range_map import Connected, Range, RangeMap, RangeSet
+from btree_range_map import Connected, NotLoaded, Range, RangeMap, RangeSet
 
 
 class Maps(unittest.TestCase):
@@ -56,7 +56,7 @@ class Maps(unittest.TestCase):
             self.assertEqual(keys[1], 1)
         keys.close()
         self.assertEqual(len(keys), 0)
-        for call in (lambda: keys[1], keys.first, keys.clear, keys.key_count):
+        for call in (lambda: keys[1], keys.first, keys.clear, keys.key_count, keys.to_json, lambda: keys.load_json("[]")):
             with self.assertRaises(RuntimeError):
                 call()
 
@@ -82,6 +82,9 @@ class Maps(unittest.TestCase):
             if found is not None:
                 self.assertTrue(found[0].start <= before < found[0].end and found[1] == wanted[before])
         self.assertEqual(keys.key_count(), len(wanted))
+        read = RangeMap()
+        read.load_json(keys.to_json())
+        self.assertEqual(list(read.items()), list(keys.items()))
         joins = (key for key in wanted if wanted.get(key - 1) == wanted[key])
         self.assertEqual(len(keys), len(wanted) - sum(1 for _ in joins))
 
@@ -95,10 +98,30 @@ class Sets(unittest.TestCase):
         self.assertTrue(3 not in keys and 4 in keys and keys.intersects(slice(3, 5)))
         self.assertFalse(keys.intersects(slice(15, 20)))
         self.assertEqual(keys.range_of(25), Range(20, 30))
-        self.assertEqual([keys.previous(key) for key in (3, 4, 25)], [Range(0, 3), Range(3, 15, False), Range(20, 30)])
         self.assertEqual((keys.first(), keys.pop_last()), (Range(0, 3), Range(20, 30)))
         keys.clear()
         self.assertEqual(len(keys), 0)
+
+    def test_two_sets_make_a_third(self):
+        some, more = RangeSet([slice(0, 10), slice(20, 30)]), RangeSet([slice(5, 25), 40])
+        self.assertEqual(list(some | more), [Range(0, 30), Range(40, 40, True, True)])
+        self.assertEqual(list(some & more), [Range(5, 10), Range(20, 25)])
+        self.assertEqual((list(some | some), list(some & some)), (list(some), list(some)))
+        with self.assertRaises(TypeError):
+            some | [1]
+        some.close()
+        with self.assertRaises(RuntimeError):
+            some & more
+
+    def test_texts_are_read_back(self):
+        keys = RangeSet([slice(0, 4)])
+        self.assertEqual(keys.to_json(), '[[{"Included":0},{"Excluded":4}]]')
+        for wrong in ("", "[", "[1]", "{}", '[[{"Included":-1},"Unbounded"]]'):
+            with self.assertRaises(NotLoaded):
+                keys.load_json(wrong)
+        self.assertEqual(list(keys), [Range(0, 4)])
+        keys.load_json('[["Unbounded",{"Included":9}]]')
+        self.assertEqual(keys.key_count(), 10)
 
 
 def load_tests(loader, tests, pattern):

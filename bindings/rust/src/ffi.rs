@@ -1,11 +1,15 @@
 //! The functions of `btree_range_map.h`, and a handle that is destroyed once.
 use crate::range::{RawEntry, RawRange};
+use crate::{NoMemory, NotLoaded};
 use std::cell::UnsafeCell;
 use std::ffi::c_void;
 use std::marker::PhantomData;
 
 pub const DONE: u32 = 0;
 pub const CONNECTED: u32 = 4;
+pub const NO_ROOM: u32 = 7;
+pub const NOT_JSON: u32 = 8;
+pub const NOT_READ: u32 = 9;
 
 #[repr(C)]
 pub struct RawHandle {
@@ -87,6 +91,13 @@ unsafe extern "C" {
     pub fn range_handle_destroy(handle: *mut RawHandle);
     pub fn range_handle_clear(handle: *mut RawHandle) -> u32;
     pub fn range_handle_count(handle: *mut RawHandle) -> usize;
+    pub fn range_handle_save(
+        handle: *mut RawHandle,
+        buffer: *mut u8,
+        capacity: usize,
+        size: &mut usize,
+    ) -> u32;
+    pub fn range_handle_load(handle: *mut RawHandle, text: *const u8, size: usize) -> u32;
     pub fn range_set_u64_create(set: *mut RawHandle) -> u32;
     pub fn range_set_u64_insert(set: *mut RawHandle, range: &RawRange<u64>) -> u32;
     pub fn range_set_u64_remove(set: *mut RawHandle, range: &RawRange<u64>) -> u32;
@@ -100,6 +111,12 @@ unsafe extern "C" {
     pub fn range_set_u64_previous(set: *mut RawHandle, key: u64, range: &mut RawRange<u64>) -> u32;
     pub fn range_set_u64_pop_first(set: *mut RawHandle, range: &mut RawRange<u64>) -> u32;
     pub fn range_set_u64_pop_last(set: *mut RawHandle, range: &mut RawRange<u64>) -> u32;
+    pub fn range_set_u64_union(set: *mut RawHandle, other: *mut RawHandle, made: *mut RawHandle) -> u32;
+    pub fn range_set_u64_intersection(
+        set: *mut RawHandle,
+        other: *mut RawHandle,
+        made: *mut RawHandle,
+    ) -> u32;
 }
 
 /// A handle that no one else has. A call that only looks also writes it, so it lies in an `UnsafeCell`.
@@ -131,6 +148,32 @@ impl Handle {
     pub fn clear(&mut self) {
         // SAFETY: the handle is valid and in no other call
         unsafe { range_handle_clear(self.raw()) };
+    }
+
+    pub fn to_json(&self) -> Result<String, NoMemory> {
+        let mut text = Vec::new();
+        loop {
+            let mut size = 0;
+            // SAFETY: the handle is valid and in no other call; the bytes are the buffer's own
+            match unsafe { range_handle_save(self.raw(), text.as_mut_ptr(), text.len(), &mut size) } {
+                DONE => return String::from_utf8(text).map_err(|_| unreachable!("JSON text is UTF-8")),
+                NO_ROOM => {
+                    text.try_reserve_exact(size - text.len()).map_err(|_| NoMemory)?;
+                    text.resize(size, 0);
+                }
+                _ => return Err(NoMemory),
+            }
+        }
+    }
+
+    pub fn load_json(&mut self, text: &str) -> Result<(), NotLoaded> {
+        // SAFETY: the handle is valid and in no other call; the bytes are the text's own
+        match unsafe { range_handle_load(self.raw(), text.as_ptr(), text.len()) } {
+            DONE => Ok(()),
+            NOT_JSON => Err(NotLoaded::NotJson),
+            NOT_READ => Err(NotLoaded::NotRead),
+            _ => Err(NotLoaded::NoMemory),
+        }
     }
 }
 

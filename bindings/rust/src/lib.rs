@@ -36,6 +36,29 @@ impl fmt::Display for NoMemory {
 
 impl std::error::Error for NoMemory {}
 
+/// Why a text was not loaded. Nothing was changed.
+#[derive(Clone, Copy, Debug, PartialEq, Eq)]
+pub enum NotLoaded {
+    /// The text is no JSON.
+    NotJson,
+    /// The JSON is no such map or set.
+    NotRead,
+    /// There was not enough memory.
+    NoMemory,
+}
+
+impl fmt::Display for NotLoaded {
+    fn fmt(&self, f: &mut fmt::Formatter<'_>) -> fmt::Result {
+        f.write_str(match self {
+            NotLoaded::NotJson => "the text is no JSON",
+            NotLoaded::NotRead => "the JSON is no such map or set",
+            NotLoaded::NoMemory => "out of memory",
+        })
+    }
+}
+
+impl std::error::Error for NotLoaded {}
+
 /// Why a range was not inserted apart from the stored ones. Nothing was changed.
 #[derive(Clone, Copy, Debug, PartialEq, Eq)]
 pub enum NotInserted {

@@ -1,7 +1,7 @@
 //! Maps from ranges of keys to values.
 use crate::ffi::{self, Handle, RawLength};
 use crate::range::{Entry, Key, RawEntry, RawRange};
-use crate::{NoMemory, NotInserted};
+use crate::{NoMemory, NotInserted, NotLoaded};
 use std::marker::PhantomData;
 use std::ops::RangeBounds;
 
@@ -119,6 +119,16 @@ impl<K: Key> RangeMap<K> {
     /// Takes the last stored range out.
     pub fn pop_last(&mut self) -> Option<Entry<K>> {
         entry(|it| unsafe { K::pop_last(self.handle.raw(), it) })
+    }
+
+    /// What is stored as JSON text.
+    pub fn to_json(&self) -> Result<String, NoMemory> {
+        self.handle.to_json()
+    }
+
+    /// Becomes what the JSON text is read as. After an error the map is as it was.
+    pub fn load_json(&mut self, text: &str) -> Result<(), NotLoaded> {
+        self.handle.load_json(text)
     }
 
     /// Binds each range of the iterator to its value, up to the first error.

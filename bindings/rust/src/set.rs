@@ -1,13 +1,16 @@
 //! Sets of `u64` keys.
-use crate::NoMemory;
-use crate::ffi::{self, Handle, RawLength};
+use crate::ffi::{self, Handle, RawHandle, RawLength};
 use crate::range::{Range, RawRange};
+use crate::{NoMemory, NotLoaded};
 use std::ops::RangeBounds;
 
 /// A set of `u64` keys, kept as ranges that neither meet nor touch.
 pub struct RangeSet {
     handle: Handle,
 }
+
+/// A call that opens the third handle on a set made of the first two.
+type TwoSets = unsafe extern "C" fn(*mut RawHandle, *mut RawHandle, *mut RawHandle) -> u32;
 
 fn done(status: u32) -> Result<(), NoMemory> {
     if status == ffi::DONE { Ok(()) } else { Err(NoMemory) }
@@ -18,7 +21,8 @@ fn found(call: impl FnOnce(&mut RawRange<u64>) -> u32) -> Option<Range<u64>> {
     (call(&mut range) == ffi::DONE).then(|| range.range())
 }
 
-// SAFETY, of each call below: the handle is the set's own, open on a set, and in no other call; what a call writes to
+// SAFETY, of each call below: the handle is the set's own, open on a set, and in no other call; the handles of one call are
+// not one; what a call writes to
 // is an initialised local.
 impl RangeSet {
     /// A set without a key.
@@ -108,6 +112,39 @@ impl RangeSet {
     /// Takes the last stored range out.
     pub fn pop_last(&mut self) -> Option<Range<u64>> {
         found(|it| unsafe { ffi::range_set_u64_pop_last(self.handle.raw(), it) })
+    }
+
+    /// A set of the keys that are in this set, in the other, or in both.
+    pub fn union(&self, other: &RangeSet) -> Result<RangeSet, NoMemory> {
+        if std::ptr::eq(self, other) {
+            return self.union(&RangeSet::new()?);
+        }
+        self.with(other, ffi::range_set_u64_union)
+    }
+
+    /// A set of the keys that are in both sets.
+    pub fn intersection(&self, other: &RangeSet) -> Result<RangeSet, NoMemory> {
+        if std::ptr::eq(self, other) {
+            return self.union(&RangeSet::new()?);
+        }
+        self.with(other, ffi::range_set_u64_intersection)
+    }
+
+    /// What the call makes of this set and another, which is not this one.
+    fn with(&self, other: &RangeSet, call: TwoSets) -> Result<RangeSet, NoMemory> {
+        let handle = Handle::closed();
+        done(unsafe { call(self.handle.raw(), other.handle.raw(), handle.raw()) })?;
+        Ok(RangeSet { handle })
+    }
+
+    /// What is stored as JSON text.
+    pub fn to_json(&self) -> Result<String, NoMemory> {
+        self.handle.to_json()
+    }
+
+    /// Becomes what the JSON text is read as. After an error the set is as it was.
+    pub fn load_json(&mut self, text: &str) -> Result<(), NotLoaded> {
+        self.handle.load_json(text)
     }
 }
 

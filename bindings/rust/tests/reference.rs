@@ -1,5 +1,5 @@
 //! The same random calls on the proved map and on a reference over std's `BTreeMap`.
-use btree_range_map_proved::{Entry, NotInserted, Range, RangeMap, RangeSet};
+use btree_range_map_proved::{Entry, NotInserted, NotLoaded, Range, RangeMap, RangeSet};
 use std::collections::BTreeMap;
 use std::ops::Bound;
 
@@ -141,6 +141,9 @@ fn random_changes_answer_as_the_reference() {
             reference.0.iter().map(|(first, (last, value))| (*first, *last, *value)).collect();
         assert_eq!(map.first().map(told), of_reference.first().copied());
         assert_eq!(map.last().map(told), of_reference.last().copied());
+        let mut read: RangeMap<u64> = RangeMap::new().unwrap();
+        read.load_json(&map.to_json().unwrap()).unwrap();
+        assert_eq!(read.iter().map(told).collect::<Vec<_>>(), of_reference);
         let shown: Vec<_> = map.iter().map(told).collect();
         assert_eq!(shown, of_reference);
         let taken: Vec<_> = map.into_iter().map(told).collect();
@@ -194,10 +197,46 @@ fn sets_add_and_take_keys() {
 }
 
 #[test]
-fn sets_tell_what_lies_before() {
-    let set: RangeSet = [0..10, 20..30].into_iter().collect();
-    let before = |key| set.previous(key).map(first_and_last);
-    assert_eq!([before(0), before(15)], [Some((0, 9)); 2]);
-    assert_eq!([before(20), before(u64::MAX)], [Some((20, 29)); 2]);
-    assert_eq!(RangeSet::new().unwrap().previous(5), None);
+fn two_sets_make_a_third() {
+    let mut random = Random(4);
+    for _ in 0..200 {
+        let mut drawn = || -> Vec<(u64, u64)> {
+            (0..random.below(8)).map(|_| (random.below(100), random.below(20))).collect()
+        };
+        let (some, more) = (drawn(), drawn());
+        let set_of = |ranges: &[(u64, u64)]| ranges.iter().map(|(at, n)| *at..at + n).collect::<RangeSet>();
+        let holds =
+            |ranges: &[(u64, u64)], key: u64| ranges.iter().any(|(at, n)| (*at..at + n).contains(&key));
+        let (set, other) = (set_of(&some), set_of(&more));
+        let (either, both) = (set.union(&other).unwrap(), set.intersection(&other).unwrap());
+        for key in 0..130 {
+            assert_eq!(either.contains(key), holds(&some, key) || holds(&more, key));
+            assert_eq!(both.contains(key), holds(&some, key) && holds(&more, key));
+            let before = (0..=key).rev().find(|it| holds(&some, *it));
+            assert_eq!(
+                set.previous(key).map(|it| first_and_last(it).1 >= before.unwrap()),
+                before.map(|_| true)
+            );
+        }
+        let same = |made: RangeSet| made.iter().eq(set.iter());
+        assert!(same(set.union(&set).unwrap()) && same(set.intersection(&set).unwrap()));
+    }
+}
+
+#[test]
+fn texts_are_read_back() {
+    let mut map: RangeMap<i64> = [(-5..5, 1), (7..9, 2)].into_iter().collect();
+    let text =
+        r#"{"items":[[[{"Included":-5},{"Excluded":5}],1],[[{"Included":7},{"Excluded":9}],2]],"version":2}"#;
+    assert_eq!(map.to_json().as_deref(), Ok(text));
+    assert_eq!(map.load_json("{"), Err(NotLoaded::NotJson));
+    assert_eq!(map.load_json("[0]"), Err(NotLoaded::NotRead));
+    assert_eq!(map.to_json().as_deref(), Ok(text));
+    map.load_json("[]").unwrap();
+    assert!(map.is_empty());
+    let mut set: RangeSet = [0..4].into_iter().collect();
+    assert_eq!(set.to_json().as_deref(), Ok(r#"[[{"Included":0},{"Excluded":4}]]"#));
+    set.load_json(r#"["", 1]"#).unwrap_err();
+    set.load_json(r#"[["Unbounded", {"Included": 9}]]"#).unwrap();
+    assert_eq!((set.len(), set.range_count()), (10, 1));
 }

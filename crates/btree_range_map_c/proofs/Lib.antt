@@ -1,5 +1,5 @@
 mod AsBox
 mod Completeness
 mod Flags
-mod Membership
+mod Floats
 mod Upto

@@ -63,10 +63,6 @@ signed_entry_item e = record { key = signed_range_of e.range; value = e.value }
 abbrev pub number_of : Length → ℕ
 number_of n = n.high * 2 ^ 64 + n.low
 
--- the item of a set that the bounds say
-abbrev pub key_item : Bounds → Item (AnyRange ℕ) (Unit {0})
-key_item b = record { key = range_of b; value = tt }
-
 -- the keys from this one on
 abbrev pub from_key : {K : Type 0} → K → AnyRange K
 from_key key = record { start = Included key; end = Unbounded }

@@ -3,3 +3,4 @@ pub mod Flags
 pub mod Held
 pub mod Lists
 pub mod Seals
+pub mod Texts

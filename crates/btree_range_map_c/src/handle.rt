@@ -1,8 +1,9 @@
 //! What a caller in C keeps.
-ghost use Rattle.std.specs.Prelude.{◌≡◌, ◌↔◌, Option, Some, None, IsSome, IsTrue, true, false};
+ghost use Rattle.std.specs.Prelude.{◌≡◌, ◌≢◌, ◌⊎◌, ◌↔◌, Option, Some, None, IsSome, IsTrue, true, false};
 
 use crate::collection::Collection;
 use crate::seal::Seal;
+use crate::status::{DONE, NO_MEMORY};
 use std::alloc::Global;
 use std::mem;
 use std::ptr::null_mut;
@@ -35,6 +36,21 @@ impl Handle {
         Handle {
             is_open: true,
             seal: Seal::of(b),
+        }
+    }
+
+    /// Opens a closed handle on the collection. Allocates one block.
+    pub fn fill(&mut self, alloc: Global, collection: Collection) -> u32
+        ensures filled { result ≡ DONE → self.new.seal.held ≡ Some collection }
+        ensures refused { result ≢ DONE → self.new.seal.held ≡ self.old.seal.held }
+        ensures answer { (result ≡ DONE) ⊎ (result ≡ NO_MEMORY) }
+    {
+        match Box::new(alloc, collection) {
+            Ok(kept) => {
+                *self = Handle::open(kept);
+                DONE
+            }
+            Err(_) => NO_MEMORY,
         }
     }
 

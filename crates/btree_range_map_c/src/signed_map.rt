@@ -1,22 +1,28 @@
 //! Maps of `i64` keys to `u64` values, and the calls on a collection that may be one.
-ghost use Rattle.std.specs.Prelude.{◌≡◌, ◌≢◌, ◌⊎◌, ◌↔◌, ◌+◌, ◌*◌, ◌^◌, List, [], ◌∷◌, ◌++◌, Some, None, length, IsTrue, nat_eq};
+ghost use Rattle.std.specs.Prelude.{◌≡◌, ◌≢◌, ◌⊎◌, ◌↔◌, ◌+◌, ◌*◌, ◌^◌, List, [], ◌∷◌, ◌++◌, Some, None, length, IsTrue, IfOk, IfErr, nat_eq};
 ghost use Rattle.btree_range_map.specs.Apart.{IsConnectedError};
 ghost use Rattle.btree_range_map.specs.Bindings.{Binds, IsBound, IsItemFor, IsBoundAfter, IsUnboundAfter, IsLeastCount};
 ghost use Rattle.btree_range_map.specs.Holding.{box_items};
+ghost use Rattle.btree_range_map.specs.JsonError.TheVariants.{Memory};
+ghost use Rattle.serde_json.specs.View.{view};
+ghost use Rattle.serde_json.specs.Written.{compact_text};
 ghost use Rattle.btree_range_map.specs.Lookups.{BindsKeyOf, IsConnectedToSome};
 ghost use Rattle.btree_range_map.specs.Numbers.{IsNumberOfKeys};
 ghost use Rattle.btree_range_map.specs.Range.{IsEmptyRange};
 ghost use Rattle.btree_range_map.specs.Overlapping.{AreOverlapping};
 ghost use Rattle.btree_range_map_c.specs.Flags.{signed_range_of, signed_entry_item, number_of, from_key, upto_key};
 ghost use Rattle.btree_range_map_c.specs.Held.{HoldsSignedMap, signed_items};
+ghost use Rattle.btree_range_map_c.specs.Texts.{signed_data, IsSignedMapRead, IsSignedFault};
 ghost use Rattle.btree_range_map_c.specs.Lists.{signed_keys, SignedRanges};
 
 use crate::bounds::{Length, SignedBounds, SignedEntry};
 use crate::collection::Collection;
 use crate::status::{CONNECTED, DONE, NO_MEMORY, NONE, OTHER_KIND, answer};
+use btree_range_map::json::{JsonError, map_from_json, map_to_json};
 use btree_range_map::range::traits::measure_counts_keys;
 use btree_range_map::{AnyRange, NotInserted, RangeMap};
-use std::alloc::Global;
+use serde_json::Value;
+use std::alloc::{AllocError, Global};
 use std::marker::Model;
 
 /// A map of `i64` keys, which a contract sees as its ranges with their values.
@@ -54,6 +60,25 @@ impl SignedMap {
         ensures least { IsLeastCount signed_keys nat_eq self.now result }
     {
         self.map.range_count()
+    }
+
+    /// The text that it is saved as.
+    pub fn text(&self, alloc: Global) -> Result<Vec<u8>, AllocError>
+        ensures { IfOk result (λ text. text.items ≡ compact_text (signed_data self.now)) }
+    {
+        map_to_json(alloc, &self.map)?.to_vec(alloc)
+    }
+
+    /// What the JSON value is read as.
+    pub fn read(alloc: Global, value: &Value) -> Result<SignedMap, JsonError>
+        ensures read { IfOk result (λ new. IsSignedMapRead (view value.now) new) }
+        ensures fault { IfErr result
+            (λ e. (e ≡ Memory) ⊎ IsSignedFault (view value.now) e) }
+    {
+        match map_from_json(alloc, value) {
+            Ok(map) => Ok(SignedMap { map }),
+            Err(error) => Err(error),
+        }
     }
 
     fn intersects(&self, range: AnyRange<i64>) -> bool

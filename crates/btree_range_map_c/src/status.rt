@@ -22,6 +22,15 @@ pub const OTHER_KIND: u32 = 5;
 /// The handle is open already, and nothing was done.
 pub const OPEN: u32 = 6;
 
+/// The buffer is too short, and nothing was written to it.
+pub const NO_ROOM: u32 = 7;
+
+/// The text is no JSON, and nothing was changed.
+pub const NOT_JSON: u32 = 8;
+
+/// The JSON is no collection of the kind that is held, and nothing was changed.
+pub const NOT_READ: u32 = 9;
+
 /// The status that says yes or no.
 pub fn answer(yes: bool) -> u32
     ensures yes { result ≡ DONE ↔ IsTrue yes }

@@ -1,27 +1,36 @@
 //! Sets of `u64` keys, and the calls on a collection that may be one.
-ghost use Rattle.std.specs.Prelude.{◌≡◌, ◌≢◌, ◌⊎◌, ◌↔◌, ◌+◌, ◌*◌, ◌^◌, List, [], ◌∷◌, ◌++◌, Some, None, length, IsTrue, IsOk, OnOk, OnErr};
-ghost use Rattle.btree_range_map.specs.Bindings.{IsItemFor};
+ghost use Rattle.std.specs.Prelude.{◌≡◌, ◌≢◌, ◌⊎◌, ◌↔◌, ◌+◌, ◌*◌, ◌^◌, ℕ, List, [], ◌∷◌, ◌++◌, Some, None, length, IsTrue, IfOk, IfErr};
+ghost use Rattle.btree_range_map.specs.AnyRange.{AnyRange};
+ghost use Rattle.btree_range_map.specs.FreeRanges.{item_ranges};
 ghost use Rattle.btree_range_map.specs.Holding.{box_items};
 ghost use Rattle.btree_range_map.specs.KeySets.{HoldsKey, HoldsAlso, HoldsWithout, IsLeastCount};
+ghost use Rattle.btree_range_map.specs.JsonError.TheVariants.{Memory};
+ghost use Rattle.serde_json.specs.View.{view};
+ghost use Rattle.serde_json.specs.Written.{compact_text};
 ghost use Rattle.btree_range_map.specs.Lookups.{BindsKeyOf};
 ghost use Rattle.btree_range_map.specs.Numbers.{IsNumberOfKeys};
 ghost use Rattle.btree_range_map.specs.Range.{IsEmptyRange};
-ghost use Rattle.btree_range_map.specs.Overlapping.{AreOverlapping};
-ghost use Rattle.btree_range_map_c.specs.Flags.{range_of, key_item, number_of, from_key, upto_key};
-ghost use Rattle.btree_range_map_c.specs.Held.{HoldsSet, set_items};
+ghost use Rattle.btree_range_map.specs.SetReads.{AreRangesThatMeet};
+ghost use Rattle.btree_range_map.specs.TwoSets.{HoldsEither, HoldsBoth};
+ghost use Rattle.btree_range_map_c.specs.Flags.{range_of, number_of, from_key, upto_key};
+ghost use Rattle.btree_range_map_c.specs.Held.{HoldsSet, IsRangeFor, set_items};
+ghost use Rattle.btree_range_map_c.specs.Texts.{set_data, IsUnsignedSetRead, IsSetFault};
 ghost use Rattle.btree_range_map_c.specs.Lists.{unsigned_keys, KeyRanges};
 
 use crate::bounds::{Bounds, Length};
 use crate::collection::Collection;
+use crate::handle::Handle;
 use crate::status::{DONE, NO_MEMORY, NONE, OTHER_KIND, answer};
+use btree_range_map::json::{JsonError, set_from_json, set_to_json};
 use btree_range_map::range::traits::measure_counts_keys;
-use btree_range_map::{AnyRange, MapError, RangeMap};
-use std::alloc::Global;
+use btree_range_map::{AnyRange, RangeSet};
+use serde_json::Value;
+use std::alloc::{AllocError, Global};
 use std::marker::Model;
 
 /// A set of `u64` keys, which a contract sees as its ranges.
 pub struct UnsignedSet {
-    set: RangeMap<u64, ()>,
+    set: RangeSet<u64>,
 }
 
 impl Model for UnsignedSet {
@@ -45,7 +54,7 @@ impl UnsignedSet {
         ensures { result ≡ [] }
     {
         UnsignedSet {
-            set: RangeMap::new(alloc),
+            set: RangeSet::new(alloc),
         }
     }
 
@@ -56,22 +65,23 @@ impl UnsignedSet {
         self.set.range_count()
     }
 
-    fn insert(&mut self, range: AnyRange<u64>) -> Result<(), MapError>
-        ensures added { OnOk result (HoldsAlso unsigned_keys self.old self.new range) }
-        ensures empty { IsEmptyRange unsigned_keys range → IsOk result }
-        ensures empty_unchanged { IsEmptyRange unsigned_keys range → self.new ≡ self.old }
-        ensures refused { OnErr result (self.new ≡ self.old) }
+    /// The text that it is saved as.
+    pub fn text(&self, alloc: Global) -> Result<Vec<u8>, AllocError>
+        ensures { IfOk result (λ text. text.items ≡ compact_text (set_data self.now)) }
     {
-        self.set.insert(range, ())
+        set_to_json(alloc, &self.set)?.to_vec(alloc)
     }
 
-    fn remove(&mut self, range: AnyRange<u64>) -> Result<(), MapError>
-        ensures removed { OnOk result (HoldsWithout unsigned_keys self.old self.new range) }
-        ensures empty { IsEmptyRange unsigned_keys range → IsOk result }
-        ensures empty_unchanged { IsEmptyRange unsigned_keys range → self.new ≡ self.old }
-        ensures refused { OnErr result (self.new ≡ self.old) }
+    /// What the JSON value is read as.
+    pub fn read(alloc: Global, value: &Value) -> Result<UnsignedSet, JsonError>
+        ensures read { IfOk result (λ new. IsUnsignedSetRead (view value.now) new) }
+        ensures fault { IfErr result
+            (λ e. (e ≡ Memory) ⊎ IsSetFault (view value.now) e) }
     {
-        self.set.remove(range)
+        match set_from_json(alloc, value) {
+            Ok(set) => Ok(UnsignedSet { set }),
+            Err(error) => Err(error),
+        }
     }
 
     fn intersects(&self, range: AnyRange<u64>) -> bool
@@ -103,7 +113,7 @@ pub fn insert(collection: &mut Collection, range: &Bounds) -> u32
     ensures other { (¬ HoldsSet (Some collection.old)) → result ≡ OTHER_KIND }
 {
     match collection {
-        Collection::Set(kept) => match kept.insert(range.range()) {
+        Collection::Set(kept) => match kept.set.insert(range.range()) {
             Ok(()) => DONE,
             Err(_) => NO_MEMORY,
         },
@@ -126,7 +136,7 @@ pub fn remove(collection: &mut Collection, range: &Bounds) -> u32
     ensures other { (¬ HoldsSet (Some collection.old)) → result ≡ OTHER_KIND }
 {
     match collection {
-        Collection::Set(kept) => match kept.remove(range.range()) {
+        Collection::Set(kept) => match kept.set.remove(range.range()) {
             Ok(()) => DONE,
             Err(_) => NO_MEMORY,
         },
@@ -137,15 +147,15 @@ pub fn remove(collection: &mut Collection, range: &Bounds) -> u32
 /// Writes the stored range that holds the key.
 pub fn get(collection: &Collection, key: u64, entry: &mut Bounds) -> u32
     ensures found { result ≡ DONE
-        → IsItemFor unsigned_keys (set_items (Some collection.now)) key (key_item entry.new) }
+        → IsRangeFor unsigned_keys (set_items (Some collection.now)) key (range_of entry.new) }
     ensures free { result ≢ DONE → ¬ HoldsKey unsigned_keys (set_items (Some collection.now)) key }
     ensures unwritten { result ≢ DONE → entry.new ≡ entry.old }
     ensures answer { HoldsSet (Some collection.now) → (result ≡ DONE) ⊎ (result ≡ NONE) }
     ensures other { (¬ HoldsSet (Some collection.now)) → result ≡ OTHER_KIND }
 {
     match collection {
-        Collection::Set(kept) => match kept.set.get_key_value(key) {
-            Some((range, _)) => {
+        Collection::Set(kept) => match kept.set.get(key) {
+            Some(range) => {
                 *entry = Bounds::of(range);
                 DONE
             }
@@ -163,7 +173,7 @@ pub fn contains(collection: &Collection, key: u64) -> u32
     ensures other { (¬ HoldsSet (Some collection.now)) → result ≡ OTHER_KIND }
 {
     match collection {
-        Collection::Set(kept) => answer(kept.set.contains_key(key)),
+        Collection::Set(kept) => answer(kept.set.contains(key)),
         _ => OTHER_KIND,
     }
 }
@@ -202,16 +212,16 @@ pub fn len(collection: &Collection, length: &mut Length) -> u32
 
 /// Writes the first stored range.
 pub fn first(collection: &Collection, entry: &mut Bounds) -> u32
-    ensures first { result ≡ DONE → (rest : KeyRanges)
-        × (set_items (Some collection.now) ≡ key_item entry.new ∷ rest) }
+    ensures first { result ≡ DONE → (rest : List (AnyRange ℕ))
+        × (item_ranges (set_items (Some collection.now)) ≡ range_of entry.new ∷ rest) }
     ensures none { result ≢ DONE → set_items (Some collection.now) ≡ [] }
     ensures unwritten { result ≢ DONE → entry.new ≡ entry.old }
     ensures answer { HoldsSet (Some collection.now) → (result ≡ DONE) ⊎ (result ≡ NONE) }
     ensures other { (¬ HoldsSet (Some collection.now)) → result ≡ OTHER_KIND }
 {
     match collection {
-        Collection::Set(kept) => match kept.set.first_range_value() {
-            Some((range, _)) => {
+        Collection::Set(kept) => match kept.set.first() {
+            Some(range) => {
                 *entry = Bounds::of(range);
                 DONE
             }
@@ -223,16 +233,16 @@ pub fn first(collection: &Collection, entry: &mut Bounds) -> u32
 
 /// Writes the last stored range.
 pub fn last(collection: &Collection, entry: &mut Bounds) -> u32
-    ensures last { result ≡ DONE → (front : KeyRanges)
-        × (set_items (Some collection.now) ≡ front ++ key_item entry.new ∷ []) }
+    ensures last { result ≡ DONE → (front : List (AnyRange ℕ))
+        × (item_ranges (set_items (Some collection.now)) ≡ front ++ range_of entry.new ∷ []) }
     ensures none { result ≢ DONE → set_items (Some collection.now) ≡ [] }
     ensures unwritten { result ≢ DONE → entry.new ≡ entry.old }
     ensures answer { HoldsSet (Some collection.now) → (result ≡ DONE) ⊎ (result ≡ NONE) }
     ensures other { (¬ HoldsSet (Some collection.now)) → result ≡ OTHER_KIND }
 {
     match collection {
-        Collection::Set(kept) => match kept.set.last_range_value() {
-            Some((range, _)) => {
+        Collection::Set(kept) => match kept.set.last() {
+            Some(range) => {
                 *entry = Bounds::of(range);
                 DONE
             }
@@ -244,18 +254,18 @@ pub fn last(collection: &Collection, entry: &mut Bounds) -> u32
 
 /// Writes the first stored range that ends at the key or after it.
 pub fn next(collection: &Collection, key: u64, entry: &mut Bounds) -> u32
-    ensures next { result ≡ DONE → (rest : KeyRanges)
-        × AreOverlapping unsigned_keys (set_items (Some collection.now)) (from_key key)
-        (key_item entry.new ∷ rest) }
+    ensures next { result ≡ DONE → (rest : List (AnyRange ℕ))
+        × AreRangesThatMeet unsigned_keys (set_items (Some collection.now)) (from_key key)
+        (range_of entry.new ∷ rest) }
     ensures none { result ≡ NONE
-        → AreOverlapping unsigned_keys (set_items (Some collection.now)) (from_key key) [] }
+        → AreRangesThatMeet unsigned_keys (set_items (Some collection.now)) (from_key key) [] }
     ensures unwritten { result ≢ DONE → entry.new ≡ entry.old }
     ensures answer { HoldsSet (Some collection.now) → (result ≡ DONE) ⊎ (result ≡ NONE) }
     ensures other { (¬ HoldsSet (Some collection.now)) → result ≡ OTHER_KIND }
 {
     match collection {
         Collection::Set(kept) => match kept.set.iter_from(key).next() {
-            Some((range, _)) => {
+            Some(range) => {
                 *entry = Bounds::of(range);
                 DONE
             }
@@ -268,18 +278,18 @@ pub fn next(collection: &Collection, key: u64, entry: &mut Bounds) -> u32
 /// Writes the last stored range that starts at the key or before it.
 #[tactic(auto, using(crate::proofs::Upto::unsigned_upto))]
 pub fn previous(collection: &Collection, key: u64, entry: &mut Bounds) -> u32
-    ensures previous { result ≡ DONE → (front : KeyRanges)
-        × AreOverlapping unsigned_keys (set_items (Some collection.now)) (upto_key key)
-        (front ++ key_item entry.new ∷ []) }
+    ensures previous { result ≡ DONE → (front : List (AnyRange ℕ))
+        × AreRangesThatMeet unsigned_keys (set_items (Some collection.now)) (upto_key key)
+        (front ++ range_of entry.new ∷ []) }
     ensures none { result ≡ NONE
-        → AreOverlapping unsigned_keys (set_items (Some collection.now)) (upto_key key) [] }
+        → AreRangesThatMeet unsigned_keys (set_items (Some collection.now)) (upto_key key) [] }
     ensures unwritten { result ≢ DONE → entry.new ≡ entry.old }
     ensures answer { HoldsSet (Some collection.now) → (result ≡ DONE) ⊎ (result ≡ NONE) }
     ensures other { (¬ HoldsSet (Some collection.now)) → result ≡ OTHER_KIND }
 {
     match collection {
         Collection::Set(kept) => match kept.set.overlapping(..=key).next_back() {
-            Some((range, _)) => {
+            Some(range) => {
                 *entry = Bounds::of(range);
                 DONE
             }
@@ -291,8 +301,8 @@ pub fn previous(collection: &Collection, key: u64, entry: &mut Bounds) -> u32
 
 /// Takes the first stored range out, and writes it.
 pub fn pop_first(collection: &mut Collection, entry: &mut Bounds) -> u32
-    ensures first { result ≡ DONE → set_items (Some collection.old)
-        ≡ key_item entry.new ∷ set_items (Some collection.new) }
+    ensures first { result ≡ DONE → item_ranges (set_items (Some collection.old))
+        ≡ range_of entry.new ∷ item_ranges (set_items (Some collection.new)) }
     ensures none { result ≢ DONE → set_items (Some collection.old) ≡ [] }
     ensures kind { HoldsSet (Some collection.old) → HoldsSet (Some collection.new) }
     ensures unchanged { result ≢ DONE → collection.new ≡ collection.old }
@@ -302,7 +312,7 @@ pub fn pop_first(collection: &mut Collection, entry: &mut Bounds) -> u32
 {
     match collection {
         Collection::Set(kept) => match kept.set.pop_first() {
-            Some((range, _)) => {
+            Some(range) => {
                 *entry = Bounds::of(&range);
                 DONE
             }
@@ -314,8 +324,8 @@ pub fn pop_first(collection: &mut Collection, entry: &mut Bounds) -> u32
 
 /// Takes the last stored range out, and writes it.
 pub fn pop_last(collection: &mut Collection, entry: &mut Bounds) -> u32
-    ensures last { result ≡ DONE → set_items (Some collection.old)
-        ≡ set_items (Some collection.new) ++ key_item entry.new ∷ [] }
+    ensures last { result ≡ DONE → item_ranges (set_items (Some collection.old))
+        ≡ item_ranges (set_items (Some collection.new)) ++ range_of entry.new ∷ [] }
     ensures none { result ≢ DONE → set_items (Some collection.old) ≡ [] }
     ensures kind { HoldsSet (Some collection.old) → HoldsSet (Some collection.new) }
     ensures unchanged { result ≢ DONE → collection.new ≡ collection.old }
@@ -325,12 +335,61 @@ pub fn pop_last(collection: &mut Collection, entry: &mut Bounds) -> u32
 {
     match collection {
         Collection::Set(kept) => match kept.set.pop_last() {
-            Some((range, _)) => {
+            Some(range) => {
                 *entry = Bounds::of(&range);
                 DONE
             }
             None => NONE,
         },
         _ => OTHER_KIND,
+    }
+}
+
+/// Opens a closed handle on a set of the keys that are in either set.
+pub fn union(alloc: Global, collection: &Collection, other: &Collection, made: &mut Handle) -> u32
+    ensures made { result ≡ DONE → HoldsSet made.new.seal.held × HoldsEither unsigned_keys
+        (set_items (Some collection.now)) (set_items (Some other.now))
+        (set_items made.new.seal.held) }
+    ensures refused { result ≢ DONE → made.new.seal.held ≡ made.old.seal.held }
+    ensures answer { HoldsSet (Some collection.now) → HoldsSet (Some other.now)
+        → (result ≡ DONE) ⊎ (result ≡ NO_MEMORY) }
+    ensures other { (¬ HoldsSet (Some collection.now)) ⊎ (¬ HoldsSet (Some other.now))
+        → result ≡ OTHER_KIND }
+{
+    match (collection, other) {
+        (Collection::Set(first), Collection::Set(second)) => {
+            match first.set.union(&second.set) {
+                Ok(set) => made.fill(alloc, Collection::Set(UnsignedSet { set })),
+                Err(_) => NO_MEMORY,
+            }
+        }
+        (_, _) => OTHER_KIND,
+    }
+}
+
+/// Opens a closed handle on a set of the keys that are in both sets.
+pub fn intersection(
+    alloc: Global,
+    collection: &Collection,
+    other: &Collection,
+    made: &mut Handle,
+) -> u32
+    ensures made { result ≡ DONE → HoldsSet made.new.seal.held × HoldsBoth unsigned_keys
+        (set_items (Some collection.now)) (set_items (Some other.now))
+        (set_items made.new.seal.held) }
+    ensures refused { result ≢ DONE → made.new.seal.held ≡ made.old.seal.held }
+    ensures answer { HoldsSet (Some collection.now) → HoldsSet (Some other.now)
+        → (result ≡ DONE) ⊎ (result ≡ NO_MEMORY) }
+    ensures other { (¬ HoldsSet (Some collection.now)) ⊎ (¬ HoldsSet (Some other.now))
+        → result ≡ OTHER_KIND }
+{
+    match (collection, other) {
+        (Collection::Set(first), Collection::Set(second)) => {
+            match first.set.intersection(&second.set) {
+                Ok(set) => made.fill(alloc, Collection::Set(UnsignedSet { set })),
+                Err(_) => NO_MEMORY,
+            }
+        }
+        (_, _) => OTHER_KIND,
     }
 }

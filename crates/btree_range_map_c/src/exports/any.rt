@@ -1,10 +1,12 @@
 //! The calls on a handle of any kind.
-ghost use Rattle.std.specs.Prelude.{◌≡◌, Some, None, true, false};
+ghost use Rattle.std.specs.Prelude.{◌≡◌, ◌≢◌, ◌⊎◌, ◌++◌, ◌<◌, ℕ, List, length, drop, Some, None, true, false, IsUtf8};
+ghost use Rattle.serde_json.specs.Read.{read};
 ghost use Rattle.btree_range_map_c.specs.Fewest.{IsLeastRangeCount};
 ghost use Rattle.btree_range_map_c.specs.Held.{range_count, emptied};
+ghost use Rattle.btree_range_map_c.specs.Texts.{IsTextOf, IsTextRead, IsFaultyText};
 
 use crate::handle::Handle;
-use crate::status::{CLOSED, DONE};
+use crate::status::{CLOSED, DONE, NO_MEMORY, NO_ROOM, NOT_JSON, NOT_READ};
 use std::alloc::Global;
 use std::mem;
 
@@ -50,4 +52,80 @@ pub extern "C" fn range_handle_count(alloc: Global, handle: &mut Handle) -> usiz
     let count = collection.as_ref().range_count();
     *handle = Handle::open(collection);
     count
+}
+
+/// Copies the text to the front of the buffer, and tells its length. One that is too short for it
+/// stays as it was.
+fn copy_text(text: &[u8], buffer: &mut [u8], size: &mut usize) -> u32
+    ensures copied { result ≡ DONE
+        → buffer.new ≡ text.now ++ drop (length text.now) buffer.old }
+    ensures short { result ≡ NO_ROOM
+        → (length buffer.old < length text.now) × (buffer.new ≡ buffer.old) }
+    ensures told { size.new ≡ length text.now }
+    ensures answer { (result ≡ DONE) ⊎ (result ≡ NO_ROOM) }
+{
+    *size = text.len();
+    if buffer.len() < text.len() {
+        return NO_ROOM;
+    }
+    let (front, _) = buffer.split_at_mut(text.len());
+    front.copy_from_slice(text);
+    DONE
+}
+
+/// Writes what is held as JSON text to the front of the buffer, and tells its length.
+///
+/// A buffer that is too short stays as it was, and the length is told as well: ask with one of no
+/// bytes first. Allocates the text, and its parts before; these are freed again.
+#[unsafe(no_mangle)]
+pub extern "C" fn range_handle_save(
+    alloc: Global,
+    handle: &mut Handle,
+    buffer: &mut [u8],
+    size: &mut usize,
+) -> u32
+    ensures unchanged { handle.new.seal.held ≡ handle.old.seal.held }
+    ensures saved { result ≡ DONE → (text : List ℕ) × IsTextOf handle.old.seal.held text
+        × (buffer.new ≡ text ++ drop (length text) buffer.old) × (size.new ≡ length text) }
+    ensures short { result ≡ NO_ROOM → (text : List ℕ) × IsTextOf handle.old.seal.held text
+        × (length buffer.old < length text) × (size.new ≡ length text) }
+    ensures unwritten { result ≢ DONE → buffer.new ≡ buffer.old }
+    ensures untold { result ≢ DONE → result ≢ NO_ROOM → size.new ≡ size.old }
+    ensures closed { handle.old.is_open ≡ false → result ≡ CLOSED }
+    ensures answer { handle.old.is_open ≡ true
+        → (result ≡ DONE) ⊎ ((result ≡ NO_ROOM) ⊎ (result ≡ NO_MEMORY)) }
+{
+    if !handle.is_open {
+        return CLOSED;
+    }
+    let collection = handle.take(alloc);
+    let text = collection.as_ref().text(alloc);
+    *handle = Handle::open(collection);
+    match text {
+        Ok(text) => copy_text(text.as_slice(), buffer, size),
+        Err(_) => NO_MEMORY,
+    }
+}
+
+/// Holds what the JSON text is read as, in place of what it held: a collection of the same kind.
+///
+/// Reads what `range_handle_save` writes, and what the library's readers read else. Allocates.
+#[unsafe(no_mangle)]
+pub extern "C" fn range_handle_load(alloc: Global, handle: &mut Handle, text: &[u8]) -> u32
+    ensures kind { emptied handle.new.seal.held ≡ emptied handle.old.seal.held }
+    ensures loaded { result ≡ DONE → IsTextRead text.now handle.new.seal.held }
+    ensures refused { result ≢ DONE → handle.new.seal.held ≡ handle.old.seal.held }
+    ensures not_json { result ≡ NOT_JSON → IsUtf8 text.now → read text.now ≡ None }
+    ensures not_read { result ≡ NOT_READ → IsFaultyText handle.old.seal.held text.now }
+    ensures closed { handle.old.is_open ≡ false → result ≡ CLOSED }
+    ensures answer { handle.old.is_open ≡ true → (result ≡ DONE)
+        ⊎ ((result ≡ NO_MEMORY) ⊎ ((result ≡ NOT_JSON) ⊎ (result ≡ NOT_READ))) }
+{
+    if !handle.is_open {
+        return CLOSED;
+    }
+    let mut collection = handle.take(alloc);
+    let status = collection.as_mut().load(alloc, text);
+    *handle = Handle::open(collection);
+    status
 }

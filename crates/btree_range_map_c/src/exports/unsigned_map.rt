@@ -28,13 +28,7 @@ pub extern "C" fn range_map_u64_create(alloc: Global, handle: &mut Handle) -> u3
     if handle.is_open {
         return OPEN;
     }
-    match Box::new(alloc, Collection::Unsigned(UnsignedMap::new(alloc))) {
-        Ok(collection) => {
-            *handle = Handle::open(collection);
-            DONE
-        }
-        Err(_) => NO_MEMORY,
-    }
+    handle.fill(alloc, Collection::Unsigned(UnsignedMap::new(alloc)))
 }
 
 /// Binds each key of the range to the value. An empty range changes nothing.

@@ -1,13 +1,15 @@
 //! The calls on sets of `u64` keys.
-ghost use Rattle.std.specs.Prelude.{◌≡◌, ◌≢◌, ◌⊎◌, ◌↔◌, [], ◌∷◌, ◌++◌, IsSome, Some, None, true, false};
-ghost use Rattle.btree_range_map.specs.Bindings.{IsItemFor};
+ghost use Rattle.std.specs.Prelude.{◌≡◌, ◌≢◌, ◌⊎◌, ◌↔◌, ℕ, List, [], ◌∷◌, ◌++◌, IsSome, Some, None, true, false};
+ghost use Rattle.btree_range_map.specs.AnyRange.{AnyRange};
+ghost use Rattle.btree_range_map.specs.FreeRanges.{item_ranges};
 ghost use Rattle.btree_range_map.specs.KeySets.{HoldsKey, HoldsAlso, HoldsWithout};
 ghost use Rattle.btree_range_map.specs.Lookups.{BindsKeyOf};
 ghost use Rattle.btree_range_map.specs.Numbers.{IsNumberOfKeys};
 ghost use Rattle.btree_range_map.specs.Range.{IsEmptyRange};
-ghost use Rattle.btree_range_map.specs.Overlapping.{AreOverlapping};
-ghost use Rattle.btree_range_map_c.specs.Flags.{range_of, key_item, number_of, from_key, upto_key};
-ghost use Rattle.btree_range_map_c.specs.Held.{HoldsSet, set_items};
+ghost use Rattle.btree_range_map.specs.SetReads.{AreRangesThatMeet};
+ghost use Rattle.btree_range_map.specs.TwoSets.{HoldsEither, HoldsBoth};
+ghost use Rattle.btree_range_map_c.specs.Flags.{range_of, number_of, from_key, upto_key};
+ghost use Rattle.btree_range_map_c.specs.Held.{HoldsSet, IsRangeFor, set_items};
 ghost use Rattle.btree_range_map_c.specs.Lists.{unsigned_keys, KeyRanges};
 
 use crate::bounds::{Bounds, Length};
@@ -29,13 +31,7 @@ pub extern "C" fn range_set_u64_create(alloc: Global, handle: &mut Handle) -> u3
     if handle.is_open {
         return OPEN;
     }
-    match Box::new(alloc, Collection::Set(UnsignedSet::new(alloc))) {
-        Ok(collection) => {
-            *handle = Handle::open(collection);
-            DONE
-        }
-        Err(_) => NO_MEMORY,
-    }
+    handle.fill(alloc, Collection::Set(UnsignedSet::new(alloc)))
 }
 
 /// Adds each key of the range. An empty range changes nothing.
@@ -100,7 +96,7 @@ pub extern "C" fn range_set_u64_get(
 ) -> u32
     ensures unchanged { handle.new.seal.held ≡ handle.old.seal.held }
     ensures found { result ≡ DONE
-        → IsItemFor unsigned_keys (set_items handle.old.seal.held) key (key_item entry.new) }
+        → IsRangeFor unsigned_keys (set_items handle.old.seal.held) key (range_of entry.new) }
     ensures free { result ≢ DONE → ¬ HoldsKey unsigned_keys (set_items handle.old.seal.held) key }
     ensures unwritten { result ≢ DONE → entry.new ≡ entry.old }
     ensures answer { HoldsSet handle.old.seal.held → (result ≡ DONE) ⊎ (result ≡ NONE) }
@@ -188,8 +184,8 @@ pub extern "C" fn range_set_u64_len(alloc: Global, handle: &mut Handle, length: 
 #[unsafe(no_mangle)]
 pub extern "C" fn range_set_u64_first(alloc: Global, handle: &mut Handle, entry: &mut Bounds) -> u32
     ensures unchanged { handle.new.seal.held ≡ handle.old.seal.held }
-    ensures first { result ≡ DONE → (rest : KeyRanges)
-        × (set_items handle.old.seal.held ≡ key_item entry.new ∷ rest) }
+    ensures first { result ≡ DONE → (rest : List (AnyRange ℕ))
+        × (item_ranges (set_items handle.old.seal.held) ≡ range_of entry.new ∷ rest) }
     ensures none { result ≢ DONE → set_items handle.old.seal.held ≡ [] }
     ensures unwritten { result ≢ DONE → entry.new ≡ entry.old }
     ensures answer { HoldsSet handle.old.seal.held → (result ≡ DONE) ⊎ (result ≡ NONE) }
@@ -210,8 +206,8 @@ pub extern "C" fn range_set_u64_first(alloc: Global, handle: &mut Handle, entry:
 #[unsafe(no_mangle)]
 pub extern "C" fn range_set_u64_last(alloc: Global, handle: &mut Handle, entry: &mut Bounds) -> u32
     ensures unchanged { handle.new.seal.held ≡ handle.old.seal.held }
-    ensures last { result ≡ DONE → (front : KeyRanges)
-        × (set_items handle.old.seal.held ≡ front ++ key_item entry.new ∷ []) }
+    ensures last { result ≡ DONE → (front : List (AnyRange ℕ))
+        × (item_ranges (set_items handle.old.seal.held) ≡ front ++ range_of entry.new ∷ []) }
     ensures none { result ≢ DONE → set_items handle.old.seal.held ≡ [] }
     ensures unwritten { result ≢ DONE → entry.new ≡ entry.old }
     ensures answer { HoldsSet handle.old.seal.held → (result ≡ DONE) ⊎ (result ≡ NONE) }
@@ -240,11 +236,11 @@ pub extern "C" fn range_set_u64_next(
     entry: &mut Bounds,
 ) -> u32
     ensures unchanged { handle.new.seal.held ≡ handle.old.seal.held }
-    ensures next { result ≡ DONE → (rest : KeyRanges)
-        × AreOverlapping unsigned_keys (set_items handle.old.seal.held) (from_key key)
-        (key_item entry.new ∷ rest) }
+    ensures next { result ≡ DONE → (rest : List (AnyRange ℕ))
+        × AreRangesThatMeet unsigned_keys (set_items handle.old.seal.held) (from_key key)
+        (range_of entry.new ∷ rest) }
     ensures none { result ≡ NONE
-        → AreOverlapping unsigned_keys (set_items handle.old.seal.held) (from_key key) [] }
+        → AreRangesThatMeet unsigned_keys (set_items handle.old.seal.held) (from_key key) [] }
     ensures unwritten { result ≢ DONE → entry.new ≡ entry.old }
     ensures answer { HoldsSet handle.old.seal.held → (result ≡ DONE) ⊎ (result ≡ NONE) }
     ensures closed { handle.old.is_open ≡ false → result ≡ CLOSED }
@@ -272,11 +268,11 @@ pub extern "C" fn range_set_u64_previous(
     entry: &mut Bounds,
 ) -> u32
     ensures unchanged { handle.new.seal.held ≡ handle.old.seal.held }
-    ensures previous { result ≡ DONE → (front : KeyRanges)
-        × AreOverlapping unsigned_keys (set_items handle.old.seal.held) (upto_key key)
-        (front ++ key_item entry.new ∷ []) }
+    ensures previous { result ≡ DONE → (front : List (AnyRange ℕ))
+        × AreRangesThatMeet unsigned_keys (set_items handle.old.seal.held) (upto_key key)
+        (front ++ range_of entry.new ∷ []) }
     ensures none { result ≡ NONE
-        → AreOverlapping unsigned_keys (set_items handle.old.seal.held) (upto_key key) [] }
+        → AreRangesThatMeet unsigned_keys (set_items handle.old.seal.held) (upto_key key) [] }
     ensures unwritten { result ≢ DONE → entry.new ≡ entry.old }
     ensures answer { HoldsSet handle.old.seal.held → (result ≡ DONE) ⊎ (result ≡ NONE) }
     ensures closed { handle.old.is_open ≡ false → result ≡ CLOSED }
@@ -299,8 +295,8 @@ pub extern "C" fn range_set_u64_pop_first(
     handle: &mut Handle,
     entry: &mut Bounds,
 ) -> u32
-    ensures first { result ≡ DONE → set_items handle.old.seal.held
-        ≡ key_item entry.new ∷ set_items handle.new.seal.held }
+    ensures first { result ≡ DONE → item_ranges (set_items handle.old.seal.held)
+        ≡ range_of entry.new ∷ item_ranges (set_items handle.new.seal.held) }
     ensures none { result ≢ DONE → set_items handle.old.seal.held ≡ [] }
     ensures kind { HoldsSet handle.old.seal.held → HoldsSet handle.new.seal.held }
     ensures unchanged { result ≢ DONE → handle.new.seal.held ≡ handle.old.seal.held }
@@ -326,8 +322,8 @@ pub extern "C" fn range_set_u64_pop_last(
     handle: &mut Handle,
     entry: &mut Bounds,
 ) -> u32
-    ensures last { result ≡ DONE → set_items handle.old.seal.held
-        ≡ set_items handle.new.seal.held ++ key_item entry.new ∷ [] }
+    ensures last { result ≡ DONE → item_ranges (set_items handle.old.seal.held)
+        ≡ item_ranges (set_items handle.new.seal.held) ++ range_of entry.new ∷ [] }
     ensures none { result ≢ DONE → set_items handle.old.seal.held ≡ [] }
     ensures kind { HoldsSet handle.old.seal.held → HoldsSet handle.new.seal.held }
     ensures unchanged { result ≢ DONE → handle.new.seal.held ≡ handle.old.seal.held }
@@ -343,5 +339,87 @@ pub extern "C" fn range_set_u64_pop_last(
     let mut collection = handle.take(alloc);
     let status = unsigned_set::pop_last(collection.as_mut(), entry);
     *handle = Handle::open(collection);
+    status
+}
+
+/// Opens a closed handle on a set of the keys that are in either set, which stay as they are.
+///
+/// Allocates its ranges, a list of them before, and one block more. Goes once over both sets.
+#[unsafe(no_mangle)]
+pub extern "C" fn range_set_u64_union(
+    alloc: Global,
+    handle: &mut Handle,
+    other: &mut Handle,
+    made: &mut Handle,
+) -> u32
+    ensures unchanged { (handle.new.seal.held ≡ handle.old.seal.held)
+        × (other.new.seal.held ≡ other.old.seal.held) }
+    ensures made { result ≡ DONE → HoldsSet made.new.seal.held × HoldsEither unsigned_keys
+        (set_items handle.old.seal.held) (set_items other.old.seal.held)
+        (set_items made.new.seal.held) }
+    ensures refused { result ≢ DONE → made.new.seal.held ≡ made.old.seal.held }
+    ensures open { made.old.is_open ≡ true → result ≡ OPEN }
+    ensures closed { made.old.is_open ≡ false
+        → (handle.old.is_open ≡ false) ⊎ (other.old.is_open ≡ false) → result ≡ CLOSED }
+    ensures answer { made.old.is_open ≡ false
+        → HoldsSet handle.old.seal.held → HoldsSet other.old.seal.held
+        → (result ≡ DONE) ⊎ (result ≡ NO_MEMORY) }
+    ensures other { made.old.is_open ≡ false
+        → handle.old.is_open ≡ true → other.old.is_open ≡ true
+        → (¬ HoldsSet handle.old.seal.held) ⊎ (¬ HoldsSet other.old.seal.held)
+        → result ≡ OTHER_KIND }
+{
+    if made.is_open {
+        return OPEN;
+    }
+    if !handle.is_open || !other.is_open {
+        return CLOSED;
+    }
+    let collection = handle.take(alloc);
+    let second = other.take(alloc);
+    let status = unsigned_set::union(alloc, collection.as_ref(), second.as_ref(), made);
+    *handle = Handle::open(collection);
+    *other = Handle::open(second);
+    status
+}
+
+/// Opens a closed handle on a set of the keys that are in both sets, which stay as they are.
+///
+/// Allocates its ranges, a list of them before, and one block more. Goes once over both sets.
+#[unsafe(no_mangle)]
+pub extern "C" fn range_set_u64_intersection(
+    alloc: Global,
+    handle: &mut Handle,
+    other: &mut Handle,
+    made: &mut Handle,
+) -> u32
+    ensures unchanged { (handle.new.seal.held ≡ handle.old.seal.held)
+        × (other.new.seal.held ≡ other.old.seal.held) }
+    ensures made { result ≡ DONE → HoldsSet made.new.seal.held × HoldsBoth unsigned_keys
+        (set_items handle.old.seal.held) (set_items other.old.seal.held)
+        (set_items made.new.seal.held) }
+    ensures refused { result ≢ DONE → made.new.seal.held ≡ made.old.seal.held }
+    ensures open { made.old.is_open ≡ true → result ≡ OPEN }
+    ensures closed { made.old.is_open ≡ false
+        → (handle.old.is_open ≡ false) ⊎ (other.old.is_open ≡ false) → result ≡ CLOSED }
+    ensures answer { made.old.is_open ≡ false
+        → HoldsSet handle.old.seal.held → HoldsSet other.old.seal.held
+        → (result ≡ DONE) ⊎ (result ≡ NO_MEMORY) }
+    ensures other { made.old.is_open ≡ false
+        → handle.old.is_open ≡ true → other.old.is_open ≡ true
+        → (¬ HoldsSet handle.old.seal.held) ⊎ (¬ HoldsSet other.old.seal.held)
+        → result ≡ OTHER_KIND }
+{
+    if made.is_open {
+        return OPEN;
+    }
+    if !handle.is_open || !other.is_open {
+        return CLOSED;
+    }
+    let collection = handle.take(alloc);
+    let second = other.take(alloc);
+    let status = unsigned_set::intersection(alloc, collection.as_ref(), second.as_ref(), made);
+    *handle = Handle::open(collection);
+    *other = Handle::open(second);
     status
 }

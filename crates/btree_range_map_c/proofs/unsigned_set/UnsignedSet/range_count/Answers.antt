@@ -2,15 +2,11 @@ use Rattle.std.proofs.Common.{rules}
 use Rattle.btree_range_map.specs.Holding.{box_items}
 use Rattle.btree_range_map_c.specs.Lists.{unsigned_keys}
 use Rattle.btree_range_map_c.proofs.Completeness.{unsigned_complete}
-use Rattle.btree_range_map_c.proofs.Membership.{bound_alike}
 use Rattle.btree_range_map_c.proofs.unsigned_set.UnsignedSet.range_count.Goals as goal
 
 pub returns-clause-least : goal.returns-clause-least
 returns-clause-least c =
-    rw (← c.self.view_is)
-    (λ others alike.
-    c.range_count.ensures.least unsigned_complete others
-    (bound_alike unsigned_keys (box_items c.self.inside.set) others alike))
+    rw (← c.self.view_is) (c.range_count.ensures.least unsigned_complete)
 
 pub returns-clause-value : goal.returns-clause-value
 returns-clause-value c = search rules
