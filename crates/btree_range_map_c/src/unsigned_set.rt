@@ -44,8 +44,7 @@ impl Model for UnsignedSet {
 
 impl Drop for UnsignedSet {
     fn drop(self) {
-        let UnsignedSet { set } = self;
-        drop(set);
+        let UnsignedSet { set: _set } = self;
     }
 }
 

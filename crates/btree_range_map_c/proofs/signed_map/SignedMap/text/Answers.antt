@@ -6,7 +6,7 @@ use Rattle.btree_range_map_c.proofs.signed_map.SignedMap.text.Goals as goal
 
 pub returns : goal.returns
 returns c =
-    let written = c.in_ok-value.ensures.written in
+    let written = c.in_ok-map_to_json.ensures.written in
     let none = ap has_float written ∙ signed_map_has_no_float (box_items c.self.inside.map) in
     rw (← c.self.view_is)
     (if_ok_as c.to_vec.result _ _ (λ text known. known none ∙ ap compact_text written)
