@@ -9,12 +9,12 @@ ghost use Rattle.std.specs.Ordering.{is_eq};
 ghost use Rattle.std.proofs.Common.{refl, ap, ◌∙◌};
 ghost use Rattle.range_keys.specs.Hashing.{position_input, position_respects};
 ghost use Rattle.range_keys.specs.declared.bound.Directed.{Directed};
-ghost use Rattle.range_keys.specs.Position.{bound_of, position_cmp};
-ghost use Rattle.range_keys.specs.Directed.{directed_map, directed_value, bound_ordering, reference_position};
+ghost use Rattle.range_keys.specs.Position.{bound_of, key_value, position_map, position_cmp};
+ghost use Rattle.range_keys.specs.Directed.{directed_map, directed_value, bound_ordering, ordering_to, reference_position};
 ghost use Rattle.range_keys.specs.PositionOrder.{position_total};
 
 use crate::inner::directed::{position_of, touches};
-use crate::inner::position::{Position, Side, compare_positions};
+use crate::inner::position::{KeyRef, Position, Side, compare_positions};
 use crate::traits::PartialEnum;
 use std::cmp::Ordering;
 use std::hash::{Hash, Hasher};
@@ -168,17 +168,30 @@ where
     A::Item: PartialEnum,
 {
     fn bound_cmp<B: AsBound<Item = A::Item>>(&self, other: &Directed<B>) -> BoundOrdering {
-        let own = position_of(self);
-        let others = position_of(other);
-        match (compare_positions(&own, &others), other) {
-            (Ordering::Equal, _) => BoundOrdering::Included(true),
-            (Ordering::Greater, Directed::Start(_)) => BoundOrdering::Included(false),
-            (Ordering::Less, Directed::End(_)) => BoundOrdering::Included(false),
-            (Ordering::Less, Directed::Start(_)) => BoundOrdering::Excluded(touches(&own, &others)),
-            (Ordering::Greater, Directed::End(_)) => {
-                BoundOrdering::Excluded(touches(&others, &own))
-            }
-        }
+        bound_ordering_at(other, &position_of(self), &position_of(other))
+    }
+}
+
+/// How the first position lies to the second, which is that of the other bound.
+fn bound_ordering_at<B: AsBound>(
+    other: &Directed<B>,
+    own: &Position<KeyRef<'_, B::Item>>,
+    others: &Position<KeyRef<'_, B::Item>>,
+) -> BoundOrdering
+where
+    B::Item: PartialEnum,
+    ensures { result
+        ≡ ordering_to B.Item.order (directed_map B.bound other.now)
+        (position_map key_value own.now) (position_map key_value others.now)
+        (position_cmp B.Item.order.cmp (position_map key_value own.now)
+        (position_map key_value others.now)) }
+{
+    match (compare_positions(own, others), other) {
+        (Ordering::Equal, _) => BoundOrdering::Included(true),
+        (Ordering::Greater, Directed::Start(_)) => BoundOrdering::Included(false),
+        (Ordering::Less, Directed::End(_)) => BoundOrdering::Included(false),
+        (Ordering::Less, Directed::Start(_)) => BoundOrdering::Excluded(touches(own, others)),
+        (Ordering::Greater, Directed::End(_)) => BoundOrdering::Excluded(touches(others, own)),
     }
 }
 
