@@ -1,12 +1,12 @@
-use Rattle.std.proofs.Common.{◌≡◌, ◌∙◌, ap, length}
+use Rattle.std.proofs.Common.{rules, ◌≡◌, ◌∙◌, ap, length}
 use Rattle.std.specs.Prelude.{insert}
 use Rattle.range_algebra.specs.declared.any.AnyRange.{AnyRange}
 use Rattle.range_store.specs.declared.storage.Item.{Item}
 use Rattle.range_change.proofs.LastRange.{last_inserted, last_longer, last_unmet}
 use Rattle.range_change.proofs.append.bind_last.Goals as goal
 
-pub returns-clause-ok : goal.returns-clause-ok
-returns-clause-ok g c =
+pub returns : goal.returns
+returns g c =
     let storage = g.C.Storage in
     let items = storage.items c.args.stored.now in
     let item : Item (AnyRange g.row.K.Denot) g.row.V.Denot =
@@ -14,26 +14,19 @@ returns-clause-ok g c =
     let done : storage.items c.insert_at-position.new.self ≡ insert items (length items) item =
     c.insert_at-position.ensures.list
     ∙ ap (λ xs. insert xs (length xs) item) c.reserve.ensures.list in
-    last_inserted g.K.MaybeBounded.order g.met.K.PartialEnum.lawful g.V.PartialEq.eq g.met.V.Eq.laws
-    items c.args.range c.requires.stored c.known.ensures c.requires.nonempty c.requires.last _
-    c.args.value done
-
-pub returns-clause-few : goal.returns-clause-few
-returns-clause-few g c =
-    let storage = g.C.Storage in
-    let items = storage.items c.args.stored.now in
-    let item : Item (AnyRange g.row.K.Denot) g.row.V.Denot =
-    record { key = c.args.range; value = c.args.value } in
-    let done : storage.items c.insert_at-position.new.self ≡ insert items (length items) item =
-    c.insert_at-position.ensures.list
-    ∙ ap (λ xs. insert xs (length xs) item) c.reserve.ensures.list in
-    last_longer items _ item done
-
-pub returns-clause-apart : goal.returns-clause-apart
-returns-clause-apart g c =
-    last_unmet g.K.MaybeBounded.order g.met.K.PartialEnum.lawful g.V.PartialEq.eq g.met.V.Eq.laws
-    (g.C.Storage.items c.args.stored.now) c.args.range c.requires.stored c.known.ensures
-    c.requires.nonempty c.requires.last
+    record {
+      refused = search rules;
+      ok =
+          last_inserted g.K.MaybeBounded.order g.met.K.PartialEnum.lawful g.V.PartialEq.eq g.met.V.Eq.laws
+          items c.args.range c.requires.stored c.known.ensures c.requires.nonempty c.requires.last _
+          c.args.value done;
+      few =
+          last_longer items _ item done;
+      apart =
+          last_unmet g.K.MaybeBounded.order g.met.K.PartialEnum.lawful g.V.PartialEq.eq g.met.V.Eq.laws
+          (g.C.Storage.items c.args.stored.now) c.args.range c.requires.stored c.known.ensures
+          c.requires.nonempty c.requires.last;
+    }
 
 pub returns-in_err-reserve-clause-apart : goal.returns-in_err-reserve-clause-apart
 returns-in_err-reserve-clause-apart g c =

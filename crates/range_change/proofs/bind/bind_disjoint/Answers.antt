@@ -7,12 +7,21 @@ use Rattle.range_change.proofs.InsertionFrames.{meets_some, none_meets}
 use Rattle.range_change.proofs.Tests.{not_both_answers}
 use Rattle.range_change.proofs.bind.bind_disjoint.Goals as goal
 
-pub returns-then-window-gt0-clause-met : goal.returns-then-window-gt0-clause-met
-returns-then-window-gt0-clause-met g c = (
-  λ _. meets_some g.met.K.PartialEnum.lawful g.met.V.Eq.laws c.find_window-window.ensures.window
-      (omega (arith, c.if-window-gt0.true)),
-  λ _. refl,
-)
+pub returns-then-window-gt0 : goal.returns-then-window-gt0
+returns-then-window-gt0 g c =
+    record {
+      met = (
+        λ _. meets_some g.met.K.PartialEnum.lawful g.met.V.Eq.laws c.find_window-window.ensures.window
+            (omega (arith, c.if-window-gt0.true)),
+        λ _. refl,
+      );
+      met_unchanged =
+          λ _. refl;
+      bound =
+          λ e. absurd (not_both_answers (sym e));
+      refused =
+          tt;
+    }
 
 pub returns : goal.returns
 returns g c =
@@ -53,19 +62,13 @@ returns-in_err-bind_outside g c =
 pub bind_last-requires-clause-last : goal.bind_last-requires-clause-last
 bind_last-requires-clause-last g c = c.if-comes_last.ensures refl
 
-pub bind_outside-requires-clause-reach : goal.bind_outside-requires-clause-reach
-bind_outside-requires-clause-reach g c =
-    let none : c.find_window-window.result.count ≡ 0 = omega (arith, c.if-window-gt0.false) in
-    free_reach c.find_window-window.ensures.window none
-
-pub bind_outside-requires-clause-apart : goal.bind_outside-requires-clause-apart
-bind_outside-requires-clause-apart g c = omega arith
-
-pub returns-then-window-gt0-clause-met_unchanged : goal.returns-then-window-gt0-clause-met_unchanged
-returns-then-window-gt0-clause-met_unchanged g c = λ _. refl
-
-pub returns-then-window-gt0-clause-bound : goal.returns-then-window-gt0-clause-bound
-returns-then-window-gt0-clause-bound g c = λ e. absurd (not_both_answers (sym e))
-
-pub returns-then-window-gt0-clause-refused : goal.returns-then-window-gt0-clause-refused
-returns-then-window-gt0-clause-refused g c = tt
+pub bind_outside-requires : goal.bind_outside-requires
+bind_outside-requires g c =
+    record {
+      keys = search rules;
+      reach =
+          let none : c.find_window-window.result.count ≡ 0 = omega (arith, c.if-window-gt0.false) in
+          free_reach c.find_window-window.ensures.window none;
+      apart =
+          omega arith;
+    }

@@ -14,11 +14,14 @@ seam_at-requires g c = c.requires.keys
 pub seam_at-requires-2 : goal.seam_at-requires-2
 seam_at-requires-2 g c = c.requires.keys
 
-pub run_start-requires-clause-from : goal.run_start-requires-clause-from
-run_start-requires-clause-from g c = (run_can_start c.requires.reach).0
-
-pub run_start-requires-clause-first : goal.run_start-requires-clause-first
-run_start-requires-clause-first g c = (run_can_start c.requires.reach).1
+pub run_start-requires : goal.run_start-requires
+run_start-requires g c =
+    record {
+      from =
+          (run_can_start c.requires.reach).0;
+      first =
+          (run_can_start c.requires.reach).1;
+    }
 
 pub run_length-requires-clause-fits : goal.run_length-requires-clause-fits
 run_length-requires-clause-fits g c =

@@ -76,33 +76,30 @@ cut_bound-requires g c = c.requires.keys
 pub cut_bound-requires-2 : goal.cut_bound-requires-2
 cut_bound-requires-2 g c = c.requires.keys
 
-pub returns-clause-value : goal.returns-clause-value
-returns-clause-value g c = λ d.
-    let storage = g.C.Storage in
-    let stored = c.args.stored.now in
-    let items = storage.items stored in
-    let p = c.args.p in
-    let x = c.get.result.now in
-    let kept = c.reserve.ensures.positions p c.requires.good in
-    let read : x ≡ get_or items (storage.rank stored p) x =
-    rw (c.reserve.ensures.list, kept.1) at c.get.ensures in
-    rw (← get_or_read items (storage.rank stored p) x
-    (g.met.C.Storage.good_is_in_range stored p c.requires.good) read d)
-    (c.requires.values x.value c.in_ok-clone.field-0 c.in_ok-clone.ensures.cases)
-
-pub returns-clause-end : goal.returns-clause-end
-returns-clause-end g c =
-    (c.in_ok-cut_bound.ensures.known, c.in_ok-cut_bound.ensures.flipped)
-
-pub returns-clause-start : goal.returns-clause-start
-returns-clause-start g c =
-    (c.in_ok-cut_bound-2.ensures.known, c.in_ok-cut_bound-2.ensures.flipped)
-
-pub returns-clause-list : goal.returns-clause-list
-returns-clause-list g c = c.reserve.ensures.list
-
-pub returns-clause-space : goal.returns-clause-space
-returns-clause-space g c = c.in_ok-reserve.ensures.ok
-
-pub returns-clause-positions : goal.returns-clause-positions
-returns-clause-positions g c = c.reserve.ensures.positions
+pub returns : goal.returns
+returns g c =
+    record {
+      value =
+          λ d.
+          let storage = g.C.Storage in
+          let stored = c.args.stored.now in
+          let items = storage.items stored in
+          let p = c.args.p in
+          let x = c.get.result.now in
+          let kept = c.reserve.ensures.positions p c.requires.good in
+          let read : x ≡ get_or items (storage.rank stored p) x =
+          rw (c.reserve.ensures.list, kept.1) at c.get.ensures in
+          rw (← get_or_read items (storage.rank stored p) x
+          (g.met.C.Storage.good_is_in_range stored p c.requires.good) read d)
+          (c.requires.values x.value c.in_ok-clone.field-0 c.in_ok-clone.ensures.cases);
+      end =
+          (c.in_ok-cut_bound.ensures.known, c.in_ok-cut_bound.ensures.flipped);
+      start =
+          (c.in_ok-cut_bound-2.ensures.known, c.in_ok-cut_bound-2.ensures.flipped);
+      list =
+          c.reserve.ensures.list;
+      space =
+          c.in_ok-reserve.ensures.ok;
+      positions =
+          c.reserve.ensures.positions;
+    }

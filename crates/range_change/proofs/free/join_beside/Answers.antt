@@ -8,11 +8,14 @@ use Rattle.range_change.proofs.JoinedMiddle.{seam_count}
 use Rattle.range_change.proofs.Surrounded.{run_can_start, none_reach}
 use Rattle.range_change.proofs.free.join_beside.Goals as goal
 
-pub run_start-requires-clause-from : goal.run_start-requires-clause-from
-run_start-requires-clause-from g c = (run_can_start c.requires.reach).0
-
-pub run_start-requires-clause-first : goal.run_start-requires-clause-first
-run_start-requires-clause-first g c = (run_can_start c.requires.reach).1
+pub run_start-requires : goal.run_start-requires
+run_start-requires g c =
+    record {
+      from =
+          (run_can_start c.requires.reach).0;
+      first =
+          (run_can_start c.requires.reach).1;
+    }
 
 pub run_length-requires : goal.run_length-requires
 run_length-requires g c =

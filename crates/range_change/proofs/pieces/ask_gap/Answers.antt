@@ -3,10 +3,11 @@ use Rattle.range_algebra.specs.References.{range_of}
 use Rattle.range_change.proofs.CoveredPlaces.{on_ok}
 use Rattle.range_change.proofs.pieces.ask_gap.Goals as goal
 
-pub returns-in-Some-clause-closure : goal.returns-in-Some-clause-closure
-returns-in-Some-clause-closure g c =
-    λ e failed. (range_of c.in-Some.gap, c.in-Some.ensures, c.ask.ensures.closure e failed)
-
-pub returns-in-Some-clause-ok : goal.returns-in-Some-clause-ok
-returns-in-Some-clause-ok g c =
-    on_ok _ _ c.ask.result (λ h. inr (range_of c.in-Some.gap, c.in-Some.ensures, h)) c.ask.ensures.ok
+pub returns-in-Some : goal.returns-in-Some
+returns-in-Some g c =
+    record {
+      closure =
+          λ e failed. (range_of c.in-Some.gap, c.in-Some.ensures, c.ask.ensures.closure e failed);
+      ok =
+          on_ok _ _ c.ask.result (λ h. inr (range_of c.in-Some.gap, c.in-Some.ensures, h)) c.ask.ensures.ok;
+    }

@@ -4,11 +4,14 @@ use Rattle.range_change.proofs.Results.{error_has_no_value}
 use Rattle.range_change.proofs.Tests.{same_some}
 use Rattle.range_change.proofs.pieces.ask_item.Goals as goal
 
-pub returns-clause-closure : goal.returns-clause-closure
-returns-clause-closure g c = λ e failed. inr (c.ask.ensures.closure e failed)
-
-pub returns-clause-ok : goal.returns-clause-ok
-returns-clause-ok g c = grind (arith, common_steps)
+pub returns : goal.returns
+returns g c =
+    record {
+      closure =
+          λ e failed. inr (c.ask.ensures.closure e failed);
+      ok =
+          grind (arith, common_steps);
+    }
 
 pub returns-in_err-ask_gap : goal.returns-in_err-ask_gap
 returns-in_err-ask_gap g c =

@@ -52,8 +52,8 @@ key_at-before-requires g c =
 pub get-requires : goal.get-requires
 get-requires g c = let here = rw c.in-Some.is at c.loop-met.invariant.position in here.0
 
-pub ask_item-requires-clause-before : goal.ask_item-requires-clause-before
-ask_item-requires-clause-before g c =
+pub ask_item-requires : goal.ask_item-requires
+ask_item-requires g c =
     let lawful = g.met.K.PartialEnum.lawful in
     let equal = g.met.V.Eq.laws in
     let window = c.requires.window in
@@ -67,45 +67,19 @@ ask_item-requires-clause-before g c =
     let here = rw c.in-Some.is at was.position in
     let x = c.get.result.now in
     let read = c.get.ensures ∙ ap (λ n. get_or (g.C.Storage.items c.args.stored.now) n x) here.1 in
-    asked_key_full lawful equal window c.loop-met.last met (option_copied c.key_at-before.result)
-    was.last_is
-    (begins_within place met c.args.window.now.count (length items) more window.in_range)
-    c.key_at-before.ensures
-
-pub ask_item-requires-clause-item : goal.ask_item-requires-clause-item
-ask_item-requires-clause-item g c =
-    let lawful = g.met.K.PartialEnum.lawful in
-    let equal = g.met.V.Eq.laws in
-    let window = c.requires.window in
-    let storage = g.C.Storage in
-    let items = storage.items c.args.stored.now in
-    let place =
-    place_before (storage.rank c.args.stored.now) (length items) c.args.window.now.from in
-    let was = c.loop-met.invariant in
-    let met = c.loop-met._met in
-    let more = c.loop-met-test.true in
-    let here = rw c.in-Some.is at was.position in
-    let x = c.get.result.now in
-    let read = c.get.ensures ∙ ap (λ n. get_or (g.C.Storage.items c.args.stored.now) n x) here.1 in
-    met_nonempty lawful equal window met x more read
-
-pub ask_item-requires-clause-bound : goal.ask_item-requires-clause-bound
-ask_item-requires-clause-bound g c =
-    let lawful = g.met.K.PartialEnum.lawful in
-    let equal = g.met.V.Eq.laws in
-    let window = c.requires.window in
-    let storage = g.C.Storage in
-    let items = storage.items c.args.stored.now in
-    let place =
-    place_before (storage.rank c.args.stored.now) (length items) c.args.window.now.from in
-    let was = c.loop-met.invariant in
-    let met = c.loop-met._met in
-    let more = c.loop-met-test.true in
-    let here = rw c.in-Some.is at was.position in
-    let x = c.get.result.now in
-    let read = c.get.ensures ∙ ap (λ n. get_or (g.C.Storage.items c.args.stored.now) n x) here.1 in
-    met_holds lawful equal window met x more read
-    (λ i. MayBeAsked g.F.Fn c.args.f.now (Some i.value)) c.requires.bound
+    record {
+      free = search rules;
+      before =
+          asked_key_full lawful equal window c.loop-met.last met (option_copied c.key_at-before.result)
+          was.last_is
+          (begins_within place met c.args.window.now.count (length items) more window.in_range)
+          c.key_at-before.ensures;
+      item =
+          met_nonempty lawful equal window met x more read;
+      bound =
+          met_holds lawful equal window met x more read
+          (λ i. MayBeAsked g.F.Fn c.args.f.now (Some i.value)) c.requires.bound;
+    }
 
 pub returns-in_err-ask_item : goal.returns-in_err-ask_item
 returns-in_err-ask_item g c =

@@ -53,11 +53,14 @@ plan_is_replacement g c =
     c.requires.reach.window.in_range c.requires.apart is_first is_last c.run_start.ensures
     (c.joined_left-before.ensures lawful equal) (c.joined_right-after.ensures lawful equal)
 
-pub run_start-requires-clause-from : goal.run_start-requires-clause-from
-run_start-requires-clause-from g c = (run_can_start c.requires.reach).0
-
-pub run_start-requires-clause-first : goal.run_start-requires-clause-first
-run_start-requires-clause-first g c = (run_can_start c.requires.reach).1
+pub run_start-requires : goal.run_start-requires
+run_start-requires g c =
+    record {
+      from =
+          (run_can_start c.requires.reach).0;
+      first =
+          (run_can_start c.requires.reach).1;
+    }
 
 pub run_length-requires-clause-fits : goal.run_length-requires-clause-fits
 run_length-requires-clause-fits g c =

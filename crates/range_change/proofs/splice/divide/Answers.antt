@@ -11,38 +11,34 @@ use Rattle.range_change.proofs.splice.divide.Goals as goal
 pub replace_end-old_end-requires : goal.replace_end-old_end-requires
 replace_end-old_end-requires g c = c.requires.good
 
-pub insert_at-at-requires-clause-good : goal.insert_at-at-requires-clause-good
-insert_at-at-requires-clause-good g c =
+pub insert_at-at-requires : goal.insert_at-at-requires
+insert_at-at-requires g c =
     let storage = g.C.Storage in
     let old = c.args.stored.now in
     let ready = c.replace_end-old_end.new.stored in
     let next = storage.rank old c.args.p + 1 in
     let len = length (storage.items old) in
-    good_at (storage.is_good ready) (storage.rank ready) len c.args.after next
-    (kept_at (storage.is_good old) (storage.is_good ready) (storage.rank old)
-    (storage.rank ready) len c.args.after next c.replace_end-old_end.ensures.positions
-    c.requires.after)
+    record {
+      good =
+          good_at (storage.is_good ready) (storage.rank ready) len c.args.after next
+          (kept_at (storage.is_good old) (storage.is_good ready) (storage.rank old)
+          (storage.rank ready) len c.args.after next c.replace_end-old_end.ensures.positions
+          c.requires.after);
+      has_room =
+          omega (arith, c.requires.space, c.replace_end-old_end.ensures.space);
+    }
 
-pub insert_at-at-requires-clause-has_room : goal.insert_at-at-requires-clause-has_room
-insert_at-at-requires-clause-has_room g c =
-    let storage = g.C.Storage in
-    let old = c.args.stored.now in
-    let ready = c.replace_end-old_end.new.stored in
-    let next = storage.rank old c.args.p + 1 in
-    let len = length (storage.items old) in
-    omega (arith, c.requires.space, c.replace_end-old_end.ensures.space)
-
-pub insert_at-middle-requires-clause-good : goal.insert_at-middle-requires-clause-good
-insert_at-middle-requires-clause-good g c =
+pub insert_at-middle-requires : goal.insert_at-middle-requires
+insert_at-middle-requires g c =
     let space = rw c.in-Some.is at c.requires.space in
-    λ q e.
-    let same : c.insert_at-at.result ≡ q = same_some e in
-    rw (← same) c.insert_at-at.ensures.position.0
-
-pub insert_at-middle-requires-clause-has_room : goal.insert_at-middle-requires-clause-has_room
-insert_at-middle-requires-clause-has_room g c =
-    let space = rw c.in-Some.is at c.requires.space in
-    omega (arith, space, c.replace_end-old_end.ensures.space, c.insert_at-at.ensures.space)
+    record {
+      good =
+          λ q e.
+          let same : c.insert_at-at.result ≡ q = same_some e in
+          rw (← same) c.insert_at-at.ensures.position.0;
+      has_room =
+          omega (arith, space, c.replace_end-old_end.ensures.space, c.insert_at-at.ensures.space);
+    }
 
 pub returns-in-None : goal.returns-in-None
 returns-in-None g c = λ d.

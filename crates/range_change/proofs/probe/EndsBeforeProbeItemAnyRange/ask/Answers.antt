@@ -1,11 +1,13 @@
 use Rattle.std.proofs.Common.{rules}
 use Rattle.range_change.proofs.probe.EndsBeforeProbeItemAnyRange.ask.Goals as goal
 
-pub returns-clause-answer : goal.returns-clause-answer
-returns-clause-answer g c = search rules
-
-pub returns-clause-counted : goal.returns-clause-counted
-returns-clause-counted g c = search rules
-
-pub returns-clause-test_kept : goal.returns-clause-test_kept
-returns-clause-test_kept g c = search rules
+pub returns : goal.returns
+returns g c =
+    record {
+      answer =
+          search rules;
+      counted =
+          search rules;
+      test_kept =
+          search rules;
+    }

@@ -1,29 +1,32 @@
+use Rattle.std.proofs.Common.{rules}
 use Rattle.range_map.specs.Combining.{MayAnswerBoth}
 use Rattle.range_map.proofs.Coarse.{coarse_alike}
 use Rattle.range_map.proofs.Combination.{pieces_combine}
 use Rattle.range_map.proofs.StoredLists.{stored_coarse}
 use Rattle.range_map.proofs.map.RangeMap.combine.Goals as goal
 
-pub returns-clause-bound : goal.returns-clause-bound
-returns-clause-bound g c =
-    rw c.in_ok-map_of.ensures
-    (pieces_combine g.K.MaybeBounded.order g.met.K.PartialEnum.lawful g.V.PartialEq.eq
-    g.met.V.Eq.laws g.W.PartialEq.eq g.met.W.Eq.laws g.X.PartialEq.eq
-    (MayAnswerBoth g.F.Fn c.args.f) (g.C.Storage.items c.args.self.now)
-    (g.D.Storage.items c.args.other.now) c.in_ok-answers.answers.items
-    c.in_ok-answers.ensures.combined)
-
-pub returns-clause-coarse : goal.returns-clause-coarse
-returns-clause-coarse g c =
-    rw c.in_ok-map_of.ensures (λ complete.
-    stored_coarse g.K.MaybeBounded.order g.met.K.PartialEnum.lawful g.X.PartialEq.eq
-    g.met.X.Eq.laws complete c.in_ok-answers.answers.items c.in_ok-answers.ensures.form)
-
-pub returns-clause-only : goal.returns-clause-only
-returns-clause-only g c =
-    rw c.in_ok-map_of.ensures (λ complete others coarse alike.
-    coarse_alike g.K.MaybeBounded.order g.met.K.PartialEnum.lawful g.X.PartialEq.eq
-    g.met.X.Eq.laws c.in_ok-answers.answers.items others
-    (stored_coarse g.K.MaybeBounded.order g.met.K.PartialEnum.lawful g.X.PartialEq.eq
-    g.met.X.Eq.laws complete c.in_ok-answers.answers.items c.in_ok-answers.ensures.form) coarse
-    alike)
+pub returns : goal.returns
+returns g c =
+    record {
+      pieces = search rules;
+      form = search rules;
+      closure = search rules;
+      bound =
+          rw c.in_ok-map_of.ensures
+          (pieces_combine g.K.MaybeBounded.order g.met.K.PartialEnum.lawful g.V.PartialEq.eq
+          g.met.V.Eq.laws g.W.PartialEq.eq g.met.W.Eq.laws g.X.PartialEq.eq
+          (MayAnswerBoth g.F.Fn c.args.f) (g.C.Storage.items c.args.self.now)
+          (g.D.Storage.items c.args.other.now) c.in_ok-answers.answers.items
+          c.in_ok-answers.ensures.combined);
+      coarse =
+          rw c.in_ok-map_of.ensures (λ complete.
+          stored_coarse g.K.MaybeBounded.order g.met.K.PartialEnum.lawful g.X.PartialEq.eq
+          g.met.X.Eq.laws complete c.in_ok-answers.answers.items c.in_ok-answers.ensures.form);
+      only =
+          rw c.in_ok-map_of.ensures (λ complete others coarse alike.
+          coarse_alike g.K.MaybeBounded.order g.met.K.PartialEnum.lawful g.X.PartialEq.eq
+          g.met.X.Eq.laws c.in_ok-answers.answers.items others
+          (stored_coarse g.K.MaybeBounded.order g.met.K.PartialEnum.lawful g.X.PartialEq.eq
+          g.met.X.Eq.laws complete c.in_ok-answers.answers.items c.in_ok-answers.ensures.form) coarse
+          alike);
+    }

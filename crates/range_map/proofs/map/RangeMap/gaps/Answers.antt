@@ -5,29 +5,28 @@ use Rattle.range_map.proofs.FreeParts.{few_free}
 use Rattle.range_map.proofs.FreeParts.{gaps_are, held_once, stored_row}
 use Rattle.range_map.proofs.map.RangeMap.gaps.Goals as goal
 
-pub returns-clause-gaps : goal.returns-clause-gaps
-returns-clause-gaps g c =
+pub returns : goal.returns
+returns g c =
     let order = g.K.MaybeBounded.order in
-    let lawful = g.met.K.PartialEnum.lawful in
-    let items = g.C.Storage.items c.args.self.now in
-    let stored = rw c.iter.ensures.items at c.iter.ensures.form in
-    subst (λ walk. AreGaps order items (free_from order (Some Unbounded) walk))
-    (sym c.iter.ensures.items)
-    (gaps_are order lawful items (stored_row order lawful g.V.PartialEq.eq items stored))
-
-pub returns-clause-once : goal.returns-clause-once
-returns-clause-once g c = λ k key.
-    let order = g.K.MaybeBounded.order in
-    let lawful = g.met.K.PartialEnum.lawful in
-    let items = g.C.Storage.items c.args.self.now in
-    let stored = rw c.iter.ensures.items at c.iter.ensures.form in
-    subst (λ walk. IsHeldOnce order (item_ranges items ++ free_from order (Some Unbounded) walk) k)
-    (sym c.iter.ensures.items)
-    (held_once order lawful items k (stored_row order lawful g.V.PartialEq.eq items stored) key)
-
-pub returns-clause-few : goal.returns-clause-few
-returns-clause-few g c =
-    let order = g.K.MaybeBounded.order in
-    subst (λ walk. length (free_from order (Some Unbounded) walk)
-    ≤ length (g.C.Storage.items c.args.self.now) + 1) (sym c.iter.ensures.items)
-    (few_free order (Some Unbounded) (g.C.Storage.items c.args.self.now))
+    record {
+      gaps =
+          let lawful = g.met.K.PartialEnum.lawful in
+          let items = g.C.Storage.items c.args.self.now in
+          let stored = rw c.iter.ensures.items at c.iter.ensures.form in
+          subst (λ walk. AreGaps order items (free_from order (Some Unbounded) walk))
+          (sym c.iter.ensures.items)
+          (gaps_are order lawful items (stored_row order lawful g.V.PartialEq.eq items stored));
+      once =
+          λ k key.
+          let order = g.K.MaybeBounded.order in
+          let lawful = g.met.K.PartialEnum.lawful in
+          let items = g.C.Storage.items c.args.self.now in
+          let stored = rw c.iter.ensures.items at c.iter.ensures.form in
+          subst (λ walk. IsHeldOnce order (item_ranges items ++ free_from order (Some Unbounded) walk) k)
+          (sym c.iter.ensures.items)
+          (held_once order lawful items k (stored_row order lawful g.V.PartialEq.eq items stored) key);
+      few =
+          subst (λ walk. length (free_from order (Some Unbounded) walk)
+          ≤ length (g.C.Storage.items c.args.self.now) + 1) (sym c.iter.ensures.items)
+          (few_free order (Some Unbounded) (g.C.Storage.items c.args.self.now));
+    }

@@ -8,13 +8,49 @@ use Rattle.range_change.proofs.Results.{error_has_no_value, on_error}
 use Rattle.range_change.proofs.Lengths.{le_sum}
 use Rattle.range_map.proofs.map.RangeMap.insert.Goals as goal
 
-pub returns-clause-meets : goal.returns-clause-meets
-returns-clause-meets g c = λ full.
-    let items = g.C.Storage.items c.self.inside.stored in
-    let new = g.C.Storage.items c.bind_in_order.new.stored in
-    rw (← c.self.view_is) (subst
-    (λ r. MeetAlso g.K.MaybeBounded.order items new r) c.into_range-range.ensures
-    c.in_ok-bind_in_order.ensures.ok.meets)
+pub returns : goal.returns
+returns g c =
+    record {
+      meets =
+          λ full.
+          let items = g.C.Storage.items c.self.inside.stored in
+          let new = g.C.Storage.items c.bind_in_order.new.stored in
+          rw (← c.self.view_is) (subst
+          (λ r. MeetAlso g.K.MaybeBounded.order items new r) c.into_range-range.ensures
+          c.in_ok-bind_in_order.ensures.ok.meets);
+      form =
+          c.in_ok-bind_in_order.ensures.ok.stored;
+      coarse =
+          λ complete.
+          stored_coarse g.K.MaybeBounded.order g.met.K.PartialEnum.lawful g.V.PartialEq.eq g.met.V.Eq.laws
+          complete (g.C.Storage.items c.bind_in_order.new.stored) c.in_ok-bind_in_order.ensures.ok.stored;
+      only =
+          λ complete.
+          stored_only g.K.MaybeBounded.order g.met.K.PartialEnum.lawful g.V.PartialEq.eq g.met.V.Eq.laws
+          complete (g.C.Storage.items c.bind_in_order.new.stored) c.in_ok-bind_in_order.ensures.ok.stored;
+      bound =
+          rw (← c.self.view_is) (subst
+          (λ r. IsBoundAfter g.K.MaybeBounded.order g.V.PartialEq.eq
+          (g.C.Storage.items c.self.inside.stored)
+          (g.C.Storage.items c.bind_in_order.new.stored) r c.args.value) c.into_range-range.ensures
+          c.in_ok-bind_in_order.ensures.ok.bound);
+      empty =
+          λ _. refl;
+      empty_unchanged =
+          λ empty. let told =
+          c.is_empty.ensures.by_position.1 (rw c.into_range-range.ensures empty) in let not =
+          c.if-is_empty.false in absurd (cc);
+      few =
+          rw (← c.self.view_is) c.bind_in_order.ensures.few;
+      frame =
+          λ full. rw (← c.self.view_is)
+          (subst (λ r. IsInsertionFrame g.K.MaybeBounded.order g.V.PartialEq.eq
+          (g.C.Storage.items c.self.inside.stored)
+          (g.C.Storage.items c.bind_in_order.new.stored) r c.args.value) c.into_range-range.ensures
+          c.in_ok-bind_in_order.ensures.ok.frame);
+      refused =
+          tt;
+    }
 
 pub returns-then-is_empty : goal.returns-then-is_empty
 returns-then-is_empty g c =
@@ -73,51 +109,6 @@ returns-in_err-bind_in_order g c =
           c.is_empty.ensures.by_position.1 (rw c.into_range-range.ensures empty) in let not =
           c.if-is_empty.false in absurd (cc);
     }
-
-pub returns-clause-form : goal.returns-clause-form
-returns-clause-form g c = c.in_ok-bind_in_order.ensures.ok.stored
-
-pub returns-clause-coarse : goal.returns-clause-coarse
-returns-clause-coarse g c =
-    λ complete.
-    stored_coarse g.K.MaybeBounded.order g.met.K.PartialEnum.lawful g.V.PartialEq.eq g.met.V.Eq.laws
-    complete (g.C.Storage.items c.bind_in_order.new.stored) (returns-clause-form g c)
-
-pub returns-clause-only : goal.returns-clause-only
-returns-clause-only g c =
-    λ complete.
-    stored_only g.K.MaybeBounded.order g.met.K.PartialEnum.lawful g.V.PartialEq.eq g.met.V.Eq.laws
-    complete (g.C.Storage.items c.bind_in_order.new.stored) (returns-clause-form g c)
-
-pub returns-clause-bound : goal.returns-clause-bound
-returns-clause-bound g c =
-    rw (← c.self.view_is) (subst
-    (λ r. IsBoundAfter g.K.MaybeBounded.order g.V.PartialEq.eq
-    (g.C.Storage.items c.self.inside.stored)
-    (g.C.Storage.items c.bind_in_order.new.stored) r c.args.value) c.into_range-range.ensures
-    c.in_ok-bind_in_order.ensures.ok.bound)
-
-pub returns-clause-empty : goal.returns-clause-empty
-returns-clause-empty g c = λ _. refl
-
-pub returns-clause-empty_unchanged : goal.returns-clause-empty_unchanged
-returns-clause-empty_unchanged g c = λ empty. let told =
-    c.is_empty.ensures.by_position.1 (rw c.into_range-range.ensures empty) in let not =
-    c.if-is_empty.false in absurd (cc)
-
-pub returns-clause-few : goal.returns-clause-few
-returns-clause-few g c = rw (← c.self.view_is) c.bind_in_order.ensures.few
-
-pub returns-clause-frame : goal.returns-clause-frame
-returns-clause-frame g c =
-    λ full. rw (← c.self.view_is)
-    (subst (λ r. IsInsertionFrame g.K.MaybeBounded.order g.V.PartialEq.eq
-    (g.C.Storage.items c.self.inside.stored)
-    (g.C.Storage.items c.bind_in_order.new.stored) r c.args.value) c.into_range-range.ensures
-    c.in_ok-bind_in_order.ensures.ok.frame)
-
-pub returns-clause-refused : goal.returns-clause-refused
-returns-clause-refused g c = tt
 
 pub invariant_of-self : goal.invariant_of-self
 invariant_of-self g c = search rules

@@ -75,33 +75,28 @@ returns-clause-complete g c =
     (g.R.AsRange.range c.args.range) complete c.in_form.ensures c.known_range.ensures found.0
     found.1
 
-pub returns-then-is_empty-clause-meets : goal.returns-then-is_empty-clause-meets
-returns-then-is_empty-clause-meets g c = (
-  λ h. absurd (false≢true h),
-  λ h. absurd (h.0 (c.is_empty.ensures.by_position.0 c.if-is_empty.true)),
-)
-
-pub returns-then-is_empty-clause-bound : goal.returns-then-is_empty-clause-bound
-returns-then-is_empty-clause-bound g c =
-    λ h.
-    absurd
-    ((binding_meets g.K.MaybeBounded.order g.met.K.PartialEnum.lawful
-    (g.C.Storage.items c.args.self.now) (g.R.AsRange.range c.args.range) h).0
-    (c.is_empty.ensures.by_position.0 c.if-is_empty.true))
-
-pub returns-then-is_empty-clause-complete : goal.returns-then-is_empty-clause-complete
-returns-then-is_empty-clause-complete g c = λ complete h. absurd (false≢true h)
-
-pub returns-then-is_empty-clause-counted : goal.returns-then-is_empty-clause-counted
-returns-then-is_empty-clause-counted g c =
-    λ full. absurd (full (c.is_empty.ensures.by_position.0 c.if-is_empty.true))
-
-pub returns-then-is_empty-clause-none : goal.returns-then-is_empty-clause-none
-returns-then-is_empty-clause-none g c =
-    λ none. record { at_most = omega arith; at_least = omega arith }
-
-pub returns-then-is_empty-clause-empty_uncounted : goal.returns-then-is_empty-clause-empty_uncounted
-returns-then-is_empty-clause-empty_uncounted g c = λ _. refl
+pub returns-then-is_empty : goal.returns-then-is_empty
+returns-then-is_empty g c =
+    record {
+      meets = (
+        λ h. absurd (false≢true h),
+        λ h. absurd (h.0 (c.is_empty.ensures.by_position.0 c.if-is_empty.true)),
+      );
+      bound =
+          λ h.
+          absurd
+          ((binding_meets g.K.MaybeBounded.order g.met.K.PartialEnum.lawful
+          (g.C.Storage.items c.args.self.now) (g.R.AsRange.range c.args.range) h).0
+          (c.is_empty.ensures.by_position.0 c.if-is_empty.true));
+      complete =
+          λ complete h. absurd (false≢true h);
+      counted =
+          λ full. absurd (full (c.is_empty.ensures.by_position.0 c.if-is_empty.true));
+      none =
+          λ none. record { at_most = omega arith; at_least = omega arith };
+      empty_uncounted =
+          λ _. refl;
+    }
 
 pub returns-clause-counted : goal.returns-clause-counted
 returns-clause-counted g c =

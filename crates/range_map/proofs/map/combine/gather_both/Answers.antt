@@ -29,23 +29,21 @@ loop-piece-init g c =
       second = c.next_part-right.ensures.last;
     }
 
-pub first_piece-requires-clause-left : goal.first_piece-requires-clause-left
-first_piece-requires-clause-left g c =
+pub first_piece-requires : goal.first_piece-requires
+first_piece-requires g c =
     let up_to =
     c.loop-piece.invariant.up_to g.met.K.PartialEnum.lawful g.met.V.Eq.laws g.met.W.Eq.laws
     g.met.X.Eq.laws in
-    first_placed g.K.MaybeBounded.order g.met.K.PartialEnum.lawful g.V.PartialEq.eq g.met.V.Eq.laws
-    (g.C.Storage.items c.args.map.now) up_to.0 (option_map part_item c.loop-piece.left)
-    c.loop-piece.items up_to.1.first
-
-pub first_piece-requires-clause-right : goal.first_piece-requires-clause-right
-first_piece-requires-clause-right g c =
-    let up_to =
-    c.loop-piece.invariant.up_to g.met.K.PartialEnum.lawful g.met.V.Eq.laws g.met.W.Eq.laws
-    g.met.X.Eq.laws in
-    first_placed g.K.MaybeBounded.order g.met.K.PartialEnum.lawful g.W.PartialEq.eq g.met.W.Eq.laws
-    (g.D.Storage.items c.args.other.now) up_to.0 (option_map part_item c.loop-piece.right)
-    c.loop-piece.others up_to.1.second
+    record {
+      left =
+          first_placed g.K.MaybeBounded.order g.met.K.PartialEnum.lawful g.V.PartialEq.eq g.met.V.Eq.laws
+          (g.C.Storage.items c.args.map.now) up_to.0 (option_map part_item c.loop-piece.left)
+          c.loop-piece.items up_to.1.first;
+      right =
+          first_placed g.K.MaybeBounded.order g.met.K.PartialEnum.lawful g.W.PartialEq.eq g.met.W.Eq.laws
+          (g.D.Storage.items c.args.other.now) up_to.0 (option_map part_item c.loop-piece.right)
+          c.loop-piece.others up_to.1.second;
+    }
 
 pub ask_both-requires : goal.ask_both-requires
 ask_both-requires g c =
@@ -162,8 +160,8 @@ loop-piece-preserved g c =
       second = c.refilled-right.ensures.last;
     }
 
-pub returns-clause-form : goal.returns-clause-form
-returns-clause-form g c =
+pub returns : goal.returns
+returns g c =
     let lawful = g.met.K.PartialEnum.lawful in
     let was =
     c.loop-piece.invariant.up_to lawful g.met.V.Eq.laws g.met.W.Eq.laws g.met.X.Eq.laws in
@@ -179,23 +177,10 @@ returns-clause-form g c =
     (c.loop-piece.invariant.first none.0))
     (nothing_listed part_item c.loop-piece.right c.loop-piece.others none.1
     (c.loop-piece.invariant.second none.1)) c.in_form.ensures c.in_form-2.ensures was.1 in
-    all.0
-
-pub returns-clause-combined : goal.returns-clause-combined
-returns-clause-combined g c =
-    let lawful = g.met.K.PartialEnum.lawful in
-    let was =
-    c.loop-piece.invariant.up_to lawful g.met.V.Eq.laws g.met.W.Eq.laws g.met.X.Eq.laws in
-    let none = rw c.in_default.is at c.first_piece.ensures in
-    let all =
-    combined_all g.K.MaybeBounded.order lawful g.V.PartialEq.eq g.met.V.Eq.laws g.W.PartialEq.eq
-    g.met.W.Eq.laws g.X.PartialEq.eq g.met.X.Eq.laws (MayAnswerBoth g.F.Fn c.args.f.now)
-    (g.C.Storage.items c.args.map.now) (g.D.Storage.items c.args.other.now) was.0
-    (option_items (option_map part_item c.loop-piece.left) ++ c.loop-piece.items)
-    (option_items (option_map part_item c.loop-piece.right) ++ c.loop-piece.others)
-    c.loop-piece.answers.items
-    (nothing_listed part_item c.loop-piece.left c.loop-piece.items none.0
-    (c.loop-piece.invariant.first none.0))
-    (nothing_listed part_item c.loop-piece.right c.loop-piece.others none.1
-    (c.loop-piece.invariant.second none.1)) c.in_form.ensures c.in_form-2.ensures was.1 in
-    all.1
+    record {
+      closure = search rules;
+      form =
+          all.0;
+      combined =
+          all.1;
+    }

@@ -1,4 +1,4 @@
-use Rattle.std.proofs.Common.{◌≡◌, ◌∙◌, ℕ, ◌+◌, ◌≤◌, ◌<◌, refl, sym, ap, subst, List, length, ◌++◌, ◌∷◌, [], arith}
+use Rattle.std.proofs.Common.{rules, ◌≡◌, ◌∙◌, ℕ, ◌+◌, ◌≤◌, ◌<◌, refl, sym, ap, subst, List, length, ◌++◌, ◌∷◌, [], arith}
 use Rattle.std.specs.List.{insert}
 use Rattle.std.specs.declared.ops.Bound.TheVariants.{Included}
 use Rattle.std.proofs.lemmas.List.{append_assoc, append-nil, length-append}
@@ -61,52 +61,51 @@ none_last : {X : Type 0} (front : List X) (last : X) → [] ≡ front ++ last �
 none_last [] last e = cc
 none_last (x ∷ front) last e = cc
 
-pub returns-then-starts_before-clause-list : goal.returns-then-starts_before-clause-list
-returns-then-starts_before-clause-list g c =
-    let items = g.C.Storage.items in
-    put_back (items c.loop-last.stored) (items c.pop_last.new.self)
-    (items c.insert_at-position.new.self) (items c.loop-last.others) (items c.loop-last.others)
-    (items c.args.stored.now) c.in-Some.last c.in-Some.ensures.list
-    c.insert_at-position.ensures.list refl c.loop-last.invariant.list
+pub returns-then-starts_before : goal.returns-then-starts_before
+returns-then-starts_before g c =
+    record {
+      list =
+          let items = g.C.Storage.items in
+          put_back (items c.loop-last.stored) (items c.pop_last.new.self)
+          (items c.insert_at-position.new.self) (items c.loop-last.others) (items c.loop-last.others)
+          (items c.args.stored.now) c.in-Some.last c.in-Some.ensures.list
+          c.insert_at-position.ensures.list refl c.loop-last.invariant.list;
+      room =
+          let room = g.C.Storage.room in
+          room_kept (length (g.C.Storage.items c.loop-last.others)) (room c.loop-last.stored)
+          (room c.pop_last.new.self) (room c.insert_at-position.new.self) c.loop-last.invariant.room
+          c.in-Some.ensures.space c.insert_at-position.ensures.space;
+      from =
+          c.loop-last.invariant.from;
+      below =
+          let order = g.K.MaybeBounded.order in
+          λ rest x ends. last_such (λ i. Lt (places order g.met.K.PartialEnum.lawful)
+          (item_lower order i) (start_position order (Included c.args.key.now)))
+          (g.C.Storage.items c.pop_last.new.self) (g.C.Storage.items c.insert_at-position.new.self)
+          rest c.in-Some.last x c.insert_at-position.ensures.list
+          (c.starts_before.ensures.0 c.if-starts_before.true) ends;
+    }
 
-pub returns-then-starts_before-clause-room : goal.returns-then-starts_before-clause-room
-returns-then-starts_before-clause-room g c =
-    let room = g.C.Storage.room in
-    room_kept (length (g.C.Storage.items c.loop-last.others)) (room c.loop-last.stored)
-    (room c.pop_last.new.self) (room c.insert_at-position.new.self) c.loop-last.invariant.room
-    c.in-Some.ensures.space c.insert_at-position.ensures.space
-
-pub returns-then-starts_before-clause-from : goal.returns-then-starts_before-clause-from
-returns-then-starts_before-clause-from g c = c.loop-last.invariant.from
-
-pub returns-then-starts_before-clause-below : goal.returns-then-starts_before-clause-below
-returns-then-starts_before-clause-below g c =
-    let order = g.K.MaybeBounded.order in
-    λ rest x ends. last_such (λ i. Lt (places order g.met.K.PartialEnum.lawful)
-    (item_lower order i) (start_position order (Included c.args.key.now)))
-    (g.C.Storage.items c.pop_last.new.self) (g.C.Storage.items c.insert_at-position.new.self)
-    rest c.in-Some.last x c.insert_at-position.ensures.list
-    (c.starts_before.ensures.0 c.if-starts_before.true) ends
-
-pub returns-then-is_err-clause-list : goal.returns-then-is_err-clause-list
-returns-then-is_err-clause-list g c =
-    let items = g.C.Storage.items in
-    put_back (items c.loop-last.stored) (items c.pop_last.new.self)
-    (items c.insert_at-position-then-is_err.new.self) (items c.loop-last.others)
-    (items c.reserve.new.self) (items c.args.stored.now) c.in-Some.last c.in-Some.ensures.list
-    c.insert_at-position-then-is_err.ensures.list c.reserve.ensures.list
-    c.loop-last.invariant.list
-
-pub returns-then-is_err-clause-room : goal.returns-then-is_err-clause-room
-returns-then-is_err-clause-room g c =
-    let room = g.C.Storage.room in
-    rw c.reserve.ensures.list (room_kept (length (g.C.Storage.items c.loop-last.others))
-    (room c.loop-last.stored) (room c.pop_last.new.self)
-    (room c.insert_at-position-then-is_err.new.self) c.loop-last.invariant.room
-    c.in-Some.ensures.space c.insert_at-position-then-is_err.ensures.space)
-
-pub returns-then-is_err-clause-from : goal.returns-then-is_err-clause-from
-returns-then-is_err-clause-from g c = rw c.reserve.ensures.list c.loop-last.invariant.from
+pub returns-then-is_err : goal.returns-then-is_err
+returns-then-is_err g c =
+    record {
+      below = search rules;
+      list =
+          let items = g.C.Storage.items in
+          put_back (items c.loop-last.stored) (items c.pop_last.new.self)
+          (items c.insert_at-position-then-is_err.new.self) (items c.loop-last.others)
+          (items c.reserve.new.self) (items c.args.stored.now) c.in-Some.last c.in-Some.ensures.list
+          c.insert_at-position-then-is_err.ensures.list c.reserve.ensures.list
+          c.loop-last.invariant.list;
+      room =
+          let room = g.C.Storage.room in
+          rw c.reserve.ensures.list (room_kept (length (g.C.Storage.items c.loop-last.others))
+          (room c.loop-last.stored) (room c.pop_last.new.self)
+          (room c.insert_at-position-then-is_err.new.self) c.loop-last.invariant.room
+          c.in-Some.ensures.space c.insert_at-position-then-is_err.ensures.space);
+      from =
+          rw c.reserve.ensures.list c.loop-last.invariant.from;
+    }
 
 pub loop-last-preserved : goal.loop-last-preserved
 loop-last-preserved g c =
@@ -168,18 +167,16 @@ insert_at-position-requires-then-is_err-clause-has_room g c =
     room_one (g.C.Storage.room c.loop-last.stored) (g.C.Storage.room c.pop_last.new.self)
     c.in-Some.ensures.space
 
-pub returns-clause-list : goal.returns-clause-list
-returns-clause-list g c =
-    rw c.in_default.ensures.list.1 (rw c.in_default.ensures.list.0 at c.loop-last.invariant.list)
-
-pub returns-clause-room : goal.returns-clause-room
-returns-clause-room g c =
-    room_left (length (g.C.Storage.items c.loop-last.others)) (g.C.Storage.room c.loop-last.stored)
-    (g.C.Storage.room c.pop_last.new.self) c.loop-last.invariant.room c.in_default.ensures.space
-
-pub returns-clause-from : goal.returns-clause-from
-returns-clause-from g c = c.loop-last.invariant.from
-
-pub returns-clause-below : goal.returns-clause-below
-returns-clause-below g c =
-    λ front last ends. absurd (none_last front last (rw c.in_default.ensures.list.1 at ends))
+pub returns : goal.returns
+returns g c =
+    record {
+      list =
+          rw c.in_default.ensures.list.1 (rw c.in_default.ensures.list.0 at c.loop-last.invariant.list);
+      room =
+          room_left (length (g.C.Storage.items c.loop-last.others)) (g.C.Storage.room c.loop-last.stored)
+          (g.C.Storage.room c.pop_last.new.self) c.loop-last.invariant.room c.in_default.ensures.space;
+      from =
+          c.loop-last.invariant.from;
+      below =
+          λ front last ends. absurd (none_last front last (rw c.in_default.ensures.list.1 at ends));
+    }

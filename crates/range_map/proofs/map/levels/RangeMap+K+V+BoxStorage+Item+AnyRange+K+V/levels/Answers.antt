@@ -1,10 +1,14 @@
+use Rattle.std.proofs.Common.{rules}
 use Rattle.range_map.proofs.map.levels.RangeMap+K+V+BoxStorage+Item+AnyRange+K+V.levels.Goals as goal
 
-pub returns-clause-empty : goal.returns-clause-empty
-returns-clause-empty g c = rw (← c.self.view_is) c.levels.ensures.empty
-
-pub returns-clause-least : goal.returns-clause-least
-returns-clause-least g c = rw (← c.self.view_is) c.levels.ensures.least
-
-pub returns-clause-most : goal.returns-clause-most
-returns-clause-most g c = rw (← c.self.view_is) c.levels.ensures.most
+pub returns : goal.returns
+returns g c =
+    record {
+      value = search rules;
+      empty =
+          rw (← c.self.view_is) c.levels.ensures.empty;
+      least =
+          rw (← c.self.view_is) c.levels.ensures.least;
+      most =
+          rw (← c.self.view_is) c.levels.ensures.most;
+    }
