@@ -11,8 +11,11 @@ invariant_of-result g c =
 pub returns-clause-nonempty : goal.returns-clause-nonempty
 returns-clause-nonempty g c = invariant_of-result g c
 
-pub clone-requires-clause-keys : goal.clone-requires-clause-keys
-clone-requires-clause-keys g c = c.requires.keys
-
-pub clone-requires-clause-values : goal.clone-requires-clause-values
-clone-requires-clause-values g c = g.met.S.SetMut.clones_equal c.requires.values
+pub clone-requires : goal.clone-requires
+clone-requires g c =
+    record {
+      keys =
+          c.requires.keys;
+      values =
+          g.met.S.SetMut.clones_equal c.requires.values;
+    }

@@ -1,4 +1,4 @@
-use Rattle.std.proofs.Common.{refl, subst, IsTrue}
+use Rattle.std.proofs.Common.{rules, refl, subst, IsTrue}
 use Rattle.range_change.specs.Answers.{IsAsAnswered}
 use Rattle.range_sets.specs.Members.{HasAlso, among}
 use Rattle.range_sets.specs.Pairs.{HasPair}
@@ -21,6 +21,7 @@ returns g c =
     let next_once = c.stored_lists_bind_once.ensures next c.update.ensures.form in
     let now = not_refused c.update.result c.update.ensures.rebound c.in_default.not-Err in
     record {
+      refused = search rules;
       added =
           rw (← c.self.view_is) (added order same equal has respects _ items next
           (g.R.AsRange.range c.args.range) now g.met.K.PartialEnum.lawful once next_once
@@ -64,7 +65,6 @@ returns g c =
           c.update.ensures.only;
       empty_unchanged =
           rw (← c.self.view_is) c.update.ensures.empty_unchanged;
-      refused = search rules;
       empty =
           λ empty. refl;
     }
@@ -79,18 +79,18 @@ invariant_of-self-2 g c =
     (not_refused c.update.result c.update.ensures.updated c.in_default.not-Err)
     (λ old answer m. m.says.1.1.0) c.self.invariant done.empty_unchanged
 
-pub update-requires : goal.update-requires
-update-requires g c =
-    record {
-      keys =
-          c.requires.keys;
-      values =
-          g.met.S.SetMut.clones_equal c.requires.values;
-      free =
-          λ shown shows. c.requires.values;
-      bound =
-          every_one _ (g.C.Storage.items c.self.inside.map) (λ i shown shows. c.requires.values);
-    }
+pub update-requires-clause-keys : goal.update-requires-clause-keys
+update-requires-clause-keys g c = c.requires.keys
+
+pub update-requires-clause-values : goal.update-requires-clause-values
+update-requires-clause-values g c = g.met.S.SetMut.clones_equal c.requires.values
+
+pub update-requires-clause-free : goal.update-requires-clause-free
+update-requires-clause-free g c = λ shown shows. c.requires.values
+
+pub update-requires-clause-bound : goal.update-requires-clause-bound
+update-requires-clause-bound g c =
+    every_one _ (g.C.Storage.items c.self.inside.map) (λ i shown shows. c.requires.values)
 
 pub returns-in-Err : goal.returns-in-Err
 returns-in-Err g c =
@@ -115,7 +115,6 @@ returns-in-Err g c =
           c.update.ensures.only;
       refused =
           rw (← c.self.view_is) c.in-Err.ensures.refused;
-      refused = search rules;
       empty =
           c.in-Err.ensures.empty;
       empty_unchanged =

@@ -1,4 +1,4 @@
-use Rattle.std.proofs.Common.{refl, subst, IsTrue}
+use Rattle.std.proofs.Common.{rules, refl, subst, IsTrue}
 use Rattle.std.specs.Prelude.{IfSome}
 use Rattle.range_change.specs.Answers.{IsAsAnswered}
 use Rattle.range_sets.specs.Members.{HasAllBut, among}
@@ -8,8 +8,8 @@ use Rattle.range_sets.proofs.Keeping.{removed_is_not_had, gave_way_to_such}
 use Rattle.range_sets.proofs.Pairing.{removed, values_at, full_some, stay_bound, stays_full, not_refused}
 use Rattle.range_sets.proofs.multimap.RangeMultiMap.remove.Goals as goal
 
-pub returns-clause-removed : goal.returns-clause-removed
-returns-clause-removed g c =
+pub returns : goal.returns
+returns g c =
     let items = g.C.Storage.items c.self.inside.map in
     let next = g.C.Storage.items c.update.new.self in
     let order = g.K.MaybeBounded.order in
@@ -21,74 +21,62 @@ returns-clause-removed g c =
     let once = c.stored_lists_bind_once.ensures items form in
     let next_once = c.stored_lists_bind_once.ensures next c.update.ensures.form in
     let now = not_refused c.update.result c.update.ensures.rebound c.in_default.not-Err in
-    rw (← c.self.view_is) (removed order same equal has respects _ items next
-    (g.R.AsRange.range c.args.range) now g.met.K.PartialEnum.lawful once next_once
-    g.V.PartialEq.eq c.args.value.now
-    (λ old answer m.
-    subst (λ o. HasAllBut has g.V.PartialEq.eq o answer c.args.value.now) m.shows m.says.1.0))
-
-pub returns-clause-kept : goal.returns-clause-kept
-returns-clause-kept g c =
-    let items = g.C.Storage.items c.self.inside.map in
-    let next = g.C.Storage.items c.update.new.self in
-    let order = g.K.MaybeBounded.order in
-    let same = g.S.PartialEq.eq in
-    let equal = g.met.S.Eq.laws in
-    let has = g.S.SetMut.has in
-    let respects = g.met.S.SetMut.equal_same in
-    let form = rw (← c.self.view_is) at c.in_form.ensures.form in
-    let once = c.stored_lists_bind_once.ensures items form in
-    let next_once = c.stored_lists_bind_once.ensures next c.update.ensures.form in
-    let now = not_refused c.update.result c.update.ensures.rebound c.in_default.not-Err in
-    rw (← c.self.view_is) (stay_bound order same equal has respects _ items next
-    (g.R.AsRange.range c.args.range) now g.met.K.PartialEnum.lawful once next_once
-    (λ k. ¬ HasPair order has items k c.args.value.now)
-    (λ k key here old answer was m.
-    subst (λ o. IfSome o (λ s. ¬ g.S.MaybeEmpty.is_void s) → ¬ IsTrue (among has o c.args.value.now)
-    → IsAsAnswered same o answer) m.shows m.says.1.1.1
-    (full_some order same equal g.S.MaybeEmpty.is_void g.met.S.MaybeEmpty.void_equal k items
-    c.self.invariant old was)
-    (λ h.
-    here
-    ((values_at order same equal has respects k items old (once k key) was c.args.value.now).1
-    h))))
-
-pub returns-clause-others : goal.returns-clause-others
-returns-clause-others g c =
-    let now = not_refused c.update.result c.update.ensures.rebound c.in_default.not-Err in
-    rw (← c.self.view_is) now.others
-
-pub returns-clause-frame : goal.returns-clause-frame
-returns-clause-frame g c =
-    let items = g.C.Storage.items c.self.inside.map in
-    let next = g.C.Storage.items c.update.new.self in
-    let same = g.S.PartialEq.eq in
-    let has = g.S.SetMut.has in
-    let value = c.args.value.now in
-    let done = not_refused c.update.result c.update.ensures.updated c.in_default.not-Err in
-    rw (← c.self.view_is) (λ nonempty. gave_way_to_such g.K.MaybeBounded.order same _ _
-    (λ s. ¬ IsTrue (has s value))
-    (λ old answer m s. removed_is_not_had same has g.met.S.SetMut.equal_same g.V.PartialEq.eq
-    g.met.V.Eq.laws value _ answer s m.says.1.0)
-    items next (g.R.AsRange.range c.args.range) (done nonempty))
-
-pub returns-clause-spelled : goal.returns-clause-spelled
-returns-clause-spelled g c =
-    rw (← c.self.view_is)
-    (not_refused c.update.result c.update.ensures.spelled c.in_default.not-Err)
+    record {
+      refused = search rules;
+      removed =
+          rw (← c.self.view_is) (removed order same equal has respects _ items next
+          (g.R.AsRange.range c.args.range) now g.met.K.PartialEnum.lawful once next_once
+          g.V.PartialEq.eq c.args.value.now
+          (λ old answer m.
+          subst (λ o. HasAllBut has g.V.PartialEq.eq o answer c.args.value.now) m.shows m.says.1.0));
+      kept =
+          rw (← c.self.view_is) (stay_bound order same equal has respects _ items next
+          (g.R.AsRange.range c.args.range) now g.met.K.PartialEnum.lawful once next_once
+          (λ k. ¬ HasPair order has items k c.args.value.now)
+          (λ k key here old answer was m.
+          subst (λ o. IfSome o (λ s. ¬ g.S.MaybeEmpty.is_void s) → ¬ IsTrue (among has o c.args.value.now)
+          → IsAsAnswered same o answer) m.shows m.says.1.1.1
+          (full_some order same equal g.S.MaybeEmpty.is_void g.met.S.MaybeEmpty.void_equal k items
+          c.self.invariant old was)
+          (λ h.
+          here
+          ((values_at order same equal has respects k items old (once k key) was c.args.value.now).1
+          h))));
+      others =
+          rw (← c.self.view_is) now.others;
+      frame =
+          let value = c.args.value.now in
+          let done = not_refused c.update.result c.update.ensures.updated c.in_default.not-Err in
+          rw (← c.self.view_is) (λ nonempty. gave_way_to_such g.K.MaybeBounded.order same _ _
+          (λ s. ¬ IsTrue (has s value))
+          (λ old answer m s. removed_is_not_had same has g.met.S.SetMut.equal_same g.V.PartialEq.eq
+          g.met.V.Eq.laws value _ answer s m.says.1.0)
+          items next (g.R.AsRange.range c.args.range) (done nonempty));
+      spelled =
+          rw (← c.self.view_is)
+          (not_refused c.update.result c.update.ensures.spelled c.in_default.not-Err);
+      nonempty =
+          let done = c.update.ensures in
+          stays_full g.K.MaybeBounded.order g.S.PartialEq.eq g.met.S.Eq.laws g.S.MaybeEmpty.is_void
+          g.met.S.MaybeEmpty.void_equal _ _
+          (g.C.Storage.items c.self.inside.map) (g.C.Storage.items c.update.new.self)
+          (g.R.AsRange.range c.args.range)
+          (not_refused c.update.result c.update.ensures.updated c.in_default.not-Err)
+          (λ old answer m. m.says.1.1.0) c.self.invariant done.empty_unchanged;
+      form =
+          c.update.ensures.form;
+      coarse =
+          c.update.ensures.coarse;
+      only =
+          c.update.ensures.only;
+      empty_unchanged =
+          rw (← c.self.view_is) c.update.ensures.empty_unchanged;
+      empty =
+          λ empty. refl;
+    }
 
 pub invariant_of-self-2 : goal.invariant_of-self-2
 invariant_of-self-2 g c =
-    let done = c.update.ensures in
-    stays_full g.K.MaybeBounded.order g.S.PartialEq.eq g.met.S.Eq.laws g.S.MaybeEmpty.is_void
-    g.met.S.MaybeEmpty.void_equal _ _
-    (g.C.Storage.items c.self.inside.map) (g.C.Storage.items c.update.new.self)
-    (g.R.AsRange.range c.args.range)
-    (not_refused c.update.result c.update.ensures.updated c.in_default.not-Err)
-    (λ old answer m. m.says.1.1.0) c.self.invariant done.empty_unchanged
-
-pub returns-clause-nonempty : goal.returns-clause-nonempty
-returns-clause-nonempty g c =
     let done = c.update.ensures in
     stays_full g.K.MaybeBounded.order g.S.PartialEq.eq g.met.S.Eq.laws g.S.MaybeEmpty.is_void
     g.met.S.MaybeEmpty.void_equal _ _
@@ -110,58 +98,34 @@ pub update-requires-clause-bound : goal.update-requires-clause-bound
 update-requires-clause-bound g c =
     every_one _ (g.C.Storage.items c.self.inside.map) (λ i shown shows. c.requires.values)
 
-pub returns-clause-form : goal.returns-clause-form
-returns-clause-form g c = c.update.ensures.form
-
-pub returns-clause-coarse : goal.returns-clause-coarse
-returns-clause-coarse g c = c.update.ensures.coarse
-
-pub returns-clause-only : goal.returns-clause-only
-returns-clause-only g c = c.update.ensures.only
-
-pub returns-clause-empty_unchanged : goal.returns-clause-empty_unchanged
-returns-clause-empty_unchanged g c = rw (← c.self.view_is) c.update.ensures.empty_unchanged
-
-pub returns-clause-empty : goal.returns-clause-empty
-returns-clause-empty g c = λ empty. refl
-
-pub returns-in-Err-clause-removed : goal.returns-in-Err-clause-removed
-returns-in-Err-clause-removed g c = tt
-
-pub returns-in-Err-clause-kept : goal.returns-in-Err-clause-kept
-returns-in-Err-clause-kept g c =
-    rw (← c.self.view_is, c.in-Err.ensures.refused) (λ k key here b. (λ h. h, λ h. h))
-
-pub returns-in-Err-clause-others : goal.returns-in-Err-clause-others
-returns-in-Err-clause-others g c =
-    rw (← c.self.view_is, c.in-Err.ensures.refused) (λ k key out b. (λ h. h, λ h. h))
-
-pub returns-in-Err-clause-frame : goal.returns-in-Err-clause-frame
-returns-in-Err-clause-frame g c = tt
-
-pub returns-in-Err-clause-spelled : goal.returns-in-Err-clause-spelled
-returns-in-Err-clause-spelled g c = tt
-
-pub returns-in-Err-clause-form : goal.returns-in-Err-clause-form
-returns-in-Err-clause-form g c = c.update.ensures.form
-
-pub returns-in-Err-clause-nonempty : goal.returns-in-Err-clause-nonempty
-returns-in-Err-clause-nonempty g c = rw c.in-Err.ensures.refused c.self.invariant
-
-pub returns-in-Err-clause-coarse : goal.returns-in-Err-clause-coarse
-returns-in-Err-clause-coarse g c = c.update.ensures.coarse
-
-pub returns-in-Err-clause-only : goal.returns-in-Err-clause-only
-returns-in-Err-clause-only g c = c.update.ensures.only
-
-pub returns-in-Err-clause-refused : goal.returns-in-Err-clause-refused
-returns-in-Err-clause-refused g c = rw (← c.self.view_is) c.in-Err.ensures.refused
-
-pub returns-in-Err-clause-empty : goal.returns-in-Err-clause-empty
-returns-in-Err-clause-empty g c = c.in-Err.ensures.empty
-
-pub returns-in-Err-clause-empty_unchanged : goal.returns-in-Err-clause-empty_unchanged
-returns-in-Err-clause-empty_unchanged g c = rw (← c.self.view_is) c.update.ensures.empty_unchanged
+pub returns-in-Err : goal.returns-in-Err
+returns-in-Err g c =
+    record {
+      removed =
+          tt;
+      kept =
+          rw (← c.self.view_is, c.in-Err.ensures.refused) (λ k key here b. (λ h. h, λ h. h));
+      others =
+          rw (← c.self.view_is, c.in-Err.ensures.refused) (λ k key out b. (λ h. h, λ h. h));
+      frame =
+          tt;
+      spelled =
+          tt;
+      form =
+          c.update.ensures.form;
+      nonempty =
+          rw c.in-Err.ensures.refused c.self.invariant;
+      coarse =
+          c.update.ensures.coarse;
+      only =
+          c.update.ensures.only;
+      refused =
+          rw (← c.self.view_is) c.in-Err.ensures.refused;
+      empty =
+          c.in-Err.ensures.empty;
+      empty_unchanged =
+          rw (← c.self.view_is) c.update.ensures.empty_unchanged;
+    }
 
 pub invariant_of-self : goal.invariant_of-self
 invariant_of-self g c = rw c.in-Err.ensures.refused c.self.invariant

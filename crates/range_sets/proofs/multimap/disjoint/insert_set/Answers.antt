@@ -1,3 +1,4 @@
+use Rattle.std.proofs.Common.{rules}
 use Rattle.range_sets.proofs.Filled.{inserted_full}
 use Rattle.range_sets.proofs.multimap.disjoint.insert_set.Goals as goal
 
@@ -10,17 +11,22 @@ invariant_of-multimap g c =
     c.insert_disjoint.result c.requires.nonempty c.multimap.invariant done.met_unchanged
     done.frame done.refused done.empty_unchanged
 
-pub returns-clause-nonempty : goal.returns-clause-nonempty
-returns-clause-nonempty g c = invariant_of-multimap g c
-
-pub returns-clause-meets : goal.returns-clause-meets
-returns-clause-meets g c = rw (← c.multimap.view_is) c.insert_disjoint.ensures.meets
-
-pub returns-clause-met : goal.returns-clause-met
-returns-clause-met g c = rw (← c.multimap.view_is) c.insert_disjoint.ensures.met
-
-pub returns-clause-bound : goal.returns-clause-bound
-returns-clause-bound g c = rw (← c.multimap.view_is) c.insert_disjoint.ensures.bound
-
-pub returns-clause-frame : goal.returns-clause-frame
-returns-clause-frame g c = rw (← c.multimap.view_is) c.insert_disjoint.ensures.frame
+pub returns : goal.returns
+returns g c =
+    record {
+      met_unchanged = search rules;
+      form = search rules;
+      refused = search rules;
+      empty = search rules;
+      empty_unchanged = search rules;
+      nonempty =
+          invariant_of-multimap g c;
+      meets =
+          rw (← c.multimap.view_is) c.insert_disjoint.ensures.meets;
+      met =
+          rw (← c.multimap.view_is) c.insert_disjoint.ensures.met;
+      bound =
+          rw (← c.multimap.view_is) c.insert_disjoint.ensures.bound;
+      frame =
+          rw (← c.multimap.view_is) c.insert_disjoint.ensures.frame;
+    }

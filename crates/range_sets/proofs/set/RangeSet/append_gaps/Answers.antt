@@ -5,25 +5,30 @@ use Rattle.range_sets.proofs.Complementing.{gaps_stored}
 use Rattle.range_sets.proofs.Filling.{filling_begins, clone_same, next_gap_fits, filled_more, all_copied, others_held}
 use Rattle.range_sets.proofs.set.RangeSet.append_gaps.Goals as goal
 
-pub append-requires-clause-form : goal.append-requires-clause-form
-append-requires-clause-form g c =
-    let order = g.T.MaybeBounded.order in
-    let lawful = g.met.T.PartialEnum.lawful in
-    let items = g.C.Storage.items in
-    let equal = λ (x : g.row.T.Denot) (y : g.row.T.Denot) (h : g.T.Clone.is_clone x y).
-    sym (g.met.T.MaybeBounded.order_is_cmp x y)
-    ∙ (Equal-is (g.T.Ord.cmp x y)).0
-    (sym (g.met.T.Ord.matches_eq x y) ∙ c.requires.clones x y h) in
-    let gap = range_of c.in-Some.gap in
-    let range = c.in_ok-range.range in
-    let same = clone_same order lawful g.T.Clone.is_clone equal gap range c.in_ok-range.ensures in
-    let form =
-    gaps_stored order lawful (λ _ _. true)
-    (items c.args.self.now) c.gaps-gaps.result c.in_form.ensures c.gaps-gaps.ensures.gaps in
-    next_gap_fits order lawful c.gaps-gaps.result c.loop-gap.gaps c.next.new.self
-    (items c.loop-gap.others)
-    (g.C.Storage.room c.loop-gap.others) gap range form c.loop-gap.invariant
-    c.in-Some.ensures.steps c.known.ensures same
+pub append-requires : goal.append-requires
+append-requires g c =
+    record {
+      form =
+          let order = g.T.MaybeBounded.order in
+          let lawful = g.met.T.PartialEnum.lawful in
+          let items = g.C.Storage.items in
+          let equal = λ (x : g.row.T.Denot) (y : g.row.T.Denot) (h : g.T.Clone.is_clone x y).
+          sym (g.met.T.MaybeBounded.order_is_cmp x y)
+          ∙ (Equal-is (g.T.Ord.cmp x y)).0
+          (sym (g.met.T.Ord.matches_eq x y) ∙ c.requires.clones x y h) in
+          let gap = range_of c.in-Some.gap in
+          let range = c.in_ok-range.range in
+          let same = clone_same order lawful g.T.Clone.is_clone equal gap range c.in_ok-range.ensures in
+          let form =
+          gaps_stored order lawful (λ _ _. true)
+          (items c.args.self.now) c.gaps-gaps.result c.in_form.ensures c.gaps-gaps.ensures.gaps in
+          next_gap_fits order lawful c.gaps-gaps.result c.loop-gap.gaps c.next.new.self
+          (items c.loop-gap.others)
+          (g.C.Storage.room c.loop-gap.others) gap range form c.loop-gap.invariant
+          c.in-Some.ensures.steps c.known.ensures same;
+      room =
+          search rules;
+    }
 
 pub loop-gap-preserved : goal.loop-gap-preserved
 loop-gap-preserved g c =
@@ -46,16 +51,23 @@ loop-gap-preserved g c =
     (room c.append.new.map) gap range form c.loop-gap.invariant c.in-Some.ensures.steps
     c.known.ensures same c.append.ensures.list c.append.ensures.space
 
-pub returns-clause-held : goal.returns-clause-held
-returns-clause-held g c =
-    let order = g.T.MaybeBounded.order in
-    let items = g.C.Storage.items in
-    let zip =
-    all_copied order c.gaps-gaps.result c.loop-gap.gaps (items c.loop-gap.others)
-    (g.C.Storage.room c.loop-gap.others) c.loop-gap.invariant c.in_default.ensures.steps.0
-    in
-    others_held order g.met.T.PartialEnum.lawful (items c.args.self.now)
-    (items c.loop-gap.others) c.gaps-gaps.result zip c.gaps-gaps.ensures.once
+pub returns : goal.returns
+returns g c =
+    record {
+      held =
+          let order = g.T.MaybeBounded.order in
+          let items = g.C.Storage.items in
+          let zip =
+          all_copied order c.gaps-gaps.result c.loop-gap.gaps (items c.loop-gap.others)
+          (g.C.Storage.room c.loop-gap.others) c.loop-gap.invariant c.in_default.ensures.steps.0
+          in
+          others_held order g.met.T.PartialEnum.lawful (items c.args.self.now)
+          (items c.loop-gap.others) c.gaps-gaps.result zip c.gaps-gaps.ensures.once;
+      gaps =
+          search rules;
+      form =
+          search rules;
+    }
 
 pub loop-gap-init : goal.loop-gap-init
 loop-gap-init g c =
@@ -63,14 +75,5 @@ loop-gap-init g c =
     (g.C.Storage.room c.args.others.now) c.requires.empty
     (omega (arith, c.requires.room, c.gaps-gaps.ensures.few))
 
-pub returns-clause-gaps : goal.returns-clause-gaps
-returns-clause-gaps g c = search rules
-
-pub returns-clause-form : goal.returns-clause-form
-returns-clause-form g c = search rules
-
 pub loop-gap-smaller : goal.loop-gap-smaller
 loop-gap-smaller g c = search rules
-
-pub append-requires-clause-room : goal.append-requires-clause-room
-append-requires-clause-room g c = search rules

@@ -2,30 +2,29 @@ use Rattle.std.proofs.Common.{◌∙◌}
 use Rattle.range_sets.proofs.Likeness.{held_bound, compared_sets}
 use Rattle.range_sets.proofs.set.RangeSet.cmp_across.Goals as goal
 
-pub returns-clause-value : goal.returns-clause-value
-returns-clause-value g c =
-    rw (← c.self.view_is, ← c.other.view_is)
-    (c.cmp_across.ensures.value
-    ∙ compared_sets g.T.MaybeBounded.order (g.C.Storage.items c.self.inside.map)
-    (g.D.Storage.items c.other.inside.map))
-
-pub returns-clause-same : goal.returns-clause-same
-returns-clause-same g c =
-    let alike =
-    held_bound g.T.MaybeBounded.order (g.C.Storage.items c.self.inside.map)
-    (g.D.Storage.items c.other.inside.map) in
-    rw (← c.self.view_is, ← c.other.view_is)
-    (λ complete. (
-      λ equal. alike.1 ((c.cmp_across.ensures.same complete).0 equal),
-      λ held. (c.cmp_across.ensures.same complete).1 (alike.0 held),
-    ))
-
-pub returns-clause-alike : goal.returns-clause-alike
-returns-clause-alike g c =
-    let order = g.T.MaybeBounded.order in
-    rw (← c.self.view_is, ← c.other.view_is)
-    (λ complete items others stored stored' alike alike'.
-    c.cmp_across.ensures.alike complete items others stored stored'
-    ((held_bound order (g.C.Storage.items c.self.inside.map) items).0 alike)
-    ((held_bound order (g.D.Storage.items c.other.inside.map) others).0 alike')
-    ∙ compared_sets order items others)
+pub returns : goal.returns
+returns g c =
+    record {
+      value =
+          rw (← c.self.view_is, ← c.other.view_is)
+          (c.cmp_across.ensures.value
+          ∙ compared_sets g.T.MaybeBounded.order (g.C.Storage.items c.self.inside.map)
+          (g.D.Storage.items c.other.inside.map));
+      same =
+          let alike =
+          held_bound g.T.MaybeBounded.order (g.C.Storage.items c.self.inside.map)
+          (g.D.Storage.items c.other.inside.map) in
+          rw (← c.self.view_is, ← c.other.view_is)
+          (λ complete. (
+            λ equal. alike.1 ((c.cmp_across.ensures.same complete).0 equal),
+            λ held. (c.cmp_across.ensures.same complete).1 (alike.0 held),
+          ));
+      alike =
+          let order = g.T.MaybeBounded.order in
+          rw (← c.self.view_is, ← c.other.view_is)
+          (λ complete items others stored stored' alike alike'.
+          c.cmp_across.ensures.alike complete items others stored stored'
+          ((held_bound order (g.C.Storage.items c.self.inside.map) items).0 alike)
+          ((held_bound order (g.D.Storage.items c.other.inside.map) others).0 alike')
+          ∙ compared_sets order items others);
+    }

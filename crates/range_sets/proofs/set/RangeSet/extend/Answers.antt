@@ -32,23 +32,27 @@ loop-range-preserved g c =
       form = c.insert.ensures.form;
     }
 
-pub returns-clause-added : goal.returns-clause-added
-returns-clause-added g c = search rules
+pub returns : goal.returns
+returns g c =
+    record {
+      added =
+          search rules;
+      refused =
+          search rules;
+      form =
+          search rules;
+    }
 
-pub returns-clause-refused : goal.returns-clause-refused
-returns-clause-refused g c = search rules
-
-pub returns-clause-form : goal.returns-clause-form
-returns-clause-form g c = search rules
-
-pub returns-in_err-insert-clause-added : goal.returns-in_err-insert-clause-added
-returns-in_err-insert-clause-added g c = search rules
-
-pub returns-in_err-insert-clause-refused : goal.returns-in_err-insert-clause-refused
-returns-in_err-insert-clause-refused g c = search rules
-
-pub returns-in_err-insert-clause-form : goal.returns-in_err-insert-clause-form
-returns-in_err-insert-clause-form g c = search rules
+pub returns-in_err-insert : goal.returns-in_err-insert
+returns-in_err-insert g c =
+    record {
+      added =
+          search rules;
+      refused =
+          search rules;
+      form =
+          search rules;
+    }
 
 pub insert-requires : goal.insert-requires
 insert-requires g c = search rules

@@ -1,8 +1,11 @@
 use Rattle.std.proofs.Common.{rules}
 use Rattle.range_sets.proofs.set.RangeSet.len.Goals as goal
 
-pub returns-clause-measure : goal.returns-clause-measure
-returns-clause-measure g c = search rules
-
-pub returns-clause-counted : goal.returns-clause-counted
-returns-clause-counted g c = search rules
+pub returns : goal.returns
+returns g c =
+    record {
+      measure =
+          search rules;
+      counted =
+          search rules;
+    }

@@ -12,18 +12,20 @@ retain-requires g c =
     (λ s a r t i e. let made : Called g.F.FnMut s.0 (a.0, tt) r t.0 = search (rules, of_calls) in
     mut_next g.F.FnMut s.0 (a.0, tt) r t.0 t.0 made refl i) _ c.requires
 
-pub returns-clause-filtered : goal.returns-clause-filtered
-returns-clause-filtered g c =
+pub returns : goal.returns
+returns g c =
     let items = g.C.Storage.items in
-    rw (← c.self.view_is) (ranges_filtered (λ s. s.0) _ (CalledAt g.F.FnMut)
-    (λ s i b t h. record {
-      shown = h.range;
-      shows = ap (λ i. i.key) h.shows;
-      called = search (rules, of_calls);
-    }) _ (items c.self.inside.map) (items c.retain.new.self) c.retain.ensures.filtered)
-
-pub returns-clause-kept : goal.returns-clause-kept
-returns-clause-kept g c =
-    let items = g.C.Storage.items in
-    rw (← c.self.view_is) (still_held g.T.MaybeBounded.order g.met.T.PartialEnum.lawful
-    (λ _ _. true) (λ _ _. refl) (items c.self.inside.map) (items c.retain.new.self) c.retain.ensures.kept)
+    record {
+      form = search rules;
+      few = search rules;
+      filtered =
+          rw (← c.self.view_is) (ranges_filtered (λ s. s.0) _ (CalledAt g.F.FnMut)
+          (λ s i b t h. record {
+            shown = h.range;
+            shows = ap (λ i. i.key) h.shows;
+            called = search (rules, of_calls);
+          }) _ (items c.self.inside.map) (items c.retain.new.self) c.retain.ensures.filtered);
+      kept =
+          rw (← c.self.view_is) (still_held g.T.MaybeBounded.order g.met.T.PartialEnum.lawful
+          (λ _ _. true) (λ _ _. refl) (items c.self.inside.map) (items c.retain.new.self) c.retain.ensures.kept);
+    }

@@ -3,19 +3,20 @@ use Rattle.std.specs.List.{fold}
 use Rattle.range_sets.proofs.Likeness.{held_bound, hashed_sets}
 use Rattle.range_sets.proofs.set.compare.RangeSetHash.hash.Goals as goal
 
-pub returns-clause-value : goal.returns-clause-value
-returns-clause-value g c =
-    rw (← c.self.view_is) (c.hash.ensures.value
-    ∙ ap (fold g.H.Hasher.write c.args.state.now)
-    (hashed_sets g.T.MaybeBounded.order g.T.Hash.hash_input
-    (g.C.Storage.items c.self.inside.map)))
-
-pub returns-clause-same : goal.returns-clause-same
-returns-clause-same g c =
-    let order = g.T.MaybeBounded.order in
-    rw (← c.self.view_is)
-    (λ complete others stored alike.
-    c.hash.ensures.same complete others stored
-    ((held_bound order (g.C.Storage.items c.self.inside.map) others).0 alike)
-    ∙ ap (fold g.H.Hasher.write c.args.state.now)
-    (hashed_sets order g.T.Hash.hash_input others))
+pub returns : goal.returns
+returns g c =
+    record {
+      value =
+          rw (← c.self.view_is) (c.hash.ensures.value
+          ∙ ap (fold g.H.Hasher.write c.args.state.now)
+          (hashed_sets g.T.MaybeBounded.order g.T.Hash.hash_input
+          (g.C.Storage.items c.self.inside.map)));
+      same =
+          let order = g.T.MaybeBounded.order in
+          rw (← c.self.view_is)
+          (λ complete others stored alike.
+          c.hash.ensures.same complete others stored
+          ((held_bound order (g.C.Storage.items c.self.inside.map) others).0 alike)
+          ∙ ap (fold g.H.Hasher.write c.args.state.now)
+          (hashed_sets order g.T.Hash.hash_input others));
+    }

@@ -1,8 +1,11 @@
 use Rattle.std.proofs.Common.{rules}
 use Rattle.range_sets.proofs.set.iter.IterIterator.next.Goals as goal
 
-pub returns-clause-steps : goal.returns-clause-steps
-returns-clause-steps g c = search rules
-
-pub returns-clause-goes : goal.returns-clause-goes
-returns-clause-goes g c = search rules
+pub returns : goal.returns
+returns g c =
+    record {
+      steps =
+          search rules;
+      goes =
+          search rules;
+    }
