@@ -72,6 +72,7 @@ pub use Rattle.range_sets.specs.Multimaps
 pub use Rattle.range_sets.specs.Pairs
 pub use Rattle.range_sets.specs.Reads as SetReads
 pub use Rattle.range_commands.specs.Runs
+pub use Rattle.range_sets.specs.SetLaws
 pub use Rattle.range_sets.specs.SetOrder
 pub use Rattle.range_sets.specs.SetTexts
 pub use Rattle.range_sets.specs.TwoSets

@@ -23,13 +23,13 @@ same_test false true f g = f.1 (g.0 refl)
 same_test false false f g = refl
 
 -- a test of whether it is so, or not
-decided : {P : Type 0} → P ⊎ (¬ P) → (b : Bool) × (IsTrue b ↔ P)
+pub decided : {P : Type 0} → P ⊎ (¬ P) → (b : Bool) × (IsTrue b ↔ P)
 decided (inl is) = (true, (λ e. is, λ h. refl))
 decided (inr other) = (false, (λ e. absurd (cc), λ h. absurd (other h)))
 
 -- by truth values: of an or, an and, an and with not, and a difference of two facts
 module _ {A B N : Type 0} where
-  either_is : (a b : Bool) → (IsTrue a ↔ A) → (IsTrue b ↔ B) → (IsTrue (a || b) ↔ N)
+  pub either_is : (a b : Bool) → (IsTrue a ↔ A) → (IsTrue b ↔ B) → (IsTrue (a || b) ↔ N)
       → N ↔ (A ⊎ B)
   either_is true b f g n = (λ h. inl (f.0 refl), λ h. n.0 refl)
   either_is false true f g n = (λ h. inr (g.0 refl), λ h. n.0 refl)
@@ -38,7 +38,7 @@ module _ {A B N : Type 0} where
     λ h. elim h [ inl is ↦ n.0 (f.1 is) | inr is ↦ n.0 (g.1 is) ],
   )
 
-  both_are : (a b : Bool) → (IsTrue a ↔ A) → (IsTrue b ↔ B) → (IsTrue (a && b) ↔ N)
+  pub both_are : (a b : Bool) → (IsTrue a ↔ A) → (IsTrue b ↔ B) → (IsTrue (a && b) ↔ N)
       → N ↔ (A × B)
   both_are true b f g n = (λ h. (f.0 refl, g.0 (n.1 h)), λ h. n.0 (g.1 h.1))
   both_are false b f g n = (
@@ -46,7 +46,7 @@ module _ {A B N : Type 0} where
     λ h. n.0 (f.1 h.0),
   )
 
-  first_alone_is : (a b : Bool) → (IsTrue a ↔ A) → (IsTrue b ↔ B) → (IsTrue (a && not b) ↔ N)
+  pub first_alone_is : (a b : Bool) → (IsTrue a ↔ A) → (IsTrue b ↔ B) → (IsTrue (a && not b) ↔ N)
       → N ↔ (A × (¬ B))
   first_alone_is true true f g n = (
     λ h. let e : false ≡ true = n.1 h in absurd (cc),
@@ -61,7 +61,7 @@ module _ {A B N : Type 0} where
     λ h. n.0 (f.1 h.0),
   )
 
-  just_one_is : (a b : Bool) → (IsTrue a ↔ A) → (IsTrue b ↔ B) → (IsTrue (not (beq a b)) ↔ N)
+  pub just_one_is : (a b : Bool) → (IsTrue a ↔ A) → (IsTrue b ↔ B) → (IsTrue (not (beq a b)) ↔ N)
       → N ↔ ((A × (¬ B)) ⊎ ((¬ A) × B))
   just_one_is true true f g n = (
     λ h. let e : false ≡ true = n.1 h in absurd (cc),
@@ -130,7 +130,7 @@ module _ {K : Type 0} (order : KeyOrder K) where
       }
 
   module _ (lawful : IsLawful order) where
-    holds_or_not : (items : Items) (k : K) → HoldsKey order items k ⊎ (¬ HoldsKey order items k)
+    pub holds_or_not : (items : Items) (k : K) → HoldsKey order items k ⊎ (¬ HoldsKey order items k)
     holds_or_not [] k = inr (λ none. none)
     holds_or_not (i ∷ rest) k =
         elim (held_or_not order lawful i.key k) [

@@ -14,4 +14,5 @@ pub mod Matching
 pub mod Membership
 pub mod Pairing
 pub mod Retained
+pub mod SetLaws
 pub mod Showing

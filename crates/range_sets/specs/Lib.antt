@@ -9,6 +9,7 @@ pub mod Members
 pub mod Multimaps
 pub mod Pairs
 pub mod Reads
+pub mod SetLaws
 pub mod SetOrder
 pub mod SetTexts
 pub mod TwoSets

@@ -25,7 +25,10 @@ mod retain;
 mod text;
 mod try_insert;
 
-pub use crate::laws::complementing_twice_restores;
+pub use crate::laws::{
+    complementing_twice_restores, complements_exchange_union_and_intersection,
+    set_operations_associate, set_operations_commute, set_operations_distribute,
+};
 pub use into_iter::IntoIter;
 pub use iter::Iter;
 use range_algebra::any::AnyRange;
