@@ -1,5 +1,5 @@
 -- What is found of a range that meets no stored one.
-use Rattle.std.proofs.Common.{◌≡◌, ℕ, Bool, List, Option, None, arith}
+use Rattle.std.proofs.Common.{◌≡◌, ℕ, Bool, List, None, arith}
 use Rattle.range_keys.specs.Order.{KeyOrder}
 use Rattle.range_algebra.specs.declared.any.AnyRange.{AnyRange}
 use Rattle.range_store.specs.declared.storage.Item.{Item}

@@ -1,5 +1,5 @@
 -- What follows from the answers of tests and calls, and what contradicts them.
-use Rattle.std.proofs.Common.{◌≡◌, Bool, true, false, refl, Option, Some, Result, Ok, Err}
+use Rattle.std.proofs.Common.{◌≡◌, Bool, true, false, refl, Some, Result, Ok, Err}
 use Rattle.std.specs.Result.{IsErr}
 
 -- a test does not fail and hold

@@ -1,8 +1,8 @@
-use Rattle.std.proofs.Common.{◌≡◌, ◌+◌, ◌-◌, ◌≤◌, ap, ◌∙◌, arith, refl, None, length}
+use Rattle.std.proofs.Common.{◌≡◌, ◌+◌, ◌-◌, ap, ◌∙◌, arith, refl, None}
 use Rattle.range_change.specs.Edges.{joined_count, seam_edge}
 use Rattle.range_change.specs.Edits.{flipped_bound}
 use Rattle.range_change.proofs.CutParts.{known_turned, same_turned}
-use Rattle.range_change.proofs.Freeing.{seam_alike}
+use Rattle.range_change.proofs.Freeing.{left_alone, right_alone, seam_alike}
 use Rattle.range_change.proofs.Planned.{plan_fits, planned_count, planned_insert, planned_run}
 use Rattle.range_change.proofs.JoinedMiddle.{seam_count}
 use Rattle.range_change.proofs.Surrounded.{run_can_start, none_reach}
@@ -31,14 +31,14 @@ run_length-requires g c =
     let on_right : c.seam-right.result ≡ seam_edge joins.after None (flipped_bound r.end) =
     c.seam-right.ensures ∙ seam_alike joins.after _ _ in
     let left =
-    rw (← on_left) at
-    (rw none.0 at (c.requires.before lawful equal (flipped_bound r.start) c.run_start.result
+    left_alone joins.before (flipped_bound r.start) c.seam-left.result none.0 on_left
+    (c.requires.before lawful equal (flipped_bound r.start) c.run_start.result
     (known_turned order lawful r.start window.known.0) (same_turned order lawful r.start)
-    c.run_start.ensures)) in
+    c.run_start.ensures) in
     let right =
-    rw (← on_right) at
-    (rw none.1 at (c.requires.after lawful equal (flipped_bound r.end)
-    (known_turned order lawful r.end window.known.1) (same_turned order lawful r.end))) in
+    right_alone joins.after (flipped_bound r.end) c.seam-right.result none.1 on_right
+    (c.requires.after lawful equal (flipped_bound r.end)
+    (known_turned order lawful r.end window.known.1) (same_turned order lawful r.end)) in
     let left_joins =
     ap joined_count on_left ∙ seam_count joins.before None (flipped_bound r.start) in
     let right_joins =
@@ -70,14 +70,14 @@ change-requires g c =
     let on_right : c.seam-right.result ≡ seam_edge joins.after None (flipped_bound r.end) =
     c.seam-right.ensures ∙ seam_alike joins.after _ _ in
     let left =
-    rw (← on_left) at
-    (rw none.0 at (c.requires.before lawful equal (flipped_bound r.start) c.run_start.result
+    left_alone joins.before (flipped_bound r.start) c.seam-left.result none.0 on_left
+    (c.requires.before lawful equal (flipped_bound r.start) c.run_start.result
     (known_turned order lawful r.start window.known.0) (same_turned order lawful r.start)
-    c.run_start.ensures)) in
+    c.run_start.ensures) in
     let right =
-    rw (← on_right) at
-    (rw none.1 at (c.requires.after lawful equal (flipped_bound r.end)
-    (known_turned order lawful r.end window.known.1) (same_turned order lawful r.end))) in
+    right_alone joins.after (flipped_bound r.end) c.seam-right.result none.1 on_right
+    (c.requires.after lawful equal (flipped_bound r.end)
+    (known_turned order lawful r.end window.known.1) (same_turned order lawful r.end)) in
     let left_joins =
     ap joined_count on_left ∙ seam_count joins.before None (flipped_bound r.start) in
     let right_joins =
@@ -114,14 +114,14 @@ returns g c =
     let on_right : c.seam-right.result ≡ seam_edge joins.after None (flipped_bound r.end) =
     c.seam-right.ensures ∙ seam_alike joins.after _ _ in
     let left =
-    rw (← on_left) at
-    (rw none.0 at (c.requires.before lawful equal (flipped_bound r.start) c.run_start.result
+    left_alone joins.before (flipped_bound r.start) c.seam-left.result none.0 on_left
+    (c.requires.before lawful equal (flipped_bound r.start) c.run_start.result
     (known_turned order lawful r.start window.known.0) (same_turned order lawful r.start)
-    c.run_start.ensures)) in
+    c.run_start.ensures) in
     let right =
-    rw (← on_right) at
-    (rw none.1 at (c.requires.after lawful equal (flipped_bound r.end)
-    (known_turned order lawful r.end window.known.1) (same_turned order lawful r.end))) in
+    right_alone joins.after (flipped_bound r.end) c.seam-right.result none.1 on_right
+    (c.requires.after lawful equal (flipped_bound r.end)
+    (known_turned order lawful r.end window.known.1) (same_turned order lawful r.end)) in
     let left_joins =
     ap joined_count on_left ∙ seam_count joins.before None (flipped_bound r.start) in
     let right_joins =

@@ -1,4 +1,4 @@
-use Rattle.std.proofs.Common.{◌≡◌, ◌+◌, length, arith, refl}
+use Rattle.std.proofs.Common.{◌≡◌, ◌+◌, length, arith}
 use Rattle.std.specs.Prelude.{insert}
 use Rattle.range_store.specs.Places.{place_before}
 use Rattle.range_change.specs.Edits.{flipped_bound}

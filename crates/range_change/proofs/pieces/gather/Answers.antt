@@ -1,5 +1,5 @@
 use Rattle.std.proofs.lemmas.Grind.{common_steps}
-use Rattle.std.proofs.Common.{rules, ◌+◌, length, get_or, take, arith, sym, ap, ◌∙◌, refl, Some}
+use Rattle.std.proofs.Common.{rules, length, get_or, take, arith, sym, ap, ◌∙◌, refl, Some}
 use Rattle.std.specs.Cmp.{Equal-is}
 use Rattle.std.specs.Option.{option_copied}
 use Rattle.range_algebra.specs.Clones.{bound_clone}
