@@ -35,14 +35,16 @@ returns-clause-run g c =
     c.loop-command.invariant.left none in
     rw (← all) c.loop-command.invariant.chain
 
-pub answer_by-reply-requires-clause-keys : goal.answer_by-reply-requires-clause-keys
-answer_by-reply-requires-clause-keys g c = c.requires.keys
-
-pub answer_by-reply-requires-clause-values : goal.answer_by-reply-requires-clause-values
-answer_by-reply-requires-clause-values g c = c.requires.values
-
-pub answer_by-reply-requires-clause-callable : goal.answer_by-reply-requires-clause-callable
-answer_by-reply-requires-clause-callable g c = c.requires.callable
+pub answer_by-reply-requires : goal.answer_by-reply-requires
+answer_by-reply-requires g c =
+    record {
+      keys =
+          c.requires.keys;
+      values =
+          c.requires.values;
+      callable =
+          c.requires.callable;
+    }
 
 pub loop-command-init : goal.loop-command-init
 loop-command-init g c = record {
