@@ -44,6 +44,7 @@ pub use Rattle.range_change.specs.Apart
 pub use Rattle.range_map.specs.Iteration
 pub use Rattle.range_map.specs.ListOrder
 pub use Rattle.range_change.specs.Lookups
+pub use Rattle.range_map.specs.MappedValues
 pub use Rattle.range_change.specs.Neighbours
 pub use Rattle.range_map.specs.Overlapping
 pub use Rattle.range_map.specs.PieceLists

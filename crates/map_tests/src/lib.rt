@@ -55,6 +55,8 @@ mod keys;
 #[cfg(test)]
 mod lookups;
 #[cfg(test)]
+mod mapping;
+#[cfg(test)]
 mod reads;
 #[cfg(test)]
 mod refused;

@@ -10,9 +10,11 @@ pub mod Depths
 pub mod Extending
 pub mod FirstPieces
 pub mod FreeParts
+pub mod Joining
 pub mod JustBefore
 pub mod KeysTogether
 pub mod Likeness
+pub mod MappedValues
 pub mod MeasureTotals
 pub mod Once
 pub mod Overlapping

@@ -6,6 +6,7 @@ pub mod FreeRanges
 pub mod Freeing
 pub mod Iteration
 pub mod ListOrder
+pub mod MappedValues
 pub mod Merged
 pub mod Overlapping
 pub mod PieceLists

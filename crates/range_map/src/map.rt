@@ -23,6 +23,7 @@ mod iter;
 mod len;
 mod levels;
 mod lookup;
+mod map_values;
 mod merged;
 mod overlapping;
 mod pieces;
