@@ -55,6 +55,7 @@ pub use Rattle.range_map.specs.Retaining
 pub use Rattle.range_change.specs.Searches
 pub use Rattle.range_map.specs.SimpleUpdates
 pub use Rattle.range_change.specs.Spelling
+pub use Rattle.range_map.specs.Sorting
 pub use Rattle.range_map.specs.Splitting
 pub use Rattle.range_change.specs.Stored
 pub use Rattle.range_map.specs.Texts as MapTexts

@@ -63,6 +63,8 @@ mod refused;
 #[cfg(test)]
 mod set_values;
 #[cfg(test)]
+mod sorted;
+#[cfg(test)]
 mod spelling;
 #[cfg(test)]
 mod splitting;

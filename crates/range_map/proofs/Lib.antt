@@ -23,6 +23,7 @@ pub mod PieceSteps
 pub mod ReboundKeys
 pub mod Retaining
 pub mod Scans
+pub mod Sorting
 pub mod Splitting
 pub mod StoredLists
 pub mod Together

@@ -13,6 +13,7 @@ pub mod PieceLists
 pub mod Rebinding
 pub mod Retaining
 pub mod SimpleUpdates
+pub mod Sorting
 pub mod Splitting
 pub mod Texts
 pub mod Together
