@@ -47,6 +47,7 @@ pub use Rattle.range_change.specs.Lookups
 pub use Rattle.range_map.specs.MappedValues
 pub use Rattle.range_change.specs.Neighbours
 pub use Rattle.range_map.specs.Overlapping
+pub use Rattle.range_map.specs.Overlays
 pub use Rattle.range_map.specs.PieceLists
 pub use Rattle.range_change.specs.Pieces
 pub use Rattle.range_map.specs.Rebinding

@@ -57,6 +57,8 @@ mod lookups;
 #[cfg(test)]
 mod mapping;
 #[cfg(test)]
+mod overlays;
+#[cfg(test)]
 mod reads;
 #[cfg(test)]
 mod refused;

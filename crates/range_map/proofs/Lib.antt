@@ -18,6 +18,7 @@ pub mod MappedValues
 pub mod MeasureTotals
 pub mod Once
 pub mod Overlapping
+pub mod Overlays
 pub mod PieceLists
 pub mod PieceSteps
 pub mod ReboundKeys

@@ -9,6 +9,7 @@ pub mod ListOrder
 pub mod MappedValues
 pub mod Merged
 pub mod Overlapping
+pub mod Overlays
 pub mod PieceLists
 pub mod Rebinding
 pub mod Retaining

@@ -27,6 +27,7 @@ mod lookup;
 mod map_values;
 mod merged;
 mod overlapping;
+mod overlay;
 mod pieces;
 mod remove;
 mod retain;
