@@ -1,12 +1,10 @@
-use Rattle.std.proofs.Common.{◌≡◌, ◌∙◌, sym, ap, ◌∷◌, ◌++◌, [], length, map, arith, append_assoc}
+use Rattle.std.proofs.Common.{◌∙◌, sym, ap, ◌∷◌, ◌++◌, [], length, map, arith, append_assoc}
 use Rattle.std.proofs.lemmas.List.{map-append}
-use Rattle.std.specs.Cmp.{tied_itself}
 use Rattle.range_algebra.specs.Cuts.{lower}
 use Rattle.range_algebra.specs.Orders.{le_refl}
 use Rattle.range_keys.specs.Position.{position_cmp}
 use Rattle.range_keys.specs.PositionOrder.{position_total}
 use Rattle.range_change.specs.Stored.{item_upper}
-use Rattle.range_change.proofs.OuterBounds.{prefix_is_all}
 use Rattle.range_map.specs.Extending.{item_of}
 use Rattle.range_map.specs.FreeRanges.{full_range}
 use Rattle.range_map.proofs.Joining.{built_more, built_none}

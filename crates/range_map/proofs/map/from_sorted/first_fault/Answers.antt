@@ -1,4 +1,4 @@
-use Rattle.std.proofs.Common.{◌≡◌, sym, true, IsTrue, ◌∷◌, [], get_or, map, take, rules}
+use Rattle.std.proofs.Common.{◌≡◌, sym, true, ◌∷◌, [], get_or, map, take, rules}
 use Rattle.range_algebra.specs.Range.{IsKnownRange}
 use Rattle.range_algebra.proofs.Lists.{every_append}
 use Rattle.range_map.specs.Extending.{item_of}

@@ -1,4 +1,4 @@
-use Rattle.std.proofs.Common.{refl, sym, ◌∙◌, rules}
+use Rattle.std.proofs.Common.{◌∙◌}
 use Rattle.std.proofs.lemmas.Fn.{says_at}
 use Rattle.range_map.proofs.map.map_values.answered.Goals as goal
 

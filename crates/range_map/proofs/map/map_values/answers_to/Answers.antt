@@ -1,4 +1,4 @@
-use Rattle.std.proofs.Common.{◌≡◌, ◌∙◌, sym, ap, ◌∷◌, ◌++◌, [], length, arith, rules, Err}
+use Rattle.std.proofs.Common.{◌≡◌, ◌∙◌, sym, ap, [], length, arith, rules, Err}
 use Rattle.std.specs.Cmp.{Equal-is}
 use Rattle.std.specs.Fn.{FnReturnsAt}
 use Rattle.range_algebra.specs.Cuts.{lower}
