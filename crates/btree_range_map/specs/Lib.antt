@@ -44,8 +44,10 @@ pub use Rattle.range_change.specs.Apart
 pub use Rattle.range_map.specs.Iteration
 pub use Rattle.range_map.specs.ListOrder
 pub use Rattle.range_change.specs.Lookups
+pub use Rattle.range_map.specs.MappedValues
 pub use Rattle.range_change.specs.Neighbours
 pub use Rattle.range_map.specs.Overlapping
+pub use Rattle.range_map.specs.Overlays
 pub use Rattle.range_map.specs.PieceLists
 pub use Rattle.range_change.specs.Pieces
 pub use Rattle.range_map.specs.Rebinding
@@ -54,6 +56,7 @@ pub use Rattle.range_map.specs.Retaining
 pub use Rattle.range_change.specs.Searches
 pub use Rattle.range_map.specs.SimpleUpdates
 pub use Rattle.range_change.specs.Spelling
+pub use Rattle.range_map.specs.Sorting
 pub use Rattle.range_map.specs.Splitting
 pub use Rattle.range_change.specs.Stored
 pub use Rattle.range_map.specs.Texts as MapTexts

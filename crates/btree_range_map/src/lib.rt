@@ -11,7 +11,7 @@ pub mod range;
 pub mod storage;
 
 use btree::BoxStorage;
-pub use generic::map::{MapError, NotAppended, NotFree, NotInserted, UpdateError};
+pub use generic::map::{MapError, NotAppended, NotFree, NotInserted, NotSorted, UpdateError};
 pub use generic::set::NotAdded;
 pub use range::any::AnyRange;
 pub use range::bound::{AsBound, BoundOrd, BoundOrdering, BoundPartialOrd, Directed, Dist};

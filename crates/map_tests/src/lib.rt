@@ -55,11 +55,17 @@ mod keys;
 #[cfg(test)]
 mod lookups;
 #[cfg(test)]
+mod mapping;
+#[cfg(test)]
+mod overlays;
+#[cfg(test)]
 mod reads;
 #[cfg(test)]
 mod refused;
 #[cfg(test)]
 mod set_values;
+#[cfg(test)]
+mod sorted;
 #[cfg(test)]
 mod spelling;
 #[cfg(test)]

@@ -1,6 +1,6 @@
 -- One stored list after another: its form, and what it binds.
-use Rattle.std.proofs.Common.{◌≡◌, refl, sym, ap, ◌∙◌, ◌↔◌, ◌+◌, ◌≤◌, Bool, true, false, IsTrue, List, [], ◌∷◌, ◌++◌, length, inl, inr, Option, arith}
-use Rattle.std.specs.Prelude.{◌&&◌, if◌then◌else◌}
+use Rattle.std.proofs.Common.{◌≡◌, refl, sym, ap, ◌∙◌, ◌↔◌, ◌+◌, ◌≤◌, ℕ, zero, suc, Bool, true, false, IsTrue, List, [], ◌∷◌, ◌++◌, length, get_or, inl, inr, Option, arith}
+use Rattle.std.specs.Prelude.{◌&&◌, if◌then◌else◌, slice_set}
 use Rattle.std.specs.Cmp.{IsEquivalence}
 use Rattle.range_keys.specs.Order.{KeyOrder, IsLawful}
 use Rattle.range_keys.specs.PositionOrder.{position_total}
@@ -50,6 +50,28 @@ module _ {K : Type 0} (order : KeyOrder K) {V : Type 0} where
     appended_last (x ∷ []) i j rest = refl
     appended_last (x ∷ y ∷ front) i j rest =
         ap (λ xs. x ∷ xs) (appended_last (y ∷ front) i j rest)
+
+    -- the last item in place, joined with one more
+    pub joined_last : (items : List (Item (AnyRange K) V)) (k : ℕ) (d j : Item (AnyRange K) V)
+        → k + 1 ≡ length items → are_one order same (get_or items k d) j ≡ true
+        → slice_set items k (joined (get_or items k d) j) ≡ appended order same items (j ∷ [])
+    joined_last [] k d j size one = absurd (omega (arith, size))
+    joined_last (i ∷ []) zero d j size one = rw one refl
+    joined_last (i ∷ []) (suc k) d j size one = absurd (omega (arith, size))
+    joined_last (i ∷ l ∷ items) zero d j size one = absurd (omega (arith, size))
+    joined_last (i ∷ l ∷ items) (suc k) d j size one =
+        ap (λ xs. i ∷ xs) (joined_last (l ∷ items) k d j (omega (arith, size)) one)
+
+    -- one more after the last item, with which it is not to be one
+    pub parted_last : (items : List (Item (AnyRange K) V)) (k : ℕ) (d j : Item (AnyRange K) V)
+        → k + 1 ≡ length items → are_one order same (get_or items k d) j ≡ false
+        → items ++ j ∷ [] ≡ appended order same items (j ∷ [])
+    parted_last [] k d j size apart = refl
+    parted_last (i ∷ []) zero d j size apart = rw apart refl
+    parted_last (i ∷ []) (suc k) d j size apart = absurd (omega (arith, size))
+    parted_last (i ∷ l ∷ items) zero d j size apart = absurd (omega (arith, size))
+    parted_last (i ∷ l ∷ items) (suc k) d j size apart =
+        ap (λ xs. i ∷ xs) (parted_last (l ∷ items) k d j (omega (arith, size)) apart)
 
     one_fewer : (b : Bool) (i j : Item (AnyRange K) V) (rest : List (Item (AnyRange K) V))
         → length ((if b then joined i j ∷ [] else i ∷ j ∷ []) ++ rest) ≤ length rest + 2
@@ -268,7 +290,7 @@ module _ {K : Type 0} (order : KeyOrder K) (lawful : IsLawful order) {V : Type 0
         appended_holds items others known others_known chain others_chain before W _ respects) b
 
   -- what leads up to a place lies before all that start there at least
-  lie_before_from : (p : Position K) (items others : List (Item (AnyRange K) V))
+  pub lie_before_from : (p : Position K) (items others : List (Item (AnyRange K) V))
       → Known order lawful same equal items → Known order lawful same equal others
       → Every (λ i. Le (places order lawful) (item_upper order i) p) items
       → Every (λ j. Le (places order lawful) p (item_lower order j)) others

@@ -6,12 +6,15 @@ pub mod FreeRanges
 pub mod Freeing
 pub mod Iteration
 pub mod ListOrder
+pub mod MappedValues
 pub mod Merged
 pub mod Overlapping
+pub mod Overlays
 pub mod PieceLists
 pub mod Rebinding
 pub mod Retaining
 pub mod SimpleUpdates
+pub mod Sorting
 pub mod Splitting
 pub mod Texts
 pub mod Together

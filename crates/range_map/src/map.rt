@@ -14,6 +14,7 @@ mod combine;
 mod compare;
 mod ends;
 mod extend;
+mod from_sorted;
 mod gaps;
 mod gaps_within;
 mod insert;
@@ -23,8 +24,10 @@ mod iter;
 mod len;
 mod levels;
 mod lookup;
+mod map_values;
 mod merged;
 mod overlapping;
+mod overlay;
 mod pieces;
 mod remove;
 mod retain;
@@ -39,6 +42,7 @@ pub use crate::laws::{
     stored_lists_bind_once,
 };
 pub use crate::search::binary_search;
+pub use from_sorted::NotSorted;
 pub use gaps::Gaps;
 pub use gaps_within::GapsWithin;
 pub use into_iter::IntoIter;

@@ -10,6 +10,7 @@ use crate::map::RangeMap;
 use range_algebra::any::AnyRange;
 use range_algebra::inner::starts_at_end;
 use range_change::error::NotAppended;
+use range_change::splice::replace_end;
 use range_keys::bound::Directed;
 use range_keys::traits::PartialEnum;
 use range_store::storage::{Item, Storage};
@@ -100,6 +101,27 @@ pub(crate) fn move_all<T, C: Storage<T>, D: Storage<T>>(stored: &mut C, others: 
 {
     while let Some(item) = others.pop_first() {
         let _position = stored.insert_at(None, item);
+    }
+}
+
+/// Puts an item after all others, or makes it one with the last of them where they are to be one.
+pub(crate) fn push<K: PartialEnum, V: Eq + Drop, C: Storage<Item<AnyRange<K>, V>>>(
+    stored: &mut C,
+    item: Item<AnyRange<K>, V>,
+)
+    requires { 1 ≤ C.room stored.old }
+    ensures list { C.items stored.new ≡ appended K.order V.eq (C.items stored.old) (item ∷ []) }
+    ensures room { C.room stored.old ≤ C.room stored.new + 1 }
+{
+    let Some(last) = stored.last() else {
+        let _first = stored.insert_at(None, item);
+        return;
+    };
+    if are_one(stored.get(last), &item) {
+        let (range, _value) = item.into_pair();
+        let _end = replace_end::<K, V, C>(stored, last, range.end);
+    } else {
+        let _next = stored.insert_at(None, item);
     }
 }
 

@@ -1,0 +1,207 @@
+-- Answers to the values of a list, put one after the other.
+use Rattle.std.proofs.Common.{◌≡◌, refl, ◌∙◌, ◌↔◌, inl, inr, Bool, Option, Some, None, Result, Ok, List, [], ◌∷◌, ◌++◌, append_assoc}
+use Rattle.std.proofs.lemmas.List.{append-nil}
+use Rattle.std.specs.Fn.{Shared, FnReturnsAt}
+use Rattle.std.specs.List.{AllZip}
+use Rattle.std.specs.Cmp.{IsEquivalence}
+use Rattle.std.specs.declared.cmp.Ordering.TheVariants.{Equal}
+use denote.Ref.{Bor}
+use Rattle.range_keys.specs.Order.{KeyOrder, IsLawful}
+use Rattle.range_keys.specs.Position.{position_cmp}
+use Rattle.range_keys.specs.PositionOrder.{position_total}
+use Rattle.range_keys.specs.declared.inner.position.Position.{Position}
+use Rattle.range_algebra.specs.Clones.{IsRangeClone, bound_clone, range_clone, same_start}
+use Rattle.range_algebra.specs.Intervals.{Any}
+use Rattle.range_algebra.specs.Orders.{eq_le, eq_ge, le_trans, lt_le_trans, le_lt_trans}
+use Rattle.range_algebra.specs.Range.{Holds, HoldSame, IsKnownRange}
+use Rattle.range_algebra.specs.declared.any.AnyRange.{AnyRange}
+use Rattle.range_algebra.proofs.Canonical.{equal_is_same}
+use Rattle.range_store.specs.declared.storage.Item.{Item}
+use Rattle.range_change.specs.Bindings.{Binds, IsBound, IsSomeOf}
+use Rattle.range_change.specs.Stored.{IsStored, item_lower, item_upper}
+use Rattle.range_change.proofs.CutParts.{same_past}
+use Rattle.range_change.proofs.Forms.{nonempty_good}
+use Rattle.range_change.proofs.Overlaps.{binds_bound}
+use Rattle.range_map.specs.Appending.{appended}
+use Rattle.range_map.specs.MappedValues.{AreAnswered, AreMapped, IsAnsweredEach, IsMappedAt}
+use Rattle.range_map.proofs.Joining.{IsBuilt, RisesFrom, built_more, first_alone, stored_rises}
+
+zip_more : {X Y : Type 0} (R : X → Y → Type 0) (xs : List X) (ys : List Y) (x : X) (y : Y)
+    → AllZip R xs ys → R x y → AllZip R (xs ++ x ∷ []) (ys ++ y ∷ [])
+zip_more R [] [] x y h r = (r, tt)
+zip_more R [] (b ∷ ys) x y h r = absurd h
+zip_more R (a ∷ xs) [] x y h r = absurd h
+zip_more R (a ∷ xs) (b ∷ ys) x y h r = (h.0, zip_more R xs ys x y h.1 r)
+
+-- the first of what is left is an item of the list
+pub first_left : {X : Type 0} (P : X → Type 0) (done rest items : List X) (x : X)
+    → done ++ x ∷ rest ≡ items → P x → Any P items
+first_left P done rest items x parted h = rw (← parted) (there done)
+  where
+    there : (front : List _) → Any P (front ++ x ∷ rest)
+    there [] = inl h
+    there (y ∷ front) = inr (there front)
+
+module _ {K : Type 0} (order : KeyOrder K) {F V W E : Type 0}
+    (calls : Shared F (Bor V × Unit {0}) (Result W E)) (f : F) (same : W → W → Bool)
+    (items : List (Item (AnyRange K) V)) where
+  -- the answers so far, and what is left to be asked for
+  pub record IsMappedUpTo (left : List (Item (AnyRange K) V))
+      (built : List (Item (AnyRange K) W)) : Type 0 where
+    pub done : List (Item (AnyRange K) V)
+    pub answers : List (Item (AnyRange K) W)
+    pub place : Position K
+    pub parted : done ++ left ≡ items
+    pub given : AreAnswered order calls f done answers
+    pub form : IsBuilt order same place answers built
+    pub rises : RisesFrom order place left
+
+  -- where nothing is left, each item has its answer
+  pub all_answered : (built : List (Item (AnyRange K) W)) → IsMappedUpTo [] built
+      → IsAnsweredEach order calls f same items built
+  all_answered built was =
+      record {
+        answers = was.answers;
+        given =
+            rw (← was.parted, append-nil was.done) was.given;
+        bound = was.form.bound;
+      }
+
+  module _ (lawful : IsLawful order) (equal : IsEquivalence same) where
+    -- one answer more
+    pub mapped_more : (i : Item (AnyRange K) V) (left : List (Item (AnyRange K) V))
+        (built : List (Item (AnyRange K) W)) (j : Item (AnyRange K) W) (is_clone : K → K → Type 0)
+        → ((a b : K) → is_clone a b → order.cmp a b ≡ Equal)
+        → IsRangeClone is_clone i.key j.key → IsKnownRange order j.key
+        → FnReturnsAt calls f i.value (Ok j.value) → IsMappedUpTo (i ∷ left) built
+        → IsMappedUpTo left (appended order same built (j ∷ []))
+    mapped_more i left built j is_clone keys clone known given was =
+        let cmp = position_cmp order.cmp in
+        let total = position_total order.cmp lawful.total in
+        let lo = item_lower order i in
+        let hi = item_upper order i in
+        let lo' = item_lower order j in
+        let hi' = item_upper order j in
+        let starts : cmp lo lo' ≡ Equal =
+        same_start order lawful i.key.start j.key.start
+        (bound_clone order lawful is_clone keys i.key.start j.key.start clone.0) in
+        let ends : cmp hi hi' ≡ Equal =
+        same_past order lawful i.key.end j.key.end
+        (bound_clone order lawful is_clone keys i.key.end j.key.end clone.1) in
+        let good =
+        lt_le_trans cmp total lo' hi hi'
+        (le_lt_trans cmp total lo' lo hi (eq_ge cmp total lo lo' starts)
+        ((nonempty_good order lawful i.key was.rises.0).0 was.rises.1))
+        (eq_le cmp total hi hi' ends) in
+        record {
+          done = was.done ++ i ∷ [];
+          answers = was.answers ++ j ∷ [];
+          place = hi;
+          parted = append_assoc was.done (i ∷ []) left ∙ was.parted;
+          given =
+              zip_more (λ x a. HoldSame order x.key a.key
+              × FnReturnsAt calls f x.value (Ok a.value)) was.done was.answers i j was.given (
+                equal_is_same order lawful i.key j.key
+                    (range_clone order lawful is_clone keys i.key j.key clone),
+                given,
+              );
+          form =
+              built_more order lawful same equal was.place hi was.answers built j known
+              ((nonempty_good order lawful j.key known).1 good)
+              (le_trans cmp total was.place lo lo' was.rises.2 (eq_le cmp total lo lo' starts))
+              (eq_ge cmp total hi hi' ends) was.form;
+          rises = was.rises.3;
+        }
+
+-- from the answers to the keys
+module _ {K : Type 0} (order : KeyOrder K) (lawful : IsLawful order) {F V W E : Type 0}
+    (calls : Shared F (Bor V × Unit {0}) (Result W E)) (f : F) (same : W → W → Bool) where
+  held_back : (items : List (Item (AnyRange K) V)) (answers : List (Item (AnyRange K) W)) (k : K)
+      → order.is_key k → AreAnswered order calls f items answers → IsBound order answers k
+      → IsBound order items k
+  held_back [] [] k key given bound = bound
+  held_back [] (a ∷ answers) k key given bound = absurd given
+  held_back (i ∷ items) [] k key given bound = absurd given
+  held_back (i ∷ items) (a ∷ answers) k key given (inl held) = inl ((given.0.0 k key).1 held)
+  held_back (i ∷ items) (a ∷ answers) k key given (inr later) =
+      inr (held_back items answers k key given.1 later)
+
+  -- the answer of the one item that holds the key binds it
+  answer_alone : (a : Item (AnyRange K) W) (answers : List (Item (AnyRange K) W)) (k : K)
+      → Holds order a.key k → ¬ IsBound order answers k → (b : Option W)
+      → Binds order same (a ∷ answers) k b ↔ IsSomeOf order same a.value b
+  answer_alone a answers k held alone None = (λ free. free (inl held), λ none. absurd none)
+  answer_alone a answers k held alone (Some w) = (
+    λ binds. elim binds [
+      | inl own ↦ own.1
+      | inr later ↦ absurd (alone (binds_bound order same answers k w later))
+    ],
+    λ equal. inl (held, equal),
+  )
+
+  answer_later : (a : Item (AnyRange K) W) (answers : List (Item (AnyRange K) W)) (k : K)
+      → ¬ Holds order a.key k → (b : Option W)
+      → Binds order same (a ∷ answers) k b ↔ Binds order same answers k b
+  answer_later a answers k out None = (
+    λ free bound. free (inr bound),
+    λ free bound. elim bound [ inl held ↦ out held | inr later ↦ free later ],
+  )
+  answer_later a answers k out (Some w) = (
+    λ binds. elim binds [ inl own ↦ absurd (out own.0) | inr later ↦ later ],
+    λ later. inr later,
+  )
+
+  mapped_at : (m : Position K) (items : List (Item (AnyRange K) V))
+      (answers : List (Item (AnyRange K) W)) → RisesFrom order m items
+      → AreAnswered order calls f items answers → (k : K) → order.is_key k → IsBound order items k
+      → IsMappedAt order calls f same items answers k
+  mapped_at m [] answers rises given k key bound = absurd bound
+  mapped_at m (i ∷ items) [] rises given k key bound = absurd given
+  mapped_at m (i ∷ items) (a ∷ answers) rises given k key (inl held) =
+      record {
+        value = i.value;
+        answer = a.value;
+        was = inl (held, refl);
+        given = given.0.1;
+        is =
+            answer_alone a answers k ((given.0.0 k key).0 held)
+            (λ bound. first_alone order lawful k key m i items rises held
+            (held_back items answers k key given.1 bound));
+      }
+  mapped_at m (i ∷ items) (a ∷ answers) rises given k key (inr later) =
+      let at = mapped_at (item_upper order i) items answers rises.3 given.1 k key later in
+      let out : ¬ Holds order a.key k =
+      λ held. first_alone order lawful k key m i items rises ((given.0.0 k key).1 held) later in
+      record {
+        value = at.value;
+        answer = at.answer;
+        was = inr at.was;
+        given = at.given;
+        is = λ b.
+            let rest = answer_later a answers k out b in
+            (λ h. (at.is b).0 (rest.0 h), λ h. rest.1 ((at.is b).1 h));
+      }
+
+  pub keys_mapped : (same_value : V → V → Bool) → IsEquivalence same_value
+      → (items : List (Item (AnyRange K) V)) (new : List (Item (AnyRange K) W))
+      → IsStored order same_value items → IsAnsweredEach order calls f same items new
+      → AreMapped order calls f same items new
+  keys_mapped same_value values items new stored made =
+      record {
+        held = λ k key bound.
+            let at =
+            mapped_at _ items made.answers
+            (stored_rises order lawful same_value values items stored) made.given k key bound in
+            record {
+              value = at.value;
+              answer = at.answer;
+              was = at.was;
+              given = at.given;
+              is = λ b.
+                  let alike = made.bound k key b in
+                  (λ h. (at.is b).0 (alike.0 h), λ h. alike.1 ((at.is b).1 h));
+            };
+        free = λ k key free.
+            (made.bound k key None).1
+            (λ bound. free (held_back items made.answers k key made.given bound));
+      }

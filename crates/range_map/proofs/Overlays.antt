@@ -1,0 +1,297 @@
+-- What a copy of one of the two values of each key makes of two lists.
+use Rattle.std.proofs.Common.{◌≡◌, refl, sym, subst, ◌∙◌, ◌↔◌, ◌⊎◌, inl, inr, Bool, true, false, IsTrue, List, [], ◌∷◌, Option, Some, None, Result, Ok}
+use Rattle.std.specs.Cmp.{IsEquivalence}
+use Rattle.std.specs.Fn.{Shared, FnReturnsAt}
+use denote.Ref.{Bor}
+use Rattle.range_keys.specs.Order.{KeyOrder, IsLawful}
+use Rattle.range_algebra.specs.Range.{ClonesAreEqual}
+use Rattle.range_algebra.specs.declared.any.AnyRange.{AnyRange}
+use Rattle.range_algebra.proofs.Meeting.{held_or_not}
+use Rattle.range_store.specs.declared.storage.Item.{Item}
+use Rattle.range_change.specs.Answers.{IsAsAnswered}
+use Rattle.range_change.specs.Bindings.{IsBound, BindsTo, Binds}
+use Rattle.range_map.specs.Combining.{IsCombinedAt, AreCombined}
+use Rattle.range_map.specs.Overlays.{IsSecondOrFirst, MayOverlay, first_where, IsCopyOfValue, IsOverlaid, IsRestricted, IsWithout}
+use Rattle.range_change.specs.Stored.{IsStored}
+use Rattle.range_map.proofs.Once.{bound_once}
+use Rattle.range_change.proofs.Overlaps.{binds_bound}
+
+-- the second value, or the first where there is none
+abbrev second_or_first : {V : Type 0} → Option V → Option V → Option V
+second_or_first first None = first
+second_or_first first (Some w) = Some w
+
+-- where f makes clones, an overlay is of clones
+module _ {F V E : Type 0} (is_clone : V → V → Type 0)
+    (calls : Shared F (Bor V × Unit {0}) (Result V E)) (f : F)
+    (clones : (w v : V) → FnReturnsAt calls f w (Ok v) → is_clone w v) where
+  chosen_copied : (left right copy : Option V) → IsSecondOrFirst is_clone calls f left right copy
+      → IsCopyOfValue is_clone (second_or_first left right) copy
+  chosen_copied left None copy h = h
+  chosen_copied left (Some w) None h = absurd h
+  chosen_copied left (Some w) (Some v) h = clones w v h
+
+  pub clones_overlaid : (left right copy : Option V)
+      → MayOverlay is_clone calls f left right (Ok copy)
+      → IsCopyOfValue is_clone (second_or_first left right) copy
+  clones_overlaid left right copy may = chosen_copied left right copy (may.chosen copy refl)
+
+pub chosen_may : {F V W E : Type 0} (is_clone : V → V → Type 0)
+    (calls : Shared F (Bor W × Unit {0}) (Result V E)) (f : F) (left : Option V)
+    (right : Option W) (answer : Option V)
+    → IsSecondOrFirst is_clone calls f left right answer
+    → MayOverlay is_clone calls f left right (Ok answer)
+chosen_may is_clone calls f left right answer chosen =
+    record {
+      chosen = λ other e.
+          let same : answer ≡ other = cc in
+          subst (λ a. IsSecondOrFirst is_clone calls f left right a) same chosen;
+    }
+
+-- what the answers are is known less exactly
+pub combined_weaker : {K V W X E : Type 0} (order : KeyOrder K) (same_left : V → V → Bool)
+    (same_right : W → W → Bool) (same : X → X → Bool)
+    (may less : Option V → Option W → Result (Option X) E → Type 0)
+    (items : List (Item (AnyRange K) V)) (others : List (Item (AnyRange K) W))
+    (new : List (Item (AnyRange K) X))
+    → ((left : Option V) (right : Option W) (answer : Option X) → may left right (Ok answer)
+    → less left right (Ok answer)) → AreCombined order same_left same_right same may items others new
+    → AreCombined order same_left same_right same less items others new
+combined_weaker order same_left same_right same may less items others new weaker combined =
+    record {
+      held = λ k key bound.
+          let at = combined.held k key bound in
+          record {
+            left = at.left;
+            right = at.right;
+            answer = at.answer;
+            first = at.first;
+            second = at.second;
+            given = weaker at.left at.right at.answer at.given;
+            is = at.is;
+          };
+      free = combined.free;
+    }
+
+module _ {K : Type 0} (order : KeyOrder K) where
+  bound_or_not : (lawful : IsLawful order) {V : Type 0} (items : List (Item (AnyRange K) V)) (k : K)
+      → IsBound order items k ⊎ (¬ IsBound order items k)
+  bound_or_not lawful [] k = inr (λ none. none)
+  bound_or_not lawful (i ∷ rest) k =
+      elim (held_or_not order lawful i.key k) [
+        | inl here ↦ inl (inl here)
+        | inr out ↦
+            elim (bound_or_not lawful rest k) [
+              | inl later ↦ inl (inr later)
+              | inr none ↦ inr (λ h. elim h [ inl here ↦ out here | inr later ↦ none later ])
+            ]
+      ]
+
+  -- two lists that do not bind a key bind it alike
+  both_free : {V : Type 0} (same : V → V → Bool) (items new : List (Item (AnyRange K) V)) (k : K)
+      → ¬ IsBound order items k → ¬ IsBound order new k → (b : Option V)
+      → Binds order same new k b ↔ Binds order same items k b
+  both_free same items new k free free' None = (λ h. free, λ h. free')
+  both_free same items new k free free' (Some v) = (
+    λ h. absurd (free' (binds_bound order same new k v h)),
+    λ h. absurd (free (binds_bound order same items k v h)),
+  )
+
+  bound_to_equal : {V : Type 0} (same : V → V → Bool) (equal : IsEquivalence same)
+      (items : List (Item (AnyRange K) V)) (k : K) (v w : V) → IsTrue (same v w)
+      → BindsTo order same items k v → BindsTo order same items k w
+  bound_to_equal same equal [] k v w e h = h
+  bound_to_equal same equal (i ∷ rest) k v w e (inl h) =
+      inl (h.0, equal.congr i.value v w h.1 ∙ e)
+  bound_to_equal same equal (i ∷ rest) k v w e (inr h) =
+      inr (bound_to_equal same equal rest k v w e h)
+
+  -- a key that is bound as a copy of what a list binds it to is bound as in the list
+  module _ (lawful : IsLawful order) {V : Type 0} (same : V → V → Bool)
+      (equal : IsEquivalence same) (is_clone : V → V → Type 0)
+      (clones : ClonesAreEqual is_clone same) (items new : List (Item (AnyRange K) V))
+      (stored : IsStored order same items) (k : K) (key : order.is_key k) where
+    as_copied : (o copy b : Option V) → Binds order same items k o → IsCopyOfValue is_clone o copy
+        → IsAsAnswered same copy b ↔ Binds order same items k b
+    as_copied None None None h is = (λ e. h, λ free. refl)
+    as_copied None None (Some u) h is =
+        (λ e. absurd (cc), λ to. absurd (h (binds_bound order same items k u to)))
+    as_copied None (Some w) b h is = absurd (cc)
+    as_copied (Some v) None b h is = absurd is
+    as_copied (Some v) (Some w) None h is =
+        (λ e. absurd e, λ free. free (binds_bound order same items k v h))
+    as_copied (Some v) (Some w) (Some u) h is =
+        let copied = clones v w is in (
+          λ e. bound_to_equal same equal items k v u (equal.congr v w u copied ∙ e) h,
+          λ to. sym (equal.congr v w u copied)
+              ∙ bound_once order lawful same equal items stored k key v u h to,
+        )
+
+    bound_as_copied : (o copy : Option V) → Binds order same items k o
+        → IsCopyOfValue is_clone o copy
+        → ((b : Option V) → Binds order same new k b ↔ IsAsAnswered same copy b) → (b : Option V)
+        → Binds order same new k b ↔ Binds order same items k b
+    bound_as_copied o copy h is answered b =
+        let alike = as_copied o copy b h is in
+        (λ to. alike.0 ((answered b).0 to), λ to. (answered b).1 (alike.1 to))
+
+    -- a copy of none leaves a key free
+    free_as_copied : (copy : Option V) → IsCopyOfValue is_clone None copy
+        → ((b : Option V) → Binds order same new k b ↔ IsAsAnswered same copy b)
+        → ¬ IsBound order new k
+    free_as_copied None is answered = (answered None).1 refl
+    free_as_copied (Some w) is answered = absurd (cc)
+
+  module _ (lawful : IsLawful order) {V W E : Type 0} (same : V → V → Bool)
+      (equal : IsEquivalence same) (same_other : W → W → Bool) (is_clone : V → V → Type 0)
+      (clones : ClonesAreEqual is_clone same) (items : List (Item (AnyRange K) V))
+      (others : List (Item (AnyRange K) W)) (new : List (Item (AnyRange K) V))
+      (stored : IsStored order same items)
+      (may : Option V → Option W → Result (Option V) E → Type 0)
+      (combined : AreCombined order same same_other same may items others new) where
+    -- what is copied where the other list binds the key, and where it does not
+    module _ (kept : Option V → Option W → Option V)
+        (told : (left : Option V) (right : Option W) (copy : Option V) → may left right (Ok copy)
+        → IsCopyOfValue is_clone (kept left right) copy) where
+      module _ (k : K) (key : order.is_key k)
+          (at : IsCombinedAt order same same_other same may items others new k) where
+        as_in_items : kept at.left at.right ≡ at.left → (b : Option V)
+            → Binds order same new k b ↔ Binds order same items k b
+        as_in_items is =
+            bound_as_copied lawful same equal is_clone clones items new stored k key at.left
+            at.answer at.first
+            (rw is at (told at.left at.right at.answer at.given)) at.is
+
+        gone_at : kept at.left at.right ≡ None → ¬ IsBound order new k
+        gone_at is =
+            free_as_copied lawful same equal is_clone clones items new stored k key at.answer
+            (rw is at (told at.left at.right at.answer at.given)) at.is
+
+      -- where the second binds the key, and where it does not
+      there : (P : Option W → Type 0) (k : K) (right : Option W)
+          → Binds order same_other others k right → IsBound order others k
+          → ((w : W) → P (Some w)) → P right
+      there P k None second bound use_it = absurd (second bound)
+      there P k (Some w) second bound use_it = use_it w
+
+      missing : (P : Option W → Type 0) (k : K) (right : Option W)
+          → Binds order same_other others k right → ¬ IsBound order others k
+          → P None → P right
+      missing P k None second free use_it = use_it
+      missing P k (Some w) second free use_it =
+          absurd (free (binds_bound order same_other others k w second))
+
+      items_where_bound : ((left : Option V) (w : W) → kept left (Some w) ≡ left) → (k : K)
+          → order.is_key k → IsBound order others k → (b : Option V)
+          → Binds order same new k b ↔ Binds order same items k b
+      items_where_bound is k key bound =
+          let at = combined.held k key (inr bound) in
+          as_in_items k key at
+          (there (λ right. kept at.left right ≡ at.left) k at.right at.second bound
+          (λ w. is at.left w))
+
+      none_where_bound : ((left : Option V) (w : W) → kept left (Some w) ≡ None) → (k : K)
+          → order.is_key k → IsBound order others k → ¬ IsBound order new k
+      none_where_bound is k key bound =
+          let at = combined.held k key (inr bound) in
+          gone_at k key at
+          (there (λ right. kept at.left right ≡ None) k at.right at.second bound
+          (λ w. is at.left w))
+
+      items_where_free : ((left : Option V) → kept left None ≡ left) → (k : K)
+          → order.is_key k → ¬ IsBound order others k → (b : Option V)
+          → Binds order same new k b ↔ Binds order same items k b
+      items_where_free is k key free =
+          elim (bound_or_not lawful items k) [
+            | inl bound ↦
+                let at = combined.held k key (inl bound) in
+                as_in_items k key at
+                (missing (λ right. kept at.left right ≡ at.left) k at.right at.second free
+                (is at.left))
+            | inr none ↦ both_free same items new k none (combined.free k key none free)
+          ]
+
+      none_where_free : ((left : Option V) → kept left None ≡ None) → (k : K)
+          → order.is_key k → ¬ IsBound order others k → ¬ IsBound order new k
+      none_where_free is k key free =
+          elim (bound_or_not lawful items k) [
+            | inl bound ↦
+                let at = combined.held k key (inl bound) in
+                gone_at k key at
+                (missing (λ right. kept at.left right ≡ None) k at.right at.second free
+                (is at.left))
+            | inr none ↦ combined.free k key none free
+          ]
+
+    -- the answers are copies of the first value where there is a second, or where there is none
+    abbrev Keeps : Bool → Type 0
+    Keeps bound = (left : Option V) (right : Option W) (copy : Option V) → may left right (Ok copy)
+        → IsCopyOfValue is_clone (first_where bound left right) copy
+
+    restricted_by : Keeps true → IsRestricted order same items others new
+    restricted_by told =
+        record {
+          kept = items_where_bound (first_where true) told (λ left w. refl);
+          gone = none_where_free (first_where true) told (λ left. refl);
+        }
+
+    without_by : Keeps false → IsWithout order same items others new
+    without_by told =
+        record {
+          gone = none_where_bound (first_where false) told (λ left w. refl);
+          kept = items_where_free (first_where false) told (λ left. refl);
+        }
+
+    pub restricted : (bound : Bool) → bound ≡ true
+        → ((left : Option V) (right : Option W) (copy : Option V) → may left right (Ok copy)
+        → IsCopyOfValue is_clone (first_where bound left right) copy)
+        → IsRestricted order same items others new
+    restricted bound is told = restricted_by (subst Keeps is told)
+
+    pub left_over : (bound : Bool) → bound ≡ false
+        → ((left : Option V) (right : Option W) (copy : Option V) → may left right (Ok copy)
+        → IsCopyOfValue is_clone (first_where bound left right) copy)
+        → IsWithout order same items others new
+    left_over bound is told = without_by (subst Keeps is told)
+
+  module _ (lawful : IsLawful order) {V E : Type 0} (same : V → V → Bool)
+      (equal : IsEquivalence same) (is_clone : V → V → Type 0)
+      (clones : ClonesAreEqual is_clone same) (items others new : List (Item (AnyRange K) V))
+      (stored : IsStored order same items) (stored_others : IsStored order same others)
+      (may : Option V → Option V → Result (Option V) E → Type 0)
+      (combined : AreCombined order same same same may items others new)
+      (told : (left right copy : Option V) → may left right (Ok copy)
+      → IsCopyOfValue is_clone (second_or_first left right) copy) where
+    over_at : (k : K) → order.is_key k → (left right copy : Option V)
+        → Binds order same others k right → IsCopyOfValue is_clone (second_or_first left right) copy
+        → ((b : Option V) → Binds order same new k b ↔ IsAsAnswered same copy b)
+        → IsBound order others k → (b : Option V)
+        → Binds order same new k b ↔ Binds order same others k b
+    over_at k key left None copy second is answered bound = absurd (second bound)
+    over_at k key left (Some w) copy second is answered bound =
+        bound_as_copied lawful same equal is_clone clones others new stored_others k key (Some w)
+        copy second is answered
+
+    pub overlaid : IsOverlaid order same items others new
+    overlaid =
+        record {
+          over = λ k key bound.
+              let at = combined.held k key (inr bound) in
+              over_at k key at.left at.right at.answer at.second
+              (told at.left at.right at.answer at.given) at.is bound;
+          under =
+              items_where_free lawful same equal same is_clone clones items others new stored may
+              combined second_or_first told (λ left. refl);
+        }
+
+  pub overlaid_by_clones : (lawful : IsLawful order) {F V E : Type 0} (same : V → V → Bool)
+      → IsEquivalence same → (is_clone : V → V → Type 0) → ClonesAreEqual is_clone same
+      → (items others new : List (Item (AnyRange K) V)) → IsStored order same items
+      → IsStored order same others → {calls : Shared F (Bor V × Unit {0}) (Result V E)} {f : F}
+      → AreCombined order same same same (MayOverlay is_clone calls f) items others new
+      → ((w v : V) → FnReturnsAt calls f w (Ok v) → is_clone w v)
+      → IsOverlaid order same items others new
+  overlaid_by_clones lawful same equal is_clone copies items others new stored stored_others
+      {calls} {f} combined clones =
+      overlaid lawful same equal is_clone copies items others new stored stored_others
+      (MayOverlay is_clone calls f) combined (clones_overlaid is_clone calls f clones)

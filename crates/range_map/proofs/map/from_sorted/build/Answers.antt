@@ -1,0 +1,60 @@
+use Rattle.std.proofs.Common.{◌∙◌, sym, ap, ◌∷◌, ◌++◌, [], length, map, arith, append_assoc}
+use Rattle.std.proofs.lemmas.List.{map-append}
+use Rattle.range_algebra.specs.Cuts.{lower}
+use Rattle.range_algebra.specs.Orders.{le_refl}
+use Rattle.range_keys.specs.Position.{position_cmp}
+use Rattle.range_keys.specs.PositionOrder.{position_total}
+use Rattle.range_change.specs.Stored.{item_upper}
+use Rattle.range_map.specs.Extending.{item_of}
+use Rattle.range_map.specs.FreeRanges.{full_range}
+use Rattle.range_map.proofs.Joining.{built_more, built_none}
+use Rattle.range_map.proofs.Sorting.{sorted_rises}
+use Rattle.range_map.proofs.map.from_sorted.build.Goals as goal
+
+pub loop-range-init : goal.loop-range-init
+loop-range-init g c =
+    let order = g.K.MaybeBounded.order in
+    let from = lower order full_range in
+    let whole = c.into_iter-range-iterator.ensures.into_iter_gives.0 in
+    record {
+      parted = whole;
+      built = (
+        from,
+        rw (c.reserve.ensures.list, c.new-stored.ensures)
+            (built_none order g.V.PartialEq.eq from),
+        rw whole (sorted_rises order g.met.K.PartialEnum.lawful
+            (map (item_of g.R.AsRange.range) c.args.pairs.items) c.requires.known
+            c.requires.sorted),
+      );
+      space =
+          rw whole (omega (arith, c.in_ok-reserve.ensures.ok, c.len.ensures, c.args.pairs.ok.0));
+    }
+
+pub loop-range-preserved : goal.loop-range-preserved
+loop-range-preserved g c =
+    let order = g.K.MaybeBounded.order in
+    let lawful = g.met.K.PartialEnum.lawful in
+    let item = item_of g.R.AsRange.range in
+    let was = c.loop-range.invariant in
+    let next = c.in-Some.ensures.steps.0 in
+    let more = ap length next in
+    let done = c.loop-range.yielded in
+    let pair : g.row.R.Denot × g.row.V.Denot = (c.in-Some.range, c.in-Some.value) in
+    let rises = rw next at was.built.2 in
+    let end = item_upper order (item pair) in
+    record {
+      parted =
+          append_assoc done (pair ∷ []) c.next.new.self.rest.items
+          ∙ (ap (λ rest. done ++ rest) (sym next) ∙ was.parted);
+      built = (
+        end,
+        rw (c.push.ensures.list, c.into_range.ensures, map-append item done (pair ∷ []))
+            (built_more order lawful g.V.PartialEq.eq g.met.V.Eq.laws was.built.0 end
+            (map item done) (g.C.Storage.items c.loop-range.stored) (item pair) rises.0 rises.1
+            rises.2
+            (le_refl (position_cmp order.cmp) (position_total order.cmp lawful.total) end)
+            was.built.1),
+        rises.3,
+      );
+      space = omega (arith, was.space, more, c.push.ensures.room);
+    }

@@ -1,0 +1,17 @@
+use Rattle.std.proofs.Common.{◌≡◌, ◌≤◌, ◌++◌, length, map}
+use Rattle.range_keys.specs.declared.inner.position.Position.{Position}
+use Rattle.range_map.specs.Extending.{item_of}
+use Rattle.range_map.proofs.Joining.{IsBuilt, RisesFrom}
+use Rattle.range_map.proofs.map.from_sorted.build.Given as goal
+
+abbrev pub invariant-loop-range : goal.invariant-loop-range
+invariant-loop-range g l =
+    let order = g.K.MaybeBounded.order in
+    let item = item_of g.R.AsRange.range in
+    record {
+      parted : l.yielded ++ l.range-iterator.rest.items ≡ l.fn.pairs.items;
+      built : (m : Position g.row.K.Denot)
+          × IsBuilt order g.V.PartialEq.eq m (map item l.yielded) (g.C.Storage.items l.stored)
+          × RisesFrom order m (map item l.range-iterator.rest.items);
+      space : length l.range-iterator.rest.items ≤ g.C.Storage.room l.stored;
+    }

@@ -1,0 +1,16 @@
+use Rattle.std.proofs.Common.{◌≡◌, take, map}
+use Rattle.std.specs.Option.{option_map}
+use Rattle.range_algebra.specs.Intervals.{Every}
+use Rattle.range_algebra.specs.Range.{IsKnownRange}
+use Rattle.range_map.specs.Extending.{item_of}
+use Rattle.range_map.specs.Sorting.{IsSorted, last_key}
+use Rattle.range_map.proofs.map.from_sorted.first_fault.Given as goal
+
+abbrev pub invariant-loop-index : goal.invariant-loop-index
+invariant-loop-index g l =
+    let items = map (item_of g.R.AsRange.range) l.pairs in
+    record {
+      sorted : IsSorted g.K.MaybeBounded.order (take l.index items);
+      known : Every (λ i. IsKnownRange g.K.MaybeBounded.order i.key) (take l.index items);
+      last : option_map (λ r. g.R.AsRange.range r.now) l.before ≡ last_key (take l.index items);
+    }

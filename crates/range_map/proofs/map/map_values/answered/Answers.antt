@@ -1,0 +1,6 @@
+use Rattle.std.proofs.Common.{◌∙◌}
+use Rattle.std.proofs.lemmas.Fn.{says_at}
+use Rattle.range_map.proofs.map.map_values.answered.Goals as goal
+
+pub returns-in-Err-clause-closure : goal.returns-in-Err-clause-closure
+returns-in-Err-clause-closure g c = λ e failed. says_at g.F.Fn c.f.ensures (c.in-Err.is ∙ cc)

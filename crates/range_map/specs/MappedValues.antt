@@ -1,0 +1,45 @@
+-- What a list becomes where a closure answers a new value to each of its values.
+use Rattle.std.specs.Prelude.{◌≡◌, ◌↔◌, Bool, List, Option, Result, Ok}
+use Rattle.std.specs.Fn.{Shared, FnReturnsAt}
+use Rattle.std.specs.List.{AllZip}
+use denote.Ref.{Bor}
+use Rattle.range_keys.specs.Order.{KeyOrder}
+use Rattle.range_algebra.specs.Intervals.{Any}
+use Rattle.range_algebra.specs.Range.{HoldSame}
+use Rattle.range_algebra.specs.declared.any.AnyRange.{AnyRange}
+use Rattle.range_store.specs.declared.storage.Item.{Item}
+use Rattle.range_change.specs.Bindings.{BindAlike, Binds, IsBound, IsSomeOf, IsStoredFor}
+
+-- f may be called where it is shown the value of any of the items
+abbrev pub MayBeAskedOfValues : {K F V A : Type 0} → Shared F (Bor V × Unit {0}) A → F
+    → List (Item (AnyRange K) V) → Type 0
+MayBeAskedOfValues {K} {F} {V} calls f items = (shown : Bor V) → Any (λ i. i.value ≡ shown.now) items
+    → calls.pre f (shown, tt)
+
+module _ {K : Type 0} (order : KeyOrder K) {F V W E : Type 0}
+    (calls : Shared F (Bor V × Unit {0}) (Result W E)) (f : F) where
+  -- item by item the same keys, and an answer that f may give to the value
+  abbrev pub AreAnswered : List (Item (AnyRange K) V) → List (Item (AnyRange K) W) → Type 0
+  AreAnswered =
+      AllZip (λ i a. HoldSame order i.key a.key × FnReturnsAt calls f i.value (Ok a.value))
+
+  module _ (same : W → W → Bool) (items : List (Item (AnyRange K) V))
+      (new : List (Item (AnyRange K) W)) where
+    -- one answer for each item, and each key is bound to the answer for the item that holds it
+    pub record IsAnsweredEach : Type 0 where
+      pub answers : List (Item (AnyRange K) W)
+      pub given : AreAnswered items answers
+      pub bound : BindAlike order same new answers
+
+    -- the key was bound to a value, and is bound to an answer that f may give to it
+    pub record IsMappedAt (k : K) : Type 0 where
+      pub value : V
+      pub answer : W
+      pub was : IsStoredFor order items k value
+      pub given : FnReturnsAt calls f value (Ok answer)
+      pub is : (b : Option W) → Binds order same new k b ↔ IsSomeOf order same answer b
+
+    -- each bound key is bound to an answer to its value, and no other key is bound
+    pub record AreMapped : Type 0 where
+      pub held : (k : K) → order.is_key k → IsBound order items k → IsMappedAt k
+      pub free : (k : K) → order.is_key k → ¬ IsBound order items k → ¬ IsBound order new k

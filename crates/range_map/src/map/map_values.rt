@@ -1,0 +1,120 @@
+//! A map with a new value for each of its values.
+ghost use Rattle.std.specs.Prelude.{◌≡◌, IfOk, Ok, Err};
+ghost use Rattle.std.specs.Fn.{FnReturnsAt};
+ghost use Rattle.range_keys.specs.Order.{IsComplete};
+ghost use Rattle.range_algebra.specs.Clones.{IsRangeClone};
+ghost use Rattle.range_algebra.specs.Intervals.{Any};
+ghost use Rattle.range_algebra.specs.Range.{ClonesAreEqual, IsKnownRange};
+ghost use Rattle.range_change.specs.Bindings.{IsCoarse, IsOnlyCoarse};
+ghost use Rattle.range_change.specs.Stored.{IsStored};
+ghost use Rattle.range_map.specs.MappedValues.{AreMapped, IsAnsweredEach, MayBeAskedOfValues};
+ghost use Rattle.range_map.specs.Merged.{part_item};
+ghost use Rattle.range_change.specs.declared.error.UpdateError.TheVariants.{Closure as ClosureError};
+
+use crate::map::RangeMap;
+use crate::map::append::push;
+use crate::map::merged::{Part, next_part};
+use range_algebra::any::AnyRange;
+use range_algebra::inner;
+use range_change::error::UpdateError;
+use range_keys::traits::PartialEnum;
+use range_store::storage::{Item, Storage};
+use std::marker::PhantomData;
+
+/// A clone of the range, with what the closure answers to the value.
+fn answered<'a, K: PartialEnum + Clone, V, W: Drop, E: Drop, F: Fn(&V) -> Result<W, E>>(
+    part: Part<'a, K, V>,
+    f: &F,
+) -> Result<Item<AnyRange<K>, W>, UpdateError<E>>
+    requires { (shown : _) → shown.now ≡ (part_item part).value → F.pre f.now shown }
+    ensures range { IfOk result
+        (λ item. IsRangeClone K.is_clone (part_item part.entry).key item.key) }
+    ensures known { IfOk result (λ item. IsKnownRange K.order item.key) }
+    ensures value { IfOk result
+        (λ item. FnReturnsAt F.Fn f.now (part_item part.entry).value (Ok item.value)) }
+    ensures closure { (e : E) → result ≡ Err (ClosureError e)
+        → FnReturnsAt F.Fn f.now (part_item part.entry).value (Err e) }
+{
+    match f(part.1) {
+        Ok(value) => {
+            let key = part.0.cloned()?;
+            inner::known(&key);
+            Ok(Item { key, value })
+        }
+        Err(e) => Err(UpdateError::Closure(e)),
+    }
+}
+
+/// A map of the answers to all values.
+fn answers_to<
+    K: PartialEnum + Clone,
+    V: Eq + Drop,
+    W: Eq + Drop,
+    E: Drop,
+    C: Storage<Item<AnyRange<K>, V>>,
+    D: Storage<Item<AnyRange<K>, W>>,
+    F: Fn(&V) -> Result<W, E>,
+>(map: &RangeMap<K, V, C>, f: &F) -> Result<RangeMap<K, W, D>, UpdateError<E>>
+    requires keys { ClonesAreEqual K.is_clone K.eq }
+    requires asked { MayBeAskedOfValues F.Fn f.now (C.items map.now) }
+    ensures answers { IfOk result
+        (λ new. IsAnsweredEach K.order F.Fn f.now W.eq (C.items map.now) (D.items new)) }
+    ensures form { IfOk result (λ new. IsStored K.order W.eq (D.items new)) }
+    ensures closure { (e : E) → result ≡ Err (ClosureError e)
+        → Any (λ i. FnReturnsAt F.Fn f.now i.value (Err e)) (C.items map.now) }
+{
+    map.in_form();
+    let mut stored = D::new(map.alloc);
+    stored.reserve(map.range_count())?;
+    let mut items = map.iter();
+    while let Some(part) = next_part(&mut items) {
+        push::<K, W, D>(&mut stored, answered(part, f)?);
+    }
+    Ok(RangeMap {
+        stored,
+        alloc: map.alloc,
+        item: PhantomData,
+    })
+}
+
+impl<K: PartialEnum + Clone, V: Eq + Drop, C: Storage<Item<AnyRange<K>, V>>> RangeMap<K, V, C> {
+    /// A map that binds each key of this map as the closure answers to its value.
+    ///
+    /// The closure is asked once for each stored range, in ascending order; an error that it
+    /// answers ends the call. Ranges that touch and get equal values are kept as one. The two maps
+    /// may be kept in two kinds of containers.
+    ///
+    /// Allocates capacity for as many ranges as this map has, all at once, and a clone of each
+    /// bound; fails where an allocation does. Costs a step for each stored range, and no search.
+    ///
+    /// ```
+    /// // of a map that binds 0..=5 to 1, and 6..=8 to 2
+    /// let halved = |value: &i64| -> Result<i64, u8> { Ok(*value / 2) };
+    /// let halves: Result<RangeMap<i32, i64>, UpdateError<u8>> = map.map_values(halved);
+    /// assert!(rt; halves.is_ok()); // it binds 0..=5 to 0, and 6..=8 to 1
+    /// ```
+    pub fn map_values<
+        W: Eq + Drop,
+        E: Drop,
+        D: Storage<Item<AnyRange<K>, W>>,
+        F: Fn(&V) -> Result<W, E>,
+    >(&self, f: F) -> Result<RangeMap<K, W, D>, UpdateError<E>>
+        requires keys { ClonesAreEqual K.is_clone K.eq }
+        requires asked { MayBeAskedOfValues F.Fn f (C.items self.now) }
+        ensures bound { IfOk result
+            (λ new. AreMapped K.order F.Fn f W.eq (C.items self.now) (D.items new)) }
+        ensures answers { IfOk result
+            (λ new. IsAnsweredEach K.order F.Fn f W.eq (C.items self.now) (D.items new)) }
+        ensures form { IfOk result (λ new. IsStored K.order W.eq (D.items new)) }
+        ensures coarse { IsComplete K.order → IfOk result
+            (λ new. IsCoarse K.order W.eq (D.items new)) }
+        ensures only { IsComplete K.order → IfOk result
+            (λ new. IsOnlyCoarse K.order W.eq (D.items new)) }
+        ensures closure { (e : E) → result ≡ Err (ClosureError e)
+            → Any (λ i. FnReturnsAt F.Fn f i.value (Err e)) (C.items self.now) }
+    {
+        self.in_form();
+        let new = answers_to(self, &f)?;
+        Ok(new)
+    }
+}
