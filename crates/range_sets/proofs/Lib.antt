@@ -13,5 +13,6 @@ pub mod Likeness
 pub mod Matching
 pub mod Membership
 pub mod Pairing
+pub mod PartWay
 pub mod Retained
 pub mod Showing
