@@ -13,6 +13,7 @@ pub mod Likeness
 pub mod Matching
 pub mod Membership
 pub mod Pairing
+pub mod PairsTogether
 pub mod PartWay
 pub mod Retained
 pub mod Showing

@@ -78,6 +78,14 @@ pub static CALLS: &[(&str, Call)] = &[
         Call::Ordered(MultimapCall::Clone),
     ),
     (
+        "multimap of BTreeSet: union",
+        Call::Ordered(MultimapCall::Union),
+    ),
+    (
+        "multimap of BTreeSet: difference",
+        Call::Ordered(MultimapCall::Difference),
+    ),
+    (
         "multimap of HashSet: insert",
         Call::Hashed(MultimapCall::Insert),
     ),
@@ -88,6 +96,14 @@ pub static CALLS: &[(&str, Call)] = &[
     (
         "multimap of HashSet: clone",
         Call::Hashed(MultimapCall::Clone),
+    ),
+    (
+        "multimap of HashSet: union",
+        Call::Hashed(MultimapCall::Union),
+    ),
+    (
+        "multimap of HashSet: difference",
+        Call::Hashed(MultimapCall::Difference),
     ),
     ("rules: add", Call::Automaton(AutomatonCall::Add)),
     (
