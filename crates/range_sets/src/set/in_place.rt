@@ -17,8 +17,8 @@ impl<T: Measure + Clone, C: Storage<Item<AnyRange<T>, ()>>> RangeSet<T, C> {
     ///
     /// Searches once for each range of the other set, where `union` goes over both sets. Allocates
     /// a clone of each bound of the other set, and where more ranges are stored than the container
-    /// has capacity for. After an error the keys of the other set's first ranges are added, up to
-    /// the one at which it failed, and no other key.
+    /// has capacity for. After an error the keys of the other set's ranges before the one at which
+    /// it failed are added, and no other key.
     ///
     /// ```
     /// // of a set of the keys 0..=5, and one of the keys 4..9
@@ -48,8 +48,8 @@ impl<T: Measure + Clone, C: Storage<Item<AnyRange<T>, ()>>> RangeSet<T, C> {
     ///
     /// Searches once for each range of the other set, where `difference` goes over both sets.
     /// Allocates a clone of each bound at which a stored range is cut, and where more ranges are
-    /// stored than the container has capacity for. After an error the keys of the other set's first
-    /// ranges are gone, up to the one at which it failed, and no other key.
+    /// stored than the container has capacity for. After an error the keys of the other set's ranges
+    /// before the one at which it failed are gone, and no other key.
     ///
     /// ```
     /// // of a set of the keys 0..=5, and one of the keys 4..9
@@ -80,8 +80,7 @@ impl<T: Measure + Clone, C: Storage<Item<AnyRange<T>, ()>>> RangeSet<T, C> {
     /// Searches once for each gap of the other set, where `intersection` goes over both sets.
     /// Allocates a clone of each bound of a gap, one of each bound at which a stored range is cut,
     /// and where more ranges are stored than the container has capacity for. After an error the
-    /// keys of the other set's first gaps are gone, up to the one at which it failed, and no other
-    /// key.
+    /// keys of the other set's gaps before the one at which it failed are gone, and no other key.
     ///
     /// ```
     /// // of a set of the keys 0..=5, and one of the keys 4..9
