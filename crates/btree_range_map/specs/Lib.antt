@@ -73,6 +73,7 @@ pub use Rattle.range_commands.specs.LastCommands
 pub use Rattle.range_sets.specs.Members
 pub use Rattle.range_sets.specs.Multimaps
 pub use Rattle.range_sets.specs.Pairs
+pub use Rattle.range_sets.specs.PartWay
 pub use Rattle.range_sets.specs.Reads as SetReads
 pub use Rattle.range_commands.specs.Runs
 pub use Rattle.range_sets.specs.SetLaws

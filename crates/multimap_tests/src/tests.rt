@@ -1,3 +1,4 @@
 mod rows;
 mod support;
 mod surface;
+mod together;

@@ -139,7 +139,7 @@ module _ {K : Type 0} (order : KeyOrder K) where
       elim h [ inl held ↦ inl held.0 | inr later ↦ inr (some_once ranges k later.1) ]
 
   -- a key is held by an item or by a gap, and not by both
-  one_of_two : (items : Items) (gaps : List (AnyRange K)) (k : K)
+  pub one_of_two : (items : Items) (gaps : List (AnyRange K)) (k : K)
       → IsHeldOnce order (item_ranges items ++ gaps) k
       → (HoldsKey order items k × (¬ SomeHolds order gaps k)) ⊎
       ((¬ HoldsKey order items k) × SomeHolds order gaps k)

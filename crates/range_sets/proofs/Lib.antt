@@ -13,6 +13,8 @@ pub mod Likeness
 pub mod Matching
 pub mod Membership
 pub mod Pairing
+pub mod PairsTogether
+pub mod PartWay
 pub mod Retained
 pub mod SetLaws
 pub mod Showing

@@ -1,5 +1,5 @@
 -- Which pairs a list with sets has, read off what it binds, and what an update makes of them.
-use Rattle.std.proofs.Common.{◌≡◌, refl, sym, ◌∙◌, ◌↔◌, ◌⊎◌, inl, inr, Bool, true, false, IsTrue, List, [], ◌∷◌, ◌++◌, Option, Some, None, Result, Ok, Err, OnOk}
+use Rattle.std.proofs.Common.{◌≡◌, refl, sym, ◌∙◌, ◌↔◌, ◌⊎◌, inl, inr, Bool, true, false, not, ◌&&◌, ◌||◌, IsTrue, List, [], ◌∷◌, ◌++◌, Option, Some, None, Result, Ok, Err, OnOk}
 use Rattle.std.specs.Prelude.{IfSome, IsNone}
 use denote.Ref.{Bor}
 use Rattle.std.specs.Option.{option_copied}
@@ -132,14 +132,18 @@ module _ {K : Type 0} (order : KeyOrder K) {S V : Type 0} (same : S → S → Bo
               ((at.is at.answer).1 (as_itself k at.answer)) w;
         }
 
-    module _ (eq : V → V → Bool) (v : V) where
-      pub added : ((old answer : Option S) → may old (Ok answer) → HasAlso has eq old answer v)
-          → HasPairsAlso order has eq items next r v
-      added told k key w = elim (held_or_not order lawful r k) [
+    -- where each answer has the values of which a test is true too, or has them no more
+    module _ (is : V → Bool) where
+      pub all_added : ((old answer : Option S) → may old (Ok answer)
+          → (w : V) → among has answer w ≡ (is w || among has old w))
+          → (k : K) → order.is_key k → (w : V)
+          → HasPair order has next k w
+          ↔ (HasPair order has items k w ⊎ (Holds order r k × IsTrue (is w)))
+      all_added told k key w = elim (held_or_not order lawful r k) [
         | inl held ↦
             let m = held_key_moves k key held w in
             let e = told m.old m.answer m.given w in
-            let o = or_true (eq v w) (among has m.old w) in (
+            let o = or_true (is w) (among has m.old w) in (
               λ h.
                   elim (o.0 (sym e ∙ m.after.0 h)) [
                     | inl new ↦ inr (held, new)
@@ -159,13 +163,16 @@ module _ {K : Type 0} (order : KeyOrder K) {S V : Type 0} (same : S → S → Bo
         )
       ]
 
-      pub removed : ((old answer : Option S) → may old (Ok answer) → HasAllBut has eq old answer v)
-          → HasPairsWithout order has eq items next r v
-      removed told k key w = elim (held_or_not order lawful r k) [
+      pub all_removed : ((old answer : Option S) → may old (Ok answer)
+          → (w : V) → among has answer w ≡ (not (is w) && among has old w))
+          → (k : K) → order.is_key k → (w : V)
+          → HasPair order has next k w
+          ↔ (HasPair order has items k w × ¬ (Holds order r k × IsTrue (is w)))
+      all_removed told k key w = elim (held_or_not order lawful r k) [
         | inl held ↦
             let m = held_key_moves k key held w in
             let e = told m.old m.answer m.given w in
-            let o = but_true (eq v w) (among has m.old w) in (
+            let o = but_true (is w) (among has m.old w) in (
               λ h. let both = o.0 (sym e ∙ m.after.0 h) in (m.before.1 both.0, λ p. both.1 p.1),
               λ h. m.after.1 (e ∙ o.1 (m.before.0 h.0, λ q. h.1 (held, q))),
             )
@@ -174,6 +181,15 @@ module _ {K : Type 0} (order : KeyOrder K) {S V : Type 0} (same : S → S → Bo
           λ h. pairs_as k items next w (λ b. (now.others k key out b).1) h.0,
         )
       ]
+
+    module _ (eq : V → V → Bool) (v : V) where
+      pub added : ((old answer : Option S) → may old (Ok answer) → HasAlso has eq old answer v)
+          → HasPairsAlso order has eq items next r v
+      added told = all_added (eq v) told
+
+      pub removed : ((old answer : Option S) → may old (Ok answer) → HasAllBut has eq old answer v)
+          → HasPairsWithout order has eq items next r v
+      removed told = all_removed (eq v) told
 
     -- what is answered by an equal set is bound as before
     pub stay_bound : (P : K → Type 0)

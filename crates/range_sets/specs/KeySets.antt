@@ -41,6 +41,12 @@ module _ {K : Type 0} (order : KeyOrder K) where
     HoldsAllAlso before after ranges = (k : K) → order.is_key k → HoldsKey after k
         ↔ (HoldsKey before k ⊎ SomeHolds ranges k)
 
+    -- the keys of all the ranges were taken away, and no others
+    abbrev pub HoldsWithoutAll : List (Item (AnyRange K) V) → List (Item (AnyRange K) V)
+        → List (AnyRange K) → Type 0
+    HoldsWithoutAll before after ranges = (k : K) → order.is_key k → HoldsKey after k
+        ↔ (HoldsKey before k × ¬ SomeHolds ranges k)
+
     -- just the keys of all the ranges are held
     abbrev pub HoldsAllOf : List (Item (AnyRange K) V) → List (AnyRange K) → Type 0
     HoldsAllOf items ranges = (k : K) → order.is_key k → HoldsKey items k ↔ SomeHolds ranges k

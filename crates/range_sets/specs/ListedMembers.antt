@@ -1,5 +1,5 @@
 -- Sets that are kept as lists: when a list has a value, and when two lists have the same ones.
-use Rattle.std.proofs.Common.{◌≡◌, ◌↔◌, refl, sym, ap, ◌∙◌, subst, Bool, true, false, ◌&&◌, ◌||◌, IsTrue, List, [], ◌∷◌}
+use Rattle.std.proofs.Common.{◌≡◌, ◌↔◌, refl, sym, ap, ◌∙◌, subst, Bool, true, false, ◌||◌, IsTrue, List, [], ◌∷◌}
 use Rattle.std.specs.declared.cmp.Ordering.{Ordering}
 use Rattle.std.specs.declared.cmp.Ordering.TheVariants.{Less, Equal, Greater}
 use Rattle.std.specs.Ordering.{eq_by_cmp, is_eq, ordering_reverse}
@@ -15,7 +15,7 @@ use Rattle.std.proofs.lemmas.Map.Keys.{sorted_head, sorted_tail}
 use Rattle.std.proofs.lemmas.Map.Lookups.{hash_set_eq_decides}
 use Rattle.std.proofs.lemmas.Bool.{and_from, and_parts, or_left}
 use Rattle.range_algebra.specs.Range.{ClonesAreEqual}
-use Rattle.range_sets.specs.Members.{HasNone, HaveSame}
+use Rattle.range_sets.specs.Members.{HasNone, HaveSame, HasEither, HasFirstAlone}
 
 -- whether some element equals the value
 abbrev has_value : {V : Type 0} → (V → V → Bool) → List V → V → Bool
@@ -133,6 +133,16 @@ module _ {V : Type 0} (cmp : V → V → Ordering) (total : IsTotalOrder cmp) wh
         subst (λ e. IsTrue (pointwise e s.keys t.keys)) (sym alike)
         (sorted_pointwise s.keys t.keys a b same)
 
+    module _ (is_clone : V → V → Type 0) (equal : ClonesAreEqual is_clone eq)
+        (s t new : BTreeSet V) where
+      pub tree_either : tree.HoldsClonesOf cmp is_clone (tree.IsUnion cmp s t)
+          (tree.union cmp s t) new → HasEither (tree.contains cmp) s t new
+      tree_either (ys, is, zip, from, kept) = kept (λ x y h. sym (ties x y) ∙ equal x y h)
+
+      pub tree_first_alone : tree.HoldsClonesOf cmp is_clone (tree.IsDifference cmp s t)
+          (tree.difference cmp s t) new → HasFirstAlone (tree.contains cmp) s t new
+      tree_first_alone (ys, is, zip, from, kept) = kept (λ x y h. sym (ties x y) ∙ equal x y h)
+
   pub tree_void : (s : BTreeSet V) → tree.IsEmpty s ↔ HasNone (tree.contains cmp) s
   tree_void s = (
     λ e v. ap (λ ks. has_value tied ks v) e,
@@ -180,3 +190,13 @@ module _ {V : Type 0} (eq : V → V → Bool) where
     table_clones is_clone equal s t h =
         table_same_equal s t (pointwise_same eq laws s.keys t.keys
         (clones_pointwise eq is_clone equal s.keys t.keys h))
+
+    module _ (is_clone : V → V → Type 0) (equal : ClonesAreEqual is_clone eq)
+        (s t new : HashSet V H) where
+      pub table_either : table.HoldsClonesOf eq is_clone s t (table.IsUnion eq s t) new
+          → HasEither (table.contains eq) s t new
+      table_either (ks, ys, is, among, zip, from, kept) = kept equal
+
+      pub table_first_alone : table.HoldsClonesOf eq is_clone s t (table.IsDifference eq s t) new
+          → HasFirstAlone (table.contains eq) s t new
+      table_first_alone (ks, ys, is, among, zip, from, kept) = kept equal

@@ -48,6 +48,30 @@ module _ {K : Type 0} (order : KeyOrder K) {S V : Type 0} (has : S → V → Boo
   abbrev pub AreValuesAt : List (Item (AnyRange K) S) → K → Option S → Type 0
   AreValuesAt items k answer = (v : V) → HasPair items k v ↔ IsTrue (among has answer v)
 
+  -- the pairs of the range's keys with the set's values were added, and no others
+  abbrev pub HasAllPairsAlso : List (Item (AnyRange K) S) → List (Item (AnyRange K) S) → AnyRange K
+      → S → Type 0
+  HasAllPairsAlso before after r s = (k : K) → order.is_key k → (v : V)
+      → HasPair after k v ↔ (HasPair before k v ⊎ (Holds order r k × IsTrue (has s v)))
+
+  -- the pairs of the range's keys with the set's values were taken away, and no others
+  abbrev pub HasAllPairsWithout : List (Item (AnyRange K) S) → List (Item (AnyRange K) S)
+      → AnyRange K → S → Type 0
+  HasAllPairsWithout before after r s = (k : K) → order.is_key k → (v : V)
+      → HasPair after k v ↔ (HasPair before k v × ¬ (Holds order r k × IsTrue (has s v)))
+
+  -- of three lists the last has just the pairs of the others
+  abbrev pub HasPairsOfEither : List (Item (AnyRange K) S) → List (Item (AnyRange K) S)
+      → List (Item (AnyRange K) S) → Type 0
+  HasPairsOfEither items others new = (k : K) → order.is_key k → (v : V)
+      → HasPair new k v ↔ (HasPair items k v ⊎ HasPair others k v)
+
+  -- of three lists the last has just the pairs of the first that the second does not have
+  abbrev pub HasPairsOfFirstAlone : List (Item (AnyRange K) S) → List (Item (AnyRange K) S)
+      → List (Item (AnyRange K) S) → Type 0
+  HasPairsOfFirstAlone items others new = (k : K) → order.is_key k → (v : V)
+      → HasPair new k v ↔ (HasPair items k v × ¬ HasPair others k v)
+
   module _ (eq : V → V → Bool) where
     -- the pairs of the range's keys with what equals the value were added, and no others
     abbrev pub HasPairsAlso : List (Item (AnyRange K) S) → List (Item (AnyRange K) S) → AnyRange K

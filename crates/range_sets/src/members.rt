@@ -1,7 +1,7 @@
 //! Sets that a multimap may keep as its values.
-ghost use Rattle.std.specs.Prelude.{◌≡◌, ◌↔◌, ◌||◌, ◌&&◌, not, Bool, IsTrue, OnOk, OnErr, Some};
+ghost use Rattle.std.specs.Prelude.{◌≡◌, ◌↔◌, ◌||◌, ◌&&◌, not, Bool, IsTrue, IfOk, OnOk, OnErr, Some};
 ghost use Rattle.range_algebra.specs.Range.{ClonesAreEqual};
-ghost use Rattle.range_sets.specs.Members.{HasNone, HaveSame, HasAlso, HasAllBut};
+ghost use Rattle.range_sets.specs.Members.{HasNone, HaveSame, HasEither, HasFirstAlone, HasAlso, HasAllBut};
 
 mod btree_set;
 mod hash_set;
@@ -69,4 +69,20 @@ pub trait SetMut<V: Eq + Clone>: MaybeEmpty {
     /// Where clones of values equal their source, so do clones of sets.
     ghost clones_equal: { ClonesAreEqual V.is_clone V.eq
         → ClonesAreEqual Self.Clone.is_clone Self.PartialEq.eq };
+}
+
+/// A type of sets that can be put together, as the union and the difference of multimaps ask.
+///
+/// std's `BTreeSet` and `HashSet` are such types.
+pub trait SetAlgebra<V: Eq + Clone>: SetMut<V> {
+    /// A set of the values that are in this set, in the other, or in both. Fails where an
+    /// allocation fails.
+    fn united_with(&self, other: &Self) -> Result<Self, AllocError>
+        requires { ClonesAreEqual V.is_clone V.eq }
+        ensures { IfOk result (λ new. HasEither Self.SetMut.has self.now other.now new) };
+
+    /// A set of the values of this set that are not in the other. Fails where an allocation fails.
+    fn without(&self, other: &Self) -> Result<Self, AllocError>
+        requires { ClonesAreEqual V.is_clone V.eq }
+        ensures { IfOk result (λ new. HasFirstAlone Self.SetMut.has self.now other.now new) };
 }

@@ -6,6 +6,7 @@ ghost use Rattle.range_change.specs.Bindings.{Binds, IsOnlyCoarse, IsLeastCount}
 ghost use Rattle.range_change.specs.Stored.{IsStored};
 ghost use Rattle.range_sets.specs.Pairs.{HasNoEmptySet, HasPair, AreValuesAt, IsUnpaired};
 
+mod algebra;
 mod change;
 mod clone;
 mod compare;
@@ -16,7 +17,7 @@ mod text;
 
 pub use self::iter::IntoIter;
 pub use self::laws::last_call_decides_pairs;
-pub use crate::members::{MaybeEmpty, SetMut};
+pub use crate::members::{MaybeEmpty, SetAlgebra, SetMut};
 use range_algebra::any::AnyRange;
 use range_keys::traits::PartialEnum;
 use range_map::map::{self, RangeMap, stored_lists_bind_once};

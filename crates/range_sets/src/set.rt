@@ -14,6 +14,7 @@ mod compare;
 mod complement;
 mod ends;
 mod extend;
+mod in_place;
 mod insert;
 mod into_iter;
 mod iter;

@@ -6,7 +6,7 @@ use btree_range_map::AnyRange;
 use btree_range_map::btree::BoxStorage;
 use btree_range_map::generic::RangeMultiMap;
 use btree_range_map::generic::map::MapError;
-use btree_range_map::generic::multimap::SetMut;
+use btree_range_map::generic::multimap::{SetAlgebra, SetMut};
 use btree_range_map::storage::{Item, Storage, VecStorage};
 use std::alloc::{AllocError, Global};
 
@@ -26,6 +26,10 @@ pub enum MultimapCall {
     /// Inside a stored range.
     Remove,
     Clone,
+    /// With a multimap whose ranges cut each stored one, and have another value.
+    Union,
+    /// With a multimap whose ranges cut each stored one, and have its value.
+    Difference,
 }
 
 fn insert<S: SetMut<i32>, C: Storage<Entry<S>>>(
@@ -94,7 +98,62 @@ fn cloning<S: SetMut<i32>, C: Storage<Entry<S>>>(map: &Map<S, C>, size: Size) ->
     }
 }
 
-fn call<S: SetMut<i32>, C: Storage<Entry<S>>>(
+/// A multimap whose ranges cut each of the stored ones, and reach out of it.
+fn crossing<S: SetMut<i32>>(
+    alloc: Global,
+    size: Size,
+    value: i32,
+) -> Result<Map<S, Vector<S>>, MapError> {
+    let mut map: Map<S, Vector<S>> = RangeMultiMap::new(alloc);
+    for place in 0..size.count {
+        map.insert(part(place, 3, 8), value)?;
+    }
+    Ok(map)
+}
+
+/// Of each stored range the union has three, the difference one.
+fn put_together<S: SetAlgebra<i32>, C: Storage<Entry<S>>>(
+    map: &Map<S, C>,
+    other: &Map<S, Vector<S>>,
+    size: Size,
+    call: MultimapCall,
+) -> Outcome {
+    let (made, ranges) = match call {
+        MultimapCall::Union => (map.union::<i32, Vector<S>>(other), 3),
+        _ => (map.difference::<i32, Vector<S>>(other), 1),
+    };
+    match made {
+        Ok(made) => {
+            let place = size.middle();
+            done(
+                made.range_count() == usize::from(size.count) * ranges
+                    && made.contains(key(place, 2), &0)
+                    && made.contains(key(place, 4), &0) == (ranges == 3)
+                    && made.contains(key(place, 4), &1) == (ranges == 3),
+            )
+        }
+        Err(MapError::Memory) => refused(is_filled(map, size.count)),
+    }
+}
+
+fn crossed<S: SetAlgebra<i32>, C: Storage<Entry<S>>>(
+    alloc: Global,
+    map: &Map<S, C>,
+    size: Size,
+    call: MultimapCall,
+) -> Outcome {
+    let value = match call {
+        MultimapCall::Union => 1,
+        _ => 0,
+    };
+    match crossing::<S>(alloc, size, value) {
+        Ok(other) => put_together(map, &other, size, call),
+        Err(MapError::Memory) => Outcome::Early,
+    }
+}
+
+fn call<S: SetAlgebra<i32>, C: Storage<Entry<S>>>(
+    alloc: Global,
     map: &mut Map<S, C>,
     size: Size,
     call: MultimapCall,
@@ -110,18 +169,19 @@ fn call<S: SetMut<i32>, C: Storage<Entry<S>>>(
             changed(map, size, outcome, 1, (key(middle, 1), 0, false))
         }
         MultimapCall::Clone => cloning(map, size),
+        MultimapCall::Union | MultimapCall::Difference => crossed(alloc, map, size, call),
     }
 }
 
 /// Builds a multimap and makes the call.
-pub fn outcome<S: SetMut<i32>, C: Storage<Entry<S>>>(
+pub fn outcome<S: SetAlgebra<i32>, C: Storage<Entry<S>>>(
     alloc: Global,
     size: Size,
     what: MultimapCall,
 ) -> Outcome {
     let mut map: Map<S, C> = RangeMultiMap::new(alloc);
     match fill(&mut map, size) {
-        Ok(()) => call(&mut map, size, what),
+        Ok(()) => call(alloc, &mut map, size, what),
         Err(place) if is_filled(&map, place) => Outcome::Early,
         Err(_) => Outcome::Wrong,
     }

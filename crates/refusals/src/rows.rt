@@ -57,6 +57,9 @@ pub static CALLS: &[(&str, Call)] = &[
         "set: symmetric_difference",
         Call::Set(SetCall::SymmetricDifference),
     ),
+    ("set: extend_from", Call::Set(SetCall::ExtendFrom)),
+    ("set: remove_all", Call::Set(SetCall::RemoveAll)),
+    ("set: retain_all", Call::Set(SetCall::RetainAll)),
     ("set: clone", Call::Set(SetCall::Clone)),
     ("set: set_to_json", Call::Set(SetCall::Write)),
     ("set: set_from_json", Call::Set(SetCall::Read)),
@@ -75,6 +78,14 @@ pub static CALLS: &[(&str, Call)] = &[
         Call::Ordered(MultimapCall::Clone),
     ),
     (
+        "multimap of BTreeSet: union",
+        Call::Ordered(MultimapCall::Union),
+    ),
+    (
+        "multimap of BTreeSet: difference",
+        Call::Ordered(MultimapCall::Difference),
+    ),
+    (
         "multimap of HashSet: insert",
         Call::Hashed(MultimapCall::Insert),
     ),
@@ -85,6 +96,14 @@ pub static CALLS: &[(&str, Call)] = &[
     (
         "multimap of HashSet: clone",
         Call::Hashed(MultimapCall::Clone),
+    ),
+    (
+        "multimap of HashSet: union",
+        Call::Hashed(MultimapCall::Union),
+    ),
+    (
+        "multimap of HashSet: difference",
+        Call::Hashed(MultimapCall::Difference),
     ),
     ("rules: add", Call::Automaton(AutomatonCall::Add)),
     (

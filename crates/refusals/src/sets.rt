@@ -38,6 +38,12 @@ pub enum SetCall {
     Intersection,
     Difference,
     SymmetricDifference,
+    /// By a set of three ranges, each between two stored ones.
+    ExtendFrom,
+    /// By a set of three ranges, each inside a stored one.
+    RemoveAll,
+    /// By a set of all keys but those.
+    RetainAll,
     Clone,
     Write,
     Read,
@@ -45,7 +51,7 @@ pub enum SetCall {
     ReadRange,
 }
 
-/// By how many ranges a set is extended.
+/// By how many ranges a set is extended, or cut.
 const MORE: u16 = 3;
 
 fn between(place: u16) -> AnyRange<i32> {
@@ -225,6 +231,93 @@ fn crossed<C: Storage<Entry>>(alloc: Global, set: &Set<C>, size: Size, call: Set
     }
 }
 
+fn inner(alloc: Global) -> Result<Set<Vector>, MapError> {
+    RangeSet::from_iter(alloc, [part(0, 1, 3), part(1, 1, 3), part(2, 1, 3)])
+}
+
+/// The set by which a call changes another.
+fn changer(alloc: Global, call: SetCall) -> Result<Set<Vector>, MapError> {
+    match call {
+        SetCall::ExtendFrom => RangeSet::from_iter(alloc, [between(0), between(1), between(2)]),
+        SetCall::RemoveAll => inner(alloc),
+        _ => inner(alloc)?.complement(),
+    }
+}
+
+fn change<C: Storage<Entry>>(
+    set: &mut Set<C>,
+    other: &Set<Vector>,
+    call: SetCall,
+) -> Result<(), MapError> {
+    match call {
+        SetCall::ExtendFrom => set.extend_from(other),
+        SetCall::RemoveAll => set.remove_all(other),
+        _ => set.retain_all(other),
+    }
+}
+
+/// Whether the set stores just the ranges of the first indices, so many of them cut in two.
+fn is_cut<C: Storage<Entry>>(set: &Set<C>, places: u16, cut: u16) -> bool {
+    let mut stored = set.iter();
+    for place in 0..places {
+        let first = if place < cut {
+            part(place, 0, 1)
+        } else {
+            built(place)
+        };
+        if !stored.next().is_some_and(|range| is_spelled(range, first)) {
+            return false;
+        }
+        if place < cut
+            && !stored
+                .next()
+                .is_some_and(|range| is_spelled(range, part(place, 3, 5)))
+        {
+            return false;
+        }
+    }
+    stored.next().is_none()
+}
+
+/// Whether so many ranges of the other set, or so many of its gaps, changed the set, and no others.
+fn is_changed<C: Storage<Entry>>(set: &Set<C>, size: Size, call: SetCall, changes: u16) -> bool {
+    match call {
+        SetCall::ExtendFrom => is_filled(set, size.count, changes),
+        _ => is_cut(set, size.count, changes),
+    }
+}
+
+/// A refused change has to keep what came before the range or the gap at which it was refused.
+fn changing<C: Storage<Entry>>(
+    set: &mut Set<C>,
+    other: &Set<Vector>,
+    size: Size,
+    call: SetCall,
+) -> Outcome {
+    match change(set, other, call) {
+        Ok(()) => done(is_changed(set, size, call, MORE)),
+        Err(MapError::Memory) => {
+            let mut kept = false;
+            for changes in 0..MORE {
+                kept = kept || is_changed(set, size, call, changes);
+            }
+            refused(kept)
+        }
+    }
+}
+
+fn changed_by<C: Storage<Entry>>(
+    alloc: Global,
+    set: &mut Set<C>,
+    size: Size,
+    call: SetCall,
+) -> Outcome {
+    match changer(alloc, call) {
+        Ok(other) => changing(set, &other, size, call),
+        Err(MapError::Memory) => Outcome::Early,
+    }
+}
+
 fn cloning<C: Storage<Entry>>(set: &Set<C>, size: Size) -> Outcome {
     match set.clone() {
         Ok(other) => done(is_filled(&other, size.count, 0)),
@@ -304,6 +397,9 @@ fn call<C: Storage<Entry>>(alloc: Global, set: &mut Set<C>, size: Size, call: Se
         | SetCall::Intersection
         | SetCall::Difference
         | SetCall::SymmetricDifference => crossed(alloc, set, size, call),
+        SetCall::ExtendFrom | SetCall::RemoveAll | SetCall::RetainAll => {
+            changed_by(alloc, set, size, call)
+        }
         SetCall::Clone => cloning(set, size),
         SetCall::Write => writing(alloc, set, size),
         SetCall::Read => reading(alloc, set, size),

@@ -3,6 +3,7 @@ mod bulk;
 mod calls;
 mod comparing;
 mod counted;
+mod in_place;
 mod reads;
 mod support;
 mod surface;

@@ -4,7 +4,7 @@ ghost use Rattle.range_algebra.specs.Range.{ClonesAreEqual};
 use range_algebra::any::AnyRange;
 use range_keys::traits::Measure;
 use range_map::map::MapError;
-use range_sets::multimap::{RangeMultiMap, SetMut};
+use range_sets::multimap::{RangeMultiMap, SetAlgebra, SetMut};
 use range_store::btree::BoxStorage;
 use range_store::storage::{Item, Storage};
 use range_store::vec_storage::VecStorage;
@@ -214,8 +214,8 @@ fn run<K: Copy + PartialEq, M: Played<K>>(
     Ok(None)
 }
 
-/// Sets of numbers that count their members and are shown.
-pub trait Numbers: SetMut<i32> + Debug {
+/// Sets of numbers that are put together, count their members and are shown.
+pub trait Numbers: SetAlgebra<i32> + Debug {
     fn count(&self) -> usize;
 }
 

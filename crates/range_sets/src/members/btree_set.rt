@@ -2,7 +2,7 @@
 ghost use Rattle.std.specs.BTreeSet.{contains, IsEmpty, IsOrdered};
 ghost use Rattle.range_sets.specs.ListedMembers.{tree_void, tree_void_equal, tree_equal_value, tree_equal_same, tree_same_equal, tree_clones};
 
-use super::{MaybeEmpty, SetMut};
+use super::{MaybeEmpty, SetAlgebra, SetMut};
 use std::alloc::{AllocError, Global};
 use std::collections::BTreeSet;
 
@@ -51,4 +51,14 @@ impl<V: Ord + Clone + Drop> SetMut<V> for BTreeSet<V> {
     ghost same_equal = { tree_same_equal V.cmp V.total V.eq V.matches_eq };
 
     ghost clones_equal = { tree_clones V.eq V.is_clone };
+}
+
+impl<V: Ord + Clone + Drop> SetAlgebra<V> for BTreeSet<V> {
+    fn united_with(&self, other: &BTreeSet<V>) -> Result<BTreeSet<V>, AllocError> {
+        self | other
+    }
+
+    fn without(&self, other: &BTreeSet<V>) -> Result<BTreeSet<V>, AllocError> {
+        self - other
+    }
 }

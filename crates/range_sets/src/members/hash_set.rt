@@ -2,7 +2,7 @@
 ghost use Rattle.std.specs.HashSet.{contains, IsEmpty, IsUnique};
 ghost use Rattle.range_sets.specs.ListedMembers.{table_void, table_void_equal, table_equal_value, table_equal_same, table_same_equal, table_clones};
 
-use super::{MaybeEmpty, SetMut};
+use super::{MaybeEmpty, SetAlgebra, SetMut};
 use std::alloc::{AllocError, Global};
 use std::collections::HashSet;
 use std::hash::Hash;
@@ -52,4 +52,14 @@ impl<V: Eq + Hash + Clone + Drop> SetMut<V> for HashSet<V> {
     ghost same_equal = { λ s t _ _. table_same_equal V.eq V.Eq.laws s t };
 
     ghost clones_equal = { table_clones V.eq V.Eq.laws V.is_clone };
+}
+
+impl<V: Eq + Hash + Clone + Drop> SetAlgebra<V> for HashSet<V> {
+    fn united_with(&self, other: &HashSet<V>) -> Result<HashSet<V>, AllocError> {
+        self | other
+    }
+
+    fn without(&self, other: &HashSet<V>) -> Result<HashSet<V>, AllocError> {
+        self - other
+    }
 }

@@ -12,7 +12,7 @@ use std::test::Fail;
 
 /// A set that is made of two.
 #[derive(Clone, Copy)]
-enum Made {
+pub enum Made {
     Union,
     Intersection,
     Difference,
@@ -50,7 +50,7 @@ impl Made {
         }
     }
 
-    fn right<'a>(self, row: &Row<'a>) -> &'a [Keys<u8>] {
+    pub fn right<'a>(self, row: &Row<'a>) -> &'a [Keys<u8>] {
         match self {
             Made::Union => row.union,
             Made::Intersection => row.intersection,
@@ -61,9 +61,9 @@ impl Made {
 }
 
 /// The ranges of two sets, and of the sets that are made of them.
-struct Row<'a> {
-    first: &'a [Keys<u8>],
-    second: &'a [Keys<u8>],
+pub struct Row<'a> {
+    pub first: &'a [Keys<u8>],
+    pub second: &'a [Keys<u8>],
     union: &'a [Keys<u8>],
     intersection: &'a [Keys<u8>],
     difference: &'a [Keys<u8>],
@@ -72,7 +72,7 @@ struct Row<'a> {
 
 /// None and none; none and all; the same, written otherwise; ranges that touch; ranges that cross;
 /// the last key; one range across many.
-static ROWS: &[Row<'static>] = &[
+pub static ROWS: &[Row<'static>] = &[
     Row {
         first: &[],
         second: &[],
@@ -131,7 +131,7 @@ static ROWS: &[Row<'static>] = &[
     },
 ];
 
-fn set_of<C: Storage<Entry<u8>>>(
+pub fn set_of<C: Storage<Entry<u8>>>(
     alloc: Global,
     ranges: &[Keys<u8>],
 ) -> Result<RangeSet<u8, C>, MapError> {
@@ -139,7 +139,7 @@ fn set_of<C: Storage<Entry<u8>>>(
 }
 
 /// Whether the set stores just these ranges.
-fn stores<C: Storage<Entry<u8>>>(set: &RangeSet<u8, C>, ranges: &[Keys<u8>]) -> bool {
+pub fn stores<C: Storage<Entry<u8>>>(set: &RangeSet<u8, C>, ranges: &[Keys<u8>]) -> bool {
     let mut stored = set.iter();
     for keys in ranges {
         if stored.next() != Some(&range_of(*keys)) {
@@ -209,7 +209,7 @@ fn drawn(number: u32) -> AnyRange<u8> {
 }
 
 /// A set of up to 20 ranges, drawn from a number on.
-fn drawn_set<C: Storage<Entry<u8>>>(
+pub fn drawn_set<C: Storage<Entry<u8>>>(
     alloc: Global,
     number: u32,
 ) -> Result<RangeSet<u8, C>, MapError> {
@@ -223,7 +223,7 @@ fn drawn_set<C: Storage<Entry<u8>>>(
 }
 
 /// Whether the set holds each byte just where it has to, by whether the two hold it.
-fn holds_rightly<C: Storage<Entry<u8>>, D: Storage<Entry<u8>>>(
+pub fn holds_rightly<C: Storage<Entry<u8>>, D: Storage<Entry<u8>>>(
     set: &RangeSet<u8, C>,
     made: Made,
     first: &RangeSet<u8, C>,

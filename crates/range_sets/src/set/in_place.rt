@@ -1,0 +1,108 @@
+//! A set changed by the keys of another, range by range.
+ghost use Rattle.std.specs.Prelude.{OnOk, OnErr};
+ghost use Rattle.range_algebra.specs.Range.{ClonesAreEqual};
+ghost use Rattle.range_map.specs.FreeRanges.{item_ranges};
+ghost use Rattle.range_sets.specs.KeySets.{HoldsAllAlso, HoldsWithoutAll, IsStoredSet};
+ghost use Rattle.range_sets.specs.PartWay.{BeforeOne, BeforeOneGap};
+ghost use Rattle.range_sets.specs.TwoSets.{HoldsEither, HoldsBoth, HoldsFirstAlone};
+
+use super::RangeSet;
+use range_algebra::any::AnyRange;
+use range_keys::traits::Measure;
+use range_map::map::MapError;
+use range_store::storage::{Item, Storage};
+
+impl<T: Measure + Clone, C: Storage<Item<AnyRange<T>, ()>>> RangeSet<T, C> {
+    /// Adds each key of the other set, whatever container it is kept in.
+    ///
+    /// Searches once for each range of the other set, where `union` goes over both sets. Allocates
+    /// a clone of each bound of the other set, and where more ranges are stored than the container
+    /// has capacity for. After an error the keys of the other set's ranges before the one at which
+    /// it failed are added, and no other key.
+    ///
+    /// ```
+    /// // of a set of the keys 0..=5, and one of the keys 4..9
+    /// set.extend_from(other)?;
+    /// assert!(rt; set.len() == 9); // 0..9
+    /// ```
+    pub fn extend_from<D: Storage<Item<AnyRange<T>, ()>>>(
+        &mut self,
+        other: &RangeSet<T, D>,
+    ) -> Result<(), MapError>
+        requires { ClonesAreEqual T.is_clone T.eq }
+        ensures held { OnOk result
+            (HoldsEither T.order (C.items self.old) (D.items other.now) (C.items self.new)) }
+        ensures refused { OnErr result (BeforeOne (item_ranges (D.items other.now))
+            (HoldsAllAlso T.order (C.items self.old) (C.items self.new))) }
+        ensures form { IsStoredSet T.order (C.items self.new) }
+    {
+        self.in_form();
+        let mut ranges = other.iter();
+        while let Some(range) = ranges.next() {
+            self.insert(range.clone()?)?;
+        }
+        Ok(())
+    }
+
+    /// Takes each key of the other set away, whatever container it is kept in.
+    ///
+    /// Searches once for each range of the other set, where `difference` goes over both sets.
+    /// Allocates a clone of each bound at which a stored range is cut, and where more ranges are
+    /// stored than the container has capacity for. After an error the keys of the other set's ranges
+    /// before the one at which it failed are gone, and no other key.
+    ///
+    /// ```
+    /// // of a set of the keys 0..=5, and one of the keys 4..9
+    /// set.remove_all(other)?;
+    /// assert!(rt; set.len() == 4); // 0..4
+    /// ```
+    pub fn remove_all<D: Storage<Item<AnyRange<T>, ()>>>(
+        &mut self,
+        other: &RangeSet<T, D>,
+    ) -> Result<(), MapError>
+        requires { ClonesAreEqual T.is_clone T.eq }
+        ensures held { OnOk result
+            (HoldsFirstAlone T.order (C.items self.old) (D.items other.now) (C.items self.new)) }
+        ensures refused { OnErr result (BeforeOne (item_ranges (D.items other.now))
+            (HoldsWithoutAll T.order (C.items self.old) (C.items self.new))) }
+        ensures form { IsStoredSet T.order (C.items self.new) }
+    {
+        self.in_form();
+        let mut ranges = other.iter();
+        while let Some(range) = ranges.next() {
+            self.remove(range)?;
+        }
+        Ok(())
+    }
+
+    /// Keeps only the keys that are in the other set, whatever container it is kept in.
+    ///
+    /// Searches once for each gap of the other set, where `intersection` goes over both sets.
+    /// Allocates a clone of each bound of a gap, one of each bound at which a stored range is cut,
+    /// and where more ranges are stored than the container has capacity for. After an error the
+    /// keys of the other set's gaps before the one at which it failed are gone, and no other key.
+    ///
+    /// ```
+    /// // of a set of the keys 0..=5, and one of the keys 4..9
+    /// set.retain_all(other)?;
+    /// assert!(rt; set.len() == 2); // 4..=5
+    /// ```
+    pub fn retain_all<D: Storage<Item<AnyRange<T>, ()>>>(
+        &mut self,
+        other: &RangeSet<T, D>,
+    ) -> Result<(), MapError>
+        requires { ClonesAreEqual T.is_clone T.eq }
+        ensures held { OnOk result
+            (HoldsBoth T.order (C.items self.old) (D.items other.now) (C.items self.new)) }
+        ensures refused { OnErr result (BeforeOneGap T.order (D.items other.now)
+            (HoldsWithoutAll T.order (C.items self.old) (C.items self.new))) }
+        ensures form { IsStoredSet T.order (C.items self.new) }
+    {
+        self.in_form();
+        let mut gaps = other.gaps();
+        while let Some(gap) = gaps.next() {
+            self.remove(gap.cloned()?)?;
+        }
+        Ok(())
+    }
+}
