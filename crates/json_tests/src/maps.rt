@@ -1,10 +1,11 @@
 //! Maps, read in either shape and written.
 
 use crate::support::{
-    Row, Stored, Told, has_ends, holds, is_done_or_refused, is_written_or_refused, parsed, play,
+    Fault, Row, Stored, Told, fault_of, has_ends, holds, is_done_or_refused, is_fault, is_written,
+    is_written_or_refused, parsed, play,
 };
 use range_algebra::any::AnyRange;
-use range_json::json::{JsonError, map_from_json, map_to_json};
+use range_json::json::{JsonError, map_from_json, map_from_json_overwriting, map_to_json};
 use range_map::map::{MapError, RangeMap};
 use range_store::btree::BoxStorage;
 use range_store::storage::{Item, Storage};
@@ -67,92 +68,90 @@ const FULL: &str = r#"{"items":[[["Unbounded","Unbounded"],1]],"version":2}"#;
 
 /// The fault of the whole, or else of the first faulty element, and in it the first of the order.
 static FAULTS: &[Row] = &[
-    ("7", Err(JsonError::NotArray)),
-    ("null", Err(JsonError::NotArray)),
-    (r#""items""#, Err(JsonError::NotArray)),
-    ("{}", Err(JsonError::Version)),
-    (r#"{"items":[]}"#, Err(JsonError::Version)),
-    (r#"{"version":3,"items":[]}"#, Err(JsonError::Version)),
-    (r#"{"version":2.0,"items":[]}"#, Err(JsonError::Version)),
-    (r#"{"version":"2","items":[]}"#, Err(JsonError::Version)),
-    (r#"{"version":2,"items":[],"x":0}"#, Err(JsonError::Version)),
-    (r#"{"version":2,"x":0}"#, Err(JsonError::Version)),
-    (r#"{"version":2}"#, Err(JsonError::NotArray)),
-    (r#"{"version":2,"items":{}}"#, Err(JsonError::NotArray)),
-    (r#"{"version":2,"items":[1]}"#, Err(JsonError::NotPair(0))),
-    ("[1]", Err(JsonError::NotPair(0))),
+    ("7", Err(Fault::NotArray)),
+    ("null", Err(Fault::NotArray)),
+    (r#""items""#, Err(Fault::NotArray)),
+    ("{}", Err(Fault::Version)),
+    (r#"{"items":[]}"#, Err(Fault::Version)),
+    (r#"{"version":3,"items":[]}"#, Err(Fault::Version)),
+    (r#"{"version":2.0,"items":[]}"#, Err(Fault::Version)),
+    (r#"{"version":"2","items":[]}"#, Err(Fault::Version)),
+    (r#"{"version":2,"items":[],"x":0}"#, Err(Fault::Version)),
+    (r#"{"version":2,"x":0}"#, Err(Fault::Version)),
+    (r#"{"version":2}"#, Err(Fault::NotArray)),
+    (r#"{"version":2,"items":{}}"#, Err(Fault::NotArray)),
+    (r#"{"version":2,"items":[1]}"#, Err(Fault::NotPair(0))),
+    ("[1]", Err(Fault::NotPair(0))),
     (
         r#"[[["Unbounded","Unbounded"],1,2]]"#,
-        Err(JsonError::NotPair(0)),
+        Err(Fault::NotPair(0)),
     ),
-    (
-        r#"[[["Unbounded","Unbounded"]]]"#,
-        Err(JsonError::NotPair(0)),
-    ),
-    (r#"[[["Unbounded"],1]]"#, Err(JsonError::NotRange(0))),
-    (r#"[[["Unbounded"],1],7]"#, Err(JsonError::NotRange(0))),
-    (r#"[[["Unbounded"],"x"]]"#, Err(JsonError::NotRange(0))),
-    (r#"[[["Open","Unbounded"],1]]"#, Err(JsonError::NotBound(0))),
+    (r#"[[["Unbounded","Unbounded"]]]"#, Err(Fault::NotPair(0))),
+    (r#"[[["Unbounded"],1]]"#, Err(Fault::NotRange(0))),
+    (r#"[[["Unbounded"],1],7]"#, Err(Fault::NotRange(0))),
+    (r#"[[["Unbounded"],"x"]]"#, Err(Fault::NotRange(0))),
+    (r#"[[["Open","Unbounded"],1]]"#, Err(Fault::NotBound(0))),
     (
         r#"[[[{"Included":0,"Excluded":1},"Unbounded"],1]]"#,
-        Err(JsonError::NotBound(0)),
+        Err(Fault::NotBound(0)),
     ),
-    (r#"[[[{},"Unbounded"],1]]"#, Err(JsonError::NotBound(0))),
+    (r#"[[[{},"Unbounded"],1]]"#, Err(Fault::NotBound(0))),
     (
         r#"[[[{"Included":"x"},"Unbounded"],1]]"#,
-        Err(JsonError::Key(0)),
+        Err(Fault::Key(0)),
     ),
-    (r#"[[[{"Included":"x"},"Open"],1]]"#, Err(JsonError::Key(0))),
+    (r#"[[[{"Included":"x"},"Open"],1]]"#, Err(Fault::Key(0))),
     (
         r#"[[["Open",{"Included":"x"}],1]]"#,
-        Err(JsonError::NotBound(0)),
+        Err(Fault::NotBound(0)),
     ),
     (
         r#"[[["Unbounded",{"Included":"x"}],"x"]]"#,
-        Err(JsonError::Key(0)),
+        Err(Fault::Key(0)),
     ),
     (
         r#"[[["Unbounded",{"Excluded":2147483648}],1]]"#,
-        Err(JsonError::Key(0)),
+        Err(Fault::Key(0)),
     ),
-    (
-        r#"[[["Unbounded","Unbounded"],"x"]]"#,
-        Err(JsonError::Value(0)),
-    ),
+    (r#"[[["Unbounded","Unbounded"],"x"]]"#, Err(Fault::Value(0))),
     (
         r#"[[["Unbounded","Unbounded"],1],[["Unbounded","Unbounded"],1]]"#,
-        Err(JsonError::Meets(1)),
+        Err(Fault::Meets(1, 0)),
     ),
     (
         r#"[[["Unbounded","Unbounded"],1],[["Unbounded","Unbounded"],"x"]]"#,
-        Err(JsonError::Value(1)),
+        Err(Fault::Value(1)),
     ),
     (
         r#"[[[{"Included":0},{"Excluded":6}],1],[[{"Included":5},{"Excluded":9}],2]]"#,
-        Err(JsonError::Meets(1)),
+        Err(Fault::Meets(1, 0)),
     ),
     (
         r#"[[[{"Included":0},{"Excluded":5}],1],[[{"Included":5},{"Excluded":9}],1],[[{"Included":3},{"Included":3}],1]]"#,
-        Err(JsonError::Meets(2)),
+        Err(Fault::Meets(2, 0)),
+    ),
+    (
+        r#"[[[{"Included":0},{"Excluded":5}],1],[[{"Included":5},{"Excluded":9}],1],[[{"Included":7},{"Included":7}],1]]"#,
+        Err(Fault::Meets(2, 1)),
     ),
     (
         r#"{"version":2,"items":[[[{"Included":0},{"Excluded":6}],1],[[{"Included":5},{"Excluded":9}],2]]}"#,
-        Err(JsonError::Meets(1)),
+        Err(Fault::Meets(1, 0)),
     ),
 ];
 
 /// The fault of a map of bytes.
-fn fault_of_bytes(alloc: Global, text: &str) -> Option<JsonError> {
+fn fault_of_bytes(alloc: Global, text: &str) -> Option<Fault> {
     let value = parsed(alloc, text)?;
     let outcome: Result<RangeMap<u8, i64, VecStorage<Item<AnyRange<u8>, i64>>>, JsonError> =
         map_from_json(alloc, &value);
-    outcome.err()
+    outcome.err().map(fault_of)
 }
 
 #[test]
 fn a_byte_is_at_most_255(rt: HostRuntime) {
     let past = fault_of_bytes(rt.alloc(), r#"[[[{"Included":300},"Unbounded"],1]]"#);
-    assert_eq!(rt; past, Some(JsonError::Key(0)));
+    assert_eq!(rt; past, Some(Fault::Key(0)));
     let last = fault_of_bytes(rt.alloc(), r#"[[[{"Included":255},"Unbounded"],1]]"#);
     assert_eq!(rt; last, None);
 }
@@ -250,6 +249,59 @@ fn play_over<C: Storage<Entry>>(rt: &impl Abort, alloc: Global) -> Result<(), Fa
 fn maps(rt: HostRuntime) -> Result<(), Fail> {
     play_over::<VecStorage<Entry>>(&rt, rt.alloc())?;
     play_over::<BoxStorage<Entry>>(&rt, rt.alloc())
+}
+
+/// A later element overwrites what it meets of earlier ones; an empty range overwrites nothing. The
+/// faults of an element by itself stay.
+static OVERWRITTEN: &[Row] = &[
+    ("[]", Ok(EMPTY)),
+    (
+        r#"[[[{"Included":0},{"Excluded":9}],1],[[{"Included":3},{"Excluded":5}],2]]"#,
+        Ok(
+            r#"{"items":[[[{"Included":0},{"Excluded":3}],1],[[{"Included":3},{"Excluded":5}],2],[[{"Included":5},{"Excluded":9}],1]],"version":2}"#,
+        ),
+    ),
+    (
+        r#"{"version":2,"items":[[[{"Included":3},{"Excluded":5}],2],[["Unbounded","Unbounded"],1]]}"#,
+        Ok(FULL),
+    ),
+    (
+        r#"[[["Unbounded","Unbounded"],1],[[{"Included":8},{"Excluded":3}],2],[[{"Included":3},{"Included":4}],1]]"#,
+        Ok(FULL),
+    ),
+    ("{}", Err(Fault::Version)),
+    (
+        r#"[[["Unbounded","Unbounded"],1],[["Unbounded","Unbounded"],"x"]]"#,
+        Err(Fault::Value(1)),
+    ),
+];
+
+/// Whether a text that stands for a JSON value is read so, where the last element counts.
+fn is_overwritten<C: Storage<Entry>>(alloc: Global, row: &Row) -> Result<bool, AllocError> {
+    let Some(value) = parsed(alloc, row.0) else {
+        return Ok(false);
+    };
+    let read: Result<Numbers<C>, JsonError> = map_from_json_overwriting(alloc, &value);
+    match (read, row.1) {
+        (Ok(map), Ok(text)) => is_written(alloc, &map, text),
+        (Err(error), _) => Ok(is_fault(error, row.1)),
+        _ => Ok(false),
+    }
+}
+
+fn are_overwritten<C: Storage<Entry>>(alloc: Global) -> Result<bool, AllocError> {
+    for row in OVERWRITTEN {
+        if !is_overwritten::<C>(alloc, row)? {
+            return Ok(false);
+        }
+    }
+    Ok(true)
+}
+
+#[test]
+fn the_last_element_counts(rt: HostRuntime) {
+    assert!(rt; are_overwritten::<VecStorage<Entry>>(rt.alloc()) == Ok(true));
+    assert!(rt; are_overwritten::<BoxStorage<Entry>>(rt.alloc()) == Ok(true));
 }
 
 const WRITTEN: &str =

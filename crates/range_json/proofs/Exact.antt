@@ -19,26 +19,21 @@ use Rattle.range_algebra.specs.RangeOrder.{range_cmp}
 use Rattle.range_store.specs.declared.storage.Item.{Item}
 use Rattle.range_json.specs.declared.error.JsonError.{JsonError}
 use Rattle.range_json.specs.Shapes.{bound_of}
-use Rattle.range_json.specs.Faults.{first_fault, ArePartsRead, IsRangeRead}
-use Rattle.range_json.specs.MapFaults.{element_fault, IsElementRead, MeetNonempty, MeetsOne, AreApart, AreRead, IsFirstFault, IsFaultOf, IsMapRead, IsMapFault}
+use Rattle.range_json.specs.Faults.{Fault, fault_of, first_fault, ArePartsRead, IsRangeRead}
+use Rattle.range_json.specs.MapFaults.{element_fault, HasOneReading, IsElementRead, MeetNonempty, MeetsOne, AreApart, AreRead, IsFirstFault, IsFaultOf, IsMapRead, IsMapFault}
 use Rattle.range_json.proofs.Reading.{fault_first}
 
--- keys that are read of one JSON value are equal
-abbrev pub HasOneReading : {K : Type 0} → KeyOrder K → (Data → K → Type 0) → Type 0
-HasOneReading {K} order key_is_read = (d : Data) (x y : K) → key_is_read d x → key_is_read d y
-    → order.cmp x y ≡ Equal
-
 -- the place of an element among those that are read
-record IsReadAt {X : Type 0} (R : Data → X → Type 0) (front : List Data) (d : Data)
+pub record IsReadAt {X : Type 0} (R : Data → X → Type 0) (front : List Data) (d : Data)
     (elements : List X) : Type 0 where
-  xs : List X
-  x : X
-  ys : List X
-  split : elements ≡ xs ++ x ∷ ys
-  before : AllZip R front xs
-  at : R d x
+  pub xs : List X
+  pub x : X
+  pub ys : List X
+  pub split : elements ≡ xs ++ x ∷ ys
+  pub before : AllZip R front xs
+  pub at : R d x
 
-read_at : {X : Type 0} (R : Data → X → Type 0) (front : List Data) (d : Data) (rest : List Data)
+pub read_at : {X : Type 0} (R : Data → X → Type 0) (front : List Data) (d : Data) (rest : List Data)
     (elements : List X) → AllZip R (front ++ d ∷ rest) elements → IsReadAt R front d elements
 read_at R [] d rest [] h = absurd h
 read_at R [] d rest (y ∷ ys) h =
@@ -77,7 +72,7 @@ module _ {K : Type 0} (order : KeyOrder K) (lawful : IsLawful order) where
       (position_cmp order.cmp (end_position order r.end) (end_position order s.end)) e).1
 
   -- equal ranges meet equal ranges
-  meet_too : (r s q t : AnyRange K) → range_cmp order r q ≡ Equal → range_cmp order s t ≡ Equal
+  pub meet_too : (r s q t : AnyRange K) → range_cmp order r q ≡ Equal → range_cmp order s t ≡ Equal
       → MeetNonempty order r s → MeetNonempty order q t
   meet_too r s q t e f h = (
     λ empty.
@@ -123,7 +118,7 @@ module _ {K : Type 0} (order : KeyOrder K) (lawful : IsLawful order) where
     parts_one (Some Unbounded) Unbounded (Excluded l) h g = absurd g
     parts_one (Some Unbounded) Unbounded Unbounded h g = tt
 
-    range_one : (d : Data) (r s : AnyRange K) → IsRangeRead is_read d r → IsRangeRead is_read d s
+    pub range_one : (d : Data) (r s : AnyRange K) → IsRangeRead is_read d r → IsRangeRead is_read d s
         → range_cmp order r s ≡ Equal
     range_one d r s (ds, e, starts, ends) (es, f, other_starts, other_ends) =
         let same : es ≡ ds = same_Some es ds (sym f ∙ e) in
@@ -166,7 +161,7 @@ module _ {K : Type 0} (order : KeyOrder K) (lawful : IsLawful order) where
 
       module _ (key_reads value_reads : Data → Bool) where
         -- elements that are read have no first fault
-        no_first : (ds : List Data) (elements : List (Item (AnyRange K) V)) (f : JsonError)
+        no_first : (ds : List Data) (elements : List (Item (AnyRange K) V)) (f : Fault)
             → AreRead order key_reads value_reads is_read value_is_read ds elements
             → IsFirstFault order key_reads value_reads is_read value_is_read ds f → ⊥
         no_first ds elements f read first =
@@ -182,10 +177,10 @@ module _ {K : Type 0} (order : KeyOrder K) (lawful : IsLawful order) where
                   none-some f (sym sound
                   ∙ fault_first fault first.front first.d first.rest f first.fine.sound own)
               | inr met ↦
-                  let x = met.0.1.0 in
+                  let x = met.1.1.0 in
                   apart_at place.xs place.ys place.x (subst (AreApart order) place.split read.apart)
                   (one_too first.front first.earlier place.xs x.key place.x.key first.fine.read
-                  place.before (element_one first.d x place.x met.0.1.1 place.at) met.0.1.3)
+                  place.before (element_one first.d x place.x met.1.1.1 place.at) met.1.1.3)
             ]
 
         pub no_fault : (same : V → V → Bool) (d : Data) (items : List (Item (AnyRange K) V))
@@ -193,6 +188,7 @@ module _ {K : Type 0} (order : KeyOrder K) (lawful : IsLawful order) where
             → IsMapRead order key_reads value_reads is_read value_is_read same d items
             → IsMapFault order key_reads value_reads is_read value_is_read d f → ⊥
         no_fault same d items f read fault =
-            no_first read.ds read.elements f read.read
-            (subst (λ w. IsFaultOf order key_reads value_reads is_read value_is_read w f)
+            no_first read.ds read.elements (fault_of f) read.read
+            (subst (λ w.
+            IsFaultOf order key_reads value_reads is_read value_is_read w (fault_of f))
             read.whole fault)

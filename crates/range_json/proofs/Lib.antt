@@ -1,7 +1,9 @@
 pub mod Exact
 pub mod Keeping
 pub mod MapReading
+pub mod Meetings
 pub mod Multimaps
+pub mod OverwritingLoop
 pub mod Reading
 pub mod ReadingBack
 pub mod ValueSets

@@ -17,21 +17,20 @@ use Rattle.range_store.specs.declared.storage.Item.{Item}
 use Rattle.range_sets.specs.KeySets.{HoldsAllAlso, HoldsAlso, IsStoredSet}
 use Rattle.range_sets.proofs.Membership.{one_more, none_added}
 use Rattle.range_sets.proofs.Filling.{all_equal}
-use Rattle.range_json.specs.declared.error.JsonError.{JsonError}
 use Rattle.range_json.specs.Shapes.{list_of, elements_of}
-use Rattle.range_json.specs.Faults.{before, first_fault, range_fault, range_items, IsRangeRead}
+use Rattle.range_json.specs.Faults.{Fault, before, first_fault, range_fault, range_items, IsRangeRead}
 use Rattle.range_json.specs.SetReadBack.{list_back}
 
-abbrev Fault : Type 0
-Fault = Option JsonError
+abbrev MaybeFault : Type 0
+MaybeFault = Option Fault
 
-module _ (fault : ℕ → Data → Fault) where
-  behind_at : (f : Fault) (rest tail : Fault) → before f rest ≡ None → (rest ≡ None → tail ≡ tail)
+module _ (fault : ℕ → Data → MaybeFault) where
+  behind_at : (f rest tail : MaybeFault) → before f rest ≡ None → (rest ≡ None → tail ≡ tail)
       → f ≡ None
   behind_at None rest tail e h = refl
   behind_at (Some x) rest tail e h = e
 
-  rest_none : (f rest : Fault) → before f rest ≡ None → rest ≡ None
+  rest_none : (f rest : MaybeFault) → before f rest ≡ None → rest ≡ None
   rest_none None rest e = e
   rest_none (Some x) rest e = search (rules, e)
 
@@ -52,7 +51,7 @@ module _ (fault : ℕ → Data → Fault) where
   from_start ds more h = fault_behind 0 ds more h ∙ ap (λ n. first_fault fault n more) (omega arith)
 
   -- a fault of an element after elements without one is the first
-  pub fault_first : (ds : List Data) (d : Data) (more : List Data) (e : JsonError)
+  pub fault_first : (ds : List Data) (d : Data) (more : List Data) (e : Fault)
       → first_fault fault 0 ds ≡ None → fault (length ds) d ≡ Some e
       → first_fault fault 0 (ds ++ d ∷ more) ≡ Some e
   fault_first ds d more e h at =
@@ -127,7 +126,7 @@ module _ {K : Type 0} (key_reads : Data → Bool) (key_is_read : Data → K → 
             (frame full)) ∙ sym more;
       }
 
-  pub set_fails : (vs more : List Value) (v : Value) (e : JsonError)
+  pub set_fails : (vs more : List Value) (v : Value) (e : Fault)
       (items : List (Item (AnyRange K) (Unit {0}))) → IsSetSoFar vs items
       → range_fault key_reads (length vs) (view v) ≡ Some e
       → first_fault (range_fault key_reads) 0 (map view (vs ++ v ∷ more)) ≡ Some e

@@ -5,6 +5,8 @@ pub mod ValueSets
 pub mod Faults
 pub mod MapFaults
 pub mod MultimapFaults
+pub mod Meetings
+pub mod Overwriting
 pub mod ReadBack
 pub mod Laws
 pub mod SetReadBack

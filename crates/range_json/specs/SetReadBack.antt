@@ -1,5 +1,5 @@
 -- What is written of a set of values stands for it: the laws of `ReadsBack`.
-use Rattle.std.proofs.Common.{◌≡◌, refl, sym, ap, subst, ◌∙◌, ◌&&◌, ◌||◌, Bool, true, IsTrue, List, [], ◌∷◌, map, Some}
+use Rattle.std.proofs.Common.{◌≡◌, refl, sym, ap, subst, ◌∙◌, ◌||◌, Bool, true, IsTrue, List, [], ◌∷◌, map, Some}
 use Rattle.std.specs.BTreeSet.{BTreeSet, IsEmpty}
 use Rattle.std.specs.Cmp.{IsTotalOrder, eq_by_cmp_equiv}
 use Rattle.std.specs.Cmp.Lexicographic.{pointwise}

@@ -2,12 +2,13 @@
 ghost use Rattle.std.specs.Prelude.{◌≡◌, ◌⊎◌, Some, None, option_map, IfOk, OnOk, IfErr};
 ghost use Rattle.serde_json.specs.Data.{object, member, no_members};
 ghost use Rattle.serde_json.specs.View.{view};
-ghost use Rattle.range_json.specs.Faults.{IsBoundRead, bound_fault, key_fault};
+ghost use Rattle.range_json.specs.Faults.{IsBoundRead, bound_fault, fault_of, key_fault, no_bound};
 ghost use Rattle.range_json.specs.Shapes.{bound_shape, only_member_of};
 ghost use Rattle.range_json.specs.Values.{IsBoundValue};
 ghost use Rattle.range_json.specs.declared.error.JsonError.TheVariants.{Memory};
 
 use crate::error::{JsonError, ReadError};
+use crate::found::Found;
 use crate::json::Json;
 use serde_json::{Map, Value};
 use std::alloc::{AllocError, Global};
@@ -39,12 +40,15 @@ fn key_from_json<K: Json>(alloc: Global, value: &Value, index: usize) -> Result<
     ensures read { IfOk result (K.is_read (view value.now)) }
     ensures sound { OnOk result (key_fault K.reads index (view value.now) ≡ None) }
     ensures fault { IfErr result
-        (λ e. (e ≡ Memory) ⊎ (key_fault K.reads index (view value.now) ≡ Some e)) }
+        (λ e. (e ≡ Memory) ⊎ (key_fault K.reads index (view value.now) ≡ Some (fault_of e))) }
 {
     match K::from_json(alloc, value) {
         Ok(key) => Ok(key),
         Err(ReadError::Memory) => Err(JsonError::Memory),
-        Err(ReadError::Refused) => Err(JsonError::Key(index)),
+        Err(ReadError::Refused) => Err(JsonError::Key {
+            element: index,
+            found: Found::of(value),
+        }),
     }
 }
 
@@ -60,6 +64,16 @@ fn only_member(value: &Value) -> Option<(&str, &Value)>
     }
 }
 
+/// The fault of a bound of the element at `index`.
+fn not_bound(value: &Value, index: usize) -> JsonError
+    ensures { fault_of result ≡ no_bound index }
+{
+    JsonError::NotBound {
+        element: index,
+        found: Found::of(value),
+    }
+}
+
 /// A bound of the element at `index`.
 pub(crate) fn bound_from_json<K: Json>(
     alloc: Global,
@@ -69,18 +83,18 @@ pub(crate) fn bound_from_json<K: Json>(
     ensures read { IfOk result (IsBoundRead K.is_read (view value.now)) }
     ensures sound { OnOk result (bound_fault K.reads index (view value.now) ≡ None) }
     ensures fault { IfErr result
-        (λ e. (e ≡ Memory) ⊎ (bound_fault K.reads index (view value.now) ≡ Some e)) }
+        (λ e. (e ≡ Memory) ⊎ (bound_fault K.reads index (view value.now) ≡ Some (fault_of e))) }
 {
     if let Some(text) = value.as_str() {
         return if text == "Unbounded" {
             Ok(Bound::Unbounded)
         } else {
-            Err(JsonError::NotBound(index))
+            Err(not_bound(value, index))
         };
     }
     match only_member(value) {
         Some(("Included", key)) => Ok(Bound::Included(key_from_json(alloc, key, index)?)),
         Some(("Excluded", key)) => Ok(Bound::Excluded(key_from_json(alloc, key, index)?)),
-        _ => Err(JsonError::NotBound(index)),
+        _ => Err(not_bound(value, index)),
     }
 }

@@ -1,16 +1,20 @@
 //! The elements of a map.
-ghost use Rattle.std.specs.Prelude.{◌≡◌, ◌⊎◌, Some, None, IfOk, OnOk, IfErr};
+ghost use Rattle.std.specs.Prelude.{◌≡◌, ◌⊎◌, ℕ, length, Some, None, IfOk, OnOk, IfErr};
 ghost use Rattle.serde_json.specs.View.{view};
 ghost use Rattle.range_algebra.specs.Range.{ClonesAreEqual, IsEmptyRange, IsKnownRange};
 ghost use Rattle.range_change.specs.Bindings.{IsBoundAfter};
 ghost use Rattle.range_change.specs.Frames.{IsInsertionFrame};
 ghost use Rattle.range_change.specs.Lookups.{MeetsSome, MeetAlso};
 ghost use Rattle.range_change.specs.Stored.{IsStored};
-ghost use Rattle.range_json.specs.MapFaults.{IsElementRead, element_fault, value_fault};
-ghost use Rattle.range_json.specs.declared.error.JsonError.TheVariants.{Memory, Meets};
+ghost use Rattle.range_json.specs.Faults.{fault_of, meets_earlier};
+ghost use Rattle.range_json.specs.MapFaults.{HasOneReading, IsElementRead, element_fault, value_fault};
+ghost use Rattle.range_json.specs.Meetings.{all_views, IsFirstOrNone};
+ghost use Rattle.range_json.specs.declared.error.JsonError.TheVariants.{Memory};
 
 use crate::error::{JsonError, ReadError};
+use crate::found::Found;
 use crate::json::Json;
+use crate::meeting::meeting;
 use crate::range::{element_range, pair};
 use range_algebra::any::AnyRange;
 use range_algebra::inner;
@@ -26,12 +30,15 @@ fn value_from_json<V: Json>(alloc: Global, value: &Value, index: usize) -> Resul
     ensures read { IfOk result (V.is_read (view value.now)) }
     ensures sound { OnOk result (value_fault V.reads index (view value.now) ≡ None) }
     ensures fault { IfErr result
-        (λ e. (e ≡ Memory) ⊎ (value_fault V.reads index (view value.now) ≡ Some e)) }
+        (λ e. (e ≡ Memory) ⊎ (value_fault V.reads index (view value.now) ≡ Some (fault_of e))) }
 {
     match V::from_json(alloc, value) {
         Ok(value) => Ok(value),
         Err(ReadError::Memory) => Err(JsonError::Memory),
-        Err(ReadError::Refused) => Err(JsonError::Value(index)),
+        Err(ReadError::Refused) => Err(JsonError::Value {
+            element: index,
+            found: Found::of(value),
+        }),
     }
 }
 
@@ -44,49 +51,61 @@ pub(crate) fn element_from_json<K: Json, V: Json>(
     ensures read { IfOk result (IsElementRead K.is_read V.is_read (view value.now)) }
     ensures sound { OnOk result (element_fault K.reads V.reads index (view value.now) ≡ None) }
     ensures fault { IfErr result
-        (λ e. (e ≡ Memory) ⊎ (element_fault K.reads V.reads index (view value.now) ≡ Some e)) }
+        (λ e. (e ≡ Memory) ⊎ (element_fault K.reads V.reads index (view value.now) ≡ Some (fault_of e))) }
 {
     match pair(value) {
         Some((range, value)) => Ok(Item {
             key: element_range(alloc, range, index)?,
             value: value_from_json(alloc, value, index)?,
         }),
-        None => Err(JsonError::NotPair(index)),
+        None => Err(JsonError::NotPair {
+            element: index,
+            found: Found::of(value),
+        }),
     }
 }
 
-/// Binds the keys of the element at `index`, where its range meets no stored one.
-pub(crate) fn insert_element<K: Measure + Clone, V: Eq + Clone, C: Storage<Item<AnyRange<K>, V>>>(
+/// Binds the keys of an element, where its range meets no stored one. It was read of the JSON value
+/// after the earlier ones.
+pub(crate) fn insert_element<
+    K: Json + Measure + Clone,
+    V: Eq + Clone,
+    C: Storage<Item<AnyRange<K>, V>>,
+>(
+    alloc: Global,
     map: &mut RangeMap<K, V, C>,
-    element: Item<AnyRange<K>, V>,
-    index: usize,
+    item: Item<AnyRange<K>, V>,
+    earlier: &[Value],
+    element: &Value,
 ) -> Result<(), JsonError>
     requires { ClonesAreEqual K.is_clone K.eq }
-    ensures known { IsKnownRange K.order element.key }
+    ensures known { IsKnownRange K.order item.key }
     ensures apart { OnOk result
-        (¬ ((¬ IsEmptyRange K.order element.key)
-        × MeetsSome K.order (C.items map.old) element.key)) }
+        (¬ ((¬ IsEmptyRange K.order item.key)
+        × MeetsSome K.order (C.items map.old) item.key)) }
     ensures bound { OnOk result
-        (IsBoundAfter K.order V.eq (C.items map.old) (C.items map.new) element.key element.value) }
+        (IsBoundAfter K.order V.eq (C.items map.old) (C.items map.new) item.key item.value) }
     ensures meets { OnOk result
-        ((¬ IsEmptyRange K.order element.key)
-        → MeetAlso K.order (C.items map.old) (C.items map.new) element.key) }
+        ((¬ IsEmptyRange K.order item.key)
+        → MeetAlso K.order (C.items map.old) (C.items map.new) item.key) }
     ensures frame { OnOk result
-        ((¬ IsEmptyRange K.order element.key)
-        → IsInsertionFrame K.order V.eq (C.items map.old) (C.items map.new) element.key
-        element.value) }
+        ((¬ IsEmptyRange K.order item.key)
+        → IsInsertionFrame K.order V.eq (C.items map.old) (C.items map.new) item.key
+        item.value) }
     ensures form { IsStored K.order V.eq (C.items map.new) }
-    ensures empty_unchanged { IsEmptyRange K.order element.key → C.items map.new ≡ C.items map.old }
+    ensures empty_unchanged { IsEmptyRange K.order item.key → C.items map.new ≡ C.items map.old }
     ensures met { IfErr result
         (λ e. (e ≡ Memory)
-        ⊎ ((e ≡ Meets index) × (¬ IsEmptyRange K.order element.key)
-        × MeetsSome K.order (C.items map.old) element.key)) }
+        ⊎ (((j : ℕ) × (fault_of e ≡ meets_earlier (length earlier.now) j)
+        × (HasOneReading K.order K.is_read
+        → IsFirstOrNone K.order K.is_read (all_views earlier.now) (view element.now) j))
+        × (¬ IsEmptyRange K.order item.key) × MeetsSome K.order (C.items map.old) item.key)) }
 {
-    let Item { key, value } = element;
+    let Item { key, value } = item;
     inner::known(&key);
     if insert_disjoint(map, key, value)? {
         Ok(())
     } else {
-        Err(JsonError::Meets(index))
+        Err(meeting::<K>(alloc, earlier, element)?)
     }
 }

@@ -5,12 +5,14 @@ ghost use Rattle.serde_json.specs.View.{view};
 ghost use Rattle.range_json.specs.declared.error.ReadError.TheVariants.{Refused};
 
 pub use crate::error::{JsonError, ReadError};
+pub use crate::found::Found;
 pub use crate::laws::{
     maps_are_read_back, multimaps_are_read_back, ranges_are_read_back, read_maps_have_no_fault,
     read_multimaps_have_no_fault, sets_are_read_back,
 };
 pub use crate::map::{map_from_json, map_to_json};
 pub use crate::multimap::{multimap_from_json, multimap_to_json};
+pub use crate::overwriting::map_from_json_overwriting;
 pub use crate::range::{range_from_json, range_to_json};
 pub use crate::set::{set_from_json, set_to_json};
 use serde_json::Value;

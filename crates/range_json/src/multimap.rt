@@ -1,5 +1,5 @@
 //! Multimaps as JSON values.
-ghost use Rattle.std.specs.Prelude.{◌≡◌, ◌⊎◌, Some, None, IfOk, OnOk, IfErr};
+ghost use Rattle.std.specs.Prelude.{◌≡◌, ◌⊎◌, ℕ, length, Some, None, IfOk, OnOk, IfErr};
 ghost use Rattle.std.specs.BTreeSet.{IsEmpty};
 ghost use Rattle.serde_json.specs.View.{view};
 ghost use Rattle.range_algebra.specs.Range.{ClonesAreEqual, IsEmptyRange, IsKnownRange};
@@ -9,16 +9,19 @@ ghost use Rattle.range_change.specs.Lookups.{MeetsSome, MeetAlso};
 ghost use Rattle.range_change.specs.Stored.{IsStored};
 ghost use Rattle.range_sets.specs.Pairs.{HasNoEmptySet};
 ghost use Rattle.range_json.specs.Shapes.{map_shape};
-ghost use Rattle.range_json.specs.MapFaults.{IsElementRead, element_fault};
+ghost use Rattle.range_json.specs.Faults.{fault_of, meets_earlier};
+ghost use Rattle.range_json.specs.MapFaults.{HasOneReading, IsElementRead, element_fault};
+ghost use Rattle.range_json.specs.Meetings.{all_views, IsFirstOrNone};
 ghost use Rattle.range_json.specs.Values.{AreItemValues};
 ghost use Rattle.range_json.specs.ValueSets.{values_shape, reads_some_values, same_values, IsValueSet, AreValuesRead};
 ghost use Rattle.range_json.specs.MultimapFaults.{IsMultimapRead, IsMultimapFault};
-ghost use Rattle.range_json.specs.declared.error.JsonError.TheVariants.{Memory, Meets};
+ghost use Rattle.range_json.specs.declared.error.JsonError.TheVariants.{Memory};
 
 use crate::element::element_from_json;
 use crate::error::JsonError;
 use crate::json::Json;
 use crate::map::pair_to_json;
+use crate::meeting::{found_value, meeting};
 use crate::version::{elements_of_map, versioned};
 use range_algebra::any::AnyRange;
 use range_algebra::inner;
@@ -66,51 +69,60 @@ fn element_with_values<K: Json, V: Json + Ord + Clone>(
         (element_fault K.reads (reads_some_values V.reads) index (view value.now) ≡ None) }
     ensures fault { IfErr result
         (λ e. (e ≡ Memory)
-        ⊎ (element_fault K.reads (reads_some_values V.reads) index (view value.now) ≡ Some e)) }
+        ⊎ (element_fault K.reads (reads_some_values V.reads) index (view value.now) ≡ Some (fault_of e))) }
 {
     let element = element_from_json::<K, BTreeSet<V>>(alloc, value, index)?;
     if element.value.is_empty() {
-        return Err(JsonError::Value(index));
+        return Err(JsonError::Value {
+            element: index,
+            found: found_value(value),
+        });
     }
     Ok(element)
 }
 
-/// Gives the keys of the element at `index` its values, where its range meets no stored one.
-fn insert_values<K: Measure + Clone, S: MaybeEmpty, C: Storage<Item<AnyRange<K>, S>>>(
+/// Gives the keys of an element its values, where its range meets no stored one. It was read of the
+/// JSON value after the earlier ones.
+fn insert_values<K: Json + Measure + Clone, S: MaybeEmpty, C: Storage<Item<AnyRange<K>, S>>>(
+    alloc: Global,
     multimap: &mut RangeMultiMap<K, S, C>,
-    element: Item<AnyRange<K>, S>,
-    index: usize,
+    item: Item<AnyRange<K>, S>,
+    earlier: &[Value],
+    element: &Value,
 ) -> Result<(), JsonError>
     requires keys { ClonesAreEqual K.is_clone K.eq }
-    requires nonempty { ¬ S.is_void element.value }
-    ensures known { IsKnownRange K.order element.key }
+    requires nonempty { ¬ S.is_void item.value }
+    ensures known { IsKnownRange K.order item.key }
     ensures apart { OnOk result
-        (¬ ((¬ IsEmptyRange K.order element.key)
-        × MeetsSome K.order (C.items multimap.old) element.key)) }
+        (¬ ((¬ IsEmptyRange K.order item.key)
+        × MeetsSome K.order (C.items multimap.old) item.key)) }
     ensures bound { OnOk result
-        (IsBoundAfter K.order S.eq (C.items multimap.old) (C.items multimap.new) element.key
-        element.value) }
+        (IsBoundAfter K.order S.eq (C.items multimap.old) (C.items multimap.new) item.key
+        item.value) }
     ensures meets { OnOk result
-        ((¬ IsEmptyRange K.order element.key)
-        → MeetAlso K.order (C.items multimap.old) (C.items multimap.new) element.key) }
+        ((¬ IsEmptyRange K.order item.key)
+        → MeetAlso K.order (C.items multimap.old) (C.items multimap.new) item.key) }
     ensures frame { OnOk result
-        ((¬ IsEmptyRange K.order element.key)
-        → IsInsertionFrame K.order S.eq (C.items multimap.old) (C.items multimap.new) element.key
-        element.value) }
+        ((¬ IsEmptyRange K.order item.key)
+        → IsInsertionFrame K.order S.eq (C.items multimap.old) (C.items multimap.new) item.key
+        item.value) }
     ensures form { IsStored K.order S.eq (C.items multimap.new) }
-    ensures empty_unchanged { IsEmptyRange K.order element.key
+    ensures empty_unchanged { IsEmptyRange K.order item.key
         → C.items multimap.new ≡ C.items multimap.old }
     ensures met { IfErr result
         (λ e. (e ≡ Memory)
-        ⊎ ((e ≡ Meets index) × (¬ IsEmptyRange K.order element.key)
-        × MeetsSome K.order (C.items multimap.old) element.key)) }
+        ⊎ (((j : ℕ) × (fault_of e ≡ meets_earlier (length earlier.now) j)
+        × (HasOneReading K.order K.is_read
+        → IsFirstOrNone K.order K.is_read (all_views earlier.now) (view element.now) j))
+        × (¬ IsEmptyRange K.order item.key)
+        × MeetsSome K.order (C.items multimap.old) item.key)) }
 {
-    let Item { key, value } = element;
+    let Item { key, value } = item;
     inner::known(&key);
     if insert_set(multimap, key, value)? {
         Ok(())
     } else {
-        Err(JsonError::Meets(index))
+        Err(meeting::<K>(alloc, earlier, element)?)
     }
 }
 
@@ -142,11 +154,8 @@ pub fn multimap_from_json<
     let elements = elements_of_map(value)?;
     let mut multimap = RangeMultiMap::new(alloc);
     for (index, element) in elements.iter().enumerate() {
-        insert_values(
-            &mut multimap,
-            element_with_values(alloc, element, index)?,
-            index,
-        )?;
+        let item = element_with_values(alloc, element, index)?;
+        insert_values(alloc, &mut multimap, item, &elements[..index], element)?;
     }
     drop(multimap.iter());
     Ok(multimap)

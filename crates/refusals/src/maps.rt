@@ -49,6 +49,7 @@ pub enum MapCall {
     Run,
     Write,
     Read,
+    ReadOverwriting,
 }
 
 /// What a new binding is bound to.
@@ -379,8 +380,15 @@ fn running<C: Storage<Entry>>(alloc: Global, map: &mut Map<C>, size: Size) -> Ou
     }
 }
 
-fn read<C: Storage<Entry>>(alloc: Global, value: &Value) -> Result<Map<C>, json::JsonError> {
-    json::map_from_json(alloc, value)
+fn read<C: Storage<Entry>>(
+    alloc: Global,
+    value: &Value,
+    call: MapCall,
+) -> Result<Map<C>, json::JsonError> {
+    match call {
+        MapCall::ReadOverwriting => json::map_from_json_overwriting(alloc, value),
+        _ => json::map_from_json(alloc, value),
+    }
 }
 
 fn written<C: Storage<Entry>>(alloc: Global, map: &Map<C>) -> Result<Value, AllocError> {
@@ -388,30 +396,21 @@ fn written<C: Storage<Entry>>(alloc: Global, map: &Map<C>) -> Result<Value, Allo
 }
 
 /// The outcome of reading what the map is written as.
-fn reading<C: Storage<Entry>>(alloc: Global, value: &Value, size: Size) -> Outcome {
-    match read::<C>(alloc, value) {
+fn reading<C: Storage<Entry>>(alloc: Global, value: &Value, size: Size, call: MapCall) -> Outcome {
+    match read::<C>(alloc, value, call) {
         Ok(map) => done(is_filled(&map, size.count, size)),
         Err(json::JsonError::Memory) => Outcome::Kept,
         Err(_) => Outcome::Wrong,
     }
 }
 
-fn writing<C: Storage<Entry>>(alloc: Global, map: &Map<C>, size: Size, reads: bool) -> Outcome {
-    match written(alloc, map) {
-        Ok(value) => {
-            if reads {
-                reading::<C>(alloc, &value, size)
-            } else {
-                done(is_filled(map, size.count, size))
-            }
-        }
-        Err(AllocError) => {
-            if reads {
-                Outcome::Early
-            } else {
-                refused(is_filled(map, size.count, size))
-            }
-        }
+/// The outcome of writing the map, or else of the call that reads what it is written as.
+fn writing<C: Storage<Entry>>(alloc: Global, map: &Map<C>, size: Size, call: MapCall) -> Outcome {
+    match (written(alloc, map), call) {
+        (Ok(_), MapCall::Write) => done(is_filled(map, size.count, size)),
+        (Err(AllocError), MapCall::Write) => refused(is_filled(map, size.count, size)),
+        (Ok(value), _) => reading::<C>(alloc, &value, size, call),
+        (Err(AllocError), _) => Outcome::Early,
     }
 }
 
@@ -431,8 +430,9 @@ fn call<C: Storage<Entry>>(alloc: Global, map: &mut Map<C>, size: Size, call: Ma
         MapCall::Update => update(alloc, map, size),
         MapCall::Clone => cloning(map, size),
         MapCall::Run => running(alloc, map, size),
-        MapCall::Write => writing(alloc, map, size, false),
-        MapCall::Read => writing(alloc, map, size, true),
+        MapCall::Write | MapCall::Read | MapCall::ReadOverwriting => {
+            writing(alloc, map, size, call)
+        }
     }
 }
 

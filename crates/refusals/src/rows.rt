@@ -44,6 +44,10 @@ pub static CALLS: &[(&str, Call)] = &[
     ("map: run", Call::Map(MapCall::Run)),
     ("map: map_to_json", Call::Map(MapCall::Write)),
     ("map: map_from_json", Call::Map(MapCall::Read)),
+    (
+        "map: map_from_json_overwriting",
+        Call::Map(MapCall::ReadOverwriting),
+    ),
     ("set: insert", Call::Set(SetCall::Insert)),
     ("set: try_insert", Call::Set(SetCall::TryInsert)),
     ("set: remove", Call::Set(SetCall::Remove)),

@@ -31,6 +31,6 @@ fn written_and_read(rt: HostRuntime) -> Result<(), Fail> {
 fn refused(rt: HostRuntime) -> Result<(), Fail> {
     let bad = Value::from_str(rt.alloc(), r#"[[["Unbounded"],1]]"#)?;
     let read: Result<RangeMap<i32, i64>, JsonError> = map_from_json(rt.alloc(), &bad);
-    assert!(rt; matches!(read, Err(JsonError::NotRange(0)))); // the first fault, with its element
+    assert!(rt; matches!(read, Err(JsonError::NotRange { element: 0, .. }))); // the first fault
     Ok(())
 }

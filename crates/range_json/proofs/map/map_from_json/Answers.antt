@@ -2,8 +2,9 @@ use Rattle.std.proofs.Common.{◌≡◌, ◌⊎◌, inl, inr, sym, ap, ◌∙◌
 use Rattle.std.proofs.Math.Seq.{take-length}
 use Rattle.std.proofs.lemmas.List.{take_more, length-take-le, take-append-drop}
 use Rattle.serde_json.specs.View.{view}
+use Rattle.range_json.specs.Faults.{fault_of}
 use Rattle.range_json.specs.MapFaults.{IsMapFault, IsFirstFault, IsFaultOf}
-use Rattle.range_json.specs.declared.error.JsonError.TheVariants.{Memory, Meets}
+use Rattle.range_json.specs.declared.error.JsonError.TheVariants.{Memory}
 use Rattle.range_json.proofs.MapReading.{IsMapSoFar, IsPut, map_begun, map_more, map_fails, map_meets, none_stored}
 use Rattle.range_json.proofs.Reading.{append_one_more}
 use Rattle.range_json.proofs.map.map_from_json.Goals as goal
@@ -21,7 +22,7 @@ loop-index-preserved g c =
     let n = c.loop-index.index in
     let v = c.index-elements-index.result in
     let items = g.C.Storage.items in
-    let x = c.in_ok-element_from_json.field-0 in
+    let x = c.in_ok-item.item in
     let within : n < length vs =
     omega (arith, c.loop-index-test.true, c.loop-index.auto.index-end) in
     let more : take (n + 1) vs ≡ take n vs ++ v ∷ [] =
@@ -41,12 +42,12 @@ loop-index-preserved g c =
     rw more (map_more g.K.MaybeBounded.order g.K.Json.reads g.V.Json.reads g.K.Json.is_read
     g.V.Json.is_read g.V.PartialEq.eq g.met.K.PartialEnum.lawful g.met.V.Eq.laws (take n vs) v
     (items c.loop-index.map) (items c.insert_element.new.map) x c.loop-index.invariant
-    (rw size c.in_ok-element_from_json.ensures.sound) c.in_ok-element_from_json.ensures.read put
+    (rw size c.in_ok-item.ensures.sound) c.in_ok-item.ensures.read put
     c.insert_element.ensures.form)
 
-pub returns-in_err-element_from_json-clause-fault :
-    goal.returns-in_err-element_from_json-clause-fault
-returns-in_err-element_from_json-clause-fault g c =
+pub returns-in_err-item-clause-fault :
+    goal.returns-in_err-item-clause-fault
+returns-in_err-item-clause-fault g c =
     let order = g.K.MaybeBounded.order in
     let vs = c.in_ok-elements.elements.now in
     let n = c.loop-index.index in
@@ -61,20 +62,21 @@ returns-in_err-element_from_json-clause-fault g c =
     let all : take n vs ++ v ∷ rest ≡ vs =
     sym (append_one_more (take n vs) v rest) ∙ ap (λ l. l ++ rest) (sym more)
     ∙ take-append-drop (n + 1) vs in
-    let e = c.in_err-element_from_json.field-0.0 in
+    let e = c.in_err-item.field-0.0 in
     let told : (e ≡ Memory) ⊎ IsMapFault order g.K.Json.reads g.V.Json.reads g.K.Json.is_read
     g.V.Json.is_read (view c.args.value.now) e =
-    elim c.in_err-element_from_json.ensures.fault [
+    elim c.in_err-item.ensures.fault [
       | inl memory ↦ inl memory
       | inr at ↦
           inr
           (subst (λ w.
-          IsFaultOf order g.K.Json.reads g.V.Json.reads g.K.Json.is_read g.V.Json.is_read w e)
+          IsFaultOf order g.K.Json.reads g.V.Json.reads g.K.Json.is_read g.V.Json.is_read w
+          (fault_of e))
           (sym c.in_ok-elements.ensures.found)
           (subst (λ l.
           IsFirstFault order g.K.Json.reads g.V.Json.reads g.K.Json.is_read g.V.Json.is_read
-          (map view l) e) all (map_fails order g.K.Json.reads g.V.Json.reads g.K.Json.is_read
-          g.V.Json.is_read g.V.PartialEq.eq (take n vs) rest v e
+          (map view l) (fault_of e)) all (map_fails order g.K.Json.reads g.V.Json.reads g.K.Json.is_read
+          g.V.Json.is_read g.V.PartialEq.eq (take n vs) rest v (fault_of e)
           (g.C.Storage.items c.loop-index.map) c.loop-index.invariant (rw size at))))
     ] in
     search (rules, told)
@@ -102,18 +104,19 @@ returns-in_err-insert_element-clause-fault g c =
       | inr at ↦
           inr
           (subst (λ w.
-          IsFaultOf order g.K.Json.reads g.V.Json.reads g.K.Json.is_read g.V.Json.is_read w e)
+          IsFaultOf order g.K.Json.reads g.V.Json.reads g.K.Json.is_read g.V.Json.is_read w
+          (fault_of e))
           (sym c.in_ok-elements.ensures.found)
           (subst (λ l.
           IsFirstFault order g.K.Json.reads g.V.Json.reads g.K.Json.is_read g.V.Json.is_read
-          (map view l) e) all (subst
+          (map view l) (fault_of e)) all (subst
           (λ f. IsFirstFault order g.K.Json.reads g.V.Json.reads g.K.Json.is_read g.V.Json.is_read
-          (map view (take n vs ++ v ∷ rest)) f) (ap Meets size ∙ sym at.0)
+          (map view (take n vs ++ v ∷ rest)) f) (sym at.0.1)
           (map_meets order g.K.Json.reads g.V.Json.reads g.K.Json.is_read g.V.Json.is_read
           g.V.PartialEq.eq (take n vs) rest v
-          (g.C.Storage.items c.loop-index.map) c.in_ok-element_from_json.field-0
-          c.loop-index.invariant (rw size c.in_ok-element_from_json.ensures.sound)
-          c.in_ok-element_from_json.ensures.read c.insert_element.ensures.known (at.1, at.2)))))
+          (g.C.Storage.items c.loop-index.map) c.in_ok-item.item
+          c.loop-index.invariant (rw size c.in_ok-item.ensures.sound)
+          c.in_ok-item.ensures.read c.insert_element.ensures.known (at.1, at.2) at.0.0 at.0.2))))
     ] in
     search (rules, told)
 

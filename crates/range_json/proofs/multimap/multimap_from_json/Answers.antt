@@ -4,9 +4,10 @@ use Rattle.std.proofs.lemmas.List.{take_more, length-take-le, take-append-drop}
 use Rattle.std.specs.Cmp.{on_equiv}
 use Rattle.std.specs.Cmp.Lexicographic.{lists_equiv}
 use Rattle.serde_json.specs.View.{view}
+use Rattle.range_json.specs.Faults.{fault_of}
 use Rattle.range_json.specs.MapFaults.{IsFirstFault, IsFaultOf}
 use Rattle.range_json.specs.MultimapFaults.{IsMultimapFault}
-use Rattle.range_json.specs.declared.error.JsonError.TheVariants.{Memory, Meets}
+use Rattle.range_json.specs.declared.error.JsonError.TheVariants.{Memory}
 use Rattle.range_json.specs.ValueSets.{reads_some_values, same_values, AreValuesRead}
 use Rattle.range_json.proofs.MapReading.{IsMapSoFar, IsPut, map_begun, map_more, map_fails, map_meets, none_stored}
 use Rattle.range_json.proofs.Multimaps.{fails_with}
@@ -29,7 +30,7 @@ loop-index-preserved g c =
     let n = c.loop-index.index in
     let v = c.index-elements-index.result in
     let items = g.C.Storage.items in
-    let x = c.in_ok-element_with_values.field-0 in
+    let x = c.in_ok-item.item in
     let within : n < length vs =
     omega (arith, c.loop-index-test.true, c.loop-index.auto.index-end) in
     let more : take (n + 1) vs ≡ take n vs ++ v ∷ [] =
@@ -52,12 +53,12 @@ loop-index-preserved g c =
     (same_values g.V.PartialEq.eq) g.met.K.PartialEnum.lawful
     (on_equiv (λ s. s.keys) (lists_equiv g.met.V.Eq.laws)) (take n vs) v
     (items c.loop-index.multimap) (items c.insert_values.new.multimap) x c.loop-index.invariant
-    (rw size c.in_ok-element_with_values.ensures.sound) c.in_ok-element_with_values.ensures.read
+    (rw size c.in_ok-item.ensures.sound) c.in_ok-item.ensures.read
     put c.insert_values.ensures.form)
 
-pub returns-in_err-element_with_values-clause-fault :
-    goal.returns-in_err-element_with_values-clause-fault
-returns-in_err-element_with_values-clause-fault g c =
+pub returns-in_err-item-clause-fault :
+    goal.returns-in_err-item-clause-fault
+returns-in_err-item-clause-fault g c =
     let order = g.K.MaybeBounded.order in
     let vs = c.in_ok-elements.elements.now in
     let n = c.loop-index.index in
@@ -72,29 +73,29 @@ returns-in_err-element_with_values-clause-fault g c =
     let all : take n vs ++ v ∷ rest ≡ vs =
     sym (append_one_more (take n vs) v rest) ∙ ap (λ l. l ++ rest) (sym more)
     ∙ take-append-drop (n + 1) vs in
-    let e = c.in_err-element_with_values.field-0.0 in
+    let e = c.in_err-item.field-0.0 in
     let told : (e ≡ Memory) ⊎ IsMultimapFault order g.K.Json.reads g.V.Json.reads g.K.Json.is_read
     g.V.Json.is_read g.V.Ord.cmp (view c.args.value.now) e =
-    elim c.in_err-element_with_values.ensures.fault [
+    elim c.in_err-item.ensures.fault [
       | inl memory ↦ inl memory
       | inr at ↦
           inr
           (subst (λ w. IsFaultOf order g.K.Json.reads
           (reads_some_values g.V.Json.reads) g.K.Json.is_read
-          (AreValuesRead g.V.Ord.cmp g.V.Json.is_read) w e) (sym c.in_ok-elements.ensures.found)
+          (AreValuesRead g.V.Ord.cmp g.V.Json.is_read) w (fault_of e)) (sym c.in_ok-elements.ensures.found)
           (subst (λ l. IsFirstFault order g.K.Json.reads
           (reads_some_values g.V.Json.reads) g.K.Json.is_read
-          (AreValuesRead g.V.Ord.cmp g.V.Json.is_read) (map view l) e) all
+          (AreValuesRead g.V.Ord.cmp g.V.Json.is_read) (map view l) (fault_of e)) all
           (map_fails order g.K.Json.reads (reads_some_values g.V.Json.reads) g.K.Json.is_read
           (AreValuesRead g.V.Ord.cmp g.V.Json.is_read) (same_values g.V.PartialEq.eq)
-          (take n vs) rest v e (g.C.Storage.items c.loop-index.multimap) c.loop-index.invariant
+          (take n vs) rest v (fault_of e) (g.C.Storage.items c.loop-index.multimap) c.loop-index.invariant
           (rw size at))))
     ] in
-    let is : c.from_residual-in_err-element_with_values.result ≡ Err e = search rules in
+    let is : c.from_residual-in_err-item.result ≡ Err e = search rules in
     fails_with (λ f.
     (f ≡ Memory) ⊎ IsMultimapFault order g.K.Json.reads g.V.Json.reads g.K.Json.is_read
     g.V.Json.is_read g.V.Ord.cmp (view c.args.value.now) f)
-    c.from_residual-in_err-element_with_values.result e is told
+    c.from_residual-in_err-item.result e is told
 
 pub returns-in_err-insert_values-clause-fault : goal.returns-in_err-insert_values-clause-fault
 returns-in_err-insert_values-clause-fault g c =
@@ -121,20 +122,20 @@ returns-in_err-insert_values-clause-fault g c =
           inr
           (subst (λ w. IsFaultOf order g.K.Json.reads
           (reads_some_values g.V.Json.reads) g.K.Json.is_read
-          (AreValuesRead g.V.Ord.cmp g.V.Json.is_read) w e) (sym c.in_ok-elements.ensures.found)
+          (AreValuesRead g.V.Ord.cmp g.V.Json.is_read) w (fault_of e)) (sym c.in_ok-elements.ensures.found)
           (subst (λ l. IsFirstFault order g.K.Json.reads
           (reads_some_values g.V.Json.reads) g.K.Json.is_read
-          (AreValuesRead g.V.Ord.cmp g.V.Json.is_read) (map view l) e) all
+          (AreValuesRead g.V.Ord.cmp g.V.Json.is_read) (map view l) (fault_of e)) all
           (subst (λ f. IsFirstFault order g.K.Json.reads
           (reads_some_values g.V.Json.reads) g.K.Json.is_read
           (AreValuesRead g.V.Ord.cmp g.V.Json.is_read) (map view (take n vs ++ v ∷ rest)) f)
-          (ap Meets size ∙ sym at.0)
+          (sym at.0.1)
           (map_meets order g.K.Json.reads (reads_some_values g.V.Json.reads) g.K.Json.is_read
           (AreValuesRead g.V.Ord.cmp g.V.Json.is_read) (same_values g.V.PartialEq.eq)
           (take n vs) rest v (g.C.Storage.items c.loop-index.multimap)
-          c.in_ok-element_with_values.field-0 c.loop-index.invariant
-          (rw size c.in_ok-element_with_values.ensures.sound)
-          c.in_ok-element_with_values.ensures.read c.insert_values.ensures.known (at.1, at.2)))))
+          c.in_ok-item.item c.loop-index.invariant
+          (rw size c.in_ok-item.ensures.sound)
+          c.in_ok-item.ensures.read c.insert_values.ensures.known (at.1, at.2) at.0.0 at.0.2))))
     ] in
     let is : c.from_residual-in_err-insert_values.result ≡ Err e = search rules in
     fails_with (λ f.

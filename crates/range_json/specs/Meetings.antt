@@ -1,0 +1,44 @@
+-- Which of the earlier elements of a map is met, as their ranges are read again.
+use Rattle.std.specs.Prelude.{◌≡◌, ◌⊎◌, ℕ, List, ◌∷◌, ◌++◌, length, map, Some}
+use Rattle.std.specs.List.{AllByRecursion}
+use Rattle.serde_json.specs.Data.{Data}
+use Rattle.serde_json.specs.View.{view}
+use Rattle.serde_json.specs.declared.value.Value.{Value}
+use Rattle.range_keys.specs.Order.{KeyOrder}
+use Rattle.range_algebra.specs.declared.any.AnyRange.{AnyRange}
+use Rattle.range_json.specs.Faults.{IsRangeRead}
+use Rattle.range_json.specs.MapFaults.{MeetNonempty}
+use Rattle.range_json.specs.Shapes.{pair_of}
+
+-- what the values stand for, one by one
+abbrev pub all_views : List Value → List Data
+all_views values = map view values
+
+-- an array of two, the first of which is read as the range
+abbrev pub IsRangeOf : {K : Type 0} → (Data → K → Type 0) → Data → AnyRange K → Type 0
+IsRangeOf key_is_read d r =
+    (ds : Data × Data) × (pair_of d ≡ Some ds) × IsRangeRead key_is_read ds.0 r
+
+module _ {K : Type 0} (order : KeyOrder K) (key_is_read : Data → K → Type 0) where
+  -- whatever the ranges of two elements are read as, they meet
+  abbrev pub AlwaysMeet : Data → Data → Type 0
+  AlwaysMeet e d = (r s : AnyRange K) → IsRangeOf key_is_read e r → IsRangeOf key_is_read d s
+      → MeetNonempty order r s
+
+  abbrev pub NeverMeet : Data → Data → Type 0
+  NeverMeet e d = (r s : AnyRange K) → IsRangeOf key_is_read e r → IsRangeOf key_is_read d s
+      → ¬ MeetNonempty order r s
+
+  -- the element at j is the first that meets d
+  pub record IsFirstMeeting (ds : List Data) (d : Data) (j : ℕ) : Type 0 where
+    pub front : List Data
+    pub e : Data
+    pub rest : List Data
+    pub split : ds ≡ front ++ e ∷ rest
+    pub place : length front ≡ j
+    pub none : AllByRecursion (λ c. NeverMeet c d) front
+    pub met : AlwaysMeet e d
+
+  -- the element at j is the first that meets d, or none does
+  abbrev pub IsFirstOrNone : List Data → Data → ℕ → Type 0
+  IsFirstOrNone ds d j = IsFirstMeeting ds d j ⊎ AllByRecursion (λ c. NeverMeet c d) ds
