@@ -1,2 +1,4 @@
--- How far the loops have come.
+-- How far the loops have come, and what the calls make of lists.
+pub mod Letters
+pub mod Made
 pub mod Progress

@@ -1,14 +1,16 @@
 -- How far a loop that writes answers has come.
-use Rattle.std.proofs.Common.{arith, ◌≡◌, ◌≢◌, ℕ, length, List, [], ◌∷◌, ◌++◌, ap, refl, sym, subst, ◌∙◌, append_assoc}
+use Rattle.std.proofs.Common.{◌≡◌, ◌≢◌, ℕ, length, List, [], ◌∷◌, ◌++◌, ap, refl, sym, subst, ◌∙◌, append_assoc}
 use Rattle.std.specs.Prelude.{Bool, true, false, Option, None, Some, IfSome, Result, Ok, Err, OnOk}
 use Rattle.std.specs.Io.KnownBytes.{Appends, Keeps}
 use Rattle.std.specs.Io.BufRead.{first_line, drop_through, take_through}
 use Rattle.std.specs.Str.{IsUtf8}
 use Rattle.btree_range_map.specs.Order.{KeyOrder}
-use Rattle.rangecalc.specs.Conversation.{AnswersLine, Conversation, Stored, none_stored}
+use Rattle.rangecalc.specs.Conversation.{AnswersLine, Conversation, none_stored}
 use Rattle.rangecalc.specs.Conversation.Conversation.{Ended, Answered}
+use Rattle.rangecalc.specs.Ranges.{Ranges}
 use Rattle.rangecalc.specs.Replies.{SpellsEach, SpellsLines, Writes}
 use Rattle.rangecalc.specs.Text.{line_content}
+use Rattle.rangecalc.specs.declared.named.Named.{Named}
 
 pub append_nil : (xs : List ℕ) → xs ++ [] ≡ xs
 append_nil [] = refl
@@ -134,7 +136,7 @@ module _ {X : Type 0} (SpellsOne : X → List ℕ → Type 0) where
 module _ {K : Type 0} (order : KeyOrder K) where
   -- the lines of the input before those that are left are answered
   pub record HasAnswered (input : List ℕ) (left before now : Option (List ℕ))
-      (stored : Stored K) : Type 0 where
+      (stored : Named (Ranges K)) : Type 0 where
     pub remaining : List ℕ
     pub left_is : left ≡ Some remaining
     pub written : List ℕ
@@ -142,7 +144,7 @@ module _ {K : Type 0} (order : KeyOrder K) where
     pub goes_on : (more rest : List ℕ) → Conversation order stored remaining more rest
         → Conversation order none_stored input (written ++ more) rest
 
-  pub answered_none : (input known : Option (List ℕ)) (stored : Stored K) → stored ≡ none_stored
+  pub answered_none : (input known : Option (List ℕ)) (stored : Named (Ranges K)) → stored ≡ none_stored
       → IfSome input (λ bytes. HasAnswered bytes input known known stored)
   answered_none None known stored empty = tt
   answered_none (Some bytes) known stored empty = record {
@@ -156,7 +158,7 @@ module _ {K : Type 0} (order : KeyOrder K) where
   }
 
   pub answered_more : (input : List ℕ) (left later before now next : Option (List ℕ))
-      (stored changed : Stored K) (line : List ℕ)
+      (stored changed : Named (Ranges K)) (line : List ℕ)
       → (answered : HasAnswered input left before now stored) → answered.remaining ≢ []
       → later ≡ Some (drop_through 10 answered.remaining) → line ≡ first_line answered.remaining
       → IsUtf8 line → Writes now next (λ text. AnswersLine order line text stored changed)
@@ -177,7 +179,7 @@ module _ {K : Type 0} (order : KeyOrder K) where
       }
 
   -- what is written answers the lines before those that are left
-  pub answered_so_far : (input : List ℕ) (left before now : Option (List ℕ)) (stored : Stored K)
+  pub answered_so_far : (input : List ℕ) (left before now : Option (List ℕ)) (stored : Named (Ranges K))
       → (answered : HasAnswered input left before now stored)
       → Writes before now (λ text. Conversation order none_stored input text answered.remaining)
   answered_so_far input left before now stored answered = (
@@ -188,14 +190,14 @@ module _ {K : Type 0} (order : KeyOrder K) where
     answered.appended,
   )
 
-  pub answered_all : (input : List ℕ) (left before now : Option (List ℕ)) (stored : Stored K)
+  pub answered_all : (input : List ℕ) (left before now : Option (List ℕ)) (stored : Named (Ranges K))
       → (answered : HasAnswered input left before now stored) → answered.remaining ≡ []
       → Writes before now (λ text. Conversation order none_stored input text [])
   answered_all input left before now stored answered ended =
       subst (λ rest. Writes before now (λ text. Conversation order none_stored input text rest))
       ended (answered_so_far input left before now stored answered)
 
-  pub stopped_at : (input left before now : Option (List ℕ)) (stored : Stored K)
+  pub stopped_at : (input left before now : Option (List ℕ)) (stored : Named (Ranges K))
       → IfSome input (λ bytes. HasAnswered bytes left before now stored)
       → IfSome input (λ bytes. (rest : List ℕ)
       × Writes before now (λ text. Conversation order none_stored bytes text rest))

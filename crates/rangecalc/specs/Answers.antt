@@ -1,5 +1,6 @@
 -- What the call of a command makes of the list of a map, and what it answers.
-use Rattle.std.specs.Prelude.{◌≡◌, ◌↔◌, ℕ, ℤ, Option, Some, None, IsTrue, List, [], ◌∷◌, ◌++◌, length, codes}
+use Rattle.std.specs.Prelude.{◌≡◌, ◌↔◌, ℕ, ℤ, Option, Some, None, Bool, IsTrue, not, List, [], ◌∷◌, ◌++◌, length, map, codes}
+use Rattle.std.specs.List.{filter}
 use Rattle.std.specs.Ordering.{int_eq}
 use Rattle.btree_range_map.specs.AnyRange.{AnyRange}
 use Rattle.btree_range_map.specs.Bindings.{Binds, IsBound, IsBoundAfter, IsItemFor, IsUnboundAfter}
@@ -7,6 +8,7 @@ use Rattle.btree_range_map.specs.FreeRanges.{AreGaps}
 use Rattle.btree_range_map.specs.Item.{Item}
 use Rattle.btree_range_map.specs.Iteration.{pair_item}
 use Rattle.btree_range_map.specs.Lookups.{MeetsSome}
+use Rattle.btree_range_map.specs.MapExtending.{AreBoundAfter}
 use Rattle.btree_range_map.specs.Numbers.{IsNumberOfKeys}
 use Rattle.btree_range_map.specs.Order.{KeyOrder}
 use Rattle.btree_range_map.specs.Overlapping.{AreOverlapping}
@@ -16,22 +18,55 @@ use Rattle.btree_range_map.specs.Range.{IsEmptyRange}
 use Rattle.rangecalc.specs.Ranges.{Ranges}
 use Rattle.rangecalc.specs.Replies.{SpellsGap, SpellsItem, SpellsLines, SpellsPiece}
 use Rattle.rangecalc.specs.declared.answer.Reply.{Reply}
-use Rattle.rangecalc.specs.declared.answer.Reply.TheVariants.{Done, Memory, Nothing, Value, Stored, Truth, Number}
+use Rattle.rangecalc.specs.declared.answer.Reply.TheVariants.{Done, Memory, Nothing, Value, Stored, Taken, Truth, Number}
 use Rattle.rangecalc.specs.declared.line.Change.{Change}
-use Rattle.rangecalc.specs.declared.line.Change.TheVariants.{Insert, Remove, PopFirst, PopLast, Clear}
+use Rattle.rangecalc.specs.declared.line.Change.TheVariants.{Insert, Try, Remove, Drop, From, PopFirst, PopLast, Clear}
 use Rattle.rangecalc.specs.declared.line.Listing.{Listing}
 use Rattle.rangecalc.specs.declared.line.Listing.TheVariants.{Show, Gaps, Over, Free, Pieces}
 use Rattle.rangecalc.specs.declared.line.Question.{Question}
 use Rattle.rangecalc.specs.declared.line.Question.TheVariants.{Get, At, Has, Meets, All, First, Last, Count, Len, Levels}
 
+-- the value of the range is another one
+abbrev pub has_another : {K : Type 0} → ℤ → Item (AnyRange K) ℤ → Bool
+has_another value item = not (int_eq item.value value)
+
 module _ {K : Type 0} (order : KeyOrder K) where
+  -- a stored range is in the way of a range that is not empty
+  abbrev pub IsInTheWay : Ranges K → AnyRange K → Type 0
+  IsInTheWay items range = (¬ IsEmptyRange order range) × MeetsSome order items range
+
+  -- the reply has the first of the ranges that are in the way
+  abbrev pub IsTaken : Reply K → Ranges K → AnyRange K → Type 0
+  IsTaken reply items range =
+      (first : Item (AnyRange K) ℤ) × (rest : Ranges K) × (¬ IsEmptyRange order range)
+      × AreOverlapping order items range (first ∷ rest) × (reply ≡ Taken first.key)
+
+  -- a range is bound where nothing is in its way, and otherwise the list stays
+  abbrev pub IsTried : AnyRange K → ℤ → Reply K → Ranges K → Ranges K → Type 0
+  IsTried range value Done before after =
+      (¬ IsInTheWay before range) × IsBoundAfter order int_eq before after range value
+  IsTried range value Memory before after = after ≡ before
+  IsTried range value (Taken met) before after =
+      IsTaken (Taken met) before range × (after ≡ before)
+  IsTried range value reply before after = ⊥
+
+  -- a list that has just these bindings, of which the last that holds a key counts
+  abbrev pub IsMadeFrom : List (AnyRange K × ℤ) → Reply K → Ranges K → Ranges K → Type 0
+  IsMadeFrom bindings Done before after =
+      AreBoundAfter order int_eq [] after (map pair_item bindings)
+  IsMadeFrom bindings Memory before after = after ≡ before
+  IsMadeFrom bindings reply before after = ⊥
+
   -- what a change makes of a list, with its reply; no memory leaves it as it was
   abbrev pub IsChanged : Change K → Reply K → Ranges K → Ranges K → Type 0
   IsChanged (Insert range value) Done before after =
       IsBoundAfter order int_eq before after range value
   IsChanged (Insert range value) Memory before after = after ≡ before
+  IsChanged (Try range value) reply before after = IsTried range value reply before after
   IsChanged (Remove range) Done before after = IsUnboundAfter order int_eq before after range
   IsChanged (Remove range) Memory before after = after ≡ before
+  IsChanged (Drop value) Done before after = after ≡ filter (has_another value) before
+  IsChanged (From bindings) reply before after = IsMadeFrom bindings.items reply before after
   IsChanged PopFirst (Stored stored) before after = before ≡ pair_item stored ∷ after
   IsChanged PopFirst Nothing before after = (before ≡ []) × (after ≡ [])
   IsChanged PopLast (Stored stored) before after = before ≡ after ++ pair_item stored ∷ []
@@ -47,7 +82,7 @@ module _ {K : Type 0} (order : KeyOrder K) where
   IsAnswer (At key) Nothing items levels = ¬ IsBound order items key
   IsAnswer (Has key) (Truth answer) items levels = IsTrue answer ↔ IsBound order items key
   IsAnswer (Meets range) (Truth answer) items levels =
-      IsTrue answer ↔ (¬ IsEmptyRange order range) × MeetsSome order items range
+      IsTrue answer ↔ IsInTheWay items range
   IsAnswer (All range) (Truth answer) items levels =
       IsTrue answer ↔ ((part : AnyRange K) → ¬ IsFreePart order items range part)
   IsAnswer First (Stored stored) items levels =

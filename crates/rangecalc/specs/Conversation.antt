@@ -1,71 +1,66 @@
 -- What four maps answer to lines of text, from the first to the last.
-use Rattle.std.specs.Prelude.{◌≡◌, ◌≢◌, ◌⊎◌, ℕ, ℤ, List, [], ◌++◌, codes}
+use Rattle.std.specs.Prelude.{◌≡◌, ◌≢◌, ◌⊎◌, ◌↔◌, ℕ, ℤ, Bool, IsTrue, List, [], ◌++◌, codes}
 use Rattle.std.specs.Io.BufRead.{first_line, drop_through}
 use Rattle.std.specs.Str.{IsUtf8}
+use Rattle.std.specs.Ordering.{int_eq}
+use Rattle.btree_range_map.specs.AnyRange.{AnyRange}
+use Rattle.btree_range_map.specs.Bindings.{BindAlike}
+use Rattle.btree_range_map.specs.BoxStorage.{BoxStorage}
 use Rattle.btree_range_map.specs.Holding.{box_items}
+use Rattle.btree_range_map.specs.Item.{Item}
 use Rattle.btree_range_map.specs.Order.{KeyOrder}
 use Rattle.rangecalc.specs.Answers.{IsAnswer, IsChanged, IsListed}
-use Rattle.rangecalc.specs.Lines.{Says}
+use Rattle.rangecalc.specs.Lines.{BeginsWith, Says}
+use Rattle.rangecalc.specs.Named.{at, each, put}
 use Rattle.rangecalc.specs.Ranges.{Ranges}
-use Rattle.rangecalc.specs.Replies.{SpellsReply}
+use Rattle.rangecalc.specs.Replies.{SpellsReply, truth_text}
+use Rattle.rangecalc.specs.Two.{IsCombination, IsSplit}
 use Rattle.rangecalc.specs.declared.answer.Reply.{Reply}
 use Rattle.rangecalc.specs.declared.line.Command.{Command}
-use Rattle.rangecalc.specs.declared.line.Command.TheVariants.{Change, Ask, List as Lists}
-use Rattle.rangecalc.specs.declared.line.Name.{Name}
-use Rattle.rangecalc.specs.declared.line.Name.TheVariants.{A, B, C, D}
-use Rattle.rangecalc.specs.declared.maps.Maps.{Maps}
+use Rattle.rangecalc.specs.declared.line.Command.TheVariants.{Change, Ask, List as Lists, Split, Equals, Combine}
+use Rattle.rangecalc.specs.declared.named.Name.{Name}
+use Rattle.rangecalc.specs.declared.named.Named.{Named}
 
--- the stored ranges of the four maps
-pub record Stored (K : Type 0) : Type 0 where
-  pub a : Ranges K
-  pub b : Ranges K
-  pub c : Ranges K
-  pub d : Ranges K
+abbrev pub stored_in : {K : Type 0} → Named (BoxStorage (Item (AnyRange K) ℤ)) → Named (Ranges K)
+stored_in maps = each box_items maps
 
-abbrev pub stored_in : {K : Type 0} → Maps K → Stored K
-stored_in maps = record {
-  a = box_items maps.a;
-  b = box_items maps.b;
-  c = box_items maps.c;
-  d = box_items maps.d;
-}
-
-abbrev pub none_stored : {K : Type 0} → Stored K
+abbrev pub none_stored : {K : Type 0} → Named (Ranges K)
 none_stored = record { a = []; b = []; c = []; d = [] }
 
 module _ {K : Type 0} (order : KeyOrder K) where
-  -- what a command makes of a list, with the text that answers it
-  abbrev pub IsDone : Command K → List ℕ → Ranges K → Ranges K → Type 0
-  IsDone (Change change) text before after =
-      (reply : Reply K) × IsChanged order change reply before after × SpellsReply reply text
-  IsDone (Ask question) text before after =
-      (reply : Reply K) × (levels : ℕ) × IsAnswer order question reply before levels
-      × SpellsReply reply text × (after ≡ before)
-  IsDone (Lists listing) text before after =
-      IsListed order listing before text × (after ≡ before)
+  -- what a command to the map with a name makes of the four lists, with the text that answers it
+  abbrev pub IsDone : Name → Command K → List ℕ → Named (Ranges K) → Named (Ranges K) → Type 0
+  IsDone name (Change change) text old new =
+      (reply : Reply K) × (after : Ranges K) × IsChanged order change reply (at old name) after
+      × SpellsReply reply text × (new ≡ put old name after)
+  IsDone name (Ask question) text old new =
+      (reply : Reply K) × (levels : ℕ) × IsAnswer order question reply (at old name) levels
+      × SpellsReply reply text × (new ≡ old)
+  IsDone name (Lists listing) text old new =
+      IsListed order listing (at old name) text × (new ≡ old)
+  IsDone name (Split key) text old new =
+      (reply : Reply K) × IsSplit order name key reply old new × SpellsReply reply text
+  IsDone name (Equals other) text old new =
+      (answer : Bool) × (IsTrue answer ↔ BindAlike order int_eq (at old name) (at old other))
+      × (text ≡ truth_text answer) × (new ≡ old)
+  IsDone name (Combine way first second) text old new =
+      (reply : Reply K) × IsCombination order name way first second reply old new
+      × SpellsReply reply text
 
-  -- the same of the map with a name; the others stay
-  abbrev pub IsDoneTo : Name → Command K → List ℕ → Stored K → Stored K → Type 0
-  IsDoneTo A command text old new =
-      IsDone command text old.a new.a × (new.b ≡ old.b) × (new.c ≡ old.c) × (new.d ≡ old.d)
-  IsDoneTo B command text old new =
-      IsDone command text old.b new.b × (new.a ≡ old.a) × (new.c ≡ old.c) × (new.d ≡ old.d)
-  IsDoneTo C command text old new =
-      IsDone command text old.c new.c × (new.a ≡ old.a) × (new.b ≡ old.b) × (new.d ≡ old.d)
-  IsDoneTo D command text old new =
-      IsDone command text old.d new.d × (new.a ≡ old.a) × (new.b ≡ old.b) × (new.c ≡ old.c)
-
-  -- the text that answers a line: of the command that the line says, or `bad line`
-  abbrev pub AnswersLine : List ℕ → List ℕ → Stored K → Stored K → Type 0
+  -- the text that answers a line: of the command that the line says, `bad line`, or `memory` where
+  -- none is left for a list of ranges
+  abbrev pub AnswersLine : List ℕ → List ℕ → Named (Ranges K) → Named (Ranges K) → Type 0
   AnswersLine line text old new =
       ((text ≡ codes "bad line\n") × (new ≡ old))
+      ⊎ ((text ≡ codes "memory\n") × (new ≡ old)
+      × ((name : Name) × BeginsWith line name (codes "from")))
       ⊎ ((name : Name) × (command : Command K) × Says line name command
-      × IsDoneTo name command text old new)
+      × IsDone name command text old new)
 
   -- the text answers the lines of the input before the rest of it, one answer for each, in order
-  pub data Conversation : Stored K → List ℕ → List ℕ → List ℕ → Type 0 where
-    Ended : (stored : Stored K) (input : List ℕ) → Conversation stored input [] input
-    Answered : (stored next : Stored K) (input text answer more rest : List ℕ)
+  pub data Conversation : Named (Ranges K) → List ℕ → List ℕ → List ℕ → Type 0 where
+    Ended : (stored : Named (Ranges K)) (input : List ℕ) → Conversation stored input [] input
+    Answered : (stored next : Named (Ranges K)) (input text answer more rest : List ℕ)
         → input ≢ [] → IsUtf8 (first_line input)
         → AnswersLine (first_line input) answer stored next
         → Conversation next (drop_through 10 input) more rest → text ≡ answer ++ more

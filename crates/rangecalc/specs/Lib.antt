@@ -2,7 +2,9 @@
 pub mod Answers
 pub mod Conversation
 pub mod Lines
+pub mod Named
 pub mod Ranges
 pub mod Replies
 pub mod Serving
 pub mod Text
+pub mod Two

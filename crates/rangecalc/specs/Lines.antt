@@ -1,15 +1,17 @@
 -- How a line begins: the letter of its map and the words of its command.
-use Rattle.std.specs.Prelude.{◌≡◌, ℕ, List, ◌∷◌, ◌++◌, codes}
-use Rattle.rangecalc.specs.declared.line.Name.{Name}
-use Rattle.rangecalc.specs.declared.line.Name.TheVariants.{A, B, C, D}
+use Rattle.std.specs.Prelude.{◌≡◌, ℕ, List, [], ◌∷◌, ◌++◌, codes}
+use Rattle.rangecalc.specs.declared.named.Name.{Name}
+use Rattle.rangecalc.specs.declared.named.Name.TheVariants.{A, B, C, D}
 use Rattle.rangecalc.specs.declared.line.Change.{Change as ChangeOf}
-use Rattle.rangecalc.specs.declared.line.Change.TheVariants.{Insert, Remove, PopFirst, PopLast, Clear}
+use Rattle.rangecalc.specs.declared.line.Change.TheVariants.{Insert, Try, Remove, Drop, From, PopFirst, PopLast, Clear}
 use Rattle.rangecalc.specs.declared.line.Question.{Question}
 use Rattle.rangecalc.specs.declared.line.Question.TheVariants.{Get, At, Has, Meets, All, First, Last, Count, Len, Levels}
 use Rattle.rangecalc.specs.declared.line.Listing.{Listing}
 use Rattle.rangecalc.specs.declared.line.Listing.TheVariants.{Show, Gaps, Over, Free, Pieces}
 use Rattle.rangecalc.specs.declared.line.Command.{Command}
-use Rattle.rangecalc.specs.declared.line.Command.TheVariants.{Change, Ask, List as Lists}
+use Rattle.rangecalc.specs.declared.line.Command.TheVariants.{Change, Ask, List as Lists, Split, Equals, Combine}
+use Rattle.rangecalc.specs.declared.line.Way.{Way}
+use Rattle.rangecalc.specs.declared.line.Way.TheVariants.{Both, Either, Over as OverWay}
 
 abbrev pub letter : Name → ℕ
 letter A = 97
@@ -19,7 +21,10 @@ letter D = 100
 
 abbrev pub change_words : {K : Type 0} → ChangeOf K → List ℕ
 change_words (Insert range value) = codes "insert"
+change_words (Try range value) = codes "try"
 change_words (Remove range) = codes "remove"
+change_words (Drop value) = codes "drop"
+change_words (From bindings) = codes "from"
 change_words PopFirst = codes "pop first"
 change_words PopLast = codes "pop last"
 change_words Clear = codes "clear"
@@ -43,13 +48,24 @@ listing_words (Over range) = codes "over"
 listing_words (Free range) = codes "free"
 listing_words (Pieces range) = codes "pieces"
 
+abbrev pub way_word : Way → List ℕ
+way_word Both = codes "both"
+way_word Either = codes "either"
+way_word OverWay = codes "over"
+
 -- the words that name a command
 abbrev pub words_of : {K : Type 0} → Command K → List ℕ
 words_of (Change change) = change_words change
 words_of (Ask question) = question_words question
 words_of (Lists listing) = listing_words listing
+words_of (Split key) = codes "split"
+words_of (Equals other) = codes "equals " ++ letter other ∷ []
+words_of (Combine way first second) =
+    codes "= " ++ letter first ∷ 32 ∷ way_word way ++ 32 ∷ letter second ∷ []
 
--- the line is the letter of the map, a space, the words of the command, and what follows them
+-- the line is the letter of a map, a space, these words, and what follows them
+abbrev pub BeginsWith : List ℕ → Name → List ℕ → Type 0
+BeginsWith line name words = (fields : List ℕ) × (line ≡ letter name ∷ 32 ∷ words ++ fields)
+
 abbrev pub Says : {K : Type 0} → List ℕ → Name → Command K → Type 0
-Says line name command =
-    (fields : List ℕ) × (line ≡ letter name ∷ 32 ∷ words_of command ++ fields)
+Says line name command = BeginsWith line name (words_of command)

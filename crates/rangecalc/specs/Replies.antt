@@ -1,12 +1,12 @@
 -- The lines of replies, as their bytes.
-use Rattle.std.specs.Prelude.{◌≡◌, ℕ, ℤ, true, false, Option, Some, None, List, [], ◌∷◌, ◌++◌, codes, decimal}
+use Rattle.std.specs.Prelude.{◌≡◌, ℕ, ℤ, Bool, true, false, Option, Some, None, List, [], ◌∷◌, ◌++◌, codes, decimal}
 use Rattle.std.specs.Fmt.{signed_decimal}
 use Rattle.std.specs.Io.KnownBytes.{Appends}
 use Rattle.btree_range_map.specs.AnyRange.{AnyRange}
 use Rattle.btree_range_map.specs.Item.{Item}
 use Rattle.btree_range_map.specs.Iteration.{pair_item}
 use Rattle.rangecalc.specs.declared.answer.Reply.{Reply}
-use Rattle.rangecalc.specs.declared.answer.Reply.TheVariants.{Done, Memory, Nothing, Value, Stored, Truth, Number}
+use Rattle.rangecalc.specs.declared.answer.Reply.TheVariants.{Done, Memory, Nothing, Value, Stored, Taken, Fault, Truth, Number}
 
 -- a range by its first and its last key
 abbrev pub span_text : ℤ → ℤ → List ℕ
@@ -45,6 +45,10 @@ abbrev pub SpellsLines : {X : Type 0} → (X → List ℕ → Type 0) → List �
 SpellsLines SpellsOne none [] text = text ≡ none
 SpellsLines SpellsOne none (x ∷ rest) text = SpellsEach SpellsOne (x ∷ rest) text
 
+abbrev pub truth_text : Bool → List ℕ
+truth_text true = codes "true\n"
+truth_text false = codes "false\n"
+
 -- the line of a reply
 abbrev pub SpellsReply : {K : Type 0} → Reply K → List ℕ → Type 0
 SpellsReply Done text = text ≡ codes "ok\n"
@@ -52,8 +56,10 @@ SpellsReply Memory text = text ≡ codes "memory\n"
 SpellsReply Nothing text = text ≡ codes "none\n"
 SpellsReply (Value value) text = text ≡ signed_decimal value ++ 10 ∷ []
 SpellsReply (Stored stored) text = SpellsItem (pair_item stored) text
-SpellsReply (Truth true) text = text ≡ codes "true\n"
-SpellsReply (Truth false) text = text ≡ codes "false\n"
+SpellsReply (Taken range) text =
+    (first : ℤ) × (last : ℤ) × (text ≡ codes "taken " ++ span_text first last ++ 10 ∷ [])
+SpellsReply Fault text = text ≡ codes "fault\n"
+SpellsReply (Truth answer) text = text ≡ truth_text answer
 SpellsReply (Number number) text = text ≡ decimal number ++ 10 ∷ []
 
 -- known bytes grow by a text that fits

@@ -1,13 +1,18 @@
 //! What a map answers to a command, by the one call that the command is.
 
 ghost use Rattle.btree_range_map.specs.Holding.{box_items, level_count};
-ghost use Rattle.std.specs.Prelude.{◌≡◌, MatchOption};
+ghost use Rattle.std.specs.Prelude.{◌≡◌, not, MatchOption};
+ghost use Rattle.std.specs.List.{filter};
+ghost use Rattle.std.specs.Ordering.{int_eq};
+ghost use Rattle.btree_range_map.specs.Lookups.{MeetsSome};
+ghost use Rattle.btree_range_map.specs.Range.{IsEmptyRange};
 ghost use Rattle.rangecalc.specs.declared.answer.Reply.TheVariants.{Nothing, Stored};
-ghost use Rattle.rangecalc.specs.Answers.{IsAnswer, IsChanged};
+ghost use Rattle.rangecalc.specs.Answers.{IsAnswer, IsChanged, IsMadeFrom, IsTaken, IsTried, has_another};
 
 use crate::line::{Change, Question};
 use crate::number::NumberKey;
-use btree_range_map::{AnyRange, RangeMap};
+use btree_range_map::{AnyRange, NotFree, RangeMap};
+use std::alloc::Global;
 
 /// An answer of one line.
 #[derive(Drop)]
@@ -17,12 +22,71 @@ pub enum Reply<K> {
     Nothing,
     Value(i64),
     Stored((AnyRange<K>, i64)),
+    Taken(AnyRange<K>),
+    Fault,
     Truth(bool),
     Number(u128),
 }
 
+/// The first stored range that a range meets.
+fn taken<K: NumberKey>(map: &RangeMap<K, i64>, range: AnyRange<K>) -> Reply<K>
+    requires nonempty { ¬ IsEmptyRange K.order range }
+    requires meets { MeetsSome K.order (box_items map.now) range }
+    ensures { IsTaken K.order result (box_items map.now) range }
+{
+    match map.overlapping(range).next() {
+        Some((met, _)) => Reply::Taken(*met),
+        None => unreachable!(),
+    }
+}
+
+/// Binds the keys of a range where no stored one is in the way.
+fn try_insert<K: NumberKey>(map: &mut RangeMap<K, i64>, range: AnyRange<K>, value: i64) -> Reply<K>
+    ensures { IsTried K.order range value result (box_items map.old) (box_items map.new) }
+{
+    match map.try_insert(range, value) {
+        Ok(()) => Reply::Done,
+        Err(NotFree::Memory(_, _)) => Reply::Memory,
+        Err(NotFree::Occupied(range, _)) => taken(map, range),
+    }
+}
+
+fn is_other(value: i64, bound: &i64) -> bool
+    ensures { result ≡ not (int_eq bound.now value) }
+{
+    *bound != value
+}
+
+/// Unbinds each key that is bound to the value.
+fn drop_value<K: NumberKey>(map: &mut RangeMap<K, i64>, value: i64)
+    ensures { box_items map.new ≡ filter (has_another value) (box_items map.old) }
+{
+    map.retain(move |_range, bound| is_other(value, bound));
+}
+
+/// Makes the map one of these bindings.
+fn make_from<K: NumberKey>(
+    alloc: Global,
+    map: &mut RangeMap<K, i64>,
+    bindings: Vec<(AnyRange<K>, i64)>,
+) -> Reply<K>
+    ensures { IsMadeFrom K.order bindings.items result (box_items map.old) (box_items map.new) }
+{
+    match RangeMap::from_iter(alloc, bindings) {
+        Ok(made) => {
+            *map = made;
+            Reply::Done
+        }
+        Err(_) => Reply::Memory,
+    }
+}
+
 /// Does what is to be done to a map.
-pub fn change<K: NumberKey>(map: &mut RangeMap<K, i64>, change: Change<K>) -> Reply<K>
+pub fn change<K: NumberKey>(
+    alloc: Global,
+    map: &mut RangeMap<K, i64>,
+    change: Change<K>,
+) -> Reply<K>
     ensures { IsChanged K.order change result (box_items map.old) (box_items map.new) }
 {
     match change {
@@ -30,10 +94,16 @@ pub fn change<K: NumberKey>(map: &mut RangeMap<K, i64>, change: Change<K>) -> Re
             Ok(()) => Reply::Done,
             Err(_) => Reply::Memory,
         },
+        Change::Try(range, value) => try_insert(map, range, value),
         Change::Remove(range) => match map.remove(range) {
             Ok(()) => Reply::Done,
             Err(_) => Reply::Memory,
         },
+        Change::Drop(value) => {
+            drop_value(map, value);
+            Reply::Done
+        }
+        Change::From(bindings) => make_from(alloc, map, bindings),
         Change::PopFirst => match map.pop_first() {
             Some(stored) => Reply::Stored(stored),
             None => Reply::Nothing,

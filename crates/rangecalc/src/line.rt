@@ -1,26 +1,32 @@
 //! What a line says.
 
-ghost use Rattle.std.specs.Prelude.{◌≡◌, ◌<◌, ◌∷◌, ◌++◌, [], IfSome, codes};
-ghost use Rattle.rangecalc.specs.Lines.{Says, change_words, letter, words_of};
+ghost use Rattle.std.specs.Prelude.{◌≡◌, ◌<◌, ◌∷◌, ◌++◌, [], List, ℕ, Err, IfOk, IfSome, codes};
+ghost use Rattle.rangecalc.specs.Lines.{BeginsWith, Says, letter, way_word, words_of};
+ghost use Rattle.rangecalc.specs.declared.line.Unread.TheVariants.{Memory};
 
+use crate::named::Name;
 use crate::number::{NumberKey, number};
 use btree_range_map::AnyRange;
+use std::alloc::Global;
 use std::ops::Bound;
 
-/// One of the four maps.
-#[derive(Clone, Copy)]
-pub enum Name {
-    A,
-    B,
-    C,
-    D,
+/// Why a line is not read.
+#[derive(Drop)]
+pub enum Unread {
+    /// It has no known form.
+    Unknown,
+    /// There was not enough memory for its list of ranges.
+    Memory,
 }
 
 /// What is to be done to a map.
 #[derive(Drop)]
 pub enum Change<K> {
     Insert(AnyRange<K>, i64),
+    Try(AnyRange<K>, i64),
     Remove(AnyRange<K>),
+    Drop(i64),
+    From(Vec<(AnyRange<K>, i64)>),
     PopFirst,
     PopLast,
     Clear,
@@ -51,12 +57,26 @@ pub enum Listing<K> {
     Pieces(AnyRange<K>),
 }
 
+/// Which keys of two maps a third one binds.
+#[derive(Clone, Copy)]
+pub enum Way {
+    /// Those that both bind, each to the sum of its values.
+    Both,
+    /// Those that just one of them binds, to its value.
+    Either,
+    /// All, to the first map's value where there are two.
+    Over,
+}
+
 /// A line after its name.
 #[derive(Drop)]
 pub enum Command<K> {
     Change(Change<K>),
     Ask(Question<K>),
     List(Listing<K>),
+    Split(K),
+    Equals(Name),
+    Combine(Way, Name, Name),
 }
 
 /// The text before and after the first space.
@@ -108,14 +128,56 @@ pub fn range<K: NumberKey>(text: &str) -> Option<AnyRange<K>> {
     }
 }
 
-/// An insertion, of a range and a number with a space between them.
-fn insertion<K: NumberKey>(text: &str) -> Option<Change<K>>
-    ensures { IfSome result (λ change. codes "insert" ≡ change_words change) }
-{
+/// A range and a number with a space between them.
+fn binding<K: NumberKey>(text: &str) -> Option<(AnyRange<K>, i64)> {
     let (spelled, value) = split_at_space(text)?;
-    match (range(spelled), number(value)) {
-        (Some(range), Some(value)) => Some(Change::Insert(range, value)),
-        _ => None,
+    Some((range(spelled)?, number(value)?))
+}
+
+/// The text before the first space, and the text after it where there is one.
+fn front_word(text: &str) -> (&str, Option<&str>) {
+    match split_at_space(text) {
+        Some((word, rest)) => (word, Some(rest)),
+        None => (text, None),
+    }
+}
+
+/// A range and a number in front of a text, and the text after them where there is more.
+fn front_binding<K: NumberKey>(text: Option<&str>) -> Option<((AnyRange<K>, i64), Option<&str>)> {
+    let (spelled, rest) = split_at_space(text?)?;
+    let (value, rest) = front_word(rest);
+    Some(((range(spelled)?, number(value)?), rest))
+}
+
+/// So many ranges with their numbers, and no more.
+fn bindings<K: NumberKey>(
+    alloc: Global,
+    count: u64,
+    text: Option<&str>,
+) -> Result<Vec<(AnyRange<K>, i64)>, Unread> {
+    let mut rest = text;
+    let mut bindings = Vec::new(alloc);
+    for _ in 0..count {
+        let Some((binding, after)) = front_binding(rest) else {
+            return Err(Unread::Unknown);
+        };
+        if bindings.push(binding).is_err() {
+            return Err(Unread::Memory);
+        }
+        rest = after;
+    }
+    match rest {
+        Some(_) => Err(Unread::Unknown),
+        None => Ok(bindings),
+    }
+}
+
+/// A number and so many ranges with theirs.
+fn list<K: NumberKey>(alloc: Global, text: &str) -> Result<Vec<(AnyRange<K>, i64)>, Unread> {
+    let (word, rest) = front_word(text);
+    match number(word).map(u64::try_from) {
+        Some(Ok(count)) => bindings(alloc, count, rest),
+        _ => Err(Unread::Unknown),
     }
 }
 
@@ -129,6 +191,14 @@ fn name_of(word: &str) -> Option<Name>
         "d" => Some(Name::D),
         _ => None,
     }
+}
+
+/// The letter of a map and the text after it.
+fn front_name(text: &str) -> Option<(Name, &str)>
+    ensures { IfSome result (λ parts. text.now ≡ letter parts.0 ∷ 32 ∷ parts.1.now) }
+{
+    let (word, rest) = split_at_space(text)?;
+    Some((name_of(word)?, rest))
 }
 
 /// A command of words alone.
@@ -150,6 +220,38 @@ fn without_fields<K: NumberKey>(words: &str) -> Option<Command<K>>
     }
 }
 
+fn way_of(word: &str) -> Option<Way>
+    ensures { IfSome result (λ way. word.now ≡ way_word way) }
+{
+    match word {
+        "both" => Some(Way::Both),
+        "either" => Some(Way::Either),
+        "over" => Some(Way::Over),
+        _ => None,
+    }
+}
+
+/// Two maps and how they are put together.
+fn combination<K: NumberKey>(text: &str) -> Option<Command<K>>
+    ensures { IfSome result (λ command. codes "= " ++ text.now ≡ words_of command) }
+{
+    let (first, rest) = front_name(text)?;
+    let (word, second) = split_at_space(rest)?;
+    Some(Command::Combine(way_of(word)?, first, name_of(second)?))
+}
+
+/// A command that names other maps.
+fn of_maps<K: NumberKey>(words: &str) -> Option<Command<K>>
+    ensures { IfSome result (λ command. words.now ≡ words_of command) }
+{
+    let (word, fields) = split_at_space(words)?;
+    match word {
+        "equals" => Some(Command::Equals(name_of(fields)?)),
+        "=" => combination(fields),
+        _ => None,
+    }
+}
+
 /// A command of a word and a key.
 fn of_key<K: NumberKey>(word: &str, key: K) -> Option<Command<K>>
     ensures { IfSome result (λ command. word.now ≡ words_of command) }
@@ -158,6 +260,7 @@ fn of_key<K: NumberKey>(word: &str, key: K) -> Option<Command<K>>
         "get" => Some(Command::Ask(Question::Get(key))),
         "at" => Some(Command::Ask(Question::At(key))),
         "has" => Some(Command::Ask(Question::Has(key))),
+        "split" => Some(Command::Split(key)),
         _ => None,
     }
 }
@@ -177,26 +280,67 @@ fn of_range<K: NumberKey>(word: &str, range: AnyRange<K>) -> Option<Command<K>>
     }
 }
 
+/// A command of a word, a range and a number.
+fn of_binding<K: NumberKey>(word: &str, range: AnyRange<K>, value: i64) -> Option<Command<K>>
+    ensures { IfSome result (λ command. word.now ≡ words_of command) }
+{
+    match word {
+        "insert" => Some(Command::Change(Change::Insert(range, value))),
+        "try" => Some(Command::Change(Change::Try(range, value))),
+        _ => None,
+    }
+}
+
 /// A command of a word and fields.
 fn with_fields<K: NumberKey>(word: &str, fields: &str) -> Option<Command<K>>
     ensures { IfSome result (λ command. word.now ≡ words_of command) }
 {
     match word {
-        "insert" => Some(Command::Change(insertion(fields)?)),
-        "get" | "at" | "has" => of_key(word, key(fields)?),
+        "insert" | "try" => {
+            let (range, value) = binding(fields)?;
+            of_binding(word, range, value)
+        }
+        "get" | "at" | "has" | "split" => of_key(word, key(fields)?),
+        "drop" => Some(Command::Change(Change::Drop(number(fields)?))),
         _ => of_range(word, range(fields)?),
     }
 }
 
-/// The map that a line names and its command, `None` where the line has no known form.
-pub fn parse<K: NumberKey>(line: &str) -> Option<(Name, Command<K>)>
-    ensures { IfSome result (λ said. Says line.now said.0 said.1) }
+/// A command of words that end with the line.
+fn whole<K: NumberKey>(words: &str) -> Option<Command<K>>
+    ensures { IfSome result (λ command. words.now ≡ words_of command) }
 {
-    let (word, rest) = split_at_space(line)?;
-    let name = name_of(word)?;
-    if let Some(command) = without_fields(rest) {
-        return Some((name, command));
+    match without_fields(words) {
+        Some(command) => Some(command),
+        None => of_maps(words),
     }
-    let (word, fields) = split_at_space(rest)?;
-    Some((name, with_fields(word, fields)?))
+}
+
+/// A command and its fields.
+fn fielded<K: NumberKey>(alloc: Global, words: &str) -> Result<Command<K>, Unread>
+    ensures read { IfOk result
+        (λ command. (fields : List ℕ) × (words.now ≡ words_of command ++ fields)) }
+    ensures memory { result ≡ Err Memory
+        → (fields : List ℕ) × (words.now ≡ codes "from" ++ fields) }
+{
+    match split_at_space(words) {
+        Some(("from", fields)) => Ok(Command::Change(Change::From(list(alloc, fields)?))),
+        Some((word, fields)) => with_fields(word, fields).ok_or(Unread::Unknown),
+        None => Err(Unread::Unknown),
+    }
+}
+
+/// The map that a line names and its command.
+pub fn parse<K: NumberKey>(alloc: Global, line: &str) -> Result<(Name, Command<K>), Unread>
+    ensures read { IfOk result (λ said. Says line.now said.0 said.1) }
+    ensures memory { result ≡ Err Memory
+        → (name : Name) × BeginsWith line.now name (codes "from") }
+{
+    let Some((name, words)) = front_name(line) else {
+        return Err(Unread::Unknown);
+    };
+    match whole(words) {
+        Some(command) => Ok((name, command)),
+        None => Ok((name, fielded(alloc, words)?)),
+    }
 }

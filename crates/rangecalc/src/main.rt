@@ -9,8 +9,10 @@ mod answer;
 mod line;
 mod listing;
 mod maps;
+mod named;
 mod number;
 mod serve;
+mod two;
 mod write;
 
 const BUFFER_BYTES: usize = 65536;

@@ -1,60 +1,84 @@
 //! The four maps, and what they answer to a line.
 
-ghost use Rattle.std.specs.Prelude.{◌≡◌, OnOk};
+ghost use Rattle.std.specs.Prelude.{◌≡◌, ◌↔◌, IsTrue, OnOk};
+ghost use Rattle.std.specs.Ordering.{int_eq};
+ghost use Rattle.btree_range_map.specs.Bindings.{BindAlike};
 ghost use Rattle.btree_range_map.specs.Holding.{box_items};
-ghost use Rattle.rangecalc.specs.Conversation.{AnswersLine, IsDone, IsDoneTo, none_stored, stored_in};
+ghost use Rattle.rangecalc.specs.Conversation.{AnswersLine, IsDone, none_stored, stored_in};
+ghost use Rattle.rangecalc.specs.Named.{at};
 ghost use Rattle.rangecalc.specs.Replies.{Writes};
+ghost use Rattle.rangecalc.specs.Two.{IsCombination, IsSplit};
 
-use crate::answer::{ask, change};
-use crate::line::{Command, Name, parse};
+use crate::answer::{Reply, ask, change};
+use crate::line::{Command, Unread, Way, parse};
 use crate::listing::list;
+use crate::named::{Name, Named};
 use crate::number::NumberKey;
-use crate::write::write_reply;
-use btree_range_map::RangeMap;
+use crate::two::combined;
+use crate::write::{write_reply, write_truth};
+use btree_range_map::{RangeMap, UpdateError};
 use std::alloc::Global;
 use std::io::{self, Write};
 
 /// The maps that the lines name `a` to `d`.
-#[derive(Drop)]
-pub struct Maps<K: NumberKey> {
-    pub a: RangeMap<K, i64>,
-    pub b: RangeMap<K, i64>,
-    pub c: RangeMap<K, i64>,
-    pub d: RangeMap<K, i64>,
-}
+pub type Maps<K> = Named<RangeMap<K, i64>>;
 
-impl<K: NumberKey> Maps<K> {
-    pub fn new(alloc: Global) -> Maps<K>
-        ensures { stored_in result ≡ none_stored }
-    {
-        Maps {
-            a: RangeMap::new(alloc),
-            b: RangeMap::new(alloc),
-            c: RangeMap::new(alloc),
-            d: RangeMap::new(alloc),
-        }
+pub fn no_maps<K: NumberKey>(alloc: Global) -> Maps<K>
+    ensures { stored_in result ≡ none_stored }
+{
+    Named {
+        a: RangeMap::new(alloc),
+        b: RangeMap::new(alloc),
+        c: RangeMap::new(alloc),
+        d: RangeMap::new(alloc),
     }
 }
 
-/// Answers a command to a map.
-fn answer<K: NumberKey, W: Write>(
-    map: &mut RangeMap<K, i64>,
-    command: Command<K>,
-    out: &mut W,
-) -> io::Result<()>
-    ensures { OnOk result
-        (Writes (W.contents out.old) (W.contents out.new)
-        (λ text. IsDone K.order command text (box_items map.old) (box_items map.new))) }
+/// Whether two maps bind each key alike.
+fn are_equal<K: NumberKey>(maps: &Maps<K>, name: Name, other: Name) -> bool
+    ensures { IsTrue result ↔ BindAlike K.order int_eq (at (stored_in maps.now) name)
+        (at (stored_in maps.now) other) }
 {
-    match command {
-        Command::Change(wanted) => write_reply(change(map, wanted), out),
-        Command::Ask(question) => write_reply(ask(map, question), out),
-        Command::List(listing) => list(map, listing, out),
+    *maps.at(name) == *maps.at(other)
+}
+
+/// Moves what lies from the key on to the next map.
+fn split<K: NumberKey>(maps: &mut Maps<K>, name: Name, key: K) -> Reply<K>
+    ensures { IsSplit K.order name key result (stored_in maps.old) (stored_in maps.new) }
+{
+    match maps.at_mut(name).split_off(key) {
+        Ok(rest) => {
+            *maps.at_mut(name.next()) = rest;
+            Reply::Done
+        }
+        Err(_) => Reply::Memory,
+    }
+}
+
+/// Makes a map one of two, which it may be itself.
+fn combine<K: NumberKey>(
+    maps: &mut Maps<K>,
+    name: Name,
+    way: Way,
+    first: Name,
+    second: Name,
+) -> Reply<K>
+    ensures { IsCombination K.order name way first second result (stored_in maps.old)
+        (stored_in maps.new) }
+{
+    match combined(way, maps.at(first), maps.at(second)) {
+        Ok(made) => {
+            *maps.at_mut(name) = made;
+            Reply::Done
+        }
+        Err(UpdateError::Closure(_)) => Reply::Fault,
+        Err(UpdateError::Memory) => Reply::Memory,
     }
 }
 
 /// Answers a command to the map with a name.
-fn answer_named<K: NumberKey, W: Write>(
+fn answer<K: NumberKey, W: Write>(
+    alloc: Global,
     maps: &mut Maps<K>,
     name: Name,
     command: Command<K>,
@@ -62,21 +86,26 @@ fn answer_named<K: NumberKey, W: Write>(
 ) -> io::Result<()>
     ensures { OnOk result
         (Writes (W.contents out.old) (W.contents out.new)
-        (λ text. IsDoneTo K.order name command text (stored_in maps.old) (stored_in maps.new))) }
+        (λ text. IsDone K.order name command text (stored_in maps.old) (stored_in maps.new))) }
 {
-    match name {
-        Name::A => answer(&mut maps.a, command, out),
-        Name::B => answer(&mut maps.b, command, out),
-        Name::C => answer(&mut maps.c, command, out),
-        Name::D => answer(&mut maps.d, command, out),
+    match command {
+        Command::Change(wanted) => write_reply(change(alloc, maps.at_mut(name), wanted), out),
+        Command::Ask(question) => write_reply(ask(maps.at(name), question), out),
+        Command::List(listing) => list(maps.at(name), listing, out),
+        Command::Split(key) => write_reply(split(maps, name, key), out),
+        Command::Equals(other) => write_truth(are_equal(maps, name, other), out),
+        Command::Combine(way, first, second) => {
+            write_reply(combine(maps, name, way, first, second), out)
+        }
     }
 }
 
 /// Does what a line says and writes its reply: one line, or one for each range that is listed.
 ///
-/// A line of no known form is answered by `bad line`, a call that fails to allocate by `memory`,
-/// and then the maps are as before.
+/// A line of no known form is answered by `bad line`, one that fails to allocate by `memory`, and
+/// then the maps are as before.
 pub fn answer_line<K: NumberKey, W: Write>(
+    alloc: Global,
     maps: &mut Maps<K>,
     line: &str,
     out: &mut W,
@@ -85,8 +114,9 @@ pub fn answer_line<K: NumberKey, W: Write>(
         (Writes (W.contents out.old) (W.contents out.new)
         (λ text. AnswersLine K.order line.now text (stored_in maps.old) (stored_in maps.new))) }
 {
-    match parse(line) {
-        None => out.write_all(b"bad line\n"),
-        Some((name, command)) => answer_named(maps, name, command, out),
+    match parse(alloc, line) {
+        Ok((name, command)) => answer(alloc, maps, name, command, out),
+        Err(Unread::Unknown) => out.write_all(b"bad line\n"),
+        Err(Unread::Memory) => out.write_all(b"memory\n"),
     }
 }

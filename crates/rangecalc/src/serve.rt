@@ -7,7 +7,7 @@ ghost use Rattle.rangecalc.specs.Serving.{IsServed, IsStopped, NamesKeys};
 ghost use Rattle.rangecalc.specs.Text.{line_content};
 ghost use Rattle.rangecalc.specs.declared.serve.Stop.TheVariants.{Unreadable};
 
-use crate::maps::{Maps, answer_line};
+use crate::maps::{Maps, answer_line, no_maps};
 use crate::number::NumberKey;
 use std::alloc::Global;
 use std::io::{BufRead, Write};
@@ -31,6 +31,7 @@ fn without_line_end(line: &[u8]) -> &[u8]
 
 // Answers each line that is left, over maps that store nothing yet; `line` is the buffer of one.
 fn answer_lines<K: NumberKey, R: BufRead, W: Write>(
+    alloc: Global,
     maps: &mut Maps<K>,
     line: &mut Vec<u8>,
     input: &mut R,
@@ -59,7 +60,7 @@ fn answer_lines<K: NumberKey, R: BufRead, W: Write>(
         let Ok(text) = str::from_utf8(without_line_end(line.as_slice())) else {
             return Err(Stop::Unreadable);
         };
-        let Ok(()) = answer_line::<K, W>(maps, text, out) else {
+        let Ok(()) = answer_line::<K, W>(alloc, maps, text, out) else {
             return Err(Stop::Unwritable);
         };
     }
@@ -82,9 +83,9 @@ fn serve_lines<K: NumberKey, R: BufRead, W: Write>(
         × Writes (W.contents out.old) (W.contents out.new)
         (λ text. Conversation K.order none_stored bytes text rest)) }
 {
-    let mut maps = Maps::<K>::new(alloc);
+    let mut maps = no_maps::<K>(alloc);
     let mut line = Vec::new(alloc);
-    answer_lines::<K, R, W>(&mut maps, &mut line, input, out)
+    answer_lines::<K, R, W>(alloc, &mut maps, &mut line, input, out)
 }
 
 fn serve_keys<K: NumberKey, R: BufRead + Drop, W: Write, E: Write>(

@@ -4,7 +4,8 @@ ghost use Rattle.std.specs.Prelude.{◌≡◌, ◌++◌, ◌∷◌, [], OnOk, co
 ghost use Rattle.std.specs.Fmt.{signed_decimal};
 ghost use Rattle.std.specs.Io.KnownBytes.{Appends};
 ghost use Rattle.rangecalc.specs.Ranges.{item_of};
-ghost use Rattle.rangecalc.specs.Replies.{SpellsItem, SpellsReply, Writes, span_text};
+ghost use Rattle.rangecalc.specs.Replies.{SpellsItem, SpellsReply, Writes, span_text, truth_text};
+ghost use Rattle.rangecalc.specs.declared.answer.Reply.TheVariants.{Taken};
 
 use crate::answer::Reply;
 use crate::number::{NumberKey, Span, span_of};
@@ -54,6 +55,36 @@ pub fn write_item<K: NumberKey, W: Write>(
     write_item_line(&span_of(range), value, out)
 }
 
+/// Writes the line of a range that is in the way, by its first and its last key.
+fn write_taken_line<W: Write>(span: Span, out: &mut W) -> io::Result<()>
+    ensures { OnOk result
+        (Appends (W.contents out.old) (W.contents out.new)
+        (codes "taken " ++ span_text span.first span.last ++ 10 ∷ [])) }
+{
+    let Span { first, last } = span;
+    writeln!(out, "taken {first}..={last}")
+}
+
+/// Writes the line of a range that is in the way.
+fn write_taken<K: NumberKey, W: Write>(range: &AnyRange<K>, out: &mut W) -> io::Result<()>
+    ensures { OnOk result
+        (Writes (W.contents out.old) (W.contents out.new) (SpellsReply (Taken range.now))) }
+{
+    write_taken_line(span_of(range), out)
+}
+
+/// Writes the line of a yes or a no.
+pub fn write_truth<W: Write>(answer: bool, out: &mut W) -> io::Result<()>
+    ensures { OnOk result
+        (Appends (W.contents out.old) (W.contents out.new) (truth_text answer)) }
+{
+    if answer {
+        out.write_all(b"true\n")
+    } else {
+        out.write_all(b"false\n")
+    }
+}
+
 /// Writes the line of a reply.
 pub fn write_reply<K: NumberKey, W: Write>(reply: Reply<K>, out: &mut W) -> io::Result<()>
     ensures { OnOk result
@@ -65,8 +96,9 @@ pub fn write_reply<K: NumberKey, W: Write>(reply: Reply<K>, out: &mut W) -> io::
         Reply::Nothing => out.write_all(b"none\n"),
         Reply::Value(value) => writeln!(out, "{value}"),
         Reply::Stored(stored) => write_item(&stored.0, &stored.1, out),
-        Reply::Truth(true) => out.write_all(b"true\n"),
-        Reply::Truth(false) => out.write_all(b"false\n"),
+        Reply::Taken(range) => write_taken(&range, out),
+        Reply::Fault => out.write_all(b"fault\n"),
+        Reply::Truth(answer) => write_truth(answer, out),
         Reply::Number(number) => writeln!(out, "{number}"),
     }
 }

@@ -1,32 +1,89 @@
-use Rattle.std.proofs.Common.{refl, subst, sym}
+use Rattle.std.proofs.Common.{◌≡◌, ◌∙◌, ap, refl, subst, sym}
 use Rattle.btree_range_map.specs.Holding.{box_items, level_count}
-use Rattle.rangecalc.specs.Conversation.{IsDone}
-use Rattle.rangecalc.proofs.Progress.{writes_as}
+use Rattle.rangecalc.specs.Answers.{IsAnswer, IsChanged, IsListed}
+use Rattle.rangecalc.specs.Conversation.{IsDone, stored_in}
+use Rattle.rangecalc.specs.Named.{at, put}
+use Rattle.rangecalc.specs.Replies.{truth_text}
+use Rattle.rangecalc.proofs.Letters.{each_at, each_put}
+use Rattle.rangecalc.proofs.Progress.{on_ok_as, writes_as}
 use Rattle.rangecalc.proofs.maps.answer.Goals as goal
 
 pub returns-in-Change : goal.returns-in-Change
 returns-in-Change g c =
+    let order = g.K.MaybeBounded.order in
+    let maps = c.args.maps.now in
+    let name = c.args.name in
+    let map = c.change.new.map in
+    let same : box_items c.at_mut.result.now ≡ at (stored_in maps) name =
+    ap box_items c.at_mut.ensures.value ∙ sym (each_at box_items maps name) in
+    let changed =
+    subst (λ old. IsChanged order c.in-Change.wanted c.change.result old (box_items map)) same
+    c.change.ensures in
     writes_as c.write_reply.result (g.W.Write.contents c.args.out.now)
     (g.W.Write.contents c.write_reply.new.out) _ _
-    (λ text fits. subst (λ command. IsDone g.K.MaybeBounded.order command text
-    (box_items c.args.map.now) (box_items c.change.new.map)) (sym c.in-Change.is)
-    (c.change.result, c.change.ensures, fits))
+    (λ text fits. subst (λ command. IsDone order name command text (stored_in maps)
+    (stored_in (put maps name map))) (sym c.in-Change.is)
+    (c.change.result, box_items map, changed, fits, each_put box_items maps name map))
     c.write_reply.ensures
 
 pub returns-in-Ask : goal.returns-in-Ask
 returns-in-Ask g c =
+    let order = g.K.MaybeBounded.order in
+    let maps = c.args.maps.now in
+    let name = c.args.name in
+    let levels = level_count c.at.result.now in
+    let same : box_items c.at.result.now ≡ at (stored_in maps) name =
+    ap box_items c.at.ensures ∙ sym (each_at box_items maps name) in
+    let answered =
+    subst (λ items. IsAnswer order c.in-Ask.question c.ask.result items levels) same
+    c.ask.ensures in
     writes_as c.write_reply-in-Ask.result (g.W.Write.contents c.args.out.now)
     (g.W.Write.contents c.write_reply-in-Ask.new.out) _ _
-    (λ text fits. subst (λ command. IsDone g.K.MaybeBounded.order command text
-    (box_items c.args.map.now) (box_items c.args.map.now)) (sym c.in-Ask.is)
-    (c.ask.result, level_count c.args.map.now, c.ask.ensures, fits, refl))
+    (λ text fits. subst (λ command. IsDone order name command text (stored_in maps)
+    (stored_in maps)) (sym c.in-Ask.is)
+    (c.ask.result, levels, answered, fits, refl))
     c.write_reply-in-Ask.ensures
 
 pub returns-in-List : goal.returns-in-List
 returns-in-List g c =
+    let order = g.K.MaybeBounded.order in
+    let maps = c.args.maps.now in
+    let name = c.args.name in
+    let same : box_items c.at-in-List.result.now ≡ at (stored_in maps) name =
+    ap box_items c.at-in-List.ensures ∙ sym (each_at box_items maps name) in
     writes_as c.list.result (g.W.Write.contents c.args.out.now)
     (g.W.Write.contents c.list.new.out) _ _
-    (λ text fits. subst (λ command. IsDone g.K.MaybeBounded.order command text
-    (box_items c.args.map.now) (box_items c.args.map.now)) (sym c.in-List.is)
-    (fits, refl))
+    (λ text fits. subst (λ command. IsDone order name command text (stored_in maps)
+    (stored_in maps)) (sym c.in-List.is)
+    (subst (λ items. IsListed order c.in-List.listing items text) same fits, refl))
     c.list.ensures
+
+pub returns-in-Split : goal.returns-in-Split
+returns-in-Split g c =
+    writes_as c.write_reply-in-Split.result (g.W.Write.contents c.args.out.now)
+    (g.W.Write.contents c.write_reply-in-Split.new.out) _ _
+    (λ text fits. subst (λ command. IsDone g.K.MaybeBounded.order c.args.name command text
+    (stored_in c.args.maps.now) (stored_in c.split.new.maps)) (sym c.in-Split.is)
+    (c.split.result, c.split.ensures, fits))
+    c.write_reply-in-Split.ensures
+
+pub returns-in-Equals : goal.returns-in-Equals
+returns-in-Equals g c =
+    let stored = stored_in c.args.maps.now in
+    let answer = c.are_equal.result in
+    on_ok_as c.write_truth.result _ _
+    (λ appended. (
+      truth_text answer,
+      subst (λ command. IsDone g.K.MaybeBounded.order c.args.name command (truth_text answer)
+          stored stored) (sym c.in-Equals.is) (answer, c.are_equal.ensures, refl, refl),
+      appended,
+    )) c.write_truth.ensures
+
+pub returns-in-Combine : goal.returns-in-Combine
+returns-in-Combine g c =
+    writes_as c.write_reply-in-Combine.result (g.W.Write.contents c.args.out.now)
+    (g.W.Write.contents c.write_reply-in-Combine.new.out) _ _
+    (λ text fits. subst (λ command. IsDone g.K.MaybeBounded.order c.args.name command text
+    (stored_in c.args.maps.now) (stored_in c.combine.new.maps)) (sym c.in-Combine.is)
+    (c.combine.result, c.combine.ensures, fits))
+    c.write_reply-in-Combine.ensures

@@ -1,0 +1,25 @@
+use Rattle.std.proofs.Common.{rules, of_calls}
+use Rattle.std.specs.Ordering.{int_eq}
+use Rattle.btree_range_map.specs.Holding.{box_items}
+use Rattle.rangecalc.specs.Two.{Makes}
+use Rattle.rangecalc.proofs.Made.{combined_as, fails_as, if_ok_as}
+use Rattle.rangecalc.proofs.two.combined.Goals as goal
+
+pub returns-clause-bound : goal.returns-clause-bound
+returns-clause-bound g c =
+    if_ok_as c.combine.result _ _
+    (λ made bound.
+    combined_as g.K.MaybeBounded.order int_eq int_eq int_eq _ (Makes c.args.way)
+    (λ left right answer is.
+    rw (← is.shows, ← is.other_shows) (let says = is.says in search (rules, of_calls)))
+    (box_items c.args.first.now) (box_items c.args.second.now) (box_items made) bound)
+    c.combine.ensures.bound
+
+pub returns-clause-fault : goal.returns-clause-fault
+returns-clause-fault g c =
+    λ fault failed.
+    fails_as g.K.MaybeBounded.order int_eq int_eq int_eq _ (Makes c.args.way)
+    (λ left right answer is.
+    rw (← is.shows, ← is.other_shows) (let says = is.says in search (rules, of_calls)))
+    (box_items c.args.first.now) (box_items c.args.second.now) fault
+    (c.combine.ensures.closure fault failed)

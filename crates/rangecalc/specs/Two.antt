@@ -1,0 +1,54 @@
+-- What is made of two maps, and which of the four maps a command to several changes.
+use Rattle.std.specs.Prelude.{◌≡◌, ◌+ℤ◌, ℤ, FitsSigned, Option, Some, None, Result, Ok, Err}
+use Rattle.std.specs.Int.{w64}
+use Rattle.std.specs.Ordering.{int_eq}
+use Rattle.btree_range_map.specs.Combining.{AreCombined, MayFailOnBoth}
+use Rattle.btree_range_map.specs.Order.{KeyOrder}
+use Rattle.btree_range_map.specs.Splitting.{IsSplitAt}
+use Rattle.rangecalc.specs.Named.{at, following, put}
+use Rattle.rangecalc.specs.Ranges.{Ranges}
+use Rattle.rangecalc.specs.declared.answer.Reply.{Reply}
+use Rattle.rangecalc.specs.declared.answer.Reply.TheVariants.{Done, Memory, Fault}
+use Rattle.rangecalc.specs.declared.line.Way.{Way}
+use Rattle.rangecalc.specs.declared.line.Way.TheVariants.{Both, Either, Over}
+use Rattle.rangecalc.specs.declared.named.Name.{Name}
+use Rattle.rangecalc.specs.declared.named.Named.{Named}
+use Rattle.rangecalc.specs.declared.two.Overflow.{Overflow}
+
+-- the sum, or a fault where no `i64` is the sum
+abbrev pub IsSum : ℤ → ℤ → Result (Option ℤ) Overflow → Type 0
+IsSum a b (Ok made) = FitsSigned w64 (a +ℤ b) × (made ≡ Some (a +ℤ b))
+IsSum a b (Err fault) = ¬ FitsSigned w64 (a +ℤ b)
+
+-- what is made of what two maps bind a key to: a value, nothing, or a fault
+abbrev pub Makes : Way → Option ℤ → Option ℤ → Result (Option ℤ) Overflow → Type 0
+Makes Both (Some a) (Some b) made = IsSum a b made
+Makes Both left right made = made ≡ Ok None
+Makes Either (Some a) None made = made ≡ Ok (Some a)
+Makes Either None (Some b) made = made ≡ Ok (Some b)
+Makes Either left right made = made ≡ Ok None
+Makes Over (Some a) right made = made ≡ Ok (Some a)
+Makes Over None right made = made ≡ Ok right
+
+module _ {K : Type 0} (order : KeyOrder K) where
+  -- the map with a name keeps what lies below a key, and the next one has the others
+  abbrev pub IsSplit : Name → K → Reply K → Named (Ranges K) → Named (Ranges K) → Type 0
+  IsSplit name key Done old new =
+      (front : Ranges K) × (back : Ranges K)
+      × IsSplitAt order int_eq key (at old name) front back
+      × (new ≡ put (put old name front) (following name) back)
+  IsSplit name key Memory old new = new ≡ old
+  IsSplit name key reply old new = ⊥
+
+  -- the map with a name binds what the way makes of two, or a sum of the two does not fit
+  abbrev pub IsCombination : Name → Way → Name → Name → Reply K → Named (Ranges K)
+      → Named (Ranges K) → Type 0
+  IsCombination name way first second Done old new =
+      (made : Ranges K)
+      × AreCombined order int_eq int_eq int_eq (Makes way) (at old first) (at old second) made
+      × (new ≡ put old name made)
+  IsCombination name way first second Fault old new =
+      (fault : Overflow)
+      × MayFailOnBoth order (Makes way) (at old first) (at old second) fault × (new ≡ old)
+  IsCombination name way first second Memory old new = new ≡ old
+  IsCombination name way first second reply old new = ⊥
