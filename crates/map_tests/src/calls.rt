@@ -1,9 +1,5 @@
-use crate::support::{
-    NumberItem, Step, Table, check, closed, first_wrong, half_open, holds, new_map, play,
-};
-use range_map::map::{MapError, RangeMap};
-use range_store::storage::Storage;
-use std::alloc::Global;
+use crate::support::{Played, Step, Trial, Tried, check, closed, first_wrong, holds, play};
+use range_map::map::MapError;
 use std::ops::Bound::{Excluded, Included, Unbounded};
 use std::test::Fail;
 
@@ -135,9 +131,7 @@ fn step_of_many(place: u8) -> Step<'static> {
 }
 
 /// Takes the steps of many. Returns the place of the first that does not hold.
-fn first_wrong_of_many<C: Storage<NumberItem>>(
-    map: &mut RangeMap<i32, i64, C>,
-) -> Result<Option<usize>, MapError> {
+fn first_wrong_of_many<M: Played>(map: &mut M) -> Result<Option<usize>, MapError> {
     for place in 0..192 {
         if !holds(map, step_of_many(place))? {
             return Ok(Some(place as usize));
@@ -149,22 +143,23 @@ fn first_wrong_of_many<C: Storage<NumberItem>>(
 /// Many ranges that stand apart, then one over them all, then a hole in it.
 struct Many;
 
-impl Table<NumberItem> for Many {
-    fn first_wrong<C: Storage<NumberItem>>(
+static AFTER_MANY: &[Step<'static>] = &[
+    Step::Count(64),
+    Step::Insert(closed!(0, 126), 1),
+    Step::Count(1),
+    Step::Insert(half_open!(5, 6), 0),
+    Step::Count(3),
+    Step::Get(5, Some(0)),
+];
+
+impl Trial for Many {
+    fn first_wrong<M: Tried>(
         &self,
-        alloc: Global,
+        map: &mut M,
+        _other: &mut M,
     ) -> Result<Option<usize>, MapError> {
-        let last_steps = [
-            Step::Count(64),
-            Step::Insert(closed(0, 126), 1),
-            Step::Count(1),
-            Step::Insert(half_open(5, 6), 0),
-            Step::Count(3),
-            Step::Get(5, Some(0)),
-        ];
-        let mut map = new_map::<C>(alloc);
-        let wrong = first_wrong_of_many(&mut map)?;
-        Ok(wrong.or(first_wrong(&mut map, &last_steps)?))
+        let wrong = first_wrong_of_many(map)?;
+        Ok(wrong.or(first_wrong(map, AFTER_MANY)?))
     }
 }
 

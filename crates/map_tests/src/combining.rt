@@ -1,9 +1,10 @@
 //! Two maps put together by a closure.
 
-use crate::support::{NumberItem, Row, Table, check_each, map_of, stores, wrong_unless};
-use range_map::map::{MapError, RangeMap, UpdateError};
+use crate::support::{
+    Map, NumberItem, Played, Row, Trial, Tried, check_each, insert_rows, wrong_unless,
+};
+use range_map::map::{MapError, UpdateError};
 use range_store::storage::Storage;
-use std::alloc::Global;
 use std::test::Fail;
 
 /// The sum where both are there, the first where it is alone, and an error where the sum does not
@@ -19,21 +20,23 @@ fn added(one: Option<&i64>, other: Option<&i64>) -> Result<Option<i64>, u8> {
     }
 }
 
-fn sum<C: Storage<NumberItem>>(
-    map: &RangeMap<i32, i64, C>,
-    other: &RangeMap<i32, i64, C>,
-) -> Result<RangeMap<i32, i64, C>, UpdateError<u8>> {
-    map.combine(other, |one, two| added(one, two))
+/// A map that is put together with another one.
+pub trait Summed {
+    /// Becomes the map of the sums.
+    fn become_sum(&mut self, other: &Self) -> Result<(), UpdateError<u8>>;
+}
+
+impl<C: Storage<NumberItem>> Summed for Map<C> {
+    fn become_sum(&mut self, other: &Self) -> Result<(), UpdateError<u8>> {
+        *self = self.combine(other, |one, two| added(one, two))?;
+        Ok(())
+    }
 }
 
 /// Whether the map of the sums stores the rows, or a sum does not fit where there are none.
-fn adds_up<C: Storage<NumberItem>>(
-    one: &RangeMap<i32, i64, C>,
-    other: &RangeMap<i32, i64, C>,
-    rows: Option<&[Row]>,
-) -> bool {
-    match (sum(one, other), rows) {
-        (Ok(both), Some(rows)) => stores(&both, rows),
+fn adds_up<M: Played + Summed>(map: &mut M, other: &M, rows: Option<&[Row]>) -> bool {
+    match (map.become_sum(other), rows) {
+        (Ok(()), Some(rows)) => map.stores(rows),
         (Err(UpdateError::Closure(1)), None) => true,
         (_, _) => false,
     }
@@ -47,14 +50,11 @@ struct Sums<'a> {
     both: Option<&'a [Row]>,
 }
 
-impl<'a> Table<NumberItem> for Sums<'a> {
-    fn first_wrong<C: Storage<NumberItem>>(
-        &self,
-        alloc: Global,
-    ) -> Result<Option<usize>, MapError> {
-        let one = map_of::<C>(alloc, self.one)?;
-        let other = map_of::<C>(alloc, self.other)?;
-        Ok(wrong_unless(adds_up(&one, &other, self.both)))
+impl<'a> Trial for Sums<'a> {
+    fn first_wrong<M: Tried>(&self, map: &mut M, other: &mut M) -> Result<Option<usize>, MapError> {
+        insert_rows(map, self.one)?;
+        insert_rows(other, self.other)?;
+        Ok(wrong_unless(adds_up(map, other, self.both)))
     }
 }
 

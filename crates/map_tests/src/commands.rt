@@ -1,13 +1,14 @@
-use crate::support::{NumberItem, Table, check, half_open, new_map, range_count};
+use crate::support::{Map, NumberItem, Played, Trial, Tried, check, half_open, wrong_unless};
 use range_commands::command::{Command, Reply, answer, run};
-use range_map::map::{MapError, RangeMap};
+use range_map::map::MapError;
 use range_store::storage::Storage;
 use std::alloc::{AllocError, Global};
+use std::process::Abort;
 use std::test::Fail;
 
-type NumberCommand = Command<i32, i64, i64>;
+pub type NumberCommand = Command<i32, i64, i64>;
 
-type NumberReply = Reply<i32, i64, u8>;
+pub type NumberReply = Reply<i32, i64, u8>;
 
 /// Leaves what is bound, unless it is bound to the tag, and binds what is free to the tag.
 fn filled(tag: &i64, old: Option<&i64>) -> Result<Option<i64>, u8> {
@@ -18,19 +19,29 @@ fn filled(tag: &i64, old: Option<&i64>) -> Result<Option<i64>, u8> {
     }
 }
 
-fn reply<C: Storage<NumberItem>>(
-    map: &mut RangeMap<i32, i64, C>,
-    command: NumberCommand,
-) -> NumberReply {
-    answer(map, command, &filled)
+/// A map that answers commands.
+pub trait Commanded {
+    fn reply(&mut self, command: NumberCommand) -> NumberReply;
+
+    fn replies(
+        &mut self,
+        alloc: Global,
+        commands: Vec<NumberCommand>,
+    ) -> Result<Vec<NumberReply>, MapError>;
 }
 
-fn replies<C: Storage<NumberItem>>(
-    alloc: Global,
-    map: &mut RangeMap<i32, i64, C>,
-    commands: Vec<NumberCommand>,
-) -> Result<Vec<NumberReply>, MapError> {
-    run(alloc, map, commands, &filled)
+impl<C: Storage<NumberItem>> Commanded for Map<C> {
+    fn reply(&mut self, command: NumberCommand) -> NumberReply {
+        answer(self, command, &filled)
+    }
+
+    fn replies(
+        &mut self,
+        alloc: Global,
+        commands: Vec<NumberCommand>,
+    ) -> Result<Vec<NumberReply>, MapError> {
+        run(alloc, self, commands, &filled)
+    }
 }
 
 fn copy_of(command: &NumberCommand) -> NumberCommand {
@@ -75,30 +86,42 @@ fn first_other(rows: &[Row], replies: &[NumberReply]) -> Option<usize> {
 }
 
 /// The index of the first command to which another reply is given, each by itself.
-fn first_answered_otherwise<C: Storage<NumberItem>>(alloc: Global, rows: &[Row]) -> Option<usize> {
-    let mut map = new_map::<C>(alloc);
+fn first_answered_otherwise<M: Commanded>(map: &mut M, rows: &[Row]) -> Option<usize> {
     for (index, (command, expected)) in rows.iter().enumerate() {
-        if reply(&mut map, copy_of(command)) != *expected {
+        if map.reply(copy_of(command)) != *expected {
             return Some(index);
         }
     }
     None
 }
 
+/// The index of the first command of a list to which another reply is given.
+fn first_other_of_list<M: Commanded>(
+    alloc: Global,
+    map: &mut M,
+    rows: &[Row],
+) -> Result<Option<usize>, MapError> {
+    let given = map.replies(alloc, commands_of(alloc, rows)?)?;
+    Ok(first_other(rows, given.as_slice()))
+}
+
 /// Commands that a new map gets as one list, and another map one by one.
 #[derive(Clone, Copy)]
-struct Rows<'a>(&'a [Row]);
+struct Rows<'a> {
+    alloc: Global,
+    rows: &'a [Row],
+}
 
-impl<'a> Table<NumberItem> for Rows<'a> {
-    fn first_wrong<C: Storage<NumberItem>>(
-        &self,
-        alloc: Global,
-    ) -> Result<Option<usize>, MapError> {
-        let mut map = new_map::<C>(alloc);
-        let given = replies(alloc, &mut map, commands_of(alloc, self.0)?)?;
-        let other = first_other(self.0, given.as_slice());
-        Ok(other.or(first_answered_otherwise::<C>(alloc, self.0)))
+impl<'a> Trial for Rows<'a> {
+    fn first_wrong<M: Tried>(&self, map: &mut M, other: &mut M) -> Result<Option<usize>, MapError> {
+        let of_list = first_other_of_list(self.alloc, map, self.rows)?;
+        Ok(of_list.or(first_answered_otherwise(other, self.rows)))
     }
+}
+
+/// Each command has to be answered so, by either container.
+fn play(rt: &impl Abort, alloc: Global, rows: &[Row]) -> Result<(), Fail> {
+    check(rt, alloc, &Rows { alloc, rows })
 }
 
 static A_RUN_ANSWERS_EACH_COMMAND: &[Row] = &[
@@ -113,7 +136,7 @@ static A_RUN_ANSWERS_EACH_COMMAND: &[Row] = &[
 
 #[test]
 fn a_run_answers_each_command(rt: HostRuntime) -> Result<(), Fail> {
-    check(&rt, rt.alloc(), &Rows(A_RUN_ANSWERS_EACH_COMMAND))
+    play(&rt, rt.alloc(), A_RUN_ANSWERS_EACH_COMMAND)
 }
 
 static A_RUN_TELLS_WHAT_IS_IN_THE_WAY: &[Row] = &[
@@ -143,7 +166,7 @@ static A_RUN_TELLS_WHAT_IS_IN_THE_WAY: &[Row] = &[
 
 #[test]
 fn a_run_tells_what_is_in_the_way(rt: HostRuntime) -> Result<(), Fail> {
-    check(&rt, rt.alloc(), &Rows(A_RUN_TELLS_WHAT_IS_IN_THE_WAY))
+    play(&rt, rt.alloc(), A_RUN_TELLS_WHAT_IS_IN_THE_WAY)
 }
 
 static UPDATES_ARE_TOLD_APART_BY_THEIR_TAGS: &[Row] = &[
@@ -158,32 +181,28 @@ static UPDATES_ARE_TOLD_APART_BY_THEIR_TAGS: &[Row] = &[
 
 #[test]
 fn updates_are_told_apart_by_their_tags(rt: HostRuntime) -> Result<(), Fail> {
-    check(&rt, rt.alloc(), &Rows(UPDATES_ARE_TOLD_APART_BY_THEIR_TAGS))
+    play(&rt, rt.alloc(), UPDATES_ARE_TOLD_APART_BY_THEIR_TAGS)
 }
 
 /// Whether a command is done on a new map, or else an allocation fails and nothing is changed.
-fn is_done_or_refused<C: Storage<NumberItem>>(alloc: Global) -> bool {
-    let mut map = new_map::<C>(alloc);
-    let given = reply(&mut map, Command::InsertDisconnected(half_open(0, 10), 1));
+fn is_done_or_refused<M: Played + Commanded>(map: &mut M) -> bool {
+    let given = map.reply(Command::InsertDisconnected(half_open(0, 10), 1));
     let bound = given == Reply::Done;
     (bound || given == Reply::Memory)
-        && range_count(&map) == if bound { 1 } else { 0 }
-        && reply(&mut map, Command::Contains(5)) == Reply::Truth(bound)
+        && map.has_count(if bound { 1 } else { 0 })
+        && map.reply(Command::Contains(5)) == Reply::Truth(bound)
 }
 
 /// A command to a new map, where an allocation may fail.
 struct Refusal;
 
-impl Table<NumberItem> for Refusal {
-    fn first_wrong<C: Storage<NumberItem>>(
+impl Trial for Refusal {
+    fn first_wrong<M: Tried>(
         &self,
-        alloc: Global,
+        map: &mut M,
+        _other: &mut M,
     ) -> Result<Option<usize>, MapError> {
-        Ok(if is_done_or_refused::<C>(alloc) {
-            None
-        } else {
-            Some(0)
-        })
+        Ok(wrong_unless(is_done_or_refused(map)))
     }
 }
 

@@ -1,4 +1,5 @@
-use crate::support::{NumberItem, PairTable, Range, find_over_pair, insert, new_map, remove};
+use crate::containers::{PairTable, find_over_pair};
+use crate::support::{Map, NumberItem, Played, Range};
 use range_algebra::any::AnyRange;
 use range_keys::traits::PartialEnum;
 use range_map::map::{MapError, RangeMap};
@@ -12,19 +13,16 @@ use std::test::Fail;
 /// A range that is bound to the value, or unbound where there is none.
 type Call = (Range, Option<i64>);
 
-/// The map that the calls make of a new one.
-fn map_of<C: Storage<NumberItem>>(
-    alloc: Global,
-    calls: &[Call],
-) -> Result<RangeMap<i32, i64, C>, MapError> {
-    let mut map = new_map::<C>(alloc);
+/// Unbinds all keys, and makes the calls.
+fn make<M: Compared>(map: &mut M, calls: &[Call]) -> Result<bool, MapError> {
+    map.clear();
     for (range, value) in calls {
         match value {
-            Some(value) => insert(&mut map, *range, *value)?,
-            None => remove(&mut map, *range)?,
-        }
+            Some(value) => map.insert(*range, *value)?,
+            None => map.remove(*range)?,
+        };
     }
-    Ok(map)
+    Ok(true)
 }
 
 fn hash_of<K: PartialEnum + Hash, C: Storage<Item<AnyRange<K>, i64>>>(
@@ -35,85 +33,112 @@ fn hash_of<K: PartialEnum + Hash, C: Storage<Item<AnyRange<K>, i64>>>(
     state.finish()
 }
 
-/// How two maps compare, or none where the ways of comparing them do not agree.
-pub fn order_of<K, C, D>(
-    left: &RangeMap<K, i64, C>,
-    right: &RangeMap<K, i64, D>,
-) -> Option<Ordering>
+/// A map that compares with one over another container.
+pub trait Across<O> {
+    fn order_to(&self, other: &O) -> Ordering;
+
+    /// Whether the two are equal.
+    fn equals(&self, other: &O) -> bool;
+
+    /// How many ranges are stored, and their hash.
+    fn count_and_hash(&self) -> (usize, u64);
+}
+
+impl<K, C, D> Across<RangeMap<K, i64, D>> for RangeMap<K, i64, C>
 where
     K: PartialEnum + Hash,
     C: Storage<Item<AnyRange<K>, i64>>,
     D: Storage<Item<AnyRange<K>, i64>>,
 {
-    let order = left.cmp_across(right);
+    fn order_to(&self, other: &RangeMap<K, i64, D>) -> Ordering {
+        self.cmp_across(other)
+    }
+
+    fn equals(&self, other: &RangeMap<K, i64, D>) -> bool {
+        self.eq_across(other)
+    }
+
+    fn count_and_hash(&self) -> (usize, u64) {
+        (self.range_count(), hash_of(self))
+    }
+}
+
+/// How two maps compare, or none where the ways of comparing them do not agree.
+pub fn order_of<M: Across<O>, O: Across<M>>(left: &M, right: &O) -> Option<Ordering> {
+    let order = left.order_to(right);
     let same = order == Ordering::Equal;
-    let agree = left.eq_across(right) == same
-        && right.cmp_across(left) == order.reverse()
-        && (!same
-            || (left.range_count() == right.range_count() && hash_of(left) == hash_of(right)));
+    let agree = left.equals(right) == same
+        && right.order_to(left) == order.reverse()
+        && (!same || left.count_and_hash() == right.count_and_hash());
     if agree { Some(order) } else { None }
 }
 
-/// Whether two maps over one container compare so by `==` and by `cmp`.
-fn compare_as<C: Storage<NumberItem>>(
-    left: &RangeMap<i32, i64, C>,
-    right: &RangeMap<i32, i64, C>,
-    order: Ordering,
-) -> bool {
-    let same = order == Ordering::Equal;
-    (*left == *right) == same && left.cmp(right) == order && left.partial_cmp(right) == Some(order)
+/// A map that is compared with others.
+trait Compared: Played {
+    /// Whether it compares so by `==` and by `cmp` with a map over the same container.
+    fn compares_as(&self, other: &Self, order: Ordering) -> bool;
 }
 
-/// Whether the maps that the calls make compare so.
-fn are_ordered<C: Storage<NumberItem>, D: Storage<NumberItem>>(
-    alloc: Global,
-    calls: &[Call],
-    others: &[Call],
-    order: Ordering,
-) -> Result<bool, MapError> {
-    let left = map_of::<C>(alloc, calls)?;
-    let right = map_of::<D>(alloc, others)?;
-    Ok(order_of(&left, &right) == Some(order))
-}
-
-/// The same over one container.
-fn are_ordered_within<C: Storage<NumberItem>>(
-    alloc: Global,
-    calls: &[Call],
-    others: &[Call],
-    order: Ordering,
-) -> Result<bool, MapError> {
-    let left = map_of::<C>(alloc, calls)?;
-    let right = map_of::<C>(alloc, others)?;
-    Ok(compare_as(&left, &right, order) && order_of(&left, &right) == Some(order))
+impl<C: Storage<NumberItem>> Compared for Map<C> {
+    fn compares_as(&self, other: &Self, order: Ordering) -> bool {
+        let same = order == Ordering::Equal;
+        (*self == *other) == same
+            && self.cmp(other) == order
+            && self.partial_cmp(other) == Some(order)
+    }
 }
 
 /// The rank of a map, and the calls that make it.
 type Ranked<'a> = (u8, &'a [Call]);
 
 /// Whether the maps compare by their ranks, over each two containers.
-fn compare_by_rank<C: Storage<NumberItem>, D: Storage<NumberItem>>(
-    alloc: Global,
-    left: Ranked<'_>,
-    right: Ranked<'_>,
+fn compare_by_rank<M: Compared + Across<O>, O: Compared + Across<M>>(
+    one: &mut M,
+    alike: &mut M,
+    other: &mut O,
+    like_other: &mut O,
+    (left, right): (Ranked<'_>, Ranked<'_>),
 ) -> Result<bool, MapError> {
+    make(one, left.1)?;
+    make(alike, right.1)?;
+    make(other, left.1)?;
+    make(like_other, right.1)?;
     let order = left.0.cmp(&right.0);
     Ok(
-        are_ordered_within::<C>(alloc, left.1, right.1, order)?
-            && are_ordered_within::<D>(alloc, left.1, right.1, order)?
-            && are_ordered::<C, D>(alloc, left.1, right.1, order)?,
+        one.compares_as(alike, order)
+            && other.compares_as(like_other, order)
+            && order_of(one, like_other) == Some(order),
     )
 }
 
 /// The first map that does not compare with the left one by their ranks.
-fn first_unlike<C: Storage<NumberItem>, D: Storage<NumberItem>>(
-    alloc: Global,
+fn first_unlike<M: Compared + Across<O>, O: Compared + Across<M>>(
+    one: &mut M,
+    alike: &mut M,
+    other: &mut O,
+    like_other: &mut O,
     left: Ranked<'_>,
-    maps: &[Ranked<'_>],
+    ranking: &[Ranked<'_>],
 ) -> Result<Option<usize>, MapError> {
-    for (index, right) in maps.iter().enumerate() {
-        if !compare_by_rank::<C, D>(alloc, left, *right)? {
+    for (index, right) in ranking.iter().enumerate() {
+        if !compare_by_rank(one, alike, other, like_other, (left, *right))? {
             return Ok(Some(index));
+        }
+    }
+    Ok(None)
+}
+
+/// The first two maps that do not compare by their ranks.
+fn first_unlike_pair<M: Compared + Across<O>, O: Compared + Across<M>>(
+    one: &mut M,
+    alike: &mut M,
+    other: &mut O,
+    like_other: &mut O,
+    ranking: &[Ranked<'_>],
+) -> Result<Option<(usize, usize)>, MapError> {
+    for (first, left) in ranking.iter().enumerate() {
+        if let Some(second) = first_unlike(one, alike, other, like_other, *left, ranking)? {
+            return Ok(Some((first, second)));
         }
     }
     Ok(None)
@@ -130,12 +155,11 @@ impl<'a> PairTable<NumberItem> for Ranking<'a> {
         &self,
         alloc: Global,
     ) -> Result<Option<(usize, usize)>, MapError> {
-        for (first, left) in self.0.iter().enumerate() {
-            if let Some(second) = first_unlike::<C, D>(alloc, *left, self.0)? {
-                return Ok(Some((first, second)));
-            }
-        }
-        Ok(None)
+        let mut one: Map<C> = RangeMap::new(alloc);
+        let mut alike: Map<C> = RangeMap::new(alloc);
+        let mut other: Map<D> = RangeMap::new(alloc);
+        let mut like_other: Map<D> = RangeMap::new(alloc);
+        first_unlike_pair(&mut one, &mut alike, &mut other, &mut like_other, self.0)
     }
 }
 

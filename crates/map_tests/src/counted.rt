@@ -1,13 +1,13 @@
 //! How many steps counted calls take.
 
-use crate::support::{InTree, NumberItem, Range, Table, check_over_vector, closed, new_map};
+use crate::support::{
+    Map, NumberItem, Played, Range, Tree, Trial, Tried, check_over_vector, closed,
+};
 use range_commands::command::{Command, Reply, run_counted};
 use range_map::map::{MapError, RangeMap};
 use range_store::storage::{Steps, Storage};
 use std::alloc::{AllocError, Global};
 use std::test::Fail;
-
-type TreeMap = RangeMap<i32, i64, InTree>;
 
 /// A key alone, apart from those of the numbers beside it.
 fn single(number: u8) -> Range {
@@ -37,93 +37,83 @@ enum Step {
     Run(usize, u64, u64),
 }
 
-fn insert_singles<C: Storage<NumberItem>>(
-    map: &mut RangeMap<i32, i64, C>,
-    from: u8,
-    to: u8,
-) -> Result<(), MapError> {
-    for number in from..to {
-        map.insert(single(number), i64::from(number))?;
-    }
-    Ok(())
-}
-
-fn remove_singles<C: Storage<NumberItem>>(
-    map: &mut RangeMap<i32, i64, C>,
-    from: u8,
-    to: u8,
-) -> Result<(), MapError> {
-    for number in from..to {
-        map.remove(single(number))?;
-    }
-    Ok(())
-}
-
-fn inserts<C: Storage<NumberItem>>(
-    map: &mut RangeMap<i32, i64, C>,
-    range: Range,
-    value: i64,
-    most: u64,
-) -> Result<bool, MapError> {
-    let mut steps = Steps::new();
-    map.insert_counted(range, value, &mut steps)?;
-    Ok(steps.count() <= most)
-}
-
-fn removes<C: Storage<NumberItem>>(
-    map: &mut RangeMap<i32, i64, C>,
-    range: Range,
-    most: u64,
-) -> Result<bool, MapError> {
-    let mut steps = Steps::new();
-    map.remove_counted(range, &mut steps)?;
-    Ok(steps.count() <= most)
-}
-
 fn is_within(steps: &Steps, least: u64, most: u64) -> bool {
     least <= steps.count() && steps.count() <= most
 }
 
-fn gets<C: Storage<NumberItem>>(
-    map: &RangeMap<i32, i64, C>,
-    key: i32,
-    least: u64,
-    most: u64,
-) -> bool {
-    let mut steps = Steps::new();
-    let value = map.get_counted(key, &mut steps).copied();
-    value == map.get(key).copied() && is_within(&steps, least, most)
+/// A map whose calls count their steps.
+pub trait Counted: Played {
+    /// Whether an insertion takes at most so many steps.
+    fn inserts_within(&mut self, range: Range, value: i64, most: u64) -> Result<bool, MapError>;
+
+    /// Whether a removal takes at most so many steps.
+    fn removes_within(&mut self, range: Range, most: u64) -> Result<bool, MapError>;
+
+    /// Whether a counted look-up answers as the other does, in so many steps at least and at most.
+    fn gets_within(&self, key: i32, least: u64, most: u64) -> bool;
+
+    fn contains_within(&self, key: i32, least: u64, most: u64) -> bool;
+
+    fn intersects_within(&self, range: Range, least: u64, most: u64) -> bool;
 }
 
-fn contains<C: Storage<NumberItem>>(
-    map: &RangeMap<i32, i64, C>,
-    key: i32,
-    least: u64,
-    most: u64,
-) -> bool {
-    let mut steps = Steps::new();
-    let bound = map.contains_key_counted(key, &mut steps);
-    bound == map.contains_key(key) && is_within(&steps, least, most)
+impl<C: Storage<NumberItem>> Counted for Map<C> {
+    fn inserts_within(&mut self, range: Range, value: i64, most: u64) -> Result<bool, MapError> {
+        let mut steps = Steps::new();
+        self.insert_counted(range, value, &mut steps)?;
+        Ok(steps.count() <= most)
+    }
+
+    fn removes_within(&mut self, range: Range, most: u64) -> Result<bool, MapError> {
+        let mut steps = Steps::new();
+        self.remove_counted(range, &mut steps)?;
+        Ok(steps.count() <= most)
+    }
+
+    fn gets_within(&self, key: i32, least: u64, most: u64) -> bool {
+        let mut steps = Steps::new();
+        let value = self.get_counted(key, &mut steps).copied();
+        value == self.get(key).copied() && is_within(&steps, least, most)
+    }
+
+    fn contains_within(&self, key: i32, least: u64, most: u64) -> bool {
+        let mut steps = Steps::new();
+        let bound = self.contains_key_counted(key, &mut steps);
+        bound == self.contains_key(key) && is_within(&steps, least, most)
+    }
+
+    fn intersects_within(&self, range: Range, least: u64, most: u64) -> bool {
+        let mut steps = Steps::new();
+        let meets = self.intersects_counted(range, &mut steps);
+        meets == self.intersects(range) && is_within(&steps, least, most)
+    }
 }
 
-fn intersects<C: Storage<NumberItem>>(
-    map: &RangeMap<i32, i64, C>,
-    range: Range,
-    least: u64,
-    most: u64,
-) -> bool {
-    let mut steps = Steps::new();
-    let meets = map.intersects_counted(range, &mut steps);
-    meets == map.intersects(range) && is_within(&steps, least, most)
+fn insert_singles<M: Counted>(map: &mut M, from: u8, to: u8) -> Result<bool, MapError> {
+    for number in from..to {
+        map.inserts_within(single(number), i64::from(number), u64::MAX)?;
+    }
+    Ok(true)
 }
 
-fn looks_up<C: Storage<NumberItem>>(map: &RangeMap<i32, i64, C>, least: u64, most: u64) -> bool {
+fn remove_singles<M: Counted>(map: &mut M, from: u8, to: u8) -> Result<bool, MapError> {
+    for number in from..to {
+        map.removes_within(single(number), u64::MAX)?;
+    }
+    Ok(true)
+}
+
+/// Whether counted look-ups at a key answer as the others do, in so many steps.
+fn looks_up_at<M: Counted>(map: &M, key: i32, least: u64, most: u64) -> bool {
+    map.gets_within(key, least, most)
+        && map.contains_within(key, least, most)
+        && map.intersects_within(closed(key, 290), least, most)
+        && map.intersects_within(closed(key, -2), 0, 0)
+}
+
+fn looks_up<M: Counted>(map: &M, least: u64, most: u64) -> bool {
     for key in -1..290 {
-        let looked = gets(map, key, least, most)
-            && contains(map, key, least, most)
-            && intersects(map, closed(key, 290), least, most)
-            && intersects(map, closed(key, -2), 0, 0);
-        if !looked {
+        if !looks_up_at(map, key, least, most) {
             return false;
         }
     }
@@ -131,20 +121,16 @@ fn looks_up<C: Storage<NumberItem>>(map: &RangeMap<i32, i64, C>, least: u64, mos
 }
 
 /// Makes the call, or tells whether it is so.
-fn holds<C: Storage<NumberItem>>(
-    map: &mut RangeMap<i32, i64, C>,
-    step: Step,
-) -> Result<bool, MapError> {
+fn holds<M: Counted>(map: &mut M, step: Step) -> Result<bool, MapError> {
     match step {
-        Step::InsertSingles(from, to) => insert_singles(map, from, to)?,
-        Step::RemoveSingles(from, to) => remove_singles(map, from, to)?,
-        Step::Insert(range, value, most) => return inserts(map, range, value, most),
-        Step::Remove(range, most) => return removes(map, range, most),
-        Step::LookUps(least, most) => return Ok(looks_up(map, least, most)),
-        Step::Count(count) => return Ok(map.range_count() == count),
-        Step::Levels(_) | Step::Run(_, _, _) => (),
+        Step::InsertSingles(from, to) => insert_singles(map, from, to),
+        Step::RemoveSingles(from, to) => remove_singles(map, from, to),
+        Step::Insert(range, value, most) => map.inserts_within(range, value, most),
+        Step::Remove(range, most) => map.removes_within(range, most),
+        Step::LookUps(least, most) => Ok(looks_up(map, least, most)),
+        Step::Count(count) => Ok(map.has_count(count)),
+        Step::Levels(_) | Step::Run(_, _, _) => Ok(true),
     }
-    Ok(true)
 }
 
 /// The insertions of 64 single keys, and one over all of them.
@@ -171,30 +157,79 @@ fn are_done(replies: &[Reply<i32, i64, u8>]) -> bool {
     true
 }
 
+/// A map in a tree.
+trait Rooted: Counted {
+    fn has_levels(&self, levels: usize) -> bool;
+
+    /// The replies to counted commands, and how many steps they take.
+    fn run(
+        &mut self,
+        alloc: Global,
+        steps: &mut Steps,
+    ) -> Result<Vec<Reply<i32, i64, u8>>, MapError>;
+}
+
+impl Rooted for Map<Tree> {
+    fn has_levels(&self, levels: usize) -> bool {
+        self.levels() == levels
+    }
+
+    fn run(
+        &mut self,
+        alloc: Global,
+        steps: &mut Steps,
+    ) -> Result<Vec<Reply<i32, i64, u8>>, MapError> {
+        run_counted(alloc, self, insertions(alloc)?, &unasked, steps)
+    }
+}
+
 /// Whether each of so many commands is done, in so many steps.
-fn does_all(
+fn does_all<M: Rooted>(
     alloc: Global,
-    map: &mut TreeMap,
+    map: &mut M,
     number: usize,
     least: u64,
     most: u64,
 ) -> Result<bool, MapError> {
     let mut steps = Steps::new();
-    let replies = run_counted(alloc, map, insertions(alloc)?, &unasked, &mut steps)?;
+    let replies = map.run(alloc, &mut steps)?;
     Ok(replies.len() == number && are_done(&replies) && is_within(&steps, least, most))
+}
+
+/// Makes the call on a tree, or tells whether it is so.
+fn holds_in_tree<M: Rooted>(alloc: Global, map: &mut M, step: Step) -> Result<bool, MapError> {
+    match step {
+        Step::Levels(levels) => Ok(map.has_levels(levels)),
+        Step::Run(number, least, most) => does_all(alloc, map, number, least, most),
+        other => holds(map, other),
+    }
+}
+
+/// The index of the first step that does not hold of a tree.
+fn first_wrong_of_tree<M: Rooted>(
+    alloc: Global,
+    map: &mut M,
+    steps: &[Step],
+) -> Result<Option<usize>, MapError> {
+    for (place, step) in steps.iter().enumerate() {
+        if !holds_in_tree(alloc, map, *step)? {
+            return Ok(Some(place));
+        }
+    }
+    Ok(None)
 }
 
 /// Takes the steps in turn on a new map in a tree. Returns the index of the first that does not
 /// hold.
 fn first_wrong_in_tree(alloc: Global, steps: &[Step]) -> Result<Option<usize>, MapError> {
-    let mut map: TreeMap = new_map(alloc);
+    let mut map: Map<Tree> = RangeMap::new(alloc);
+    first_wrong_of_tree(alloc, &mut map, steps)
+}
+
+/// The index of the first step that does not hold.
+fn first_wrong<M: Counted>(map: &mut M, steps: &[Step]) -> Result<Option<usize>, MapError> {
     for (place, step) in steps.iter().enumerate() {
-        let expected = match step {
-            Step::Levels(levels) => map.levels() == *levels,
-            Step::Run(number, least, most) => does_all(alloc, &mut map, *number, *least, *most)?,
-            other => holds(&mut map, *other)?,
-        };
-        if !expected {
+        if !holds(map, *step)? {
             return Ok(Some(place));
         }
     }
@@ -205,18 +240,13 @@ fn first_wrong_in_tree(alloc: Global, steps: &[Step]) -> Result<Option<usize>, M
 #[derive(Clone, Copy)]
 struct Calls<'a>(&'a [Step]);
 
-impl<'a> Table<NumberItem> for Calls<'a> {
-    fn first_wrong<C: Storage<NumberItem>>(
+impl<'a> Trial for Calls<'a> {
+    fn first_wrong<M: Tried>(
         &self,
-        alloc: Global,
+        map: &mut M,
+        _other: &mut M,
     ) -> Result<Option<usize>, MapError> {
-        let mut map = new_map::<C>(alloc);
-        for (place, step) in self.0.iter().enumerate() {
-            if !holds(&mut map, *step)? {
-                return Ok(Some(place));
-            }
-        }
-        Ok(None)
+        first_wrong(map, self.0)
     }
 }
 

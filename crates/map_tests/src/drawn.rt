@@ -1,7 +1,7 @@
 //! Maps after many drawn calls, held against a scan of what they store.
 
-use crate::comparing::order_of;
-use crate::support::{PairTable, Table, check_over_vector, find_over_pair};
+use crate::comparing::{Across, order_of};
+use crate::containers::{PairTable, Table, check_over_vector, find_over_pair};
 use range_algebra::any::AnyRange;
 use range_map::inner::scan::find;
 use range_map::map::{MapError, RangeMap};
@@ -13,60 +13,56 @@ use std::test::Fail;
 
 type ByteItem = Item<AnyRange<u8>, i64>;
 
-fn new_map<C: Storage<ByteItem>>(alloc: Global) -> RangeMap<u8, i64, C> {
-    RangeMap::new(alloc)
+/// A map of bytes over some container.
+trait Bytes {
+    /// Binds the range to the value, or unbinds it where there is none.
+    fn change(&mut self, range: AnyRange<u8>, value: Option<i64>) -> Result<bool, MapError>;
+
+    fn value_at(&self, key: u8) -> Option<i64>;
+
+    /// A copy of what is stored.
+    fn items(&self, alloc: Global) -> Result<Vec<ByteItem>, AllocError>;
 }
 
-/// Binds the range to the value, or unbinds it where there is none.
-fn change<C: Storage<ByteItem>>(
-    map: &mut RangeMap<u8, i64, C>,
-    range: AnyRange<u8>,
-    value: Option<i64>,
-) -> Result<(), MapError> {
-    match value {
-        Some(value) => map.insert(range, value),
-        None => map.remove(range),
+impl<C: Storage<ByteItem>> Bytes for RangeMap<u8, i64, C> {
+    fn change(&mut self, range: AnyRange<u8>, value: Option<i64>) -> Result<bool, MapError> {
+        match value {
+            Some(value) => self.insert(range, value)?,
+            None => self.remove(range)?,
+        }
+        Ok(true)
     }
-}
 
-/// A copy of what the map stores.
-fn stored_items<C: Storage<ByteItem>>(
-    alloc: Global,
-    map: &RangeMap<u8, i64, C>,
-) -> Result<Vec<ByteItem>, AllocError> {
-    let mut items = Vec::new(alloc);
-    let mut stored = map.iter();
-    while let Some((range, value)) = stored.next() {
-        items.push(Item::new(*range, *value))?;
+    fn value_at(&self, key: u8) -> Option<i64> {
+        self.get(key).copied()
     }
-    Ok(items)
+
+    fn items(&self, alloc: Global) -> Result<Vec<ByteItem>, AllocError> {
+        let mut items = Vec::new(alloc);
+        let mut stored = self.iter();
+        while let Some((range, value)) = stored.next() {
+            items.push(Item::new(*range, *value))?;
+        }
+        Ok(items)
+    }
 }
 
 /// What the first eight keys are bound to.
 type Bound = [Option<i64>; 8];
 
 /// Whether the map and a scan of its items find what is bound.
-fn binds<C: Storage<ByteItem>>(
-    map: &RangeMap<u8, i64, C>,
-    items: &[ByteItem],
-    bound: &Bound,
-) -> bool {
+fn binds<M: Bytes>(map: &M, items: &[ByteItem], bound: &Bound) -> bool {
     for key in 0..8u8 {
         let here = bound[key as usize];
-        if map.get(key).copied() != here || find(items, &key).copied() != here {
+        if map.value_at(key) != here || find(items, &key).copied() != here {
             return false;
         }
     }
     true
 }
 
-/// Makes the call of a step. Returns whether the map and a scan find what the last calls say.
-fn take<C: Storage<ByteItem>>(
-    alloc: Global,
-    map: &mut RangeMap<u8, i64, C>,
-    bound: &mut Bound,
-    step: u8,
-) -> Result<bool, MapError> {
+/// Makes the call of a step, and tells in `bound` what is bound then.
+fn take<M: Bytes>(map: &mut M, bound: &mut Bound, step: u8) -> Result<bool, MapError> {
     let first = step.wrapping_mul(5).wrapping_add(step / 7) % 8;
     let last = step.wrapping_mul(11).wrapping_add(step / 3) % 8;
     let value = if step % 3 == 0 {
@@ -74,14 +70,30 @@ fn take<C: Storage<ByteItem>>(
     } else {
         Some((step % 2) as i64)
     };
-    change(map, AnyRange::new(Included(first), Included(last)), value)?;
     for key in 0..8u8 {
         if first <= key && key <= last {
             bound[key as usize] = value;
         }
     }
-    let items = stored_items(alloc, map)?;
+    map.change(AnyRange::new(Included(first), Included(last)), value)
+}
+
+/// Whether the map and a scan find what the last calls say.
+fn binds_so<M: Bytes>(alloc: Global, map: &M, bound: &Bound) -> Result<bool, MapError> {
+    let items = map.items(alloc)?;
     Ok(binds(map, &items, bound))
+}
+
+/// The first step after which the map or a scan does not find what the last calls say.
+fn first_other<M: Bytes>(alloc: Global, map: &mut M) -> Result<Option<usize>, MapError> {
+    let mut bound = [None; 8];
+    for step in 0..200u8 {
+        take(map, &mut bound, step)?;
+        if !binds_so(alloc, map, &bound)? {
+            return Ok(Some(step as usize));
+        }
+    }
+    Ok(None)
 }
 
 /// Calls after each of which the map and a scan find what the last calls say.
@@ -89,14 +101,8 @@ struct Drawn;
 
 impl Table<ByteItem> for Drawn {
     fn first_wrong<C: Storage<ByteItem>>(&self, alloc: Global) -> Result<Option<usize>, MapError> {
-        let mut map = new_map::<C>(alloc);
-        let mut bound = [None; 8];
-        for step in 0..200u8 {
-            if !take(alloc, &mut map, &mut bound, step)? {
-                return Ok(Some(step as usize));
-            }
-        }
-        Ok(None)
+        let mut map: RangeMap<u8, i64, C> = RangeMap::new(alloc);
+        first_other(alloc, &mut map)
     }
 }
 
@@ -120,10 +126,7 @@ fn spelled(first: u8, last: u8, spelling: u32) -> AnyRange<u8> {
 }
 
 /// Inserts or removes a range of the first four keys, all of it taken from one number.
-fn change_as_drawn<C: Storage<ByteItem>>(
-    map: &mut RangeMap<u8, i64, C>,
-    drawn: u32,
-) -> Result<(), MapError> {
+fn change_as_drawn<M: Bytes>(map: &mut M, drawn: u32) -> Result<bool, MapError> {
     let first = (drawn / 256 % 4) as u8;
     let last = (drawn / 1024 % 4) as u8;
     let value = match drawn / 16384 % 3 {
@@ -131,7 +134,7 @@ fn change_as_drawn<C: Storage<ByteItem>>(
         1 => Some(1),
         _ => Some(2),
     };
-    change(map, spelled(first, last, drawn / 4096 % 4), value)
+    map.change(spelled(first, last, drawn / 4096 % 4), value)
 }
 
 fn next_number(number: u32) -> u32 {
@@ -148,21 +151,17 @@ fn scan_finds_the_same(items: &[ByteItem], others: &[ByteItem]) -> bool {
 }
 
 /// Whether a scan of what the maps store finds the same.
-fn bind_alike<C: Storage<ByteItem>, D: Storage<ByteItem>>(
-    alloc: Global,
-    left: &RangeMap<u8, i64, C>,
-    right: &RangeMap<u8, i64, D>,
-) -> Result<bool, AllocError> {
-    let items = stored_items(alloc, left)?;
-    let others = stored_items(alloc, right)?;
+fn bind_alike<M: Bytes, O: Bytes>(alloc: Global, left: &M, right: &O) -> Result<bool, AllocError> {
+    let items = left.items(alloc)?;
+    let others = right.items(alloc)?;
     Ok(scan_finds_the_same(&items, &others))
 }
 
 /// Changes both maps. Returns whether they bind alike, or none where they do not compare so.
-fn change_both<C: Storage<ByteItem>, D: Storage<ByteItem>>(
+fn change_both<M: Bytes + Across<O>, O: Bytes + Across<M>>(
     alloc: Global,
-    left: &mut RangeMap<u8, i64, C>,
-    right: &mut RangeMap<u8, i64, D>,
+    left: &mut M,
+    right: &mut O,
     number: u32,
 ) -> Result<Option<bool>, MapError> {
     change_as_drawn(left, number)?;
@@ -176,10 +175,10 @@ fn change_both<C: Storage<ByteItem>, D: Storage<ByteItem>>(
 
 /// After how many of 300 steps the maps bind alike, or the first step after which they do not
 /// compare so.
-fn count_alike<C: Storage<ByteItem>, D: Storage<ByteItem>>(
+fn count_alike<M: Bytes + Across<O>, O: Bytes + Across<M>>(
     alloc: Global,
-    left: &mut RangeMap<u8, i64, C>,
-    right: &mut RangeMap<u8, i64, D>,
+    left: &mut M,
+    right: &mut O,
 ) -> Result<Result<u32, u32>, MapError> {
     let mut number = next_number(7);
     let mut equal = 0u32;
@@ -204,8 +203,8 @@ impl PairTable<ByteItem> for Alike {
         &self,
         alloc: Global,
     ) -> Result<Result<u32, u32>, MapError> {
-        let mut left = new_map::<C>(alloc);
-        let mut right = new_map::<D>(alloc);
+        let mut left: RangeMap<u8, i64, C> = RangeMap::new(alloc);
+        let mut right: RangeMap<u8, i64, D> = RangeMap::new(alloc);
         count_alike(alloc, &mut left, &mut right)
     }
 }

@@ -1,13 +1,16 @@
-use crate::support::{InTree, NumberItem, Range, Row, Table, check, closed, first_false, map_of};
-use range_map::map::{Iter, MapError, RangeMap};
+use crate::support::{
+    Map, NumberItem, Range, Row, Trial, Tried, check, closed, insert_rows, wrong_unless,
+};
+use range_map::map::{Iter, MapError};
 use range_store::storage::Storage;
-use std::alloc::{AllocError, Global};
+use std::alloc::AllocError;
 use std::test::Fail;
 
 /// The map of `0..=5` bound to 1 and then `4` to 0.
-fn nested<C: Storage<NumberItem>>(alloc: Global) -> Result<RangeMap<i32, i64, C>, MapError> {
-    map_of(alloc, &[(0, 5, 1), (4, 4, 0)])
-}
+static NESTED: &[Row] = &[(0, 5, 1), (4, 4, 0)];
+
+/// What it stores.
+static STORED: &[Row] = &[(0, 3, 1), (4, 4, 0), (5, 5, 1)];
 
 /// Whether an iterator returned this.
 fn is_row(given: Option<(&Range, &i64)>, row: Option<Row>) -> bool {
@@ -24,106 +27,134 @@ enum Side {
     Back,
 }
 
-/// Whether the iterator returns the row at this end.
-fn gives<C: Storage<NumberItem>>(
-    iter: &mut Iter<'_, i32, i64, C>,
-    side: Side,
-    row: Option<Row>,
-) -> bool {
-    match side {
-        Side::Front => is_row(iter.next(), row),
-        Side::Back => is_row(iter.next_back(), row),
-    }
+/// What an iterator gives at an end.
+type Given = (Side, Option<Row>);
+
+/// An iterator that is asked at both ends.
+trait Asked {
+    /// Whether the iterator returns the row at this end.
+    fn gives(&mut self, given: Given) -> bool;
+
+    fn has_len(&self, len: usize) -> bool;
 }
 
-/// Asks the iterator in turn. Returns the index of the first row that it does not give.
-fn first_other<C: Storage<NumberItem>>(
-    iter: &mut Iter<'_, i32, i64, C>,
-    rows: &[(Side, Option<Row>)],
-) -> Option<usize> {
-    for (place, (side, row)) in rows.iter().enumerate() {
-        if !gives(iter, *side, *row) {
-            return Some(place);
+impl<'a, C: Storage<NumberItem>> Asked for Iter<'a, i32, i64, C> {
+    fn gives(&mut self, (side, row): Given) -> bool {
+        match side {
+            Side::Front => is_row(self.next(), row),
+            Side::Back => is_row(self.next_back(), row),
         }
     }
-    None
+
+    fn has_len(&self, len: usize) -> bool {
+        self.len() == len
+    }
 }
 
-/// Whether an iterator over the nested map, and a clone of it, give what they should.
-fn iterates_from_both_ends<C: Storage<NumberItem>>(
-    map: &RangeMap<i32, i64, C>,
-) -> Result<bool, AllocError> {
-    let mut iter = map.iter();
-    let whole = iter.len();
-    let first = first_other(&mut iter, &[(Side::Front, Some((0, 3, 1)))]);
-    let mut copy = iter.clone()?;
-    let rows = [
-        (Side::Back, Some((5, 5, 1))),
-        (Side::Front, Some((4, 4, 0))),
-        (Side::Back, None),
-        (Side::Front, None),
-        (Side::Back, None),
-        (Side::Front, None),
-    ];
-    let then = first_other(&mut iter, &rows);
-    let left = copy.len();
-    let rows = [
-        (Side::Front, Some((4, 4, 0))),
-        (Side::Front, Some((5, 5, 1))),
-        (Side::Front, None),
-    ];
-    let copied = first_other(&mut copy, &rows);
-    Ok((whole, left) == (3, 2) && (first, then, copied) == (None, None, None))
-}
-
-fn loops_forward<C: Storage<NumberItem>>(map: &RangeMap<i32, i64, C>, rows: &[Row]) -> bool {
-    let mut left = rows.iter();
-    for (range, value) in map {
-        if !is_row(Some((range, value)), left.next().copied()) {
+/// Asks the iterator in turn. Returns whether it gives each of the rows.
+fn gives_all<I: Asked>(iter: &mut I, rows: &[Given]) -> bool {
+    for row in rows {
+        if !iter.gives(*row) {
             return false;
         }
     }
-    left.next().is_none()
+    true
 }
 
-fn shows_back(map: &RangeMap<i32, i64, InTree>, rows: &[Row]) -> bool {
-    let mut stored = map.iter();
-    for row in rows.iter().rev() {
-        if !is_row(stored.next_back(), Some(*row)) {
-            return false;
-        }
-    }
-    stored.next_back().is_none()
+/// What an iterator gives before it is cloned.
+static FIRST: &[Given] = &[(Side::Front, Some((0, 3, 1)))];
+
+/// What it gives then.
+static THEN: &[Given] = &[
+    (Side::Back, Some((5, 5, 1))),
+    (Side::Front, Some((4, 4, 0))),
+    (Side::Back, None),
+    (Side::Front, None),
+    (Side::Back, None),
+    (Side::Front, None),
+];
+
+/// What the clone gives.
+static COPIED: &[Given] = &[
+    (Side::Front, Some((4, 4, 0))),
+    (Side::Front, Some((5, 5, 1))),
+    (Side::Front, None),
+];
+
+/// A map that is iterated over.
+pub trait Iterated {
+    /// Whether an iterator over the nested map, and a clone of it, give what they should.
+    fn iterates_from_both_ends(&self) -> Result<bool, AllocError>;
+
+    fn loops_forward(&self, rows: &[Row]) -> bool;
+
+    fn shows_back(&self, rows: &[Row]) -> bool;
+
+    /// The number of gaps, where none is empty.
+    fn gap_count(&self) -> Option<u64>;
 }
 
-/// The number of gaps, where none is empty.
-fn gap_count<C: Storage<NumberItem>>(map: &RangeMap<i32, i64, C>) -> Option<u64> {
-    let mut count = 0u64;
-    let mut gaps = map.gaps();
-    while let Some(gap) = gaps.next() {
-        if gap.ref_is_empty() {
-            return None;
-        }
-        count = count.wrapping_add(1);
+fn begins<I: Asked>(iter: &mut I) -> bool {
+    iter.has_len(3) && gives_all(iter, FIRST)
+}
+
+fn goes_on<I: Asked>(iter: &mut I, copy: &mut I) -> bool {
+    gives_all(iter, THEN) && copy.has_len(2) && gives_all(copy, COPIED)
+}
+
+impl<C: Storage<NumberItem>> Iterated for Map<C> {
+    fn iterates_from_both_ends(&self) -> Result<bool, AllocError> {
+        let mut iter = self.iter();
+        let begun = begins(&mut iter);
+        let mut copy = iter.clone()?;
+        Ok(begun && goes_on(&mut iter, &mut copy))
     }
-    Some(count)
+
+    fn loops_forward(&self, rows: &[Row]) -> bool {
+        let mut left = rows.iter();
+        for (range, value) in self {
+            if !is_row(Some((range, value)), left.next().copied()) {
+                return false;
+            }
+        }
+        left.next().is_none()
+    }
+
+    fn shows_back(&self, rows: &[Row]) -> bool {
+        let mut stored = self.iter();
+        for row in rows.iter().rev() {
+            if !is_row(stored.next_back(), Some(*row)) {
+                return false;
+            }
+        }
+        stored.next_back().is_none()
+    }
+
+    fn gap_count(&self) -> Option<u64> {
+        let mut count = 0u64;
+        let mut gaps = self.gaps();
+        while let Some(gap) = gaps.next() {
+            if gap.ref_is_empty() {
+                return None;
+            }
+            count = count.wrapping_add(1);
+        }
+        Some(count)
+    }
 }
 
 /// What iterators over the nested map give.
 struct BothEnds;
 
-impl Table<NumberItem> for BothEnds {
-    fn first_wrong<C: Storage<NumberItem>>(
+impl Trial for BothEnds {
+    fn first_wrong<M: Tried>(
         &self,
-        alloc: Global,
+        map: &mut M,
+        _other: &mut M,
     ) -> Result<Option<usize>, MapError> {
-        let map = nested::<C>(alloc)?;
-        let rows = [(0, 3, 1), (4, 4, 0), (5, 5, 1)];
-        Ok(first_false(&[
-            loops_forward(&map, &rows),
-            gap_count(&map) == Some(2),
-            iterates_from_both_ends(&map)?,
-        ]))
+        insert_rows(map, NESTED)?;
+        let iterated = map.iterates_from_both_ends()?;
+        Ok(wrong_unless(iterated && map.loops_forward(STORED) && map.gap_count() == Some(2)))
     }
 }
 
@@ -132,9 +163,21 @@ fn iterators_give_each_range_from_both_ends(rt: HostRuntime) -> Result<(), Fail>
     check(&rt, rt.alloc(), &BothEnds)
 }
 
+/// The nested map, from its last range on.
+struct Backward;
+
+impl Trial for Backward {
+    fn first_wrong<M: Tried>(
+        &self,
+        map: &mut M,
+        _other: &mut M,
+    ) -> Result<Option<usize>, MapError> {
+        insert_rows(map, NESTED)?;
+        Ok(wrong_unless(map.shows_back(STORED)))
+    }
+}
+
 #[test]
 fn a_map_is_shown_from_the_back(rt: HostRuntime) -> Result<(), Fail> {
-    let map = nested(rt.alloc())?;
-    assert!(rt; shows_back(&map, &[(0, 3, 1), (4, 4, 0), (5, 5, 1)]));
-    Ok(())
+    check(&rt, rt.alloc(), &Backward)
 }

@@ -1,11 +1,12 @@
 //! Maps over bytes, wide numbers and characters: their gaps and lengths, and neighbours.
 ghost use Rattle.range_algebra.specs.Range.{ClonesAreEqual};
 
+use crate::containers::expect_none;
 use crate::support::{Answers, Asked, answer, range_of};
 use range_algebra::any::AnyRange;
 use range_algebra::range::IntoRange;
 use range_keys::traits::{Bounded, Measure};
-use range_map::map::{MapError, RangeMap, UpdateError};
+use range_map::map::{MapError, RangeMap};
 use range_store::btree::BoxStorage;
 use range_store::storage::{Item, Storage};
 use range_store::vec_storage::VecStorage;
@@ -48,118 +49,164 @@ impl Key for u64 {}
 
 impl Key for char {}
 
-fn update_key<K: Key, C: Storage<Entry<K>>>(
-    map: &mut RangeMap<K, i64, C>,
-    key: K,
-    asked: &Cell<Asked>,
-) -> Result<(), UpdateError<i64>>
+/// A map of keys of any type, over some container.
+trait Keyed<K: Copy + PartialEq> {
+    fn clear(&mut self);
+
+    /// Returns `true` once the range is bound.
+    fn insert(&mut self, start: Bound<K>, end: Bound<K>, value: i64) -> Result<bool, MapError>
+        requires { ClonesAreEqual K.is_clone K.eq };
+
+    /// Returns `true` once the key is bound.
+    fn insert_key(&mut self, key: K, value: i64) -> Result<bool, MapError>
+        requires { ClonesAreEqual K.is_clone K.eq };
+
+    /// Whether the update of a key is done.
+    fn updates_key(&mut self, key: K, asked: &Cell<Asked>) -> bool
+        requires { ClonesAreEqual K.is_clone K.eq };
+
+    /// Whether so many ranges are stored, which hold so many keys.
+    fn has_size(&self, count: usize, len: u128) -> bool;
+
+    /// Whether these are the gaps, after which there is none.
+    fn has_gaps(&self, rows: &[(Bound<K>, Bound<K>)]) -> bool;
+
+    fn has_first_gap(&self, first: K, len: u128) -> Result<bool, MapError>
+        requires { ClonesAreEqual K.is_clone K.eq };
+
+    fn value_at(&self, key: K) -> Option<i64>;
+}
+
+/// Whether a gap begins with the key, and holds so many.
+fn is_gap<K: Key>(gap: AnyRange<K>, first: K, len: u128) -> Result<bool, AllocError>
     requires { ClonesAreEqual K.is_clone K.eq }
 {
-    let answers: Answers<'_> = &[(None, Ok(Some(3)))];
-    map.update(key, |shown| answer(answers, asked, shown.copied()))
+    Ok(gap.len() == len && gap.first()? == Some(first))
+}
+
+impl<K: Key, C: Storage<Entry<K>>> Keyed<K> for RangeMap<K, i64, C> {
+    fn clear(&mut self) {
+        RangeMap::clear(self);
+    }
+
+    fn insert(&mut self, start: Bound<K>, end: Bound<K>, value: i64) -> Result<bool, MapError>
+        requires { ClonesAreEqual K.is_clone K.eq }
+    {
+        RangeMap::insert(self, AnyRange::new(start, end), value)?;
+        Ok(true)
+    }
+
+    fn insert_key(&mut self, key: K, value: i64) -> Result<bool, MapError>
+        requires { ClonesAreEqual K.is_clone K.eq }
+    {
+        RangeMap::insert(self, key, value)?;
+        Ok(true)
+    }
+
+    fn updates_key(&mut self, key: K, asked: &Cell<Asked>) -> bool
+        requires { ClonesAreEqual K.is_clone K.eq }
+    {
+        let answers: Answers<'_> = &[(None, Ok(Some(3)))];
+        self.update(key, |shown| answer(answers, asked, shown.copied()))
+            .is_ok()
+    }
+
+    fn has_size(&self, count: usize, len: u128) -> bool {
+        self.range_count() == count
+            && self.len() == len
+            && self.bounded_len() == Some(len)
+            && self.is_empty() == (len == 0)
+    }
+
+    fn has_gaps(&self, rows: &[(Bound<K>, Bound<K>)]) -> bool {
+        let mut gaps = self.gaps();
+        for (start, end) in rows {
+            match gaps.next() {
+                Some(gap) if range_of(gap) == AnyRange::new(*start, *end) => (),
+                _ => return false,
+            }
+        }
+        gaps.next().is_none() && gaps.next().is_none()
+    }
+
+    fn has_first_gap(&self, first: K, len: u128) -> Result<bool, MapError>
+        requires { ClonesAreEqual K.is_clone K.eq }
+    {
+        match self.gaps().next() {
+            Some(gap) => Ok(is_gap(range_of(gap), first, len)?),
+            None => Ok(false),
+        }
+    }
+
+    fn value_at(&self, key: K) -> Option<i64> {
+        self.get(key).copied()
+    }
 }
 
 /// Whether the update of a key is done, and its closure is asked so often.
-fn updates_so<K: Key, C: Storage<Entry<K>>>(
-    map: &mut RangeMap<K, i64, C>,
-    key: K,
-    times: Asked,
-) -> bool
+fn updates_so<K: Copy + PartialEq, M: Keyed<K>>(map: &mut M, key: K, times: Asked) -> bool
     requires { ClonesAreEqual K.is_clone K.eq }
 {
     let asked = Cell::new((0, 0));
-    update_key(map, key, &asked).is_ok() && asked.get() == times
-}
-
-fn has_size<K: Key, C: Storage<Entry<K>>>(
-    map: &RangeMap<K, i64, C>,
-    count: usize,
-    len: u128,
-) -> bool {
-    map.range_count() == count
-        && map.len() == len
-        && map.bounded_len() == Some(len)
-        && map.is_empty() == (len == 0)
-}
-
-/// Whether these are the gaps, after which there is none.
-fn has_gaps<K: Key, C: Storage<Entry<K>>>(
-    map: &RangeMap<K, i64, C>,
-    rows: &[(Bound<K>, Bound<K>)],
-) -> bool {
-    let mut gaps = map.gaps();
-    for (start, end) in rows {
-        match gaps.next() {
-            Some(gap) if range_of(gap) == AnyRange::new(*start, *end) => (),
-            _ => return false,
-        }
-    }
-    gaps.next().is_none() && gaps.next().is_none()
-}
-
-fn has_first_gap<K: Key, C: Storage<Entry<K>>>(
-    map: &RangeMap<K, i64, C>,
-    first: K,
-    len: u128,
-) -> Result<bool, AllocError>
-    requires { ClonesAreEqual K.is_clone K.eq }
-{
-    match map.gaps().next() {
-        Some(gap) => {
-            let gap = range_of(gap);
-            Ok(gap.len() == len && gap.first()? == Some(first))
-        }
-        None => Ok(false),
-    }
+    map.updates_key(key, &asked) && asked.get() == times
 }
 
 /// Makes the call, or tells whether it is so.
-fn holds<K: Key, C: Storage<Entry<K>>>(
-    map: &mut RangeMap<K, i64, C>,
+fn holds<K: Copy + PartialEq, M: Keyed<K>>(
+    map: &mut M,
     step: &Step<'_, K>,
 ) -> Result<bool, MapError>
     requires { ClonesAreEqual K.is_clone K.eq }
 {
     match step {
-        Step::Clear => map.clear(),
-        Step::Insert(start, end, value) => map.insert(AnyRange::new(*start, *end), *value)?,
-        Step::InsertKey(key, value) => map.insert(*key, *value)?,
-        Step::UpdateKey(key, times) => return Ok(updates_so(map, *key, *times)),
-        Step::Size(count, len) => return Ok(has_size(map, *count, *len)),
-        Step::Gaps(rows) => return Ok(has_gaps(map, rows)),
-        Step::FirstGap(first, len) => return Ok(has_first_gap(map, *first, *len)?),
-        Step::Get(key, value) => return Ok(map.get(*key).copied() == *value),
+        Step::Clear => {
+            map.clear();
+            Ok(true)
+        }
+        Step::Insert(start, end, value) => map.insert(*start, *end, *value),
+        Step::InsertKey(key, value) => map.insert_key(*key, *value),
+        Step::UpdateKey(key, times) => Ok(updates_so(map, *key, *times)),
+        Step::Size(count, len) => Ok(map.has_size(*count, *len)),
+        Step::Gaps(rows) => Ok(map.has_gaps(rows)),
+        Step::FirstGap(first, len) => map.has_first_gap(*first, *len),
+        Step::Get(key, value) => Ok(map.value_at(*key) == *value),
     }
-    Ok(true)
 }
 
-/// Takes the steps in turn on a new map. Returns the index of the first that does not hold.
-fn first_wrong<K: Key, C: Storage<Entry<K>>>(
-    alloc: Global,
+/// Takes the steps in turn. Returns the index of the first that does not hold.
+fn first_wrong<K: Copy + PartialEq, M: Keyed<K>>(
+    map: &mut M,
     steps: &[Step<'_, K>],
 ) -> Result<Option<usize>, MapError>
     requires { ClonesAreEqual K.is_clone K.eq }
 {
-    let mut map: RangeMap<K, i64, C> = RangeMap::default(alloc);
     for (index, step) in steps.iter().enumerate() {
-        if !holds(&mut map, step)? {
+        if !holds(map, step)? {
             return Ok(Some(index));
         }
     }
     Ok(None)
 }
 
+/// Takes the steps on a new map.
+fn first_wrong_over<K: Key, C: Storage<Entry<K>>>(
+    alloc: Global,
+    steps: &[Step<'_, K>],
+) -> Result<Option<usize>, MapError>
+    requires { ClonesAreEqual K.is_clone K.eq }
+{
+    let mut map: RangeMap<K, i64, C> = RangeMap::default(alloc);
+    first_wrong(&mut map, steps)
+}
+
 /// Each step has to hold, over either container.
 fn play<K: Key>(rt: &impl Abort, alloc: Global, steps: &[Step<'_, K>]) -> Result<(), Fail>
     requires { ClonesAreEqual K.is_clone K.eq }
 {
-    let over_vector = first_wrong::<K, VecStorage<Entry<K>>>(alloc, steps)?;
-    let over_tree = first_wrong::<K, BoxStorage<Entry<K>>>(alloc, steps)?;
-    assert_eq!(rt;
-        (over_vector, over_tree),
-        (None, None),
-        "over a vector and a tree"
-    );
+    let wrong = first_wrong_over::<K, VecStorage<Entry<K>>>(alloc, steps)?;
+    expect_none(rt, wrong, "over a vector");
+    let wrong = first_wrong_over::<K, BoxStorage<Entry<K>>>(alloc, steps)?;
+    expect_none(rt, wrong, "over a tree");
     Ok(())
 }
 

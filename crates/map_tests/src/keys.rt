@@ -6,7 +6,7 @@ ghost use Rattle.range_keys.specs.Counted.{counted_lawful, counted_measure};
 ghost use Rattle.range_keys.specs.Indexed.{indexed_order, indexed_counted};
 ghost use Rattle.map_tests.specs.declared.keys.Seat.{Seat};
 
-use crate::support::{Table, check};
+use crate::containers::{Table, check};
 use range_algebra::any::AnyRange;
 use range_keys::traits::{MaybeBounded, Measure, PartialEnum};
 use range_map::map::{MapError, RangeMap};
@@ -96,27 +96,61 @@ enum Call {
     Intersects(u16, u16),
 }
 
-fn bind<C: Storage<SeatItem>>(
-    map: &mut RangeMap<Seat, i64, C>,
-    range: AnyRange<Seat>,
-    value: Option<i64>,
-) -> Result<(), MapError> {
-    match value {
-        Some(value) => map.insert(range, value),
-        None => map.remove(range),
+/// A map of seats over some container.
+trait Seats {
+    /// Binds the seats to the value, or unbinds them where there is none.
+    fn bind(&mut self, range: AnyRange<Seat>, value: Option<i64>) -> Result<(), MapError>;
+
+    fn has_count(&self, count: usize) -> bool;
+
+    fn value_at(&self, seat: Seat) -> Option<i64>;
+
+    fn meets(&self, first: Seat, end: Seat) -> bool;
+}
+
+impl<C: Storage<SeatItem>> Seats for RangeMap<Seat, i64, C> {
+    fn bind(&mut self, range: AnyRange<Seat>, value: Option<i64>) -> Result<(), MapError> {
+        match value {
+            Some(value) => self.insert(range, value),
+            None => self.remove(range),
+        }
+    }
+
+    fn has_count(&self, count: usize) -> bool {
+        self.range_count() == count
+    }
+
+    fn value_at(&self, seat: Seat) -> Option<i64> {
+        self.get(seat).copied()
+    }
+
+    fn meets(&self, first: Seat, end: Seat) -> bool {
+        self.intersects(first..end)
     }
 }
 
-fn answers_so<C: Storage<SeatItem>>(map: &mut RangeMap<Seat, i64, C>, call: Call) -> bool {
+/// The seats from a first one on.
+fn seats_from(first: u16, end: Bound<u16>) -> AnyRange<Seat> {
+    AnyRange::new(Included(Seat(first)), end.map(Seat))
+}
+
+fn answers_so<M: Seats>(map: &mut M, call: Call) -> bool {
     match call {
-        Call::Bind(first, end, value, answer) => {
-            let range = AnyRange::new(Included(Seat(first)), end.map(Seat));
-            bind(map, range, value) == answer
-        }
-        Call::Count(count) => map.range_count() == count,
-        Call::Get(seat, value) => map.get(Seat(seat)).copied() == value,
-        Call::Intersects(first, end) => map.intersects(Seat(first)..Seat(end)),
+        Call::Bind(first, end, value, answer) => map.bind(seats_from(first, end), value) == answer,
+        Call::Count(count) => map.has_count(count),
+        Call::Get(seat, value) => map.value_at(Seat(seat)) == value,
+        Call::Intersects(first, end) => map.meets(Seat(first), Seat(end)),
     }
+}
+
+/// The index of the first call that is not answered so.
+fn first_other<M: Seats>(map: &mut M, calls: &[Call]) -> Option<usize> {
+    for (place, call) in calls.iter().enumerate() {
+        if !answers_so(map, *call) {
+            return Some(place);
+        }
+    }
+    None
 }
 
 /// Calls that are made in turn on a new map.
@@ -126,12 +160,7 @@ struct Calls<'a>(&'a [Call]);
 impl<'a> Table<SeatItem> for Calls<'a> {
     fn first_wrong<C: Storage<SeatItem>>(&self, alloc: Global) -> Result<Option<usize>, MapError> {
         let mut map: RangeMap<Seat, i64, C> = RangeMap::new(alloc);
-        for (place, call) in self.0.iter().enumerate() {
-            if !answers_so(&mut map, *call) {
-                return Ok(Some(place));
-            }
-        }
-        Ok(None)
+        Ok(first_other(&mut map, self.0))
     }
 }
 

@@ -41,6 +41,8 @@ mod commands;
 #[cfg(test)]
 mod comparing;
 #[cfg(test)]
+mod containers;
+#[cfg(test)]
 mod counted;
 #[cfg(test)]
 mod drawn;

@@ -1,11 +1,10 @@
 use crate::support::{
-    NumberItem, Range, Step, Table, check, closed, first_wrong, half_open, insert_disconnected,
-    is_empty, new_map, play, range_count,
+    Map, NumberItem, Played, Range, Step, Trial, Tried, check, closed, first_wrong, half_open,
+    play, wrong_unless,
 };
 use range_algebra::any::AnyRange;
-use range_map::map::{MapError, RangeMap, binary_search};
+use range_map::map::{MapError, binary_search};
 use range_store::storage::{Item, Storage};
-use std::alloc::Global;
 use std::ops::Bound::Included;
 use std::test::Fail;
 
@@ -31,27 +30,23 @@ fn a_range_that_touches_is_refused(rt: HostRuntime) -> Result<(), Fail> {
 }
 
 /// Whether a range is bound in a new map or, where an allocation fails, handed back.
-fn is_bound_or_handed_back<C: Storage<NumberItem>>(alloc: Global) -> bool {
-    let mut map: RangeMap<i32, i64, C> = new_map(alloc);
-    match insert_disconnected(&mut map, half_open(30, 40), 2) {
-        None => range_count(&map) == 1,
-        given => given == Some((half_open(30, 40), 2)) && is_empty(&map),
+fn is_bound_or_handed_back<M: Played>(map: &mut M) -> bool {
+    match map.insert_disconnected(half_open(30, 40), 2) {
+        None => map.has_count(1),
+        given => given == Some((half_open(30, 40), 2)) && map.has_count(0),
     }
 }
 
 /// An insertion that joins nothing, where an allocation may fail.
 struct Refusal;
 
-impl Table<NumberItem> for Refusal {
-    fn first_wrong<C: Storage<NumberItem>>(
+impl Trial for Refusal {
+    fn first_wrong<M: Tried>(
         &self,
-        alloc: Global,
+        map: &mut M,
+        _other: &mut M,
     ) -> Result<Option<usize>, MapError> {
-        Ok(if is_bound_or_handed_back::<C>(alloc) {
-            None
-        } else {
-            Some(0)
-        })
+        Ok(wrong_unless(is_bound_or_handed_back(map)))
     }
 }
 
@@ -83,36 +78,37 @@ fn a_range_intersects_what_it_shares_a_key_with(rt: HostRuntime) -> Result<(), F
     )
 }
 
-fn first_wrong_in_clone<C: Storage<NumberItem>>(
-    map: &RangeMap<i32, i64, C>,
-    steps: &[Step<'_>],
-) -> Result<Option<usize>, MapError> {
-    let mut copy = map.clone()?;
-    first_wrong(&mut copy, steps)
+/// A map that becomes a clone of another.
+pub trait Cloned {
+    fn become_clone(&mut self, other: &Self) -> Result<bool, MapError>;
+}
+
+impl<C: Storage<NumberItem>> Cloned for Map<C> {
+    fn become_clone(&mut self, other: &Self) -> Result<bool, MapError> {
+        *self = other.clone()?;
+        Ok(true)
+    }
 }
 
 /// Steps that are taken on a new map, then others on a clone of it, and then others on the map.
 #[derive(Clone, Copy)]
-struct Cloned<'a> {
+struct OnClone<'a> {
     before: &'a [Step<'a>],
     on_the_clone: &'a [Step<'a>],
     after: &'a [Step<'a>],
 }
 
-impl<'a> Table<NumberItem> for Cloned<'a> {
-    fn first_wrong<C: Storage<NumberItem>>(
-        &self,
-        alloc: Global,
-    ) -> Result<Option<usize>, MapError> {
-        let mut map = new_map::<C>(alloc);
-        let before = first_wrong(&mut map, self.before)?;
-        let on_the_clone = first_wrong_in_clone(&map, self.on_the_clone)?;
-        let after = first_wrong(&mut map, self.after)?;
+impl<'a> Trial for OnClone<'a> {
+    fn first_wrong<M: Tried>(&self, map: &mut M, other: &mut M) -> Result<Option<usize>, MapError> {
+        let before = first_wrong(map, self.before)?;
+        other.become_clone(map)?;
+        let on_the_clone = first_wrong(other, self.on_the_clone)?;
+        let after = first_wrong(map, self.after)?;
         Ok(before.or(on_the_clone).or(after))
     }
 }
 
-static CLONED: Cloned<'static> = Cloned {
+static CLONED: OnClone<'static> = OnClone {
     before: &[
         Step::Insert(half_open!(0, 10), 1),
         Step::Insert(half_open!(20, 30), 2),

@@ -1,26 +1,43 @@
 //! Look-ups over a range: what meets it, its pieces, its gaps, and whether all of it is bound.
 
 use crate::support::{
-    NumberItem, Range, Table, between, check_each, filled, half_open, is_numbered, numbered,
-    range_of, stretch,
+    Map, NumberItem, Range, Trial, Tried, between, check_each, fill, half_open, is_numbered,
+    numbered, range_of, stretch,
 };
 use range_algebra::any::AnyRange;
-use range_map::map::{MapError, Overlapping, RangeMap};
+use range_map::map::{MapError, Overlapping};
 use range_store::storage::Storage;
-use std::alloc::{AllocError, Global};
+use std::alloc::AllocError;
 use std::ops::Bound::{Excluded, Included, Unbounded};
 use std::test::Fail;
 
-type Map<C> = RangeMap<i32, i64, C>;
+/// An iterator over numbered ranges.
+trait Numbered {
+    fn gives(&mut self, number: u16) -> bool;
+
+    fn gives_back(&mut self, number: u16) -> bool;
+
+    fn is_done(&mut self) -> bool;
+}
+
+impl<'a, C: Storage<NumberItem>> Numbered for Overlapping<'a, i32, i64, C> {
+    fn gives(&mut self, number: u16) -> bool {
+        is_numbered(self.next(), number)
+    }
+
+    fn gives_back(&mut self, number: u16) -> bool {
+        is_numbered(self.next_back(), number)
+    }
+
+    fn is_done(&mut self) -> bool {
+        self.next().is_none() && self.next_back().is_none()
+    }
+}
 
 /// Whether the ranges from one number up to another are shown from the front.
-fn shows<C: Storage<NumberItem>>(
-    shown: &mut Overlapping<'_, i32, i64, C>,
-    first: u16,
-    end: u16,
-) -> bool {
+fn shows<I: Numbered>(shown: &mut I, first: u16, end: u16) -> bool {
     for number in first..end {
-        if !is_numbered(shown.next(), number) {
+        if !shown.gives(number) {
             return false;
         }
     }
@@ -28,37 +45,39 @@ fn shows<C: Storage<NumberItem>>(
 }
 
 /// Whether they are shown from the back.
-fn shows_back<C: Storage<NumberItem>>(
-    shown: &mut Overlapping<'_, i32, i64, C>,
-    first: u16,
-    end: u16,
-) -> bool {
+fn shows_back<I: Numbered>(shown: &mut I, first: u16, end: u16) -> bool {
     for number in (first..end).rev() {
-        if !is_numbered(shown.next_back(), number) {
+        if !shown.gives_back(number) {
             return false;
         }
     }
     true
 }
 
-fn is_done<C: Storage<NumberItem>>(shown: &mut Overlapping<'_, i32, i64, C>) -> bool {
-    shown.next().is_none() && shown.next_back().is_none()
-}
-
 /// Whether just these are shown until both ends meet, and by copies from the front and from the
 /// back.
+fn show_from_both_ends<I: Numbered>(
+    shown: &mut I,
+    front: &mut I,
+    back: &mut I,
+    first: u16,
+    end: u16,
+) -> bool {
+    let middle = first.wrapping_add(end.wrapping_sub(first) / 2);
+    let forward = shows(front, first, end) && front.is_done();
+    let backward = shows_back(back, first, end) && back.is_done();
+    let met = shows(shown, first, middle) && shows_back(shown, middle, end) && shown.is_done();
+    forward && backward && met
+}
+
 fn shows_from_both_ends<C: Storage<NumberItem>>(
     shown: &mut Overlapping<'_, i32, i64, C>,
     first: u16,
     end: u16,
 ) -> Result<bool, AllocError> {
-    let middle = first.wrapping_add(end.wrapping_sub(first) / 2);
     let mut front = shown.clone()?;
     let mut back = shown.clone()?;
-    let forward = shows(&mut front, first, end) && is_done(&mut front);
-    let backward = shows_back(&mut back, first, end) && is_done(&mut back);
-    let met = shows(shown, first, middle) && shows_back(shown, middle, end) && is_done(shown);
-    Ok(forward && backward && met)
+    Ok(show_from_both_ends(shown, &mut front, &mut back, first, end))
 }
 
 /// Whether the next piece is this part with this value.
@@ -101,55 +120,98 @@ fn piece_count(first: u16, last: u16) -> u16 {
     last.wrapping_sub(first).wrapping_mul(2).wrapping_add(1)
 }
 
-fn shows_pieces<C: Storage<NumberItem>>(map: &Map<C>, first: u16, last: u16) -> bool {
-    let range = inside(first, last);
-    let mut pieces = map.pieces(&range);
-    for place in 0..piece_count(first, last) {
-        if !is_piece(pieces.next(), piece(first, last, place)) {
-            return false;
-        }
-    }
-    pieces.next().is_none() && pieces.next_back().is_none()
+/// A map of numbered ranges that is looked up over a range.
+pub trait LookedUp {
+    /// Whether what meets the range is that from one number to before another.
+    fn shows_overlapping(&self, range: Range, first: u16, end: u16) -> Result<bool, AllocError>;
+
+    /// Whether what stands from the key on is that from one number to before another.
+    fn shows_from(&self, key: i32, first: u16, end: u16) -> Result<bool, AllocError>;
+
+    /// Whether the pieces from within the range with one number to within that with another are
+    /// shown.
+    fn shows_pieces(&self, first: u16, last: u16) -> bool;
+
+    /// Whether they are shown from the back.
+    fn shows_pieces_back(&self, first: u16, last: u16) -> bool;
+
+    /// Whether their gaps are shown from both ends.
+    fn shows_gaps(&self, first: u16, last: u16) -> bool;
+
+    /// Whether the range has this first piece, with its value, or none.
+    fn begins(&self, range: Range, first: Option<(Range, Option<i64>)>) -> bool;
+
+    /// Whether the first gap of the range is the one range, and the last gap the other.
+    fn has_gap_ends(&self, range: Range, first: Range, last: Range) -> bool;
+
+    /// Whether all of the range is bound just where that is told.
+    fn binds_all_of(&self, range: Range, all: bool) -> bool;
 }
 
-fn shows_pieces_back<C: Storage<NumberItem>>(map: &Map<C>, first: u16, last: u16) -> bool {
-    let range = inside(first, last);
-    let mut pieces = map.pieces(&range);
-    for place in (0..piece_count(first, last)).rev() {
-        if !is_piece(pieces.next_back(), piece(first, last, place)) {
-            return false;
+impl<C: Storage<NumberItem>> LookedUp for Map<C> {
+    fn shows_overlapping(&self, range: Range, first: u16, end: u16) -> Result<bool, AllocError> {
+        shows_from_both_ends(&mut self.overlapping(range), first, end)
+    }
+
+    fn shows_from(&self, key: i32, first: u16, end: u16) -> Result<bool, AllocError> {
+        shows_from_both_ends(&mut self.iter_from(key), first, end)
+    }
+
+    fn shows_pieces(&self, first: u16, last: u16) -> bool {
+        let range = inside(first, last);
+        let mut pieces = self.pieces(&range);
+        for place in 0..piece_count(first, last) {
+            if !is_piece(pieces.next(), piece(first, last, place)) {
+                return false;
+            }
+        }
+        pieces.next().is_none() && pieces.next_back().is_none()
+    }
+
+    fn shows_pieces_back(&self, first: u16, last: u16) -> bool {
+        let range = inside(first, last);
+        let mut pieces = self.pieces(&range);
+        for place in (0..piece_count(first, last)).rev() {
+            if !is_piece(pieces.next_back(), piece(first, last, place)) {
+                return false;
+            }
+        }
+        pieces.next().is_none()
+    }
+
+    fn shows_gaps(&self, first: u16, last: u16) -> bool {
+        let range = inside(first, last);
+        let mut gaps = self.gaps_within(&range);
+        let mut back = self.gaps_within(&range);
+        for place in 0..last.wrapping_sub(first) {
+            let (from, to) = (
+                first.wrapping_add(place),
+                last.wrapping_sub(place).wrapping_sub(1),
+            );
+            let forward = is_gap(gaps.next(), stretch(from, 2, 4));
+            if !(forward && is_gap(back.next_back(), stretch(to, 2, 4))) {
+                return false;
+            }
+        }
+        gaps.next().is_none() && back.next().is_none()
+    }
+
+    fn begins(&self, range: Range, first: Option<(Range, Option<i64>)>) -> bool {
+        let given = self.pieces(&range).next();
+        match first {
+            Some(piece) => is_piece(given, piece),
+            None => given.is_none(),
         }
     }
-    pieces.next().is_none()
-}
 
-/// Whether their gaps are shown from both ends.
-fn shows_gaps<C: Storage<NumberItem>>(map: &Map<C>, first: u16, last: u16) -> bool {
-    let range = inside(first, last);
-    let mut gaps = map.gaps_within(&range);
-    let mut back = map.gaps_within(&range);
-    for place in 0..last.wrapping_sub(first) {
-        let (from, to) = (
-            first.wrapping_add(place),
-            last.wrapping_sub(place).wrapping_sub(1),
-        );
-        let forward = is_gap(gaps.next(), stretch(from, 2, 4));
-        if !(forward && is_gap(back.next_back(), stretch(to, 2, 4))) {
-            return false;
-        }
+    fn has_gap_ends(&self, range: Range, first: Range, last: Range) -> bool {
+        let front = is_gap(self.gaps_within(&range).next(), first);
+        front && is_gap(self.gaps_within(&range).next_back(), last)
     }
-    gaps.next().is_none() && back.next().is_none()
-}
 
-/// Whether the first free piece or gap of a range is the one range, and the last gap the other.
-fn has_gap_ends<C: Storage<NumberItem>>(
-    map: &Map<C>,
-    range: Range,
-    first: Range,
-    last: Range,
-) -> bool {
-    let front = is_gap(map.gaps_within(&range).next(), first);
-    front && is_gap(map.gaps_within(&range).next_back(), last)
+    fn binds_all_of(&self, range: Range, all: bool) -> bool {
+        self.binds_all(range) == all
+    }
 }
 
 /// What is looked up in a map of numbered ranges, and what is shown.
@@ -169,33 +231,30 @@ enum Look {
     BindsAll(Range, bool),
 }
 
-fn begins<C: Storage<NumberItem>>(
-    map: &Map<C>,
-    range: Range,
-    first: Option<(Range, Option<i64>)>,
-) -> bool {
-    let given = map.pieces(&range).next();
-    match first {
-        Some(piece) => is_piece(given, piece),
-        None => given.is_none(),
+/// Whether what is looked up is shown.
+fn finds<M: LookedUp>(map: &M, look: Look) -> Result<bool, AllocError> {
+    match look {
+        Look::Overlapping(range, first, end) => map.shows_overlapping(range, first, end),
+        Look::From(key, first, end) => map.shows_from(key, first, end),
+        Look::Within(first, last) => Ok(
+            map.shows_pieces(first, last)
+                && map.shows_pieces_back(first, last)
+                && map.shows_gaps(first, last),
+        ),
+        Look::Piece(range, first) => Ok(map.begins(range, first)),
+        Look::Gaps(range, first, last) => Ok(map.has_gap_ends(range, first, last)),
+        Look::BindsAll(range, all) => Ok(map.binds_all_of(range, all)),
     }
 }
 
-/// Whether what is looked up is shown.
-fn finds<C: Storage<NumberItem>>(map: &Map<C>, look: Look) -> Result<bool, AllocError> {
-    match look {
-        Look::Overlapping(range, first, end) => {
-            shows_from_both_ends(&mut map.overlapping(range), first, end)
+/// The index of the first that does not show what it should.
+fn first_unfound<M: LookedUp>(map: &M, looks: &[Look]) -> Result<Option<usize>, AllocError> {
+    for (index, look) in looks.iter().enumerate() {
+        if !finds(map, *look)? {
+            return Ok(Some(index));
         }
-        Look::From(key, first, end) => shows_from_both_ends(&mut map.iter_from(key), first, end),
-        Look::Within(first, last) => {
-            let pieces = shows_pieces(map, first, last) && shows_pieces_back(map, first, last);
-            Ok(pieces && shows_gaps(map, first, last))
-        }
-        Look::Piece(range, first) => Ok(begins(map, range, first)),
-        Look::Gaps(range, first, last) => Ok(has_gap_ends(map, range, first, last)),
-        Look::BindsAll(range, all) => Ok(map.binds_all(range) == all),
     }
+    Ok(None)
 }
 
 /// What is looked up in a map of so many ranges.
@@ -205,18 +264,14 @@ struct Looks<'a> {
     looks: &'a [Look],
 }
 
-impl<'a> Table<NumberItem> for Looks<'a> {
-    fn first_wrong<C: Storage<NumberItem>>(
+impl<'a> Trial for Looks<'a> {
+    fn first_wrong<M: Tried>(
         &self,
-        alloc: Global,
+        map: &mut M,
+        _other: &mut M,
     ) -> Result<Option<usize>, MapError> {
-        let map = filled::<C>(alloc, self.count)?;
-        for (index, look) in self.looks.iter().enumerate() {
-            if !finds(&map, *look)? {
-                return Ok(Some(index));
-            }
-        }
-        Ok(None)
+        fill(map, self.count)?;
+        Ok(first_unfound(map, self.looks)?)
     }
 }
 

@@ -1,55 +1,47 @@
 //! Calls of which each is done as a whole or, where an allocation fails, not at all.
 
 use crate::support::{
-    Answers, NumberItem, Row, Step, Table, check, closed, holds, insert, new_map, range_count,
-    stores, value_at,
+    Answers, Played, Row, Step, Trial, Tried, check_each, closed, holds, wrong_unless,
 };
-use range_map::map::{MapError, RangeMap};
-use range_store::storage::Storage;
-use std::alloc::Global;
+use range_map::map::MapError;
 use std::test::Fail;
 
 /// What is bound, a call, and a key with what it is bound to once the call is done.
-type Refusal<'a> = (&'a [Row], Step<'a>, (i32, Option<i64>));
+#[derive(Clone, Copy)]
+struct Refusal<'a>(&'a [Row], Step<'a>, (i32, Option<i64>));
 
-/// Binds the rows, as far as there is memory.
-fn bind<C: Storage<NumberItem>>(map: &mut RangeMap<i32, i64, C>, rows: &[Row]) {
+/// Binds the rows, as far as there is memory. Returns how many are bound.
+fn bind<M: Played>(map: &mut M, rows: &[Row]) -> usize {
+    let mut count: usize = 0;
     for (first, last, value) in rows {
-        let _ = insert(map, closed(*first, *last), *value);
+        if map.insert(closed(*first, *last), *value).is_ok() {
+            count = count.saturating_add(1);
+        }
     }
+    count
 }
 
 /// Whether the call is done, or nothing is changed.
-fn is_done_or_refused<C: Storage<NumberItem>>(
-    map: &mut RangeMap<i32, i64, C>,
-    (rows, call, (key, value)): Refusal<'_>,
+fn is_done_or_refused<M: Played>(
+    map: &mut M,
+    Refusal(rows, call, (key, value)): Refusal<'_>,
 ) -> bool {
-    bind(map, rows);
-    if range_count(map) < rows.len() {
+    if bind(map, rows) < rows.len() {
         return true;
     }
     match holds(map, call) {
-        Ok(true) => value_at(map, key) == value,
-        _ => stores(map, rows),
+        Ok(true) => map.binds(key, value),
+        _ => map.stores(rows),
     }
 }
 
-/// Calls that are each made on a new map.
-#[derive(Clone, Copy)]
-struct Refusals<'a>(&'a [Refusal<'a>]);
-
-impl<'a> Table<NumberItem> for Refusals<'a> {
-    fn first_wrong<C: Storage<NumberItem>>(
+impl<'a> Trial for Refusal<'a> {
+    fn first_wrong<M: Tried>(
         &self,
-        alloc: Global,
+        map: &mut M,
+        _other: &mut M,
     ) -> Result<Option<usize>, MapError> {
-        for (index, row) in self.0.iter().enumerate() {
-            let mut map = new_map::<C>(alloc);
-            if !is_done_or_refused(&mut map, *row) {
-                return Ok(Some(index));
-            }
-        }
-        Ok(None)
+        Ok(wrong_unless(is_done_or_refused(map, *self)))
     }
 }
 
@@ -61,24 +53,24 @@ const SEVEN: Answers<'static> = &[(None, Ok(Some(7)))];
 
 /// Over a part of a stored range, and over bound pieces and their gaps.
 static CALLS: &[Refusal<'static>] = &[
-    (APART, Step::Insert(half_open!(5, 15), 0), (7, Some(0))),
-    (APART, Step::Remove(half_open!(5, 15)), (7, None)),
-    (
+    Refusal(APART, Step::Insert(half_open!(5, 15), 0), (7, Some(0))),
+    Refusal(APART, Step::Remove(half_open!(5, 15)), (7, None)),
+    Refusal(
         NEAR,
         Step::Update(half_open!(-5, 45), SEVEN, None, (4, 4)),
         (-5, Some(7)),
     ),
-    (
+    Refusal(
         NEAR,
         Step::Update(half_open!(2, 33), SEVEN, None, (4, 2)),
         (2, Some(1)),
     ),
-    (
+    Refusal(
         NEAR,
         Step::Update(half_open!(11, 13), SEVEN, None, (1, 0)),
         (11, Some(2)),
     ),
-    (
+    Refusal(
         NEAR,
         Step::Update(half_open!(21, 28), SEVEN, None, (0, 1)),
         (21, Some(7)),
@@ -87,5 +79,5 @@ static CALLS: &[Refusal<'static>] = &[
 
 #[test]
 fn a_refused_call_changes_nothing(rt: HostRuntime) -> Result<(), Fail> {
-    check(&rt, rt.alloc(), &Refusals(CALLS))
+    check_each(&rt, rt.alloc(), CALLS)
 }

@@ -1,76 +1,84 @@
 //! How an update leaves bounds written.
 
 use crate::support::{
-    Answers, NumberItem, Range, Table, check, check_each, closed, filled, insert, new_map,
-    numbered, update, wrong_unless,
+    Answers, Map, NumberItem, Played, Range, Trial, Tried, check_each, closed, fill, numbered,
+    wrong_unless,
 };
-use range_map::map::{MapError, RangeMap};
+use range_map::map::MapError;
 use range_store::storage::Storage;
-use std::alloc::Global;
 use std::cell::Cell;
 use std::ops::Bound;
 use std::test::Fail;
 
 /// A range with its value, as it is written.
-type Written = (Range, i64);
+pub type Entry = (Range, i64);
 
 /// What is stored, the range of an update with its answers, and what is stored then.
 #[derive(Clone, Copy)]
 struct Row<'a> {
-    stored: &'a [Written],
+    stored: &'a [Entry],
     range: Range,
     answers: Answers<'a>,
-    left: &'a [Written],
+    left: &'a [Entry],
 }
 
 fn is_written(range: &Range, other: Range) -> bool {
     range.start == other.start && range.end == other.end
 }
 
-/// Whether the map stores just these ranges, with these bounds.
-fn writes<C: Storage<NumberItem>>(map: &RangeMap<i32, i64, C>, rows: &[Written]) -> bool {
-    let mut stored = map.iter();
-    for (other, expected) in rows {
-        match stored.next() {
-            Some((range, value)) if is_written(range, *other) && *value == *expected => (),
-            _ => return false,
-        }
-    }
-    stored.next().is_none()
+/// A map whose bounds are looked at as they are written.
+pub trait Written {
+    /// Whether just these ranges are stored, with these bounds.
+    fn writes(&self, rows: &[Entry]) -> bool;
+
+    /// The number of the first of so many ranges that is not written as the numbered ones are.
+    fn first_rewritten(&self, count: u16) -> Option<usize>;
 }
 
-fn insert_all<C: Storage<NumberItem>>(
-    map: &mut RangeMap<i32, i64, C>,
-    rows: &[Written],
-) -> Result<(), MapError> {
-    for (range, value) in rows {
-        insert(map, *range, *value)?;
-    }
-    Ok(())
-}
-
-/// Whether the update is done, and leaves what it should.
-fn leaves<C: Storage<NumberItem>>(map: &mut RangeMap<i32, i64, C>, row: &Row<'_>) -> bool {
-    update(map, row.range, row.answers, &Cell::new((0, 0))).is_ok() && writes(map, row.left)
-}
-
-/// Updates that are each played on a new map.
-#[derive(Clone, Copy)]
-struct Updates<'a>(&'a [Row<'a>]);
-
-impl<'a> Table<NumberItem> for Updates<'a> {
-    fn first_wrong<C: Storage<NumberItem>>(
-        &self,
-        alloc: Global,
-    ) -> Result<Option<usize>, MapError> {
-        for (index, row) in self.0.iter().enumerate() {
-            let mut map = new_map::<C>(alloc);
-            insert_all(&mut map, row.stored)?;
-            if !leaves(&mut map, row) {
-                return Ok(Some(index));
+impl<C: Storage<NumberItem>> Written for Map<C> {
+    fn writes(&self, rows: &[Entry]) -> bool {
+        let mut stored = self.iter();
+        for (other, expected) in rows {
+            match stored.next() {
+                Some((range, value)) if is_written(range, *other) && *value == *expected => (),
+                _ => return false,
             }
         }
-        Ok(None)
+        stored.next().is_none()
+    }
+
+    fn first_rewritten(&self, count: u16) -> Option<usize> {
+        let mut stored = self.iter();
+        for number in 0..count {
+            match stored.next() {
+                Some((range, _)) if is_written(range, numbered(number)) => (),
+                _ => return Some(usize::from(number)),
+            }
+        }
+        wrong_unless(stored.next().is_none())
+    }
+}
+
+fn insert_all<M: Played>(map: &mut M, rows: &[Entry]) -> Result<bool, MapError> {
+    for (range, value) in rows {
+        map.insert(*range, *value)?;
+    }
+    Ok(true)
+}
+
+fn is_updated<M: Played>(map: &mut M, range: Range, answers: Answers<'_>) -> bool {
+    map.update(range, answers, &Cell::new((0, 0))).is_ok()
+}
+
+impl<'a> Trial for Row<'a> {
+    fn first_wrong<M: Tried>(
+        &self,
+        map: &mut M,
+        _other: &mut M,
+    ) -> Result<Option<usize>, MapError> {
+        insert_all(map, self.stored)?;
+        let done = is_updated(map, self.range, self.answers);
+        Ok(wrong_unless(done && map.writes(self.left)))
     }
 }
 
@@ -107,7 +115,7 @@ static WHAT_STANDS_KEEPS_ITS_BOUNDS: &[Row<'static>] = &[
 
 #[test]
 fn what_stands_keeps_its_bounds(rt: HostRuntime) -> Result<(), Fail> {
-    check(&rt, rt.alloc(), &Updates(WHAT_STANDS_KEEPS_ITS_BOUNDS))
+    check_each(&rt, rt.alloc(), WHAT_STANDS_KEEPS_ITS_BOUNDS)
 }
 
 const BEHIND_FIVE: Range = between!(Bound::Excluded(5), Bound::Excluded(10));
@@ -147,42 +155,23 @@ static WHAT_IS_BOUND_ANEW_KEEPS_ITS_BOUNDS: &[Row<'static>] = &[
 
 #[test]
 fn what_is_bound_anew_keeps_its_bounds(rt: HostRuntime) -> Result<(), Fail> {
-    check(
-        &rt,
-        rt.alloc(),
-        &Updates(WHAT_IS_BOUND_ANEW_KEEPS_ITS_BOUNDS),
-    )
+    check_each(&rt, rt.alloc(), WHAT_IS_BOUND_ANEW_KEEPS_ITS_BOUNDS)
 }
 
-/// Updates all of so many ranges with the values that are shown. Returns the number of the first
-/// that is rewritten.
-fn first_rewritten<C: Storage<NumberItem>>(
-    map: &mut RangeMap<i32, i64, C>,
-    count: u16,
-) -> Option<usize> {
-    let range = closed(0, (4 * i32::from(count)).wrapping_sub(3));
-    let done = update(map, range, &[], &Cell::new((0, 0))).is_ok();
-    let mut stored = map.iter();
-    for number in 0..count {
-        match stored.next() {
-            Some((range, _)) if is_written(range, numbered(number)) => (),
-            _ => return Some(usize::from(number)),
-        }
-    }
-    wrong_unless(done && stored.next().is_none())
-}
-
-/// A map of so many ranges.
+/// A map of so many ranges, all of which are updated with the values that are shown.
 #[derive(Clone, Copy)]
 struct Many(u16);
 
-impl Table<NumberItem> for Many {
-    fn first_wrong<C: Storage<NumberItem>>(
+impl Trial for Many {
+    fn first_wrong<M: Tried>(
         &self,
-        alloc: Global,
+        map: &mut M,
+        _other: &mut M,
     ) -> Result<Option<usize>, MapError> {
-        let mut map = filled::<C>(alloc, self.0)?;
-        Ok(first_rewritten(&mut map, self.0))
+        fill(map, self.0)?;
+        let range = closed(0, (4 * i32::from(self.0)).wrapping_sub(3));
+        let done = is_updated(map, range, &[]);
+        Ok(map.first_rewritten(self.0).or(wrong_unless(done)))
     }
 }
 

@@ -1,23 +1,35 @@
 //! A map cut in two at a key.
 
-use crate::support::{NumberItem, Row, Table, check, closed, insert, new_map, stores};
+use crate::appending::Appended;
+use crate::ends::Ended;
+use crate::support::{
+    Map, NumberItem, Played, Row, Trial, Tried, check_each, closed, insert_rows, wrong_unless,
+};
 use range_map::map::{MapError, RangeMap};
 use range_store::storage::Storage;
-use std::alloc::Global;
 use std::test::Fail;
 
-type Map<C> = RangeMap<i32, i64, C>;
-
-fn filled<C: Storage<NumberItem>>(alloc: Global, rows: &[Row]) -> Result<Map<C>, MapError> {
-    let mut map = new_map(alloc);
-    for (first, last, value) in rows {
-        insert(&mut map, closed(*first, *last), *value)?;
-    }
-    Ok(map)
+/// A map that is cut in two.
+pub trait Split {
+    /// Returns `true` once the rest is what is bound from the key on.
+    fn split_into(&mut self, key: i32, rest: &mut Self) -> Result<bool, MapError>;
 }
 
-fn split_off<C: Storage<NumberItem>>(map: &mut Map<C>, key: i32) -> Result<Map<C>, MapError> {
-    map.split_off(key)
+impl<C: Storage<NumberItem>> Split for Map<C> {
+    fn split_into(&mut self, key: i32, rest: &mut Self) -> Result<bool, MapError> {
+        *rest = self.split_off(key)?;
+        Ok(true)
+    }
+}
+
+/// Whether the ranges of the one map lie before the key, and those of the other do not.
+fn lie_apart<M: Ended>(map: &M, rest: &M, key: i32) -> bool {
+    match (map.last(), rest.first()) {
+        (Some((last, _)), Some((first, _))) => {
+            last < closed(key, key) && (first == closed(key, key) || closed(key, key) < first)
+        }
+        (_, _) => true,
+    }
 }
 
 /// The key at which a map of these ranges is cut, and what the two maps store then.
@@ -31,15 +43,11 @@ struct Cut<'a> {
 /// Two ranges, the second with a neighbour of another value.
 const ROWS: &[Row] = &[(0, 4, 1), (10, 14, 2), (15, 19, 3)];
 
-impl<'a> Table<NumberItem> for Cut<'a> {
-    fn first_wrong<C: Storage<NumberItem>>(
-        &self,
-        alloc: Global,
-    ) -> Result<Option<usize>, MapError> {
-        let mut map = filled::<C>(alloc, ROWS)?;
-        let rest = split_off(&mut map, self.key)?;
-        let right = stores(&map, self.front) && stores(&rest, self.back);
-        Ok(if right { None } else { Some(0) })
+impl<'a> Trial for Cut<'a> {
+    fn first_wrong<M: Tried>(&self, map: &mut M, other: &mut M) -> Result<Option<usize>, MapError> {
+        insert_rows(map, ROWS)?;
+        map.split_into(self.key, other)?;
+        Ok(wrong_unless(map.stores(self.front) && other.stores(self.back)))
     }
 }
 
@@ -92,10 +100,35 @@ fn a_map_is_cut_at_a_key(rt: HostRuntime) -> Result<(), Fail> {
             back: &[],
         },
     ];
-    for row in &rows {
-        check(&rt, rt.alloc(), row)?;
+    check_each(&rt, rt.alloc(), &rows)
+}
+
+/// Whether a map that was cut at a key is the whole again, of so many ranges.
+fn is_restored<M: Played + Appended + Ended>(
+    map: &mut M,
+    rest: &mut M,
+    key: i32,
+    count: usize,
+) -> bool {
+    let apart = lie_apart(map, rest, key) && map.binds(key, None);
+    apart && map.append(rest).is_ok() && map.has_count(count)
+}
+
+/// Cuts the map of so many ranges at each of its keys and at each key between, and puts it together
+/// again. Returns the first key at which that fails.
+fn first_lost<M: Played + Appended + Ended + Split>(
+    map: &mut M,
+    rest: &mut M,
+    count: i32,
+) -> Result<Option<usize>, MapError> {
+    let ranges = usize::try_from(count).unwrap_or(0);
+    for key in 0..count.wrapping_mul(3) {
+        map.split_into(key, rest)?;
+        if !is_restored(map, rest, key, ranges) {
+            return Ok(Some(usize::try_from(key).unwrap_or(0)));
+        }
     }
-    Ok(())
+    Ok(None)
 }
 
 /// A map of so many ranges that is cut at each of its keys and at each key between, and put
@@ -104,44 +137,22 @@ struct Long {
     count: i32,
 }
 
-fn is_restored<C: Storage<NumberItem>>(map: &mut Map<C>, rest: &mut Map<C>, key: i32) -> bool {
-    let apart = match (map.last_range_value(), rest.first_range_value()) {
-        (Some((last, _)), Some((first, _))) => {
-            *last < closed(key, key) && (*first == closed(key, key) || closed(key, key) < *first)
-        }
-        (_, _) => true,
-    };
-    apart && !map.contains_key(key) && map.append(rest).is_ok()
+fn bind_all<M: Played>(map: &mut M, count: i32) -> Result<bool, MapError> {
+    for number in 0..count {
+        let first = number.wrapping_mul(3);
+        map.insert(closed(first, first.wrapping_add(1)), i64::from(number))?;
+    }
+    Ok(true)
 }
 
-impl Table<NumberItem> for Long {
-    fn first_wrong<C: Storage<NumberItem>>(
-        &self,
-        alloc: Global,
-    ) -> Result<Option<usize>, MapError> {
-        let mut map: Map<C> = new_map(alloc);
-        for number in 0..self.count {
-            let first = number.wrapping_mul(3);
-            insert(
-                &mut map,
-                closed(first, first.wrapping_add(1)),
-                i64::from(number),
-            )?;
-        }
-        let count = map.range_count();
-        for key in 0..self.count.wrapping_mul(3) {
-            let mut rest = split_off(&mut map, key)?;
-            if !is_restored(&mut map, &mut rest, key) || map.range_count() != count {
-                return Ok(Some(usize::try_from(key).unwrap_or(0)));
-            }
-        }
-        Ok(None)
+impl Trial for Long {
+    fn first_wrong<M: Tried>(&self, map: &mut M, other: &mut M) -> Result<Option<usize>, MapError> {
+        bind_all(map, self.count)?;
+        first_lost(map, other, self.count)
     }
 }
 
 #[test]
 fn a_long_map_is_cut_and_put_together(rt: HostRuntime) -> Result<(), Fail> {
-    check(&rt, rt.alloc(), &Long { count: 1 })?;
-    check(&rt, rt.alloc(), &Long { count: 60 })?;
-    Ok(())
+    check_each(&rt, rt.alloc(), &[Long { count: 1 }, Long { count: 60 }])
 }

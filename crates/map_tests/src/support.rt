@@ -1,5 +1,18 @@
 //! Maps over either container, and tables of calls on them.
 
+use crate::appending::Appended;
+use crate::bulk::Changed;
+use crate::combining::Summed;
+use crate::commands::Commanded;
+use crate::containers::expect_none;
+use crate::counted::Counted;
+use crate::ends::Ended;
+use crate::iterators::Iterated;
+use crate::lookups::Cloned;
+use crate::reads::LookedUp;
+use crate::spelling::Written;
+use crate::splitting::Split;
+use crate::text::Shown;
 use range_algebra::any::AnyRange;
 use range_map::map::{MapError, NotInserted, RangeMap, UpdateError};
 use range_store::btree::BoxStorage;
@@ -15,7 +28,11 @@ pub type Range = AnyRange<i32>;
 
 pub type NumberItem = Item<Range, i64>;
 
-pub type InTree = BoxStorage<NumberItem>;
+pub type Vector = VecStorage<NumberItem>;
+
+pub type Tree = BoxStorage<NumberItem>;
+
+pub type Map<C> = RangeMap<i32, i64, C>;
 
 /// A stored range from its first key to its last, and its value.
 pub type Row = (i32, i32, i64);
@@ -64,39 +81,6 @@ pub fn is_numbered(shown: Option<(&Range, &i64)>, number: u16) -> bool {
     }
 }
 
-pub fn new_map<C: Storage<NumberItem>>(alloc: Global) -> RangeMap<i32, i64, C> {
-    RangeMap::new(alloc)
-}
-
-pub fn insert<C: Storage<NumberItem>>(
-    map: &mut RangeMap<i32, i64, C>,
-    range: Range,
-    value: i64,
-) -> Result<(), MapError> {
-    map.insert(range, value)
-}
-
-pub fn remove<C: Storage<NumberItem>>(
-    map: &mut RangeMap<i32, i64, C>,
-    range: Range,
-) -> Result<(), MapError> {
-    map.remove(range)
-}
-
-/// Returns the range and the value where they are handed back.
-pub fn insert_disconnected<C: Storage<NumberItem>>(
-    map: &mut RangeMap<i32, i64, C>,
-    range: Range,
-    value: i64,
-) -> Option<(Range, i64)> {
-    match map.insert_disconnected(range, value) {
-        Ok(()) => None,
-        Err(NotInserted::Connected(range, value)) | Err(NotInserted::Memory(range, value)) => {
-            Some((range, value))
-        }
-    }
-}
-
 /// What the closure of an update answers to each value that it is shown. To one that is not
 /// listed it answers that value.
 pub type Answers<'a> = &'a [(Option<i64>, Result<Option<i64>, i64>)];
@@ -122,73 +106,110 @@ pub fn answer(
     Ok(shown)
 }
 
-pub fn update<C: Storage<NumberItem>>(
-    map: &mut RangeMap<i32, i64, C>,
-    range: Range,
-    answers: Answers<'_>,
-    asked: &Cell<Asked>,
-) -> Result<(), UpdateError<i64>> {
-    map.update(range, |shown| answer(answers, asked, shown.copied()))
+/// A map over some container, as most tables call it.
+pub trait Played {
+    /// Returns `true` once the range is bound.
+    fn insert(&mut self, range: Range, value: i64) -> Result<bool, MapError>;
+
+    /// Returns `true` once the range is free.
+    fn remove(&mut self, range: Range) -> Result<bool, MapError>;
+
+    /// Returns the range and the value where they are handed back.
+    fn insert_disconnected(&mut self, range: Range, value: i64) -> Option<(Range, i64)>;
+
+    fn update(
+        &mut self,
+        range: Range,
+        answers: Answers<'_>,
+        asked: &Cell<Asked>,
+    ) -> Result<(), UpdateError<i64>>;
+
+    /// Unbinds all keys.
+    fn clear(&mut self);
+
+    fn intersects(&self, range: Range) -> bool;
+
+    /// Whether the key is bound to the value, or to none.
+    fn binds(&self, key: i32, value: Option<i64>) -> bool;
+
+    /// Whether so many ranges are stored.
+    fn has_count(&self, count: usize) -> bool;
+
+    /// Whether just these rows are stored.
+    fn stores(&self, rows: &[Row]) -> bool;
 }
 
-/// A map of the first so many numbered ranges, each bound to its number.
-pub fn filled<C: Storage<NumberItem>>(
-    alloc: Global,
-    count: u16,
-) -> Result<RangeMap<i32, i64, C>, MapError> {
-    let mut map = new_map(alloc);
-    for number in 0..count {
-        insert(&mut map, numbered(number), i64::from(number))?;
+impl<C: Storage<NumberItem>> Played for Map<C> {
+    fn insert(&mut self, range: Range, value: i64) -> Result<bool, MapError> {
+        RangeMap::insert(self, range, value)?;
+        Ok(true)
     }
-    Ok(map)
-}
 
-/// A map that binds the rows.
-pub fn map_of<C: Storage<NumberItem>>(
-    alloc: Global,
-    rows: &[Row],
-) -> Result<RangeMap<i32, i64, C>, MapError> {
-    let mut map = new_map(alloc);
-    for (first, last, value) in rows {
-        insert(&mut map, closed(*first, *last), *value)?;
+    fn remove(&mut self, range: Range) -> Result<bool, MapError> {
+        RangeMap::remove(self, range)?;
+        Ok(true)
     }
-    Ok(map)
-}
 
-pub fn intersects<C: Storage<NumberItem>>(map: &RangeMap<i32, i64, C>, range: Range) -> bool {
-    map.intersects(range)
-}
-
-pub fn is_empty<C: Storage<NumberItem>>(map: &RangeMap<i32, i64, C>) -> bool {
-    map.is_empty()
-}
-
-pub fn contains_key<C: Storage<NumberItem>>(map: &RangeMap<i32, i64, C>, key: i32) -> bool {
-    map.contains_key(key)
-}
-
-pub fn value_at<C: Storage<NumberItem>>(map: &RangeMap<i32, i64, C>, key: i32) -> Option<i64> {
-    map.get(key).copied()
-}
-
-pub fn range_count<C: Storage<NumberItem>>(map: &RangeMap<i32, i64, C>) -> usize {
-    map.range_count()
-}
-
-/// Whether the map stores just these rows.
-pub fn stores<C: Storage<NumberItem>>(map: &RangeMap<i32, i64, C>, rows: &[Row]) -> bool {
-    let mut left = rows;
-    let mut stored = map.iter();
-    while let Some((range, value)) = stored.next() {
-        let Some((row, rest)) = left.split_first() else {
-            return false;
-        };
-        if *range != closed(row.0, row.1) || *value != row.2 {
-            return false;
+    fn insert_disconnected(&mut self, range: Range, value: i64) -> Option<(Range, i64)> {
+        match RangeMap::insert_disconnected(self, range, value) {
+            Ok(()) => None,
+            Err(NotInserted::Connected(range, value)) | Err(NotInserted::Memory(range, value)) => {
+                Some((range, value))
+            }
         }
-        left = rest;
     }
-    left.is_empty()
+
+    fn update(
+        &mut self,
+        range: Range,
+        answers: Answers<'_>,
+        asked: &Cell<Asked>,
+    ) -> Result<(), UpdateError<i64>> {
+        RangeMap::update(self, range, |shown| answer(answers, asked, shown.copied()))
+    }
+
+    fn clear(&mut self) {
+        RangeMap::clear(self);
+    }
+
+    fn intersects(&self, range: Range) -> bool {
+        RangeMap::intersects(self, range)
+    }
+
+    fn binds(&self, key: i32, value: Option<i64>) -> bool {
+        self.get(key).copied() == value && self.contains_key(key) == value.is_some()
+    }
+
+    fn has_count(&self, count: usize) -> bool {
+        self.range_count() == count && self.is_empty() == (count == 0)
+    }
+
+    fn stores(&self, rows: &[Row]) -> bool {
+        let mut stored = self.iter();
+        for row in rows {
+            match stored.next() {
+                Some((range, value)) if *range == closed(row.0, row.1) && *value == row.2 => (),
+                _ => return false,
+            }
+        }
+        stored.next().is_none()
+    }
+}
+
+/// Binds the first so many numbered ranges, each to its number.
+pub fn fill<M: Played>(map: &mut M, count: u16) -> Result<bool, MapError> {
+    for number in 0..count {
+        map.insert(numbered(number), i64::from(number))?;
+    }
+    Ok(true)
+}
+
+/// Binds the rows.
+pub fn insert_rows<M: Played>(map: &mut M, rows: &[Row]) -> Result<bool, MapError> {
+    for (first, last, value) in rows {
+        map.insert(closed(*first, *last), *value)?;
+    }
+    Ok(true)
 }
 
 /// A call on a map, or what has to hold of the map then.
@@ -211,19 +232,14 @@ pub enum Step<'a> {
 }
 
 /// Whether the range and the value are handed back just where that is told.
-fn inserts_apart<C: Storage<NumberItem>>(
-    map: &mut RangeMap<i32, i64, C>,
-    range: Range,
-    value: i64,
-    refused: bool,
-) -> bool {
-    let given = insert_disconnected(map, range, value);
+fn inserts_apart<M: Played>(map: &mut M, range: Range, value: i64, refused: bool) -> bool {
+    let given = map.insert_disconnected(range, value);
     given == if refused { Some((range, value)) } else { None }
 }
 
 /// Whether an update ends so, and its closure is asked so often.
-fn updates_so<C: Storage<NumberItem>>(
-    map: &mut RangeMap<i32, i64, C>,
+fn updates_so<M: Played>(
+    map: &mut M,
     range: Range,
     answers: Answers<'_>,
     error: Option<i64>,
@@ -234,40 +250,29 @@ fn updates_so<C: Storage<NumberItem>>(
         Some(error) => Err(UpdateError::Closure(error)),
         None => Ok(()),
     };
-    update(map, range, answers, &asked) == outcome && asked.get() == times
+    map.update(range, answers, &asked) == outcome && asked.get() == times
 }
 
 /// Makes the call, or tells whether it is so.
-pub fn holds<C: Storage<NumberItem>>(
-    map: &mut RangeMap<i32, i64, C>,
-    step: Step<'_>,
-) -> Result<bool, MapError> {
+pub fn holds<M: Played>(map: &mut M, step: Step<'_>) -> Result<bool, MapError> {
     match step {
-        Step::Insert(range, value) => insert(map, range, value)?,
-        Step::Remove(range) => remove(map, range)?,
+        Step::Insert(range, value) => map.insert(range, value),
+        Step::Remove(range) => map.remove(range),
         Step::InsertDisconnected(range, value, refused) => {
-            return Ok(inserts_apart(map, range, value, refused));
+            Ok(inserts_apart(map, range, value, refused))
         }
         Step::Update(range, answers, error, times) => {
-            return Ok(updates_so(map, range, answers, error, times));
+            Ok(updates_so(map, range, answers, error, times))
         }
-        Step::Intersects(range, meets) => return Ok(intersects(map, range) == meets),
-        Step::Count(count) => {
-            return Ok(range_count(map) == count && is_empty(map) == (count == 0));
-        }
-        Step::Get(key, value) => {
-            return Ok(value_at(map, key) == value && contains_key(map, key) == value.is_some());
-        }
-        Step::Stores(rows) => return Ok(stores(map, rows)),
+        Step::Intersects(range, meets) => Ok(map.intersects(range) == meets),
+        Step::Count(count) => Ok(map.has_count(count)),
+        Step::Get(key, value) => Ok(map.binds(key, value)),
+        Step::Stores(rows) => Ok(map.stores(rows)),
     }
-    Ok(true)
 }
 
 /// Takes the steps in turn. Returns the index of the first that does not hold.
-pub fn first_wrong<C: Storage<NumberItem>>(
-    map: &mut RangeMap<i32, i64, C>,
-    steps: &[Step<'_>],
-) -> Result<Option<usize>, MapError> {
+pub fn first_wrong<M: Played>(map: &mut M, steps: &[Step<'_>]) -> Result<Option<usize>, MapError> {
     for (place, step) in steps.iter().enumerate() {
         if !holds(map, *step)? {
             return Ok(Some(place));
@@ -276,61 +281,65 @@ pub fn first_wrong<C: Storage<NumberItem>>(
     Ok(None)
 }
 
-/// What is tried on maps over any container.
-pub trait Table<S> {
+/// A map over some container, with all that is tried on it.
+pub trait Tried: Played
+    + Appended
+    + Changed
+    + Cloned
+    + Commanded
+    + Counted
+    + Ended
+    + Iterated
+    + LookedUp
+    + Shown
+    + Split
+    + Summed
+    + Written {}
+
+impl<C: Storage<NumberItem>> Tried for Map<C> {}
+
+/// What is tried on two new maps over one container.
+pub trait Trial {
     /// Returns the index of the first row that does not hold.
-    fn first_wrong<C: Storage<S>>(&self, alloc: Global) -> Result<Option<usize>, MapError>;
+    fn first_wrong<M: Tried>(&self, map: &mut M, other: &mut M) -> Result<Option<usize>, MapError>;
 }
 
-/// What is tried on two maps over any two containers.
-pub trait PairTable<S> {
-    /// What comes of it.
-    type Found: Drop;
-
-    fn find<C: Storage<S>, D: Storage<S>>(&self, alloc: Global) -> Result<Self::Found, MapError>;
-}
-
-fn first_wrong_over_vector<S: Drop, T: Table<S>>(
+fn first_wrong_over<C: Storage<NumberItem>, T: Trial>(
     alloc: Global,
-    table: &T,
+    trial: &T,
 ) -> Result<Option<usize>, MapError> {
-    table.first_wrong::<VecStorage<S>>(alloc)
+    let mut map: Map<C> = RangeMap::new(alloc);
+    let mut other: Map<C> = RangeMap::new(alloc);
+    trial.first_wrong(&mut map, &mut other)
 }
 
-fn first_wrong_over_tree<S: Drop, T: Table<S>>(
-    alloc: Global,
-    table: &T,
-) -> Result<Option<usize>, MapError> {
-    table.first_wrong::<BoxStorage<S>>(alloc)
+fn first_wrong_over_vector<T: Trial>(alloc: Global, trial: &T) -> Result<Option<usize>, MapError> {
+    first_wrong_over::<Vector, T>(alloc, trial)
 }
 
-/// Each row of the table has to hold over a vector.
-pub fn check_over_vector<R: Abort, S: Drop, T: Table<S>>(
-    rt: &R,
-    alloc: Global,
-    table: &T,
-) -> Result<(), Fail> {
-    let wrong = first_wrong_over_vector(alloc, table)?;
-    assert_eq!(rt; wrong, None, "the index of a row, over a vector");
+fn first_wrong_over_tree<T: Trial>(alloc: Global, trial: &T) -> Result<Option<usize>, MapError> {
+    first_wrong_over::<Tree, T>(alloc, trial)
+}
+
+/// Each row of the trial has to hold over a vector.
+pub fn check_over_vector<T: Trial>(rt: &impl Abort, alloc: Global, trial: &T) -> Result<(), Fail> {
+    let wrong = first_wrong_over_vector(alloc, trial)?;
+    expect_none(rt, wrong, "over a vector");
     Ok(())
 }
 
-/// Each row of the table has to hold over either container.
-pub fn check<R: Abort, S: Drop, T: Table<S>>(rt: &R, alloc: Global, table: &T) -> Result<(), Fail> {
-    check_over_vector(rt, alloc, table)?;
-    let wrong = first_wrong_over_tree(alloc, table)?;
-    assert_eq!(rt; wrong, None, "the index of a row, over a tree");
+/// Each row of the trial has to hold over either container.
+pub fn check<T: Trial>(rt: &impl Abort, alloc: Global, trial: &T) -> Result<(), Fail> {
+    check_over_vector(rt, alloc, trial)?;
+    let wrong = first_wrong_over_tree(alloc, trial)?;
+    expect_none(rt, wrong, "over a tree");
     Ok(())
 }
 
-/// Each row of each table has to hold over either container.
-pub fn check_each<R: Abort, S: Drop, T: Table<S>>(
-    rt: &R,
-    alloc: Global,
-    tables: &[T],
-) -> Result<(), Fail> {
-    for table in tables {
-        check(rt, alloc, table)?;
+/// Each row of each trial has to hold over either container.
+pub fn check_each<T: Trial>(rt: &impl Abort, alloc: Global, trials: &[T]) -> Result<(), Fail> {
+    for trial in trials {
+        check(rt, alloc, trial)?;
     }
     Ok(())
 }
@@ -340,39 +349,21 @@ pub fn wrong_unless(holds: bool) -> Option<usize> {
     if holds { None } else { Some(0) }
 }
 
-/// What comes of two maps over a vector and a tree.
-pub fn find_over_pair<S: Drop, T: PairTable<S>>(
-    alloc: Global,
-    table: &T,
-) -> Result<T::Found, MapError> {
-    table.find::<VecStorage<S>, BoxStorage<S>>(alloc)
-}
-
-/// The index of the first that is false.
-pub fn first_false(found: &[bool]) -> Option<usize> {
-    for (index, holds) in found.iter().enumerate() {
-        if !*holds {
-            return Some(index);
-        }
-    }
-    None
-}
-
 /// Steps that are taken in turn on a new map.
 #[derive(Clone, Copy)]
 struct Steps<'a>(&'a [Step<'a>]);
 
-impl<'a> Table<NumberItem> for Steps<'a> {
-    fn first_wrong<C: Storage<NumberItem>>(
+impl<'a> Trial for Steps<'a> {
+    fn first_wrong<M: Tried>(
         &self,
-        alloc: Global,
+        map: &mut M,
+        _other: &mut M,
     ) -> Result<Option<usize>, MapError> {
-        let mut map = new_map::<C>(alloc);
-        first_wrong(&mut map, self.0)
+        first_wrong(map, self.0)
     }
 }
 
 /// Takes the steps in turn on a new map over each container. Each has to hold.
-pub fn play<R: Abort>(rt: &R, alloc: Global, steps: &[Step<'_>]) -> Result<(), Fail> {
+pub fn play(rt: &impl Abort, alloc: Global, steps: &[Step<'_>]) -> Result<(), Fail> {
     check(rt, alloc, &Steps(steps))
 }

@@ -6,7 +6,7 @@ ghost use Rattle.std.specs.Cmp.{int_cmp_total, on_total, eq_by_cmp_equiv, partia
 ghost use Rattle.range_keys.specs.Untold.{untold_order, untold_lawful, untold_measured};
 ghost use Rattle.map_tests.specs.declared.tallied.Tallied.{Tallied};
 
-use crate::support::{Table, check_each};
+use crate::containers::{Table, check};
 use range_algebra::any::AnyRange;
 use range_keys::traits::{MaybeBounded, Measure, PartialEnum};
 use range_map::map::{MapError, RangeMap};
@@ -160,17 +160,17 @@ fn range(
 }
 
 /// A map over some container, whose calls count their steps.
-trait Counted: Drop {
-    fn new(alloc: Global) -> Self;
-
+trait Counting {
+    /// Returns `true` once the range is bound.
     fn insert(
         &mut self,
         range: AnyRange<Tallied>,
         value: i64,
         steps: &mut Steps,
-    ) -> Result<(), MapError>;
+    ) -> Result<bool, MapError>;
 
-    fn remove(&mut self, range: AnyRange<Tallied>, steps: &mut Steps) -> Result<(), MapError>;
+    /// Returns `true` once the range is free.
+    fn remove(&mut self, range: AnyRange<Tallied>, steps: &mut Steps) -> Result<bool, MapError>;
 
     fn intersects(&self, range: AnyRange<Tallied>, steps: &mut Steps) -> bool;
 
@@ -181,22 +181,20 @@ trait Counted: Drop {
     fn range_count(&self) -> usize;
 }
 
-impl<C: Storage<Entry>> Counted for RangeMap<Tallied, i64, C> {
-    fn new(alloc: Global) -> Self {
-        RangeMap::new(alloc)
-    }
-
+impl<C: Storage<Entry>> Counting for RangeMap<Tallied, i64, C> {
     fn insert(
         &mut self,
         range: AnyRange<Tallied>,
         value: i64,
         steps: &mut Steps,
-    ) -> Result<(), MapError> {
-        self.insert_counted(range, value, steps)
+    ) -> Result<bool, MapError> {
+        self.insert_counted(range, value, steps)?;
+        Ok(true)
     }
 
-    fn remove(&mut self, range: AnyRange<Tallied>, steps: &mut Steps) -> Result<(), MapError> {
-        self.remove_counted(range, steps)
+    fn remove(&mut self, range: AnyRange<Tallied>, steps: &mut Steps) -> Result<bool, MapError> {
+        self.remove_counted(range, steps)?;
+        Ok(true)
     }
 
     fn intersects(&self, range: AnyRange<Tallied>, steps: &mut Steps) -> bool {
@@ -228,14 +226,8 @@ enum Call {
     Count(usize),
 }
 
-/// A call that did not fail answers as it should.
-fn went(done: Result<(), MapError>) -> Result<bool, MapError> {
-    done?;
-    Ok(true)
-}
-
 /// Makes the call. Returns whether it answers so.
-fn answers_so<M: Counted>(
+fn answers_so<M: Counting>(
     map: &mut M,
     call: Call,
     tally: &Tally,
@@ -247,10 +239,8 @@ fn answers_so<M: Counted>(
         Call::Intersects(start, end, meets) => {
             Ok(map.intersects(range(start, end, tally)?, steps) == meets)
         }
-        Call::Insert(start, end, value) => {
-            went(map.insert(range(start, end, tally)?, value, steps))
-        }
-        Call::Remove(start, end) => went(map.remove(range(start, end, tally)?, steps)),
+        Call::Insert(start, end, value) => map.insert(range(start, end, tally)?, value, steps),
+        Call::Remove(start, end) => map.remove(range(start, end, tally)?, steps),
         Call::Count(count) => Ok(map.range_count() == count),
     }
 }
@@ -266,7 +256,7 @@ fn beside_steps(call: Call) -> u64 {
 
 /// Whether the call answers so and counts each comparison of its keys as a step, of which there
 /// are few.
-fn agrees<M: Counted>(map: &mut M, call: Call, tally: &Tally) -> Result<bool, MapError> {
+fn agrees<M: Counting>(map: &mut M, call: Call, tally: &Tally) -> Result<bool, MapError> {
     let mut steps = Steps::new();
     tally.set(0);
     let answered = answers_so(map, call, tally, &mut steps)?;
@@ -275,7 +265,7 @@ fn agrees<M: Counted>(map: &mut M, call: Call, tally: &Tally) -> Result<bool, Ma
 }
 
 /// Binds so many even numbers, each alone, to 0.
-fn insert_even<M: Counted>(map: &mut M, count: u16, tally: &Tally) -> Result<(), MapError> {
+fn insert_even<M: Counting>(map: &mut M, count: u16, tally: &Tally) -> Result<(), MapError> {
     let mut steps = Steps::new();
     for number in 0..count {
         let key = Included(2 * i32::from(number));
@@ -284,22 +274,28 @@ fn insert_even<M: Counted>(map: &mut M, count: u16, tally: &Tally) -> Result<(),
     Ok(())
 }
 
-/// Makes the calls in turn on a map of so many even numbers. Returns the index of the first that
-/// answers or counts otherwise.
-fn first_other<M: Counted>(
-    alloc: Global,
-    count: u16,
+/// The index of the first call that answers or counts otherwise.
+fn first_other<M: Counting>(
+    map: &mut M,
     calls: &[Call],
+    tally: &Tally,
 ) -> Result<Option<usize>, MapError> {
-    let tally = new_tally(alloc)?;
-    let mut map = M::new(alloc);
-    insert_even(&mut map, count, &tally)?;
     for (place, call) in calls.iter().enumerate() {
-        if !agrees(&mut map, *call, &tally)? {
+        if !agrees(map, *call, tally)? {
             return Ok(Some(place));
         }
     }
     Ok(None)
+}
+
+/// Makes the calls in turn on a map of so many even numbers.
+fn first_other_of<M: Counting>(
+    map: &mut M,
+    table: &Calls,
+    tally: &Tally,
+) -> Result<Option<usize>, MapError> {
+    insert_even(map, table.count, tally)?;
+    first_other(map, table.calls, tally)
 }
 
 /// Calls on a map of the even numbers below 80: at its ends, in its middle and outside of it.
@@ -381,21 +377,22 @@ struct Calls {
 
 impl Table<Entry> for Calls {
     fn first_wrong<C: Storage<Entry>>(&self, alloc: Global) -> Result<Option<usize>, MapError> {
-        first_other::<RangeMap<Tallied, i64, C>>(alloc, self.count, self.calls)
+        let tally = new_tally(alloc)?;
+        let mut map: RangeMap<Tallied, i64, C> = RangeMap::new(alloc);
+        first_other_of(&mut map, self, &tally)
     }
 }
 
 #[test]
 fn each_comparison_of_keys_is_a_step(rt: HostRuntime) -> Result<(), Fail> {
-    let tables = [
-        Calls {
-            count: 40,
-            calls: AMONG_FORTY,
-        },
-        Calls {
-            count: 4000,
-            calls: AMONG_MANY,
-        },
-    ];
-    check_each(&rt, rt.alloc(), &tables)
+    let of_forty = Calls {
+        count: 40,
+        calls: AMONG_FORTY,
+    };
+    let of_many = Calls {
+        count: 4000,
+        calls: AMONG_MANY,
+    };
+    check(&rt, rt.alloc(), &of_forty)?;
+    check(&rt, rt.alloc(), &of_many)
 }

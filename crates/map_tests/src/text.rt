@@ -1,5 +1,7 @@
-use crate::support::{NumberItem, Step, Table, between, check, first_wrong, new_map};
-use range_map::map::{MapError, RangeMap};
+use crate::support::{
+    Map, NumberItem, Step, Trial, Tried, between, check, first_wrong, wrong_unless,
+};
+use range_map::map::MapError;
 use range_store::storage::Storage;
 use std::alloc::{AllocError, Global};
 use std::fmt::Debug;
@@ -11,32 +13,34 @@ fn is_shown<T: Debug>(alloc: Global, shown: &T, text: &str) -> Result<bool, Allo
     Ok(format!(in alloc; "{shown:?}")?.as_str() == text)
 }
 
-/// Takes the steps. Returns whether each holds and how the map is shown then.
-fn is_shown_after<C: Storage<NumberItem>>(
-    alloc: Global,
-    map: &mut RangeMap<i32, i64, C>,
-    steps: &[Step<'_>],
-    text: &str,
-) -> Result<bool, MapError> {
-    Ok(first_wrong(map, steps)?.is_none() && is_shown(alloc, map, text)?)
+/// A map that is shown.
+pub trait Shown {
+    fn is_shown(&self, alloc: Global, text: &str) -> Result<bool, AllocError>;
+}
+
+impl<C: Storage<NumberItem>> Shown for Map<C> {
+    fn is_shown(&self, alloc: Global, text: &str) -> Result<bool, AllocError> {
+        is_shown(alloc, self, text)
+    }
 }
 
 /// How a map is shown after steps.
 #[derive(Clone, Copy)]
-struct Shown<'a>(&'a [(&'a [Step<'a>], &'a str)]);
+struct Text<'a> {
+    alloc: Global,
+    steps: &'a [Step<'a>],
+    text: &'a str,
+}
 
-impl<'a> Table<NumberItem> for Shown<'a> {
-    fn first_wrong<C: Storage<NumberItem>>(
+impl<'a> Trial for Text<'a> {
+    fn first_wrong<M: Tried>(
         &self,
-        alloc: Global,
+        map: &mut M,
+        _other: &mut M,
     ) -> Result<Option<usize>, MapError> {
-        for (index, (steps, text)) in self.0.iter().enumerate() {
-            let mut map = new_map::<C>(alloc);
-            if !is_shown_after(alloc, &mut map, steps, text)? {
-                return Ok(Some(index));
-            }
-        }
-        Ok(None)
+        let wrong = first_wrong(map, self.steps)?;
+        let shown = map.is_shown(self.alloc, self.text)?;
+        Ok(wrong.or(wrong_unless(shown)))
     }
 }
 
@@ -61,7 +65,11 @@ static MAPS: &[(&[Step<'static>], &str)] = &[
 
 #[test]
 fn a_map_is_shown(rt: HostRuntime) -> Result<(), Fail> {
-    check(&rt, rt.alloc(), &Shown(MAPS))
+    let alloc = rt.alloc();
+    for (steps, text) in MAPS {
+        check(&rt, alloc, &Text { alloc, steps, text })?;
+    }
+    Ok(())
 }
 
 /// Bounds, and how the range from the one to the other is shown.

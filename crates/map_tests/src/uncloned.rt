@@ -1,6 +1,7 @@
 //! Which calls clone a value: those that make two ranges of a stored one, and no others.
 
-use crate::support::{Range, Table, check};
+use crate::containers::{Table, check};
+use crate::support::Range;
 use range_map::map::{MapError, RangeMap, UpdateError};
 use range_store::storage::{Item, Storage};
 use std::alloc::{AllocError, Global};
@@ -20,31 +21,40 @@ impl Clone for Only {
 
 type OnlyItem = Item<Range, Only>;
 
-fn insert<C: Storage<OnlyItem>>(
-    map: &mut RangeMap<i32, Only, C>,
-    range: Range,
-    value: i64,
-) -> Result<(), MapError> {
-    map.insert(range, Only(value))
+/// A map of such values over some container.
+trait Uncloned {
+    fn insert(&mut self, range: Range, value: i64) -> Result<(), MapError>;
+
+    fn remove(&mut self, range: Range) -> Result<(), MapError>;
+
+    /// An update whose closure answers this for each piece.
+    fn update(&mut self, range: Range, value: Option<i64>) -> Result<(), UpdateError<i64>>;
+
+    fn has_count(&self, count: usize) -> bool;
+
+    fn number_at(&self, key: i32) -> Option<i64>;
 }
 
-fn remove<C: Storage<OnlyItem>>(
-    map: &mut RangeMap<i32, Only, C>,
-    range: Range,
-) -> Result<(), MapError> {
-    map.remove(range)
-}
+impl<C: Storage<OnlyItem>> Uncloned for RangeMap<i32, Only, C> {
+    fn insert(&mut self, range: Range, value: i64) -> Result<(), MapError> {
+        RangeMap::insert(self, range, Only(value))
+    }
 
-fn update<C: Storage<OnlyItem>>(
-    map: &mut RangeMap<i32, Only, C>,
-    range: Range,
-    value: Option<i64>,
-) -> Result<(), UpdateError<i64>> {
-    map.update(range, |_| Ok(value.map(Only)))
-}
+    fn remove(&mut self, range: Range) -> Result<(), MapError> {
+        RangeMap::remove(self, range)
+    }
 
-fn number_at<C: Storage<OnlyItem>>(map: &RangeMap<i32, Only, C>, key: i32) -> Option<i64> {
-    map.get(key).map(|only| only.0)
+    fn update(&mut self, range: Range, value: Option<i64>) -> Result<(), UpdateError<i64>> {
+        RangeMap::update(self, range, |_| Ok(value.map(Only)))
+    }
+
+    fn has_count(&self, count: usize) -> bool {
+        self.range_count() == count
+    }
+
+    fn number_at(&self, key: i32) -> Option<i64> {
+        self.get(key).map(|only| only.0)
+    }
 }
 
 /// A call on a map and its answer, or what has to hold of the map then.
@@ -59,14 +69,24 @@ enum Step {
     Get(i32, Option<i64>),
 }
 
-fn holds<C: Storage<OnlyItem>>(map: &mut RangeMap<i32, Only, C>, step: Step) -> bool {
+fn holds<M: Uncloned>(map: &mut M, step: Step) -> bool {
     match step {
-        Step::Insert(range, value, answer) => insert(map, range, value) == answer,
-        Step::Remove(range, answer) => remove(map, range) == answer,
-        Step::Update(range, value, answer) => update(map, range, value) == answer,
-        Step::Count(count) => map.range_count() == count,
-        Step::Get(key, value) => number_at(map, key) == value,
+        Step::Insert(range, value, answer) => map.insert(range, value) == answer,
+        Step::Remove(range, answer) => map.remove(range) == answer,
+        Step::Update(range, value, answer) => map.update(range, value) == answer,
+        Step::Count(count) => map.has_count(count),
+        Step::Get(key, value) => map.number_at(key) == value,
     }
+}
+
+/// The index of the first step that does not hold.
+fn first_wrong<M: Uncloned>(map: &mut M, steps: &[Step]) -> Option<usize> {
+    for (index, step) in steps.iter().enumerate() {
+        if !holds(map, *step) {
+            return Some(index);
+        }
+    }
+    None
 }
 
 /// Steps that are taken in turn on a new map.
@@ -76,12 +96,7 @@ struct Steps<'a>(&'a [Step]);
 impl<'a> Table<OnlyItem> for Steps<'a> {
     fn first_wrong<C: Storage<OnlyItem>>(&self, alloc: Global) -> Result<Option<usize>, MapError> {
         let mut map: RangeMap<i32, Only, C> = RangeMap::new(alloc);
-        for (index, step) in self.0.iter().enumerate() {
-            if !holds(&mut map, *step) {
-                return Ok(Some(index));
-            }
-        }
-        Ok(None)
+        Ok(first_wrong(&mut map, self.0))
     }
 }
 
