@@ -5,7 +5,7 @@ use crate::ranges::{Size, built, is_spelled, key, part};
 use btree_range_map::btree::BoxStorage;
 use btree_range_map::generic::RangeMap;
 use btree_range_map::generic::map::{
-    Command, MapError, NotAppended, NotFree, NotInserted, Reply, UpdateError, run,
+    Command, MapError, NotAppended, NotFree, NotInserted, NotSorted, Reply, UpdateError, run,
 };
 use btree_range_map::storage::{Item, Storage, VecStorage};
 use btree_range_map::{AnyRange, json};
@@ -36,6 +36,7 @@ pub enum MapCall {
     /// Between stored ranges, and inside one.
     Extend,
     FromIter,
+    FromSorted,
     /// By as many ranges as are stored.
     Append,
     /// Inside a stored range.
@@ -44,6 +45,8 @@ pub enum MapCall {
     Remove,
     /// Binds what is free from inside a stored range on to beyond the next.
     Update,
+    Pair(PairCall),
+    MapValues,
     Clone,
     /// An insertion, and a removal inside a stored range.
     Run,
@@ -241,6 +244,34 @@ fn gathering<C: Storage<Entry>>(alloc: Global, size: Size) -> Outcome {
     }
 }
 
+/// The ranges of the first indices, each with its text.
+fn sorted_pairs(alloc: Global, size: Size) -> Result<Vec<(AnyRange<i32>, String)>, AllocError> {
+    let mut pairs = Vec::with_capacity(alloc, usize::from(size.count))?;
+    for place in 0..size.count {
+        let text = String::from_str(alloc, text(place, size))?;
+        pairs.push((built(place), text))?;
+    }
+    Ok(pairs)
+}
+
+fn built_of<C: Storage<Entry>>(
+    alloc: Global,
+    pairs: Vec<(AnyRange<i32>, String)>,
+) -> Result<Map<C>, NotSorted> {
+    RangeMap::from_sorted(alloc, pairs)
+}
+
+fn building<C: Storage<Entry>>(alloc: Global, size: Size) -> Outcome {
+    let Ok(pairs) = sorted_pairs(alloc, size) else {
+        return Outcome::Early;
+    };
+    match built_of::<C>(alloc, pairs) {
+        Ok(map) => done(is_filled(&map, size.count, size)),
+        Err(NotSorted::Memory) => Outcome::Kept,
+        Err(NotSorted::OutOfOrder(_)) => Outcome::Wrong,
+    }
+}
+
 fn append<C: Storage<Entry>>(map: &mut Map<C>, other: &mut Map<C>) -> Result<(), NotAppended> {
     map.append(other)
 }
@@ -310,6 +341,77 @@ fn update<C: Storage<Entry>>(alloc: Global, map: &mut Map<C>, size: Size) -> Out
         Err(_) => Err(MapError::Memory),
     };
     changed(map, size, outcome, 2, (key(middle, 6), NEW))
+}
+
+/// A clone of the text that is there.
+fn either(first: Option<&String>, second: Option<&String>) -> Result<Option<String>, AllocError> {
+    match first.or(second) {
+        Some(text) => Ok(Some(text.clone()?)),
+        None => Ok(None),
+    }
+}
+
+/// How two maps are put together.
+#[derive(Clone, Copy)]
+pub enum PairCall {
+    /// With a map of as many ranges that come after all stored ones.
+    Combine,
+    /// With the same.
+    Overlay,
+    /// With a map of the first half of the ranges.
+    Restrict,
+    /// With the same.
+    Without,
+}
+
+impl PairCall {
+    /// The indices of the ranges of the other map, and of the map that is made.
+    fn places(self, size: Size) -> (Range<u16>, Range<u16>) {
+        let (middle, count, twice) = (size.middle(), size.count, size.count.wrapping_mul(2));
+        match self {
+            PairCall::Combine | PairCall::Overlay => (count..twice, 0..twice),
+            PairCall::Restrict => (0..middle, 0..middle),
+            PairCall::Without => (0..middle, middle..count),
+        }
+    }
+}
+
+/// A map made of both, or `None` where memory was refused.
+fn both<C: Storage<Entry>>(map: &Map<C>, other: &Map<C>, call: PairCall) -> Option<Map<C>> {
+    match call {
+        PairCall::Combine => map
+            .combine(other, |first, second| either(first, second))
+            .ok(),
+        PairCall::Overlay => map.overlay(other).ok(),
+        PairCall::Restrict => map.restrict(other).ok(),
+        PairCall::Without => map.without(other).ok(),
+    }
+}
+
+/// A refused call has to leave the map as it was.
+fn together<C: Storage<Entry>>(alloc: Global, map: &Map<C>, size: Size, call: PairCall) -> Outcome {
+    let (others, made) = call.places(size);
+    let mut other: Map<C> = RangeMap::new(alloc);
+    let Ok(()) = fill(alloc, &mut other, others, size) else {
+        return Outcome::Early;
+    };
+    let kept = is_filled(map, size.count, size);
+    match both(map, &other, call) {
+        Some(new) => done(kept && stores(&new, made, size)),
+        None => refused(kept),
+    }
+}
+
+fn copied<C: Storage<Entry>>(map: &Map<C>) -> Result<Map<C>, UpdateError<AllocError>> {
+    map.map_values(|text| text.clone())
+}
+
+fn mapping<C: Storage<Entry>>(map: &Map<C>, size: Size) -> Outcome {
+    let kept = is_filled(map, size.count, size);
+    match copied(map) {
+        Ok(new) => done(kept && is_filled(&new, size.count, size)),
+        Err(_) => refused(kept),
+    }
 }
 
 fn cloning<C: Storage<Entry>>(map: &Map<C>, size: Size) -> Outcome {
@@ -424,10 +526,13 @@ fn call<C: Storage<Entry>>(alloc: Global, map: &mut Map<C>, size: Size, call: Ma
         MapCall::TryInsert => trying(alloc, map, size),
         MapCall::Extend => extension(alloc, map, size),
         MapCall::FromIter => gathering::<C>(alloc, size),
+        MapCall::FromSorted => building::<C>(alloc, size),
         MapCall::Append => appending(alloc, map, size),
         MapCall::SplitOff => splitting(map, size),
         MapCall::Remove => removal(map, size),
         MapCall::Update => update(alloc, map, size),
+        MapCall::Pair(call) => together(alloc, map, size, call),
+        MapCall::MapValues => mapping(map, size),
         MapCall::Clone => cloning(map, size),
         MapCall::Run => running(alloc, map, size),
         MapCall::Write | MapCall::Read | MapCall::ReadOverwriting => {

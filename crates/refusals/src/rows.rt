@@ -1,7 +1,7 @@
 //! The calls, each over both containers and over trees of one, two and three levels.
 
 use crate::automata::{self, AutomatonCall};
-use crate::maps::{self, MapCall};
+use crate::maps::{self, MapCall, PairCall};
 use crate::multimaps::{self, MultimapCall};
 use crate::outcome::Outcome;
 use crate::ranges::Size;
@@ -36,10 +36,19 @@ pub static CALLS: &[(&str, Call)] = &[
     ("map: try_insert", Call::Map(MapCall::TryInsert)),
     ("map: extend", Call::Map(MapCall::Extend)),
     ("map: from_iter", Call::Map(MapCall::FromIter)),
+    ("map: from_sorted", Call::Map(MapCall::FromSorted)),
     ("map: append", Call::Map(MapCall::Append)),
     ("map: split_off", Call::Map(MapCall::SplitOff)),
     ("map: remove", Call::Map(MapCall::Remove)),
     ("map: update", Call::Map(MapCall::Update)),
+    ("map: combine", Call::Map(MapCall::Pair(PairCall::Combine))),
+    ("map: overlay", Call::Map(MapCall::Pair(PairCall::Overlay))),
+    (
+        "map: restrict",
+        Call::Map(MapCall::Pair(PairCall::Restrict)),
+    ),
+    ("map: without", Call::Map(MapCall::Pair(PairCall::Without))),
+    ("map: map_values", Call::Map(MapCall::MapValues)),
     ("map: clone", Call::Map(MapCall::Clone)),
     ("map: run", Call::Map(MapCall::Run)),
     ("map: map_to_json", Call::Map(MapCall::Write)),
