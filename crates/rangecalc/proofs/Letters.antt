@@ -1,18 +1,12 @@
 -- What is put for one letter, and what stays for the others.
-use Rattle.std.proofs.Common.{◌≡◌, refl}
+use Rattle.std.proofs.Common.{◌≡◌, ◌∙◌, ap, refl, sym}
 use Rattle.rangecalc.specs.Named.{at, each, put}
 use Rattle.rangecalc.specs.declared.named.Name.{Name}
 use Rattle.rangecalc.specs.declared.named.Name.TheVariants.{A, B, C, D}
 use Rattle.rangecalc.specs.declared.named.Named.{Named}
 
-pub put_at : {X : Type 0} (things : Named X) (name : Name) → put things name (at things name) ≡ things
-put_at things A = refl
-put_at things B = refl
-put_at things C = refl
-put_at things D = refl
-
 module _ {X Y : Type 0} (f : X → Y) (things : Named X) where
-  pub each_at : (name : Name) → at (each f things) name ≡ f (at things name)
+  each_at : (name : Name) → at (each f things) name ≡ f (at things name)
   each_at A = refl
   each_at B = refl
   each_at C = refl
@@ -23,3 +17,13 @@ module _ {X Y : Type 0} (f : X → Y) (things : Named X) where
   each_put B x = refl
   each_put C x = refl
   each_put D x = refl
+
+  pub at_each : (name : Name) (x : X) → x ≡ at things name → f x ≡ at (each f things) name
+  at_each name x is = ap f is ∙ sym (each_at name)
+
+pub each_put_twice : {X Y : Type 0} (f : X → Y) (things : Named X) (name next following : Name)
+    (x y : X) → next ≡ following
+    → each f (put (put things name x) next y) ≡ put (put (each f things) name (f x)) following (f y)
+each_put_twice f things name next following x y is =
+    each_put f (put things name x) next y ∙ ap (λ stored. put stored next (f y)) (each_put f things name x)
+    ∙ ap (λ n. put (put (each f things) name (f x)) n (f y)) is

@@ -1,10 +1,10 @@
-use Rattle.std.proofs.Common.{◌≡◌, ◌∙◌, ap, refl, subst, sym}
+use Rattle.std.proofs.Common.{◌≡◌, refl, subst, sym}
 use Rattle.btree_range_map.specs.Holding.{box_items, level_count}
 use Rattle.rangecalc.specs.Answers.{IsAnswer, IsChanged, IsListed}
 use Rattle.rangecalc.specs.Conversation.{IsDone, stored_in}
 use Rattle.rangecalc.specs.Named.{at, put}
 use Rattle.rangecalc.specs.Replies.{truth_text}
-use Rattle.rangecalc.proofs.Letters.{each_at, each_put}
+use Rattle.rangecalc.proofs.Letters.{at_each, each_put}
 use Rattle.rangecalc.proofs.Progress.{on_ok_as, writes_as}
 use Rattle.rangecalc.proofs.maps.answer.Goals as goal
 
@@ -15,7 +15,7 @@ returns-in-Change g c =
     let name = c.args.name in
     let map = c.change.new.map in
     let same : box_items c.at_mut.result.now ≡ at (stored_in maps) name =
-    ap box_items c.at_mut.ensures.value ∙ sym (each_at box_items maps name) in
+    at_each box_items maps name c.at_mut.result.now c.at_mut.ensures.value in
     let changed =
     subst (λ old. IsChanged order c.in-Change.wanted c.change.result old (box_items map)) same
     c.change.ensures in
@@ -33,7 +33,7 @@ returns-in-Ask g c =
     let name = c.args.name in
     let levels = level_count c.at.result.now in
     let same : box_items c.at.result.now ≡ at (stored_in maps) name =
-    ap box_items c.at.ensures ∙ sym (each_at box_items maps name) in
+    at_each box_items maps name c.at.result.now c.at.ensures in
     let answered =
     subst (λ items. IsAnswer order c.in-Ask.question c.ask.result items levels) same
     c.ask.ensures in
@@ -50,7 +50,7 @@ returns-in-List g c =
     let maps = c.args.maps.now in
     let name = c.args.name in
     let same : box_items c.at-in-List.result.now ≡ at (stored_in maps) name =
-    ap box_items c.at-in-List.ensures ∙ sym (each_at box_items maps name) in
+    at_each box_items maps name c.at-in-List.result.now c.at-in-List.ensures in
     writes_as c.list.result (g.W.Write.contents c.args.out.now)
     (g.W.Write.contents c.list.new.out) _ _
     (λ text fits. subst (λ command. IsDone order name command text (stored_in maps)

@@ -1,4 +1,4 @@
-use Rattle.std.proofs.Common.{◌≡◌, ◌∙◌, ap, refl, subst, sym}
+use Rattle.std.proofs.Common.{◌≡◌, ◌∙◌, ap, refl, subst}
 use Rattle.std.specs.Prelude.{Err}
 use Rattle.std.specs.Ordering.{int_eq}
 use Rattle.btree_range_map.specs.Combining.{AreCombined, MayFailOnBoth}
@@ -6,7 +6,7 @@ use Rattle.btree_range_map.specs.Holding.{box_items}
 use Rattle.rangecalc.specs.Conversation.{stored_in}
 use Rattle.rangecalc.specs.Named.{at}
 use Rattle.rangecalc.specs.Two.{Makes}
-use Rattle.rangecalc.proofs.Letters.{each_at, each_put}
+use Rattle.rangecalc.proofs.Letters.{at_each, each_put}
 use Rattle.rangecalc.proofs.maps.combine.Goals as goal
 
 pub returns-in-Ok : goal.returns-in-Ok
@@ -17,9 +17,9 @@ returns-in-Ok g c =
     let items = box_items c.at.result.now in
     let made = box_items c.in-Ok.made in
     let one : items ≡ at stored c.args.first =
-    ap box_items c.at.ensures ∙ sym (each_at box_items maps c.args.first) in
+    at_each box_items maps c.args.first c.at.result.now c.at.ensures in
     let other : box_items c.at-2.result.now ≡ at stored c.args.second =
-    ap box_items c.at-2.ensures ∙ sym (each_at box_items maps c.args.second) in (
+    at_each box_items maps c.args.second c.at-2.result.now c.at-2.ensures in (
       made,
       subst (λ xs. AreCombined order int_eq int_eq int_eq (Makes c.args.way) xs
           (at stored c.args.second) made) one
@@ -36,9 +36,9 @@ returns-in-Err-Closure g c =
     let items = box_items c.at.result.now in
     let fault = c.in-Err-Closure.field-0-0 in
     let one : items ≡ at stored c.args.first =
-    ap box_items c.at.ensures ∙ sym (each_at box_items maps c.args.first) in
+    at_each box_items maps c.args.first c.at.result.now c.at.ensures in
     let other : box_items c.at-2.result.now ≡ at stored c.args.second =
-    ap box_items c.at-2.ensures ∙ sym (each_at box_items maps c.args.second) in (
+    at_each box_items maps c.args.second c.at-2.result.now c.at-2.ensures in (
       fault,
       subst (λ xs. MayFailOnBoth order (Makes c.args.way) xs (at stored c.args.second) fault) one
           (subst (λ xs. MayFailOnBoth order (Makes c.args.way) items xs fault) other
