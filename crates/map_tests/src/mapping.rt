@@ -1,12 +1,10 @@
 //! Maps with new values.
 
 use crate::support::{
-    NumberItem, Row, Table, check_each, closed, insert, map_of, new_map, range_count, stores,
-    value_at, wrong_unless,
+    Map, NumberItem, Played, Row, Trial, Tried, check_each, closed, insert_rows, wrong_unless,
 };
-use range_map::map::{MapError, RangeMap, UpdateError};
+use range_map::map::{MapError, UpdateError};
 use range_store::storage::Storage;
-use std::alloc::Global;
 use std::test::Fail;
 
 /// Half of the value, and an error where it is negative.
@@ -14,16 +12,22 @@ fn half(value: &i64) -> Result<i64, u8> {
     if *value < 0 { Err(1) } else { Ok(*value / 2) }
 }
 
-fn halves<C: Storage<NumberItem>>(
-    map: &RangeMap<i32, i64, C>,
-) -> Result<RangeMap<i32, i64, C>, UpdateError<u8>> {
-    map.map_values(|value| half(value))
+/// A map whose values are halved.
+pub trait Mapped {
+    fn become_halves(&mut self) -> Result<(), UpdateError<u8>>;
+}
+
+impl<C: Storage<NumberItem>> Mapped for Map<C> {
+    fn become_halves(&mut self) -> Result<(), UpdateError<u8>> {
+        *self = self.map_values(|value| half(value))?;
+        Ok(())
+    }
 }
 
 /// Whether the map of the halves stores the rows, or a value has no half where there are none.
-fn has_halves<C: Storage<NumberItem>>(map: &RangeMap<i32, i64, C>, rows: Option<&[Row]>) -> bool {
-    match (halves(map), rows) {
-        (Ok(new), Some(rows)) => stores(&new, rows),
+fn has_halves<M: Played + Mapped>(map: &mut M, rows: Option<&[Row]>) -> bool {
+    match (map.become_halves(), rows) {
+        (Ok(()), Some(rows)) => map.stores(rows),
         (Err(UpdateError::Closure(1)), None) => true,
         (_, _) => false,
     }
@@ -36,13 +40,14 @@ struct Halved<'a> {
     halves: Option<&'a [Row]>,
 }
 
-impl<'a> Table<NumberItem> for Halved<'a> {
-    fn first_wrong<C: Storage<NumberItem>>(
+impl<'a> Trial for Halved<'a> {
+    fn first_wrong<M: Tried>(
         &self,
-        alloc: Global,
+        map: &mut M,
+        _other: &mut M,
     ) -> Result<Option<usize>, MapError> {
-        let map = map_of::<C>(alloc, self.map)?;
-        Ok(wrong_unless(has_halves(&map, self.halves)))
+        insert_rows(map, self.map)?;
+        Ok(wrong_unless(has_halves(map, self.halves)))
     }
 }
 
@@ -69,43 +74,38 @@ fn halves_of_values(rt: HostRuntime) -> Result<(), Fail> {
     check_each(&rt, rt.alloc(), &rows)
 }
 
-/// A map of the first so many keys, each bound to its number.
-fn numbers<C: Storage<NumberItem>>(
-    alloc: Global,
-    count: u16,
-) -> Result<RangeMap<i32, i64, C>, MapError> {
-    let mut map = new_map(alloc);
+/// Binds the first so many keys, each to its number.
+fn bind_numbers<M: Played>(map: &mut M, count: u16) -> Result<bool, MapError> {
     for number in 0..count {
         let key = i32::from(number);
-        insert(&mut map, closed(key, key), i64::from(number))?;
+        map.insert(closed(key, key), i64::from(number))?;
     }
-    Ok(map)
+    Ok(true)
 }
 
 /// Whether each of the first so many keys is bound to half of its number, by a range of two.
-fn are_halves<C: Storage<NumberItem>>(map: &RangeMap<i32, i64, C>, count: u16) -> bool {
+fn are_halves<M: Played>(map: &M, count: u16) -> bool {
     for number in 0..count {
-        if value_at(map, i32::from(number)) != Some(i64::from(number / 2)) {
+        if !map.binds(i32::from(number), Some(i64::from(number / 2))) {
             return false;
         }
     }
-    range_count(map) == usize::from(count / 2)
+    map.has_count(usize::from(count / 2))
 }
 
 /// How many keys there are, an even number of them.
 #[derive(Clone, Copy)]
 struct Count(u16);
 
-impl Table<NumberItem> for Count {
-    fn first_wrong<C: Storage<NumberItem>>(
+impl Trial for Count {
+    fn first_wrong<M: Tried>(
         &self,
-        alloc: Global,
+        map: &mut M,
+        _other: &mut M,
     ) -> Result<Option<usize>, MapError> {
-        let map = numbers::<C>(alloc, self.0)?;
-        match halves(&map) {
-            Ok(new) => Ok(wrong_unless(are_halves(&new, self.0))),
-            Err(_) => Ok(Some(0)),
-        }
+        bind_numbers(map, self.0)?;
+        let done = map.become_halves().is_ok();
+        Ok(wrong_unless(done && are_halves(map, self.0)))
     }
 }
 

@@ -1,32 +1,57 @@
 //! Maps in which each key keeps the value that it has in one of two.
 
 use crate::support::{
-    NumberItem, Row, Table, check_each, filled, first_false, map_of, range_count, stores,
-    wrong_unless,
+    Map, NumberItem, Played, Row, Trial, Tried, check_each, fill, insert_rows, wrong_unless,
 };
-use range_map::map::{MapError, RangeMap};
+use range_map::map::MapError;
 use range_store::storage::Storage;
-use std::alloc::Global;
 use std::test::Fail;
 
-type Map<C> = RangeMap<i32, i64, C>;
-
-fn overlay<C: Storage<NumberItem>>(one: &Map<C>, other: &Map<C>) -> Result<Map<C>, MapError> {
-    one.overlay(other)
+/// What is made of two maps.
+#[derive(Clone, Copy)]
+enum Made {
+    Overlay,
+    Restriction,
+    Rest,
 }
 
-fn restrict<C: Storage<NumberItem>>(one: &Map<C>, other: &Map<C>) -> Result<Map<C>, MapError> {
-    one.restrict(other)
+/// A map that is made of two.
+pub trait Overlaid {
+    fn become_overlay(&mut self, other: &Self) -> Result<bool, MapError>;
+
+    fn become_restriction(&mut self, other: &Self) -> Result<bool, MapError>;
+
+    fn become_rest(&mut self, other: &Self) -> Result<bool, MapError>;
+
+    fn equals(&self, other: &Self) -> bool;
 }
 
-fn without<C: Storage<NumberItem>>(one: &Map<C>, other: &Map<C>) -> Result<Map<C>, MapError> {
-    one.without(other)
+impl<C: Storage<NumberItem>> Overlaid for Map<C> {
+    fn become_overlay(&mut self, other: &Self) -> Result<bool, MapError> {
+        *self = self.overlay(other)?;
+        Ok(true)
+    }
+
+    fn become_restriction(&mut self, other: &Self) -> Result<bool, MapError> {
+        *self = self.restrict(other)?;
+        Ok(true)
+    }
+
+    fn become_rest(&mut self, other: &Self) -> Result<bool, MapError> {
+        *self = self.without(other)?;
+        Ok(true)
+    }
+
+    fn equals(&self, other: &Self) -> bool {
+        *self == *other
+    }
 }
 
-fn made_so<C: Storage<NumberItem>>(made: Result<Map<C>, MapError>, rows: &[Row]) -> bool {
+fn become_made<M: Overlaid>(map: &mut M, made: Made, other: &M) -> Result<bool, MapError> {
     match made {
-        Ok(new) => stores(&new, rows),
-        Err(MapError::Memory) => false,
+        Made::Overlay => map.become_overlay(other),
+        Made::Restriction => map.become_restriction(other),
+        Made::Rest => map.become_rest(other),
     }
 }
 
@@ -40,19 +65,42 @@ struct Pair<'a> {
     without: &'a [Row],
 }
 
-impl<'a> Table<NumberItem> for Pair<'a> {
-    fn first_wrong<C: Storage<NumberItem>>(
-        &self,
-        alloc: Global,
-    ) -> Result<Option<usize>, MapError> {
-        let one = map_of::<C>(alloc, self.one)?;
-        let other = map_of::<C>(alloc, self.other)?;
-        let found = [
-            made_so(overlay(&one, &other), self.overlaid),
-            made_so(restrict(&one, &other), self.restricted),
-            made_so(without(&one, &other), self.without),
-        ];
-        Ok(first_false(&found))
+/// Whether what is made of the rows and the other map stores what it should.
+fn is_made_so<M: Played + Overlaid>(
+    map: &mut M,
+    other: &M,
+    one: &[Row],
+    (made, rows): (Made, &[Row]),
+) -> Result<bool, MapError> {
+    map.clear();
+    insert_rows(map, one)?;
+    become_made(map, made, other)?;
+    Ok(map.stores(rows))
+}
+
+/// The first of the three calls of which another map comes.
+fn first_other<M: Played + Overlaid>(
+    map: &mut M,
+    other: &M,
+    pair: &Pair<'_>,
+) -> Result<Option<usize>, MapError> {
+    let all = [
+        (Made::Overlay, pair.overlaid),
+        (Made::Restriction, pair.restricted),
+        (Made::Rest, pair.without),
+    ];
+    for (place, made) in all.iter().enumerate() {
+        if !is_made_so(map, other, pair.one, *made)? {
+            return Ok(Some(place));
+        }
+    }
+    Ok(None)
+}
+
+impl<'a> Trial for Pair<'a> {
+    fn first_wrong<M: Tried>(&self, map: &mut M, other: &mut M) -> Result<Option<usize>, MapError> {
+        insert_rows(other, self.other)?;
+        first_other(map, other, self)
     }
 }
 
@@ -98,35 +146,57 @@ fn made_of_two_maps(rt: HostRuntime) -> Result<(), Fail> {
     check_each(&rt, rt.alloc(), &rows)
 }
 
-fn is_equal<C: Storage<NumberItem>>(made: Result<Map<C>, MapError>, map: &Map<C>) -> bool {
-    match made {
-        Ok(new) => new == *map,
-        Err(MapError::Memory) => false,
-    }
-}
-
-fn has_ranges<C: Storage<NumberItem>>(made: Result<Map<C>, MapError>, count: usize) -> bool {
-    match made {
-        Ok(new) => range_count(&new) == count,
-        Err(MapError::Memory) => false,
-    }
-}
-
 /// Of maps of so many ranges, and of twice as many.
 #[derive(Clone, Copy)]
 struct Count(u16);
 
-impl Table<NumberItem> for Count {
-    fn first_wrong<C: Storage<NumberItem>>(
-        &self,
-        alloc: Global,
-    ) -> Result<Option<usize>, MapError> {
-        let front = filled::<C>(alloc, self.0)?;
-        let whole = filled::<C>(alloc, self.0.wrapping_mul(2))?;
-        let holds = is_equal(overlay(&front, &whole), &whole)
-            && is_equal(restrict(&whole, &front), &front)
-            && has_ranges(without(&whole, &front), usize::from(self.0));
-        Ok(wrong_unless(holds))
+fn refill<M: Played>(map: &mut M, count: u16) -> Result<bool, MapError> {
+    map.clear();
+    fill(map, count)
+}
+
+/// Whether the overlay of the front and the whole is the whole.
+fn is_overlaid<M: Played + Overlaid>(
+    front: &mut M,
+    whole: &mut M,
+    count: u16,
+) -> Result<bool, MapError> {
+    refill(front, count)?;
+    refill(whole, count.wrapping_mul(2))?;
+    front.become_overlay(whole)?;
+    Ok(front.equals(whole))
+}
+
+/// Whether the whole, restricted to the front, is the front.
+fn is_restricted<M: Played + Overlaid>(
+    front: &mut M,
+    whole: &mut M,
+    count: u16,
+) -> Result<bool, MapError> {
+    refill(front, count)?;
+    refill(whole, count.wrapping_mul(2))?;
+    whole.become_restriction(front)?;
+    Ok(whole.equals(front))
+}
+
+/// Whether the whole without the front has as many ranges as the front.
+fn is_left<M: Played + Overlaid>(
+    front: &mut M,
+    whole: &mut M,
+    count: u16,
+) -> Result<bool, MapError> {
+    refill(front, count)?;
+    refill(whole, count.wrapping_mul(2))?;
+    whole.become_rest(front)?;
+    Ok(whole.has_count(usize::from(count)))
+}
+
+impl Trial for Count {
+    fn first_wrong<M: Tried>(&self, map: &mut M, other: &mut M) -> Result<Option<usize>, MapError> {
+        let overlaid = is_overlaid(map, other, self.0)?;
+        let restricted = is_restricted(map, other, self.0)?;
+        let left = is_left(map, other, self.0)?;
+        Ok(wrong_unless(overlaid && restricted && left))
     }
 }
 

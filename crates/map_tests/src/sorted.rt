@@ -1,18 +1,23 @@
 //! Maps built of ranges that are in order.
 
 use crate::support::{
-    NumberItem, Range, Row, Table, check_each, closed, filled, numbered, stores, wrong_unless,
+    Map, NumberItem, Played, Range, Row, Trial, Tried, check, closed, fill, numbered, wrong_unless,
 };
 use range_map::map::{MapError, NotSorted, RangeMap};
 use range_store::storage::Storage;
 use std::alloc::Global;
 use std::test::Fail;
 
-fn from_sorted<C: Storage<NumberItem>>(
-    alloc: Global,
-    pairs: Vec<(Range, i64)>,
-) -> Result<RangeMap<i32, i64, C>, NotSorted> {
-    RangeMap::from_sorted(alloc, pairs)
+/// A map that is built of ranges in order.
+pub trait Built {
+    fn become_sorted(&mut self, alloc: Global, pairs: Vec<(Range, i64)>) -> Result<(), NotSorted>;
+}
+
+impl<C: Storage<NumberItem>> Built for Map<C> {
+    fn become_sorted(&mut self, alloc: Global, pairs: Vec<(Range, i64)>) -> Result<(), NotSorted> {
+        *self = RangeMap::from_sorted(alloc, pairs)?;
+        Ok(())
+    }
 }
 
 fn pairs_of(alloc: Global, rows: &[Row]) -> Result<Vec<(Range, i64)>, MapError> {
@@ -31,25 +36,35 @@ struct Sorted<'a> {
     outcome: Result<&'a [Row], usize>,
 }
 
-fn ends_so<C: Storage<NumberItem>>(
-    built: Result<RangeMap<i32, i64, C>, NotSorted>,
+/// Whether the map of the pairs stores the rows, or the first that is not in order is told.
+fn ends_so<M: Played + Built>(
+    alloc: Global,
+    map: &mut M,
+    pairs: Vec<(Range, i64)>,
     outcome: Result<&[Row], usize>,
 ) -> bool {
-    match (built, outcome) {
-        (Ok(map), Ok(rows)) => stores(&map, rows),
+    match (map.become_sorted(alloc, pairs), outcome) {
+        (Ok(()), Ok(rows)) => map.stores(rows),
         (Err(NotSorted::OutOfOrder(index)), Err(place)) => index == place,
         (_, _) => false,
     }
 }
 
-impl<'a> Table<NumberItem> for Sorted<'a> {
-    fn first_wrong<C: Storage<NumberItem>>(
+/// A map that is built of the ranges of a row.
+#[derive(Clone, Copy)]
+struct Building<'a> {
+    alloc: Global,
+    row: Sorted<'a>,
+}
+
+impl<'a> Trial for Building<'a> {
+    fn first_wrong<M: Tried>(
         &self,
-        alloc: Global,
+        map: &mut M,
+        _other: &mut M,
     ) -> Result<Option<usize>, MapError> {
-        let pairs = pairs_of(alloc, self.pairs)?;
-        let built = from_sorted::<C>(alloc, pairs);
-        Ok(wrong_unless(ends_so(built, self.outcome)))
+        let pairs = pairs_of(self.alloc, self.row.pairs)?;
+        Ok(wrong_unless(ends_so(self.alloc, map, pairs, self.row.outcome)))
     }
 }
 
@@ -81,7 +96,17 @@ fn built_where_sorted(rt: HostRuntime) -> Result<(), Fail> {
             outcome: Err(1),
         },
     ];
-    check_each(&rt, rt.alloc(), &rows)
+    for row in rows {
+        check(
+            &rt,
+            rt.alloc(),
+            &Building {
+                alloc: rt.alloc(),
+                row,
+            },
+        )?;
+    }
+    Ok(())
 }
 
 /// The first so many numbered ranges, each with its number.
@@ -93,34 +118,28 @@ fn numbered_pairs(alloc: Global, count: u16) -> Result<Vec<(Range, i64)>, MapErr
     Ok(pairs)
 }
 
-fn is_equal<C: Storage<NumberItem>>(
-    built: Result<RangeMap<i32, i64, C>, NotSorted>,
-    map: &RangeMap<i32, i64, C>,
-) -> bool {
-    match built {
-        Ok(new) => new == *map,
-        Err(_) => false,
-    }
+/// A map of so many ranges.
+#[derive(Clone, Copy)]
+struct Count {
+    alloc: Global,
+    count: u16,
 }
 
-/// How many ranges there are.
-#[derive(Clone, Copy)]
-struct Count(u16);
-
-impl Table<NumberItem> for Count {
-    fn first_wrong<C: Storage<NumberItem>>(
-        &self,
-        alloc: Global,
-    ) -> Result<Option<usize>, MapError> {
-        let map = filled::<C>(alloc, self.0)?;
-        let pairs = numbered_pairs(alloc, self.0)?;
-        let built = from_sorted::<C>(alloc, pairs);
-        Ok(wrong_unless(is_equal(built, &map)))
+impl Trial for Count {
+    fn first_wrong<M: Tried>(&self, map: &mut M, other: &mut M) -> Result<Option<usize>, MapError> {
+        fill(map, self.count)?;
+        let pairs = numbered_pairs(self.alloc, self.count)?;
+        let built = other.become_sorted(self.alloc, pairs).is_ok();
+        Ok(wrong_unless(built && other.equals(map)))
     }
 }
 
 /// Over trees of one to three levels.
 #[test]
 fn built_as_by_insertions(rt: HostRuntime) -> Result<(), Fail> {
-    check_each(&rt, rt.alloc(), &[Count(4), Count(30), Count(300)])
+    let alloc = rt.alloc();
+    for count in [4, 30, 300] {
+        check(&rt, alloc, &Count { alloc, count })?;
+    }
+    Ok(())
 }

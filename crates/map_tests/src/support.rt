@@ -9,7 +9,10 @@ use crate::counted::Counted;
 use crate::ends::Ended;
 use crate::iterators::Iterated;
 use crate::lookups::Cloned;
+use crate::mapping::Mapped;
+use crate::overlays::Overlaid;
 use crate::reads::LookedUp;
+use crate::sorted::Built;
 use crate::spelling::Written;
 use crate::splitting::Split;
 use crate::text::Shown;
@@ -284,6 +287,7 @@ pub fn first_wrong<M: Played>(map: &mut M, steps: &[Step<'_>]) -> Result<Option<
 /// A map over some container, with all that is tried on it.
 pub trait Tried: Played
     + Appended
+    + Built
     + Changed
     + Cloned
     + Commanded
@@ -291,6 +295,8 @@ pub trait Tried: Played
     + Ended
     + Iterated
     + LookedUp
+    + Mapped
+    + Overlaid
     + Shown
     + Split
     + Summed
