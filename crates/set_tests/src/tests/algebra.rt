@@ -1,8 +1,9 @@
 //! Sets made of two others, over either container each.
 
-use crate::tests::support::Keys::{self, All, Alone, Closed, HalfOpen, Starting, UpTo};
-use crate::tests::support::{Entry, Tree, Vector, range_of};
-use btree_range_map::AnyRange;
+use crate::tests::support::Keys::{self, All, Alone, Any, Closed, HalfOpen, Starting, UpTo};
+use crate::tests::support::{
+    Call, Entry, Played, Trial, expect_none, over_tree, over_vector, range_of,
+};
 use btree_range_map::generic::map::MapError;
 use btree_range_map::generic::set::RangeSet;
 use btree_range_map::storage::Storage;
@@ -27,19 +28,6 @@ static ALL_MADE: &[Made] = &[
 ];
 
 impl Made {
-    fn of<C: Storage<Entry<u8>>, D: Storage<Entry<u8>>>(
-        self,
-        first: &RangeSet<u8, C>,
-        second: &RangeSet<u8, D>,
-    ) -> Result<RangeSet<u8, C>, MapError> {
-        match self {
-            Made::Union => first.union(second),
-            Made::Intersection => first.intersection(second),
-            Made::Difference => first.difference(second),
-            Made::SymmetricDifference => first.symmetric_difference(second),
-        }
-    }
-
     /// Whether a key is in it, by whether it is in the two.
     fn holds(self, in_first: bool, in_second: bool) -> bool {
         match self {
@@ -131,69 +119,109 @@ pub static ROWS: &[Row<'static>] = &[
     },
 ];
 
-pub fn set_of<C: Storage<Entry<u8>>>(
-    alloc: Global,
-    ranges: &[Keys<u8>],
-) -> Result<RangeSet<u8, C>, MapError> {
-    RangeSet::from_iter(alloc, ranges.iter().map(|keys| range_of(*keys)))
+/// A set of bytes that is made of others.
+pub trait Combined<O>: Played<u8> {
+    /// Becomes what is made of the two sets.
+    fn become_made(&mut self, made: Made, first: &Self, second: &O) -> Result<bool, MapError>;
+
+    /// Whether just these ranges are stored.
+    fn stores(&self, ranges: &[Keys<u8>]) -> bool;
 }
 
-/// Whether the set stores just these ranges.
-pub fn stores<C: Storage<Entry<u8>>>(set: &RangeSet<u8, C>, ranges: &[Keys<u8>]) -> bool {
-    let mut stored = set.iter();
-    for keys in ranges {
-        if stored.next() != Some(&range_of(*keys)) {
-            return false;
-        }
+impl<C: Storage<Entry<u8>>, D: Storage<Entry<u8>>> Combined<RangeSet<u8, D>> for RangeSet<u8, C> {
+    fn become_made(
+        &mut self,
+        made: Made,
+        first: &RangeSet<u8, C>,
+        second: &RangeSet<u8, D>,
+    ) -> Result<bool, MapError> {
+        *self = match made {
+            Made::Union => first.union(second),
+            Made::Intersection => first.intersection(second),
+            Made::Difference => first.difference(second),
+            Made::SymmetricDifference => first.symmetric_difference(second),
+        }?;
+        Ok(true)
     }
-    stored.next().is_none()
+
+    fn stores(&self, ranges: &[Keys<u8>]) -> bool {
+        let mut stored = self.iter();
+        for keys in ranges {
+            if stored.next() != Some(&range_of(*keys)) {
+                return false;
+            }
+        }
+        stored.next().is_none()
+    }
 }
 
 /// Whether what is made of the two sets stores what the row tells.
-fn are_made_so<C: Storage<Entry<u8>>, D: Storage<Entry<u8>>>(
-    first: &RangeSet<u8, C>,
-    second: &RangeSet<u8, D>,
+fn are_made_so<S: Combined<O>, O: Played<u8>>(
+    set: &mut S,
+    first: &S,
+    second: &O,
     row: &Row<'static>,
 ) -> Result<bool, MapError> {
     for made in ALL_MADE {
-        let set = made.of(first, second)?;
-        if !stores(&set, made.right(row)) {
+        set.become_made(*made, first, second)?;
+        if !set.stores(made.right(row)) {
             return Ok(false);
         }
     }
     Ok(true)
 }
 
-fn is_made_so<C: Storage<Entry<u8>>, D: Storage<Entry<u8>>>(
+fn is_made_so<S: Combined<O>, O: Played<u8>>(
     alloc: Global,
+    set: &mut S,
+    first: &mut S,
+    second: &mut O,
     row: &Row<'static>,
 ) -> Result<bool, MapError> {
-    let first: RangeSet<u8, C> = set_of(alloc, row.first)?;
-    let second: RangeSet<u8, D> = set_of(alloc, row.second)?;
-    are_made_so(&first, &second, row)
+    first.gather(alloc, row.first)?;
+    second.gather(alloc, row.second)?;
+    are_made_so(set, first, second, row)
 }
 
-/// The index of the first row that does not agree, over these two containers.
-fn first_wrong<C: Storage<Entry<u8>>, D: Storage<Entry<u8>>>(
+/// The index of the first row that does not agree.
+fn first_wrong<S: Combined<O>, O: Played<u8>>(
     alloc: Global,
+    set: &mut S,
+    first: &mut S,
+    second: &mut O,
 ) -> Result<Option<usize>, MapError> {
     for (place, row) in ROWS.iter().enumerate() {
-        if !is_made_so::<C, D>(alloc, row)? {
+        if !is_made_so(alloc, set, first, second, row)? {
             return Ok(Some(place));
         }
     }
     Ok(None)
 }
 
+/// Sets over one container, put together with sets over another.
+struct Rows;
+
+impl Trial<u8> for Rows {
+    fn first_wrong<C: Storage<Entry<u8>>, D: Storage<Entry<u8>>>(
+        &self,
+        alloc: Global,
+    ) -> Result<Option<usize>, MapError> {
+        let mut set: RangeSet<u8, C> = RangeSet::new(alloc);
+        let mut first: RangeSet<u8, C> = RangeSet::new(alloc);
+        let mut second: RangeSet<u8, D> = RangeSet::new(alloc);
+        first_wrong(alloc, &mut set, &mut first, &mut second)
+    }
+}
+
 #[test]
 fn vectors_are_put_together_with_trees(rt: HostRuntime) -> Result<(), Fail> {
-    assert_eq!(rt; first_wrong::<Vector<u8>, Tree<u8>>(rt.alloc())?, None);
+    expect_none(&rt, over_vector(rt.alloc(), &Rows)?);
     Ok(())
 }
 
 #[test]
 fn trees_are_put_together_with_vectors(rt: HostRuntime) -> Result<(), Fail> {
-    assert_eq!(rt; first_wrong::<Tree<u8>, Vector<u8>>(rt.alloc())?, None);
+    expect_none(&rt, over_tree(rt.alloc(), &Rows)?);
     Ok(())
 }
 
@@ -202,48 +230,46 @@ fn next_number(number: u32) -> u32 {
 }
 
 /// Up to eight keys, taken from one number.
-fn drawn(number: u32) -> AnyRange<u8> {
+fn drawn(number: u32) -> Keys<u8> {
     let first = (number / 256 % 256) as u8;
     let last = first.saturating_add((number / 65536 % 8) as u8);
-    AnyRange::new(Bound::Included(first), Bound::Included(last))
+    Any(Bound::Included(first), Bound::Included(last))
 }
 
-/// A set of up to 20 ranges, drawn from a number on.
-pub fn drawn_set<C: Storage<Entry<u8>>>(
-    alloc: Global,
-    number: u32,
-) -> Result<RangeSet<u8, C>, MapError> {
-    let mut set: RangeSet<u8, C> = RangeSet::new(alloc);
+/// Becomes a set of up to 20 ranges, drawn from a number on.
+pub fn draw<S: Played<u8>>(set: &mut S, number: u32) -> Result<bool, MapError> {
+    set.call(All, Call::Remove)?;
     let mut number = number;
     for _ in 0..20 {
         number = next_number(number);
-        set.insert(drawn(number))?;
+        set.call(drawn(number), Call::Insert)?;
     }
-    Ok(set)
+    Ok(true)
 }
 
 /// Whether the set holds each byte just where it has to, by whether the two hold it.
-pub fn holds_rightly<C: Storage<Entry<u8>>, D: Storage<Entry<u8>>>(
-    set: &RangeSet<u8, C>,
+pub fn holds_rightly<S: Played<u8>, O: Played<u8>>(
+    set: &S,
     made: Made,
-    first: &RangeSet<u8, C>,
-    second: &RangeSet<u8, D>,
+    first: &S,
+    second: &O,
 ) -> bool {
     for key in 0..=255 {
-        if set.contains(key) != made.holds(first.contains(key), second.contains(key)) {
+        if set.holds(key) != made.holds(first.holds(key), second.holds(key)) {
             return false;
         }
     }
     true
 }
 
-fn agree<C: Storage<Entry<u8>>, D: Storage<Entry<u8>>>(
-    first: &RangeSet<u8, C>,
-    second: &RangeSet<u8, D>,
+fn agree<S: Combined<O>, O: Played<u8>>(
+    set: &mut S,
+    first: &S,
+    second: &O,
 ) -> Result<bool, MapError> {
     for made in ALL_MADE {
-        let set = made.of(first, second)?;
-        if !holds_rightly(&set, *made, first, second) {
+        set.become_made(*made, first, second)?;
+        if !holds_rightly(set, *made, first, second) {
             return Ok(false);
         }
     }
@@ -251,19 +277,48 @@ fn agree<C: Storage<Entry<u8>>, D: Storage<Entry<u8>>>(
 }
 
 /// Whether sets that are drawn from two numbers agree with what is made of them.
-fn drawn_agree(alloc: Global, number: u32) -> Result<bool, MapError> {
-    let first: RangeSet<u8, Tree<u8>> = drawn_set(alloc, number)?;
-    let second: RangeSet<u8, Vector<u8>> = drawn_set(alloc, !number)?;
-    agree(&first, &second)
+fn drawn_agree<S: Combined<O>, O: Played<u8>>(
+    set: &mut S,
+    first: &mut S,
+    second: &mut O,
+    number: u32,
+) -> Result<bool, MapError> {
+    draw(first, number)?;
+    draw(second, !number)?;
+    agree(set, first, second)
+}
+
+/// The first of twelve numbers from which sets are drawn that do not agree.
+fn first_unlike<S: Combined<O>, O: Played<u8>>(
+    set: &mut S,
+    first: &mut S,
+    second: &mut O,
+) -> Result<Option<usize>, MapError> {
+    for seed in 0u32..12 {
+        if !drawn_agree(set, first, second, seed.wrapping_mul(77777))? {
+            return Ok(Some(seed as usize));
+        }
+    }
+    Ok(None)
+}
+
+/// Sets that are drawn.
+struct DrawnSets;
+
+impl Trial<u8> for DrawnSets {
+    fn first_wrong<C: Storage<Entry<u8>>, D: Storage<Entry<u8>>>(
+        &self,
+        alloc: Global,
+    ) -> Result<Option<usize>, MapError> {
+        let mut set: RangeSet<u8, C> = RangeSet::new(alloc);
+        let mut first: RangeSet<u8, C> = RangeSet::new(alloc);
+        let mut second: RangeSet<u8, D> = RangeSet::new(alloc);
+        first_unlike(&mut set, &mut first, &mut second)
+    }
 }
 
 #[test]
 fn bytes_are_held_by_which_set_holds_them(rt: HostRuntime) -> Result<(), Fail> {
-    for seed in 0u32..12 {
-        assert!(rt;
-            drawn_agree(rt.alloc(), seed.wrapping_mul(77777))?,
-            "{seed}"
-        );
-    }
+    expect_none(&rt, over_tree(rt.alloc(), &DrawnSets)?);
     Ok(())
 }

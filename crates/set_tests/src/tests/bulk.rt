@@ -1,63 +1,15 @@
 //! Insertions where nothing is in the way, and ranges that are kept as a closure says.
 
-use crate::tests::support::{Entry, Tree, Vector};
+use crate::tests::pairs::{add_pairs, first_false};
+use crate::tests::support::Keys::HalfOpen;
+use crate::tests::support::{Call, Entry, Played, Trial, passes_bytes};
 use btree_range_map::generic::map::MapError;
 use btree_range_map::generic::set::{NotAdded, RangeSet};
 use btree_range_map::storage::Storage;
 use btree_range_map::{AnyRange, IntoRange};
 use std::alloc::Global;
-use std::ops::Bound;
+use std::ops::{Bound, Range};
 use std::test::Fail;
-
-type Bytes<C> = RangeSet<u8, C>;
-
-fn range_from_to(first: u8, end: u8) -> AnyRange<u8> {
-    (first..end).into_range()
-}
-
-/// Every fourth byte and the one after it, from 0 to 77.
-fn pairs<C: Storage<Entry<u8>>>(alloc: Global) -> Result<Bytes<C>, MapError> {
-    let mut set: Bytes<C> = RangeSet::new(alloc);
-    for number in 0u8..20 {
-        let first = number.wrapping_mul(4);
-        set.insert(first..first.wrapping_add(2))?;
-    }
-    Ok(set)
-}
-
-/// Whether the range is not added, and is handed back.
-fn is_hindered<C: Storage<Entry<u8>>>(set: &mut Bytes<C>, first: u8, end: u8) -> bool {
-    match set.try_insert(first..end) {
-        Err(NotAdded::Occupied(range)) => range == range_from_to(first, end),
-        Err(NotAdded::Memory(_range)) => false,
-        Ok(()) => false,
-    }
-}
-
-fn is_added<C: Storage<Entry<u8>>>(set: &mut Bytes<C>, first: u8, end: u8) -> bool {
-    set.try_insert(first..end).is_ok()
-}
-
-/// Whether what meets a stored range is refused, and what only touches some is joined with them.
-fn tried<C: Storage<Entry<u8>>>(set: &mut Bytes<C>) -> [bool; 6] {
-    [
-        is_hindered(set, 5, 200),
-        is_hindered(set, 0, 1) && set.range_count() == 20,
-        is_added(set, 6, 8) && set.range_count() == 19,
-        is_added(set, 100, 200) && set.range_count() == 20,
-        is_added(set, 30, 20) && set.range_count() == 20,
-        set.len() == 142 && set.covers(4..10) && !set.contains(99),
-    ]
-}
-
-#[test]
-fn ranges_are_added_where_nothing_is_in_the_way(rt: HostRuntime) -> Result<(), Fail> {
-    let mut vector: Bytes<Vector<u8>> = pairs(rt.alloc())?;
-    assert_eq!(rt; tried(&mut vector), [true; 6]);
-    let mut tree: Bytes<Tree<u8>> = pairs(rt.alloc())?;
-    assert_eq!(rt; tried(&mut tree), [true; 6]);
-    Ok(())
-}
 
 /// Whether the range starts at an even number of pairs.
 fn is_even(range: &AnyRange<u8>) -> bool {
@@ -67,26 +19,132 @@ fn is_even(range: &AnyRange<u8>) -> bool {
     }
 }
 
+/// Which ranges of a set are kept.
+#[derive(Clone, Copy)]
+enum Kept {
+    Even,
+    All,
+    None,
+}
+
+impl Kept {
+    fn keeps(self, range: &AnyRange<u8>) -> bool {
+        match self {
+            Kept::Even => is_even(range),
+            Kept::All => true,
+            Kept::None => false,
+        }
+    }
+}
+
+/// A set of bytes of which many ranges are changed.
+trait Changed: Played<u8> {
+    /// Whether the range is added just where that is told, and is handed back where another is in
+    /// the way.
+    fn tries(&mut self, range: Range<u8>, added: bool) -> bool;
+
+    fn covers_all(&self, range: Range<u8>) -> bool;
+
+    fn has_count(&self, count: usize) -> bool;
+
+    /// Returns how many ranges the closure is asked of.
+    fn keep(&mut self, kept: Kept) -> u8;
+}
+
+impl<C: Storage<Entry<u8>>> Changed for RangeSet<u8, C> {
+    fn tries(&mut self, range: Range<u8>, added: bool) -> bool {
+        let wanted = range.into_range();
+        match self.try_insert(wanted) {
+            Ok(()) => added,
+            Err(NotAdded::Occupied(given)) => !added && given == wanted,
+            Err(NotAdded::Memory(_range)) => false,
+        }
+    }
+
+    fn covers_all(&self, range: Range<u8>) -> bool {
+        self.covers(range)
+    }
+
+    fn has_count(&self, count: usize) -> bool {
+        self.range_count() == count
+    }
+
+    fn keep(&mut self, kept: Kept) -> u8 {
+        let mut asked = 0u8;
+        self.retain(|range| {
+            asked = asked.wrapping_add(1);
+            kept.keeps(range)
+        });
+        asked
+    }
+}
+
+/// Whether what meets a stored range is refused, and what only touches some is joined with them.
+fn tried<S: Changed>(set: &mut S) -> Result<Option<usize>, MapError> {
+    add_pairs(set)?;
+    let held = [
+        set.tries(5..200, false),
+        set.tries(0..1, false) && set.has_count(20),
+        set.tries(6..8, true) && set.has_count(19),
+        set.tries(100..200, true) && set.has_count(20),
+        set.tries(30..20, true) && set.has_count(20),
+        set.has_size(20, 142) && set.covers_all(4..10) && !set.holds(99),
+    ];
+    Ok(first_false(&held))
+}
+
+/// Insertions into a set of pairs.
+struct Additions;
+
+impl Trial<u8> for Additions {
+    fn first_wrong<C: Storage<Entry<u8>>, D: Storage<Entry<u8>>>(
+        &self,
+        alloc: Global,
+    ) -> Result<Option<usize>, MapError> {
+        let mut set: RangeSet<u8, C> = RangeSet::new(alloc);
+        tried(&mut set)
+    }
+}
+
+#[test]
+fn ranges_are_added_where_nothing_is_in_the_way(rt: HostRuntime) -> Result<(), Fail> {
+    passes_bytes(&rt, rt.alloc(), &Additions)
+}
+
 /// How many ranges the closure is asked of, and what is left.
-fn kept<C: Storage<Entry<u8>>>(set: &mut Bytes<C>) -> [bool; 5] {
-    let mut asked = 0u8;
-    set.retain(|range| {
-        asked = asked.wrapping_add(1);
-        is_even(range)
-    });
-    let halved = set.range_count() == 10 && set.len() == 20;
-    let right = set.covers(0..2) && !set.intersects(2..8) && set.covers(72..74);
-    set.retain(|_range| true);
-    let whole = set.range_count() == 10;
-    set.retain(|_range| false);
-    [asked == 20, halved, right, whole, set.is_empty()]
+fn keeps_so<S: Changed>(set: &mut S) -> Result<Option<usize>, MapError> {
+    add_pairs(set)?;
+    let asked = set.keep(Kept::Even);
+    let halved = set.has_size(10, 20);
+    let right = set.covers_all(0..2) && set.covers_all(72..74);
+    let apart = set.call(HalfOpen(2, 8), Call::Meets(false))?;
+    set.keep(Kept::All);
+    let whole = set.has_count(10);
+    set.keep(Kept::None);
+    let held = [
+        asked == 20,
+        halved,
+        right && apart,
+        whole,
+        set.has_size(0, 0),
+    ];
+    Ok(first_false(&held))
+}
+
+/// Ranges that are kept in a set of pairs.
+struct Retained;
+
+impl Trial<u8> for Retained {
+    fn first_wrong<C: Storage<Entry<u8>>, D: Storage<Entry<u8>>>(
+        &self,
+        alloc: Global,
+    ) -> Result<Option<usize>, MapError> {
+        let mut set: RangeSet<u8, C> = RangeSet::new(alloc);
+        keeps_so(&mut set)
+    }
 }
 
 #[test]
 fn ranges_are_kept_as_a_closure_says(rt: HostRuntime) -> Result<(), Fail> {
-    let mut vector: Bytes<Vector<u8>> = pairs(rt.alloc())?;
-    assert_eq!(rt; kept(&mut vector), [true; 5]);
-    let mut tree: Bytes<Tree<u8>> = pairs(rt.alloc())?;
-    assert_eq!(rt; kept(&mut tree), [true; 5]);
-    Ok(())
+    passes_bytes(&rt, rt.alloc(), &Retained)
 }

@@ -509,6 +509,21 @@ impl<'a, T: Key> Trial<T> for Table<'a, T> {
     }
 }
 
+/// No step was named as a wrong one.
+pub fn expect_none(rt: &impl Abort, wrong: Option<usize>) {
+    assert!(rt; wrong.is_none(), "the step {wrong:?}");
+}
+
+/// The first step of a trial of bytes that does not hold over a vector, beside a tree.
+pub fn over_vector<X: Trial<u8>>(alloc: Global, trial: &X) -> Result<Option<usize>, MapError> {
+    trial.first_wrong::<Vector<u8>, Tree<u8>>(alloc)
+}
+
+/// The first step of a trial of bytes that does not hold over a tree, beside a vector.
+pub fn over_tree<X: Trial<u8>>(alloc: Global, trial: &X) -> Result<Option<usize>, MapError> {
+    trial.first_wrong::<Tree<u8>, Vector<u8>>(alloc)
+}
+
 /// The first step that does not hold over a vector, and over a tree.
 pub fn over_both<T: Copy + PartialEq + Drop, X: Trial<T>>(
     alloc: Global,

@@ -3,7 +3,7 @@
 use crate::tests::support::Keys::{
     self, Above, AboveUpTo, All, Alone, Any, Below, Between, Closed, HalfOpen, Starting, UpTo,
 };
-use crate::tests::support::{Called, call_spelled, went};
+use crate::tests::support::{Called, Played as PlayedSet, call_spelled, went};
 use btree_range_map::generic::map::MapError;
 use btree_range_map::storage::{Item, Storage};
 use btree_range_map::{
@@ -247,71 +247,94 @@ fn meetings_in_every_spelling(rt: HostRuntime) -> Result<(), Fail> {
     plays(&rt, rt.alloc(), MEETINGS_IN_EVERY_SPELLING)
 }
 
-fn fill<C: Storage<ByteItem>>(set: &mut Bytes<C>) -> Result<(), MapError> {
-    set.extend([0..10, 20..30, 10..15])
-}
-
 /// The first and the last key of a gap.
 fn ends_of(gap: AnyRange<&u8>) -> Result<(Option<u8>, Option<u8>), AllocError> {
     let gap = gap.cloned()?;
     Ok((gap.first()?, gap.last()?))
 }
 
-/// Whether the gaps of the set go from these first keys to these last ones.
-fn has_gaps<C: Storage<ByteItem>>(set: &Bytes<C>, rows: &[(u8, u8)]) -> Result<bool, MapError> {
-    let mut left = rows;
-    let mut gaps = set.gaps();
-    while let Some(gap) = gaps.next() {
-        let Some((row, rest)) = left.split_first() else {
-            return Ok(false);
-        };
-        if ends_of(gap)? != (Some(row.0), Some(row.1)) {
-            return Ok(false);
-        }
-        left = rest;
+/// A set of bytes over some container.
+trait Toured: PlayedSet<u8> {
+    /// Adds the keys 0 to 14 and 20 to 29.
+    fn fill(&mut self) -> Result<bool, MapError>;
+
+    /// Whether the gaps go from these first keys to these last ones.
+    fn has_gaps(&self, rows: &[(u8, u8)]) -> Result<bool, MapError>;
+
+    /// Whether no range of the other set meets it.
+    fn lies_apart(&self, others: &Self) -> bool;
+
+    /// Takes a key away.
+    fn remove_key(&mut self, key: u8) -> Result<bool, MapError>;
+}
+
+impl<C: Storage<ByteItem>> Toured for Bytes<C> {
+    fn fill(&mut self) -> Result<bool, MapError> {
+        went(self.extend([0..10, 20..30, 10..15]))
     }
-    Ok(left.is_empty())
-}
 
-/// Whether no range of the one set meets the other.
-fn lie_apart<C: Storage<ByteItem>>(set: &Bytes<C>, others: &Bytes<C>) -> bool {
-    for range in others {
-        if set.intersects(*range) {
-            return false;
+    fn has_gaps(&self, rows: &[(u8, u8)]) -> Result<bool, MapError> {
+        let mut left = rows;
+        let mut gaps = self.gaps();
+        while let Some(gap) = gaps.next() {
+            let Some((row, rest)) = left.split_first() else {
+                return Ok(false);
+            };
+            if ends_of(gap)? != (Some(row.0), Some(row.1)) {
+                return Ok(false);
+            }
+            left = rest;
         }
+        Ok(left.is_empty())
     }
-    true
+
+    fn lies_apart(&self, others: &Self) -> bool {
+        for range in others {
+            if self.intersects(*range) {
+                return false;
+            }
+        }
+        true
+    }
+
+    fn remove_key(&mut self, key: u8) -> Result<bool, MapError> {
+        went(self.remove(key))
+    }
 }
 
-/// Whether the other set holds so many keys, among them 3 and not 20.
-fn holds_the_others<C: Storage<ByteItem>>(others: &Bytes<C>) -> bool {
-    others.len() == 232 && others.contains(3) && !others.contains(20)
-}
-
-fn has_complement<C: Storage<ByteItem>>(set: &Bytes<C>) -> Result<bool, MapError> {
-    let others = set.complement()?;
-    Ok(holds_the_others(&others) && lie_apart(set, &others))
-}
-
-fn is_filled<C: Storage<ByteItem>>(set: &Bytes<C>) -> bool {
-    set.range_count() == 2 && set.contains(14) && !set.contains(15)
+/// Whether the other set is the complement: it holds so many keys, among them 3 and not 20.
+fn has_complement<S: Toured>(set: &S, others: &mut S) -> Result<bool, MapError> {
+    others.become_copy(set)?;
+    others.become_complement()?;
+    let held = others.has_size(3, 232) && others.holds(3) && !others.holds(20);
+    Ok(held && set.lies_apart(others))
 }
 
 /// Takes the key 3 away, and tells whether keys and gaps are as they have to be then.
-fn is_cut<C: Storage<ByteItem>>(set: &mut Bytes<C>) -> Result<bool, MapError> {
-    set.remove(3u8)?;
-    Ok(set.len() == 24 && has_gaps(set, &[(3, 3), (15, 19), (30, 255)])?)
+fn is_cut<S: Toured>(set: &mut S) -> Result<bool, MapError> {
+    set.remove_key(3)?;
+    Ok(set.has_size(3, 24) && set.has_gaps(&[(3, 3), (15, 19), (30, 255)])?)
 }
 
 /// Fills the set and cuts it, and tells whether it and its complement are as they have to be.
-fn tours<C: Storage<ByteItem>>(set: &mut Bytes<C>) -> Result<bool, MapError> {
-    fill(set)?;
-    Ok(is_filled(set) && is_cut(set)? && has_complement(set)?)
+fn tours<S: Toured>(set: &mut S, others: &mut S) -> Result<bool, MapError> {
+    set.fill()?;
+    let filled = set.has_size(2, 25) && set.holds(14) && !set.holds(15);
+    Ok(filled && is_cut(set)? && has_complement(set, others)?)
+}
+
+/// What `tours` tells of sets over some container.
+fn tours_over<C: Storage<ByteItem>>(
+    set: &mut Bytes<C>,
+    others: &mut Bytes<C>,
+) -> Result<bool, MapError> {
+    tours(set, others)
 }
 
 #[test]
 fn a_tour_of_sets(rt: HostRuntime) -> Result<(), Fail> {
     let mut set: ByteSet = RangeSet::new(rt.alloc());
-    assert!(rt; tours(&mut set)?);
+    let mut others: ByteSet = RangeSet::new(rt.alloc());
+    assert!(rt; tours_over(&mut set, &mut others)?);
     Ok(())
 }

@@ -1,7 +1,7 @@
 //! Two sets at once, over either container each: how they lie to one another, and what they make
 //! together.
 use crate::tests::support::Keys::{self, Closed, HalfOpen, Starting, UpTo};
-use crate::tests::support::{Entry, Tree, Vector, set_of};
+use crate::tests::support::{Entry, Played, Trial, passes_bytes};
 use btree_range_map::generic::map::MapError;
 use btree_range_map::generic::set::RangeSet;
 use btree_range_map::storage::Storage;
@@ -87,36 +87,78 @@ static ROWS: &[Row<'static>] = &[
     },
 ];
 
-/// Whether the two sets lie to one another as the row tells.
-fn lie_so<C: Storage<Entry<u8>>, D: Storage<Entry<u8>>>(
-    first: &RangeSet<u8, C>,
-    second: &RangeSet<u8, D>,
-    row: &Row<'static>,
-) -> bool {
-    first.is_disjoint(second) == row.disjoint
-        && first.is_subset(second) == row.subset
-        && first.is_superset(second) == row.superset
+/// A set that lies to one over another container.
+trait Beside<O> {
+    /// Whether it is disjoint from the other, a subset of it and a superset of it.
+    fn lies_to(&self, other: &O) -> [bool; 3];
 }
 
-/// The index of the first row of which the sets lie otherwise, over these two containers.
-fn first_other<C: Storage<Entry<u8>>, D: Storage<Entry<u8>>>(
+impl<C: Storage<Entry<u8>>, D: Storage<Entry<u8>>> Beside<RangeSet<u8, D>> for RangeSet<u8, C> {
+    fn lies_to(&self, other: &RangeSet<u8, D>) -> [bool; 3] {
+        [
+            self.is_disjoint(other),
+            self.is_subset(other),
+            self.is_superset(other),
+        ]
+    }
+}
+
+/// Whether the two sets lie to one another as the row tells.
+fn lie_so<S: Played<u8> + Beside<O>, O: Played<u8>>(
     alloc: Global,
+    first: &mut S,
+    second: &mut O,
+    row: &Row<'static>,
+) -> Result<bool, MapError> {
+    first.gather(alloc, row.first)?;
+    second.gather(alloc, row.second)?;
+    Ok(first.lies_to(second) == [row.disjoint, row.subset, row.superset])
+}
+
+/// The index of the first row of which the sets lie otherwise.
+fn first_other<S: Played<u8> + Beside<O>, O: Played<u8>>(
+    alloc: Global,
+    first: &mut S,
+    second: &mut O,
 ) -> Result<Option<usize>, MapError> {
     for (place, row) in ROWS.iter().enumerate() {
-        let first: RangeSet<u8, C> = set_of(alloc, row.first)?;
-        let second: RangeSet<u8, D> = set_of(alloc, row.second)?;
-        if !lie_so(&first, &second, row) {
+        if !lie_so(alloc, first, second, row)? {
             return Ok(Some(place));
         }
     }
     Ok(None)
 }
 
+/// Sets over one container and over another.
+struct Rows;
+
+impl Trial<u8> for Rows {
+    fn first_wrong<C: Storage<Entry<u8>>, D: Storage<Entry<u8>>>(
+        &self,
+        alloc: Global,
+    ) -> Result<Option<usize>, MapError> {
+        let mut first: RangeSet<u8, C> = RangeSet::new(alloc);
+        let mut second: RangeSet<u8, D> = RangeSet::new(alloc);
+        first_other(alloc, &mut first, &mut second)
+    }
+}
+
+/// Sets over one container.
+struct RowsWithin;
+
+impl Trial<u8> for RowsWithin {
+    fn first_wrong<C: Storage<Entry<u8>>, D: Storage<Entry<u8>>>(
+        &self,
+        alloc: Global,
+    ) -> Result<Option<usize>, MapError> {
+        let mut first: RangeSet<u8, C> = RangeSet::new(alloc);
+        let mut second: RangeSet<u8, C> = RangeSet::new(alloc);
+        first_other(alloc, &mut first, &mut second)
+    }
+}
+
 #[test]
 fn sets_lie_so_to_one_another(rt: HostRuntime) -> Result<(), Fail> {
-    let vectors = first_other::<Vector<u8>, Vector<u8>>(rt.alloc())?;
-    let to_vectors = first_other::<Tree<u8>, Vector<u8>>(rt.alloc())?;
-    let to_trees = first_other::<Vector<u8>, Tree<u8>>(rt.alloc())?;
-    assert_eq!(rt; [vectors, to_vectors, to_trees], [None; 3]);
-    Ok(())
+    passes_bytes(&rt, rt.alloc(), &RowsWithin)?;
+    passes_bytes(&rt, rt.alloc(), &Rows)
 }
