@@ -101,6 +101,6 @@ pub fn expect_same(rt: &impl Abort, tree: &Tree, list: &List) {
 pub fn play_both(rt: &impl Abort, both: &mut Both, call: Call) -> Result<Answer, AllocError> {
     let answer = play_tree(&mut both.tree, call)?;
     let told = play_list(&mut both.list, call)?;
-    assert!(rt; answer == told, "at {call:?}");
+    assert!(rt; answer == told, "a tree answers otherwise than a vector");
     Ok(answer)
 }

@@ -6,7 +6,7 @@ use range_store::storage::Storage;
 use std::alloc::AllocError;
 
 /// A call at a rank.
-#[derive(Clone, Copy, Debug)]
+#[derive(Clone, Copy)]
 pub enum Call {
     /// Puts an item at a rank, and looks at what stands round the answered position.
     Put(usize, u64),

@@ -1,6 +1,6 @@
 //! Copies of trees that were larger once.
 
-use crate::both::{Tree, copy_of_tree, expect_levels, expect_same, list_of, shrunk_tree};
+use crate::both::{List, Tree, copy_of_tree, expect_levels, expect_same, list_of, shrunk_tree};
 use std::alloc::{AllocError, Global};
 use std::process::Abort;
 
@@ -22,6 +22,12 @@ fn copy_again(tree: &Tree) -> Result<Tree, AllocError> {
     }
 }
 
+/// The tree has so many items, on so many levels, which are those that the vector has.
+fn expect_items(rt: &impl Abort, tree: &Tree, list: &List, items: u64, levels: usize) {
+    expect_levels(rt, tree, items, levels);
+    expect_same(rt, tree, list);
+}
+
 fn expect_copy(
     rt: &impl Abort,
     alloc: Global,
@@ -29,27 +35,40 @@ fn expect_copy(
     items: u64,
     levels: usize,
 ) -> Result<(), AllocError> {
+    let list = list_of(alloc, items)?;
     let copy = copy_again(tree)?;
-    expect_levels(rt, &copy, items, levels);
-    expect_same(rt, &copy, &list_of(alloc, items)?);
+    expect_items(rt, &copy, &list, items, levels);
     Ok(())
+}
+
+fn expect_small_copy(
+    rt: &impl Abort,
+    alloc: Global,
+    (many, few, levels): (u64, u64, usize),
+) -> Result<(), AllocError> {
+    let tree = shrunk_tree(alloc, many, few as usize)?;
+    expect_copy(rt, alloc, &tree, few, levels)
 }
 
 #[test]
 fn small_copies(rt: HostRuntime) -> Result<(), AllocError> {
-    for (many, few, levels) in SHRUNK {
-        let tree = shrunk_tree(rt.alloc(), *many, *few as usize)?;
-        expect_copy(&rt, rt.alloc(), &tree, *few, *levels)?;
+    for row in SHRUNK {
+        expect_small_copy(&rt, rt.alloc(), *row)?;
     }
     Ok(())
+}
+
+/// Whether a tree that had so many items and has none is copied.
+fn is_copied(alloc: Global, many: u64) -> Result<bool, AllocError> {
+    let tree = shrunk_tree(alloc, many, 0)?;
+    Ok(copy_of_tree(&tree).is_ok())
 }
 
 /// A copy of a tree without items allocates nothing: it is made whichever allocation is refused.
 #[test]
 fn empty_copies(rt: HostRuntime) -> Result<(), AllocError> {
     for many in [0, 9, 60, 400] {
-        let tree = shrunk_tree(rt.alloc(), many, 0)?;
-        assert!(rt; copy_of_tree(&tree).is_ok(), "after {many} items");
+        assert!(rt; is_copied(rt.alloc(), many)?, "after {many} items");
     }
     Ok(())
 }
