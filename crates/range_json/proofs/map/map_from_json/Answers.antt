@@ -117,26 +117,29 @@ returns-in_err-insert_element-clause-fault g c =
     ] in
     search (rules, told)
 
-pub returns-clause-read : goal.returns-clause-read
-returns-clause-read g c =
-    let vs = c.in_ok-elements.elements.now in
-    let n = c.loop-index.index in
-    let full : n ≡ length vs =
-    omega (arith, c.loop-index-test.false, c.loop-index.auto.index-end) in
-    let all : take n vs ≡ vs = ap (λ i. take i vs) full ∙ take-length vs in
-    let whole =
-    subst (λ l.
-    IsMapSoFar g.K.MaybeBounded.order g.K.Json.reads g.V.Json.reads g.K.Json.is_read
-    g.V.Json.is_read g.V.PartialEq.eq l (g.C.Storage.items c.loop-index.map)) all
-    c.loop-index.invariant in
+pub returns : goal.returns
+returns g c =
     record {
-      ds = map view vs;
-      elements = whole.earlier;
-      whole = c.in_ok-elements.ensures.found;
-      read = whole.read;
-      bound = whole.bound;
-      kept = whole.kept;
+      fault = search rules;
+      read =
+          let vs = c.in_ok-elements.elements.now in
+          let n = c.loop-index.index in
+          let full : n ≡ length vs =
+          omega (arith, c.loop-index-test.false, c.loop-index.auto.index-end) in
+          let all : take n vs ≡ vs = ap (λ i. take i vs) full ∙ take-length vs in
+          let whole =
+          subst (λ l.
+          IsMapSoFar g.K.MaybeBounded.order g.K.Json.reads g.V.Json.reads g.K.Json.is_read
+          g.V.Json.is_read g.V.PartialEq.eq l (g.C.Storage.items c.loop-index.map)) all
+          c.loop-index.invariant in
+          record {
+            ds = map view vs;
+            elements = whole.earlier;
+            whole = c.in_ok-elements.ensures.found;
+            read = whole.read;
+            bound = whole.bound;
+            kept = whole.kept;
+          };
+      form =
+          c.loop-index.invariant.form;
     }
-
-pub returns-clause-form : goal.returns-clause-form
-returns-clause-form g c = c.loop-index.invariant.form

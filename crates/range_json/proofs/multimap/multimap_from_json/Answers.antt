@@ -142,26 +142,30 @@ returns-in_err-insert_values-clause-fault g c =
     g.V.Json.is_read g.V.Ord.cmp (view c.args.value.now) f)
     c.from_residual-in_err-insert_values.result e is told
 
-pub returns-clause-read : goal.returns-clause-read
-returns-clause-read g c =
-    let vs = c.in_ok-elements.elements.now in
-    let n = c.loop-index.index in
-    let full : n ≡ length vs =
-    omega (arith, c.loop-index-test.false, c.loop-index.auto.index-end) in
-    let all : take n vs ≡ vs = ap (λ i. take i vs) full ∙ take-length vs in
-    let whole =
-    subst (λ l. IsMapSoFar g.K.MaybeBounded.order g.K.Json.reads
-    (reads_some_values g.V.Json.reads) g.K.Json.is_read
-    (AreValuesRead g.V.Ord.cmp g.V.Json.is_read) (same_values g.V.PartialEq.eq) l
-    (g.C.Storage.items c.loop-index.multimap)) all c.loop-index.invariant in
+pub returns : goal.returns
+returns g c =
     record {
-      ds = map view vs;
-      elements = whole.earlier;
-      whole = c.in_ok-elements.ensures.found;
-      read = whole.read;
-      bound = whole.bound;
-      kept = whole.kept;
+      nonempty = search rules;
+      fault = search rules;
+      read =
+          let vs = c.in_ok-elements.elements.now in
+          let n = c.loop-index.index in
+          let full : n ≡ length vs =
+          omega (arith, c.loop-index-test.false, c.loop-index.auto.index-end) in
+          let all : take n vs ≡ vs = ap (λ i. take i vs) full ∙ take-length vs in
+          let whole =
+          subst (λ l. IsMapSoFar g.K.MaybeBounded.order g.K.Json.reads
+          (reads_some_values g.V.Json.reads) g.K.Json.is_read
+          (AreValuesRead g.V.Ord.cmp g.V.Json.is_read) (same_values g.V.PartialEq.eq) l
+          (g.C.Storage.items c.loop-index.multimap)) all c.loop-index.invariant in
+          record {
+            ds = map view vs;
+            elements = whole.earlier;
+            whole = c.in_ok-elements.ensures.found;
+            read = whole.read;
+            bound = whole.bound;
+            kept = whole.kept;
+          };
+      form =
+          c.loop-index.invariant.form;
     }
-
-pub returns-clause-form : goal.returns-clause-form
-returns-clause-form g c = c.loop-index.invariant.form

@@ -38,20 +38,21 @@ loop-range-smaller g c =
     shorter c.loop-range.items c.next.new.self
     (record { key = c.in-Some.range.now; value = c.in-Some.set.now }) c.in-Some.ensures.steps
 
-pub returns-clause-written : goal.returns-clause-written
-returns-clause-written g c =
-    let all =
-    all_written (λ i. pair_shape (range_shape g.K.Json.shape i.key)
-    (values_shape g.V.Json.shape i.value))
-    (g.C.Storage.items c.args.multimap.now) c.loop-range.items c.loop-range.written.items
-    c.in_default.ensures.steps.0 c.loop-range.invariant.written in
-    subst (λ ds. IfOk c.versioned.result (λ v. view v ≡ versioned_shape ds)) all c.versioned.ensures
-
-pub returns-clause-values : goal.returns-clause-values
-returns-clause-values g c =
-    let items = g.C.Storage.items c.args.multimap.now in
-    on_ok c.versioned.result
-    (AreItemValues g.K.Json.is_value (IsValueSet g.V.Ord.cmp g.V.Json.is_value) items)
-    (all_values (λ i. IsRangeValue g.K.Json.is_value i.key
-    × IsValueSet g.V.Ord.cmp g.V.Json.is_value i.value) items c.loop-range.items
-    c.in_default.ensures.steps.0 c.loop-range.invariant.values)
+pub returns : goal.returns
+returns g c =
+    record {
+      written =
+          let all =
+          all_written (λ i. pair_shape (range_shape g.K.Json.shape i.key)
+          (values_shape g.V.Json.shape i.value))
+          (g.C.Storage.items c.args.multimap.now) c.loop-range.items c.loop-range.written.items
+          c.in_default.ensures.steps.0 c.loop-range.invariant.written in
+          subst (λ ds. IfOk c.versioned.result (λ v. view v ≡ versioned_shape ds)) all c.versioned.ensures;
+      values =
+          let items = g.C.Storage.items c.args.multimap.now in
+          on_ok c.versioned.result
+          (AreItemValues g.K.Json.is_value (IsValueSet g.V.Ord.cmp g.V.Json.is_value) items)
+          (all_values (λ i. IsRangeValue g.K.Json.is_value i.key
+          × IsValueSet g.V.Ord.cmp g.V.Json.is_value i.value) items c.loop-range.items
+          c.in_default.ensures.steps.0 c.loop-range.invariant.values);
+    }

@@ -33,8 +33,8 @@ loop-index-preserved g c =
     (rw size c.in_ok-range.ensures.sound) c.in_ok-range.ensures.read c.known.ensures
     c.in_ok-insert.ensures.added c.insert.ensures.form c.in_ok-insert.ensures.frame)
 
-pub returns-clause-read : goal.returns-clause-read
-returns-clause-read g c =
+pub returns : goal.returns
+returns g c =
     let vs = c.in_ok-elements.elements.now in
     let n = c.loop-index.index in
     let full : n ≡ length vs =
@@ -45,29 +45,23 @@ returns-clause-read g c =
     (g.C.Storage.items c.loop-index.set)) all c.loop-index.invariant in
     let array = c.in_ok-elements.ensures.found in
     record {
-      ds = map view vs;
-      ranges = whole.ranges;
-      whole = array;
-      read = whole.read;
-      known = whole.known;
-      held =
-          all_of g.T.MaybeBounded.order
-          (g.C.Storage.items c.loop-index.set) whole.ranges whole.held;
-      kept = whole.kept;
+      form = search rules;
+      fault = search rules;
+      read =
+          record {
+            ds = map view vs;
+            ranges = whole.ranges;
+            whole = array;
+            read = whole.read;
+            known = whole.known;
+            held =
+                all_of g.T.MaybeBounded.order
+                (g.C.Storage.items c.loop-index.set) whole.ranges whole.held;
+            kept = whole.kept;
+          };
+      sound =
+          ap (array_fault (range_fault g.T.Json.reads)) array ∙ whole.sound;
     }
-
-pub returns-clause-sound : goal.returns-clause-sound
-returns-clause-sound g c =
-    let vs = c.in_ok-elements.elements.now in
-    let n = c.loop-index.index in
-    let full : n ≡ length vs =
-    omega (arith, c.loop-index-test.false, c.loop-index.auto.index-end) in
-    let all : take n vs ≡ vs = ap (λ i. take i vs) full ∙ take-length vs in
-    let whole =
-    subst (λ l. IsSetSoFar g.T.Json.reads g.T.Json.is_read g.T.MaybeBounded.order l
-    (g.C.Storage.items c.loop-index.set)) all c.loop-index.invariant in
-    let array = c.in_ok-elements.ensures.found in
-    ap (array_fault (range_fault g.T.Json.reads)) array ∙ whole.sound
 
 pub returns-in_err-range-clause-fault : goal.returns-in_err-range-clause-fault
 returns-in_err-range-clause-fault g c =

@@ -8,21 +8,22 @@ use Rattle.range_json.specs.Values.{IsRangeValue}
 use Rattle.range_json.proofs.Writing.{by_ranges, written_more, values_more, all_written, all_values, shorter}
 use Rattle.range_json.proofs.set.set_to_json.Goals as goal
 
-pub returns-clause-written : goal.returns-clause-written
-returns-clause-written g c =
-    view-Array c.loop-range.written
-    ∙ ap (λ ds. array (items_of ds))
-    (all_written (range_shape g.T.Json.shape)
-    (item_ranges (g.C.Storage.items c.args.set.now)) c.loop-range.ranges
-    c.loop-range.written.items c.in_default.ensures.steps.0 c.loop-range.invariant.written)
-
-pub returns-clause-values : goal.returns-clause-values
-returns-clause-values g c =
-    let is_value = IsRangeValue g.T.Json.is_value in
-    let items = g.C.Storage.items c.args.set.now in
-    by_ranges is_value items
-    (all_values is_value (item_ranges items) c.loop-range.ranges c.in_default.ensures.steps.0
-    c.loop-range.invariant.values)
+pub returns : goal.returns
+returns g c =
+    record {
+      written =
+          view-Array c.loop-range.written
+          ∙ ap (λ ds. array (items_of ds))
+          (all_written (range_shape g.T.Json.shape)
+          (item_ranges (g.C.Storage.items c.args.set.now)) c.loop-range.ranges
+          c.loop-range.written.items c.in_default.ensures.steps.0 c.loop-range.invariant.written);
+      values =
+          let is_value = IsRangeValue g.T.Json.is_value in
+          let items = g.C.Storage.items c.args.set.now in
+          by_ranges is_value items
+          (all_values is_value (item_ranges items) c.loop-range.ranges c.in_default.ensures.steps.0
+          c.loop-range.invariant.values);
+    }
 
 pub loop-range-init : goal.loop-range-init
 loop-range-init g c = record {

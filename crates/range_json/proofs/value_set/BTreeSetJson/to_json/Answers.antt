@@ -27,17 +27,18 @@ loop-value-init g c = record {
   values = rw c.iter-values.ensures.rest (λ later. later);
 }
 
-pub returns-clause-written : goal.returns-clause-written
-returns-clause-written g c =
-    view-Array c.loop-value.written
-    ∙ ap (λ ds. array (items_of ds))
-    (all_written g.V.Json.shape c.args.self.now.keys c.loop-value.values
-    c.loop-value.written.items c.in_default.ensures.steps.0 c.loop-value.invariant.written)
-
-pub returns-clause-known : goal.returns-clause-known
-returns-clause-known g c =
-    let keys = c.args.self.now.keys in (
-      c.iter-values.ensures.ordered,
-      all_values g.V.Json.is_value keys c.loop-value.values c.in_default.ensures.steps.0
-          c.loop-value.invariant.values,
-    )
+pub returns : goal.returns
+returns g c =
+    record {
+      written =
+          view-Array c.loop-value.written
+          ∙ ap (λ ds. array (items_of ds))
+          (all_written g.V.Json.shape c.args.self.now.keys c.loop-value.values
+          c.loop-value.written.items c.in_default.ensures.steps.0 c.loop-value.invariant.written);
+      known =
+          let keys = c.args.self.now.keys in (
+            c.iter-values.ensures.ordered,
+            all_values g.V.Json.is_value keys c.loop-value.values c.in_default.ensures.steps.0
+                c.loop-value.invariant.values,
+          );
+    }
