@@ -43,23 +43,23 @@ static TEXTS: &[(&str, &str)] = &[
     ),
     (
         r#"[[["Unbounded",{"Excluded":2147483648}],1]]"#,
-        "element 0: the key of a bound is not of the type of the keys, found 2147483648",
+        "element 0: expected an i32 as the key of a bound, found 2147483648",
     ),
     (
         r#"[[["Unbounded","Unbounded"],"a line\nand \"more\""]]"#,
-        r#"element 0: what the range is bound to is not of the type of the values, found "a line\nand \"more\"""#,
+        r#"element 0: expected an i64 as what the range is bound to, found "a line\nand \"more\"""#,
     ),
     (
         r#"[[["Unbounded","Unbounded"],"01234567890123456789012345678901234567"]]"#,
-        r#"element 0: what the range is bound to is not of the type of the values, found "01234567890123456789012345678901234567""#,
+        r#"element 0: expected an i64 as what the range is bound to, found "01234567890123456789012345678901234567""#,
     ),
     (
         r#"[[["Unbounded","Unbounded"],"012345678901234567890123456789012345678"]]"#,
-        r#"element 0: what the range is bound to is not of the type of the values, found "012345678901234567890123456789012345678..."#,
+        r#"element 0: expected an i64 as what the range is bound to, found "012345678901234567890123456789012345678..."#,
     ),
     (
         r#"[[["Unbounded","Unbounded"],"𝓛𝓛𝓛𝓛𝓛𝓛𝓛𝓛𝓛𝓛𝓛𝓛𝓛𝓛𝓛𝓛𝓛𝓛𝓛𝓛𝓛𝓛𝓛𝓛𝓛𝓛𝓛𝓛𝓛𝓛𝓛𝓛𝓛𝓛𝓛𝓛𝓛𝓛𝓛𝓛𝓛𝓛𝓛𝓛𝓛𝓛𝓛𝓛𝓛𝓛"]]"#,
-        r#"element 0: what the range is bound to is not of the type of the values, found "𝓛𝓛𝓛𝓛𝓛𝓛𝓛𝓛𝓛𝓛𝓛𝓛𝓛𝓛𝓛𝓛𝓛𝓛𝓛𝓛𝓛𝓛𝓛𝓛𝓛𝓛𝓛𝓛𝓛𝓛𝓛𝓛𝓛𝓛𝓛𝓛𝓛𝓛𝓛..."#,
+        r#"element 0: expected an i64 as what the range is bound to, found "𝓛𝓛𝓛𝓛𝓛𝓛𝓛𝓛𝓛𝓛𝓛𝓛𝓛𝓛𝓛𝓛𝓛𝓛𝓛𝓛𝓛𝓛𝓛𝓛𝓛𝓛𝓛𝓛𝓛𝓛𝓛𝓛𝓛𝓛𝓛𝓛𝓛𝓛𝓛..."#,
     ),
     (
         r#"[[[{"Included":0},{"Excluded":5}],1],[[{"Included":5},{"Excluded":9}],1],[[{"Included":7},{"Included":7}],1]]"#,

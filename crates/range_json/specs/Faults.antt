@@ -33,8 +33,8 @@ fault_of (NotArray found) = no_array
 fault_of (NotPair i found) = no_pair i
 fault_of (NotRange i found) = no_range i
 fault_of (NotBound i found) = no_bound i
-fault_of (Key i found) = no_key i
-fault_of (Value i found) = no_value i
+fault_of (Key i expected found) = no_key i
+fault_of (Value i expected found) = no_value i
 fault_of (Meets i j found) = meets_earlier i j
 fault_of (Version found) = no_version
 

@@ -8,7 +8,7 @@ ghost use Rattle.range_json.specs.Values.{IsBoundValue};
 ghost use Rattle.range_json.specs.declared.error.JsonError.TheVariants.{Memory};
 
 use crate::error::{JsonError, ReadError};
-use crate::found::Found;
+use crate::found::{Expected, Found};
 use crate::json::Json;
 use serde_json::{Map, Value};
 use std::alloc::{AllocError, Global};
@@ -47,6 +47,7 @@ fn key_from_json<K: Json>(alloc: Global, value: &Value, index: usize) -> Result<
         Err(ReadError::Memory) => Err(JsonError::Memory),
         Err(ReadError::Refused) => Err(JsonError::Key {
             element: index,
+            expected: Expected::of(K::name()),
             found: Found::of(value),
         }),
     }

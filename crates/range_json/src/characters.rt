@@ -36,6 +36,10 @@ impl Json for char {
             _ => Err(ReadError::Refused),
         }
     }
+
+    fn name() -> &'static str {
+        "a char, a string of one character"
+    }
 }
 
 impl ReadsBack for char {

@@ -12,7 +12,7 @@ ghost use Rattle.range_json.specs.Meetings.{all_views, IsFirstOrNone};
 ghost use Rattle.range_json.specs.declared.error.JsonError.TheVariants.{Memory};
 
 use crate::error::{JsonError, ReadError};
-use crate::found::Found;
+use crate::found::{Expected, Found};
 use crate::json::Json;
 use crate::meeting::meeting;
 use crate::range::{element_range, pair};
@@ -37,6 +37,7 @@ fn value_from_json<V: Json>(alloc: Global, value: &Value, index: usize) -> Resul
         Err(ReadError::Memory) => Err(JsonError::Memory),
         Err(ReadError::Refused) => Err(JsonError::Value {
             element: index,
+            expected: Expected::of(V::name()),
             found: Found::of(value),
         }),
     }

@@ -3,7 +3,7 @@ ghost use Rattle.std.specs.Prelude.{◌≡◌};
 ghost use Rattle.range_json.specs.declared.error.JsonError.TheVariants.{Memory};
 ghost use Rattle.range_json.specs.declared.error.ReadError.TheVariants.{Memory as ReadMemory};
 
-use crate::found::Found;
+use crate::found::{Expected, Found};
 use range_map::map::MapError;
 use std::alloc::AllocError;
 use thiserror::Error;
@@ -58,15 +58,17 @@ pub enum JsonError {
         found: Found,
     },
     /// The key of a bound is none.
-    #[error("element {element}: the key of a bound is not of the type of the keys, found {found}")]
+    #[error("element {element}: expected {expected} as the key of a bound, found {found}")]
     Key {
         element: usize,
+        expected: Expected,
         found: Found,
     },
     /// The value is none.
-    #[error("element {element}: what the range is bound to is not of the type of the values, found {found}")]
+    #[error("element {element}: expected {expected} as what the range is bound to, found {found}")]
     Value {
         element: usize,
+        expected: Expected,
         found: Found,
     },
     /// The range meets that of an earlier element, the first such; the range was found.

@@ -5,7 +5,7 @@ ghost use Rattle.serde_json.specs.View.{view};
 ghost use Rattle.range_json.specs.declared.error.ReadError.TheVariants.{Refused};
 
 pub use crate::error::{JsonError, ReadError};
-pub use crate::found::Found;
+pub use crate::found::{Expected, Found};
 pub use crate::laws::{
     maps_are_read_back, multimaps_are_read_back, ranges_are_read_back, read_maps_have_no_fault,
     read_multimaps_have_no_fault, sets_are_read_back,
@@ -43,6 +43,9 @@ pub trait Json: Sized + Drop {
         ensures read { IfOk result (is_read (view value.now)) }
         ensures readable { OnOk result (IsTrue (reads (view value.now))) }
         ensures refused { IsErrOf result Refused → reads (view value.now) ≡ false };
+
+    /// What a JSON value has to be to be read as such a value, as errors say it: `a u32`, `a string`.
+    fn name() -> &'static str;
 }
 
 /// A type that reads what it has written as an equal value, and one JSON value never as two unequal

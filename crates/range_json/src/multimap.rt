@@ -19,6 +19,7 @@ ghost use Rattle.range_json.specs.declared.error.JsonError.TheVariants.{Memory};
 
 use crate::element::element_from_json;
 use crate::error::JsonError;
+use crate::found::Expected;
 use crate::json::Json;
 use crate::map::pair_to_json;
 use crate::meeting::{found_value, meeting};
@@ -75,6 +76,7 @@ fn element_with_values<K: Json, V: Json + Ord + Clone>(
     if element.value.is_empty() {
         return Err(JsonError::Value {
             element: index,
+            expected: Expected::of("an array of values that is not empty"),
             found: found_value(value),
         });
     }

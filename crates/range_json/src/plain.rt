@@ -28,6 +28,10 @@ impl Json for bool {
             None => Err(ReadError::Refused),
         }
     }
+
+    fn name() -> &'static str {
+        "a bool"
+    }
 }
 
 impl Json for String {
@@ -48,6 +52,10 @@ impl Json for String {
             Some(text) => Ok(String::from_str(alloc, text)?),
             None => Err(ReadError::Refused),
         }
+    }
+
+    fn name() -> &'static str {
+        "a string"
     }
 }
 

@@ -41,6 +41,10 @@ impl Json for i8 {
     fn from_json(_alloc: Global, value: &Value) -> Result<i8, ReadError> {
         Ok(signed_from_json(value, i8::MAX as i64)? as i8)
     }
+
+    fn name() -> &'static str {
+        "an i8"
+    }
 }
 
 impl ReadsBack for i8 {
@@ -67,6 +71,10 @@ impl Json for i16 {
 
     fn from_json(_alloc: Global, value: &Value) -> Result<i16, ReadError> {
         Ok(signed_from_json(value, i16::MAX as i64)? as i16)
+    }
+
+    fn name() -> &'static str {
+        "an i16"
     }
 }
 
@@ -95,6 +103,10 @@ impl Json for i32 {
     fn from_json(_alloc: Global, value: &Value) -> Result<i32, ReadError> {
         Ok(signed_from_json(value, i32::MAX as i64)? as i32)
     }
+
+    fn name() -> &'static str {
+        "an i32"
+    }
 }
 
 impl ReadsBack for i32 {
@@ -121,6 +133,10 @@ impl Json for i64 {
 
     fn from_json(_alloc: Global, value: &Value) -> Result<i64, ReadError> {
         signed_from_json(value, i64::MAX)
+    }
+
+    fn name() -> &'static str {
+        "an i64"
     }
 }
 

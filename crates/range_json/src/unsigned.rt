@@ -38,6 +38,10 @@ impl Json for u8 {
     fn from_json(_alloc: Global, value: &Value) -> Result<u8, ReadError> {
         Ok(unsigned_from_json(value, u8::MAX as u64)? as u8)
     }
+
+    fn name() -> &'static str {
+        "a u8"
+    }
 }
 
 impl ReadsBack for u8 {
@@ -64,6 +68,10 @@ impl Json for u16 {
 
     fn from_json(_alloc: Global, value: &Value) -> Result<u16, ReadError> {
         Ok(unsigned_from_json(value, u16::MAX as u64)? as u16)
+    }
+
+    fn name() -> &'static str {
+        "a u16"
     }
 }
 
@@ -92,6 +100,10 @@ impl Json for u32 {
     fn from_json(_alloc: Global, value: &Value) -> Result<u32, ReadError> {
         Ok(unsigned_from_json(value, u32::MAX as u64)? as u32)
     }
+
+    fn name() -> &'static str {
+        "a u32"
+    }
 }
 
 impl ReadsBack for u32 {
@@ -119,6 +131,10 @@ impl Json for u64 {
     fn from_json(_alloc: Global, value: &Value) -> Result<u64, ReadError> {
         unsigned_from_json(value, u64::MAX)
     }
+
+    fn name() -> &'static str {
+        "a u64"
+    }
 }
 
 impl ReadsBack for u64 {
@@ -145,6 +161,10 @@ impl Json for usize {
 
     fn from_json(_alloc: Global, value: &Value) -> Result<usize, ReadError> {
         Ok(unsigned_from_json(value, usize::MAX as u64)? as usize)
+    }
+
+    fn name() -> &'static str {
+        "a usize"
     }
 }
 

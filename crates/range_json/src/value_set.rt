@@ -42,6 +42,10 @@ impl<V: Json + Ord> Json for BTreeSet<V> {
         }
         Ok(values)
     }
+
+    fn name() -> &'static str {
+        "an array of values"
+    }
 }
 
 impl<V: ReadsBack + Ord> ReadsBack for BTreeSet<V> {

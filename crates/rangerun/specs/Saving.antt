@@ -32,8 +32,8 @@ fault_text (NotArray found) = codes "json 5\n"
 fault_text (NotPair i found) = element_fault_text 6 i
 fault_text (NotRange i found) = element_fault_text 7 i
 fault_text (NotBound i found) = element_fault_text 8 i
-fault_text (Key i found) = element_fault_text 9 i
-fault_text (Value i found) = element_fault_text 10 i
+fault_text (Key i expected found) = element_fault_text 9 i
+fault_text (Value i expected found) = element_fault_text 10 i
 fault_text (Meets i j found) = element_fault_text 11 i
 fault_text (Version found) = codes "json 12\n"
 
