@@ -2,6 +2,8 @@
 #![tactic(auto)]
 
 #[cfg(test)]
+mod complement;
+#[cfg(test)]
 mod json_values;
 #[cfg(test)]
 mod maps;
