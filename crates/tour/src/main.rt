@@ -14,6 +14,8 @@ mod ranges;
 #[cfg(test)]
 mod round_trip;
 #[cfg(test)]
+mod set_values;
+#[cfg(test)]
 mod sets;
 
 use btree_range_map::RangeMap;
