@@ -1,5 +1,4 @@
 //! Sets over either container: rows that call a set or look at it.
-ghost use Rattle.btree_range_map.specs.Range.{ClonesAreEqual};
 
 use crate::containers::{Table, play};
 use btree_range_map::generic::RangeSet;
@@ -29,8 +28,7 @@ enum Step<K> {
 
 /// A set over some container.
 trait Played<K: Copy + PartialEq> {
-    fn insert(&mut self, start: Bound<K>, end: Bound<K>) -> Result<bool, MapError>
-        requires { ClonesAreEqual K.is_clone K.eq };
+    fn insert(&mut self, start: Bound<K>, end: Bound<K>) -> Result<bool, MapError>;
 
     fn has_count(&self, count: usize) -> bool;
 
@@ -39,18 +37,14 @@ trait Played<K: Copy + PartialEq> {
     fn holds(&self, key: K) -> bool;
 
     /// Whether the complement has so many ranges.
-    fn complement_has(&self, count: usize) -> Result<bool, MapError>
-        requires { ClonesAreEqual K.is_clone K.eq };
+    fn complement_has(&self, count: usize) -> Result<bool, MapError>;
 
     /// Whether the set equals the one of a range.
-    fn is_range(&self, alloc: Global, start: Bound<K>, end: Bound<K>) -> Result<bool, MapError>
-        requires { ClonesAreEqual K.is_clone K.eq };
+    fn is_range(&self, alloc: Global, start: Bound<K>, end: Bound<K>) -> Result<bool, MapError>;
 }
 
 impl<K: Measure + Bounded + Copy, C: Storage<Item<AnyRange<K>, ()>>> Played<K> for RangeSet<K, C> {
-    fn insert(&mut self, start: Bound<K>, end: Bound<K>) -> Result<bool, MapError>
-        requires { ClonesAreEqual K.is_clone K.eq }
-    {
+    fn insert(&mut self, start: Bound<K>, end: Bound<K>) -> Result<bool, MapError> {
         RangeSet::insert(self, AnyRange::new(start, end))?;
         Ok(true)
     }
@@ -67,16 +61,12 @@ impl<K: Measure + Bounded + Copy, C: Storage<Item<AnyRange<K>, ()>>> Played<K> f
         self.contains(key)
     }
 
-    fn complement_has(&self, count: usize) -> Result<bool, MapError>
-        requires { ClonesAreEqual K.is_clone K.eq }
-    {
+    fn complement_has(&self, count: usize) -> Result<bool, MapError> {
         let others = self.complement()?;
         Ok(others.range_count() == count)
     }
 
-    fn is_range(&self, alloc: Global, start: Bound<K>, end: Bound<K>) -> Result<bool, MapError>
-        requires { ClonesAreEqual K.is_clone K.eq }
-    {
+    fn is_range(&self, alloc: Global, start: Bound<K>, end: Bound<K>) -> Result<bool, MapError> {
         let mut other = RangeSet::new(alloc);
         other.insert(AnyRange::new(start, end))?;
         Ok(*self == other)
@@ -88,9 +78,7 @@ fn goes<K: Copy + PartialEq, S: Played<K>>(
     alloc: Global,
     set: &mut S,
     step: &Step<K>,
-) -> Result<bool, MapError>
-    requires { ClonesAreEqual K.is_clone K.eq }
-{
+) -> Result<bool, MapError> {
     match step {
         Step::Insert(start, end) => set.insert(*start, *end),
         Step::Count(count) => Ok(set.has_count(*count)),
@@ -106,9 +94,7 @@ fn hold<K: Copy + PartialEq, S: Played<K>>(
     alloc: Global,
     set: &mut S,
     steps: &[Step<K>],
-) -> Result<bool, MapError>
-    requires { ClonesAreEqual K.is_clone K.eq }
-{
+) -> Result<bool, MapError> {
     for step in steps {
         if !goes(alloc, set, step)? {
             return Ok(false);
@@ -122,9 +108,7 @@ fn hold<K: Copy + PartialEq, S: Played<K>>(
 struct Steps<'a, K>(&'a [Step<K>]);
 
 impl<'a, K: Measure + Bounded + Copy> Table<K, ()> for Steps<'a, K> {
-    fn holds<C: Storage<Item<AnyRange<K>, ()>>>(&self, alloc: Global) -> Result<bool, MapError>
-        requires { ClonesAreEqual K.is_clone K.eq }
-    {
+    fn holds<C: Storage<Item<AnyRange<K>, ()>>>(&self, alloc: Global) -> Result<bool, MapError> {
         let mut set: RangeSet<K, C> = RangeSet::new(alloc);
         hold(alloc, &mut set, self.0)
     }

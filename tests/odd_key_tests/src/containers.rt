@@ -1,5 +1,4 @@
 //! Tables of steps, played over either container.
-ghost use Rattle.btree_range_map.specs.Range.{ClonesAreEqual};
 
 use btree_range_map::btree::BoxStorage;
 use btree_range_map::storage::{Item, Storage, VecStorage};
@@ -11,8 +10,7 @@ use std::test::Fail;
 /// Steps on a new map or set, over any container.
 pub trait Table<K: Copy + PartialEq, V> {
     /// Takes the steps in turn, up to the first that does not hold.
-    fn holds<C: Storage<Item<AnyRange<K>, V>>>(&self, alloc: Global) -> Result<bool, MapError>
-        requires { ClonesAreEqual K.is_clone K.eq };
+    fn holds<C: Storage<Item<AnyRange<K>, V>>>(&self, alloc: Global) -> Result<bool, MapError>;
 }
 
 /// Takes the steps over a vector and over a tree. Each has to hold.
@@ -20,9 +18,7 @@ pub fn play<K: Copy + PartialEq + Drop, V: Drop, T: Table<K, V>>(
     rt: &impl Abort,
     alloc: Global,
     table: &T,
-) -> Result<(), Fail>
-    requires { ClonesAreEqual K.is_clone K.eq }
-{
+) -> Result<(), Fail> {
     assert!(rt;
         table.holds::<VecStorage<Item<AnyRange<K>, V>>>(alloc)?,
         "over a vector"

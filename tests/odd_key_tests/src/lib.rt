@@ -1,5 +1,4 @@
 //! Tests over keys and values that are lawful and unlike numbers.
-#![tactic(auto)]
 
 #[cfg(test)]
 mod containers;

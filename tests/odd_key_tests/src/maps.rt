@@ -1,5 +1,4 @@
 //! Maps over either container: rows that call a map or look at it.
-ghost use Rattle.btree_range_map.specs.Range.{ClonesAreEqual};
 
 use crate::containers::{Table, play};
 use btree_range_map::generic::RangeMap;
@@ -32,8 +31,7 @@ enum Step<K> {
 
 /// A map over some container.
 trait Played<K: Copy + PartialEq> {
-    fn insert(&mut self, start: Bound<K>, end: Bound<K>, value: Loose) -> Result<bool, MapError>
-        requires { ClonesAreEqual K.is_clone K.eq };
+    fn insert(&mut self, start: Bound<K>, end: Bound<K>, value: Loose) -> Result<bool, MapError>;
 
     fn has_count(&self, count: usize) -> bool;
 
@@ -47,9 +45,7 @@ trait Played<K: Copy + PartialEq> {
 }
 
 impl<K: Measure + Copy, C: Storage<Item<AnyRange<K>, Loose>>> Played<K> for RangeMap<K, Loose, C> {
-    fn insert(&mut self, start: Bound<K>, end: Bound<K>, value: Loose) -> Result<bool, MapError>
-        requires { ClonesAreEqual K.is_clone K.eq }
-    {
+    fn insert(&mut self, start: Bound<K>, end: Bound<K>, value: Loose) -> Result<bool, MapError> {
         RangeMap::insert(self, AnyRange::new(start, end), value)?;
         Ok(true)
     }
@@ -83,9 +79,7 @@ fn goes<K: Copy + PartialEq, M: Played<K>>(
     alloc: Global,
     map: &mut M,
     step: &Step<K>,
-) -> Result<bool, MapError>
-    requires { ClonesAreEqual K.is_clone K.eq }
-{
+) -> Result<bool, MapError> {
     match step {
         Step::Insert(start, end, value) => map.insert(*start, *end, *value),
         Step::Count(count) => Ok(map.has_count(*count)),
@@ -101,9 +95,7 @@ fn hold<K: Copy + PartialEq, M: Played<K>>(
     alloc: Global,
     map: &mut M,
     steps: &[Step<K>],
-) -> Result<bool, MapError>
-    requires { ClonesAreEqual K.is_clone K.eq }
-{
+) -> Result<bool, MapError> {
     for step in steps {
         if !goes(alloc, map, step)? {
             return Ok(false);
@@ -117,9 +109,7 @@ fn hold<K: Copy + PartialEq, M: Played<K>>(
 struct Steps<'a, K>(&'a [Step<K>]);
 
 impl<'a, K: Measure + Copy> Table<K, Loose> for Steps<'a, K> {
-    fn holds<C: Storage<Item<AnyRange<K>, Loose>>>(&self, alloc: Global) -> Result<bool, MapError>
-        requires { ClonesAreEqual K.is_clone K.eq }
-    {
+    fn holds<C: Storage<Item<AnyRange<K>, Loose>>>(&self, alloc: Global) -> Result<bool, MapError> {
         let mut map: RangeMap<K, Loose, C> = RangeMap::new(alloc);
         hold(alloc, &mut map, self.0)
     }

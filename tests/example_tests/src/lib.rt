@@ -1,5 +1,4 @@
 //! Tests of the examples: automata over characters, and an access table over ports.
-#![tactic(auto)]
 
 #[cfg(test)]
 mod automata;
