@@ -23,11 +23,12 @@ def named(path):
 @contextlib.contextmanager
 def made(more=""):
     """Gives the folder with the copies of the crates, while it is there. More is further lines of crates.txt."""
-    with tempfile.TemporaryDirectory() as folder:
-        top = pathlib.Path(folder)
+    with tempfile.TemporaryDirectory() as room:
+        top = pathlib.Path(room)
         left_out = shutil.ignore_patterns("out", "must-fail", "mutants", "proofs")
-        for crate in [*TOP.glob("crates/*/"), *TOP.glob("tests/*/")]:
-            shutil.copytree(crate, top / "crates" / crate.name, ignore=left_out)
+        for folder in [*(TOP / "crates").iterdir(), *(TOP / "tests").iterdir()]:
+            if folder.is_dir():
+                shutil.copytree(folder, top / "crates" / folder.name, ignore=left_out)
         (top / "crates.txt").write_text(PROVED.read_text() + UNPROVED.read_text() + more)
         shutil.copy(TOP / "HANDLES", top)
         yield top / "crates"
