@@ -166,6 +166,33 @@ impl<T: PartialEnum + Bounded + Clone> AnyRange<T> {
 }
 
 impl<T: PartialEnum + Bounded + Clone> AnyRange<T> {
+    /// The least and the greatest key of the range, or `None` where the range is empty or one of its
+    /// bounds names no key.
+    ///
+    /// Included bounds are cloned, so the call allocates what clones of their keys do, and fails
+    /// only where such a clone fails.
+    ///
+    /// ```
+    /// let range: AnyRange<i32> = (0..10).into();
+    /// assert!(rt; range.first_and_last()? == Some((0, 9)));
+    /// ```
+    pub fn first_and_last(&self) -> Result<Option<(T, T)>, AllocError>
+        requires clones { ClonesAreEqual T.is_clone T.eq }
+        ensures empty { IsEmptyRange T.order self.now → result ≡ Ok None }
+        ensures least { IfOk result
+            (λ keys. IfSome keys (λ pair. IsLeastOf T.order self.now pair.0)) }
+        ensures greatest { IfOk result
+            (λ keys. IfSome keys (λ pair. IsGreatestOf T.order self.now pair.1)) }
+        ensures complete { IsComplete T.order → IfOk result (λ keys. IfNone keys
+            (HasNoLeast T.order self.now ⊎ HasNoGreatest T.order self.now)) }
+        ensures fails { OnErr result (¬ IsIncludedInfallible T.is_infallible self.now.start
+            ⊎ ¬ IsIncludedInfallible T.is_infallible self.now.end) }
+    {
+        let first = self.first()?;
+        let last = self.last()?;
+        Ok(first.zip(last))
+    }
+
     /// A key of the range: the least, or else the greatest, or `None` where the range is empty or
     /// its bounds name no key. Fails only where a clone of an included bound's key fails.
     pub fn pick(&self) -> Result<Option<T>, AllocError>

@@ -2,6 +2,8 @@
 #![tactic(auto)]
 
 #[cfg(test)]
+mod complement;
+#[cfg(test)]
 mod json_values;
 #[cfg(test)]
 mod maps;
@@ -11,6 +13,8 @@ mod multimaps;
 mod ranges;
 #[cfg(test)]
 mod round_trip;
+#[cfg(test)]
+mod set_values;
 #[cfg(test)]
 mod sets;
 

@@ -1,12 +1,12 @@
 //! The calls on a handle of any kind.
 ghost use Rattle.std.specs.Prelude.{◌≡◌, ◌≢◌, ◌⊎◌, ◌++◌, ◌<◌, ℕ, List, length, drop, Some, None, true, false, IsUtf8};
 ghost use Rattle.serde_json.specs.Read.{read};
-ghost use Rattle.btree_range_map_c.specs.Fewest.{IsLeastRangeCount};
-ghost use Rattle.btree_range_map_c.specs.Held.{range_count, emptied};
-ghost use Rattle.btree_range_map_c.specs.Texts.{IsTextOf, IsTextRead, IsFaultyText};
+ghost use Rattle.range_handles.specs.Fewest.{IsLeastRangeCount};
+ghost use Rattle.range_handles.specs.Held.{range_count, emptied};
+ghost use Rattle.range_handles.specs.Texts.{IsTextOf, IsTextRead, IsFaultyText};
 
-use crate::handle::Handle;
-use crate::status::{CLOSED, DONE, NO_MEMORY, NO_ROOM, NOT_JSON, NOT_READ};
+use range_handles::handle::Handle;
+use range_handles::status::{CLOSED, DONE, NO_MEMORY, NO_ROOM, NOT_JSON, NOT_READ};
 use std::alloc::Global;
 use std::mem;
 

@@ -5,15 +5,15 @@ ghost use Rattle.btree_range_map.specs.Lookups.{BindsKeyOf, IsConnectedToSome};
 ghost use Rattle.btree_range_map.specs.Numbers.{IsNumberOfKeys};
 ghost use Rattle.btree_range_map.specs.Range.{IsEmptyRange};
 ghost use Rattle.btree_range_map.specs.Overlapping.{AreOverlapping};
-ghost use Rattle.btree_range_map_c.specs.Flags.{signed_range_of, signed_entry_item, number_of, from_key, upto_key};
-ghost use Rattle.btree_range_map_c.specs.Held.{HoldsSignedMap, signed_items};
-ghost use Rattle.btree_range_map_c.specs.Lists.{signed_keys, SignedRanges};
+ghost use Rattle.range_handles.specs.Flags.{signed_range_of, signed_entry_item, number_of, from_key, upto_key};
+ghost use Rattle.range_handles.specs.Held.{HoldsSignedMap, signed_items};
+ghost use Rattle.range_handles.specs.Lists.{signed_keys, SignedRanges};
 
-use crate::bounds::{Length, SignedBounds, SignedEntry};
-use crate::collection::Collection;
-use crate::handle::Handle;
-use crate::signed_map::{self, SignedMap};
-use crate::status::{CLOSED, CONNECTED, DONE, NO_MEMORY, NONE, OPEN, OTHER_KIND};
+use range_handles::bounds::{Length, SignedBounds, SignedEntry};
+use range_handles::collection::Collection;
+use range_handles::handle::Handle;
+use range_handles::signed_map::{self, SignedMap};
+use range_handles::status::{CLOSED, CONNECTED, DONE, NO_MEMORY, NONE, OPEN, OTHER_KIND};
 use std::alloc::Global;
 
 /// Opens a closed handle, on an empty map. Allocates one block.

@@ -42,6 +42,7 @@ fn past() -> AnyRange<i32> {
 fn names_the_ends(rt: HostRuntime) -> Result<(), Fail> {
     assert!(rt; above() == AnyRange::new(Bound::Included(1), Bound::Unbounded));
     assert!(rt; ends_of_numbers(&above())? == [Some(1), Some(4294967295), Some(1)]);
+    assert!(rt; above().first_and_last()? == Some((1, 4294967295)));
     expect_length(&rt, "above", above().len(), 4294967295);
     Ok(())
 }
@@ -50,6 +51,7 @@ fn names_the_ends(rt: HostRuntime) -> Result<(), Fail> {
 fn names_no_ends_where_there_are_none(rt: HostRuntime) -> Result<(), Fail> {
     assert!(rt; past().is_empty());
     assert!(rt; ends_of_integers(&past())? == [None, None, None]);
+    assert!(rt; past().first_and_last()?.is_none());
     expect_length(&rt, "past", past().len(), 0);
     Ok(())
 }

@@ -1,0 +1,99 @@
+//! What an open handle leads to.
+ghost use Rattle.std.specs.Prelude.{◌≡◌, ◌≢◌, ◌⊎◌, Some, None, IfOk, IfErr, IsUtf8};
+ghost use Rattle.serde_json.specs.Read.{read as read_text};
+ghost use Rattle.serde_json.specs.View.{view};
+ghost use Rattle.serde_json.specs.Written.{compact_text};
+ghost use Rattle.btree_range_map.specs.JsonError.TheVariants.{Memory};
+ghost use Rattle.range_handles.specs.Fewest.{IsLeastRangeCount};
+ghost use Rattle.range_handles.specs.Held.{range_count, emptied};
+ghost use Rattle.range_handles.specs.Texts.{data_of, IsDataFault, IsDataRead, IsFaultyText, IsTextRead};
+
+use crate::signed_map::SignedMap;
+use crate::status::{DONE, NO_MEMORY, NOT_JSON, NOT_READ};
+use crate::unsigned_map::UnsignedMap;
+use crate::unsigned_set::UnsignedSet;
+use btree_range_map::json::JsonError;
+use serde_json::Value;
+use std::alloc::{AllocError, Global};
+
+/// A map or a set, which a contract sees as its ranges.
+#[derive(Drop)]
+pub enum Collection {
+    Unsigned(UnsignedMap),
+    Signed(SignedMap),
+    Set(UnsignedSet),
+}
+
+impl Collection {
+    /// How many ranges are stored.
+    pub fn range_count(&self) -> usize
+        ensures value { result ≡ range_count (Some self.now) }
+        ensures least { IsLeastRangeCount (Some self.now) result }
+    {
+        match self {
+            Collection::Unsigned(map) => map.range_count(),
+            Collection::Signed(map) => map.range_count(),
+            Collection::Set(set) => set.range_count(),
+        }
+    }
+
+    /// The same kind of collection, with no range.
+    pub fn emptied(&self, alloc: Global) -> Collection
+        ensures { Some result ≡ emptied (Some self.now) }
+    {
+        match self {
+            Collection::Unsigned(_) => Collection::Unsigned(UnsignedMap::new(alloc)),
+            Collection::Signed(_) => Collection::Signed(SignedMap::new(alloc)),
+            Collection::Set(_) => Collection::Set(UnsignedSet::new(alloc)),
+        }
+    }
+
+    /// The JSON text that it is saved as.
+    pub fn text(&self, alloc: Global) -> Result<Vec<u8>, AllocError>
+        ensures { IfOk result (λ text. text.items ≡ compact_text (data_of self.now)) }
+    {
+        match self {
+            Collection::Unsigned(map) => map.text(alloc),
+            Collection::Signed(map) => map.text(alloc),
+            Collection::Set(set) => set.text(alloc),
+        }
+    }
+
+    /// What the JSON value is read as, as a collection of the same kind.
+    fn read(&self, alloc: Global, value: &Value) -> Result<Collection, JsonError>
+        ensures kind { IfOk result (λ new. emptied (Some new) ≡ emptied (Some self.now)) }
+        ensures read { IfOk result (λ new. IsDataRead (view value.now) new) }
+        ensures fault { IfErr result
+            (λ e. (e ≡ Memory) ⊎ IsDataFault self.now (view value.now) e) }
+    {
+        match self {
+            Collection::Unsigned(_) => Ok(Collection::Unsigned(UnsignedMap::read(alloc, value)?)),
+            Collection::Signed(_) => Ok(Collection::Signed(SignedMap::read(alloc, value)?)),
+            Collection::Set(_) => Ok(Collection::Set(UnsignedSet::read(alloc, value)?)),
+        }
+    }
+
+    /// Becomes what the text is read as, a collection of the same kind.
+    pub fn load(&mut self, alloc: Global, text: &[u8]) -> u32
+        ensures kind { emptied (Some self.new) ≡ emptied (Some self.old) }
+        ensures loaded { result ≡ DONE → IsTextRead text.now (Some self.new) }
+        ensures refused { result ≢ DONE → self.new ≡ self.old }
+        ensures not_json { result ≡ NOT_JSON → IsUtf8 text.now → read_text text.now ≡ None }
+        ensures not_read { result ≡ NOT_READ → IsFaultyText (Some self.old) text.now }
+        ensures answer { (result ≡ DONE)
+            ⊎ ((result ≡ NO_MEMORY) ⊎ ((result ≡ NOT_JSON) ⊎ (result ≡ NOT_READ))) }
+    {
+        match Value::from_slice(alloc, text) {
+            Ok(value) => match self.read(alloc, &value) {
+                Ok(read) => {
+                    *self = read;
+                    DONE
+                }
+                Err(JsonError::Memory) => NO_MEMORY,
+                Err(_) => NOT_READ,
+            },
+            Err(error) if error.is_memory() => NO_MEMORY,
+            Err(_) => NOT_JSON,
+        }
+    }
+}

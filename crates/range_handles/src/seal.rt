@@ -1,0 +1,68 @@
+//! A box of a collection, or nothing, as C may keep it.
+ghost use Rattle.std.specs.Prelude.{◌≡◌, Option, Some, None, IsSome};
+ghost use Rattle.range_handles.specs.declared.collection.Collection.{Collection};
+ghost use Rattle.range_handles.specs.Seals.{held_coded, seal_owns};
+
+use crate::collection::Collection;
+use crate::parts::Parts;
+use std::alloc::Global;
+use std::marker::Model;
+
+/// The pointer that a box is, while it holds one. Its type is hidden, since a collection cannot
+/// cross to C.
+#[repr(C)]
+#[derive(Drop)]
+pub struct Seal {
+    ptr: *mut u8,
+    alloc: Global,
+    pub ghost held: { Option Collection } by { held_coded },
+}
+
+impl Model for Seal {
+    ghost also_owns = { λ s. seal_owns s.alloc s.ptr s.held };
+}
+
+impl Seal {
+    /// A seal of no box.
+    pub fn empty(ptr: *mut u8, alloc: Global) -> Seal
+        ensures { result.held ≡ None }
+    {
+        Seal { ptr, alloc }
+    }
+
+    /// A seal of the box.
+    pub fn of(b: Box<Collection, Global>) -> Seal
+        ensures { result.held ≡ Some b.value }
+    {
+        Seal::of_parts(Parts::of(b))
+    }
+
+    fn of_parts(parts: Parts<Collection, Global>) -> Seal
+        ensures { result.held ≡ Some parts.value }
+    {
+        let Parts { ptr, alloc } = parts;
+        Seal {
+            ptr: ptr as *mut u8,
+            alloc,
+        }
+    }
+
+    /// The box.
+    pub fn into_box(self) -> Box<Collection, Global>
+        requires { IsSome self.held }
+        ensures { self.held ≡ Some result.value }
+    {
+        self.into_parts().into_box()
+    }
+
+    fn into_parts(self) -> Parts<Collection, Global>
+        requires { IsSome self.held }
+        ensures { self.held ≡ Some result.value }
+    {
+        let Seal { ptr, alloc } = self;
+        Parts {
+            ptr: ptr as *mut Collection,
+            alloc,
+        }
+    }
+}

@@ -1,0 +1,34 @@
+//! A set and the complement of its complement, and what a caller proves of them by a law.
+
+ghost use Rattle.std.specs.Prelude.{IfOk, IsTrue};
+ghost use Rattle.btree_range_map.specs.Range.{ClonesAreEqual};
+ghost use Rattle.btree_range_map.specs.SetOrder.{same_ranges};
+
+use btree_range_map::generic::RangeSet;
+use btree_range_map::generic::set::complementing_twice_restores;
+use btree_range_map::storage::{Item, Storage};
+use btree_range_map::{AnyRange, MapError, Measure};
+use std::test::Fail;
+
+/// The complement of the complement of a set, which equals it.
+fn complemented_twice<T: Measure + Clone, C: Storage<Item<AnyRange<T>, ()>>>(
+    set: &RangeSet<T, C>,
+) -> Result<RangeSet<T, C>, MapError>
+    requires { ClonesAreEqual T.is_clone T.eq }
+    ensures equal { IfOk result
+        (λ again. IsTrue (same_ranges T.order (C.items again) (C.items set.now))) }
+{
+    complementing_twice_restores::<T>();
+    let _ranges = set.iter(); // whose contract tells the form in which they are stored
+    let others = set.complement()?;
+    let again = others.complement()?;
+    Ok(again)
+}
+
+#[test]
+fn a_set_is_restored(rt: HostRuntime) -> Result<(), Fail> {
+    let mut set: btree_range_map::RangeSet<i32> = RangeSet::new(rt.alloc());
+    set.insert(0..=5)?;
+    assert!(rt; complemented_twice(&set)? == set);
+    Ok(())
+}

@@ -1,0 +1,4 @@
+//! Tests of multimaps, over either container and either type of sets.
+
+#[cfg(test)]
+mod tests;
