@@ -1,5 +1,5 @@
 -- Which keys a map of equal values holds once it was changed by another.
-use Rattle.std.proofs.Common.{◌≡◌, ◌∷◌, ◌++◌, ◌↔◌, inl, inr, Bool, IsTrue, List, Option, Some}
+use Rattle.std.proofs.Common.{◌↔◌, inl, inr, Bool, IsTrue, List, Option, Some}
 use Rattle.range_keys.specs.Order.{KeyOrder, IsLawful}
 use Rattle.range_algebra.specs.declared.any.AnyRange.{AnyRange}
 use Rattle.range_store.specs.declared.storage.Item.{Item}
@@ -8,7 +8,7 @@ use Rattle.range_change.proofs.Overlaps.{binds_bound}
 use Rattle.range_map.specs.Overlays.{IsOverlaid, IsRestricted, IsWithout}
 use Rattle.range_map.specs.PartWay.{AreUnboundAfter, BeforeOne, BeforeOneGap}
 use Rattle.range_map.proofs.Overlays.{bound_or_not}
-use Rattle.range_sets.specs.KeySets.{HoldsKey, HoldsWithoutAll}
+use Rattle.range_sets.specs.KeySets.{HoldsKey, HoldsWithoutAll, SomeHolds}
 use Rattle.range_sets.specs.TwoSets.{HoldsEither, HoldsBoth, HoldsFirstAlone}
 use Rattle.range_sets.proofs.Membership.{bound_to}
 
@@ -63,7 +63,7 @@ module _ {K : Type 0} (order : KeyOrder K) (lawful : IsLawful order)
     pub first_alone : IsWithout order same items others new → HoldsFirstAlone order items others new
     first_alone h k key = (
       λ b.
-          let none = λ there. h.gone k key there b in
+          let none : ¬ HoldsKey order others k = λ there. h.gone k key there b in
           ((hold_alike items new k (h.kept k key none)).0 b, none),
       λ b. (hold_alike items new k (h.kept k key b.1)).1 b.0,
     )
@@ -72,7 +72,7 @@ module _ {K : Type 0} (order : KeyOrder K) (lawful : IsLawful order)
       → AreUnboundAfter order same items new ranges → HoldsWithoutAll order items new ranges
   without_all items new ranges h k key = (
     λ b.
-        let none = λ some. h.gone k key some b in
+        let none : ¬ SomeHolds order ranges k = λ some. h.gone k key some b in
         ((hold_alike items new k (h.kept k key none)).0 b, none),
     λ b. (hold_alike items new k (h.kept k key b.1)).1 b.0,
   )
