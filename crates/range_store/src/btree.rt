@@ -5,6 +5,7 @@ ghost use Rattle.range_store.specs.Depth.{HasLevels};
 ghost use Rattle.range_store.specs.Nodes.{items_below, IsRoomy, IsRoomy-prop};
 
 mod blocks;
+mod build;
 mod child_lists;
 mod division;
 mod insertion;
@@ -14,6 +15,7 @@ mod removal;
 mod searching;
 mod tree;
 
+use crate::btree::build::build;
 use crate::btree::nodes::Nodes;
 pub use crate::btree::nodes::{CAPACITY, MIN_LEN};
 pub use crate::btree::path::Edge;
@@ -178,6 +180,26 @@ impl<T: Drop> Storage<T> for BoxStorage<T> {
     fn pop_last(&mut self) -> Option<T> {
         let last = self.last()?;
         Some(self.take(last).0)
+    }
+
+    fn of_items(alloc: Global, items: Vec<T>) -> Result<Self, AllocError> {
+        let mut made = BoxStorage::new(alloc);
+        let count = items.len();
+        if count == 0 {
+            return Ok(made);
+        }
+        made.reserve(count)?;
+        let mut levels: usize = 1;
+        let mut below: usize = 1;
+        while below * (CAPACITY + 1) < count + 1 {
+            below *= CAPACITY + 1;
+            levels += 1;
+        }
+        let mut rest = items.into_iter();
+        made.root = build(&mut made.nodes, levels - 1, below, count, &mut rest);
+        made.levels = levels;
+        made.len = count;
+        Ok(made)
     }
 
     fn clone(&self) -> Result<Self, AllocError>

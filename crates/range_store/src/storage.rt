@@ -242,6 +242,9 @@ pub trait Storage<T>: Drop {
         ensures space { MatchOption result (room self.old ≤ room self.new)
             (λ _. room self.old + 1 ≤ room self.new) };
 
+    /// A container of these items, in order.
+    fn of_items(alloc: Global, items: Vec<T>) -> Result<Self, AllocError>;
+
     /// A container of clones of the items, in order.
     ///
     /// Allocates for them and for each clone; fails where an allocation does.

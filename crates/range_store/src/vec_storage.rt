@@ -156,6 +156,15 @@ impl<T: Drop> Storage<T> for VecStorage<T> {
         self.stored.pop()
     }
 
+    fn of_items(alloc: Global, items: Vec<T>) -> Result<Self, AllocError> {
+        let mut made = VecStorage::new(alloc);
+        made.reserve(items.len())?;
+        for item in items {
+            let _ = made.insert_at(None, item);
+        }
+        Ok(made)
+    }
+
     fn clone(&self) -> Result<Self, AllocError>
     where
         T: Clone + Eq,

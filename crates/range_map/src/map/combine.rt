@@ -10,17 +10,23 @@ ghost use Rattle.range_map.specs.Combining.{MayAnswerBoth, MayBeAskedBoth, MayBe
 ghost use Rattle.range_change.specs.Stored.{IsStored};
 ghost use Rattle.range_change.specs.declared.error.UpdateError.TheVariants.{Closure as ClosureError};
 
-use crate::inner::append::{append, reserve};
 use crate::map::RangeMap;
-use crate::map::merged::{first_piece, next_part, refilled};
+use crate::map::merged::next_part;
 use range_algebra::any::AnyRange;
 use range_change::error::UpdateError;
 use range_change::pieces::put;
 use range_keys::traits::PartialEnum;
 use range_store::storage::{Item, Storage};
 use std::alloc::{AllocError, Global};
+use range_algebra::inner::starts_past_end;
+use range_change::cut::flip;
+use range_keys::bound::Directed;
+use std::cmp::Ordering;
+use std::marker::PhantomData;
+use std::ops::Bound;
 
 /// Asks the closure for one piece, and puts its answer after the others.
+#[inline(always)]
 fn ask_both<
     'a,
     K: PartialEnum + Clone,
@@ -83,15 +89,79 @@ fn gather_both<
 {
     map.in_form();
     other.in_form();
-    let mut answers = Vec::new(map.alloc);
+    let mut answers = Vec::with_capacity(map.alloc, map.range_count() + other.range_count())?;
     let mut items = map.iter();
     let mut others = other.iter();
     let mut left = next_part(&mut items);
     let mut right = next_part(&mut others);
-    while let Some(piece) = first_piece(left, right) {
-        ask_both(&mut answers, piece.range, piece.value, piece.other_value, f)?;
-        left = refilled(piece.left, &mut items);
-        right = refilled(piece.right, &mut others);
+    loop {
+        match (left, right) {
+            (None, None) => break,
+            (Some(part), None) => {
+                left = next_part(&mut items);
+                ask_both(&mut answers, part.0, Some(part.1), None, f)?;
+            }
+            (None, Some(other)) => {
+                right = next_part(&mut others);
+                ask_both(&mut answers, other.0, None, Some(other.1), f)?;
+            }
+            (Some(part), Some(other)) => {
+                match Directed::Start(part.0.start).cmp(&Directed::Start(other.0.start)) {
+                    Ordering::Less => {
+                        let end = match flip(other.0.start) {
+                            Some(end) => end,
+                            None => unreachable!(),
+                        };
+                        let range = if starts_past_end(other.0.start, part.0.end) {
+                            left = next_part(&mut items);
+                            part.0
+                        } else {
+                            left = Some((AnyRange::new(other.0.start, part.0.end), part.1));
+                            AnyRange::new(part.0.start, end)
+                        };
+                        ask_both(&mut answers, range, Some(part.1), None, f)?;
+                    }
+                    Ordering::Greater => {
+                        let end = match flip(part.0.start) {
+                            Some(end) => end,
+                            None => unreachable!(),
+                        };
+                        let range = if starts_past_end(part.0.start, other.0.end) {
+                            right = next_part(&mut others);
+                            other.0
+                        } else {
+                            right = Some((AnyRange::new(part.0.start, other.0.end), other.1));
+                            AnyRange::new(other.0.start, end)
+                        };
+                        ask_both(&mut answers, range, None, Some(other.1), f)?;
+                    }
+                    Ordering::Equal => {
+                        let range = match Directed::End(part.0.end).cmp(&Directed::End(other.0.end)) {
+                            Ordering::Less => {
+                                left = next_part(&mut items);
+                                if let Some(start) = flip(part.0.end) {
+                                    right = Some((AnyRange::new(start, other.0.end), other.1));
+                                }
+                                part.0
+                            }
+                            Ordering::Greater => {
+                                right = next_part(&mut others);
+                                if let Some(start) = flip(other.0.end) {
+                                    left = Some((AnyRange::new(start, part.0.end), part.1));
+                                }
+                                other.0
+                            }
+                            Ordering::Equal => {
+                                left = next_part(&mut items);
+                                right = next_part(&mut others);
+                                part.0
+                            }
+                        };
+                        ask_both(&mut answers, range, Some(part.1), Some(other.1), f)?;
+                    }
+                }
+            }
+        }
     }
     Ok(answers)
 }
@@ -104,13 +174,11 @@ fn map_of<K: PartialEnum, X: Eq + Drop, C: Storage<Item<AnyRange<K>, X>>>(
     requires { IsStored K.order X.eq items.items }
     ensures { IfOk result (λ map. C.items map ≡ items.items) }
 {
-    let mut map = RangeMap::new(alloc);
-    reserve(&mut map, items.len())?;
-    for item in items {
-        let (range, value) = item.into_pair();
-        append(&mut map, range, value);
-    }
-    Ok(map)
+    Ok(RangeMap {
+        stored: C::of_items(alloc, items)?,
+        alloc,
+        item: PhantomData,
+    })
 }
 
 impl<K: PartialEnum + Clone, V: Eq + Drop, C: Storage<Item<AnyRange<K>, V>>> RangeMap<K, V, C> {

@@ -237,6 +237,24 @@ impl<T: Drop> Blocks<T> {
         self.records[number] = Some(Record { len: len + 1, list });
     }
 
+    // Stores a new block of the next items.
+    pub fn store_of<I: Iterator<Item = T>>(&mut self, count: usize, list: usize, items: &mut I) -> usize {
+        let number = self.records.len();
+        self.records.push_reserved(Some(Record { len: count, list }));
+        for _ in 0..count {
+            self.cells.push_reserved(items.next());
+        }
+        for _ in count..CAPACITY {
+            self.cells.push_reserved(None);
+        }
+        number
+    }
+
+    pub fn set_list(&mut self, number: usize, list: usize) {
+        let Record { len, list: _ } = self.record(number);
+        self.records[number] = Some(Record { len, list });
+    }
+
     /// Takes the item at an index out of a block.
     pub fn remove(&mut self, number: usize, index: usize) -> T
         requires present { HasBlock self.old number }

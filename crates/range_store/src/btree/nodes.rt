@@ -215,6 +215,22 @@ impl<T: Drop> Nodes<T> {
         self.blocks.remove(number, index)
     }
 
+    pub fn store_leaf_of<I: Iterator<Item = T>>(&mut self, count: usize, items: &mut I) -> usize {
+        self.blocks.store_of(count, NO_LIST, items)
+    }
+
+    pub fn push_item<I: Iterator<Item = T>>(&mut self, number: usize, items: &mut I) {
+        let end = self.blocks.item_count(number);
+        if let Some(item) = items.next() {
+            self.blocks.insert(number, end, item);
+        }
+    }
+
+    pub fn give_list(&mut self, number: usize, children: ArrayVec<usize, CHILD_PLACES>) {
+        let list = store_list(&mut self.lists, children);
+        self.blocks.set_list(number, list);
+    }
+
     /// Stores a new node with one item and no child.
     pub fn store_leaf(&mut self, item: T) -> usize
         requires { HasRoomFor self.old 1 }

@@ -39,6 +39,7 @@ impl<T: Drop> BoxStorage<T> {
     }
 
     // The edge after the item after an edge.
+    #[inline(always)]
     pub fn following(&self, edge: Edge) -> Option<Edge>
         requires { IsBoxEdge self.now edge }
         ensures { IsNextEdge self.now result (box_place self.now edge) }
