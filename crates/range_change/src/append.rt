@@ -69,6 +69,18 @@ pub fn comes_last<K: PartialEnum, V: Eq + Drop, C: Storage<Item<AnyRange<K>, V>>
     is_clear_before::<K, V, C>(stored, last, range)
 }
 
+/// The first item, if a nonempty range comes before all stored ones, and touches none of them.
+pub fn comes_first<K: PartialEnum, V: Eq + Drop, C: Storage<Item<AnyRange<K>, V>>>(
+    stored: &C,
+    range: &AnyRange<K>,
+) -> Option<C::Position> {
+    let first = stored.first();
+    if is_clear_after::<K, V, C>(stored, first, range) {
+        return first;
+    }
+    None
+}
+
 /// Stores a nonempty range that comes after all stored ones, with no search.
 pub fn bind_last<K: PartialEnum, V: Eq + Drop, C: Storage<Item<AnyRange<K>, V>>>(
     stored: &mut C,

@@ -10,7 +10,7 @@ ghost use Rattle.range_change.specs.Lookups.{MeetsSome};
 ghost use Rattle.range_change.specs.Costs.{TakesAtLeast, TakesAsChange};
 ghost use Rattle.range_change.specs.Changes.{IsInserted};
 
-use crate::append::{bind_last, comes_last};
+use crate::append::{bind_last, comes_first, comes_last};
 use crate::cut::prepare_parts;
 use crate::edges::{Joins, Sides, joins_after, joins_before, run_length, seam_at};
 use crate::reach::{Reach, reaching, run_start, surrounding};
@@ -186,6 +186,11 @@ pub fn bind_in_order<K: Measure + Clone, V: Eq + Clone, C: Storage<Item<AnyRange
 {
     if comes_last::<K, V, C>(stored, &range) {
         return bind_last::<K, V, C>(stored, range, value);
+    }
+    if let Some(first) = comes_first::<K, V, C>(stored, &range) {
+        stored.reserve(1)?;
+        let _position = stored.insert_at(Some(first), Item { key: range, value });
+        return Ok(());
     }
     let mut steps = Steps::new();
     bind::<K, V, C>(stored, range, value, &mut steps)

@@ -265,10 +265,14 @@ impl<T: Drop> Blocks<T> {
             + length (items_held (block_of self.old from)) ≤ CAPACITY + start }
         ensures { MovesEnd self.old self.new from start to }
     {
-        for _ in start..self.item_count(from) {
-            let item = self.remove(from, start);
-            self.insert(to, self.item_count(to), item);
+        let Record { len, list } = self.record(from);
+        let Record { len: end, list: other } = self.record(to);
+        for step in 0..len - start {
+            let item = self.cells[CAPACITY * from + start + step].take();
+            self.cells[CAPACITY * to + end + step] = item;
         }
+        self.records[from] = Some(Record { len: start, list });
+        self.records[to] = Some(Record { len: end + len - start, list: other });
     }
 
     /// Stores a new block with no item, and tells its number.

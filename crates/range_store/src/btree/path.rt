@@ -152,26 +152,41 @@ pub fn following<T: Drop>(nodes: &Nodes<T>, below: usize, number: usize, edge: E
         (λ h. IsEdge nodes.now below number h
         × (place nodes.now below number h ≡ place nodes.now below number edge + 1)) }
 {
-    if below == 0 {
-        if edge.index == nodes.item_count(number) {
-            return None;
+    let mut at = number;
+    let mut left = below;
+    let mut turns = edge.path;
+    let mut weight: u128 = 1;
+    let mut path: u128 = 0;
+    // Where the way to the next edge leaves this one, at the lowest node where it can.
+    let mut fork: Option<(usize, usize, u128)> = None;
+    while left > 0 {
+        let index = (turns as usize) & 15;
+        if index < nodes.item_count(at) {
+            fork = Some((nodes.child_at(at, index + 1), left - 1, path + weight * (index as u128 + 1)));
         }
+        path += weight * (index as u128);
+        weight *= PATH_BASE;
+        turns /= PATH_BASE;
+        at = nodes.child_at(at, index);
+        left -= 1;
+    }
+    if edge.index < nodes.item_count(at) {
         return Some(Edge {
-            leaf: number,
-            path: 0,
+            leaf: at,
+            path: edge.path,
             index: edge.index + 1,
         });
     }
-    let index = first_turn(edge);
-    let child = nodes.child_at(number, index);
-    if let Some(later) = following(nodes, below - 1, child, seen_inside(edge)) {
-        return Some(seen_above(later, index));
+    let (mut leaf, mut down, path) = fork?;
+    while down > 0 {
+        leaf = nodes.child_at(leaf, 0);
+        down -= 1;
     }
-    if index == nodes.item_count(number) {
-        return None;
-    }
-    let next = nodes.child_at(number, index + 1);
-    Some(seen_above(first_edge(nodes, below - 1, next), index + 1))
+    Some(Edge {
+        leaf,
+        path,
+        index: 0,
+    })
 }
 
 // The edge before the item before an edge below a node.

@@ -95,6 +95,15 @@ pub fn replace_run<T: Drop, C: Storage<T>>(stored: &mut C, cursor: Cursor<C::Pos
         let _inserted = stored.insert_at(cursor.at, item);
         return;
     }
+    if cursor.left == 1 {
+        match cursor.at {
+            Some(p) => {
+                let _replaced = stored.replace(p, item);
+                return;
+            }
+            None => unreachable!(),
+        }
+    }
     let rest = put::<T, C>(stored, cursor, item);
     remove_rest::<T, C>(stored, rest);
 }
