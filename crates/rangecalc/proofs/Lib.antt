@@ -2,3 +2,4 @@
 pub mod Letters
 pub mod Made
 pub mod Progress
+pub mod SoFar

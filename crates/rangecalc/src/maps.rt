@@ -1,20 +1,18 @@
 //! The four maps, and what they answer to a line.
 
 ghost use Rattle.std.specs.Prelude.{◌≡◌, ◌↔◌, IsTrue, OnOk};
-ghost use Rattle.std.specs.Ordering.{int_eq};
-ghost use Rattle.btree_range_map.specs.Bindings.{BindAlike};
 ghost use Rattle.btree_range_map.specs.Holding.{box_items};
 ghost use Rattle.rangecalc.specs.Conversation.{AnswersLine, IsDone, none_stored, stored_in};
 ghost use Rattle.rangecalc.specs.Named.{at};
 ghost use Rattle.rangecalc.specs.Replies.{Writes};
-ghost use Rattle.rangecalc.specs.Two.{IsCombination, IsSplit};
+ghost use Rattle.rangecalc.specs.Two.{AreRelated, IsCombination, IsKeeping, IsSplit};
 
 use crate::answer::{Reply, ask, change};
-use crate::line::{Command, Unread, Way, parse};
+use crate::line::{Command, Kept, Relation, Unread, Way, parse};
 use crate::listing::list;
 use crate::named::{Name, Named};
 use crate::number::NumberKey;
-use crate::two::combined;
+use crate::two::{are_related, combined, kept};
 use crate::write::{write_reply, write_truth};
 use btree_range_map::{RangeMap, UpdateError};
 use std::alloc::Global;
@@ -34,12 +32,12 @@ pub fn no_maps<K: NumberKey>(alloc: Global) -> Maps<K>
     }
 }
 
-/// Whether two maps bind each key alike.
-fn are_equal<K: NumberKey>(maps: &Maps<K>, name: Name, other: Name) -> bool
-    ensures { IsTrue result ↔ BindAlike K.order int_eq (at (stored_in maps.now) name)
+/// Whether it is true of two maps.
+fn compare<K: NumberKey>(maps: &Maps<K>, name: Name, relation: Relation, other: Name) -> bool
+    ensures { IsTrue result ↔ AreRelated K.order relation (at (stored_in maps.now) name)
         (at (stored_in maps.now) other) }
 {
-    *maps.at(name) == *maps.at(other)
+    are_related(relation, maps.at(name), maps.at(other))
 }
 
 /// Moves what lies from the key on to the next map.
@@ -76,6 +74,26 @@ fn combine<K: NumberKey>(
     }
 }
 
+/// Makes a map one of the bindings of another, which it may be itself.
+fn keep<K: NumberKey>(
+    maps: &mut Maps<K>,
+    name: Name,
+    wanted: Kept,
+    first: Name,
+    second: Name,
+) -> Reply<K>
+    ensures { IsKeeping K.order name wanted first second result (stored_in maps.old)
+        (stored_in maps.new) }
+{
+    match kept(wanted, maps.at(first), maps.at(second)) {
+        Ok(made) => {
+            *maps.at_mut(name) = made;
+            Reply::Done
+        }
+        Err(_) => Reply::Memory,
+    }
+}
+
 /// Answers a command to the map with a name.
 fn answer<K: NumberKey, W: Write>(
     alloc: Global,
@@ -93,9 +111,14 @@ fn answer<K: NumberKey, W: Write>(
         Command::Ask(question) => write_reply(ask(maps.at(name), question), out),
         Command::List(listing) => list(maps.at(name), listing, out),
         Command::Split(key) => write_reply(split(maps, name, key), out),
-        Command::Equals(other) => write_truth(are_equal(maps, name, other), out),
+        Command::Compare(relation, other) => {
+            write_truth(compare(maps, name, relation, other), out)
+        }
         Command::Combine(way, first, second) => {
             write_reply(combine(maps, name, way, first, second), out)
+        }
+        Command::Keep(kept, first, second) => {
+            write_reply(keep(maps, name, kept, first, second), out)
         }
     }
 }
