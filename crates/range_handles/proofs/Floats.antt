@@ -7,7 +7,6 @@ use Rattle.serde_json.specs.Data.{Data}
 use Rattle.serde_json.specs.View.{items_of}
 use Rattle.serde_json.specs.Written.{has_float, items_have_float}
 use Rattle.btree_range_map.specs.AnyRange.{AnyRange}
-use Rattle.btree_range_map.specs.FreeRanges.{item_ranges}
 use Rattle.btree_range_map.specs.Item.{Item}
 use Rattle.btree_range_map.specs.Keys.{signed_shape, unsigned_shape}
 use Rattle.btree_range_map.specs.Shapes.{bound_shape, range_shape, pair_shape, map_shape, set_shape}

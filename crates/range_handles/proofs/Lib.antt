@@ -1,5 +1,4 @@
 mod AsBox
 mod Completeness
-mod Flags
 mod Floats
 mod Upto

@@ -1,5 +1,4 @@
 pub mod Fewest
-pub mod Flags
 pub mod Held
 pub mod Lists
 pub mod Seals

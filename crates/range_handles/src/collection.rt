@@ -9,10 +9,10 @@ ghost use Rattle.range_handles.specs.Held.{range_count, emptied};
 ghost use Rattle.range_handles.specs.Texts.{data_of, IsDataFault, IsDataRead, IsFaultyText, IsTextRead};
 
 use crate::signed_map::SignedMap;
-use crate::status::{DONE, NO_MEMORY, NOT_JSON, NOT_READ};
 use crate::unsigned_map::UnsignedMap;
 use crate::unsigned_set::UnsignedSet;
 use btree_range_map::json::JsonError;
+use range_c_types::status::{DONE, NO_MEMORY, NOT_JSON, NOT_READ};
 use serde_json::Value;
 use std::alloc::{AllocError, Global};
 

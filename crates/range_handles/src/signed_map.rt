@@ -10,17 +10,17 @@ ghost use Rattle.btree_range_map.specs.Lookups.{BindsKeyOf, IsConnectedToSome};
 ghost use Rattle.btree_range_map.specs.Numbers.{IsNumberOfKeys};
 ghost use Rattle.btree_range_map.specs.Range.{IsEmptyRange};
 ghost use Rattle.btree_range_map.specs.Overlapping.{AreOverlapping};
-ghost use Rattle.range_handles.specs.Flags.{signed_range_of, signed_entry_item, number_of, from_key, upto_key};
+ghost use Rattle.range_c_types.specs.Flags.{signed_range_of, signed_entry_item, number_of, from_key, upto_key};
 ghost use Rattle.range_handles.specs.Held.{HoldsSignedMap, signed_items};
 ghost use Rattle.range_handles.specs.Texts.{signed_data, IsSignedMapRead, IsSignedFault};
 ghost use Rattle.range_handles.specs.Lists.{signed_keys, SignedRanges};
 
-use crate::bounds::{Length, SignedBounds, SignedEntry};
 use crate::collection::Collection;
-use crate::status::{CONNECTED, DONE, NO_MEMORY, NONE, OTHER_KIND, answer};
 use btree_range_map::json::{JsonError, map_from_json, map_to_json};
 use btree_range_map::range::traits::measure_counts_keys;
-use btree_range_map::{AnyRange, NotInserted, RangeMap};
+use btree_range_map::{AnyRange, RangeMap};
+use range_c_types::bounds::{Length, SignedBounds, SignedEntry};
+use range_c_types::status::{CONNECTED, DONE, NO_MEMORY, NONE, OTHER_KIND, answer, of_refusal};
 use serde_json::Value;
 use std::alloc::{AllocError, Global};
 use std::marker::Model;
@@ -140,8 +140,7 @@ pub fn insert_disconnected(collection: &mut Collection, range: &SignedBounds, va
     match collection {
         Collection::Signed(kept) => match kept.map.insert_disconnected(range.range(), value) {
             Ok(()) => DONE,
-            Err(NotInserted::Connected(_, _)) => CONNECTED,
-            Err(NotInserted::Memory(_, _)) => NO_MEMORY,
+            Err(refusal) => of_refusal(&refusal),
         },
         _ => OTHER_KIND,
     }

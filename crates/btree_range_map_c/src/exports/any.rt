@@ -5,8 +5,8 @@ ghost use Rattle.range_handles.specs.Fewest.{IsLeastRangeCount};
 ghost use Rattle.range_handles.specs.Held.{range_count, emptied};
 ghost use Rattle.range_handles.specs.Texts.{IsTextOf, IsTextRead, IsFaultyText};
 
+use range_c_types::status::{CLOSED, DONE, NO_MEMORY, NO_ROOM, NOT_JSON, NOT_READ};
 use range_handles::handle::Handle;
-use range_handles::status::{CLOSED, DONE, NO_MEMORY, NO_ROOM, NOT_JSON, NOT_READ};
 use std::alloc::Global;
 use std::mem;
 

@@ -5,15 +5,15 @@ ghost use Rattle.btree_range_map.specs.Lookups.{BindsKeyOf, IsConnectedToSome};
 ghost use Rattle.btree_range_map.specs.Numbers.{IsNumberOfKeys};
 ghost use Rattle.btree_range_map.specs.Range.{IsEmptyRange};
 ghost use Rattle.btree_range_map.specs.Overlapping.{AreOverlapping};
-ghost use Rattle.range_handles.specs.Flags.{signed_range_of, signed_entry_item, number_of, from_key, upto_key};
+ghost use Rattle.range_c_types.specs.Flags.{signed_range_of, signed_entry_item, number_of, from_key, upto_key};
 ghost use Rattle.range_handles.specs.Held.{HoldsSignedMap, signed_items};
 ghost use Rattle.range_handles.specs.Lists.{signed_keys, SignedRanges};
 
-use range_handles::bounds::{Length, SignedBounds, SignedEntry};
+use range_c_types::bounds::{Length, SignedBounds, SignedEntry};
+use range_c_types::status::{CLOSED, CONNECTED, DONE, NO_MEMORY, NONE, OPEN, OTHER_KIND};
 use range_handles::collection::Collection;
 use range_handles::handle::Handle;
 use range_handles::signed_map::{self, SignedMap};
-use range_handles::status::{CLOSED, CONNECTED, DONE, NO_MEMORY, NONE, OPEN, OTHER_KIND};
 use std::alloc::Global;
 
 /// Opens a closed handle, on an empty map. Allocates one block.

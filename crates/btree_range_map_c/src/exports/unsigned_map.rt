@@ -5,14 +5,14 @@ ghost use Rattle.btree_range_map.specs.Lookups.{BindsKeyOf, IsConnectedToSome};
 ghost use Rattle.btree_range_map.specs.Numbers.{IsNumberOfKeys};
 ghost use Rattle.btree_range_map.specs.Range.{IsEmptyRange};
 ghost use Rattle.btree_range_map.specs.Overlapping.{AreOverlapping};
-ghost use Rattle.range_handles.specs.Flags.{range_of, entry_item, number_of, from_key, upto_key};
+ghost use Rattle.range_c_types.specs.Flags.{range_of, entry_item, number_of, from_key, upto_key};
 ghost use Rattle.range_handles.specs.Held.{HoldsMap, map_items};
 ghost use Rattle.range_handles.specs.Lists.{unsigned_keys, Ranges};
 
-use range_handles::bounds::{Bounds, Entry, Length};
+use range_c_types::bounds::{Bounds, Entry, Length};
+use range_c_types::status::{CLOSED, CONNECTED, DONE, NO_MEMORY, NONE, OPEN, OTHER_KIND};
 use range_handles::collection::Collection;
 use range_handles::handle::Handle;
-use range_handles::status::{CLOSED, CONNECTED, DONE, NO_MEMORY, NONE, OPEN, OTHER_KIND};
 use range_handles::unsigned_map::{self, UnsignedMap};
 use std::alloc::Global;
 

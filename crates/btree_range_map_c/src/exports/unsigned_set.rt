@@ -8,14 +8,14 @@ ghost use Rattle.btree_range_map.specs.Numbers.{IsNumberOfKeys};
 ghost use Rattle.btree_range_map.specs.Range.{IsEmptyRange};
 ghost use Rattle.btree_range_map.specs.SetReads.{AreRangesThatMeet};
 ghost use Rattle.btree_range_map.specs.TwoSets.{HoldsEither, HoldsBoth};
-ghost use Rattle.range_handles.specs.Flags.{range_of, number_of, from_key, upto_key};
+ghost use Rattle.range_c_types.specs.Flags.{range_of, number_of, from_key, upto_key};
 ghost use Rattle.range_handles.specs.Held.{HoldsSet, IsRangeFor, set_items};
 ghost use Rattle.range_handles.specs.Lists.{unsigned_keys, KeyRanges};
 
-use range_handles::bounds::{Bounds, Length};
+use range_c_types::bounds::{Bounds, Length};
+use range_c_types::status::{CLOSED, DONE, NO_MEMORY, NONE, OPEN, OTHER_KIND};
 use range_handles::collection::Collection;
 use range_handles::handle::Handle;
-use range_handles::status::{CLOSED, DONE, NO_MEMORY, NONE, OPEN, OTHER_KIND};
 use range_handles::unsigned_set::{self, UnsignedSet};
 use std::alloc::Global;
 

@@ -1,6 +1,4 @@
 use Rattle.std.proofs.Common.{rules}
-use Rattle.btree_range_map.specs.Holding.{box_items}
-use Rattle.range_handles.specs.Lists.{unsigned_keys}
 use Rattle.range_handles.proofs.Completeness.{unsigned_complete}
 use Rattle.range_handles.proofs.unsigned_set.UnsignedSet.range_count.Goals as goal
 

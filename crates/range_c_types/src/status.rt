@@ -1,5 +1,8 @@
 //! What a call answers.
-ghost use Rattle.std.specs.Prelude.{◌≡◌, ◌↔◌, IsTrue};
+ghost use Rattle.std.specs.Prelude.{◌≡◌, ◌≢◌, ◌↔◌, ◌⊎◌, IsTrue};
+ghost use Rattle.btree_range_map.specs.Apart.{IsConnectedError};
+
+use btree_range_map::NotInserted;
 
 /// The call did what it is for; to a question, yes.
 pub const DONE: u32 = 0;
@@ -37,4 +40,16 @@ pub fn answer(yes: bool) -> u32
     ensures no { result ≡ NONE ↔ ¬ IsTrue yes }
 {
     if yes { DONE } else { NONE }
+}
+
+/// The status that says why a range was not inserted.
+pub fn of_refusal<K, V>(refusal: &NotInserted<K, V>) -> u32
+    ensures connected { result ≡ CONNECTED ↔ IsConnectedError refusal.now }
+    ensures answer { (result ≡ NO_MEMORY) ⊎ (result ≡ CONNECTED) }
+    ensures not_done { result ≢ DONE }
+{
+    match refusal {
+        NotInserted::Connected(_, _) => CONNECTED,
+        NotInserted::Memory(_, _) => NO_MEMORY,
+    }
 }
