@@ -2,9 +2,7 @@
 use Rattle.std.specs.Prelude.{◌≡◌, ◌≢◌, ◌⊎◌, ◌↔◌, ℕ, ℤ, Bool, IsTrue, List, [], ◌++◌, codes}
 use Rattle.std.specs.Io.BufRead.{first_line, drop_through}
 use Rattle.std.specs.Str.{IsUtf8}
-use Rattle.std.specs.Ordering.{int_eq}
 use Rattle.btree_range_map.specs.AnyRange.{AnyRange}
-use Rattle.btree_range_map.specs.Bindings.{BindAlike}
 use Rattle.btree_range_map.specs.BoxStorage.{BoxStorage}
 use Rattle.btree_range_map.specs.Holding.{box_items}
 use Rattle.btree_range_map.specs.Item.{Item}
@@ -14,10 +12,10 @@ use Rattle.rangecalc.specs.Lines.{BeginsWith, Says}
 use Rattle.rangecalc.specs.Named.{at, each, put}
 use Rattle.rangecalc.specs.Ranges.{Ranges}
 use Rattle.rangecalc.specs.Replies.{SpellsReply, truth_text}
-use Rattle.rangecalc.specs.Two.{IsCombination, IsSplit}
+use Rattle.rangecalc.specs.Two.{AreRelated, IsAmending, IsCombination, IsKeeping, IsSplit}
 use Rattle.rangecalc.specs.declared.answer.Reply.{Reply}
 use Rattle.rangecalc.specs.declared.line.Command.{Command}
-use Rattle.rangecalc.specs.declared.line.Command.TheVariants.{Change, Ask, List as Lists, Split, Equals, Combine}
+use Rattle.rangecalc.specs.declared.line.Command.TheVariants.{Change, Ask, List as Lists, Split, Compare, Combine, Keep, Amend}
 use Rattle.rangecalc.specs.declared.named.Name.{Name}
 use Rattle.rangecalc.specs.declared.named.Named.{Named}
 
@@ -40,11 +38,18 @@ module _ {K : Type 0} (order : KeyOrder K) where
       IsListed order listing (at old name) text × (new ≡ old)
   IsDone name (Split key) text old new =
       (reply : Reply K) × IsSplit order name key reply old new × SpellsReply reply text
-  IsDone name (Equals other) text old new =
-      (answer : Bool) × (IsTrue answer ↔ BindAlike order int_eq (at old name) (at old other))
+  IsDone name (Compare relation other) text old new =
+      (answer : Bool)
+      × (IsTrue answer ↔ AreRelated order relation (at old name) (at old other))
       × (text ≡ truth_text answer) × (new ≡ old)
   IsDone name (Combine way first second) text old new =
       (reply : Reply K) × IsCombination order name way first second reply old new
+      × SpellsReply reply text
+  IsDone name (Keep kept first second) text old new =
+      (reply : Reply K) × IsKeeping order name kept first second reply old new
+      × SpellsReply reply text
+  IsDone name (Amend amendment other) text old new =
+      (reply : Reply K) × IsAmending order name amendment other reply old new
       × SpellsReply reply text
 
   -- the text that answers a line: of the command that the line says, `bad line`, or `memory` where

@@ -9,7 +9,13 @@ use Rattle.rangecalc.specs.declared.line.Question.TheVariants.{Get, At, Has, Mee
 use Rattle.rangecalc.specs.declared.line.Listing.{Listing}
 use Rattle.rangecalc.specs.declared.line.Listing.TheVariants.{Show, Gaps, Over, Free, Pieces}
 use Rattle.rangecalc.specs.declared.line.Command.{Command}
-use Rattle.rangecalc.specs.declared.line.Command.TheVariants.{Change, Ask, List as Lists, Split, Equals, Combine}
+use Rattle.rangecalc.specs.declared.line.Command.TheVariants.{Change, Ask, List as Lists, Split, Compare, Combine, Keep, Amend}
+use Rattle.rangecalc.specs.declared.line.Amendment.{Amendment}
+use Rattle.rangecalc.specs.declared.line.Amendment.TheVariants.{Extend, Subtract}
+use Rattle.rangecalc.specs.declared.line.Kept.{Kept}
+use Rattle.rangecalc.specs.declared.line.Kept.TheVariants.{In, Without}
+use Rattle.rangecalc.specs.declared.line.Relation.{Relation}
+use Rattle.rangecalc.specs.declared.line.Relation.TheVariants.{Equals, Subset, Apart}
 use Rattle.rangecalc.specs.declared.line.Way.{Way}
 use Rattle.rangecalc.specs.declared.line.Way.TheVariants.{Both, Either, Over as OverWay}
 
@@ -53,15 +59,31 @@ way_word Both = codes "both"
 way_word Either = codes "either"
 way_word OverWay = codes "over"
 
+abbrev pub kept_word : Kept → List ℕ
+kept_word In = codes "in"
+kept_word Without = codes "without"
+
+abbrev pub amendment_sign : Amendment → List ℕ
+amendment_sign Extend = codes "+="
+amendment_sign Subtract = codes "-="
+
+abbrev pub relation_word : Relation → List ℕ
+relation_word Equals = codes "equals"
+relation_word Subset = codes "subset"
+relation_word Apart = codes "apart"
+
 -- the words that name a command
 abbrev pub words_of : {K : Type 0} → Command K → List ℕ
 words_of (Change change) = change_words change
 words_of (Ask question) = question_words question
 words_of (Lists listing) = listing_words listing
 words_of (Split key) = codes "split"
-words_of (Equals other) = codes "equals " ++ letter other ∷ []
+words_of (Compare relation other) = relation_word relation ++ 32 ∷ letter other ∷ []
 words_of (Combine way first second) =
     codes "= " ++ letter first ∷ 32 ∷ way_word way ++ 32 ∷ letter second ∷ []
+words_of (Keep kept first second) =
+    codes "= " ++ letter first ∷ 32 ∷ kept_word kept ++ 32 ∷ letter second ∷ []
+words_of (Amend amendment other) = amendment_sign amendment ++ 32 ∷ letter other ∷ []
 
 -- the line is the letter of a map, a space, these words, and what follows them
 abbrev pub BeginsWith : List ℕ → Name → List ℕ → Type 0

@@ -1,7 +1,7 @@
 //! What a line says.
 
 ghost use Rattle.std.specs.Prelude.{◌≡◌, ◌<◌, ◌∷◌, ◌++◌, [], List, ℕ, Err, IfOk, IfSome, codes};
-ghost use Rattle.rangecalc.specs.Lines.{BeginsWith, Says, letter, way_word, words_of};
+ghost use Rattle.rangecalc.specs.Lines.{BeginsWith, Says, amendment_sign, kept_word, letter, relation_word, way_word, words_of};
 ghost use Rattle.rangecalc.specs.declared.line.Unread.TheVariants.{Memory};
 
 use crate::named::Name;
@@ -68,6 +68,35 @@ pub enum Way {
     Over,
 }
 
+/// Which bindings of a map a third one has.
+#[derive(Clone, Copy)]
+pub enum Kept {
+    /// Those of the keys that the second map binds.
+    In,
+    /// Those of all other keys.
+    Without,
+}
+
+/// How a map is changed by another.
+#[derive(Clone, Copy)]
+pub enum Amendment {
+    /// The keys of the other are bound as there.
+    Extend,
+    /// The keys of the other are unbound.
+    Subtract,
+}
+
+/// What may be true of two maps.
+#[derive(Clone, Copy)]
+pub enum Relation {
+    /// They bind each key alike.
+    Equals,
+    /// Each key that the first binds is bound by the second.
+    Subset,
+    /// No key is bound by both.
+    Apart,
+}
+
 /// A line after its name.
 #[derive(Drop)]
 pub enum Command<K> {
@@ -75,8 +104,10 @@ pub enum Command<K> {
     Ask(Question<K>),
     List(Listing<K>),
     Split(K),
-    Equals(Name),
+    Compare(Relation, Name),
     Combine(Way, Name, Name),
+    Keep(Kept, Name, Name),
+    Amend(Amendment, Name),
 }
 
 /// The text before and after the first space.
@@ -231,13 +262,48 @@ fn way_of(word: &str) -> Option<Way>
     }
 }
 
-/// Two maps and how they are put together.
+fn kept_of(word: &str) -> Option<Kept>
+    ensures { IfSome result (λ kept. word.now ≡ kept_word kept) }
+{
+    match word {
+        "in" => Some(Kept::In),
+        "without" => Some(Kept::Without),
+        _ => None,
+    }
+}
+
+fn amendment_of(word: &str) -> Option<Amendment>
+    ensures { IfSome result (λ amendment. word.now ≡ amendment_sign amendment) }
+{
+    match word {
+        "+=" => Some(Amendment::Extend),
+        "-=" => Some(Amendment::Subtract),
+        _ => None,
+    }
+}
+
+fn relation_of(word: &str) -> Option<Relation>
+    ensures { IfSome result (λ relation. word.now ≡ relation_word relation) }
+{
+    match word {
+        "equals" => Some(Relation::Equals),
+        "subset" => Some(Relation::Subset),
+        "apart" => Some(Relation::Apart),
+        _ => None,
+    }
+}
+
+/// Two maps and what is made of them.
 fn combination<K: NumberKey>(text: &str) -> Option<Command<K>>
     ensures { IfSome result (λ command. codes "= " ++ text.now ≡ words_of command) }
 {
     let (first, rest) = front_name(text)?;
     let (word, second) = split_at_space(rest)?;
-    Some(Command::Combine(way_of(word)?, first, name_of(second)?))
+    let second = name_of(second)?;
+    match way_of(word) {
+        Some(way) => Some(Command::Combine(way, first, second)),
+        None => Some(Command::Keep(kept_of(word)?, first, second)),
+    }
 }
 
 /// A command that names other maps.
@@ -246,9 +312,9 @@ fn of_maps<K: NumberKey>(words: &str) -> Option<Command<K>>
 {
     let (word, fields) = split_at_space(words)?;
     match word {
-        "equals" => Some(Command::Equals(name_of(fields)?)),
         "=" => combination(fields),
-        _ => None,
+        "+=" | "-=" => Some(Command::Amend(amendment_of(word)?, name_of(fields)?)),
+        _ => Some(Command::Compare(relation_of(word)?, name_of(fields)?)),
     }
 }
 

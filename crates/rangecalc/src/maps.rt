@@ -1,24 +1,23 @@
 //! The four maps, and what they answer to a line.
 
 ghost use Rattle.std.specs.Prelude.{◌≡◌, ◌↔◌, IsTrue, OnOk};
-ghost use Rattle.std.specs.Ordering.{int_eq};
-ghost use Rattle.btree_range_map.specs.Bindings.{BindAlike};
 ghost use Rattle.btree_range_map.specs.Holding.{box_items};
 ghost use Rattle.rangecalc.specs.Conversation.{AnswersLine, IsDone, none_stored, stored_in};
 ghost use Rattle.rangecalc.specs.Named.{at};
 ghost use Rattle.rangecalc.specs.Replies.{Writes};
-ghost use Rattle.rangecalc.specs.Two.{IsCombination, IsSplit};
+ghost use Rattle.rangecalc.specs.Two.{AreRelated, IsAmending, IsCombination, IsKeeping, IsSplit};
 
 use crate::answer::{Reply, ask, change};
-use crate::line::{Command, Unread, Way, parse};
+use crate::line::{Amendment, Command, Kept, Relation, Unread, Way, parse};
 use crate::listing::list;
 use crate::named::{Name, Named};
 use crate::number::NumberKey;
-use crate::two::combined;
+use crate::two::{amend, amend_by_itself, are_related, combined, kept};
 use crate::write::{write_reply, write_truth};
 use btree_range_map::{RangeMap, UpdateError};
 use std::alloc::Global;
 use std::io::{self, Write};
+use std::mem;
 
 /// The maps that the lines name `a` to `d`.
 pub type Maps<K> = Named<RangeMap<K, i64>>;
@@ -34,12 +33,12 @@ pub fn no_maps<K: NumberKey>(alloc: Global) -> Maps<K>
     }
 }
 
-/// Whether two maps bind each key alike.
-fn are_equal<K: NumberKey>(maps: &Maps<K>, name: Name, other: Name) -> bool
-    ensures { IsTrue result ↔ BindAlike K.order int_eq (at (stored_in maps.now) name)
+/// Whether it is true of two maps.
+fn compare<K: NumberKey>(maps: &Maps<K>, name: Name, relation: Relation, other: Name) -> bool
+    ensures { IsTrue result ↔ AreRelated K.order relation (at (stored_in maps.now) name)
         (at (stored_in maps.now) other) }
 {
-    *maps.at(name) == *maps.at(other)
+    are_related(relation, maps.at(name), maps.at(other))
 }
 
 /// Moves what lies from the key on to the next map.
@@ -76,6 +75,50 @@ fn combine<K: NumberKey>(
     }
 }
 
+/// Makes a map one of the bindings of another, which it may be itself.
+fn keep<K: NumberKey>(
+    maps: &mut Maps<K>,
+    name: Name,
+    wanted: Kept,
+    first: Name,
+    second: Name,
+) -> Reply<K>
+    ensures { IsKeeping K.order name wanted first second result (stored_in maps.old)
+        (stored_in maps.new) }
+{
+    match kept(wanted, maps.at(first), maps.at(second)) {
+        Ok(made) => {
+            *maps.at_mut(name) = made;
+            Reply::Done
+        }
+        Err(_) => Reply::Memory,
+    }
+}
+
+/// Changes a map by another, which it may be itself.
+fn amend_by<K: NumberKey>(
+    alloc: Global,
+    maps: &mut Maps<K>,
+    name: Name,
+    amendment: Amendment,
+    other: Name,
+) -> Reply<K>
+    ensures { IsAmending K.order name amendment other result (stored_in maps.old)
+        (stored_in maps.new) }
+{
+    if name == other {
+        amend_by_itself(amendment, maps.at_mut(name));
+        return Reply::Done;
+    }
+    let mut map = mem::replace(maps.at_mut(name), RangeMap::new(alloc));
+    let amended = amend(amendment, &mut map, maps.at(other));
+    *maps.at_mut(name) = map;
+    match amended {
+        Ok(()) => Reply::Done,
+        Err(_) => Reply::Memory,
+    }
+}
+
 /// Answers a command to the map with a name.
 fn answer<K: NumberKey, W: Write>(
     alloc: Global,
@@ -93,9 +136,17 @@ fn answer<K: NumberKey, W: Write>(
         Command::Ask(question) => write_reply(ask(maps.at(name), question), out),
         Command::List(listing) => list(maps.at(name), listing, out),
         Command::Split(key) => write_reply(split(maps, name, key), out),
-        Command::Equals(other) => write_truth(are_equal(maps, name, other), out),
+        Command::Compare(relation, other) => {
+            write_truth(compare(maps, name, relation, other), out)
+        }
         Command::Combine(way, first, second) => {
             write_reply(combine(maps, name, way, first, second), out)
+        }
+        Command::Keep(kept, first, second) => {
+            write_reply(keep(maps, name, kept, first, second), out)
+        }
+        Command::Amend(amendment, other) => {
+            write_reply(amend_by(alloc, maps, name, amendment, other), out)
         }
     }
 }
@@ -103,7 +154,8 @@ fn answer<K: NumberKey, W: Write>(
 /// Does what a line says and writes its reply: one line, or one for each range that is listed.
 ///
 /// A line of no known form is answered by `bad line`, one that fails to allocate by `memory`, and
-/// then the maps are as before.
+/// then the maps are as before, but for `a += b` and `a -= b`: these have changed the keys of the
+/// ranges of `b` before one of them, and no others.
 pub fn answer_line<K: NumberKey, W: Write>(
     alloc: Global,
     maps: &mut Maps<K>,

@@ -1,16 +1,18 @@
-//! Maps that are made of two others.
+//! What is made of two maps, and what is true of them.
 
-ghost use Rattle.std.specs.Prelude.{◌≡◌, IfOk, Err};
+ghost use Rattle.std.specs.Prelude.{◌≡◌, ◌↔◌, IfOk, IsTrue, Err, OnErr, OnOk};
 ghost use Rattle.std.specs.Option.{option_copied};
 ghost use Rattle.std.specs.Ordering.{int_eq};
 ghost use Rattle.btree_range_map.specs.Combining.{AreCombined, MayFailOnBoth};
 ghost use Rattle.btree_range_map.specs.Holding.{box_items};
+ghost use Rattle.btree_range_map.specs.PartWay.{BeforeOne};
+ghost use Rattle.btree_range_map.specs.Together.{BindKeysOf, ShareNoKey};
 ghost use Rattle.btree_range_map.specs.UpdateError.TheVariants.{Closure};
-ghost use Rattle.rangecalc.specs.Two.{IsSum, Makes};
+ghost use Rattle.rangecalc.specs.Two.{AreRelated, IsAmended, IsKept, IsSum, Makes};
 
-use crate::line::Way;
+use crate::line::{Amendment, Kept, Relation, Way};
 use crate::number::NumberKey;
-use btree_range_map::{RangeMap, UpdateError};
+use btree_range_map::{MapError, RangeMap, UpdateError};
 
 /// A sum that no `i64` holds.
 #[derive(Drop)]
@@ -52,4 +54,91 @@ pub fn combined<K: NumberKey>(
         → MayFailOnBoth K.order (Makes way) (box_items first.now) (box_items second.now) fault }
 {
     first.combine(second, |one, two| made(way, one, two))
+}
+
+/// A map of the bindings of the first that are kept for the keys of the second.
+pub fn kept<K: NumberKey>(
+    kept: Kept,
+    first: &RangeMap<K, i64>,
+    second: &RangeMap<K, i64>,
+) -> Result<RangeMap<K, i64>, MapError>
+    ensures { IfOk result
+        (λ made. IsKept K.order kept (box_items first.now) (box_items second.now)
+        (box_items made)) }
+{
+    match kept {
+        Kept::In => first.restrict(second),
+        Kept::Without => first.without(second),
+    }
+}
+
+/// Changes a map by another.
+pub fn amend<K: NumberKey>(
+    amendment: Amendment,
+    map: &mut RangeMap<K, i64>,
+    other: &RangeMap<K, i64>,
+) -> Result<(), MapError>
+    ensures amended { OnOk result
+        (IsAmended K.order amendment (box_items map.old) (box_items other.now)
+        (box_items map.new)) }
+    ensures refused { OnErr result (BeforeOne (box_items other.now)
+        (λ front. IsAmended K.order amendment (box_items map.old) front (box_items map.new))) }
+{
+    match amendment {
+        Amendment::Extend => map.extend_from(other),
+        Amendment::Subtract => map.remove_all(other),
+    }
+}
+
+/// Changes a map as by another that binds each key alike.
+pub fn amend_by_itself<K: NumberKey>(amendment: Amendment, map: &mut RangeMap<K, i64>)
+    ensures { IsAmended K.order amendment (box_items map.old) (box_items map.old)
+        (box_items map.new) }
+{
+    match amendment {
+        Amendment::Extend => (),
+        Amendment::Subtract => map.clear(),
+    }
+}
+
+/// Whether each key that the first map binds is bound by the second.
+fn is_subset<K: NumberKey>(first: &RangeMap<K, i64>, second: &RangeMap<K, i64>) -> bool
+    ensures { IsTrue result ↔ BindKeysOf K.order (box_items first.now) (box_items second.now) }
+{
+    let mut items = first.iter();
+    while let Some((range, _)) = items.next() {
+        if !second.binds_all(*range) {
+            return false;
+        }
+    }
+    true
+}
+
+/// Whether no key is bound by both maps.
+fn are_apart<K: NumberKey>(first: &RangeMap<K, i64>, second: &RangeMap<K, i64>) -> bool
+    ensures { IsTrue result ↔ ShareNoKey K.order (box_items first.now) (box_items second.now) }
+{
+    let mut items = first.iter();
+    while let Some((range, _)) = items.next() {
+        if second.intersects(*range) {
+            return false;
+        }
+    }
+    true
+}
+
+/// Whether it is true of two maps.
+pub fn are_related<K: NumberKey>(
+    relation: Relation,
+    first: &RangeMap<K, i64>,
+    second: &RangeMap<K, i64>,
+) -> bool
+    ensures { IsTrue result
+        ↔ AreRelated K.order relation (box_items first.now) (box_items second.now) }
+{
+    match relation {
+        Relation::Equals => *first == *second,
+        Relation::Subset => is_subset(first, second),
+        Relation::Apart => are_apart(first, second),
+    }
 }
