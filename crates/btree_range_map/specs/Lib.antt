@@ -48,6 +48,7 @@ pub use Rattle.range_map.specs.MappedValues
 pub use Rattle.range_change.specs.Neighbours
 pub use Rattle.range_map.specs.Overlapping
 pub use Rattle.range_map.specs.Overlays
+pub use Rattle.range_map.specs.PartWay
 pub use Rattle.range_map.specs.PieceLists
 pub use Rattle.range_change.specs.Pieces
 pub use Rattle.range_map.specs.Rebinding
@@ -73,7 +74,6 @@ pub use Rattle.range_commands.specs.LastCommands
 pub use Rattle.range_sets.specs.Members
 pub use Rattle.range_sets.specs.Multimaps
 pub use Rattle.range_sets.specs.Pairs
-pub use Rattle.range_sets.specs.PartWay
 pub use Rattle.range_sets.specs.Reads as SetReads
 pub use Rattle.range_commands.specs.Runs
 pub use Rattle.range_sets.specs.SetLaws

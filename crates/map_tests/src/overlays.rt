@@ -1,9 +1,9 @@
-//! Maps in which each key keeps the value that it has in one of two.
+//! Maps in which each key keeps the value that it has in one of two, made anew or in place.
 
 use crate::support::{
     Map, NumberItem, Played, Row, Trial, Tried, check_each, fill, insert_rows, wrong_unless,
 };
-use range_map::map::MapError;
+use range_map::map::{MapError, RangeMap};
 use range_store::storage::Storage;
 use std::test::Fail;
 
@@ -15,13 +15,26 @@ enum Made {
     Rest,
 }
 
-/// A map that is made of two.
+/// Whether a map is made of two, or one of the two is changed.
+#[derive(Clone, Copy)]
+enum Place {
+    Anew,
+    InPlace,
+}
+
+/// A map that is made of two, or changed by another.
 pub trait Overlaid {
     fn become_overlay(&mut self, other: &Self) -> Result<bool, MapError>;
 
     fn become_restriction(&mut self, other: &Self) -> Result<bool, MapError>;
 
     fn become_rest(&mut self, other: &Self) -> Result<bool, MapError>;
+
+    fn extend_from(&mut self, other: &Self) -> Result<bool, MapError>;
+
+    fn retain_all(&mut self, other: &Self) -> Result<bool, MapError>;
+
+    fn remove_all(&mut self, other: &Self) -> Result<bool, MapError>;
 
     fn equals(&self, other: &Self) -> bool;
 }
@@ -42,20 +55,43 @@ impl<C: Storage<NumberItem>> Overlaid for Map<C> {
         Ok(true)
     }
 
+    fn extend_from(&mut self, other: &Self) -> Result<bool, MapError> {
+        RangeMap::extend_from(self, other)?;
+        Ok(true)
+    }
+
+    fn retain_all(&mut self, other: &Self) -> Result<bool, MapError> {
+        RangeMap::retain_all(self, other)?;
+        Ok(true)
+    }
+
+    fn remove_all(&mut self, other: &Self) -> Result<bool, MapError> {
+        RangeMap::remove_all(self, other)?;
+        Ok(true)
+    }
+
     fn equals(&self, other: &Self) -> bool {
         *self == *other
     }
 }
 
-fn become_made<M: Overlaid>(map: &mut M, made: Made, other: &M) -> Result<bool, MapError> {
-    match made {
-        Made::Overlay => map.become_overlay(other),
-        Made::Restriction => map.become_restriction(other),
-        Made::Rest => map.become_rest(other),
+fn become_made<M: Overlaid>(
+    map: &mut M,
+    made: Made,
+    place: Place,
+    other: &M,
+) -> Result<bool, MapError> {
+    match (made, place) {
+        (Made::Overlay, Place::Anew) => map.become_overlay(other),
+        (Made::Overlay, Place::InPlace) => map.extend_from(other),
+        (Made::Restriction, Place::Anew) => map.become_restriction(other),
+        (Made::Restriction, Place::InPlace) => map.retain_all(other),
+        (Made::Rest, Place::Anew) => map.become_rest(other),
+        (Made::Rest, Place::InPlace) => map.remove_all(other),
     }
 }
 
-/// What two maps store, and what comes of them by each of the three calls.
+/// What two maps store, and what comes of them in each of the three ways.
 #[derive(Clone, Copy)]
 struct Pair<'a> {
     one: &'a [Row],
@@ -70,15 +106,16 @@ fn is_made_so<M: Played + Overlaid>(
     map: &mut M,
     other: &M,
     one: &[Row],
+    place: Place,
     (made, rows): (Made, &[Row]),
 ) -> Result<bool, MapError> {
     map.clear();
     insert_rows(map, one)?;
-    become_made(map, made, other)?;
+    become_made(map, made, place, other)?;
     Ok(map.stores(rows))
 }
 
-/// The first of the three calls of which another map comes.
+/// The first of the three ways in which another map comes, made anew or in place.
 fn first_other<M: Played + Overlaid>(
     map: &mut M,
     other: &M,
@@ -89,9 +126,10 @@ fn first_other<M: Played + Overlaid>(
         (Made::Restriction, pair.restricted),
         (Made::Rest, pair.without),
     ];
-    for (place, made) in all.iter().enumerate() {
-        if !is_made_so(map, other, pair.one, *made)? {
-            return Ok(Some(place));
+    for (number, made) in all.iter().enumerate() {
+        let anew = is_made_so(map, other, pair.one, Place::Anew, *made)?;
+        if !anew || !is_made_so(map, other, pair.one, Place::InPlace, *made)? {
+            return Ok(Some(number));
         }
     }
     Ok(None)
@@ -160,10 +198,11 @@ fn is_overlaid<M: Played + Overlaid>(
     front: &mut M,
     whole: &mut M,
     count: u16,
+    place: Place,
 ) -> Result<bool, MapError> {
     refill(front, count)?;
     refill(whole, count.wrapping_mul(2))?;
-    front.become_overlay(whole)?;
+    become_made(front, Made::Overlay, place, whole)?;
     Ok(front.equals(whole))
 }
 
@@ -172,10 +211,11 @@ fn is_restricted<M: Played + Overlaid>(
     front: &mut M,
     whole: &mut M,
     count: u16,
+    place: Place,
 ) -> Result<bool, MapError> {
     refill(front, count)?;
     refill(whole, count.wrapping_mul(2))?;
-    whole.become_restriction(front)?;
+    become_made(whole, Made::Restriction, place, front)?;
     Ok(whole.equals(front))
 }
 
@@ -184,19 +224,31 @@ fn is_left<M: Played + Overlaid>(
     front: &mut M,
     whole: &mut M,
     count: u16,
+    place: Place,
 ) -> Result<bool, MapError> {
     refill(front, count)?;
     refill(whole, count.wrapping_mul(2))?;
-    whole.become_rest(front)?;
+    become_made(whole, Made::Rest, place, front)?;
     Ok(whole.has_count(usize::from(count)))
+}
+
+fn are_made_so<M: Played + Overlaid>(
+    front: &mut M,
+    whole: &mut M,
+    count: u16,
+    place: Place,
+) -> Result<bool, MapError> {
+    let overlaid = is_overlaid(front, whole, count, place)?;
+    let restricted = is_restricted(front, whole, count, place)?;
+    let left = is_left(front, whole, count, place)?;
+    Ok(overlaid && restricted && left)
 }
 
 impl Trial for Count {
     fn first_wrong<M: Tried>(&self, map: &mut M, other: &mut M) -> Result<Option<usize>, MapError> {
-        let overlaid = is_overlaid(map, other, self.0)?;
-        let restricted = is_restricted(map, other, self.0)?;
-        let left = is_left(map, other, self.0)?;
-        Ok(wrong_unless(overlaid && restricted && left))
+        let anew = are_made_so(map, other, self.0, Place::Anew)?;
+        let in_place = are_made_so(map, other, self.0, Place::InPlace)?;
+        Ok(wrong_unless(anew && in_place))
     }
 }
 

@@ -10,6 +10,7 @@ pub mod MappedValues
 pub mod Merged
 pub mod Overlapping
 pub mod Overlays
+pub mod PartWay
 pub mod PieceLists
 pub mod Rebinding
 pub mod Retaining

@@ -17,6 +17,7 @@ mod extend;
 mod from_sorted;
 mod gaps;
 mod gaps_within;
+mod in_place;
 mod insert;
 mod insert_disconnected;
 mod into_iter;

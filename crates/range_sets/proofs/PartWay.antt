@@ -9,7 +9,7 @@ use Rattle.range_algebra.proofs.Canonical.{equal_is_same}
 use Rattle.range_store.specs.declared.storage.Item.{Item}
 use Rattle.range_map.specs.FreeRanges.{item_ranges, AreGaps, IsHeldOnce}
 use Rattle.range_sets.specs.KeySets.{HoldsKey, SomeHolds, HoldsAlso, HoldsWithout, HoldsAllAlso, HoldsWithoutAll}
-use Rattle.range_sets.specs.PartWay.{BeforeOne, BeforeOneGap}
+use Rattle.range_map.specs.PartWay.{BeforeOne, BeforeOneGap}
 use Rattle.range_sets.specs.TwoSets.{HoldsEither, HoldsBoth, HoldsFirstAlone}
 use Rattle.range_sets.proofs.Filling.{one_of_two}
 use Rattle.range_sets.proofs.Membership.{some_either}

@@ -8,7 +8,6 @@ pub mod ListedMembers
 pub mod Members
 pub mod Multimaps
 pub mod Pairs
-pub mod PartWay
 pub mod Reads
 pub mod SetLaws
 pub mod SetOrder
