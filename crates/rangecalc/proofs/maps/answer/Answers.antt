@@ -67,15 +67,15 @@ returns-in-Split g c =
     (c.split.result, c.split.ensures, fits))
     c.write_reply-in-Split.ensures
 
-pub returns-in-Equals : goal.returns-in-Equals
-returns-in-Equals g c =
+pub returns-in-Compare : goal.returns-in-Compare
+returns-in-Compare g c =
     let stored = stored_in c.args.maps.now in
-    let answer = c.are_equal.result in
+    let answer = c.compare.result in
     on_ok_as c.write_truth.result _ _
     (λ appended. (
       truth_text answer,
       subst (λ command. IsDone g.K.MaybeBounded.order c.args.name command (truth_text answer)
-          stored stored) (sym c.in-Equals.is) (answer, c.are_equal.ensures, refl, refl),
+          stored stored) (sym c.in-Compare.is) (answer, c.compare.ensures, refl, refl),
       appended,
     )) c.write_truth.ensures
 
@@ -87,3 +87,21 @@ returns-in-Combine g c =
     (stored_in c.args.maps.now) (stored_in c.combine.new.maps)) (sym c.in-Combine.is)
     (c.combine.result, c.combine.ensures, fits))
     c.write_reply-in-Combine.ensures
+
+pub returns-in-Keep : goal.returns-in-Keep
+returns-in-Keep g c =
+    writes_as c.write_reply-in-Keep.result (g.W.Write.contents c.args.out.now)
+    (g.W.Write.contents c.write_reply-in-Keep.new.out) _ _
+    (λ text fits. subst (λ command. IsDone g.K.MaybeBounded.order c.args.name command text
+    (stored_in c.args.maps.now) (stored_in c.keep.new.maps)) (sym c.in-Keep.is)
+    (c.keep.result, c.keep.ensures, fits))
+    c.write_reply-in-Keep.ensures
+
+pub returns-in-Amend : goal.returns-in-Amend
+returns-in-Amend g c =
+    writes_as c.write_reply-in-Amend.result (g.W.Write.contents c.args.out.now)
+    (g.W.Write.contents c.write_reply-in-Amend.new.out) _ _
+    (λ text fits. subst (λ command. IsDone g.K.MaybeBounded.order c.args.name command text
+    (stored_in c.args.maps.now) (stored_in c.amend_by.new.maps)) (sym c.in-Amend.is)
+    (c.amend_by.result, c.amend_by.ensures, fits))
+    c.write_reply-in-Amend.ensures
