@@ -10,6 +10,8 @@ pub mod Depths
 pub mod Extending
 pub mod FirstPieces
 pub mod FreeParts
+pub mod HeldOnce
+pub mod InPlace
 pub mod Joining
 pub mod JustBefore
 pub mod KeysTogether
@@ -19,6 +21,7 @@ pub mod MeasureTotals
 pub mod Once
 pub mod Overlapping
 pub mod Overlays
+pub mod PartWay
 pub mod PieceLists
 pub mod PieceSteps
 pub mod ReboundKeys

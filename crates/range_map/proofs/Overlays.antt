@@ -74,7 +74,7 @@ combined_weaker order same_left same_right same may less items others new weaker
     }
 
 module _ {K : Type 0} (order : KeyOrder K) where
-  bound_or_not : (lawful : IsLawful order) {V : Type 0} (items : List (Item (AnyRange K) V)) (k : K)
+  pub bound_or_not : (lawful : IsLawful order) {V : Type 0} (items : List (Item (AnyRange K) V)) (k : K)
       → IsBound order items k ⊎ (¬ IsBound order items k)
   bound_or_not lawful [] k = inr (λ none. none)
   bound_or_not lawful (i ∷ rest) k =

@@ -1,14 +1,14 @@
 -- Clones of the gaps of a list, put one after the other.
-use Rattle.std.proofs.Common.{◌≡◌, ℕ, ◌+◌, ◌≤◌, refl, sym, ap, subst, ◌∙◌, ◌↔◌, ◌⊎◌, inl, inr, arith, append_assoc, true, List, [], ◌∷◌, ◌++◌, length}
+use Rattle.std.proofs.Common.{◌≡◌, ℕ, ◌+◌, ◌≤◌, refl, sym, ap, subst, ◌∙◌, ◌↔◌, inl, inr, arith, append_assoc, true, List, [], ◌∷◌, ◌++◌, length}
 use Rattle.std.proofs.lemmas.List.{append-nil}
 use Rattle.std.proofs.lemmas.List.Elements.{All-from_recursion}
 use Rattle.std.specs.Cmp.{IsEquivalence, tied_back}
 use Rattle.std.specs.List.{AllZip}
 use Rattle.std.specs.declared.cmp.Ordering.TheVariants.{Equal}
 use Rattle.range_keys.specs.Order.{KeyOrder, IsLawful}
-use Rattle.range_algebra.proofs.Lists.{any_none, every_right, all_more}
+use Rattle.range_algebra.proofs.Lists.{all_more}
 use Rattle.range_algebra.specs.Clones.{IsRangeClone, range_clone}
-use Rattle.range_algebra.specs.Range.{Holds, IsKnownRange}
+use Rattle.range_algebra.specs.Range.{IsKnownRange}
 use Rattle.range_algebra.specs.RangeOrder.{range_cmp, range_total}
 use Rattle.range_algebra.specs.declared.any.AnyRange.{AnyRange}
 use Rattle.range_algebra.proofs.Canonical.{equal_is_same}
@@ -16,6 +16,7 @@ use Rattle.range_store.specs.declared.storage.Item.{Item}
 use Rattle.range_map.specs.ListOrder.{IsCopyOf}
 use Rattle.range_map.specs.FreeRanges.{item_ranges, IsHeldOnce}
 use Rattle.range_map.proofs.CloneLists.{copy_stored}
+use Rattle.range_map.proofs.HeldOnce.{one_of_two}
 use Rattle.range_sets.specs.KeySets.{HoldsKey, HoldsTheOthers, IsStoredSet, SomeHolds}
 use Rattle.range_sets.proofs.Complementing.{set_items, front_stored}
 
@@ -132,32 +133,6 @@ module _ {K : Type 0} (order : KeyOrder K) where
       ∙ (ap (λ l. filled.done ++ l) (sym ended) ∙ filled.split) in
       subst (λ l. AllZip SameRange items l) all filled.copied
 
-  some_once : (ranges : List (AnyRange K)) (k : K) → IsHeldOnce order ranges k
-      → SomeHolds order ranges k
-  some_once [] k h = h
-  some_once (r ∷ ranges) k h =
-      elim h [ inl held ↦ inl held.0 | inr later ↦ inr (some_once ranges k later.1) ]
-
-  -- a key is held by an item or by a gap, and not by both
-  pub one_of_two : (items : Items) (gaps : List (AnyRange K)) (k : K)
-      → IsHeldOnce order (item_ranges items ++ gaps) k
-      → (HoldsKey order items k × (¬ SomeHolds order gaps k)) ⊎
-      ((¬ HoldsKey order items k) × SomeHolds order gaps k)
-  one_of_two [] gaps k h = inr (λ b. b, some_once gaps k h)
-  one_of_two (i ∷ items) gaps k h = elim h [
-    | inl held ↦
-        inl (
-          inl held.0,
-          any_none (λ r. Holds order r k) (λ r. ¬ Holds order r k) gaps
-              (every_right (λ r. ¬ Holds order r k) (item_ranges items) gaps held.1)
-              (λ r out held. out held),
-        )
-    | inr later ↦ elim (one_of_two items gaps k later.1) [
-      | inl both ↦ inl (inr both.0, both.1)
-      | inr both ↦ inr (λ b. elim b [ inl held ↦ later.0 held | inr held ↦ both.0 held ], both.1)
-    ]
-  ]
-
   pub others_held : (lawful : IsLawful order) (items others : Items) (gaps : List (AnyRange K))
       → AllZip SameRange others gaps
       → ((k : K) → order.is_key k → IsHeldOnce order (item_ranges items ++ gaps) k)
@@ -165,12 +140,12 @@ module _ {K : Type 0} (order : KeyOrder K) where
   others_held lawful items others gaps zip once k key =
       let same = same_keys lawful others gaps k key zip in (
         λ h.
-            elim (one_of_two items gaps k (once k key)) [
+            elim (one_of_two order items gaps k (once k key)) [
               | inl both ↦ absurd (both.1 (same.0 h))
               | inr both ↦ both.0
             ],
         λ out.
-            elim (one_of_two items gaps k (once k key)) [
+            elim (one_of_two order items gaps k (once k key)) [
               | inl both ↦ absurd (out both.0)
               | inr both ↦ same.1 both.1
             ],

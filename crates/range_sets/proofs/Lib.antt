@@ -7,6 +7,7 @@ pub mod Enclosing
 pub mod EndRanges
 pub mod Filled
 pub mod Filling
+pub mod InPlace
 pub mod Keeping
 pub mod KeptKeys
 pub mod Likeness
@@ -14,7 +15,6 @@ pub mod Matching
 pub mod Membership
 pub mod Pairing
 pub mod PairsTogether
-pub mod PartWay
 pub mod Retained
 pub mod SetLaws
 pub mod Showing

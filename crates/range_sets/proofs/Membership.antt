@@ -19,7 +19,7 @@ module _ {K : Type 0} (order : KeyOrder K) where
     module _ (same : Unit {0} → Unit {0} → Bool)
         (all_same : (v w : Unit {0}) → IsTrue (same v w)) where
       -- every bound key is bound to the one value
-      bound_to : (items : Items) (k : K) → IsBound order items k → BindsTo order same items k tt
+      pub bound_to : (items : Items) (k : K) → IsBound order items k → BindsTo order same items k tt
       bound_to [] k h = h
       bound_to (i ∷ rest) k h =
           elim h [

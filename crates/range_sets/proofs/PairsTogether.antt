@@ -9,7 +9,7 @@ use Rattle.range_store.specs.declared.storage.Item.{Item}
 use Rattle.range_map.specs.ListOrder.{IsCopyOf}
 use Rattle.range_sets.specs.Members.{HaveSame}
 use Rattle.range_sets.specs.Pairs.{HasNoEmptySet, HasPair, HasAllPairsAlso, HasAllPairsWithout, HasPairsOfEither, HasPairsOfFirstAlone}
-use Rattle.range_sets.proofs.PartWay.{IsPartWay}
+use Rattle.range_map.proofs.PartWay.{IsPartWay}
 
 module _ {K : Type 0} (order : KeyOrder K) {S V : Type 0} (has : S → V → Bool) where
   abbrev Items : Type 0

@@ -5,13 +5,13 @@ use crate::ranges::{Size, built, is_spelled, key, part};
 use btree_range_map::btree::BoxStorage;
 use btree_range_map::generic::RangeMap;
 use btree_range_map::generic::map::{
-    Command, MapError, NotAppended, NotFree, NotInserted, NotSorted, Reply, UpdateError, run,
+    Command, Iter, MapError, NotAppended, NotFree, NotInserted, NotSorted, Reply, UpdateError, run,
 };
 use btree_range_map::storage::{Item, Storage, VecStorage};
 use btree_range_map::{AnyRange, json};
 use serde_json::Value;
 use std::alloc::{AllocError, Global};
-use std::ops::Range;
+use std::ops::{Bound, Range};
 
 pub type Entry = Item<AnyRange<i32>, String>;
 
@@ -46,6 +46,7 @@ pub enum MapCall {
     /// Binds what is free from inside a stored range on to beyond the next.
     Update,
     Pair(PairCall),
+    Change(ChangeCall),
     MapValues,
     Clone,
     /// An insertion, and a removal inside a stored range.
@@ -101,14 +102,23 @@ fn is_filled<C: Storage<Entry>>(map: &Map<C>, places: u16, size: Size) -> bool {
     stores(map, 0..places, size)
 }
 
+/// Whether this range, bound to this text, is the next of those that are left.
+fn is_next<C: Storage<Entry>>(
+    stored: &mut Iter<'_, i32, String, C>,
+    range: AnyRange<i32>,
+    text: &str,
+) -> bool {
+    match stored.next() {
+        Some((next, value)) => is_spelled(next, range) && value.as_str() == text,
+        None => false,
+    }
+}
+
 /// Whether the map stores just the ranges of these indices.
 fn stores<C: Storage<Entry>>(map: &Map<C>, places: Range<u16>, size: Size) -> bool {
     let mut stored = map.iter();
     for place in places {
-        let Some((range, value)) = stored.next() else {
-            return false;
-        };
-        if !is_spelled(range, built(place)) || value.as_str() != text(place, size) {
+        if !is_next(&mut stored, built(place), text(place, size)) {
             return false;
         }
     }
@@ -402,6 +412,126 @@ fn together<C: Storage<Entry>>(alloc: Global, map: &Map<C>, size: Size, call: Pa
     }
 }
 
+/// How a map is changed by another.
+#[derive(Clone, Copy)]
+pub enum ChangeCall {
+    /// By a map of three ranges, each between two stored ones.
+    ExtendFrom,
+    /// By a map of three ranges, each inside a stored one.
+    RemoveAll,
+    /// By a map of all keys but those.
+    RetainAll,
+}
+
+/// By how many ranges a map is changed.
+const MORE: u16 = 3;
+
+/// The indices of the first so many ranges at which a map is changed: from before the middle on.
+fn change_places(size: Size, changes: u16) -> Range<u16> {
+    let first = size.middle().wrapping_sub(1);
+    first..first.wrapping_add(changes)
+}
+
+/// The map by which a call changes another.
+fn changer<C: Storage<Entry>>(
+    alloc: Global,
+    size: Size,
+    call: ChangeCall,
+) -> Result<Map<C>, MapError> {
+    let mut other: Map<C> = RangeMap::new(alloc);
+    if let ChangeCall::RetainAll = call {
+        let all = AnyRange::new(Bound::Unbounded, Bound::Unbounded);
+        bind(alloc, &mut other, all, "")?;
+    }
+    for place in change_places(size, MORE) {
+        match call {
+            ChangeCall::ExtendFrom => bind(alloc, &mut other, part(place, 6, 8), NEW)?,
+            ChangeCall::RemoveAll => bind(alloc, &mut other, part(place, 1, 3), NEW)?,
+            ChangeCall::RetainAll => remove(&mut other, part(place, 1, 3))?,
+        }
+    }
+    Ok(other)
+}
+
+fn change<C: Storage<Entry>>(
+    map: &mut Map<C>,
+    other: &Map<C>,
+    call: ChangeCall,
+) -> Result<(), MapError> {
+    match call {
+        ChangeCall::ExtendFrom => map.extend_from(other),
+        ChangeCall::RemoveAll => map.remove_all(other),
+        ChangeCall::RetainAll => map.retain_all(other),
+    }
+}
+
+/// Whether the next stored ranges are what a range is, or what becomes of it where it is changed.
+fn are_next<C: Storage<Entry>>(
+    stored: &mut Iter<'_, i32, String, C>,
+    place: u16,
+    size: Size,
+    change: Option<ChangeCall>,
+) -> bool {
+    let own = text(place, size);
+    match change {
+        None => is_next(stored, built(place), own),
+        Some(ChangeCall::ExtendFrom) => {
+            is_next(stored, built(place), own) && is_next(stored, part(place, 6, 8), NEW)
+        }
+        Some(_) => {
+            is_next(stored, part(place, 0, 1), own) && is_next(stored, part(place, 3, 5), own)
+        }
+    }
+}
+
+/// Whether so many ranges of the other map, or so many of its gaps, changed the map, and no others.
+fn is_changed<C: Storage<Entry>>(map: &Map<C>, size: Size, call: ChangeCall, changes: u16) -> bool {
+    let changed = change_places(size, changes);
+    let mut stored = map.iter();
+    for place in 0..size.count {
+        let change = if changed.contains(&place) {
+            Some(call)
+        } else {
+            None
+        };
+        if !are_next(&mut stored, place, size, change) {
+            return false;
+        }
+    }
+    stored.next().is_none()
+}
+
+/// A refused change has to keep what came before the range or the gap at which it was refused.
+fn changing<C: Storage<Entry>>(
+    map: &mut Map<C>,
+    other: &Map<C>,
+    size: Size,
+    call: ChangeCall,
+) -> Outcome {
+    match change(map, other, call) {
+        Ok(()) => done(is_changed(map, size, call, MORE)),
+        Err(MapError::Memory) => {
+            let mut kept = false;
+            for changes in 0..MORE {
+                kept = kept || is_changed(map, size, call, changes);
+            }
+            refused(kept)
+        }
+    }
+}
+
+fn changed_by<C: Storage<Entry>>(
+    alloc: Global,
+    map: &mut Map<C>,
+    size: Size,
+    call: ChangeCall,
+) -> Outcome {
+    match changer(alloc, size, call) {
+        Ok(other) => changing(map, &other, size, call),
+        Err(MapError::Memory) => Outcome::Early,
+    }
+}
+
 fn copied<C: Storage<Entry>>(map: &Map<C>) -> Result<Map<C>, UpdateError<AllocError>> {
     map.map_values(|text| text.clone())
 }
@@ -532,6 +662,7 @@ fn call<C: Storage<Entry>>(alloc: Global, map: &mut Map<C>, size: Size, call: Ma
         MapCall::Remove => removal(map, size),
         MapCall::Update => update(alloc, map, size),
         MapCall::Pair(call) => together(alloc, map, size, call),
+        MapCall::Change(call) => changed_by(alloc, map, size, call),
         MapCall::MapValues => mapping(map, size),
         MapCall::Clone => cloning(map, size),
         MapCall::Run => running(alloc, map, size),

@@ -1,7 +1,7 @@
 //! The calls, each over both containers and over trees of one, two and three levels.
 
 use crate::automata::{self, AutomatonCall};
-use crate::maps::{self, MapCall, PairCall};
+use crate::maps::{self, ChangeCall, MapCall, PairCall};
 use crate::multimaps::{self, MultimapCall};
 use crate::outcome::Outcome;
 use crate::ranges::Size;
@@ -48,6 +48,18 @@ pub static CALLS: &[(&str, Call)] = &[
         Call::Map(MapCall::Pair(PairCall::Restrict)),
     ),
     ("map: without", Call::Map(MapCall::Pair(PairCall::Without))),
+    (
+        "map: extend_from",
+        Call::Map(MapCall::Change(ChangeCall::ExtendFrom)),
+    ),
+    (
+        "map: remove_all",
+        Call::Map(MapCall::Change(ChangeCall::RemoveAll)),
+    ),
+    (
+        "map: retain_all",
+        Call::Map(MapCall::Change(ChangeCall::RetainAll)),
+    ),
     ("map: map_values", Call::Map(MapCall::MapValues)),
     ("map: clone", Call::Map(MapCall::Clone)),
     ("map: run", Call::Map(MapCall::Run)),

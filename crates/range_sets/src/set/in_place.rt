@@ -1,9 +1,8 @@
 //! A set changed by the keys of another, range by range.
 ghost use Rattle.std.specs.Prelude.{OnOk, OnErr};
 ghost use Rattle.range_algebra.specs.Range.{ClonesAreEqual};
-ghost use Rattle.range_map.specs.FreeRanges.{item_ranges};
-ghost use Rattle.range_sets.specs.KeySets.{HoldsAllAlso, HoldsWithoutAll, IsStoredSet};
 ghost use Rattle.range_map.specs.PartWay.{BeforeOne, BeforeOneGap};
+ghost use Rattle.range_sets.specs.KeySets.{HoldsWithoutAll, IsStoredSet};
 ghost use Rattle.range_sets.specs.TwoSets.{HoldsEither, HoldsBoth, HoldsFirstAlone};
 
 use super::RangeSet;
@@ -32,16 +31,11 @@ impl<T: Measure + Clone, C: Storage<Item<AnyRange<T>, ()>>> RangeSet<T, C> {
         requires { ClonesAreEqual T.is_clone T.eq }
         ensures held { OnOk result
             (HoldsEither T.order (C.items self.old) (D.items other.now) (C.items self.new)) }
-        ensures refused { OnErr result (BeforeOne (item_ranges (D.items other.now))
-            (HoldsAllAlso T.order (C.items self.old) (C.items self.new))) }
+        ensures refused { OnErr result (BeforeOne (D.items other.now)
+            (λ front. HoldsEither T.order (C.items self.old) front (C.items self.new))) }
         ensures form { IsStoredSet T.order (C.items self.new) }
     {
-        self.in_form();
-        let mut ranges = other.iter();
-        while let Some(range) = ranges.next() {
-            self.insert(range.clone()?)?;
-        }
-        Ok(())
+        self.map.extend_from(&other.map)
     }
 
     /// Takes each key of the other set away, whatever container it is kept in.
@@ -63,16 +57,11 @@ impl<T: Measure + Clone, C: Storage<Item<AnyRange<T>, ()>>> RangeSet<T, C> {
         requires { ClonesAreEqual T.is_clone T.eq }
         ensures held { OnOk result
             (HoldsFirstAlone T.order (C.items self.old) (D.items other.now) (C.items self.new)) }
-        ensures refused { OnErr result (BeforeOne (item_ranges (D.items other.now))
-            (HoldsWithoutAll T.order (C.items self.old) (C.items self.new))) }
+        ensures refused { OnErr result (BeforeOne (D.items other.now)
+            (λ front. HoldsFirstAlone T.order (C.items self.old) front (C.items self.new))) }
         ensures form { IsStoredSet T.order (C.items self.new) }
     {
-        self.in_form();
-        let mut ranges = other.iter();
-        while let Some(range) = ranges.next() {
-            self.remove(range)?;
-        }
-        Ok(())
+        self.map.remove_all(&other.map)
     }
 
     /// Keeps only the keys that are in the other set, whatever container it is kept in.
@@ -98,11 +87,6 @@ impl<T: Measure + Clone, C: Storage<Item<AnyRange<T>, ()>>> RangeSet<T, C> {
             (HoldsWithoutAll T.order (C.items self.old) (C.items self.new))) }
         ensures form { IsStoredSet T.order (C.items self.new) }
     {
-        self.in_form();
-        let mut gaps = other.gaps();
-        while let Some(gap) = gaps.next() {
-            self.remove(gap.cloned()?)?;
-        }
-        Ok(())
+        self.map.retain_all(&other.map)
     }
 }

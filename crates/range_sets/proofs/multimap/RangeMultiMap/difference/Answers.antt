@@ -2,7 +2,7 @@ use Rattle.range_algebra.specs.declared.any.AnyRange.{AnyRange}
 use Rattle.range_store.specs.declared.storage.Item.{Item}
 use Rattle.range_sets.specs.Pairs.{HasPairsOfFirstAlone}
 use Rattle.range_sets.proofs.PairsTogether.{none_parted, one_parted}
-use Rattle.range_sets.proofs.PartWay.{set_out, one_done, arrived}
+use Rattle.range_map.proofs.PartWay.{set_out, one_done, arrived}
 use Rattle.range_sets.proofs.multimap.RangeMultiMap.difference.Goals as goal
 
 pub loop-range-init : goal.loop-range-init
@@ -29,7 +29,7 @@ loop-range-preserved g c =
     one_done (λ done. HasPairsOfFirstAlone order has first done before)
     (λ done. HasPairsOfFirstAlone order has first done after) (g.D.Storage.items c.args.other.now)
     c.loop-range.items c.next.new.self item c.in-Some.ensures.steps
-    (λ done so_far. one_parted order has first before after done item so_far
+    (λ done split so_far. one_parted order has first before after done item so_far
     c.in_ok-remove_values.ensures) c.loop-range.invariant
 
 pub returns-clause-pairs : goal.returns-clause-pairs

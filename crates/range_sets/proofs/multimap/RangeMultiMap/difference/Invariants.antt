@@ -1,6 +1,6 @@
 use Rattle.std.proofs.Common.{length}
 use Rattle.range_sets.specs.Pairs.{HasPairsOfFirstAlone}
-use Rattle.range_sets.proofs.PartWay.{IsPartWay}
+use Rattle.range_map.proofs.PartWay.{IsPartWay}
 use Rattle.range_sets.proofs.multimap.RangeMultiMap.difference.Given as goal
 
 abbrev pub invariant-loop-range : goal.invariant-loop-range

@@ -1,0 +1,23 @@
+use Rattle.std.proofs.Common.{length}
+use Rattle.range_keys.specs.Order.{IsComplete}
+use Rattle.range_change.specs.Bindings.{IsCoarse, IsOnlyCoarse}
+use Rattle.range_change.specs.Stored.{IsStored}
+use Rattle.range_map.specs.Overlays.{IsWithout}
+use Rattle.range_map.proofs.PartWay.{IsPartWay}
+use Rattle.range_map.proofs.map.RangeMap.remove_all.Given as goal
+
+abbrev pub invariant-loop-range : goal.invariant-loop-range
+invariant-loop-range g l =
+    let order = g.K.MaybeBounded.order in
+    let same = g.V.PartialEq.eq in
+    let now = g.C.Storage.items l.self in
+    record {
+      way : IsPartWay (λ front. IsWithout order same (g.C.Storage.items l.initial.self) front now)
+          (g.D.Storage.items l.other) l.items;
+      form : IsStored order same now;
+      coarse : IsComplete order → IsCoarse order same now;
+      only : IsComplete order → IsOnlyCoarse order same now;
+    }
+
+abbrev pub decreases-loop-range : goal.decreases-loop-range
+decreases-loop-range g l = length l.items

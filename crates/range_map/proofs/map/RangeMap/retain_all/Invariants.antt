@@ -1,0 +1,23 @@
+use Rattle.std.proofs.Common.{length}
+use Rattle.range_keys.specs.Order.{IsComplete}
+use Rattle.range_change.specs.Bindings.{IsCoarse, IsOnlyCoarse}
+use Rattle.range_change.specs.Stored.{IsStored}
+use Rattle.range_map.specs.PartWay.{AreUnboundAfter}
+use Rattle.range_map.proofs.PartWay.{IsPartWay}
+use Rattle.range_map.proofs.map.RangeMap.retain_all.Given as goal
+
+abbrev pub invariant-loop-gap : goal.invariant-loop-gap
+invariant-loop-gap g l =
+    let order = g.K.MaybeBounded.order in
+    let same = g.V.PartialEq.eq in
+    let now = g.C.Storage.items l.self in
+    record {
+      way : IsPartWay (AreUnboundAfter order same (g.C.Storage.items l.initial.self) now)
+          l.initial.gaps l.gaps;
+      form : IsStored order same now;
+      coarse : IsComplete order → IsCoarse order same now;
+      only : IsComplete order → IsOnlyCoarse order same now;
+    }
+
+abbrev pub decreases-loop-gap : goal.decreases-loop-gap
+decreases-loop-gap g l = length l.gaps
