@@ -1,2 +1,4 @@
--- Bookings among those of a calendar.
+-- Bookings among those of a calendar, and where there is room.
 pub mod Meeting
+pub mod Minutes
+pub mod Room

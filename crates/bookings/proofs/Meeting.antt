@@ -1,12 +1,17 @@
--- The bookings that meet some minutes are among those of the calendar.
-use Rattle.std.proofs.Common.{arith, ◌≡◌, ◌⊎◌, inl, inr, List, [], ◌∷◌, ◌++◌, length, ap, refl, sym, subst}
+-- The bookings that meet some minutes are among those of the calendar, and have some of the minutes.
+use Rattle.std.proofs.Common.{arith, ◌≡◌, inl, inr, ℕ, List, [], ◌∷◌, ◌++◌, length, ap, refl, sym, subst}
+use Rattle.std.specs.Prelude.{Bool}
+use Rattle.std.specs.List.{AllByRecursion}
 use Rattle.btree_range_map.specs.AnyRange.{AnyRange}
 use Rattle.btree_range_map.specs.Intervals.{Any, Every}
 use Rattle.btree_range_map.specs.Item.{Item}
 use Rattle.btree_range_map.specs.Lookups.{Overlap}
-use Rattle.btree_range_map.specs.Order.{KeyOrder}
+use Rattle.btree_range_map.specs.Names.{u32_order}
 use Rattle.btree_range_map.specs.Overlapping.{AreOverlapping}
-use Rattle.btree_range_map.specs.Range.{IsEmptyRange}
+use Rattle.btree_range_map.specs.Range.{IsEmptyRange, IsKnownRange}
+use Rattle.btree_range_map.specs.Relations.{ShareKey}
+use Rattle.btree_range_map.specs.Stored.{IsStored}
+use Rattle.bookings.proofs.Minutes.{share_minute}
 
 module _ {X : Type 0} where
   is_among_later : (x : X) (xs ys : List X) → Any (λ y. y ≡ x) ys → Any (λ y. y ≡ x) (xs ++ ys)
@@ -18,26 +23,38 @@ module _ {X : Type 0} where
   is_among_earlier x (z ∷ xs) ys (inl here) = inl here
   is_among_earlier x (z ∷ xs) ys (inr later) = inr (is_among_earlier x xs ys later)
 
-  each_among : (P : X → Type 0) (all xs : List X)
-      → ((x : X) → Any (λ y. y ≡ x) xs → Any (λ y. y ≡ x) all) → Every P xs
-      → Every (λ x. Any (λ y. y ≡ x) all × P x) xs
-  each_among P all [] within each = tt
-  each_among P all (x ∷ xs) within (here, later) = (
-    (within x (inl refl), here),
-    each_among P all xs (λ y among. within y (inr among)) later,
+  each_among : (P Q : X → Type 0) (all xs : List X)
+      → ((x : X) → Any (λ y. y ≡ x) xs → Any (λ y. y ≡ x) all)
+      → ((x : X) → Any (λ y. y ≡ x) all → P x → Q x) → Every P xs
+      → Every (λ x. Any (λ y. y ≡ x) all × Q x) xs
+  each_among P Q all [] within follows each = tt
+  each_among P Q all (x ∷ xs) within follows (here, later) = (
+    (within x (inl refl), follows x (within x (inl refl)) here),
+    each_among P Q all xs (λ y among. within y (inr among)) follows later,
   )
 
-module _ {K : Type 0} (order : KeyOrder K) {V : Type 0} where
-  -- what meets a range is stored, and meets it
-  pub each_in_the_way : (items met : List (Item (AnyRange K) V)) (r : AnyRange K)
-      → (IsEmptyRange order r → met ≡ [])
-      → (¬ IsEmptyRange order r → AreOverlapping order items r met)
-      → Every (λ i. Any (λ j. j ≡ i) items × Overlap order i.key r) met
-  each_in_the_way items [] r none some = tt
-  each_in_the_way items (x ∷ rest) r none some =
-      let met = some (λ empty. absurd (omega (arith, ap length (none empty)))) in
-      each_among (λ i. Overlap order i.key r) items (x ∷ rest)
+  of_all : (P : X → Type 0) (x : X) (xs : List X) → AllByRecursion P xs → Any (λ y. y ≡ x) xs → P x
+  of_all P x [] all among = absurd among
+  of_all P x (y ∷ xs) all (inl here) = subst P here all.0
+  of_all P x (y ∷ xs) all (inr later) = of_all P x xs all.1 later
+
+module _ {V : Type 0} where
+  -- what meets a range is stored, and has a minute in common with it
+  pub each_in_the_way : (same : V → V → Bool) (items met : List (Item (AnyRange ℕ) V))
+      (r : AnyRange ℕ) → IsStored u32_order same items → IsKnownRange u32_order r
+      → (IsEmptyRange u32_order r → met ≡ [])
+      → (¬ IsEmptyRange u32_order r → AreOverlapping u32_order items r met)
+      → Every (λ i. Any (λ j. j ≡ i) items × ShareKey u32_order i.key r) met
+  each_in_the_way same items [] r stored known none some = tt
+  each_in_the_way same items (x ∷ rest) r stored known none some =
+      let full : ¬ IsEmptyRange u32_order r =
+      λ empty. absurd (omega (arith, ap length (none empty))) in
+      let met = some full in
+      each_among (λ i. Overlap u32_order i.key r) (λ i. ShareKey u32_order i.key r) items (x ∷ rest)
       (λ i among. subst (Any (λ j. j ≡ i)) (sym met.split)
       (is_among_later i met.before ((x ∷ rest) ++ met.after)
       (is_among_earlier i (x ∷ rest) met.after among)))
+      (λ i among overlap. share_minute i.key r
+      (of_all (λ j. IsKnownRange u32_order j.key) i items stored.known among) known
+      (of_all (λ j. ¬ IsEmptyRange u32_order j.key) i items stored.nonempty among) full overlap)
       met.meet

@@ -1,5 +1,5 @@
 -- Which minutes are booked, and what is in the way of a booking.
-use Rattle.std.specs.Prelude.{◌≡◌, ℕ, ◌+◌, ◌≤◌, List, String, ⊤}
+use Rattle.std.specs.Prelude.{◌≡◌, ℕ, ◌+◌, ◌<◌, ◌≤◌, List, Option, None, Some, String, ⊤}
 use Rattle.std.specs.String.{string_eq}
 use Rattle.std.specs.declared.alloc.Global.{Global}
 use Rattle.std.specs.declared.ops.Range.{Range}
@@ -7,8 +7,9 @@ use Rattle.btree_range_map.specs.AnyRange.{AnyRange}
 use Rattle.btree_range_map.specs.Bindings.{IsBoundAfter, IsUnboundAfter}
 use Rattle.btree_range_map.specs.Intervals.{Any}
 use Rattle.btree_range_map.specs.Item.{Item}
-use Rattle.btree_range_map.specs.Lookups.{BindsKeyOf, Overlap}
+use Rattle.btree_range_map.specs.Lookups.{BindsKeyOf}
 use Rattle.btree_range_map.specs.Names.{range_from_to, u32_order}
+use Rattle.btree_range_map.specs.Relations.{ShareKey}
 use Rattle.bookings.specs.declared.calendar.NotBooked.{NotBooked}
 use Rattle.bookings.specs.declared.calendar.NotBooked.TheVariants.{Taken, Memory}
 
@@ -36,10 +37,10 @@ AreBooked before after minutes name =
 abbrev pub AreCancelled : Bookings → Bookings → AnyRange ℕ → Type 0
 AreCancelled before after minutes = IsUnboundAfter u32_order string_eq before after minutes
 
--- the booking is one of the calendar, and meets the minutes
+-- the booking is one of the calendar, and has some of the minutes
 abbrev pub IsInTheWay : Bookings → AnyRange ℕ → Booking → Type 0
 IsInTheWay bookings minutes booking =
-    Any (λ i. i ≡ booking) bookings × Overlap u32_order booking.key minutes
+    Any (λ i. i ≡ booking) bookings × ShareKey u32_order booking.key minutes
 
 -- why minutes are not booked: this range is, and is in their way, or there is no memory
 abbrev pub IsReason : Bookings → AnyRange ℕ → NotBooked → Type 0
@@ -52,3 +53,13 @@ abbrev pub IsRoom : Bookings → Range ℕ → ℕ → ℕ → Type 0
 IsRoom bookings within length start =
     (within.start ≤ start) × (start + length ≤ within.end)
     × AreFree bookings (range_from_to start (start + length))
+
+-- so many minutes from a start on are free in both calendars, and lie within others
+abbrev pub IsCommonRoom : Bookings → Bookings → Range ℕ → ℕ → ℕ → Type 0
+IsCommonRoom bookings others within length start =
+    IsRoom bookings within length start × IsRoom others within length start
+
+-- the least number for which P holds, or none where it holds for none
+abbrev pub IsFirst : (ℕ → Type 0) → Option ℕ → Type 0
+IsFirst P None = (number : ℕ) → ¬ P number
+IsFirst P (Some first) = P first × ((number : ℕ) → number < first → ¬ P number)

@@ -1,9 +1,11 @@
 //! Which minutes are booked, and by whom.
 
-ghost use Rattle.std.specs.Prelude.{◌≡◌, [], IfErr, IfSome, IsTrue, MatchOption, OnErr, OnOk};
+ghost use Rattle.std.specs.Prelude.{◌≡◌, ◌<◌, ℕ, [], IfErr, IfOk, IfSome, MatchOption, OnErr, OnOk};
 ghost use Rattle.btree_range_map.specs.Intervals.{Every};
+ghost use Rattle.btree_range_map.specs.Names.{u32_order};
+ghost use Rattle.btree_range_map.specs.Range.{EndHolds};
 ghost use Rattle.bookings.specs.declared.calendar.NotBooked.TheVariants.{Taken};
-ghost use Rattle.bookings.specs.Calendars.{AreBooked, AreCancelled, AreFree, IsInTheWay, IsReason, IsRoom, minutes_of};
+ghost use Rattle.bookings.specs.Calendars.{AreBooked, AreCancelled, AreFree, IsCommonRoom, IsFirst, IsInTheWay, IsReason, IsRoom, minutes_of};
 
 use btree_range_map::generic::map::Overlapping;
 use btree_range_map::storage::Item;
@@ -57,7 +59,11 @@ impl From<MapError> for NotBooked {
 }
 
 /// The minute after a booked range, or the last minute that there is.
-fn after(booked: &AnyRange<u32>) -> u32 {
+fn after(booked: &AnyRange<u32>) -> u32
+    ensures held { (minute : ℕ) → minute < result → EndHolds u32_order booked.now.end minute }
+    ensures past { (minute : ℕ) → minute < 4294967295
+        → EndHolds u32_order booked.now.end minute → minute < result }
+{
     match booked.end {
         Bound::Included(last) => last.saturating_add(1),
         Bound::Excluded(end) => end,
@@ -80,7 +86,9 @@ impl Calendar {
         ensures none { result ≡ [] → AreFree self.now (minutes_of minutes.now) }
         ensures each { Every (IsInTheWay self.now (minutes_of minutes.now)) result }
     {
-        self.booked.overlapping(minutes.start..minutes.end)
+        let _bookings = self.booked.iter(); // whose contract says that none of them is empty
+        let (start, end) = (minutes.start, minutes.end);
+        self.booked.overlapping(start..end)
     }
 
     /// The first booked range that has some of the minutes.
@@ -117,32 +125,34 @@ impl Calendar {
         self.booked.remove(minutes)
     }
 
-    /// Whether so many minutes from a start on are free, and lie within others.
-    fn is_room(&self, within: &Range<u32>, length: u32, start: u32) -> bool
-        ensures { IsTrue result → IsRoom self.now within.now length start }
-    {
-        match start.checked_add(length) {
-            Some(end) => {
-                within.start <= start && end <= within.end && !self.booked.intersects(start..end)
-            }
-            None => false,
-        }
-    }
-
     /// The first of so many free minutes within others, or none where no such minutes are free.
-    /// Allocates nothing.
+    /// Searches once for each booking that is in the way. Allocates nothing.
     pub fn free(&self, within: &Range<u32>, length: u32) -> Option<u32>
-        ensures { IfSome result (IsRoom self.now within.now length) }
+        ensures { IsFirst (IsRoom self.now within.now length) result }
     {
-        if self.is_room(within, length, within.start) {
-            return Some(within.start);
-        }
-        for (booked, _) in self.bookings_in(within) {
-            let start = after(booked);
-            if self.is_room(within, length, start) {
-                return Some(start);
+        let mut start = within.start;
+        while start <= within.end && length <= within.end - start {
+            match self.first_in(&(start..start + length)) {
+                Some(booked) => start = after(&booked),
+                None => return Some(start),
             }
         }
         None
+    }
+
+    /// The first of so many minutes within others that are free in both calendars, or none where no
+    /// such minutes are. Allocates a calendar of all that is booked in either.
+    pub fn common(
+        &self,
+        other: &Calendar,
+        within: &Range<u32>,
+        length: u32,
+    ) -> Result<Option<u32>, MapError>
+        ensures { IfOk result (IsFirst (IsCommonRoom self.now other.now within.now length)) }
+    {
+        let either = Calendar {
+            booked: self.booked.overlay(&other.booked)?,
+        };
+        Ok(either.free(within, length))
     }
 }

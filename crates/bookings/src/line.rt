@@ -2,12 +2,19 @@
 
 use std::ops::Range;
 
-/// A line of a known form.
-pub enum Line<'a> {
+/// What a line says to a calendar.
+pub enum Command<'a> {
     Book(Range<u32>, &'a str),
     Cancel(Range<u32>),
     Free(Range<u32>, u32),
     Who(Range<u32>),
+}
+
+/// A line of a known form.
+pub enum Line<'a> {
+    First(Command<'a>),
+    Other(Command<'a>),
+    Common(Range<u32>, u32),
 }
 
 /// Minutes such as `540..600`, of which the last is not meant.
@@ -21,27 +28,45 @@ fn minutes(text: &str) -> Option<Range<u32>> {
     }
 }
 
-fn book(fields: &str) -> Option<Line<'_>> {
+fn book(fields: &str) -> Option<Command<'_>> {
     let (range, name) = fields.split_once(' ')?;
     if name.is_empty() {
         return None;
     }
-    Some(Line::Book(minutes(range)?, name))
+    Some(Command::Book(minutes(range)?, name))
 }
 
-fn free(fields: &str) -> Option<Line<'_>> {
+/// Minutes and how many of them are wanted.
+fn room(fields: &str) -> Option<(Range<u32>, u32)> {
     let (range, length) = fields.split_once(' ')?;
-    Some(Line::Free(minutes(range)?, length.parse::<u32>().ok()?))
+    Some((minutes(range)?, length.parse::<u32>().ok()?))
+}
+
+fn to_calendar<'a>(word: &str, fields: &'a str) -> Option<Command<'a>> {
+    match word {
+        "book" => book(fields),
+        "cancel" => Some(Command::Cancel(minutes(fields)?)),
+        "free" => {
+            let (within, length) = room(fields)?;
+            Some(Command::Free(within, length))
+        }
+        "who" => Some(Command::Who(minutes(fields)?)),
+        _ => None,
+    }
 }
 
 /// What the line says, `None` where it has no known form.
 pub fn parse(line: &str) -> Option<Line<'_>> {
     let (word, fields) = line.split_once(' ')?;
     match word {
-        "book" => book(fields),
-        "cancel" => Some(Line::Cancel(minutes(fields)?)),
-        "free" => free(fields),
-        "who" => Some(Line::Who(minutes(fields)?)),
-        _ => None,
+        "other" => {
+            let (word, fields) = fields.split_once(' ')?;
+            Some(Line::Other(to_calendar(word, fields)?))
+        }
+        "common" => {
+            let (within, length) = room(fields)?;
+            Some(Line::Common(within, length))
+        }
+        _ => Some(Line::First(to_calendar(word, fields)?)),
     }
 }

@@ -1,8 +1,10 @@
-//! Reads lines about the minutes of a calendar, and prints the replies.
+//! Reads lines about the minutes of two calendars, and prints the replies.
 //!
 //! `book 540..600 NAME` books these minutes, or replies what is in the way; `cancel 540..600` frees
 //! them; `free 540..1020 30` replies the first 30 free minutes among these; `who 540..600` lists
-//! the bookings that have some of them.
+//! the bookings that have some of them. With `other` in front, as in `other book 540..600 NAME`, a
+//! line speaks of the other calendar. `common 540..1020 30` replies the first 30 minutes among these
+//! that are free in both.
 #![tactic(auto)]
 
 use std::alloc::Global;
@@ -13,14 +15,14 @@ mod line;
 mod reply;
 
 use calendar::Calendar;
-use reply::answer_line;
+use reply::{Calendars, answer_line};
 
 const BUFFER_BYTES: usize = 4096;
 
 /// Answers each line of the input; `line` is the buffer of one.
 fn answer_lines<R: BufRead, W: Write>(
     alloc: Global,
-    calendar: &mut Calendar,
+    calendars: &mut Calendars,
     line: &mut Vec<u8>,
     input: &mut R,
     out: &mut W,
@@ -33,7 +35,7 @@ fn answer_lines<R: BufRead, W: Write>(
         let text = line.as_slice();
         let text = text.strip_suffix(b"\n").unwrap_or(text);
         match str::from_utf8(text) {
-            Ok(text) => answer_line(alloc, calendar, text, out)?,
+            Ok(text) => answer_line(alloc, calendars, text, out)?,
             Err(_) => out.write_all(b"bad line\n")?,
         }
     }
@@ -41,9 +43,12 @@ fn answer_lines<R: BufRead, W: Write>(
 }
 
 fn serve<R: BufRead, W: Write>(alloc: Global, input: &mut R, out: &mut W) -> io::Result<()> {
-    let mut calendar = Calendar::new(alloc);
+    let mut calendars = Calendars {
+        first: Calendar::new(alloc),
+        other: Calendar::new(alloc),
+    };
     let mut line = Vec::new(alloc);
-    answer_lines(alloc, &mut calendar, &mut line, input, out)
+    answer_lines(alloc, &mut calendars, &mut line, input, out)
 }
 
 fn main(rt: HostRuntime) -> io::Result<()> {

@@ -1,11 +1,18 @@
 //! What is replied to a line.
 
 use crate::calendar::{Calendar, NotBooked};
-use crate::line::{Line, parse};
-use btree_range_map::AnyRange;
+use crate::line::{Command, Line, parse};
+use btree_range_map::{AnyRange, MapError};
 use std::alloc::Global;
 use std::io::{self, Write};
 use std::ops::{Bound, Range};
+
+/// The two calendars that lines speak of.
+#[derive(Drop)]
+pub struct Calendars {
+    pub first: Calendar,
+    pub other: Calendar,
+}
 
 /// Writes booked minutes as `540..600`, of which the last is not meant.
 fn write_minutes<W: Write>(booked: &AnyRange<u32>, out: &mut W) -> io::Result<()> {
@@ -43,13 +50,9 @@ fn book<W: Write>(
     }
 }
 
-fn free<W: Write>(
-    calendar: &Calendar,
-    within: &Range<u32>,
-    length: u32,
-    out: &mut W,
-) -> io::Result<()> {
-    match calendar.free(within, length) {
+/// Writes so many minutes from a start on.
+fn write_room<W: Write>(start: Option<u32>, length: u32, out: &mut W) -> io::Result<()> {
+    match start {
         Some(start) => writeln!(out, "{start}..{}", u64::from(start) + u64::from(length)),
         None => out.write_all(b"none\n"),
     }
@@ -68,21 +71,40 @@ fn who<W: Write>(calendar: &Calendar, minutes: &Range<u32>, out: &mut W) -> io::
     Ok(())
 }
 
+/// Does what is said to a calendar and writes the reply.
+fn answer<W: Write>(
+    alloc: Global,
+    calendar: &mut Calendar,
+    command: Command<'_>,
+    out: &mut W,
+) -> io::Result<()> {
+    match command {
+        Command::Book(minutes, name) => book(alloc, calendar, minutes, name, out),
+        Command::Cancel(minutes) => match calendar.cancel(minutes) {
+            Ok(()) => out.write_all(b"ok\n"),
+            Err(_) => out.write_all(b"memory\n"),
+        },
+        Command::Free(within, length) => write_room(calendar.free(&within, length), length, out),
+        Command::Who(minutes) => who(calendar, &minutes, out),
+    }
+}
+
 /// Does what a line says and writes its reply.
 pub fn answer_line<W: Write>(
     alloc: Global,
-    calendar: &mut Calendar,
+    calendars: &mut Calendars,
     line: &str,
     out: &mut W,
 ) -> io::Result<()> {
     match parse(line) {
-        Some(Line::Book(minutes, name)) => book(alloc, calendar, minutes, name, out),
-        Some(Line::Cancel(minutes)) => match calendar.cancel(minutes) {
-            Ok(()) => out.write_all(b"ok\n"),
-            Err(_) => out.write_all(b"memory\n"),
-        },
-        Some(Line::Free(within, length)) => free(calendar, &within, length, out),
-        Some(Line::Who(minutes)) => who(calendar, &minutes, out),
+        Some(Line::First(command)) => answer(alloc, &mut calendars.first, command, out),
+        Some(Line::Other(command)) => answer(alloc, &mut calendars.other, command, out),
+        Some(Line::Common(within, length)) => {
+            match calendars.first.common(&calendars.other, &within, length) {
+                Ok(start) => write_room(start, length, out),
+                Err(MapError::Memory) => out.write_all(b"memory\n"),
+            }
+        }
         None => out.write_all(b"bad line\n"),
     }
 }
