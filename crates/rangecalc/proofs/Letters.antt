@@ -53,3 +53,12 @@ module _ {X : Type 0} (things : Named X) where
   at_others D B x differ = refl
   at_others D C x differ = refl
   at_others D D x differ = absurd (differ refl)
+
+module _ {X Y : Type 0} (f : X → Y) (things : Named X) (name : Name) (x : X) where
+  pub each_put_again : (y : X) → each f (put (put things name x) name y) ≡ put (each f things) name (f y)
+  each_put_again y = ap (each f) (put_again things name x y) ∙ each_put f things name y
+
+  pub at_each_others : (other : Name) (y : X) → name ≢ other → y ≡ at (put things name x) other
+      → f y ≡ at (each f things) other
+  at_each_others other y differ is =
+      at_each f things other y (is ∙ at_others things name other x differ)

@@ -1,4 +1,7 @@
+use Rattle.std.proofs.Common.{subst, sym}
+use Rattle.std.specs.Ordering.{int_eq}
 use Rattle.btree_range_map.specs.Holding.{box_items}
+use Rattle.btree_range_map.specs.Overlays.{IsWithout}
 use Rattle.rangecalc.proofs.Itself.{overlaid_by_itself, without_itself}
 use Rattle.rangecalc.proofs.two.amend_by_itself.Goals as goal
 
@@ -8,5 +11,8 @@ returns-in-Extend g c =
 
 pub returns-in-Subtract : goal.returns-in-Subtract
 returns-in-Subtract g c =
-    rw (c.in-Subtract.is, c.clear.ensures)
-    (without_itself g.K.MaybeBounded.order (box_items c.args.map.now))
+    let order = g.K.MaybeBounded.order in
+    let items = box_items c.args.map.now in
+    rw c.in-Subtract.is
+    (subst (λ made. IsWithout order int_eq items items made) (sym c.clear.ensures.empty)
+    (without_itself order items))
