@@ -1,5 +1,5 @@
 -- A list that is changed by itself.
-use Rattle.std.proofs.Common.{inl, inr, List, [], ◌∷◌}
+use Rattle.std.proofs.Common.{inl, inr, [], ◌∷◌}
 use Rattle.std.specs.Prelude.{◌↔◌, ℤ, Option, None, Some}
 use Rattle.std.specs.Ordering.{int_eq}
 use Rattle.btree_range_map.specs.Bindings.{Binds, BindsTo, IsBound}

@@ -3,7 +3,7 @@ use denote.Enum.Bare.{same_false, same_true}
 use Rattle.btree_range_map.specs.Holding.{box_items}
 use Rattle.btree_range_map.specs.PartWay.{BeforeOne}
 use Rattle.rangecalc.specs.Conversation.{stored_in}
-use Rattle.rangecalc.specs.Named.{at, put}
+use Rattle.rangecalc.specs.Named.{at}
 use Rattle.rangecalc.specs.Two.{IsAmended}
 use Rattle.rangecalc.specs.contracts.named.Name.{the_type}
 use Rattle.rangecalc.proofs.Letters.{at_each, at_each_others, each_put, each_put_again}
