@@ -12,10 +12,10 @@ use Rattle.rangecalc.specs.Lines.{BeginsWith, Says}
 use Rattle.rangecalc.specs.Named.{at, each, put}
 use Rattle.rangecalc.specs.Ranges.{Ranges}
 use Rattle.rangecalc.specs.Replies.{SpellsReply, truth_text}
-use Rattle.rangecalc.specs.Two.{AreRelated, IsCombination, IsKeeping, IsSplit}
+use Rattle.rangecalc.specs.Two.{AreRelated, IsAmending, IsCombination, IsKeeping, IsSplit}
 use Rattle.rangecalc.specs.declared.answer.Reply.{Reply}
 use Rattle.rangecalc.specs.declared.line.Command.{Command}
-use Rattle.rangecalc.specs.declared.line.Command.TheVariants.{Change, Ask, List as Lists, Split, Compare, Combine, Keep}
+use Rattle.rangecalc.specs.declared.line.Command.TheVariants.{Change, Ask, List as Lists, Split, Compare, Combine, Keep, Amend}
 use Rattle.rangecalc.specs.declared.named.Name.{Name}
 use Rattle.rangecalc.specs.declared.named.Named.{Named}
 
@@ -47,6 +47,9 @@ module _ {K : Type 0} (order : KeyOrder K) where
       × SpellsReply reply text
   IsDone name (Keep kept first second) text old new =
       (reply : Reply K) × IsKeeping order name kept first second reply old new
+      × SpellsReply reply text
+  IsDone name (Amend amendment other) text old new =
+      (reply : Reply K) × IsAmending order name amendment other reply old new
       × SpellsReply reply text
 
   -- the text that answers a line: of the command that the line says, `bad line`, or `memory` where

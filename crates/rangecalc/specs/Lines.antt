@@ -9,7 +9,9 @@ use Rattle.rangecalc.specs.declared.line.Question.TheVariants.{Get, At, Has, Mee
 use Rattle.rangecalc.specs.declared.line.Listing.{Listing}
 use Rattle.rangecalc.specs.declared.line.Listing.TheVariants.{Show, Gaps, Over, Free, Pieces}
 use Rattle.rangecalc.specs.declared.line.Command.{Command}
-use Rattle.rangecalc.specs.declared.line.Command.TheVariants.{Change, Ask, List as Lists, Split, Compare, Combine, Keep}
+use Rattle.rangecalc.specs.declared.line.Command.TheVariants.{Change, Ask, List as Lists, Split, Compare, Combine, Keep, Amend}
+use Rattle.rangecalc.specs.declared.line.Amendment.{Amendment}
+use Rattle.rangecalc.specs.declared.line.Amendment.TheVariants.{Extend, Subtract}
 use Rattle.rangecalc.specs.declared.line.Kept.{Kept}
 use Rattle.rangecalc.specs.declared.line.Kept.TheVariants.{In, Without}
 use Rattle.rangecalc.specs.declared.line.Relation.{Relation}
@@ -61,6 +63,10 @@ abbrev pub kept_word : Kept → List ℕ
 kept_word In = codes "in"
 kept_word Without = codes "without"
 
+abbrev pub amendment_sign : Amendment → List ℕ
+amendment_sign Extend = codes "+="
+amendment_sign Subtract = codes "-="
+
 abbrev pub relation_word : Relation → List ℕ
 relation_word Equals = codes "equals"
 relation_word Subset = codes "subset"
@@ -77,6 +83,7 @@ words_of (Combine way first second) =
     codes "= " ++ letter first ∷ 32 ∷ way_word way ++ 32 ∷ letter second ∷ []
 words_of (Keep kept first second) =
     codes "= " ++ letter first ∷ 32 ∷ kept_word kept ++ 32 ∷ letter second ∷ []
+words_of (Amend amendment other) = amendment_sign amendment ++ 32 ∷ letter other ∷ []
 
 -- the line is the letter of a map, a space, these words, and what follows them
 abbrev pub BeginsWith : List ℕ → Name → List ℕ → Type 0

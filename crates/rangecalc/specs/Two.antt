@@ -5,13 +5,16 @@ use Rattle.std.specs.Ordering.{int_eq}
 use Rattle.btree_range_map.specs.Bindings.{BindAlike}
 use Rattle.btree_range_map.specs.Combining.{AreCombined, MayFailOnBoth}
 use Rattle.btree_range_map.specs.Order.{KeyOrder}
-use Rattle.btree_range_map.specs.Overlays.{IsRestricted, IsWithout}
+use Rattle.btree_range_map.specs.Overlays.{IsOverlaid, IsRestricted, IsWithout}
+use Rattle.btree_range_map.specs.PartWay.{BeforeOne}
 use Rattle.btree_range_map.specs.Splitting.{IsSplitAt}
 use Rattle.btree_range_map.specs.Together.{BindKeysOf, ShareNoKey}
 use Rattle.rangecalc.specs.Named.{at, following, put}
 use Rattle.rangecalc.specs.Ranges.{Ranges}
 use Rattle.rangecalc.specs.declared.answer.Reply.{Reply}
 use Rattle.rangecalc.specs.declared.answer.Reply.TheVariants.{Done, Memory, Fault}
+use Rattle.rangecalc.specs.declared.line.Amendment.{Amendment}
+use Rattle.rangecalc.specs.declared.line.Amendment.TheVariants.{Extend, Subtract}
 use Rattle.rangecalc.specs.declared.line.Kept.{Kept}
 use Rattle.rangecalc.specs.declared.line.Kept.TheVariants.{In, Without}
 use Rattle.rangecalc.specs.declared.line.Relation.{Relation}
@@ -42,6 +45,11 @@ module _ {K : Type 0} (order : KeyOrder K) where
   abbrev pub IsKept : Kept → Ranges K → Ranges K → Ranges K → Type 0
   IsKept In items others made = IsRestricted order int_eq items others made
   IsKept Without items others made = IsWithout order int_eq items others made
+
+  -- the keys that the other list binds are bound as there, or not at all, and all others as before
+  abbrev pub IsAmended : Amendment → Ranges K → Ranges K → Ranges K → Type 0
+  IsAmended Extend before others after = IsOverlaid order int_eq before others after
+  IsAmended Subtract before others after = IsWithout order int_eq before others after
 
   -- the lists bind each key alike, or the one binds no key that the other does not, or none that it
   -- does
@@ -80,3 +88,15 @@ module _ {K : Type 0} (order : KeyOrder K) where
       × (new ≡ put old name made)
   IsKeeping name kept first second Memory old new = new ≡ old
   IsKeeping name kept first second reply old new = ⊥
+
+  -- the map with a name is changed by another, or by the ranges of that before one of them
+  abbrev pub IsAmending : Name → Amendment → Name → Reply K → Named (Ranges K) → Named (Ranges K)
+      → Type 0
+  IsAmending name amendment other Done old new =
+      (after : Ranges K) × IsAmended amendment (at old name) (at old other) after
+      × (new ≡ put old name after)
+  IsAmending name amendment other Memory old new =
+      (after : Ranges K)
+      × BeforeOne (at old other) (λ front. IsAmended amendment (at old name) front after)
+      × (new ≡ put old name after)
+  IsAmending name amendment other reply old new = ⊥

@@ -1,7 +1,7 @@
 //! What a line says.
 
 ghost use Rattle.std.specs.Prelude.{◌≡◌, ◌<◌, ◌∷◌, ◌++◌, [], List, ℕ, Err, IfOk, IfSome, codes};
-ghost use Rattle.rangecalc.specs.Lines.{BeginsWith, Says, kept_word, letter, relation_word, way_word, words_of};
+ghost use Rattle.rangecalc.specs.Lines.{BeginsWith, Says, amendment_sign, kept_word, letter, relation_word, way_word, words_of};
 ghost use Rattle.rangecalc.specs.declared.line.Unread.TheVariants.{Memory};
 
 use crate::named::Name;
@@ -77,6 +77,15 @@ pub enum Kept {
     Without,
 }
 
+/// How a map is changed by another.
+#[derive(Clone, Copy)]
+pub enum Amendment {
+    /// The keys of the other are bound as there.
+    Extend,
+    /// The keys of the other are unbound.
+    Subtract,
+}
+
 /// What may be true of two maps.
 #[derive(Clone, Copy)]
 pub enum Relation {
@@ -98,6 +107,7 @@ pub enum Command<K> {
     Compare(Relation, Name),
     Combine(Way, Name, Name),
     Keep(Kept, Name, Name),
+    Amend(Amendment, Name),
 }
 
 /// The text before and after the first space.
@@ -262,6 +272,16 @@ fn kept_of(word: &str) -> Option<Kept>
     }
 }
 
+fn amendment_of(word: &str) -> Option<Amendment>
+    ensures { IfSome result (λ amendment. word.now ≡ amendment_sign amendment) }
+{
+    match word {
+        "+=" => Some(Amendment::Extend),
+        "-=" => Some(Amendment::Subtract),
+        _ => None,
+    }
+}
+
 fn relation_of(word: &str) -> Option<Relation>
     ensures { IfSome result (λ relation. word.now ≡ relation_word relation) }
 {
@@ -293,6 +313,7 @@ fn of_maps<K: NumberKey>(words: &str) -> Option<Command<K>>
     let (word, fields) = split_at_space(words)?;
     match word {
         "=" => combination(fields),
+        "+=" | "-=" => Some(Command::Amend(amendment_of(word)?, name_of(fields)?)),
         _ => Some(Command::Compare(relation_of(word)?, name_of(fields)?)),
     }
 }

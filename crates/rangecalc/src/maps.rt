@@ -5,18 +5,19 @@ ghost use Rattle.btree_range_map.specs.Holding.{box_items};
 ghost use Rattle.rangecalc.specs.Conversation.{AnswersLine, IsDone, none_stored, stored_in};
 ghost use Rattle.rangecalc.specs.Named.{at};
 ghost use Rattle.rangecalc.specs.Replies.{Writes};
-ghost use Rattle.rangecalc.specs.Two.{AreRelated, IsCombination, IsKeeping, IsSplit};
+ghost use Rattle.rangecalc.specs.Two.{AreRelated, IsAmending, IsCombination, IsKeeping, IsSplit};
 
 use crate::answer::{Reply, ask, change};
-use crate::line::{Command, Kept, Relation, Unread, Way, parse};
+use crate::line::{Amendment, Command, Kept, Relation, Unread, Way, parse};
 use crate::listing::list;
 use crate::named::{Name, Named};
 use crate::number::NumberKey;
-use crate::two::{are_related, combined, kept};
+use crate::two::{amend, amend_by_itself, are_related, combined, kept};
 use crate::write::{write_reply, write_truth};
 use btree_range_map::{RangeMap, UpdateError};
 use std::alloc::Global;
 use std::io::{self, Write};
+use std::mem;
 
 /// The maps that the lines name `a` to `d`.
 pub type Maps<K> = Named<RangeMap<K, i64>>;
@@ -94,6 +95,30 @@ fn keep<K: NumberKey>(
     }
 }
 
+/// Changes a map by another, which it may be itself.
+fn amend_by<K: NumberKey>(
+    alloc: Global,
+    maps: &mut Maps<K>,
+    name: Name,
+    amendment: Amendment,
+    other: Name,
+) -> Reply<K>
+    ensures { IsAmending K.order name amendment other result (stored_in maps.old)
+        (stored_in maps.new) }
+{
+    if name == other {
+        amend_by_itself(amendment, maps.at_mut(name));
+        return Reply::Done;
+    }
+    let mut map = mem::replace(maps.at_mut(name), RangeMap::new(alloc));
+    let amended = amend(amendment, &mut map, maps.at(other));
+    *maps.at_mut(name) = map;
+    match amended {
+        Ok(()) => Reply::Done,
+        Err(_) => Reply::Memory,
+    }
+}
+
 /// Answers a command to the map with a name.
 fn answer<K: NumberKey, W: Write>(
     alloc: Global,
@@ -120,13 +145,17 @@ fn answer<K: NumberKey, W: Write>(
         Command::Keep(kept, first, second) => {
             write_reply(keep(maps, name, kept, first, second), out)
         }
+        Command::Amend(amendment, other) => {
+            write_reply(amend_by(alloc, maps, name, amendment, other), out)
+        }
     }
 }
 
 /// Does what a line says and writes its reply: one line, or one for each range that is listed.
 ///
 /// A line of no known form is answered by `bad line`, one that fails to allocate by `memory`, and
-/// then the maps are as before.
+/// then the maps are as before, but for `a += b` and `a -= b`: these have changed the keys of the
+/// ranges of `b` before one of them, and no others.
 pub fn answer_line<K: NumberKey, W: Write>(
     alloc: Global,
     maps: &mut Maps<K>,

@@ -1,15 +1,16 @@
 //! What is made of two maps, and what is true of them.
 
-ghost use Rattle.std.specs.Prelude.{◌≡◌, ◌↔◌, IfOk, IsTrue, Err};
+ghost use Rattle.std.specs.Prelude.{◌≡◌, ◌↔◌, IfOk, IsTrue, Err, OnErr, OnOk};
 ghost use Rattle.std.specs.Option.{option_copied};
 ghost use Rattle.std.specs.Ordering.{int_eq};
 ghost use Rattle.btree_range_map.specs.Combining.{AreCombined, MayFailOnBoth};
 ghost use Rattle.btree_range_map.specs.Holding.{box_items};
+ghost use Rattle.btree_range_map.specs.PartWay.{BeforeOne};
 ghost use Rattle.btree_range_map.specs.Together.{BindKeysOf, ShareNoKey};
 ghost use Rattle.btree_range_map.specs.UpdateError.TheVariants.{Closure};
-ghost use Rattle.rangecalc.specs.Two.{AreRelated, IsKept, IsSum, Makes};
+ghost use Rattle.rangecalc.specs.Two.{AreRelated, IsAmended, IsKept, IsSum, Makes};
 
-use crate::line::{Kept, Relation, Way};
+use crate::line::{Amendment, Kept, Relation, Way};
 use crate::number::NumberKey;
 use btree_range_map::{MapError, RangeMap, UpdateError};
 
@@ -68,6 +69,35 @@ pub fn kept<K: NumberKey>(
     match kept {
         Kept::In => first.restrict(second),
         Kept::Without => first.without(second),
+    }
+}
+
+/// Changes a map by another.
+pub fn amend<K: NumberKey>(
+    amendment: Amendment,
+    map: &mut RangeMap<K, i64>,
+    other: &RangeMap<K, i64>,
+) -> Result<(), MapError>
+    ensures amended { OnOk result
+        (IsAmended K.order amendment (box_items map.old) (box_items other.now)
+        (box_items map.new)) }
+    ensures refused { OnErr result (BeforeOne (box_items other.now)
+        (λ front. IsAmended K.order amendment (box_items map.old) front (box_items map.new))) }
+{
+    match amendment {
+        Amendment::Extend => map.extend_from(other),
+        Amendment::Subtract => map.remove_all(other),
+    }
+}
+
+/// Changes a map as by another that binds each key alike.
+pub fn amend_by_itself<K: NumberKey>(amendment: Amendment, map: &mut RangeMap<K, i64>)
+    ensures { IsAmended K.order amendment (box_items map.old) (box_items map.old)
+        (box_items map.new) }
+{
+    match amendment {
+        Amendment::Extend => (),
+        Amendment::Subtract => map.clear(),
     }
 }
 

@@ -96,3 +96,12 @@ returns-in-Keep g c =
     (stored_in c.args.maps.now) (stored_in c.keep.new.maps)) (sym c.in-Keep.is)
     (c.keep.result, c.keep.ensures, fits))
     c.write_reply-in-Keep.ensures
+
+pub returns-in-Amend : goal.returns-in-Amend
+returns-in-Amend g c =
+    writes_as c.write_reply-in-Amend.result (g.W.Write.contents c.args.out.now)
+    (g.W.Write.contents c.write_reply-in-Amend.new.out) _ _
+    (λ text fits. subst (λ command. IsDone g.K.MaybeBounded.order c.args.name command text
+    (stored_in c.args.maps.now) (stored_in c.amend_by.new.maps)) (sym c.in-Amend.is)
+    (c.amend_by.result, c.amend_by.ensures, fits))
+    c.write_reply-in-Amend.ensures
