@@ -1,5 +1,5 @@
 //! A container kept as a B-tree.
-ghost use Rattle.std.specs.Prelude.{◌≡◌, ◌+◌, ◌-◌, ◌*◌, ◌^◌, ◌<◌, ◌≤◌, [], length, insert, MatchOption, Some, None};
+ghost use Rattle.std.specs.Prelude.{◌≡◌, ◌+◌, ◌-◌, ◌*◌, ◌^◌, ◌<◌, ◌≤◌, ◌++◌, [], length, insert, MatchOption, Some, None};
 ghost use Rattle.std.specs.Option.{ForSome};
 ghost use Rattle.range_store.specs.Depth.{HasLevels};
 ghost use Rattle.range_store.specs.Nodes.{items_below, IsRoomy, IsRoomy-prop};
@@ -166,6 +166,14 @@ impl<T: Drop> Storage<T> for BoxStorage<T> {
         self.insert(edge, item)
     }
 
+    fn append(&mut self, added: Vec<T>)
+        requires has_room { length added.items ≤ box_room self.old }
+        ensures list { box_items self.new ≡ box_items self.old ++ added.items }
+        ensures space { box_room self.old ≡ box_room self.new + length added.items }
+    {
+        self.push_all(added);
+    }
+
     fn remove_at(&mut self, p: Edge) -> (T, Option<Edge>) {
         self.take(p)
     }
@@ -187,9 +195,10 @@ impl<T: Drop> Storage<T> for BoxStorage<T> {
         let mut copy = BoxStorage::new(self.alloc);
         copy.reserve(self.len())?;
         let mut at = self.first();
+        let mut end = None;
         while let Some(p) = at {
             let item = self.get(p).clone()?;
-            copy.insert_at(None, item);
+            end = Some(copy.insert(end, item));
             at = self.next(p);
         }
         Ok(copy)

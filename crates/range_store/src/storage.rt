@@ -214,6 +214,15 @@ pub trait Storage<T>: Drop {
             × (rank self.new result
             ≡ place_before (λ q. rank self.old q) (length (items self.old)) before) };
 
+    /// Puts the items, in their order, after all others.
+    ///
+    /// Takes from the capacity, and never fails. Searches nothing, and moves no item of a vector; a
+    /// B-tree that has items changes nodes on the path from its end to its root.
+    fn append(&mut self, added: Vec<T>)
+        requires has_room { length added.items ≤ room self.old }
+        ensures list { items self.new ≡ items self.old ++ added.items }
+        ensures space { room self.old ≡ room self.new + length added.items };
+
     /// Takes the item at the position out, and returns it with the position of the one after it.
     ///
     /// Never fails, and leaves room for one more item than there was. A vector moves all items

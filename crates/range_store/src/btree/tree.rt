@@ -1,5 +1,5 @@
 //! The calls of a `BoxStorage` by the edges of its tree.
-ghost use Rattle.std.specs.Prelude.{◌≡◌, ℕ, ◌+◌, ◌-◌, ◌*◌, ◌<◌, ◌≤◌, ◌^◌, [], ◌∷◌, length, slice_index_or, insert, remove, MatchOption, count_by};
+ghost use Rattle.std.specs.Prelude.{◌≡◌, ℕ, ◌+◌, ◌-◌, ◌*◌, ◌<◌, ◌≤◌, ◌^◌, [], ◌∷◌, ◌++◌, length, slice_index_or, insert, remove, MatchOption, count_by};
 ghost use Rattle.range_store.specs.Counting.{AddsSteps};
 ghost use Rattle.range_store.specs.Edges.{home_of};
 ghost use Rattle.range_store.specs.Falling.{Falls};
@@ -170,6 +170,18 @@ impl<T: Drop> BoxStorage<T> {
                 self.levels += 1;
                 seen_above(edge, side)
             }
+        }
+    }
+
+    // Puts items, in their order, after all others.
+    pub fn push_all(&mut self, added: Vec<T>)
+        requires { length added.items ≤ box_room self.old }
+        ensures list { box_items self.new ≡ box_items self.old ++ added.items }
+        ensures room { box_room self.old ≡ box_room self.new + length added.items }
+    {
+        let mut end = self.end();
+        for item in added {
+            end = Some(self.insert(end, item));
         }
     }
 
