@@ -28,6 +28,12 @@ IsTree-none s root empty = record {
       rw empty refl in omega (arith, nothing, ap length (used_none s root));
 }
 
+-- an empty tree has no node
+pub nothing_stored : {T : Type 0} (s : Heap T) (levels root : ℕ) → levels ≡ 0
+    → IsTree s levels root → node_count s ≡ 0
+nothing_stored s zero root none tree = omega (arith, tree.len, ap length (used_none s root))
+nothing_stored s (suc d) root none tree = absurd (omega arith)
+
 -- an empty tree leaves all capacity free
 pub first_room : {T : Type 0} (s : Heap T) (levels root : ℕ) → levels ≡ 0 → IsTree s levels root
     → length (items_below s levels root) + 1 ≤ MIN_LEN * s.capacity → node_count s + 1 ≤ s.capacity

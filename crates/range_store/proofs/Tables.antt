@@ -89,6 +89,19 @@ module _ {T : Type 0} where
       adds s t u n list (x ∷ []) stores
       (subst (λ xs. WritesBlock t u n (insert xs 0 x)) (ap items_held stores.stored) writes)
 
+  -- a new block with no item
+  pub adds_none : (s t : Table T) (n list : ℕ) → StoresBlock s t n list → AddsBlock s t n list []
+  adds_none s t n list stores =
+      record {
+        fresh = stores.fresh;
+        present = rw stores.stored refl;
+        items_are = ap items_held stores.stored;
+        list_is = ap list_held stores.stored;
+        others = stores.others;
+        len = stores.len;
+        capacity = stores.capacity;
+      }
+
   -- two blocks that have not changed yet
   pub both_kept : (s : Table T) (l r : ℕ) → HasBlock s l → HasBlock s r
       → WritesBoth s s l r (items_held (block_of s l)) (items_held (block_of s r))

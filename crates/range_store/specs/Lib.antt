@@ -1,5 +1,6 @@
 pub mod Arena
 pub mod Blocks
+pub mod Building
 pub mod ChildLists
 pub mod Contents
 pub mod Counting

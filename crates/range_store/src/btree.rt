@@ -5,6 +5,7 @@ ghost use Rattle.range_store.specs.Depth.{HasLevels};
 ghost use Rattle.range_store.specs.Nodes.{items_below, IsRoomy, IsRoomy-prop};
 
 mod blocks;
+mod building;
 mod child_lists;
 mod division;
 mod insertion;
@@ -171,7 +172,11 @@ impl<T: Drop> Storage<T> for BoxStorage<T> {
         ensures list { box_items self.new ≡ box_items self.old ++ added.items }
         ensures space { box_room self.old ≡ box_room self.new + length added.items }
     {
-        self.push_all(added);
+        if self.levels == 0 && !added.is_empty() {
+            self.build(added);
+        } else {
+            self.push_all(added);
+        }
     }
 
     fn remove_at(&mut self, p: Edge) -> (T, Option<Edge>) {

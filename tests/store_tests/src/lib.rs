@@ -9,6 +9,8 @@ mod containers;
 #[cfg(test)]
 mod copies;
 #[cfg(test)]
+mod lists;
+#[cfg(test)]
 mod runs;
 #[cfg(test)]
 mod searching;

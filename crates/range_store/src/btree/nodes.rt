@@ -239,6 +239,17 @@ impl<T: Drop> Nodes<T> {
         number
     }
 
+    /// Stores a new node with no item and one child.
+    pub fn store_above(&mut self, child: usize) -> usize
+        requires { HasRoomFor self.old 1 }
+        ensures { Stores self.old self.new result [] (child ∷ []) }
+    {
+        let mut children = ArrayVec::new();
+        children.push(child);
+        let list = store_list(&mut self.lists, children);
+        self.blocks.store(list)
+    }
+
     /// Takes a node away, with its items.
     pub fn remove_node(&mut self, number: usize)
         requires { HasNode self.old number }

@@ -6,6 +6,7 @@ ghost use Rattle.range_store.specs.Falling.{Falls};
 ghost use Rattle.range_store.specs.Holding.{box_items, box_room, IsBoxEdge, box_place, box_home, edge_or_end, IsNextEdge};
 
 use crate::btree::BoxStorage;
+use crate::btree::building::{build, layout_of};
 use crate::btree::insertion::{Parts, insert_below};
 use crate::btree::nodes::{CAPACITY, MIN_LEN};
 use crate::btree::path::{
@@ -171,6 +172,28 @@ impl<T: Drop> BoxStorage<T> {
                 seen_above(edge, side)
             }
         }
+    }
+
+    // Builds an empty tree of items, in their order.
+    pub fn build(&mut self, added: Vec<T>)
+        requires empty { box_items self.old ≡ [] }
+        requires some { 0 < length added.items }
+        requires room { length added.items ≤ box_room self.old }
+        ensures list { box_items self.new ≡ added.items }
+        ensures room { box_room self.old ≡ box_room self.new + length added.items }
+    {
+        let count = added.len();
+        let layout = layout_of(count);
+        let mut items = added.into_iter();
+        self.root = build(
+            &mut self.nodes,
+            layout.below,
+            layout.width,
+            count,
+            &mut items,
+        );
+        self.levels = layout.below + 1;
+        self.len = count;
     }
 
     // Puts items, in their order, after all others.

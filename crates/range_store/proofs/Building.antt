@@ -1,0 +1,364 @@
+-- How a node of new nodes grows at its end, item by item, and with each item by a child.
+use Rattle.std.proofs.Common.{◌≡◌, ℕ, zero, suc, ◌+◌, ◌-◌, ◌*◌, ◌<◌, ◌≤◌, List, [], ◌∷◌, ◌++◌, length, map, refl, sym, ap, ◌∙◌, subst, arith, length-append, append_assoc, Some}
+use Rattle.std.specs.List.{All, flat_map, insert}
+use Rattle.std.proofs.lemmas.List.{append-nil, length_push, length-map, map-append}
+use Rattle.std.proofs.lemmas.List.Concat.{flat_map-append}
+use Rattle.std.proofs.lemmas.List.Edits.{insert_end}
+use Rattle.std.proofs.lemmas.List.Elements.{All-append, All-cons, All-nil}
+use Rattle.range_store.specs.Heap.{Heap, node_of, node_count, items_of, children_of, child_count, FitsChild, HasNode, Stores, Writes}
+use Rattle.range_store.specs.declared.btree.nodes.TheConstants.{CAPACITY, MIN_LEN}
+use Rattle.range_store.specs.Nodes.{weave, items_below, used, here, Shaped, Moves, IsTree}
+use Rattle.range_store.specs.Building.{IsBuilt}
+use Rattle.range_store.specs.Contents.{IsContent}
+use Rattle.range_store.specs.Frame.{AgreeAt, AgreeAt-right, SameChildren, same_children}
+use Rattle.range_store.specs.Occurrences.{occurrences, occurrences-append, occurrences-cons, occurrences-nil, occurrences_here}
+use Rattle.range_store.specs.Weave.{weave_cut}
+use Rattle.range_store.proofs.Below.{Shaped-from_but, child_count_inner, items_below_leaf, used_is, used_leaf, weave_items_below}
+use Rattle.range_store.proofs.Contents.{Holds, held_items_below, held_used, held_shape, written_holds}
+use Rattle.range_store.proofs.Moves.{Moves-agree, Moves-beside, Moves-like, Moves-none, Moves-then, Stores-moves, Writes-moves}
+use Rattle.range_store.proofs.Moved.{moved_all}
+use Rattle.range_store.proofs.Rank.{used_none}
+use Rattle.range_store.proofs.Room.{used_le}
+
+-- one item and one list more at the end
+weave_more : {X : Type 0} (xs : List X) (x : X) (ls : List (List X)) (l : List X)
+    → length ls ≡ length xs + 1 → weave (xs ++ x ∷ []) (ls ++ l ∷ []) ≡ weave xs ls ++ x ∷ l
+weave_more xs x [] l many = absurd (omega arith)
+weave_more xs x (k ∷ ks) l many =
+    weave_cut xs x [] k ks l [] (omega arith)
+    ∙ ap (λ zs. weave xs (k ∷ ks) ++ (x ∷ zs)) (append-nil l)
+
+-- a built node with enough items is one that is not the root
+pub built_shaped : {T : Type 0} (r s : Heap T) (d n many : ℕ) → IsBuilt r s d n many
+    → MIN_LEN ≤ many → Shaped s (suc d) n
+built_shaped r s d n many built enough =
+    Shaped-from_but s d n (record {
+      node =
+          record {
+            present = built.shape.node.present;
+            enough = omega (arith, built.items, enough);
+            fits = built.shape.node.fits;
+            branches = built.shape.node.branches;
+          };
+      children = built.shape.children;
+    })
+
+-- what a node, of which the rest of the heap is old, becomes with an item and perhaps a child more
+module _ {T : Type 0} (r s t : Heap T) (d n many : ℕ) (cs : List ℕ) (built : IsBuilt r s d n many)
+    (moved : Moves s t [] (flat_map (used t d) cs)) where
+  abbrev xs : List T
+  xs = items_of (node_of s n)
+
+  abbrev ks : List ℕ
+  ks = children_of (node_of s n)
+
+  agree : AgreeAt s t (used s (suc d) n)
+  agree =
+      Moves-agree s t [] (flat_map (used t d) cs) (used s (suc d) n)
+      (λ k. omega (arith, built.moved.owned k, occurrences-nil k)) moved
+
+  pub built_kept : node_of t n ≡ node_of s n
+  built_kept =
+      agree n
+      (omega (
+        arith,
+        ap (occurrences n) (used_is s d n),
+        occurrences_here n (flat_map (used s d) ks),
+      ))
+
+  same : SameChildren s t d ks
+  same =
+      same_children s t d ks (AgreeAt-right s t (n ∷ []) (flat_map (used s d) ks)
+      (subst (AgreeAt s t) (used_is s d n) agree))
+
+  used_all : flat_map (used t d) (ks ++ cs) ≡ flat_map (used s d) ks ++ flat_map (used t d) cs
+  used_all =
+      flat_map-append (used t d) ks cs
+      ∙ ap (λ zs. zs ++ flat_map (used t d) cs) same.used_same
+
+  nodes_moved : Moves r t [] (n ∷ flat_map (used t d) (ks ++ cs))
+  nodes_moved =
+      let old = used s (suc d) n in
+      let more = flat_map (used t d) cs in
+      let under = flat_map (used s d) ks in
+      Moves-like r t [] [] (more ++ old) (n ∷ flat_map (used t d) (ks ++ cs))
+      (record { occur = λ k. refl; len = refl })
+      (record {
+        occur =
+            λ k.
+            omega (
+              arith,
+              occurrences-append k more old,
+              ap (occurrences k) (used_is s d n),
+              occurrences-cons k n under,
+              occurrences-cons k n (flat_map (used t d) (ks ++ cs)),
+              ap (occurrences k) used_all,
+              occurrences-append k under more,
+            );
+        len =
+            omega (
+              arith,
+              length-append more old,
+              ap length (used_is s d n),
+              ap length used_all,
+              length-append under more,
+            );
+      })
+      (Moves-then r s t [] old (more ++ old) built.moved (Moves-beside s t [] more old moved))
+
+  module _ (u : Heap T) (x : T) (room : many < CAPACITY) (shaped : All (Shaped t d) cs)
+      (branches : length cs + length ks ≡ child_count d (many + 1))
+      (written : Writes t u n (xs ++ x ∷ []) (ks ++ cs)) where
+    longer : length (xs ++ x ∷ []) ≡ many + 1
+    longer = length_push xs x ∙ ap (λ m. m + 1) built.items
+
+    content : IsContent t d n (xs ++ x ∷ []) (ks ++ cs)
+    content = record {
+      present = rw built_kept built.shape.node.present;
+      shaped = All-append (Shaped t d) ks cs (same.shaped_same built.shape.children) shaped;
+      branches =
+          rw longer (omega (arith, length-append ks cs, branches));
+      owned = λ k. omega (arith, nodes_moved.owned k, occurrences-nil k);
+    }
+
+    holds : Holds t u d n (xs ++ x ∷ []) (ks ++ cs)
+    holds = written_holds t u d n (xs ++ x ∷ []) (ks ++ cs) content written
+
+    pub built_more : IsBuilt r u d n (many + 1)
+    built_more = record {
+      shape =
+          held_shape t u d n (xs ++ x ∷ []) (ks ++ cs) holds 0 (omega arith)
+          (omega (arith, longer, room)) content.branches content.shaped;
+      items = ap length written.items_are ∙ longer;
+      moved =
+          Moves-then r t u [] (n ∷ flat_map (used t d) (ks ++ cs)) (used u (suc d) n) nodes_moved
+          (subst (λ zs. Moves t u (n ∷ flat_map (used t d) (ks ++ cs)) zs)
+          (sym (held_used t u d n (xs ++ x ∷ []) (ks ++ cs) holds))
+          (Writes-moves t u n (xs ++ x ∷ []) (ks ++ cs) (flat_map (used t d) (ks ++ cs)) written));
+    }
+
+    pub listed_more : items_below u (suc d) n
+        ≡ weave (xs ++ x ∷ []) (map (items_below s d) ks ++ map (items_below t d) cs)
+    listed_more =
+        held_items_below t u d n (xs ++ x ∷ []) (ks ++ cs) holds
+        ∙ ap (weave (xs ++ x ∷ [])) (map-append (items_below t d) ks cs
+        ∙ ap (λ zs. zs ++ map (items_below t d) cs) same.items_below_same)
+
+-- a leaf of one item
+pub leaf_begun : {T : Type 0} (r s : Heap T) (n : ℕ) (x : T) → Stores r s n (x ∷ []) []
+    → IsBuilt r s 0 n 1 × (items_below s (suc 0) n ≡ x ∷ [])
+leaf_begun r s n x stored =
+    let childless : length (children_of (node_of s n)) ≡ 0 = ap length stored.children_are in
+    let built : IsBuilt r s 0 n 1 = record {
+      shape = record {
+        node =
+            record {
+              present = stored.present;
+              enough = omega arith;
+              fits = omega (arith, ap length stored.items_are);
+              branches = childless;
+            };
+        children = rw stored.children_are (All-nil (Shaped s zero));
+      };
+      items = ap length stored.items_are;
+      moved =
+          subst (Moves r s []) (sym (used_leaf s n childless))
+          (Stores-moves r s n (x ∷ []) [] [] stored);
+    } in
+    (built, items_below_leaf s n childless ∙ stored.items_are)
+
+-- a leaf gets an item
+module _ {T : Type 0} (r s t : Heap T) (n many : ℕ) (x : T) (built : IsBuilt r s 0 n many)
+    (room : many < CAPACITY)
+    (put : Writes s t n (insert (items_of (node_of s n)) many x) (children_of (node_of s n))) where
+  leaf_written : Writes s t n (items_of (node_of s n) ++ x ∷ []) (children_of (node_of s n) ++ [])
+  leaf_written =
+      let xs = items_of (node_of s n) in
+      let end : insert xs many x ≡ xs ++ x ∷ [] =
+      ap (λ m. insert xs m x) (sym built.items) ∙ insert_end xs x in
+      subst (Writes s t n (xs ++ x ∷ [])) (sym (append-nil (children_of (node_of s n))))
+      (subst (λ ys. Writes s t n ys (children_of (node_of s n))) end put)
+
+  pub leaf_more : IsBuilt r t 0 n (many + 1)
+      × (items_below t (suc 0) n ≡ items_below s (suc 0) n ++ x ∷ [])
+  leaf_more =
+      let childless : length (children_of (node_of s n)) ≡ 0 = built.shape.node.branches in
+      let none : length (children_of (node_of t n)) ≡ 0 =
+      ap length put.children_are ∙ childless in (
+        built_more r s s 0 n many [] built (Moves-none s []) t x room (All-nil (Shaped s 0))
+            (omega (arith, childless)) leaf_written,
+        items_below_leaf t n none ∙ leaf_written.items_are
+            ∙ ap (λ ys. ys ++ x ∷ []) (sym (items_below_leaf s n childless)),
+      )
+
+-- a node above its first child
+module _ {T : Type 0} (r s t : Heap T) (d n c : ℕ) (inner : 0 < d)
+    (moved : Moves r s [] (used s d c)) (shaped : Shaped s d c)
+    (stored : Stores s t n [] (c ∷ [])) where
+  alone : flat_map (used s d) (c ∷ []) ≡ used s d c
+  alone = append-nil (used s d c)
+
+  above_agree : AgreeAt s t (flat_map (used s d) (c ∷ []))
+  above_agree k among =
+      stored.others k (λ at.
+      let absent : here s k ≡ 0 = rw (at, stored.fresh) refl in
+      omega (arith, among, ap (occurrences k) alone, moved.owned k, occurrences-nil k, absent))
+
+  above_holds : Holds s t d n [] (c ∷ [])
+  above_holds = record {
+    present = stored.present;
+    items_are = stored.items_are;
+    children_are = stored.children_are;
+    same = same_children s t d (c ∷ []) above_agree;
+  }
+
+  pub begun_above : IsBuilt r t d n 0
+  begun_above = record {
+    shape =
+        held_shape s t d n [] (c ∷ []) above_holds 0 (omega arith) (omega arith)
+        (sym (child_count_inner d 0 inner)) (All-cons (Shaped s d) c [] shaped (All-nil (Shaped s d)));
+    items = ap length stored.items_are;
+    moved =
+        Moves-then r s t [] (used s d c) (used t (suc d) n) moved
+        (subst (λ zs. Moves s t (used s d c) zs)
+        (sym (held_used s t d n [] (c ∷ []) above_holds ∙ ap (λ zs. n ∷ zs) alone))
+        (Stores-moves s t n [] (c ∷ []) (used s d c) stored));
+  }
+
+  pub listed_above : items_below t (suc d) n ≡ items_below s d c
+  listed_above =
+      held_items_below s t d n [] (c ∷ []) above_holds ∙ append-nil (items_below s d c)
+
+-- a node gets an item, and a child after it
+module _ {T : Type 0} (r s t : Heap T) (d n c many : ℕ) (inner : 0 < d)
+    (built : IsBuilt r s d n many) (moved : Moves s t [] (used t d c)) where
+  one_moved : Moves s t [] (flat_map (used t d) (c ∷ []))
+  one_moved = subst (Moves s t []) (sym (append-nil (used t d c))) moved
+
+  branches : length (children_of (node_of s n)) ≡ many + 1
+  branches =
+      built.shape.node.branches ∙ child_count_inner d (length (items_of (node_of s n))) inner
+      ∙ ap (λ m. m + 1) built.items
+
+  pub node_kept : node_of t n ≡ node_of s n
+  node_kept = built_kept r s t d n many (c ∷ []) built one_moved
+
+  pub node_there : HasNode t n
+  node_there = rw node_kept built.shape.node.present
+
+  pub node_items : length (items_of (node_of t n)) ≡ many
+  node_items = ap (λ node. length (items_of node)) node_kept ∙ built.items
+
+  pub node_fits : FitsChild (Some c) (items_of (node_of t n)) (children_of (node_of t n))
+  node_fits =
+      ap (λ node. length (children_of node)) node_kept ∙ branches
+      ∙ ap (λ m. m + 1) (sym node_items)
+
+  module _ (u : Heap T) (x : T) (room : many < CAPACITY) (shaped : Shaped t d c)
+      (put : Writes t u n (insert (items_of (node_of t n)) many x)
+      (insert (children_of (node_of t n)) (many + 1) c)) where
+    child_written : Writes t u n (items_of (node_of s n) ++ x ∷ [])
+        (children_of (node_of s n) ++ c ∷ [])
+    child_written =
+        let xs = items_of (node_of s n) in
+        let ks = children_of (node_of s n) in
+        let items : insert (items_of (node_of t n)) many x ≡ xs ++ x ∷ [] =
+        ap (λ node. insert (items_of node) many x) node_kept
+        ∙ ap (λ m. insert xs m x) (sym built.items) ∙ insert_end xs x in
+        let children : insert (children_of (node_of t n)) (many + 1) c ≡ ks ++ c ∷ [] =
+        ap (λ node. insert (children_of node) (many + 1) c) node_kept
+        ∙ ap (λ m. insert ks m c) (sym branches) ∙ insert_end ks c in
+        subst (λ ys. Writes t u n ys (ks ++ c ∷ [])) items
+        (subst (Writes t u n (insert (items_of (node_of t n)) many x)) children put)
+
+    below_one : All (Shaped t d) (c ∷ [])
+    below_one = All-cons (Shaped t d) c [] shaped (All-nil (Shaped t d))
+
+    both : length (c ∷ []) + length (children_of (node_of s n)) ≡ child_count d (many + 1)
+    both = omega (arith, branches, child_count_inner d (many + 1) inner)
+
+    pub child_more : IsBuilt r u d n (many + 1)
+    child_more =
+        built_more r s t d n many (c ∷ []) built one_moved u x room below_one both child_written
+
+    pub child_listed : items_below u (suc d) n ≡ items_below s (suc d) n ++ x ∷ items_below t d c
+    child_listed =
+        let xs = items_of (node_of s n) in
+        let ks = children_of (node_of s n) in
+        listed_more r s t d n many (c ∷ []) built one_moved u x room below_one both child_written
+        ∙ weave_more xs x (map (items_below s d) ks) (items_below t d c)
+        (omega (arith, length-map ks (items_below s d), branches, built.items))
+        ∙ ap (λ zs. zs ++ x ∷ items_below t d c) (sym (weave_items_below s d n))
+
+-- a child below a node, with so many items, was built of new nodes
+module _ {T : Type 0} where
+  pub record IsChild (old new : Heap T) (d n count : ℕ) : Type 0 where
+    pub moved : Moves old new [] (used new d n)
+    pub shaped : Shaped new d n
+    pub size : length (items_below new d n) ≡ count
+    pub few : MIN_LEN * node_count new ≤ MIN_LEN * node_count old + count
+
+pub built_child : {T : Type 0} (r s : Heap T) (d n many count : ℕ) → 0 < d
+    → IsBuilt r s (d - 1) n many → MIN_LEN ≤ many
+    → length (items_below s (suc (d - 1)) n) ≡ count → IsChild r s d n count
+built_child r s zero n many count some built enough size = absurd (omega arith)
+built_child r s (suc d) n many count some built' enough size' =
+    let level : suc d - 1 ≡ d = omega arith in
+    let built = rw level at built' in
+    let size = rw level at size' in
+    let shaped = built_shaped r s d n many built enough in
+    record {
+      moved = built.moved;
+      shaped = shaped;
+      size = size;
+      few = omega (arith, built.moved.len, used_le s (suc d) n shaped, size);
+    }
+
+pub child_level : {T : Type 0} (s : Heap T) (d n : ℕ) → 0 < d
+    → items_below s (suc (d - 1)) n ≡ items_below s d n
+child_level s d n some = let level : suc (d - 1) ≡ d = omega arith in
+    ap (λ m. items_below s m n) level
+
+-- what was taken of a list that is moved, with an item and some more
+pub taken_more : {X : Type 0} (all front rest later end now middle : List X) (x : X)
+    → all ≡ front ++ rest → rest ≡ x ∷ later → later ≡ middle ++ end
+    → now ≡ front ++ x ∷ middle → all ≡ now ++ end
+taken_more all front rest later end now middle x whole next below longer =
+    whole ∙ ap (λ zs. front ++ zs) (next ∙ ap (λ zs. x ∷ zs) below)
+    ∙ sym (append_assoc front (x ∷ middle) end) ∙ ap (λ zs. zs ++ end) (sym longer)
+
+-- a tree that was built where there was none
+pub built_tree : {T : Type 0} (r s : Heap T) (levels root d n many : ℕ) → levels ≡ 0
+    → IsTree r levels root → IsBuilt r s d n many → 0 < many → IsTree s (d + 1) n
+built_tree r s (suc e) root d n many none tree built some = absurd (omega arith)
+built_tree r s zero root d n many none tree built some =
+    let next : d + 1 ≡ suc d = omega arith in
+    rw next (record {
+      shaped = record {
+        node =
+            record {
+              present = built.shape.node.present;
+              enough = omega (arith, built.items, some);
+              fits = built.shape.node.fits;
+              branches = built.shape.node.branches;
+            };
+        children = built.shape.children;
+      };
+      once =
+          λ k.
+          omega (
+            arith,
+            built.moved.owned k,
+            tree.once k,
+            ap (occurrences k) (used_none r root),
+            occurrences-nil k,
+          );
+      len = omega (arith, built.moved.len, tree.len, ap length (used_none r root));
+    })
+
+-- all that was to be moved was
+pub all_taken : {X : Type 0} (all done rest : List X) → all ≡ done ++ rest
+    → length done ≡ length all → done ≡ all
+all_taken all done rest parted same =
+    moved_all done rest all (sym parted)
+    (omega (arith, ap length parted, length-append done rest, same))

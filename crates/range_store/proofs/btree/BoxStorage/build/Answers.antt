@@ -1,0 +1,111 @@
+use Rattle.std.proofs.Common.{◌≡◌, ◌+◌, ◌/◌, suc, length, ap, sym, ◌∙◌, arith}
+use Rattle.std.specs.Vec.Iter.{into_iter_items}
+use Rattle.range_store.specs.Nodes.{items_below, IsTree}
+use Rattle.range_store.proofs.Building.{all_taken, built_tree}
+use Rattle.range_store.proofs.Levels.{empty_levels, has_levels}
+use Rattle.range_store.proofs.Rank.{nothing_stored}
+use Rattle.range_store.proofs.Shares.{cut_is}
+use Rattle.range_store.proofs.btree.BoxStorage.build.Goals as goal
+use Rattle.range_store.proofs.btree.BoxStorage.build.Given.{Over}
+use Rattle.range_store.proofs.btree.BoxStorage.build.Goals.{After-build-self}
+
+pub layout_of-layout-requires : goal.layout_of-layout-requires
+layout_of-layout-requires g c =
+    omega (arith, c.requires.some, c.len-count.ensures, c.args.added.ok.0)
+
+pub build-self-requires : goal.build-self-requires
+build-self-requires g c =
+    let s = c.args.self.now in
+    let layout = c.layout_of-layout.ensures in
+    let cut =
+    cut_is c.layout_of-layout.result.width c.len-count.result (omega (arith, layout.deep))
+    layout.least layout.most in
+    let count = ap length c.into_iter-items.ensures.rest in
+    let none = ap length c.requires.empty in
+    let empty =
+    nothing_stored s.nodes s.levels s.root
+    (empty_levels s.nodes s.levels s.root s.whole.tree none) s.whole.tree in
+    record {
+      width = layout.width;
+      least = layout.least;
+      most = layout.most;
+      enough = omega (arith, count, c.len-count.ensures, c.args.added.ok.0);
+      room =
+          omega (
+            arith,
+            empty,
+            none,
+            cut.some,
+            c.requires.room,
+            c.len-count.ensures,
+            c.args.added.ok.0,
+          );
+    }
+
+pub overflow_add-self : goal.overflow_add-self
+overflow_add-self g c =
+    omega (arith, c.layout_of-layout.ensures.deep, c.layout_of-layout.ensures.least)
+
+tree : (g : Over) (c : After-build-self g)
+    → IsTree c.build-self.new.nodes (c.layout_of-layout.result.below + 1) c.build-self.result
+tree g c =
+    let s = c.args.self.now in
+    let layout = c.layout_of-layout.ensures in
+    let cut =
+    cut_is c.layout_of-layout.result.width c.len-count.result (omega (arith, layout.deep))
+    layout.least layout.most in
+    built_tree s.nodes c.build-self.new.nodes s.levels s.root c.layout_of-layout.result.below
+    c.build-self.result (c.len-count.result / c.layout_of-layout.result.width)
+    (empty_levels s.nodes s.levels s.root s.whole.tree (ap length c.requires.empty))
+    s.whole.tree c.build-self.ensures.built cut.some
+
+listed : (g : Over) (c : After-build-self g)
+    → items_below c.build-self.new.nodes (c.layout_of-layout.result.below + 1)
+    c.build-self.result ≡ c.args.added.items
+listed g c =
+    let next : c.layout_of-layout.result.below + 1 ≡ suc c.layout_of-layout.result.below =
+    omega arith in
+    rw next (all_taken c.args.added.items
+    (items_below c.build-self.new.nodes (suc c.layout_of-layout.result.below) c.build-self.result)
+    (into_iter_items c.build-self.new.items)
+    (sym c.into_iter-items.ensures.rest ∙ c.build-self.ensures.list)
+    (c.build-self.ensures.size ∙ c.len-count.ensures ∙ c.args.added.ok.0))
+
+pub invariant_of-self : goal.invariant_of-self
+invariant_of-self g c =
+    let a = (goal.at.invariant_of-self g c).After-build-self in
+    let many = ap length (listed g a) in
+    let count : length c.args.added.items ≡ c.len-count.result =
+    omega (arith, c.len-count.ensures, c.args.added.ok.0) in
+    record {
+      whole =
+          record {
+            tree = tree g a;
+            fits =
+                omega (
+                  arith,
+                  many,
+                  c.requires.room,
+                  c.build-self.ensures.built.moved.capacity,
+                );
+            counted = omega (arith, many, count);
+          };
+      counted = sym (many ∙ count);
+      levelled =
+          rw (many ∙ count) at (has_levels c.build-self.new.nodes
+          (c.layout_of-layout.result.below + 1) c.build-self.result (tree g a));
+    }
+
+pub returns-clause-list : goal.returns-clause-list
+returns-clause-list g c = listed g (goal.at.returns-clause-list g c).After-build-self
+
+pub returns-clause-room : goal.returns-clause-room
+returns-clause-room g c =
+    let a = (goal.at.returns-clause-room g c).After-build-self in
+    omega (
+      arith,
+      ap length (listed g a),
+      ap length c.requires.empty,
+      c.requires.room,
+      c.build-self.ensures.built.moved.capacity,
+    )

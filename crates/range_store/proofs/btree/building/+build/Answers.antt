@@ -1,0 +1,287 @@
+use Rattle.std.proofs.Common.{◌≡◌, ◌+◌, ◌-◌, ◌/◌, ◌<◌, ◌∷◌, ◌++◌, suc, length, sym, ap, subst, ◌∙◌, arith, length-append}
+use Rattle.std.specs.Vec.Iter.{into_iter_items}
+use Rattle.range_store.specs.Building.{IsBuilt}
+use Rattle.range_store.specs.Nodes.{items_below}
+use Rattle.range_store.specs.declared.btree.nodes.TheConstants.{CAPACITY}
+use Rattle.range_store.proofs.Building.{begun_above, built_child, child_level, child_listed, child_more, listed_above, node_fits, node_items, node_there, taken_more}
+use Rattle.range_store.proofs.Shares.{all_shared, branch_is, cut_enough, first_share, leaf_cut, leaf_width, next_share}
+use Rattle.range_store.proofs.btree.building.+build.Goals as goal
+
+pub build_leaf-requires : goal.build_leaf-requires
+build_leaf-requires g t c =
+    let one = leaf_width c.args.width c.args.below c.if-below-eq0.true c.requires.width in
+    let cut = leaf_cut c.args.width c.args.below c.args.count c.if-below-eq0.true c.requires.width
+    in
+    record {
+      least = omega (arith, one, c.requires.least);
+      most = omega (arith, one, c.requires.most);
+      enough = c.requires.enough;
+      room = omega (arith, cut, c.requires.room);
+    }
+
+pub returns-then-below-eq0-clause-built : goal.returns-then-below-eq0-clause-built
+returns-then-below-eq0-clause-built g t c =
+    let cut = leaf_cut c.args.width c.args.below c.args.count c.if-below-eq0.true c.requires.width
+    in
+    rw (cut, c.if-below-eq0.true) c.build_leaf.ensures.built
+
+pub returns-then-below-eq0-clause-list : goal.returns-then-below-eq0-clause-list
+returns-then-below-eq0-clause-list g t c = rw c.if-below-eq0.true c.build_leaf.ensures.list
+
+pub returns-then-below-eq0-clause-size : goal.returns-then-below-eq0-clause-size
+returns-then-below-eq0-clause-size g t c = rw c.if-below-eq0.true c.build_leaf.ensures.size
+
+pub build-first-requires : goal.build-first-requires
+build-first-requires g t c κs inside =
+    let some : 0 < c.args.below = omega (arith, c.if-below-eq0.false) in
+    let branch =
+    branch_is c.args.width c.args.below c.args.count some c.requires.width c.requires.least
+    c.requires.most in
+    let share = first_share _ _ c.args.count (c.args.width / (CAPACITY + 1))
+    (c.args.count / c.args.width) branch in
+    let enough = cut_enough _ _ branch.some share.enough in (
+      omega (arith, some),
+      (
+        inside,
+        (
+          branch.inner_is,
+          (
+            omega (arith, share.enough),
+            (
+              share.fits,
+              (
+                omega (arith, share.within, c.requires.enough),
+                omega (arith, share.within, branch.within, c.requires.room, enough),
+              ),
+            ),
+          ),
+        ),
+      ),
+    )
+
+pub store_above-number-requires : goal.store_above-number-requires
+store_above-number-requires g t c =
+    let some : 0 < c.args.below = omega (arith, c.if-below-eq0.false) in
+    let branch =
+    branch_is c.args.width c.args.below c.args.count some c.requires.width c.requires.least
+    c.requires.most in
+    let share = first_share _ _ _ _ _ branch in
+    let child =
+    built_child c.args.nodes.now c.build-first.new.nodes c.args.below c.build-first.result _ _ some
+    c.build-first.ensures.built (cut_enough _ _ branch.some share.enough)
+    c.build-first.ensures.size in
+    omega (
+      arith,
+      child.few,
+      child.moved.capacity,
+      c.requires.room,
+      share.within,
+      branch.within,
+    )
+
+pub loop-index-init : goal.loop-index-init
+loop-index-init g t c =
+    let some : 0 < c.args.below = omega (arith, c.if-below-eq0.false) in
+    let branch =
+    branch_is c.args.width c.args.below c.args.count some c.requires.width c.requires.least
+    c.requires.most in
+    let share = first_share _ _ _ _ _ branch in
+    let old = c.args.nodes.now in
+    let first = c.build-first.new.nodes in
+    let new = c.store_above-number.new.self in
+    let child =
+    built_child old first c.args.below c.build-first.result _ _ some
+    c.build-first.ensures.built (cut_enough _ _ branch.some share.enough)
+    c.build-first.ensures.size in
+    let listed =
+    listed_above old first new c.args.below c.store_above-number.result c.build-first.result some
+    child.moved child.shaped c.store_above-number.ensures in
+    let none : c.args.count / c.args.width - 0 ≡ c.args.count / c.args.width = omega arith in
+    record {
+      built =
+          begun_above old first new c.args.below c.store_above-number.result c.build-first.result
+          some child.moved child.shaped c.store_above-number.ensures;
+      listed =
+          c.build-first.ensures.list
+          ∙ ap (λ zs. zs ++ into_iter_items c.build-first.new.items)
+          (child_level first c.args.below c.build-first.result some ∙ sym listed);
+      size =
+          omega (arith, ap length listed, child.size, share.within, branch.within);
+      shares = rw none share.others_can;
+      room =
+          omega (
+            arith,
+            child.few,
+            child.moved.capacity,
+            c.store_above-number.ensures.len,
+            c.store_above-number.ensures.capacity,
+            c.requires.room,
+            share.within,
+            branch.within,
+          );
+    }
+
+pub next_item-item-requires : goal.next_item-item-requires
+next_item-item-requires g t c =
+    let was = c.loop-index.invariant in
+    omega (
+      arith,
+      ap length was.listed,
+      length-append (items_below c.loop-index.nodes (suc c.args.below) c.store_above-number.result)
+          (into_iter_items c.loop-index.items),
+      was.size,
+      c.requires.enough,
+      c.loop-index-test.true,
+    )
+
+pub build-child-requires : goal.build-child-requires
+build-child-requires g t c κs inside =
+    let some : 0 < c.args.below = omega (arith, c.if-below-eq0.false) in
+    let was = c.loop-index.invariant in
+    let branch =
+    branch_is c.args.width c.args.below c.args.count some c.requires.width c.requires.least
+    c.requires.most in
+    let share =
+    next_share c.loop-index.rest _ c.loop-index.index _ _ c.loop-index-test.true was.shares in (
+      omega (arith, some),
+      (
+        inside,
+        (
+          branch.inner_is,
+          (
+            omega (arith, share.enough),
+            (
+              share.fits,
+              (
+                omega (
+                  arith,
+                  ap length was.listed,
+                  length-append (items_below c.loop-index.nodes (suc c.args.below)
+                      c.store_above-number.result) (into_iter_items c.loop-index.items),
+                  ap length c.next_item-item.ensures,
+                  was.size,
+                  c.requires.enough,
+                  share.within,
+                  c.loop-index-test.true,
+                ),
+                omega (
+                  arith,
+                  was.room,
+                  share.within,
+                  cut_enough _ _ branch.some share.enough,
+                ),
+              ),
+            ),
+          ),
+        ),
+      ),
+    )
+
+pub put-requires : goal.put-requires
+put-requires g t c =
+    let some : 0 < c.args.below = omega (arith, c.if-below-eq0.false) in
+    let was = c.loop-index.invariant in
+    let branch =
+    branch_is c.args.width c.args.below c.args.count some c.requires.width c.requires.least
+    c.requires.most in
+    let share =
+    next_share c.loop-index.rest _ c.loop-index.index _ _ c.loop-index-test.true was.shares in
+    let old = c.args.nodes.now in
+    let now = c.loop-index.nodes in
+    let new = c.build-child.new.nodes in
+    let child =
+    built_child now new c.args.below c.build-child.result _ _ some c.build-child.ensures.built
+    (cut_enough _ _ branch.some share.enough) c.build-child.ensures.size in
+    let number = c.store_above-number.result in
+    let items =
+    node_items old now new c.args.below number c.build-child.result c.loop-index.index some
+    was.built child.moved in
+    record {
+      present =
+          node_there old now new c.args.below number c.build-child.result c.loop-index.index some
+          was.built child.moved;
+      within = omega (arith, items);
+      room = omega (arith, items, branch.cut.few, c.loop-index-test.true);
+      child =
+          node_fits old now new c.args.below number c.build-child.result c.loop-index.index some
+          was.built child.moved;
+    }
+
+pub overflow_sub-rest : goal.overflow_sub-rest
+overflow_sub-rest g t c =
+    (branch_is c.args.width c.args.below c.args.count (omega (arith, c.if-below-eq0.false))
+    c.requires.width c.requires.least c.requires.most).within
+
+pub loop-index-preserved : goal.loop-index-preserved
+loop-index-preserved g t c =
+    let some : 0 < c.args.below = omega (arith, c.if-below-eq0.false) in
+    let was = c.loop-index.invariant in
+    let branch =
+    branch_is c.args.width c.args.below c.args.count some c.requires.width c.requires.least
+    c.requires.most in
+    let share =
+    next_share c.loop-index.rest _ c.loop-index.index _ _ c.loop-index-test.true was.shares in
+    let old = c.args.nodes.now in
+    let now = c.loop-index.nodes in
+    let new = c.build-child.new.nodes in
+    let child =
+    built_child now new c.args.below c.build-child.result _ _ some c.build-child.ensures.built
+    (cut_enough _ _ branch.some share.enough) c.build-child.ensures.size in
+    let number = c.store_above-number.result in
+    let room : c.loop-index.index < CAPACITY =
+    omega (arith, branch.cut.few, c.loop-index-test.true) in
+    let front = items_below now (suc c.args.below) number in
+    let middle = items_below new c.args.below c.build-child.result in
+    let listed =
+    child_listed old now new c.args.below number c.build-child.result c.loop-index.index some
+    was.built child.moved c.put.new.self c.next_item-item.result room child.shaped c.put.ensures
+    in
+    record {
+      built =
+          child_more old now new c.args.below number c.build-child.result c.loop-index.index some
+          was.built child.moved c.put.new.self c.next_item-item.result room child.shaped
+          c.put.ensures;
+      listed =
+          taken_more (into_iter_items c.args.items.now) front (into_iter_items c.loop-index.items)
+          (into_iter_items c.next_item-item.new.items) (into_iter_items c.build-child.new.items)
+          (items_below c.put.new.self (suc c.args.below) number) middle c.next_item-item.result
+          was.listed c.next_item-item.ensures
+          (c.build-child.ensures.list
+          ∙ ap (λ zs. zs ++ into_iter_items c.build-child.new.items)
+          (child_level new c.args.below c.build-child.result some)) listed;
+      size =
+          omega (
+            arith,
+            ap length listed,
+            length-append front (c.next_item-item.result ∷ middle),
+            child.size,
+            was.size,
+            share.within,
+            c.loop-index-test.true,
+          );
+      shares = share.others_can;
+      room =
+          omega (
+            arith,
+            was.room,
+            child.few,
+            child.moved.capacity,
+            c.put.ensures.len,
+            c.put.ensures.capacity,
+            share.within,
+          );
+    }
+
+pub returns : goal.returns
+returns g t c =
+    let was = c.loop-index.invariant in
+    let all : c.loop-index.index ≡ c.args.count / c.args.width =
+    omega (arith, c.loop-index-test.false) in
+    let nothing = all_shared c.loop-index.rest _ c.loop-index.index _ _ all was.shares in
+    record {
+      built =
+          subst (IsBuilt c.args.nodes.now c.loop-index.nodes c.args.below
+          c.store_above-number.result) all was.built;
+      list = was.listed;
+      size = omega (arith, was.size, nothing, all);
+    }

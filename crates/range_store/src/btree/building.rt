@@ -1,0 +1,101 @@
+//! A tree built of items in order, from its leaves up, with nodes as full as may be.
+ghost use Rattle.std.specs.Prelude.{◌≡◌, suc, ◌+◌, ◌*◌, ◌/◌, ◌^◌, ◌<◌, ◌≤◌, ◌∷◌, ◌++◌, length};
+ghost use Rattle.std.specs.Vec.Iter.{into_iter_items};
+ghost use Rattle.range_store.specs.Building.{IsBuilt, HasRoomToBuild};
+ghost use Rattle.range_store.specs.Heap.{HasRoomFor};
+ghost use Rattle.range_store.specs.Nodes.{items_below};
+
+use crate::btree::nodes::{CAPACITY, Nodes};
+use std::vec::IntoIter;
+
+// The levels below the root of a tree, and one more than the most items below a child of its root.
+#[derive(Clone, Copy)]
+pub struct Layout {
+    pub below: usize,
+    pub width: usize,
+}
+
+// The layout of the lowest tree that holds so many items.
+pub fn layout_of(count: usize) -> Layout
+    requires { 0 < count }
+    ensures width { result.width ≡ (CAPACITY + 1) ^ result.below }
+    ensures least { result.width ≤ count }
+    ensures most { count < (CAPACITY + 1) * result.width }
+    ensures deep { result.below < result.width }
+{
+    let mut below = 0;
+    let mut width = 1;
+    'up: while count / width > CAPACITY {
+        width *= CAPACITY + 1;
+        below += 1;
+    }
+    Layout { below, width }
+}
+
+// The next item, of which there is one.
+fn next_item<T: Drop>(items: &mut IntoIter<T>) -> T
+    requires { 0 < length (into_iter_items items.old) }
+    ensures { into_iter_items items.old ≡ result ∷ into_iter_items items.new }
+{
+    match items.next() {
+        Some(item) => item,
+        None => unreachable!(),
+    }
+}
+
+// Makes a leaf of the next items.
+fn build_leaf<T: Drop>(nodes: &mut Nodes<T>, count: usize, items: &mut IntoIter<T>) -> usize
+    requires least { 0 < count }
+    requires most { count ≤ CAPACITY }
+    requires enough { count ≤ length (into_iter_items items.old) }
+    requires room { HasRoomFor nodes.old 1 }
+    ensures built { IsBuilt nodes.old nodes.new 0 result count }
+    ensures list { into_iter_items items.old
+        ≡ items_below nodes.new (suc 0) result ++ into_iter_items items.new }
+    ensures size { length (items_below nodes.new (suc 0) result) ≡ count }
+{
+    let first = next_item(items);
+    let number = nodes.store_leaf(first);
+    for index in 1..count {
+        let item = next_item(items);
+        nodes.put(number, index, item, None);
+    }
+    number
+}
+
+// Makes a node of the next items, below each of whose children there are fewer than `width`.
+pub fn build<T: Drop>(
+    nodes: &mut Nodes<T>,
+    below: usize,
+    width: usize,
+    count: usize,
+    items: &mut IntoIter<T>,
+) -> usize
+    requires width { width ≡ (CAPACITY + 1) ^ below }
+    requires least { width ≤ count }
+    requires most { count < (CAPACITY + 1) * width }
+    requires enough { count ≤ length (into_iter_items items.old) }
+    requires room { HasRoomToBuild nodes.old count (count / width) }
+    ensures built { IsBuilt nodes.old nodes.new below result (count / width) }
+    ensures list { into_iter_items items.old
+        ≡ items_below nodes.new (suc below) result ++ into_iter_items items.new }
+    ensures size { length (items_below nodes.new (suc below) result) ≡ count }
+{
+    if below == 0 {
+        return build_leaf(nodes, count, items);
+    }
+    let inner = width / (CAPACITY + 1);
+    let many = count / width;
+    let share = (count - many) / (many + 1);
+    let first = build(nodes, below - 1, inner, share, items);
+    let number = nodes.store_above(first);
+    let mut rest = count - many - share;
+    for index in 0..many {
+        let share = rest / (many - index);
+        let item = next_item(items);
+        let child = build(nodes, below - 1, inner, share, items);
+        nodes.put(number, index, item, Some(child));
+        rest -= share;
+    }
+    number
+}
