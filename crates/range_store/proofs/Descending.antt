@@ -21,7 +21,7 @@ use Rattle.range_store.proofs.Paths.{level_of_children, below_kid, below_edge, b
 abbrev pub from_above : ℕ → ℕ → Edge → Edge
 from_above path weight e = record e { path = path + weight * e.path }
 
-heavier : (path weight i : ℕ) → path < weight → i ≤ CAPACITY
+pub heavier : (path weight i : ℕ) → path < weight → i ≤ CAPACITY
     → path + weight * i < weight * PATH_BASE
 heavier path weight i small low = omega (arith, small, mul-le-mul_left weight low)
 

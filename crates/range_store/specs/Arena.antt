@@ -1,6 +1,6 @@
 -- How `Blocks` keeps its blocks: the cells of all in one list, so many for each number, of which
 -- the first hold its items. No public clause cites this file.
-use Rattle.std.specs.Prelude.{◌≡◌, ℕ, ◌+◌, ◌*◌, ◌<◌, ◌≤◌, List, [], ◌∷◌, length, take, drop, Option, Some, None, is_some, count_by, filter_map, slice_index, slice_index_or}
+use Rattle.std.specs.Prelude.{◌≡◌, ◌⊎◌, ℕ, ◌+◌, ◌*◌, ◌<◌, ◌≤◌, List, [], ◌∷◌, length, take, drop, Option, Some, None, is_some, count_by, filter_map, slice_index, slice_index_or}
 use Rattle.range_store.specs.declared.btree.blocks.Record.{Record}
 use Rattle.range_store.specs.declared.btree.nodes.TheConstants.{CAPACITY}
 use Rattle.range_store.specs.Blocks.{Block, Table}
@@ -8,6 +8,10 @@ use Rattle.range_store.specs.Heap.{full_cells}
 
 abbrev pub record_at : List (Option Record) → ℕ → Option Record
 record_at records n = slice_index_or records n None
+
+-- not among so many indices from `start` on
+abbrev pub IsOutside : ℕ → ℕ → ℕ → Type 0
+IsOutside start many k = (k < start) ⊎ (start + many ≤ k)
 
 module _ {T : Type 0} where
   -- the items in cells
@@ -55,3 +59,15 @@ module _ {T : Type 0} where
     pub apart : (i j : ℕ) → i < length free → j < length free
         → slice_index free i ≡ slice_index free j → i ≡ j
     pub counted : count_by is_some records + length free ≡ length records
+
+  -- the cell at an index, an empty one past the end
+  abbrev pub cell_at : List (Option T) → ℕ → Option T
+  cell_at cells k = slice_index_or cells k None
+
+  -- what so many cells from `from` on held is in those from `to` on; the cells elsewhere are as
+  -- they were
+  pub record MovesCells (old new : List (Option T)) (from to many : ℕ) : Type 0 where
+    pub len : length new ≡ length old
+    pub moved : (k : ℕ) → k < many → cell_at new (to + k) ≡ cell_at old (from + k)
+    pub others : (k : ℕ) → IsOutside from many k → IsOutside to many k
+        → cell_at new k ≡ cell_at old k

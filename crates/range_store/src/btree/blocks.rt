@@ -1,7 +1,8 @@
 //! Blocks of items under numbers: the items of a node lie together, beside those of other nodes.
-ghost use Rattle.std.specs.Prelude.{◌≡◌, ◌≢◌, ◌+◌, ◌-◌, ◌*◌, ◌<◌, ◌≤◌, [], ◌∷◌, ◌++◌, length, take, drop, replicate, vec_capacity, slice_index_or, insert, remove, IsOk, IsSome, OnOk, None, Some};
+ghost use Rattle.std.specs.Prelude.{◌≡◌, ◌≢◌, ◌⊎◌, ◌+◌, ◌-◌, ◌*◌, ◌<◌, ◌≤◌, [], ◌∷◌, ◌++◌, length, take, drop, replicate, vec_capacity, slice_index_or, insert, remove, IsOk, IsSome, OnOk, None, Some};
 ghost use Rattle.std.specs.Borrow.{Lends, sem};
 ghost use Rattle.std.specs.Option.Follows.{option_follows_value};
+ghost use Rattle.range_store.specs.Arena.{MovesCells};
 ghost use Rattle.range_store.specs.Heap.{full_cells};
 ghost use Rattle.range_store.specs.Blocks.{block_of, HasBlock, items_held, list_held, block_count, HasRoomForBlocks, with_block_item, WritesBlock, StoresBlock, RemovesBlock, MovesEnd};
 
@@ -79,6 +80,18 @@ fn take_first<T: Drop>(cells: &mut [Option<T>]) -> Option<T>
     let item = cells[0].take();
     cells.rotate_left(1);
     item
+}
+
+// Moves what so many cells hold to others, apart from them.
+fn move_cells<T: Drop>(cells: &mut [Option<T>], from: usize, to: usize, many: usize)
+    requires from { from + many ≤ length cells.old }
+    requires to { to + many ≤ length cells.old }
+    requires apart { (from + many ≤ to) ⊎ (to + many ≤ from) }
+    ensures { MovesCells cells.old cells.new from to many }
+{
+    for step in 0..many {
+        cells.swap(from + step, to + step);
+    }
 }
 
 // Adds the cells of a new number.
@@ -265,10 +278,20 @@ impl<T: Drop> Blocks<T> {
             + length (items_held (block_of self.old from)) ≤ CAPACITY + start }
         ensures { MovesEnd self.old self.new from start to }
     {
-        for _ in start..self.item_count(from) {
-            let item = self.remove(from, start);
-            self.insert(to, self.item_count(to), item);
-        }
+        let source = self.record(from);
+        let target = self.record(to);
+        let many = source.len - start;
+        let first = CAPACITY * from + start;
+        let end = CAPACITY * to + target.len;
+        move_cells(&mut self.cells, first, end, many);
+        self.records[from] = Some(Record {
+            len: start,
+            list: source.list,
+        });
+        self.records[to] = Some(Record {
+            len: target.len + many,
+            list: target.list,
+        });
     }
 
     /// Stores a new block with no item, and tells its number.

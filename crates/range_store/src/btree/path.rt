@@ -1,6 +1,7 @@
 //! Edges between the items of the tree, each with the path to it, and the steps from one to the
 //! next.
 ghost use Rattle.std.specs.Prelude.{◌≡◌, ℕ, suc, ◌+◌, ◌-◌, ◌*◌, ◌%◌, ◌/◌, ◌^◌, ◌<◌, ◌≤◌, length, MatchOption};
+ghost use Rattle.range_store.specs.Heap.{node_of, items_of};
 ghost use Rattle.range_store.specs.Nodes.{items_below, ShapedBut};
 ghost use Rattle.range_store.specs.Edges.{turn, inside, seat_of, is_start, IsEdge, place, home_of};
 
@@ -26,6 +27,14 @@ pub struct Edge {
 pub struct Home {
     pub node: usize,
     pub index: usize,
+}
+
+// A node over so many levels, with the path to its first edge.
+#[derive(Clone, Copy)]
+struct Subtree {
+    node: usize,
+    below: usize,
+    path: u128,
 }
 
 // The child through which the path goes first.
@@ -152,26 +161,60 @@ pub fn following<T: Drop>(nodes: &Nodes<T>, below: usize, number: usize, edge: E
         (λ h. IsEdge nodes.now below number h
         × (place nodes.now below number h ≡ place nodes.now below number edge + 1)) }
 {
-    if below == 0 {
-        if edge.index == nodes.item_count(number) {
-            return None;
-        }
+    if edge.index < nodes.item_count(edge.leaf) {
         return Some(Edge {
-            leaf: number,
-            path: 0,
+            leaf: edge.leaf,
+            path: edge.path,
             index: edge.index + 1,
         });
     }
-    let index = first_turn(edge);
-    let child = nodes.child_at(number, index);
-    if let Some(later) = following(nodes, below - 1, child, seen_inside(edge)) {
-        return Some(seen_above(later, index));
+    edge_behind(nodes, below, number, edge)
+}
+
+// The same of an edge at the end of its leaf: the first edge below the child after the one through
+// which the path goes, of the lowest node that has such a child. Out of line, so that a step within
+// a leaf is no call.
+#[inline(never)]
+fn edge_behind<T: Drop>(nodes: &Nodes<T>, below: usize, number: usize, edge: Edge) -> Option<Edge>
+    requires shaped { ShapedBut 1 CAPACITY nodes.now below number }
+    requires deep { below < MAX_LEVELS }
+    requires edge { IsEdge nodes.now below number edge }
+    requires last { length (items_of (node_of nodes.now edge.leaf)) ≤ edge.index }
+    ensures { MatchOption result
+        (place nodes.now below number edge ≡ length (items_below nodes.now (suc below) number))
+        (λ h. IsEdge nodes.now below number h
+        × (place nodes.now below number h ≡ place nodes.now below number edge + 1)) }
+{
+    let mut at = number;
+    let mut left = below;
+    let mut inner = edge;
+    let mut path: u128 = 0;
+    let mut weight: u128 = 1;
+    let mut behind = None;
+    'down: while left > 0 {
+        let node = at;
+        let index = first_turn(inner);
+        at = nodes.child_at(node, index);
+        left -= 1;
+        inner = seen_inside(inner);
+        path += weight * (index as u128);
+        let later = path + weight;
+        weight *= PATH_BASE;
+        if index < nodes.item_count(node) {
+            behind = Some(Subtree {
+                node: nodes.child_at(node, index + 1),
+                below: left,
+                path: later,
+            });
+        }
     }
-    if index == nodes.item_count(number) {
-        return None;
-    }
-    let next = nodes.child_at(number, index + 1);
-    Some(seen_above(first_edge(nodes, below - 1, next), index + 1))
+    let subtree = behind?;
+    let first = first_edge(nodes, subtree.below, subtree.node);
+    Some(Edge {
+        leaf: first.leaf,
+        path: subtree.path,
+        index: first.index,
+    })
 }
 
 // The edge before the item before an edge below a node.

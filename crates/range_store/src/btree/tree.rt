@@ -44,13 +44,6 @@ impl<T: Drop> BoxStorage<T> {
         requires { IsBoxEdge self.now edge }
         ensures { IsNextEdge self.now result (box_place self.now edge) }
     {
-        if edge.index < self.nodes.item_count(edge.leaf) {
-            return Some(Edge {
-                leaf: edge.leaf,
-                path: edge.path,
-                index: edge.index + 1,
-            });
-        }
         following(&self.nodes, self.levels - 1, self.root, edge)
     }
 

@@ -91,10 +91,19 @@ pub fn replace_run<T: Drop, C: Storage<T>>(stored: &mut C, cursor: Cursor<C::Pos
         ≡ take place (C.items stored.old) ++ item
         ∷ drop (place + cursor.left) (C.items stored.old) }
 {
-    if cursor.left == 0 {
-        let _inserted = stored.insert_at(cursor.at, item);
-        return;
+    match cursor.left {
+        0 => {
+            let _inserted = stored.insert_at(cursor.at, item);
+        }
+        1 => match cursor.at {
+            Some(p) => {
+                let _replaced = stored.replace(p, item);
+            }
+            None => unreachable!(),
+        },
+        _ => {
+            let rest = put::<T, C>(stored, cursor, item);
+            remove_rest::<T, C>(stored, rest);
+        }
     }
-    let rest = put::<T, C>(stored, cursor, item);
-    remove_rest::<T, C>(stored, rest);
 }

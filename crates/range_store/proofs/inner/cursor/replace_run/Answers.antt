@@ -1,11 +1,27 @@
-use Rattle.std.proofs.Common.{◌+◌, length}
+use Rattle.std.proofs.Common.{◌≡◌, ◌+◌, ◌≤◌, length, ap, sym, ◌∙◌, arith}
+use Rattle.std.proofs.Math.ListN.{set}
 use Rattle.range_store.specs.Places.{place_before}
+use Rattle.range_store.specs.Written.{set_parts}
 use Rattle.range_store.proofs.Places.{place_at}
 use Rattle.range_store.proofs.Edits.{replaced_run}
 use Rattle.range_store.proofs.inner.cursor.replace_run.Goals as goal
 
-pub returns : goal.returns
-returns g c =
+pub returns-in-Some : goal.returns-in-Some
+returns-in-Some g c =
+    let storage = g.C.Storage in
+    let stored = c.args.stored.now in
+    let items = storage.items stored in
+    let place = place_before (storage.rank stored) (length items) c.args.cursor.at in
+    let here : place ≡ storage.rank stored c.in-Some.p =
+    ap (place_before (storage.rank stored) (length items)) c.in-Some.is in
+    let one = c.in-1.is in
+    let within : place + c.args.cursor.left ≤ length items = c.requires.in_range in
+    rw one (c.replace-replaced.ensures.list
+    ∙ ap (λ rank. set items rank c.args.item) (sym here)
+    ∙ set_parts items place c.args.item (omega arith))
+
+pub returns-in_default : goal.returns-in_default
+returns-in_default g c =
     let storage = g.C.Storage in
     let stored = c.args.stored.now in
     let items = storage.items stored in
