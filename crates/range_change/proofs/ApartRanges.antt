@@ -1,6 +1,6 @@
 -- A range that lies apart from all stored ones, and the list with it.
 use Rattle.std.proofs.Common.{◌≡◌, ℕ, zero, suc, ◌+◌, ◌<◌, List, [], ◌∷◌, ◌++◌, length, take, drop, get_or, refl, ap, sym, subst, ◌∙◌, arith, Option, Some, None, Bool, true, false, ◌&&◌, IsTrue, ◌⊎◌, inl, inr}
-use Rattle.std.specs.Prelude.{insert, MatchOption}
+use Rattle.std.specs.Prelude.{insert, IfSome, MatchOption}
 use Rattle.std.specs.Cmp.{IsEquivalence, tied_itself}
 use Rattle.std.proofs.lemmas.List.{drop_more, take_more}
 use Rattle.std.proofs.Math.Seq.{take-length}
@@ -235,6 +235,19 @@ module _ {K : Type 0} (order : KeyOrder K) (lawful : IsLawful order) where
           rw (take-length items) at
           (clear_before is_good rank good_in_range last (length items) b
           (last_place is_good rank items last at) answer h)
+
+      -- where the first of all lies apart, each starts after the range
+      pub all_behind : {P : Type 0} (is_good : P → Type 0) (rank : P → ℕ)
+          (good_in_range : (p : P) → is_good p → rank p < length items) (first : Option P)
+          (b : Bool) → IsAt is_good rank (length items) first 0
+          → IsAnswerAt order (λ i. LiesApart order r i.key) rank items first b → IsTrue b
+          → IfSome first (λ p. is_good p × (rank p ≡ 0) × Every (Behind r) items)
+      all_behind is_good rank good_in_range None b at answer h = tt
+      all_behind is_good rank good_in_range (Some p) b at answer h = (
+        at.0,
+        at.1,
+        clear_after is_good rank good_in_range (Some p) 0 b at answer h,
+      )
 
       refused_previous_is_connected : {P : Type 0} (is_good : P → Type 0) (rank : P → ℕ)
           (good_in_range : (p : P) → is_good p → rank p < length items) (before : Option P)

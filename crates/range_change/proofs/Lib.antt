@@ -22,11 +22,11 @@ pub mod Gathering
 pub mod InsertionFrames
 pub mod InsertionPlans
 pub mod JoinedMiddle
-pub mod LastRange
 pub mod Lengths
 pub mod Listed
 pub mod MergedItems
 pub mod OuterBounds
+pub mod OuterRange
 pub mod Overlaps
 pub mod PieceAnswers
 pub mod Planned

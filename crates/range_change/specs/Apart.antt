@@ -36,6 +36,11 @@ module _ {K : Type 0} (order : KeyOrder K) where
     AllEndBefore items r =
         Every (λ i. Lt (position_cmp order.cmp) (item_upper order i) (lower order r)) items
 
+    -- each item starts after the range ends, with a place between
+    abbrev pub AllStartAfter : List (Item (AnyRange K) V) → AnyRange K → Type 0
+    AllStartAfter items r =
+        Every (λ i. Lt (position_cmp order.cmp) (upper order r) (item_lower order i)) items
+
     -- the item, where there is one, passes the test exactly where the answer is true
     abbrev pub IsAnswerAt : {P : Type 0} → (Item (AnyRange K) V → Type 0) → (P → ℕ)
         → List (Item (AnyRange K) V) → Option P → Bool → Type 0

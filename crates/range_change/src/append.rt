@@ -1,9 +1,9 @@
-//! Ranges that lie apart from stored ones, and those that come after all of them.
-ghost use Rattle.std.specs.Prelude.{◌≡◌, ◌↔◌, ◌+◌, ◌≤◌, length, IsTrue, OnOk, OnErr};
+//! Ranges that lie apart from stored ones, and those that come before or after all of them.
+ghost use Rattle.std.specs.Prelude.{◌≡◌, ◌↔◌, ◌+◌, ◌≤◌, length, IsTrue, IfSome, OnOk, OnErr};
 ghost use Rattle.std.specs.Option.{ForSome};
 ghost use Rattle.range_algebra.specs.Range.{IsEmptyRange};
 ghost use Rattle.range_change.specs.Stored.{IsStored};
-ghost use Rattle.range_change.specs.Apart.{IsAnswerAt, LiesApart, AllEndBefore};
+ghost use Rattle.range_change.specs.Apart.{IsAnswerAt, LiesApart, AllEndBefore, AllStartAfter};
 ghost use Rattle.range_change.specs.Lookups.{MeetsSome};
 ghost use Rattle.range_change.specs.Changes.{IsInserted};
 
@@ -69,6 +69,27 @@ pub fn comes_last<K: PartialEnum, V: Eq + Drop, C: Storage<Item<AnyRange<K>, V>>
     is_clear_before::<K, V, C>(stored, last, range)
 }
 
+/// The position of the first item where a nonempty range comes before all stored ones, and touches
+/// none of them.
+pub fn comes_first<K: PartialEnum, V: Eq + Drop, C: Storage<Item<AnyRange<K>, V>>>(
+    stored: &C,
+    range: &AnyRange<K>,
+) -> Option<C::Position>
+    requires stored { IsStored K.order V.eq (C.items stored.now) }
+    requires nonempty { ¬ IsEmptyRange K.order range.now }
+    ensures { IfSome result
+        (λ p. C.is_good stored.now p × (C.rank stored.now p ≡ 0)
+        × AllStartAfter K.order (C.items stored.now) range.now) }
+{
+    inner::known(range);
+    let first = stored.first();
+    if is_clear_after::<K, V, C>(stored, first, range) {
+        first
+    } else {
+        None
+    }
+}
+
 /// Stores a nonempty range that comes after all stored ones, with no search.
 pub fn bind_last<K: PartialEnum, V: Eq + Drop, C: Storage<Item<AnyRange<K>, V>>>(
     stored: &mut C,
@@ -87,5 +108,28 @@ pub fn bind_last<K: PartialEnum, V: Eq + Drop, C: Storage<Item<AnyRange<K>, V>>>
     inner::known(&range);
     stored.reserve(1)?;
     let _position = stored.insert_at(None, Item { key: range, value });
+    Ok(())
+}
+
+/// Stores a nonempty range that comes before all stored ones, the first of which is at the
+/// position, with no search.
+pub fn bind_first<K: PartialEnum, V: Eq + Drop, C: Storage<Item<AnyRange<K>, V>>>(
+    stored: &mut C,
+    first: C::Position,
+    range: AnyRange<K>,
+    value: V,
+) -> Result<(), AllocError>
+    requires stored { IsStored K.order V.eq (C.items stored.old) }
+    requires nonempty { ¬ IsEmptyRange K.order range }
+    requires position { C.is_good stored.old first × (C.rank stored.old first ≡ 0) }
+    requires before { AllStartAfter K.order (C.items stored.old) range }
+    ensures ok { OnOk result
+        (IsInserted K.order V.eq (C.items stored.old) (C.items stored.new) range value) }
+    ensures few { OnOk result (length (C.items stored.new) ≤ length (C.items stored.old) + 1) }
+    ensures refused { OnErr result (C.items stored.new ≡ C.items stored.old) }
+{
+    inner::known(&range);
+    stored.reserve(1)?;
+    let _position = stored.insert_at(Some(first), Item { key: range, value });
     Ok(())
 }

@@ -10,7 +10,7 @@ ghost use Rattle.range_change.specs.Lookups.{MeetsSome};
 ghost use Rattle.range_change.specs.Costs.{TakesAtLeast, TakesAsChange};
 ghost use Rattle.range_change.specs.Changes.{IsInserted};
 
-use crate::append::{bind_last, comes_last};
+use crate::append::{bind_first, bind_last, comes_first, comes_last};
 use crate::cut::prepare_parts;
 use crate::edges::{Joins, Sides, joins_after, joins_before, run_length, seam_at};
 use crate::reach::{Reach, reaching, run_start, surrounding};
@@ -168,8 +168,8 @@ pub fn bind<K: Measure + Clone, V: Eq + Clone, C: Storage<Item<AnyRange<K>, V>>>
     }
 }
 
-/// Binds each key of a nonempty range to the value: with no search where the range comes after all
-/// stored ones.
+/// Binds each key of a nonempty range to the value: with no search where the range comes before or
+/// after all stored ones.
 pub fn bind_in_order<K: Measure + Clone, V: Eq + Clone, C: Storage<Item<AnyRange<K>, V>>>(
     stored: &mut C,
     range: AnyRange<K>,
@@ -186,6 +186,9 @@ pub fn bind_in_order<K: Measure + Clone, V: Eq + Clone, C: Storage<Item<AnyRange
 {
     if comes_last::<K, V, C>(stored, &range) {
         return bind_last::<K, V, C>(stored, range, value);
+    }
+    if let Some(first) = comes_first::<K, V, C>(stored, &range) {
+        return bind_first::<K, V, C>(stored, first, range, value);
     }
     let mut steps = Steps::new();
     bind::<K, V, C>(stored, range, value, &mut steps)

@@ -81,7 +81,8 @@ fn get_cloned<K: Measure, V: Eq + Clone, C: Storage<Item<AnyRange<K>, V>>>(
     }
 }
 
-/// Does an insertion: by the counted call, or by the other, which takes no search after all ranges.
+/// Does an insertion: by the counted call, or by the other, which takes no search before or after
+/// all ranges.
 fn insert_by<K: Measure + Clone, V: Eq + Clone, C: Storage<Item<AnyRange<K>, V>>>(
     map: &mut RangeMap<K, V, C>,
     range: AnyRange<K>,

@@ -1,4 +1,7 @@
-use crate::support::{Played, Step, Trial, Tried, check, closed, first_wrong, holds, play};
+use crate::support::{
+    Played, Step, Trial, Tried, check, check_each, closed, first_wrong, holds, numbered, play,
+    wrong_unless,
+};
 use range_map::map::MapError;
 use std::ops::Bound::{Excluded, Included, Unbounded};
 use std::test::Fail;
@@ -118,6 +121,83 @@ static TOUCHING_RANGES_WITH_EQUAL_VALUES_JOIN: &[Step<'static>] = &[
 #[test]
 fn touching_ranges_with_equal_values_join(rt: HostRuntime) -> Result<(), Fail> {
     play(&rt, rt.alloc(), TOUCHING_RANGES_WITH_EQUAL_VALUES_JOIN)
+}
+
+static RANGES_COME_BEFORE_ALL_OTHERS: &[Step<'static>] = &[
+    Step::Insert(closed!(60, 69), 6),
+    Step::Insert(closed!(58, 59), 6),
+    Step::Stores(&[(58, 69, 6)]),
+    Step::Insert(closed!(50, 57), 5),
+    Step::Stores(&[(50, 57, 5), (58, 69, 6)]),
+    Step::Insert(half_open!(40, 49), 5),
+    Step::Stores(&[(40, 48, 5), (50, 57, 5), (58, 69, 6)]),
+    Step::Insert(half_open!(30, 40), 5),
+    Step::Stores(&[(30, 48, 5), (50, 57, 5), (58, 69, 6)]),
+    Step::Insert(closed!(20, 29), 2),
+    Step::Insert(closed!(10, 22), 1),
+    Step::Stores(&[(10, 22, 1), (23, 29, 2), (30, 48, 5), (50, 57, 5), (58, 69, 6)]),
+    Step::Insert(between!(Unbounded, Excluded(9)), 1),
+    Step::Count(6),
+    Step::Get(i32::MIN, Some(1)),
+    Step::Get(8, Some(1)),
+    Step::Get(9, None),
+    Step::Get(10, Some(1)),
+];
+
+static ONE_RANGE_COMES_BEFORE_ANOTHER: &[Step<'static>] = &[
+    Step::Insert(closed!(7, 9), 1),
+    Step::Insert(closed!(3, 5), 1),
+    Step::Stores(&[(3, 5, 1), (7, 9, 1)]),
+    Step::Get(6, None),
+];
+
+#[test]
+fn ranges_come_before_all_others(rt: HostRuntime) -> Result<(), Fail> {
+    play(&rt, rt.alloc(), RANGES_COME_BEFORE_ALL_OTHERS)?;
+    play(&rt, rt.alloc(), ONE_RANGE_COMES_BEFORE_ANOTHER)
+}
+
+/// Binds so many numbered ranges, each to its number, from the last to the first.
+fn fill_from_the_last<M: Played>(map: &mut M, count: u16) -> Result<bool, MapError> {
+    for number in (0..count).rev() {
+        map.insert(numbered(number), i64::from(number))?;
+    }
+    Ok(true)
+}
+
+/// The first of so many numbered ranges that is not bound to its number, or after which a key is.
+fn first_other<M: Played>(map: &M, count: u16) -> Option<usize> {
+    for number in 0..count {
+        let key = 4 * i32::from(number);
+        if !map.binds(key, Some(i64::from(number))) || !map.binds(key + 2, None) {
+            return Some(usize::from(number));
+        }
+    }
+    None
+}
+
+/// So many ranges, each of which is put before all others.
+struct Descending {
+    count: u16,
+}
+
+impl Trial for Descending {
+    fn first_wrong<M: Tried>(
+        &self,
+        map: &mut M,
+        _other: &mut M,
+    ) -> Result<Option<usize>, MapError> {
+        fill_from_the_last(map, self.count)?;
+        let other = first_other(map, self.count);
+        Ok(other.or(wrong_unless(map.has_count(usize::from(self.count)))))
+    }
+}
+
+static DESCENDING: &[Descending] = &[Descending { count: 12 }, Descending { count: 300 }];
+
+#[test]
+fn ranges_are_put_in_from_the_last_to_the_first(rt: HostRuntime) -> Result<(), Fail> {
+    check_each(&rt, rt.alloc(), DESCENDING)
 }
 
 /// Binds every second key to itself, then asks for each, then for each one after.

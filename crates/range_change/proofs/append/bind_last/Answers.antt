@@ -1,8 +1,8 @@
-use Rattle.std.proofs.Common.{rules, ◌≡◌, ◌∙◌, ap, length}
+use Rattle.std.proofs.Common.{rules, ◌≡◌, ◌∙◌, ap, length, arith}
 use Rattle.std.specs.Prelude.{insert}
 use Rattle.range_algebra.specs.declared.any.AnyRange.{AnyRange}
 use Rattle.range_store.specs.declared.storage.Item.{Item}
-use Rattle.range_change.proofs.LastRange.{last_inserted, last_longer, last_unmet}
+use Rattle.range_change.proofs.OuterRange.{last_inserted, last_unmet, one_longer}
 use Rattle.range_change.proofs.append.bind_last.Goals as goal
 
 pub returns : goal.returns
@@ -21,7 +21,7 @@ returns g c =
           items c.args.range c.requires.stored c.known.ensures c.requires.nonempty c.requires.last _
           c.args.value done;
       few =
-          last_longer items _ item done;
+          one_longer items _ (length items) item (omega arith) done;
       apart =
           last_unmet g.K.MaybeBounded.order g.met.K.PartialEnum.lawful g.V.PartialEq.eq g.met.V.Eq.laws
           (g.C.Storage.items c.args.stored.now) c.args.range c.requires.stored c.known.ensures

@@ -1,0 +1,81 @@
+-- A range that comes before or after all stored ones.
+use Rattle.std.proofs.Common.{◌≡◌, ℕ, ◌≤◌, ◌+◌, ◌++◌, ◌∷◌, ◌∙◌, List, [], length, take, drop, refl, sym, ap, append_assoc, Bool, inl, arith}
+use Rattle.std.specs.Prelude.{insert}
+use Rattle.std.specs.Cmp.{IsEquivalence}
+use Rattle.std.proofs.Math.Seq.{take-length}
+use Rattle.std.proofs.lemmas.List.{append-nil}
+use Rattle.std.proofs.lemmas.List.Edits.{length-insert}
+use Rattle.range_keys.specs.Order.{KeyOrder, IsLawful}
+use Rattle.range_change.proofs.RangePieces.{any_over}
+use Rattle.range_algebra.specs.Range.{IsEmptyRange, IsKnownRange}
+use Rattle.range_algebra.specs.declared.any.AnyRange.{AnyRange}
+use Rattle.range_algebra.proofs.Lists.{drop_all, list_is_take_and_drop}
+use Rattle.range_store.specs.declared.storage.Item.{Item}
+use Rattle.range_change.specs.Changes.{IsInserted}
+use Rattle.range_change.specs.Apart.{AllEndBefore, AllStartAfter}
+use Rattle.range_change.specs.Lookups.{MeetsSome}
+use Rattle.range_change.specs.Stored.{IsStored}
+use Rattle.range_change.proofs.CoveredPlaces.{meets_put}
+use Rattle.range_change.proofs.ApartRanges.{free_not, put_in}
+
+pub one_longer : {X : Type 0} (items new : List X) (place : ℕ) (x : X) → place ≤ length items
+    → new ≡ insert items place x → length new ≤ length items + 1
+one_longer items new place x within done =
+    omega (arith, ap length done, length-insert items place x within)
+
+module _ {K : Type 0} (order : KeyOrder K) (lawful : IsLawful order) {V : Type 0}
+    (same : V → V → Bool) (equal : IsEquivalence same) (items : List (Item (AnyRange K) V))
+    (r : AnyRange K) (stored : IsStored order same items) (known : IsKnownRange order r)
+    (full : IsEmptyRange order r → ⊥) where
+  -- it is put where it lies apart from the items on both sides
+  pub inserted_apart : (place : ℕ) → AllEndBefore order (take place items) r
+      → AllStartAfter order (drop place items) r → (new : List (Item (AnyRange K) V)) (v : V)
+      → new ≡ insert items place (record { key = r; value = v })
+      → IsInserted order same items new r v
+  inserted_apart place before behind new v done =
+      let x : Item (AnyRange K) V = record { key = r; value = v } in
+      let front = take place items in
+      let put =
+      put_in order lawful same equal items r stored known full place before behind v in
+      record {
+        stored = rw done put.0;
+        bound = rw done put.1;
+        frame = record {
+          front = front;
+          run = [];
+          others = x ∷ [];
+          behind = drop place items;
+          before =
+              list_is_take_and_drop items place
+              ∙ ap (λ xs. xs ++ drop place items) (sym (append-nil front));
+          after = done ∙ sym (append_assoc front (x ∷ []) (drop place items));
+          such = record {
+            concerned = tt;
+            few = omega arith;
+            whole = λ none. refl;
+            one = λ all. omega arith;
+            made = (record { start = inl refl; end = inl refl; value = inl (equal.refl v) }, tt);
+          };
+        };
+        meets = rw done (meets_put order lawful items place x);
+      }
+
+  module _ (last : AllEndBefore order items r) where
+    whole_front_ends_before : AllEndBefore order (take (length items) items) r
+    whole_front_ends_before = rw (take-length items) last
+
+    none_starts_after : AllStartAfter order (drop (length items) items) r
+    none_starts_after = rw (drop_all items (length items) refl) tt
+
+    -- it meets none of them
+    pub last_unmet : MeetsSome order items r → ⊥
+    last_unmet meets =
+        free_not order lawful same equal items r stored known full
+        (length items) whole_front_ends_before none_starts_after
+        (any_over _ _ items (λ i h. inl h) meets)
+
+    -- it stands at the end then
+    pub last_inserted : (new : List (Item (AnyRange K) V)) (v : V)
+        → new ≡ insert items (length items) (record { key = r; value = v })
+        → IsInserted order same items new r v
+    last_inserted = inserted_apart (length items) whole_front_ends_before none_starts_after
