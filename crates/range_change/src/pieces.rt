@@ -93,8 +93,8 @@ fn joins_last<K: PartialEnum, V: Eq + Drop>(
 {
     match items.last() {
         Some(last) => {
-            let touching = starts_at_end(last.key.end_bound(), part.start);
-            touching && last.value == *value
+            let equal = last.value == *value;
+            equal && starts_at_end(last.key.end_bound(), part.start)
         }
         None => false,
     }
