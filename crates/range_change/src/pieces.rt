@@ -80,6 +80,7 @@ fn gap_between<'a, K: PartialEnum>(
 }
 
 /// Whether the last of the items touches a part with an equal value.
+#[inline(always)]
 fn joins_last<K: PartialEnum, V: Eq + Drop>(
     items: &Vec<Item<AnyRange<K>, V>>,
     part: &AnyRange<&K>,
@@ -92,14 +93,15 @@ fn joins_last<K: PartialEnum, V: Eq + Drop>(
 {
     match items.last() {
         Some(last) => {
-            let touching = starts_at_end(last.key.end_bound(), part.start);
-            touching && last.value == *value
+            let equal = last.value == *value;
+            equal && starts_at_end(last.key.end_bound(), part.start)
         }
         None => false,
     }
 }
 
 /// Lets the last of the items end elsewhere.
+#[inline(always)]
 fn end_last_at<K: Drop, V>(items: &mut Vec<Item<AnyRange<K>, V>>, end: Bound<K>)
     requires { 0 < length items.old.items }
     ensures { IsEditedAt items.old.items items.new.items (length items.old.items - 1)
@@ -112,6 +114,7 @@ fn end_last_at<K: Drop, V>(items: &mut Vec<Item<AnyRange<K>, V>>, end: Bound<K>)
 }
 
 /// Puts a part with its value after the others, or makes it one with the last of them.
+#[inline(always)]
 pub fn put<K: PartialEnum + Clone, V: Eq + Drop>(
     items: &mut Vec<Item<AnyRange<K>, V>>,
     part: AnyRange<&K>,

@@ -10,7 +10,6 @@ ghost use Rattle.range_map.specs.Combining.{MayAnswerBoth, MayBeAskedBoth, MayBe
 ghost use Rattle.range_change.specs.Stored.{IsStored};
 ghost use Rattle.range_change.specs.declared.error.UpdateError.TheVariants.{Closure as ClosureError};
 
-use crate::inner::append::{append, reserve};
 use crate::map::RangeMap;
 use crate::map::merged::{first_piece, next_part, refilled};
 use range_algebra::any::AnyRange;
@@ -19,8 +18,10 @@ use range_change::pieces::put;
 use range_keys::traits::PartialEnum;
 use range_store::storage::{Item, Storage};
 use std::alloc::{AllocError, Global};
+use std::marker::PhantomData;
 
 /// Asks the closure for one piece, and puts its answer after the others.
+#[inline(always)]
 fn ask_both<
     'a,
     K: PartialEnum + Clone,
@@ -104,13 +105,14 @@ fn map_of<K: PartialEnum, X: Eq + Drop, C: Storage<Item<AnyRange<K>, X>>>(
     requires { IsStored K.order X.eq items.items }
     ensures { IfOk result (λ map. C.items map ≡ items.items) }
 {
-    let mut map = RangeMap::new(alloc);
-    reserve(&mut map, items.len())?;
-    for item in items {
-        let (range, value) = item.into_pair();
-        append(&mut map, range, value);
-    }
-    Ok(map)
+    let mut stored = C::new(alloc);
+    stored.reserve(items.len())?;
+    stored.append(items);
+    Ok(RangeMap {
+        stored,
+        alloc,
+        item: PhantomData,
+    })
 }
 
 impl<K: PartialEnum + Clone, V: Eq + Drop, C: Storage<Item<AnyRange<K>, V>>> RangeMap<K, V, C> {

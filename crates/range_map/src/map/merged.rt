@@ -34,6 +34,7 @@ pub(crate) struct Piece<'a, K, V, W> {
 }
 
 /// The next stored range with its value.
+#[inline(always)]
 pub(crate) fn next_part<'a, K, V, C>(items: &mut Iter<'a, K, V, C>) -> Option<Part<'a, K, V>>
 where
     K: PartialEnum,
@@ -47,6 +48,7 @@ where
 }
 
 /// What is left of a stored range, or the next one where nothing is.
+#[inline(always)]
 pub(crate) fn refilled<'a, K, V, C>(
     rest: Option<Part<'a, K, V>>,
     items: &mut Iter<'a, K, V, C>,
@@ -65,6 +67,7 @@ where
 }
 
 /// The part of a range from a start on, unless it is empty.
+#[inline(always)]
 fn part_from<'a, K: PartialEnum>(
     range: AnyRange<&'a K>,
     start: Option<Bound<&'a K>>,
@@ -80,6 +83,7 @@ fn part_from<'a, K: PartialEnum>(
 }
 
 /// A range up to a start that lies past its own, and what is left of it from there on.
+#[inline(always)]
 fn split_at<'a, K: PartialEnum>(
     range: AnyRange<&'a K>,
     start: Bound<&'a K>,
@@ -108,6 +112,7 @@ fn split_at<'a, K: PartialEnum>(
 }
 
 /// A range with a value, where there is a range.
+#[inline(always)]
 fn with_value<'a, K, V>(range: Option<AnyRange<&'a K>>, value: &'a V) -> Option<Part<'a, K, V>>
     ensures { option_map part_item result
         ≡ option_map (λ r. record { key = range_of r; value = value.now }) range.entry }
@@ -116,6 +121,7 @@ fn with_value<'a, K, V>(range: Option<AnyRange<&'a K>>, value: &'a V) -> Option<
 }
 
 /// The first piece of two ranges of which the first starts before the second.
+#[inline(always)]
 fn first_alone<'a, K: PartialEnum, V, W>(
     part: Part<'a, K, V>,
     later: Part<'a, K, W>,
@@ -137,6 +143,7 @@ fn first_alone<'a, K: PartialEnum, V, W>(
 }
 
 /// The first piece of two ranges that start at one place, and what is left of either.
+#[inline(always)]
 fn first_of_both<'a, K: PartialEnum, V, W>(
     part: Part<'a, K, V>,
     other: Part<'a, K, W>,
@@ -168,6 +175,7 @@ fn first_of_both<'a, K: PartialEnum, V, W>(
 }
 
 /// The first piece of two ranges.
+#[inline(always)]
 fn first_of_two<'a, K: PartialEnum, V, W>(
     part: Part<'a, K, V>,
     other: Part<'a, K, W>,
@@ -203,6 +211,7 @@ fn first_of_two<'a, K: PartialEnum, V, W>(
 }
 
 /// The first piece of what is left on two sides, or none where nothing is.
+#[inline(always)]
 pub(crate) fn first_piece<'a, K: PartialEnum, V, W>(
     left: Option<Part<'a, K, V>>,
     right: Option<Part<'a, K, W>>,
