@@ -1,5 +1,5 @@
 -- The blocks after the end of one went to the end of another.
-use Rattle.std.proofs.Common.{◌≡◌, ◌≢◌, ◌⊎◌, ℕ, ◌+◌, ◌-◌, ◌*◌, ◌<◌, ◌≤◌, List, ◌++◌, length, take, drop, Option, Some, None, refl, sym, ap, ◌∙◌, inl, inr, min, arith}
+use Rattle.std.proofs.Common.{◌≡◌, ◌≢◌, ◌⊎◌, ℕ, ◌+◌, ◌-◌, ◌*◌, ◌<◌, ◌≤◌, List, ◌++◌, length, take, drop, Option, Some, None, refl, sym, ap, ◌∙◌, inl, inr, arith}
 use borrow.Rule.Slice.PartMut.{put_mid}
 use Rattle.std.specs.List.{SwappedAt}
 use Rattle.std.proofs.Math.ListN.{set}
@@ -8,8 +8,8 @@ use Rattle.std.proofs.lemmas.List.{map-append, take-map, drop-map, take-take, ta
 use Rattle.range_store.specs.declared.btree.blocks.Record.{Record}
 use Rattle.range_store.specs.declared.btree.nodes.TheConstants.{CAPACITY}
 use Rattle.range_store.specs.Heap.{full_cells}
-use Rattle.range_store.specs.Blocks.{block_of, HasBlock, items_held, list_held, WritesBlock, MovesEnd}
-use Rattle.range_store.specs.Arena.{record_at, cells_under, cell_at, table_of, IsOutside, MovesCells, IsArena}
+use Rattle.range_store.specs.Blocks.{block_of, HasBlock, list_held, MovesEnd}
+use Rattle.range_store.specs.Arena.{cells_under, cell_at, table_of, IsOutside, MovesCells, IsArena}
 use Rattle.range_store.proofs.Arena.{found, length-under}
 use Rattle.range_store.proofs.ArenaCells.{other_part}
 use Rattle.range_store.proofs.ArenaChanges.{IsRewritten, rewritten, rewritten_arena}

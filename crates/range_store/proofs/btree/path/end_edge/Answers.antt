@@ -3,8 +3,9 @@ use Rattle.std.proofs.Math.Nat.{mul-le-mul_left}
 use Rattle.range_store.specs.Heap.{items_of, node_of}
 use Rattle.range_store.specs.Nodes.{items_below}
 use Rattle.range_store.specs.declared.btree.nodes.TheConstants.{CAPACITY}
-use Rattle.range_store.proofs.Descending.{begins, descends, descent_ends, weight_fits}
+use Rattle.range_store.proofs.Descending.{begins, descends, descent_ends}
 use Rattle.range_store.proofs.Front.{count_all, falls_all}
+use Rattle.range_store.proofs.Ways.{weight_fits}
 use Rattle.range_store.proofs.btree.path.end_edge.Goals as goal
 
 pub down-init : goal.down-init
@@ -13,7 +14,7 @@ down-init g c =
 
 pub overflow_mul-path : goal.overflow_mul-path
 overflow_mul-path g c =
-    let d = c.down.invariant in
+    let d = c.down.invariant.lies in
     let few : c.item_count-last.result ≤ CAPACITY =
     omega (arith, c.item_count-last.ensures, d.shaped.node.fits) in
     omega (
@@ -26,7 +27,7 @@ overflow_mul-path g c =
 
 pub overflow_add-path : goal.overflow_add-path
 overflow_add-path g c =
-    let d = c.down.invariant in
+    let d = c.down.invariant.lies in
     let few : c.item_count-last.result ≤ CAPACITY =
     omega (arith, c.item_count-last.ensures, d.shaped.node.fits) in
     omega (
@@ -39,7 +40,7 @@ overflow_add-path g c =
 
 pub overflow_mul-weight : goal.overflow_mul-weight
 overflow_mul-weight g c =
-    let d = c.down.invariant in
+    let d = c.down.invariant.lies in
     omega (
       arith,
       weight_fits c.args.below c.down.left c.down.weight c.requires.deep c.down-test.true

@@ -12,7 +12,7 @@ down-init g c =
     begins (λ _. false) c.args.nodes.now c.args.below c.args.number c.requires.shaped
     (falls_none _) in
     subst (λ weight. Descent (λ _. false) c.args.nodes.now c.args.below c.args.number c.args.below
-    c.args.number 0 weight) all.weight_is all
+    c.args.number 0 weight) all.lies.weight_is all
 
 pub down-preserved : goal.down-preserved
 down-preserved g c =
@@ -25,7 +25,7 @@ down-preserved g c =
     (omega (arith, c.down-test.true)) c.down.invariant 0
     (sym (count_none (items_of (node_of s c.down.leaf)))) in
     let path : 0 + weight * 0 ≡ 0 = omega arith in
-    rw (c.child_at-leaf.ensures, ← down.weight_is) (rw path at down)
+    rw (c.child_at-leaf.ensures, ← down.lies.weight_is) (rw path at down)
 
 pub returns-clause-edge : goal.returns-clause-edge
 returns-clause-edge g c =

@@ -1,5 +1,4 @@
-use Rattle.std.proofs.Common.{◌+◌, ◌≤◌, length, refl, arith}
-use Rattle.range_store.specs.Heap.{items_of, node_of}
+use Rattle.std.proofs.Common.{◌+◌, refl, arith}
 use Rattle.range_store.proofs.InLeaf.{leaf_of_edge, leaf_beside}
 use Rattle.range_store.proofs.btree.path.following.Goals as goal
 

@@ -3,10 +3,11 @@ use Rattle.std.proofs.Math.Nat.{mul-le-mul_left}
 use Rattle.std.proofs.lemmas.List.Sums.{count_by-le-length}
 use Rattle.range_store.specs.Heap.{items_of, node_of}
 use Rattle.range_store.specs.declared.btree.nodes.TheConstants.{CAPACITY}
-use Rattle.range_store.proofs.Descending.{adds_more, adds_none, begins, descends, descent_ends, weight_fits}
+use Rattle.range_store.proofs.Descending.{adds_more, adds_none, begins, descends, descent_ends}
 use Rattle.range_store.proofs.Front.{cells_full, count_cells, falls_cells}
 use Rattle.range_store.proofs.Searching.{node_falls}
 use Rattle.range_store.proofs.Paths.{child_within}
+use Rattle.range_store.proofs.Ways.{weight_fits}
 use Rattle.range_store.proofs.btree.searching.search_below.Goals as goal
 use Rattle.range_store.proofs.btree.searching.search_below.Given.{Over}
 use Rattle.range_store.proofs.btree.searching.search_below.Goals.{After-halve-index}
@@ -25,7 +26,7 @@ halve-index-requires-clause-falls g c =
     let d = c.down.invariant.0 in
     rw (c.down.invariant.1, c.cells-cells.ensures)
     (falls_cells p (items_of (node_of c.args.nodes.now c.down.at))
-    (node_falls p 1 CAPACITY c.args.nodes.now c.down.left c.down.at d.shaped d.falls))
+    (node_falls p 1 CAPACITY c.args.nodes.now c.down.left c.down.at d.lies.shaped d.falls))
 
 -- how many of the node's items pass
 counted : (g : Over) (c : After-halve-index g)
@@ -44,7 +45,7 @@ few g c =
       counted g c,
       count_by-le-length (g.P.Probe.test c.args.probe.now)
           (items_of (node_of c.args.nodes.now c.down.at)),
-      d.shaped.node.fits,
+      d.lies.shaped.node.fits,
     )
 
 pub returns-then-left-eq0-clause-edge : goal.returns-then-left-eq0-clause-edge
@@ -67,9 +68,9 @@ overflow_mul-path g c =
     let d = c.down.invariant.0 in
     omega (
       arith,
-      d.small,
+      d.lies.small,
       weight_fits c.args.below c.down.left c.down.weight c.requires.deep
-          (omega (arith, c.if-left-eq0.false)) d.weight_is,
+          (omega (arith, c.if-left-eq0.false)) d.lies.weight_is,
       mul-le-mul_left c.down.weight (few g a),
     )
 
@@ -79,9 +80,9 @@ overflow_add-path g c =
     let d = c.down.invariant.0 in
     omega (
       arith,
-      d.small,
+      d.lies.small,
       weight_fits c.args.below c.down.left c.down.weight c.requires.deep
-          (omega (arith, c.if-left-eq0.false)) d.weight_is,
+          (omega (arith, c.if-left-eq0.false)) d.lies.weight_is,
       mul-le-mul_left c.down.weight (few g a),
     )
 
@@ -91,7 +92,7 @@ overflow_mul-weight g c =
     omega (
       arith,
       weight_fits c.args.below c.down.left c.down.weight c.requires.deep
-          (omega (arith, c.if-left-eq0.false)) d.weight_is,
+          (omega (arith, c.if-left-eq0.false)) d.lies.weight_is,
     )
 
 pub down-preserved : goal.down-preserved
@@ -104,7 +105,7 @@ down-preserved g c =
     c.halve-index.result (counted g a) in (
       rw c.children-children.ensures down,
       c.halve-index.ensures.kept ∙ c.down.invariant.1,
-      adds_more _ _ _ c.args.below c.down.left c.if-left-eq0.false d.low c.down.invariant.2
+      adds_more _ _ _ c.args.below c.down.left c.if-left-eq0.false d.lies.low c.down.invariant.2
           c.halve-index.ensures.asked,
     )
 
@@ -127,4 +128,4 @@ bounds-children-index g c =
       count_by-le-length (g.P.Probe.test c.args.probe.now) (items_of (node_of s c.down.at)),
     ) in
     rw c.children-children.ensures (child_within s c.down.left c.down.at
-    (omega (arith, c.if-left-eq0.false)) c.down.invariant.0.shaped c.halve-index.result low)
+    (omega (arith, c.if-left-eq0.false)) c.down.invariant.0.lies.shaped c.halve-index.result low)

@@ -1,4 +1,4 @@
-use Rattle.std.proofs.Common.{Some, ◌+◌, ◌-◌, ◌*◌, ◌≤◌, length, ap, arith}
+use Rattle.std.proofs.Common.{Some, ◌+◌, ◌≤◌, length, ap, arith}
 use Rattle.std.proofs.lemmas.List.{with_items_is, length-set}
 use Rattle.range_store.specs.declared.btree.nodes.TheConstants.{CAPACITY}
 use Rattle.range_store.proofs.Arena.{found}

@@ -1,0 +1,120 @@
+-- The way down from a node: the edges below a node on it, as they are seen from where it began.
+use Rattle.std.proofs.Common.{◌≡◌, ◌≢◌, ℕ, suc, ◌+◌, ◌-◌, ◌*◌, ◌/◌, ◌^◌, ◌<◌, ◌≤◌, length, get_or, map, refl, sym, ap, ◌∙◌, arith}
+use Rattle.std.proofs.Math.Nat.{pow-suc, pow-le-pow_right, mul_assoc, mul_comm, mul-add, mul-le-mul_left}
+use Rattle.range_store.specs.Heap.{Heap, node_of, items_of, children_of}
+use Rattle.range_store.specs.declared.btree.nodes.TheConstants.{CAPACITY}
+use Rattle.range_store.specs.declared.btree.path.Edge.{Edge}
+use Rattle.range_store.specs.declared.btree.path.TheConstants.{PATH_BASE, MAX_LEVELS}
+use Rattle.range_store.specs.Edges.{turn, inside, IsEdge, place}
+use Rattle.range_store.specs.Nodes.{before, items_below, ShapedBut}
+use Rattle.range_store.specs.Written.{start_of_place}
+use Rattle.range_store.proofs.Paths.{below_kid, below_edge, below_place}
+
+-- an edge by the path from further above
+abbrev pub from_above : ℕ → ℕ → Edge → Edge
+from_above path weight e = record e { path = path + weight * e.path }
+
+heavier : (path weight i : ℕ) → path < weight → i ≤ CAPACITY
+    → path + weight * i < weight * PATH_BASE
+heavier path weight i small low = omega (arith, small, mul-le-mul_left weight low)
+
+-- above a leaf no weight is too great
+pub weight_fits : (below left weight : ℕ) → below < MAX_LEVELS → 0 < left
+    → weight ≡ PATH_BASE ^ (below - left) → weight ≤ 2 ^ 120
+weight_fits below left weight deep some is =
+    let few : below - left ≤ 30 = omega (arith, deep, some) in
+    let wide : 0 < PATH_BASE = omega arith in
+    let most : PATH_BASE ^ (below - left) ≤ PATH_BASE ^ 30 = pow-le-pow_right wide few in
+    let width : ◌≡◌ {A = ℕ} (PATH_BASE ^ 30) (2 ^ 120) = refl in
+    omega (arith, is, most, width)
+
+module _ {T : Type 0} (s : Heap T) where
+  -- how many items stand before the child at i
+  abbrev pub ahead_of : ℕ → ℕ → ℕ → ℕ
+  ahead_of b n i =
+      length
+      (before (items_of (node_of s n)) (map (items_below s b) (children_of (node_of s n))) i)
+
+  -- the node `at`, over `left` levels, lies below another by this path, behind so many items
+  pub record LiesBelow (below number left at path weight ahead : ℕ) : Type 0 where
+    pub low : left ≤ below
+    pub weight_is : weight ≡ PATH_BASE ^ (below - left)
+    pub small : path < weight
+    pub shaped : ShapedBut 1 CAPACITY s left at
+    pub edge : (e : Edge) → IsEdge s left at e → IsEdge s below number (from_above path weight e)
+    pub place_is : (e : Edge) → IsEdge s left at e
+        → place s below number (from_above path weight e) ≡ ahead + place s left at e
+
+  pub lies_itself : (below number : ℕ) → ShapedBut 1 CAPACITY s below number
+      → LiesBelow below number below number 0 1 0
+  lies_itself below number shaped =
+      let none : below - below ≡ 0 = omega arith in
+      record {
+        low = omega arith;
+        weight_is = rw none refl;
+        small = omega arith;
+        shaped = shaped;
+        edge = λ e is.
+            let same : 0 + 1 * e.path ≡ e.path = omega arith in
+            rw same is;
+        place_is = λ e is.
+            let same : 0 + 1 * e.path ≡ e.path = omega arith in
+            let none_ahead : place s below number e ≡ 0 + place s below number e = omega arith in
+            ap (λ w. place s below number (record e { path = w })) same ∙ none_ahead;
+      }
+
+  pub lies_in_child : (below number left at path weight ahead : ℕ) → left ≢ 0
+      → LiesBelow below number left at path weight ahead → (i : ℕ)
+      → i ≤ length (items_of (node_of s at))
+      → LiesBelow below number (left - 1) (get_or (children_of (node_of s at)) i 0)
+      (path + weight * i) (weight * PATH_BASE) (ahead + ahead_of left at i)
+  lies_in_child below number left at path weight ahead inner lies i low =
+      let kid = get_or (children_of (node_of s at)) i 0 in
+      let few : i ≤ CAPACITY = omega (arith, low, lies.shaped.node.fits) in
+      let deeper : below - (left - 1) ≡ suc (below - left) = omega (arith, inner, lies.low) in
+      let above = λ (e : Edge). record e { path = e.path * PATH_BASE + i } in
+      let turned : (e : Edge) → turn (above e) ≡ i = λ e. omega (arith, few) in
+      let within : (e : Edge) → inside (above e) ≡ e = λ e.
+      let quotient : (e.path * PATH_BASE + i) / PATH_BASE ≡ e.path = omega (arith, few) in
+      ap (λ w. record e { path = w }) quotient in
+      let path_is : (w : ℕ) → path + weight * i + weight * PATH_BASE * w
+      ≡ path + weight * (w * PATH_BASE + i) = λ w.
+      omega (
+        arith,
+        mul-add weight (w * PATH_BASE) i,
+        mul_assoc weight PATH_BASE w,
+        ap (λ m. weight * m) (mul_comm PATH_BASE w),
+      ) in
+      let edge_above : (e : Edge) → IsEdge s (left - 1) kid e → IsEdge s left at (above e) = λ e is.
+      below_edge s left at inner lies.shaped i e (above e) (turned e) (within e) low is in
+      record {
+        low = omega (arith, lies.low);
+        weight_is =
+            rw deeper
+            (ap (λ w. w * PATH_BASE) lies.weight_is ∙ sym (pow-suc PATH_BASE (below - left)));
+        small = heavier path weight i lies.small few;
+        shaped = below_kid s left at inner lies.shaped i low;
+        edge = λ e is. rw (path_is e.path) (lies.edge (above e) (edge_above e is));
+        place_is = λ e is.
+            let found = lies.place_is (above e) (edge_above e is) in
+            let step = below_place s left at inner lies.shaped i e (above e) (turned e) (within e)
+            in
+            let sum : ahead + place s left at (above e)
+            ≡ ahead + ahead_of left at i + place s (left - 1) kid e = omega (arith, step) in
+            ap (λ w. place s below number (record e { path = w })) (path_is e.path) ∙ found ∙ sum;
+      }
+
+  -- its first edge as it is seen from above
+  pub first_below : (below number left at path weight ahead : ℕ)
+      → LiesBelow below number left at path weight ahead → (e : Edge) → IsEdge s left at e
+      → place s left at e ≡ 0
+      → IsEdge s below number (record e { path = path })
+      × (place s below number (record e { path = path }) ≡ ahead)
+  first_below below number left at path weight ahead lies e is first =
+      let start = start_of_place s 1 CAPACITY left at e lies.shaped is first in
+      let none : path + weight * e.path ≡ path = rw start.0 (omega arith) in
+      let found = lies.place_is e is in
+      let all : ahead + place s left at e ≡ ahead = omega (arith, first) in (
+        rw none at (lies.edge e is),
+        ap (λ w. place s below number (record e { path = w })) (sym none) ∙ found ∙ all,
+      )
