@@ -216,8 +216,8 @@ pub trait Storage<T>: Drop {
 
     /// Puts the items, in their order, after all others.
     ///
-    /// Takes from the capacity, and never fails. Searches nothing: a vector moves none of its items;
-    /// an empty B-tree is built from its leaves up, and another changes nodes at its end.
+    /// Takes from the capacity, and never fails. Searches nothing: a vector moves none of its
+    /// items, an empty B-tree is built from its leaves up, and another changes nodes at its end.
     fn append(&mut self, added: Vec<T>)
         requires has_room { length added.items ≤ room self.old }
         ensures list { items self.new ≡ items self.old ++ added.items }
