@@ -197,15 +197,16 @@ impl<T: Drop> Storage<T> for BoxStorage<T> {
     where
         T: Clone + Eq,
     {
-        let mut copy = BoxStorage::new(self.alloc);
-        copy.reserve(self.len())?;
+        let mut copies = Vec::with_capacity(self.alloc, self.len)?;
         let mut at = self.first();
-        let mut end = None;
         while let Some(p) = at {
             let item = self.get(p).clone()?;
-            end = Some(copy.insert(end, item));
+            copies.push_reserved(item);
             at = self.next(p);
         }
+        let mut copy = BoxStorage::new(self.alloc);
+        copy.reserve(copies.len())?;
+        copy.append(copies);
         Ok(copy)
     }
 
